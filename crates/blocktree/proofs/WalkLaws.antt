@@ -103,9 +103,6 @@ ends_more blocks count j bytes new sound low group behind i past = elim (cases_l
   | inr more ↦ behind i more
 ]
 
-pub node_below : (blocks : ℕ) (p : Pointer) (node : ℕ) → p ≡ Block node → PointsBelow blocks p → node < blocks
-node_below blocks p node is below = let at : PointsBelow blocks (Block node) = subst (PointsBelow blocks) is below in at.1
-
 pub group_low : (count j groups : ℕ) → groups ≡ div_ceil count 1024 → j < groups → 1024 * j < count
 group_low count j groups is lt = omega (arith, is, lt)
 

@@ -83,7 +83,7 @@ fn add_group<B: Blocks>(
     count: u32,
     places: &mut PlaceMap,
 ) -> Result<(), ReadError>
-    requires place { node < B.count blocks.old }
+    requires place { PointsBelow (B.count blocks.old) (Pointer.Block node) }
     requires index { 1024 * j < count }
     requires within { AreBelow (B.count blocks.old) places.old }
     requires end { EndBefore (1024 * j) places.old }

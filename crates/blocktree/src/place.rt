@@ -104,7 +104,7 @@ fn read_pointer<B: Blocks>(
     used: u32,
     i: u32,
 ) -> Result<Pointer, ReadError>
-    requires place { node < B.count blocks.old }
+    requires place { PointsBelow (B.count blocks.old) (Pointer.Block node) }
     requires index { i < 1024 }
     ensures reads { ReadsBlocks B.Blocks IsFault blocks.old blocks.new result }
     ensures within { IfOk result (PointsBelow (B.count blocks.old)) }

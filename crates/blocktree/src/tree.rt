@@ -274,22 +274,6 @@ impl BlockTree {
         Ok(())
     }
 
-    /// A copy of block `i`.
-    pub fn copy<B: Blocks>(&self, alloc: Global, blocks: &mut B, i: u32) -> Result<Block, ReadError>
-        ensures reads { ReadsBlocks B.Blocks IsFault blocks.old blocks.new result }
-        ensures bytes { (disk : ℕ → List ℕ) → B.Shows blocks.old disk
-            → IfOk result (λ b. b ≡ tree_block disk self.now i) }
-        ensures sound { (disk : ℕ → List ℕ) → B.Shows blocks.old disk
-            → OnOk result (IsSoundAt (B.count blocks.old) disk self.now i) }
-        ensures damaged { (disk : ℕ → List ℕ) → B.Shows blocks.old disk
-            → IsErrOf result ReadError.Damaged
-            → IsSoundAt (B.count blocks.old) disk self.now i → ⊥ }
-    {
-        let location = self.locate(blocks, i)?;
-        let block = Block::copy_of(alloc, self.bytes(blocks, i, location))?;
-        Ok(block)
-    }
-
     /// The blocks that the settled inode names: those of the file's bytes and the indirect ones, from the blocks up, each
     /// at its index's turn.
     pub fn named<B: Blocks>(

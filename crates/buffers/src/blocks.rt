@@ -1,6 +1,6 @@
 //! The blocks of the disk as the layers above read them.
 
-ghost use Rattle.std.specs.Prelude.{◌≡◌, ℕ, ◌<◌, List, OnOk, IsErrOf};
+ghost use Rattle.std.specs.Prelude.{◌≡◌, ℕ, ◌<◌, ◌≤◌, List, OnOk, IsErrOf};
 ghost use Rattle.buffers.specs.Disks.{IsWhole};
 ghost use Rattle.buffers.specs.Failures.{HasGrown};
 
@@ -28,10 +28,12 @@ pub trait Blocks {
     fn count(&self) -> u32
         ensures { result ≡ count self.now };
 
-    /// Reads the block at a place into memory, where it isn't there. A place that was resident stays so. `Damaged` where the
-    /// block isn't whole, since a sector of it can't be read.
+    /// Reads the block at a place into memory, where it isn't there: one behind the two that hold the roots, since a root may
+    /// come while blocks read as they do. A place that was resident stays so. `Damaged` where the block isn't whole, since a
+    /// sector of it can't be read.
     fn make_resident(&mut self, place: BlockNumber) -> Result<(), BufferError>
-        requires { place < count self.old }
+        requires behind { 2 ≤ place }
+        requires within { place < count self.old }
         ensures count { count self.new ≡ count self.old }
         ensures counted { OnOk result (failed self.new ≡ failed self.old) }
         ensures device { IsErrOf result BufferError.Device

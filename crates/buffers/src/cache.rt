@@ -39,8 +39,8 @@ fn read_block<S: Station>(alloc: Global, station: &mut S, place: u32) -> Result<
         → Shows (S.meaning station.old) (λ c. IsWhole (blocks_of c.disk place) → ⊥) }
 {
     let mut block = Block::zeroed(alloc)?;
+    let mut sector = [0u8; SECTOR_BYTES];
     for i in 0..8u32 {
-        let mut sector = [0u8; SECTOR_BYTES];
         let Ok(is_readable) = station.read_sector(8 * place + i, &mut sector) else {
             return Err(BufferError::Device);
         };

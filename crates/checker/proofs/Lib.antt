@@ -8,6 +8,7 @@ mod SystemLaws
 mod SeenLaws
 mod EachLaws
 mod EntryLaws
+mod IndirectLaws
 mod InodeLaws
 mod MarkLaws
 mod NodeFiles
@@ -20,6 +21,7 @@ mod OwnerLaws
 mod PlaneLaws
 mod RowLaws
 mod RowReads
+mod RowsLaws
 mod TwinLaws
 mod FoundLaws
 mod NameLaws

@@ -1,7 +1,7 @@
 -- The trees and a block of each one's inode file, side by side.
-use Rattle.std.specs.Prelude.{ℕ, ◌≡◌, ◌≢◌, ◌↔◌, ◌⊎◌, ◌+◌, ◌*◌, ◌<◌, List, [], length, slice_get, slice_index_or, Option, Some, Bool, IsTrue}
+use Rattle.std.specs.Prelude.{ℕ, ◌≡◌, ◌≢◌, ◌↔◌, ◌⊎◌, ◌+◌, ◌*◌, ◌<◌, All, List, [], length, map, slice_get, slice_index_or, Option, Some, Bool, IsTrue}
 use Rattle.layout.specs.Maps.{IsTaken}
-use Rattle.layout.specs.Places.{Blocks}
+use Rattle.layout.specs.Places.{Blocks, pointed}
 use Rattle.layout.specs.declared.TheConstants.{INODES_PER_BLOCK}
 use Rattle.layout.specs.declared.kind.Kind.{Kind}
 use Rattle.layout.specs.declared.kind.Kind.TheVariants.{Free}
@@ -21,6 +21,8 @@ use Rattle.checker.specs.Trees.{AreTrees, IsOut, IsSeenTo}
 use Rattle.checker.specs.declared.fault.Fault.{Fault}
 use Rattle.checker.specs.declared.fault.Fault.TheVariants.{InodeMap}
 use Rattle.checker.specs.declared.nodes.Shared.{Shared}
+use Rattle.checker.specs.declared.rows.Row.{Row}
+use Rattle.checker.specs.declared.rows.Rows.{Rows}
 use Rattle.checker.specs.declared.tree.Tree.{Tree}
 
 -- the tree that stands at a place of a list is of this number
@@ -58,6 +60,26 @@ abbrev pub LeadsToRow : Blocks → Root → ℕ → Tree → Pointer → Type 0
 LeadsToRow disk r i t pointer =
     IsFileGrammar r.geometry (tree_in (whole disk r) t.plane 0)
     → pointer ≡ (tree_in (whole disk r) t.plane 0).place 0 i
+
+-- the bytes of one of the blocks that were read
+abbrev pub block_in : List Row → ℕ → List ℕ
+block_in blocks w = slice_index_or (map (λ r. r.block) blocks) w []
+
+-- those of the blocks that these numbers tell
+unfoldable pub picked : List Row → List ℕ → List (List ℕ)
+picked blocks which = map (block_in blocks) which
+
+-- the block of each tree
+abbrev pub rows_of : Rows → List (List ℕ)
+rows_of rows = picked rows.blocks.items rows.which.items
+
+-- the last tree's, where one more was added
+abbrev pub row_added : Rows → Rows → List ℕ
+row_added old new = slice_index_or (rows_of new) (length (rows_of old)) []
+
+-- each block is what stands at its place
+abbrev pub AreReadAt : Blocks → Rows → Type 0
+AreReadAt disk rows = All (λ r. r.block ≡ pointed disk r.place) rows.blocks.items
 
 -- block i of the inode file of each tree that isn't out of its grammar
 pub record AreRows (disk : Blocks) (r : Root) (i : ℕ) (trees : List Tree) (rows : List (List ℕ)) : Type 0 where

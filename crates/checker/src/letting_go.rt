@@ -1,13 +1,14 @@
 //! Blocks that may be let go of.
 
-ghost use Rattle.std.specs.Prelude.{◌≡◌, ◌<◌, ℕ, List, IfOk, IsFalse, IsTrue};
+ghost use Rattle.std.specs.Prelude.{◌≡◌, ℕ, List, IfOk, IsFalse, IsTrue};
+ghost use Rattle.layout.specs.Pointer.{PointsBelow};
 ghost use Rattle.station.specs.Moments.{MayGrow};
 ghost use Rattle.buffers.specs.Disks.{IsWhole};
 ghost use Rattle.checker.specs.Errors.{IsFault, Looks};
 
 use crate::CheckError;
 use buffers::{Blocks, BufferError, Buffers};
-use layout::BlockNumber;
+use layout::{BlockNumber, Pointer};
 use station::Station;
 
 /// Blocks of a disk that are let go of, so that no more are kept than are needed at once.
@@ -33,7 +34,7 @@ impl<S: Station> LetsGo for Buffers<S> {
 
 /// Reads the block at a place into memory, and tells whether all of it can be read.
 pub(crate) fn read_block<B: LetsGo>(blocks: &mut B, place: BlockNumber) -> Result<bool, CheckError>
-    requires { place < B.count blocks.old }
+    requires { PointsBelow (B.count blocks.old) (Pointer.Block place) }
     ensures reads { Looks B.Blocks IsFault blocks.old blocks.new result }
     ensures resident { IfOk result (λ whole. IsTrue whole → B.IsResident blocks.new place) }
     ensures whole { (disk : ℕ → List ℕ) → B.Shows blocks.old disk

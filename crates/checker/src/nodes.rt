@@ -14,12 +14,12 @@ ghost use Rattle.images.specs.Nodes.{Held};
 ghost use Rattle.checker.specs.Nodes.{HasNodes, IsAt, IsUnder, KeepsMarks, KeepsShared, MarksFile, MarksFor, MarksThese, SharesNone};
 
 use crate::error::Halt;
+use crate::indirect::is_indirect;
 use crate::letting_go::read_block;
 use crate::marks::Marks;
 use crate::{Fault, FileNode, LetsGo, TreeFault};
 use layout::{
-    BLOCK_POINTERS, BODY_POINTERS, BlockNumber, Body, Inode, Pointer, indirect_pointer,
-    is_indirect_block, level_of,
+    BLOCK_POINTERS, BODY_POINTERS, BlockNumber, Body, Inode, Pointer, indirect_pointer, level_of,
 };
 
 /// Trees that are marked at once, each with a bit of a block's entry: the newest root's, and those of snapshots.
@@ -160,7 +160,7 @@ fn mark_node<B: LetsGo>(
     }
     let stored = blocks.bytes(place);
     let bytes = *stored;
-    if !is_indirect_block(&bytes, blocks.count(), used) {
+    if !is_indirect(&bytes, blocks.count(), used) {
         return Err(outside);
     }
     if height == 0 && before == bits {

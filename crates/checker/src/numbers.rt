@@ -1,6 +1,6 @@
 //! The inodes of all trees, number by number: what several trees have alike is looked at once.
 
-ghost use Rattle.std.specs.Prelude.{◌≡◌, ◌↔◌, ◌⊎◌, ◌+◌, ◌-◌, ◌*◌, ◌<◌, ◌^◌, drop, ℕ, List, IfOk, IsTrue, OnOk, Option, Some, [], length, slice_get, slice_index_or, vec_len};
+ghost use Rattle.std.specs.Prelude.{◌≡◌, ◌↔◌, ◌⊎◌, ◌+◌, ◌-◌, ◌*◌, ◌<◌, ◌^◌, drop, ℕ, List, IfOk, IsTrue, OnOk, Option, Some, [], ◌++◌, ◌∷◌, length, slice_get, slice_index_or, vec_len};
 ghost use Rattle.std.specs.Int.{div_ceil};
 ghost use Rattle.layout.specs.Maps.{IsTaken};
 ghost use Rattle.layout.specs.Pointer.{PointsBelow};
@@ -14,20 +14,19 @@ ghost use Rattle.images.specs.Roots.{inode_part, whole};
 ghost use Rattle.checker.specs.Errors.{IsFault, Looks};
 ghost use Rattle.checker.specs.Nodes.{KeepsMarks, StaysFor};
 ghost use Rattle.checker.specs.declared.nodes.Shared.{Shared};
-ghost use Rattle.checker.specs.Rows.{AddsToEach, AreAllBelow, ArePlacesOfTrees, AreRows, AreSeenInBlock, AreSeenTo, AreTwins, ComparesBits, KeepsTrees, LeadsToRow, PlaneAt, SeesInode};
+ghost use Rattle.checker.specs.Rows.{AddsToEach, AreAllBelow, ArePlacesOfTrees, AreReadAt, AreRows, AreSeenInBlock, AreSeenTo, AreTwins, ComparesBits, KeepsTrees, LeadsToRow, PlaneAt, SeesInode, row_added, rows_of};
 ghost use Rattle.checker.specs.Findings.{tree_in};
 ghost use Rattle.checker.specs.Trees.{IsOut, IsSeenTo};
 ghost use Rattle.checker.specs.declared.tree.Tree.{Tree};
 
 use crate::error::fault_of;
-use crate::letting_go::read_block;
 use crate::marks::Marks;
 use crate::nodes::{PLANES, SharedBlocks, mark_file};
+use crate::rows::Rows;
 use crate::table::find_places;
 use crate::tree::Tree;
 use crate::{CheckError, Fault, LetsGo, TreeFault};
 use blocktree::PlaceMap;
-use buffers::Block;
 use images::inodes_are_what_their_bytes_spell;
 use inode::based_trees_are_sound;
 use layout::{
@@ -130,72 +129,71 @@ fn read_rows<B: LetsGo>(
     trees: &mut Vec<Tree>,
     places: &Vec<PlaceMap>,
     i: u32,
-) -> Result<Vec<Block>, CheckError>
+) -> Result<Rows, CheckError>
     requires places { vec_len places.now ≡ vec_len trees.old }
     requires below { AreAllBelow (B.count blocks.old) places.now.items }
     ensures reads { Looks B.Blocks IsFault blocks.old blocks.new result }
     ensures trees { KeepsTrees trees.old.items trees.new.items }
-    ensures length { IfOk result (λ rows. vec_len rows ≡ vec_len trees.new) }
+    ensures length { IfOk result (λ rows. length (rows_of rows) ≡ vec_len trees.new) }
     ensures rows { (disk : ℕ → List ℕ) (r : Root) (marks : List ℕ)
         (shared : List (Option Shared)) → B.Shows blocks.old disk
         → IsRoot r → B.count blocks.old ≡ r.geometry.blocks
         → ArePlacesOfTrees (B.count blocks.old) disk trees.old.items places.now.items
         → AreSeenTo disk r i marks shared trees.old.items
-        → IfOk result (λ rows. AreRows disk r i trees.new.items rows.items
+        → IfOk result (λ rows. AreRows disk r i trees.new.items (rows_of rows)
         × AreSeenTo disk r i marks shared trees.new.items) }
 {
     based_trees_are_sound();
-    let mut rows = Vec::new(alloc);
+    let mut rows = Rows::none(alloc);
     for k in 0..trees.len() {
         let place = places[k].at(i);
-        let row = read_row(alloc, blocks, &mut trees[k], place, i)?;
-        rows.push(row)?;
+        read_row(alloc, blocks, &mut trees[k], place, i, &mut rows)?;
     }
     Ok(rows)
 }
 
-/// Block `i` of a tree's inode file, which is at this place; of one that is out of its grammar any block.
+/// Adds block `i` of a tree's inode file, which is at this place, to those of other trees; of one that is out of its grammar any block.
 fn read_row<B: LetsGo>(
     alloc: Global,
     blocks: &mut B,
     tree: &mut Tree,
     place: Pointer,
     i: u32,
-) -> Result<Block, CheckError>
+    rows: &mut Rows,
+) -> Result<(), CheckError>
     requires { PointsBelow (B.count blocks.old) place }
     ensures reads { Looks B.Blocks IsFault blocks.old blocks.new result }
     ensures same { record tree.old { fault = tree.new.fault } ≡ tree.new }
+    ensures added { OnOk result (rows_of rows.new
+        ≡ rows_of rows.old ++ row_added rows.old rows.new ∷ []) }
+    ensures read { (disk : ℕ → List ℕ) → B.Shows blocks.old disk
+        → AreReadAt disk rows.old → OnOk result (AreReadAt disk rows.new) }
     ensures row { (disk : ℕ → List ℕ) (r : Root) (count places : ℕ) (marks : List ℕ)
         (shared : List (Option Shared)) → B.Shows blocks.old disk → IsRoot r
-        → LeadsToRow disk r i tree.old place
+        → AreReadAt disk rows.old → LeadsToRow disk r i tree.old place
         → IsSeenTo disk r count places marks shared tree.old
-        → IfOk result (λ row. IsSeenTo disk r count places marks shared tree.new
-        × ((IsOut tree.new.fault → ⊥)
-        → row ≡ file_block (tree_in (whole disk r) tree.new.plane 0) i)) }
+        → OnOk result (IsSeenTo disk r count places marks shared tree.new
+        × ((IsOut tree.new.fault → ⊥) → row_added rows.old rows.new
+        ≡ file_block (tree_in (whole disk r) tree.new.plane 0) i)) }
 {
-    match place {
-        Pointer::Hole => Ok(Block::zeroed(alloc)?),
-        Pointer::Block(block) => {
-            if read_block(blocks, block)? {
-                return Ok(Block::copy_of(alloc, blocks.bytes(block))?);
-            }
-            tree.add(Fault::Tree(TreeFault::InodeBlock(i)));
-            Ok(Block::zeroed(alloc)?)
-        }
+    if rows.read(alloc, blocks, place)? {
+        return Ok(());
     }
+    tree.add(Fault::Tree(TreeFault::InodeBlock(i)));
+    Ok(())
 }
 
 /// Tests that zeros stand behind the inodes of each tree's block.
-fn check_ends(trees: &mut Vec<Tree>, rows: &Vec<Block>, i: u32)
-    requires { vec_len rows.now ≡ vec_len trees.old }
+fn check_ends(trees: &mut Vec<Tree>, rows: &Rows, i: u32)
+    requires { length (rows_of rows.now) ≡ vec_len trees.old }
     ensures trees { KeepsTrees trees.old.items trees.new.items }
     ensures seen { (disk : ℕ → List ℕ) (r : Root) (marks : List ℕ)
-        (shared : List (Option Shared)) → AreRows disk r i trees.old.items rows.now.items
+        (shared : List (Option Shared)) → AreRows disk r i trees.old.items (rows_of rows.now)
         → AreSeenInBlock disk r i INODES_PER_BLOCK marks shared trees.old.items
         → AreSeenTo disk r (i + 1) marks shared trees.new.items }
 {
     for k in 0..trees.len() {
-        if !is_ended(rows[k].bytes()) {
+        if !is_ended(rows.bytes(k)) {
             trees[k].add(Fault::Tree(TreeFault::InodeBlock(i)));
         }
     }
@@ -214,7 +212,7 @@ fn check_number<B: LetsGo>(
     blocks: &mut B,
     geometry: Geometry,
     trees: &mut Vec<Tree>,
-    rows: &Vec<Block>,
+    rows: &Rows,
     place: u32,
     number: u32,
     marks: &mut Marks,
@@ -222,7 +220,7 @@ fn check_number<B: LetsGo>(
 ) -> Result<(), CheckError>
     requires place { place < INODES_PER_BLOCK }
     requires number { number < 2 ^ 32 }
-    requires rows { vec_len rows.now ≡ vec_len trees.old }
+    requires rows { length (rows_of rows.now) ≡ vec_len trees.old }
     requires size { B.count blocks.old ≡ geometry.blocks }
     requires table { length marks.old ≡ geometry.blocks }
     ensures reads { Looks B.Blocks IsFault blocks.old blocks.new result }
@@ -232,9 +230,9 @@ fn check_number<B: LetsGo>(
         → StaysFor k marks.old marks.new shared.old.of shared.new.of }
     ensures seen { (disk : ℕ → List ℕ) (r : Root) (i : ℕ) → B.Shows blocks.old disk → IsRoot r
         → r.geometry ≡ geometry → number ≡ INODES_PER_BLOCK * i + place
-        → AreRows disk r i trees.old.items rows.now.items
+        → AreRows disk r i trees.old.items (rows_of rows.now)
         → AreSeenInBlock disk r i place marks.old shared.old.of trees.old.items
-        → OnOk result (AreRows disk r i trees.new.items rows.now.items
+        → OnOk result (AreRows disk r i trees.new.items (rows_of rows.now)
         × AreSeenInBlock disk r i (place + 1) marks.new shared.new.of trees.new.items) }
 {
     let mut done = 0;
@@ -291,37 +289,48 @@ fn check_inode<B: LetsGo>(
 }
 
 /// The bits of the trees from the k-th on that have the same bytes as it at a place of their blocks, its own among them.
-fn twins(trees: &Vec<Tree>, rows: &Vec<Block>, k: usize, place: u32) -> u32
+fn twins(trees: &Vec<Tree>, rows: &Rows, k: usize, place: u32) -> u32
     requires tree { k < vec_len trees.now }
-    requires rows { vec_len rows.now ≡ vec_len trees.now }
+    requires rows { length (rows_of rows.now) ≡ vec_len trees.now }
     requires place { place < INODES_PER_BLOCK }
-    ensures { AreTwins trees.now.items rows.now.items k place result }
+    ensures { AreTwins trees.now.items (rows_of rows.now) k place result }
 {
     let mut bits = trees[k].bit();
     for l in k + 1..trees.len() {
-        if !trees[l].is_out() && part_of(rows, l, place) == part_of(rows, k, place) {
+        if !trees[l].is_out() && are_twins(rows, l, k, place) {
             bits |= trees[l].bit();
         }
     }
     bits
 }
 
-/// The bytes of one inode of the k-th block.
-fn part_of(rows: &Vec<Block>, k: usize, place: u32) -> &[u8]
-    requires block { k < vec_len rows.now }
+/// Whether the l-th block and the k-th have the same inode at a place.
+fn are_twins(rows: &Rows, l: usize, k: usize, place: u32) -> bool
+    requires other { l < length (rows_of rows.now) }
+    requires block { k < length (rows_of rows.now) }
     requires place { place < INODES_PER_BLOCK }
-    ensures { result.now ≡ inode_part (slice_index_or rows.now.items k []) place }
+    ensures { IsTrue result ↔ (inode_part (slice_index_or (rows_of rows.now) l []) place
+        ≡ inode_part (slice_index_or (rows_of rows.now) k []) place) }
 {
-    part(&rows[k], place)
+    rows.is_shared(l, k) || part_of(rows, l, place) == part_of(rows, k, place)
+}
+
+/// The bytes of one inode of the k-th block.
+fn part_of(rows: &Rows, k: usize, place: u32) -> &[u8]
+    requires block { k < length (rows_of rows.now) }
+    requires place { place < INODES_PER_BLOCK }
+    ensures { result.now ≡ inode_part (slice_index_or (rows_of rows.now) k []) place }
+{
+    part(rows.bytes(k), place)
 }
 
 /// The bytes of one inode of a block.
-fn part(block: &Block, place: u32) -> &[u8]
+fn part(bytes: &[u8; BLOCK_BYTES], place: u32) -> &[u8]
     requires { place < INODES_PER_BLOCK }
-    ensures { result.now ≡ inode_part block.now place }
+    ensures { result.now ≡ inode_part bytes.now place }
 {
     let at = INODE_BYTES * place as usize;
-    &block.bytes()[at..at + INODE_BYTES]
+    &bytes[at..at + INODE_BYTES]
 }
 
 /// The trees of these bits have a fault.

@@ -21,13 +21,13 @@ disk_more blocks at b disk is lt =
     ap (λ (x : PlannedBlock). disk_with_block x.place x.bytes (disk_with_blocks (take at blocks) disk)) is ∙ more_of blocks at b disk lt
     ∙ ap (λ k. disk_with_blocks (take k blocks) disk) (sym (add-one at))
 
-beside : (disk : ℕ → List ℕ) (place n : ℕ) (bytes : List ℕ) → place ≢ n → disk_with_block place bytes disk n ≡ disk n
+pub beside : (disk : ℕ → List ℕ) (place n : ℕ) (bytes : List ℕ) → place ≢ n → disk_with_block place bytes disk n ≡ disk n
 beside disk place n bytes other = rw (apart n place other) refl
   where
     apart : (n place : ℕ) → place ≢ n → eqb n place ≡ false
     apart n place other = grind (arith, nat_tests)
 
-there : (disk : ℕ → List ℕ) (place : ℕ) (bytes : List ℕ) → disk_with_block place bytes disk place ≡ bytes
+pub there : (disk : ℕ → List ℕ) (place : ℕ) (bytes : List ℕ) → disk_with_block place bytes disk place ≡ bytes
 there disk place bytes = rw (same place) refl
   where
     same : (place : ℕ) → eqb place place ≡ true

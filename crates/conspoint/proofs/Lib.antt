@@ -17,3 +17,4 @@ mod MapStands
 mod MapPlan
 mod ImageCuts
 mod DiskBlocks
+mod FinishedLaws

@@ -77,5 +77,5 @@ module _ (old mid : Meaning) (p : Planned) (goes : Goes (StaysOutside p.blocks) 
           | inr began ↦ inr (elim began [ inl root ↦ inl (from_old honest c root) | inr loses ↦ inr (lost_from honest c loses) ])
         ])) honest
 
-    pub settled : (new : Meaning) → old.is_honest → EachCut new (HasNewRoot q mid.seen) → EachCut new (HasNewRoot p old.seen)
-    settled new honest each is_honest c left = from_old honest c (each is_honest c left)
+    pub settled : (new : Meaning) → IsSameStation old mid → IsSameStation mid new → EachCut new (HasNewRoot q mid.seen) → EachCut new (HasNewRoot p old.seen)
+    settled new same ends each is_honest c left = from_old (same.honest.1 (ends.honest.1 is_honest)) c (each is_honest c left)

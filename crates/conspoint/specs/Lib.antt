@@ -10,3 +10,4 @@ pub mod Writes
 pub mod Errors
 pub mod Space
 pub mod Steps
+pub mod Finished

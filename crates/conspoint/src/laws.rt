@@ -1,11 +1,14 @@
 //! What a power cut leaves, read block by block.
 
-ghost use Rattle.std.specs.Prelude.{◌≡◌, ◌≢◌, ℕ, ◌+◌, ◌*◌, ◌≤◌, List, All};
-ghost use Rattle.station.specs.Images.{Images};
+ghost use Rattle.std.specs.Prelude.{◌≡◌, ◌≢◌, ℕ, ◌+◌, ◌*◌, ◌<◌, ◌≤◌, List, All};
+ghost use Rattle.station.specs.Images.{Images, Sector};
+ghost use Rattle.station.specs.Moments.{IsSector};
+ghost use Rattle.layout.specs.Places.{blocks_of};
 ghost use Rattle.images.specs.Cuts as points;
 ghost use Rattle.conspoint.specs.Writes.{writes_of};
-ghost use Rattle.conspoint.specs.Plans.{AreApart, Planned, IsSlot, FitsDisk};
+ghost use Rattle.conspoint.specs.Plans.{AreApart, Planned, IsPlanned, IsSlot, FitsDisk};
 ghost use Rattle.conspoint.specs.Cuts.{StaysOutside, HasNewRoot, LosesSlot, ReadsAs, disk_with_blocks};
+ghost use Rattle.conspoint.specs.Finished.{IsAbsent, disk_after};
 ghost use Rattle.conspoint.specs.declared.plan.PlannedBlock.{PlannedBlock};
 
 /// Before the root is written every block that isn't planned reads as it did. After it all the planned ones are there, and
@@ -41,4 +44,18 @@ pub fn cuts_are_those_of_images()
         → points.HasRootWritten (writes_of p.blocks) p.slot p.root old.disk new.disk }
     ensures lost { (p : Planned) (old new : Images) → LosesSlot p old new
         → points.LosesSlot (writes_of p.blocks) p.slot old.disk new.disk }
+{}
+
+/// A point that is carried out leaves just one disk, whatever stood where its blocks and its root go, and other blocks behind the
+/// slots stay. It does nothing.
+pub fn finished_disks_are_one()
+    ensures is { (p : Planned) (old : Images) → IsPlanned p
+        → HasNewRoot p old (record { disk = disk_after p old.disk; nvram = old.nvram }) }
+    ensures one { (sectors : ℕ) (p : Planned) (old new : Images) → IsPlanned p
+        → FitsDisk sectors p → ((n : ℕ) → n < sectors → IsSector (new.disk n))
+        → HasNewRoot p old new → new.disk ≡ disk_after p old.disk }
+    ensures stays { (p : Planned) (old new : Images) → IsPlanned p
+        → StaysOutside p.blocks old new → disk_after p new.disk ≡ disk_after p old.disk }
+    ensures others { (p : Planned) (disk : ℕ → Sector) (b : ℕ) → IsPlanned p → 2 ≤ b
+        → IsAbsent p.blocks b → blocks_of (disk_after p disk) b ≡ blocks_of disk b }
 {}

@@ -21,9 +21,12 @@ pub use closure::reserve_map;
 pub use draft::Draft;
 pub use error::PlanError;
 pub use group::{place_group, place_over};
-pub use laws::{cuts_are_those_of_images, cuts_leave_blocks, written_disks_have_the_blocks};
+pub use laws::{
+    cuts_are_those_of_images, cuts_leave_blocks, finished_disks_are_one,
+    written_disks_have_the_blocks,
+};
 pub use map_file::store_map;
 pub use map_inode::store_own_map;
 pub use marks::mark_all;
 pub use plan::{Plan, PlannedBlock};
-pub use writing::write_point;
+pub use writing::{write_point, write_rest};

@@ -57,6 +57,14 @@ impl Plan {
         }
     }
 
+    /// Its blocks, in the order of their writing.
+    pub fn blocks(&self) -> &[PlannedBlock]
+        ensures blocks { result.now ≡ self.now.blocks }
+        ensures planned { IsPlanned self.now }
+    {
+        &self.blocks
+    }
+
     /// Whether all blocks are written.
     pub fn is_written(&self) -> bool
         ensures { IsTrue result ↔ (self.now.written ≡ length self.now.blocks) }
@@ -78,6 +86,7 @@ impl Plan {
         count: usize,
     ) -> Result<(), BufferError>
         requires fits { FitsDisk (S.meaning buffers.old.station).sectors self.old }
+        ensures planned { IsPlanned self.old }
         ensures plan { self.new ≡ record self.old { written = self.new.written } }
         ensures next { OnOk result (self.new.written
             ≡ min (length self.old.blocks) (self.old.written + count)) }

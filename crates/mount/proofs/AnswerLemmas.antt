@@ -18,20 +18,21 @@ use Rattle.model.specs.declared.errno.Errno.{Errno}
 use Rattle.model.specs.declared.errno.Errno.TheVariants.{EIO, ENOSPC}
 use Rattle.model.specs.declared.reply.Reply.{Reply}
 use Rattle.model.specs.declared.reply.Reply.TheVariants.{Refused}
-use Rattle.system.specs.Counting.{AgesBy, Counted, Failed, LogsNothing, call_error_failed, no_call}
+use Rattle.system.specs.Counting.{AgesBy, Counted, Failed, LogsNothing, beside_reads, call_error_failed, perhaps_reads}
 use Rattle.system.specs.Images.{OpensTo}
 use Rattle.system.specs.Room.{HasRoomToTake}
-use Rattle.system.specs.Serving.{Handles, HasEmptyLog, IsCall, LacksRoom, ServesState, WouldChange}
+use Rattle.system.specs.Serving.{HasEmptyLog, IsCall, LacksRoom, ServesState, WouldChange}
+use Rattle.system.specs.Slicing.{Fulfils}
 use Rattle.system.specs.Systems as systems
 use Rattle.system.specs.declared.error.CallError.{CallError}
 use Rattle.system.specs.declared.error.CallError.TheVariants as failure
 use Rattle.system.specs.declared.system.System.{System}
-use Rattle.system.proofs.CountingLaws.{logged_twice, none_logged, nothing_logged}
+use Rattle.system.proofs.CountingLaws.{logged_twice, none_logged}
 use Rattle.mount.specs.Applying.{AnswersCommand, Attempts, IsAppliedAt, KeepsStates, MakesRoom}
 use Rattle.mount.specs.Refusals.{errno_of_call, fails_call}
 use Rattle.mount.specs.Systems.{HasPoints, Serves, mounted}
 use Rattle.mount.specs.declared.fs.Fs.{Fs}
-use Rattle.mount.proofs.AttemptLemmas.{after_stay, answered_as, called, not_answered, short, stays_read, still_going}
+use Rattle.mount.proofs.AttemptLemmas.{after_stay, answered_as, called, not_answered, short, stays_by, stays_read, still_going}
 use Rattle.mount.proofs.CountLemmas.{call_eio, call_refuses, call_written, failed_after, refused_same}
 
 -- an epoch that stays, and one behind the next
@@ -60,7 +61,7 @@ module _ {S : Type 0} {G : Ghosts S} (n : ℕ) (P : State → Type 0) (old new :
 
   -- no device was called
   pub at_once : (reply : Reply) → reply ≢ Refused EIO → behind ≡ before → new.system.log.epoch ≡ old.system.log.epoch
-      → new.system.blocks.station ≡ old.system.blocks.station → AppliedWith reply → AnswersCommand n P old new command reply
+      → new.system.blocks.buffers.station ≡ old.system.blocks.buffers.station → AppliedWith reply → AnswersCommand n P old new command reply
   at_once reply own same epoch station applied = record {
     uses = subst (λ (m : Meaning). Uses before m) (sym same) (uses_none before);
     eio = λ is. absurd (own is);
@@ -72,26 +73,26 @@ module _ {S : Type 0} {G : Ghosts S} (n : ℕ) (P : State → Type 0) (old new :
   }
 
   -- a call was answered
-  pub attempted : (reply : Reply) → Attempts old new command (Ok reply) → AnswersCommand n P old new command reply
-  attempted reply made = record {
+  pub attempted : (reply : Reply) → AgesBy n old.system.log.epoch new.system.log.epoch → Attempts old new command (Ok reply) → AnswersCommand n P old new command reply
+  attempted reply ages made = record {
     uses = made.counted.uses;
     eio = λ is. absurd (made.no_fault is);
     written = λ _. made.counted.writes;
-    unlogged = λ errno is other. nothing_logged before behind (made.refused errno (ap Ok is));
-    epoch = ages_same n old.system.log.epoch new.system.log.epoch made.epoch;
+    unlogged = λ errno is other. made.refused errno (ap Ok is);
+    epoch = ages;
     still = λ s serves p sure. made.sure s serves sure;
     applied = λ s serves young p. made.applied s serves;
   }
 
   -- one wasn't
-  pub not_attempted : (e : CallError) (errno : Errno) → errno ≡ errno_of_call e → Attempts old new command (Err e) → ((s : State) → Serves (mounted old s) → P s → IsAppliedAt old s new command (Refused (errno_of_call e)))
-      → AnswersCommand n P old new command (Refused errno)
-  not_attempted e errno is made applied = record {
+  pub not_attempted : (e : CallError) (errno : Errno) → errno ≡ errno_of_call e → AgesBy n old.system.log.epoch new.system.log.epoch → Attempts old new command (Err e)
+      → ((s : State) → Serves (mounted old s) → P s → IsAppliedAt old s new command (Refused (errno_of_call e))) → AnswersCommand n P old new command (Refused errno)
+  not_attempted e errno is ages made applied = record {
     uses = made.counted.uses;
     eio = λ same. call_eio before behind e made.counted (sym is ∙ refused_same same);
     written = λ other. call_written before behind e made.counted (λ fault. other (ap Refused (is ∙ fault)));
-    unlogged = λ x same other. nothing_logged before behind (made.kept (call_refuses e (λ fault. other (sym (refused_same same) ∙ is ∙ fault))));
-    epoch = ages_same n old.system.log.epoch new.system.log.epoch made.epoch;
+    unlogged = λ x same other. made.kept (call_refuses e (λ fault. other (sym (refused_same same) ∙ is ∙ fault)));
+    epoch = ages;
     still = λ s serves p sure. absurd (made.sure s serves sure);
     applied = λ s serves young p. answered_as old new s command (errno_of_call e) errno is (applied s serves p);
   }
@@ -161,12 +162,9 @@ pub settled_applied : {S : Type 0} {G : Ghosts S} (old new : Fs S G) (call : Com
 settled_applied old new call failure.NoRoom made runs empty s serves covered =
     let waits = made.waits s serves (inl refl) in
     let lacks = made.short s serves refl in
-    short old new s serves runs call waits.1.not_sure waits.0 (lacks.1 covered) made.counted.reads made.counted.writes (short_by new.system s call lacks.0)
+    short old new s serves runs call waits.1.not_sure waits.0 (lacks.1 covered) made.counted.uses.reads made.counted.writes (short_by new.system s call lacks.0)
 settled_applied old new call failure.LogFull made runs empty s serves covered = absurd (made.fits s serves refl empty)
-settled_applied old new call failure.NoMemory made runs empty s serves covered = made.applied s serves (λ is. cc) (λ is. cc)
-settled_applied old new call failure.NotRead made runs empty s serves covered = made.applied s serves (λ is. cc) (λ is. cc)
-settled_applied old new call failure.Damaged made runs empty s serves covered = made.applied s serves (λ is. cc) (λ is. cc)
-settled_applied old new call failure.NotWritten made runs empty s serves covered = made.applied s serves (λ is. cc) (λ is. cc)
+settled_applied old new call e made runs empty s serves covered = made.applied s serves (λ is. cc) (λ is. cc)
 
 -- a covered system has no room for a command, and no device is called
 pub no_room_left : {S : Type 0} {G : Ghosts S} (n : ℕ) (P : State → Type 0) (f : Fs S G) (command : Command) → IsFalse f.has_failed
@@ -180,7 +178,7 @@ no_room_left n P f command runs opens not_sure covered is_short =
     at_once n P f f command (Refused ENOSPC) (λ is. cc) refl refl refl (λ s serves young p.
     let here = serves.kept (still_going f s serves runs) in
     short f f s serves runs command (not_sure s serves p)
-    (stays_read f f s serves runs (same_none (systems.meaning_of f.system)) runs here (unchanged_none (systems.meaning_of f.system)) (opens s here)) (covered s serves p) refl refl (is_short s serves p))
+    (stays_read f f s serves runs (same_none (systems.meaning_of f.system)) runs here (unchanged_none (systems.meaning_of f.system)) (opens s here)) (covered s serves p) (inl refl) refl (is_short s serves p))
 
 -- a command behind what left each state as it was
 pub behind_that : {S : Type 0} {G : Ghosts S} (n j k : ℕ) (P Q : State → Type 0) (old mid new : Fs S G) (command : Command) (reply : Reply) → j + k ≤ n → IsFalse old.has_failed → KeepsStates j old mid
@@ -198,7 +196,7 @@ behind_that n j k P Q old mid new command reply le runs keeps then leads not_sur
       still = λ s serves p sure. absurd (not_sure s serves p sure);
       applied = λ s serves young p.
           let stays = keeps.stays s serves in
-          after_stay old mid new s command reply serves runs stays then.uses keeps.counted.reads keeps.counted.writes
+          after_stay old mid new s command reply serves runs stays then.uses keeps.counted.uses.reads keeps.counted.writes
           (then.applied s stays.serves (points_left n j k old.system.log.epoch mid.system.log.epoch le keeps.epoch.lasts young) (leads s serves p));
     }
 
@@ -229,39 +227,36 @@ AllOpen f = (t : State) → ServesState f t → EachCut (systems.meaning_of f) (
 
 -- an error that isn't of a write fails no system
 fails_none : (e : CallError) → e ≢ failure.NotWritten → fails_call e ≡ false
-fails_none failure.NoMemory other = refl
-fails_none failure.NotRead other = refl
-fails_none failure.Damaged other = refl
-fails_none failure.NoRoom other = refl
-fails_none failure.LogFull other = refl
 fails_none failure.NotWritten other = absurd (other refl)
+fails_none e other = refl
 
 -- a call that waits wrote nothing
 waits_written : (e : CallError) → (e ≡ failure.NoRoom) ⊎ (e ≡ failure.LogFull) → e ≢ failure.NotWritten
 waits_written e (inl room) fault = cc
 waits_written e (inr full) fault = cc
 
--- and no device call of it failed
-waits_uncounted : (e : CallError) → (e ≡ failure.NoRoom) ⊎ (e ≡ failure.LogFull) → call_error_failed false e ≡ no_call
-waits_uncounted e (inl room) = ap (call_error_failed false) room
-waits_uncounted e (inr full) = ap (call_error_failed false) full
+-- and of its device calls none failed but reads
+waits_counted : (e : CallError) → (e ≡ failure.NoRoom) ⊎ (e ≡ failure.LogFull) → beside_reads (call_error_failed false e) ≡ perhaps_reads
+waits_counted e (inl room) = ap (λ (x : CallError). beside_reads (call_error_failed false x)) room
+waits_counted e (inr full) = ap (λ (x : CallError). beside_reads (call_error_failed false x)) full
 
 module _ {S : Type 0} {G : Ghosts S} (old new : Fs S G) (call : Command) (runs : IsFalse old.has_failed) where
   abbrev served : (s : State) → Serves (mounted old s) → ServesState old.system s
   served s serves = serves.kept (still_going old s serves runs)
 
   -- one that was answered
-  pub attempts : (reply : Reply) → IsCall call → Handles old.system new.system call (Ok reply) → IsFalse new.has_failed → AllOpen new.system → Attempts old new call (Ok reply)
+  pub attempts : (reply : Reply) → IsCall call → Fulfils old.system new.system call (Ok reply) → IsFalse new.has_failed → AllOpen new.system → Attempts old new call (Ok reply)
   attempts reply is_call told runs_on opens = record {
     counted = told.counted;
     no_fault = told.no_fault;
     refused = told.refused;
     kept = tt;
     epoch = told.epoch;
+    calm = told.calm;
     sure = λ s serves sure. elim (told.sure s (served s serves)) [ inl on ↦ on.still | inr not ↦ absurd (not sure) ];
     applied = λ s serves.
         called old new s serves runs told.counted.uses.same call reply is_call (elim (told.sure s (served s serves)) [ inl on ↦ inl on.sure | inr not ↦ inr not ]) runs_on
-        told.counted.reads told.counted.writes (told.done s (served s serves)) opens;
+        told.counted.uses.reads told.counted.writes (told.done s (served s serves)) opens;
     going = tt;
     waits = λ s serves. tt;
     fits = λ s serves is. cc;
@@ -269,24 +264,26 @@ module _ {S : Type 0} {G : Ghosts S} (old new : Fs S G) (call : Command) (runs :
   }
 
   -- one that wasn't
-  pub attempts_not : (e : CallError) → Handles old.system new.system call (Err e) → IsFalse old.system.log.is_stopped → new.has_failed ≡ fails_call e → AllOpen old.system → Attempts old new call (Err e)
-  attempts_not e told not_stopped flag opens =
-      let counted = subst (λ (b : Bool). Counted (systems.meaning_of old.system) (systems.meaning_of new.system) (call_error_failed b e)) not_stopped told.counted in
+  pub attempts_not : (e : CallError) → Fulfils old.system new.system call (Err e) → IsFalse old.system.log.is_stopped → new.has_failed ≡ fails_call e → Attempts old new call (Err e)
+  attempts_not e told not_stopped flag =
+      let counted = subst (λ (b : Bool). Counted (systems.meaning_of old.system) (systems.meaning_of new.system) (beside_reads (call_error_failed b e))) not_stopped told.counted in
       record {
         counted = counted;
         no_fault = tt;
         refused = λ errno is. cc;
         kept = told.kept;
         epoch = told.epoch;
+        calm = told.calm;
         sure = λ s serves sure. told.sure s (served s serves) sure;
         applied = λ s serves room full.
-            not_answered old new s serves runs call e (told.sure s (served s serves)) room full flag counted (λ is. told.damaged s (served s serves) (ap (λ x. Err x) is)) told.kept
-            (told.serves s (served s serves)) (λ is. told.broken s (served s serves) (ap (λ x. Err x) is)) (opens s (served s serves));
+            not_answered old new s serves runs call e (told.sure s (served s serves)) room full (λ is. told.own (ap (λ x. Err x) is)) flag counted
+            (λ is. told.damaged s (served s serves) (ap (λ x. Err x) is)) (told.stays s (served s serves)) (λ is. told.broken s (served s serves) (ap (λ x. Err x) is));
         going = λ other. flag ∙ fails_none e other;
         waits = λ s serves is.
             let here = served s serves in
-            let other = waits_written e is in (
-              stays_read old new s serves runs counted.uses.same (flag ∙ fails_none e other) (told.serves s here other) (told.kept other) (opens s here),
+            let other = waits_written e is in
+            let kept = told.stays s here other in (
+              stays_by old new s serves runs counted.uses.same (flag ∙ fails_none e other) kept.0 kept.1,
               record {
                 not_sure = told.sure s here;
                 waits = elim is [ inl room ↦ inl (told.short s here (ap (λ x. Err x) room)).0 | inr full ↦ inr (told.full s here (ap (λ x. Err x) full)).2 ];
@@ -297,10 +294,10 @@ module _ {S : Type 0} {G : Ghosts S} (old new : Fs S G) (call : Command) (runs :
       }
 
 -- a call that waits for a consistency point left each state as it was
-pub waiting_keeps : {S : Type 0} {G : Ghosts S} (old new : Fs S G) (call : Command) (e : CallError) → (e ≡ failure.NoRoom) ⊎ (e ≡ failure.LogFull) → Attempts old new call (Err e) → KeepsStates 0 old new
+pub waiting_keeps : {S : Type 0} {G : Ghosts S} (old new : Fs S G) (call : Command) (e : CallError) → (e ≡ failure.NoRoom) ⊎ (e ≡ failure.LogFull) → Attempts old new call (Err e) → KeepsStates 1 old new
 waiting_keeps old new call e is made = record {
-  counted = subst (λ (why : Failed). Counted (systems.meaning_of old.system) (systems.meaning_of new.system) why) (waits_uncounted e is) made.counted;
-  unlogged = nothing_logged (systems.meaning_of old.system) (systems.meaning_of new.system) (made.kept (waits_written e is));
-  epoch = ages_same 0 old.system.log.epoch new.system.log.epoch made.epoch;
+  counted = subst (λ (why : Failed). Counted (systems.meaning_of old.system) (systems.meaning_of new.system) why) (waits_counted e is) made.counted;
+  unlogged = made.kept (waits_written e is);
+  epoch = made.epoch;
   stays = λ s serves. (made.waits s serves is).0;
 }

@@ -1,10 +1,10 @@
 -- What applying a command comes to, by the way that it is answered.
 use Rattle.std.proofs.Common.{◌≡◌, ◌≤◌, arith, ◌⊎◌, inl, inr, ℕ, Bool, true, false, List, refl, sym, subst, ◌∙◌}
-use Rattle.std.specs.Prelude.{IsTrue, IsFalse, ◌↔◌}
+use Rattle.std.specs.Prelude.{IsTrue, IsFalse, MatchBool, ◌↔◌}
 use Rattle.std.proofs.lemmas.Bool.{false≢true}
 use Rattle.station.specs.Images.{Images}
-use Rattle.station.specs.Moments.{Meaning, EachCut, IsSameStation, LeavesOnly}
-use Rattle.station.proofs.Moments.{weaker}
+use Rattle.station.specs.Moments.{Meaning, EachCut, IsSameStation, LeavesOnly, MayGrow}
+use Rattle.station.proofs.Moments.{grown_later, weaker}
 use Rattle.station.specs.declared.station.Station.{Ghosts}
 use Rattle.model.specs.Paths.{Name}
 use Rattle.model.specs.Trees.{Tree}
@@ -14,7 +14,7 @@ use Rattle.model.specs.declared.reply.Reply.TheVariants.{Refused}
 use Rattle.model.specs.declared.command.Command.{Command}
 use Rattle.model.specs.States.{State, Mark, going, failed, as_failed}
 use Rattle.model.specs.Room.{Room}
-use Rattle.model.specs.Circumstances.{Circumstances, IsSure, IsDone, IsAnswered, Allowed}
+use Rattle.model.specs.Circumstances.{Circumstances, CoversWhereOk, IsSure, IsDone, IsAnswered, IsExcused, Allowed}
 use Rattle.model.specs.Runs.{IsWithin, MayStand, MayRemain}
 use Rattle.system.specs.Images.{OpensTo}
 use Rattle.mount.specs.Applying.{Between, TimeGoesOn, HasRoomAtPoint, IsApplied, Stays, LeftNow, TellsOfFault}
@@ -35,7 +35,26 @@ is_failed false stopped = absurd (false≢true stopped)
 pub not_both : (m : Mark) {X : Type 0} → m ≡ going → m ≡ failed → X
 not_both m is stopped = let e : going ≡ failed = sym is ∙ stopped in cc
 
--- what a command may give, by the mark of the state before it
+-- ---- a read that failed besides takes nothing from what a command may give
+
+abbrev unread : Circumstances → Circumstances
+unread c = record c { read_failed = true }
+
+still_excused : (c : Circumstances) (s : State) (command : Command) (reply : Reply) → IsExcused c s command reply → IsExcused (unread c) s command reply
+still_excused c s command (Refused EIO) is = refl
+still_excused c s command reply is = is
+
+still_answered : (c : Circumstances) (s : State) (command : Command) (reply : Reply) (t : State) → IsAnswered c s command reply t → IsAnswered (unread c) s command reply t
+still_answered c s command reply t =
+    let broken = (reply ≡ Refused EIO) × (t ≡ as_failed s) in
+    let Whole = λ (d : Circumstances). (IsDone d s command reply t × CoversWhereOk d command reply) ⊎ (IsExcused d s command reply × (t ≡ s)) in
+    elim c.write_failed as (λ b. MatchBool b broken (Whole c) → MatchBool b broken (Whole (unread c))) [
+      | true ↦ λ is. is
+      | false ↦ λ is. elim is [ inl done ↦ inl done | inr excused ↦ inr (still_excused c s command reply excused.0, excused.1) ]
+    ]
+
+-- ---- what a command may give, by the mark of the state before it
+
 module _ (command : Command) (inodes : ℕ) (tree : Tree) (snapshots : List (Name × Tree)) where
   abbrev marked : Mark → State
   marked mark = record { inodes = inodes; tree = tree; snapshots = snapshots; mark = mark }
@@ -43,6 +62,11 @@ module _ (command : Command) (inodes : ℕ) (tree : Tree) (snapshots : List (Nam
   refused_failed : (c : Circumstances) (mark : Mark) → mark ≡ failed → Allowed c (marked mark) command (Refused FAILED) (marked mark)
   refused_failed c failed is = (refl, refl)
   refused_failed c going is = cc
+
+  unread_going : (c : Circumstances) (mark : Mark) (reply : Reply) (t : State) → Allowed c (marked mark) command reply t → Allowed (unread c) (marked mark) command reply t
+  unread_going c going reply t (inl sure) = inl sure
+  unread_going c going reply t (inr answer) = inr (answer.0, still_answered c (marked going) command reply t answer.1)
+  unread_going c failed reply t is = is
 
   answered_going : (c : Circumstances) (mark : Mark) (reply : Reply) (t : State) → mark ≡ going → ¬ IsSure (marked mark) command → IsAnswered c (marked mark) command reply t → Allowed c (marked mark) command reply t
   answered_going c going reply t is not_sure answer = inr (not_sure, answer)
@@ -57,6 +81,13 @@ allowed_surely s command c reply t is = surely_going command s.inodes s.tree s.s
 
 pub allowed_by : (s : State) (command : Command) (c : Circumstances) (reply : Reply) (t : State) → s.mark ≡ going → ¬ IsSure s command → IsAnswered c s command reply t → Allowed c s command reply t
 allowed_by s command c reply t is = answered_going command s.inodes s.tree s.snapshots c s.mark reply t is
+
+-- so it stands behind reads of which some may have failed
+after_reads : (a b n : ℕ) (s : State) (command : Command) (c : Circumstances) (reply : Reply) (t : State) → MayGrow a b → MayGrow b n → TellsOfFault c.read_failed b n → Allowed c s command reply t
+    → (read : Bool) × TellsOfFault read a n × Allowed (record c { read_failed = read }) s command reply t
+after_reads a b n s command c reply t (inl same) later told allowed = (c.read_failed, subst (λ (k : ℕ). TellsOfFault c.read_failed k n) same told, allowed)
+after_reads a b n s command c reply t (inr grown) later told allowed =
+    (true, grown_later a b n grown later, unread_going command s.inodes s.tree s.snapshots c s.mark reply t allowed)
 
 -- the state at the answer
 module _ (s : State) (command : Command) (new t : State) where
@@ -183,26 +214,29 @@ module _ {S : Type 0} {G : Ghosts S} where
   -- a command behind calls that left the state as it was
   pub applied_after : (old mid new : Fs S G) (s t : State) (command : Command) (reply : Reply) → Serves (mounted old s) → s.mark ≡ going → Stays old mid s
       → IsSameStation (file_system_meaning (mounted mid s)) (file_system_meaning (mounted new t))
-      → (file_system_meaning (mounted mid s)).failed_reads ≡ (file_system_meaning (mounted old s)).failed_reads → (file_system_meaning (mounted mid s)).failed_writes ≡ (file_system_meaning (mounted old s)).failed_writes
+      → MayGrow (file_system_meaning (mounted old s)).failed_reads (file_system_meaning (mounted mid s)).failed_reads
+      → MayGrow (file_system_meaning (mounted mid s)).failed_reads (file_system_meaning (mounted new t)).failed_reads
+      → (file_system_meaning (mounted mid s)).failed_writes ≡ (file_system_meaning (mounted old s)).failed_writes
       → IsApplied (mounted mid s) (mounted new t) command reply → IsApplied (mounted old s) (mounted new t) command reply
-  applied_after old mid new s t command reply serves is stays same reads writes applied =
+  applied_after old mid new s t command reply serves is stays same reads later writes applied =
       let m = file_system_meaning (mounted old s) in
       let n = file_system_meaning (mounted mid s) in
       let l = file_system_meaning (mounted new t) in
       let c = applied.leads.circumstances in
       let led = applied.leads.between in
+      let read = after_reads m.failed_reads n.failed_reads l.failed_reads s command c reply t reads later led.reads applied.leads.allowed in
       let stand = weaker m n (OpensTo m s) (OpensToSome m (MayStand s command t)) stays.leaves (λ i opens. (s, opens, stands_before s command t is)) serves.honest in
       record {
         serves = applied.serves;
         leads = record {
-          circumstances = c;
+          circumstances = record c { read_failed = read.0 };
           between = record {
             goes_on = on_twice m n l (time_on m n _ stand) led.goes_on;
-            reads = subst (λ (k : ℕ). TellsOfFault c.read_failed k l.failed_reads) reads led.reads;
+            reads = read.1;
             writes = subst (λ (k : ℕ). TellsOfFault c.write_failed k l.failed_writes) writes led.writes;
             room = led.room;
           };
-          allowed = applied.leads.allowed;
+          allowed = read.2;
         };
         any_moment = left_after m n l s (MayStand s command t) is stays.same same stand led.goes_on applied.any_moment;
         at_answer = applied.at_answer;

@@ -1,6 +1,6 @@
 -- What calls and consistency points of a system come to for a command.
-use Rattle.std.proofs.Common.{◌≡◌, ◌≢◌, ◌⊎◌, ◌≤◌, ◌<◌, ◌^◌, ◌+◌, ◌*◌, inl, inr, ℕ, Bool, true, false, [], refl, sym, ap, subst, ◌∙◌, arith}
-use Rattle.std.specs.Prelude.{IsTrue, IsFalse, Option, None, map}
+use Rattle.std.proofs.Common.{◌≡◌, ◌≢◌, ◌⊎◌, ◌≤◌, ◌<◌, ◌^◌, ◌+◌, ◌*◌, inl, inr, ℕ, Bool, true, false, refl, sym, ap, subst, ◌∙◌, arith}
+use Rattle.std.specs.Prelude.{IsTrue, IsFalse, Option, None}
 use Rattle.std.proofs.lemmas.Bool.{false≢true}
 use Rattle.conspoint.specs.declared.error.PlanError.TheVariants as plan
 use Rattle.station.specs.Images.{Unchanged}
@@ -22,15 +22,13 @@ use Rattle.model.specs.Records as records
 use Rattle.model.specs.Records.{pledged_for}
 use Rattle.model.specs.Runs.{IsWithin}
 use Rattle.system.specs.Errors.{IsRefused}
-use Rattle.system.specs.Counting.{Counted, call_error_failed, point_error_failed}
+use Rattle.system.specs.Counting.{Counted, beside_reads, call_error_failed, point_error_failed}
 use Rattle.system.specs.Images.{OpensTo}
 use Rattle.layout.specs.Places.{blocks_of}
-use Rattle.layout.specs.Record.{change_bytes}
 use Rattle.images.specs.Roots.{whole}
-use Rattle.oplog.specs.LogEnd.{LogEnd, all_bodies, next_of}
-use Rattle.oplog.specs.declared.log.End.TheVariants.{Unopened}
-use Rattle.system.specs.Serving.{HasEmptyLog, ServesState, IsCall, WouldCall, IsCalled, IsBrokenOff}
+use Rattle.system.specs.Serving.{ServesState, IsCall, WouldCall, IsBrokenOff}
 use Rattle.system.specs.Settling.{IsSettled}
+use Rattle.system.specs.Slicing.{IsFulfilled}
 use Rattle.images.specs.Room.{free_under}
 use Rattle.system.specs.Systems as systems
 use Rattle.system.specs.declared.error.CallError.{CallError}
@@ -38,7 +36,7 @@ use Rattle.system.specs.declared.error.CallError.TheVariants as call
 use Rattle.system.specs.declared.system.System.{System}
 use Rattle.system.specs.declared.error.PointError.{PointError}
 use Rattle.system.specs.declared.error.PointError.TheVariants as point
-use Rattle.system.proofs.CoveredLaws.{none_spelled}
+use Rattle.system.proofs.CoveredLaws.{all_covered}
 use Rattle.system.proofs.RoomLaws.{free_is}
 use Rattle.mount.specs.Applying.{IsAppliedAt, Stays, TellsOfFault, HasRoomAtPoint}
 use Rattle.mount.specs.Refusals.{errno_of_call, errno_of_point, fails_call, fails_point}
@@ -59,33 +57,26 @@ came read write memory room =
 abbrev room_at : {S : Type 0} {G : Ghosts S} (f : System S G) (s : State) → ServesState f s → Bool → Room
 room_at f s serves covered = record {
   blocks = f.root.geometry.blocks;
-  free = free_under (whole (blocks_of (systems.meaning_of f).seen.disk) f.root).active f.root.geometry.blocks;
-  pledged = pledged_for f.root.geometry.inodes serves.first serves.replayed.changes;
+  free = free_under (whole (blocks_of serves.settled.disk) serves.settled.root).active serves.settled.root.geometry.blocks;
+  pledged = pledged_for serves.settled.root.geometry.inodes serves.settled.volume serves.lasts.replayed.changes;
   is_covered = covered;
   nameless_of = nameless_of f s serves;
 }
 
 has_room : {S : Type 0} {G : Ghosts S} (f : System S G) (s : State) (serves : ServesState f s) (covered : Bool)
-    → (IsTrue covered → records.CoversAll serves.first serves.running serves.replayed.changes) → HasRoomAtPoint f s (room_at f s serves covered)
+    → (IsTrue covered → records.CoversAll serves.settled.volume serves.running serves.lasts.replayed.changes) → HasRoomAtPoint f s (room_at f s serves covered)
 has_room f s serves covered all = record { serves = serves; blocks = refl; free = refl; told = record { pledged = refl; covered = all }; nameless = nameless_told f s serves }
-
--- all that is done is in the root of a covered system
-all_covered : {S : Type 0} {G : Ghosts S} (f : System S G) (s : State) → (covered : systems.IsCovered f s.tree.descriptors s)
-    → records.CoversAll covered.serves.first covered.serves.running covered.serves.replayed.changes
-all_covered f s covered =
-    let no_record : [] ≡ map change_bytes covered.serves.replayed.changes = sym (ap all_bodies covered.no_record) ∙ covered.serves.replayed.spelled in
-    (covered.held, none_spelled covered.serves.replayed.changes no_record)
 
 -- a refusal isn't what is answered to what is done
 not_done : {X : Type 0} (errno : Errno) → Refused errno ≡ Done → X
 not_done errno is = cc
 
 -- a call that was done, be it sure or not
-allowed_call : (s : State) (c : Command) (room : Room) (reply : Reply) (t : State) → s.mark ≡ going → IsCall c → IsSure s c ⊎ ¬ IsSure s c
-    → IsDone (clear room) s c reply t → Allowed (clear room) s c reply t
-allowed_call s c room reply t is is_call (inl sure) done = allowed_surely s c (clear room) reply t is sure refl done
-allowed_call s c room reply t is is_call (inr not_sure) done =
-    allowed_by s c (clear room) reply t is not_sure (inl (done, λ settling. absurd (not_settling c is_call settling)))
+allowed_call : (s : State) (c : Command) (read : Bool) (room : Room) (reply : Reply) (t : State) → s.mark ≡ going → IsCall c → IsSure s c ⊎ ¬ IsSure s c
+    → IsDone (came read false false room) s c reply t → Allowed (came read false false room) s c reply t
+allowed_call s c read room reply t is is_call (inl sure) done = allowed_surely s c (came read false false room) reply t is sure refl done
+allowed_call s c read room reply t is is_call (inr not_sure) done =
+    allowed_by s c (came read false false room) reply t is not_sure (inl (done, λ settling. absurd (not_settling c is_call settling)))
 
 -- a system that goes on shows a state that does
 pub still_going : {S : Type 0} {G : Ghosts S} (f : Fs S G) (s : State) → Serves (mounted f s) → IsFalse f.has_failed → s.mark ≡ going
@@ -100,21 +91,10 @@ answered_as old new s command x y is applied = subst (λ (z : Errno). IsAppliedA
 pub young_at : (a b i n : ℕ) → b ≤ a + POINTS * i → i < n → a + POINTS * n < 2 ^ 62 → b + POINTS ≤ 2 ^ 62
 young_at a b i n le below lasts = omega arith
 
--- behind a consistency point the log has no record
-pub log_emptied : {S : Type 0} {G : Ghosts S} (f : System S G) (log : LogEnd) (epoch : ℕ) → f.log ≡ record log { epoch = epoch + 1; end = Unopened } → f.root.generation ≡ epoch → HasEmptyLog f
-log_emptied f log epoch is generation = record {
-  epoch = ap (λ (l : LogEnd). l.epoch) is ∙ ap (λ n. n + 1) (sym generation);
-  end = ap (λ (l : LogEnd). next_of l.end) is;
-}
-
 -- no failed read fails a system
 pub reads_fail_nothing : (e : CallError) (flag : Bool) → e ≢ call.NotWritten → IsFalse flag → flag ≡ fails_call e
-reads_fail_nothing call.NoMemory flag other runs = runs
-reads_fail_nothing call.NotRead flag other runs = runs
-reads_fail_nothing call.Damaged flag other runs = runs
-reads_fail_nothing call.NoRoom flag other runs = runs
-reads_fail_nothing call.LogFull flag other runs = runs
 reads_fail_nothing call.NotWritten flag other runs = absurd (other refl)
+reads_fail_nothing e flag other runs = runs
 
 -- what is left of a command that was cut short
 pub cut_within : {S : Type 0} {G : Ghosts S} (f g : System S G) (s : State) (c : Command) → IsBrokenOff f g s c
@@ -128,10 +108,10 @@ cut_within f g s c is =
 
 -- behind calls that left the state as it was
 pub after_stay : {S : Type 0} {G : Ghosts S} (old mid new : Fs S G) (s : State) (command : Command) (reply : Reply) → Serves (mounted old s) → IsFalse old.has_failed → Stays old mid s
-    → Uses (systems.meaning_of mid.system) (systems.meaning_of new.system) → (systems.meaning_of mid.system).failed_reads ≡ (systems.meaning_of old.system).failed_reads
+    → Uses (systems.meaning_of mid.system) (systems.meaning_of new.system) → MayGrow (systems.meaning_of old.system).failed_reads (systems.meaning_of mid.system).failed_reads
     → (systems.meaning_of mid.system).failed_writes ≡ (systems.meaning_of old.system).failed_writes → IsAppliedAt mid s new command reply → IsAppliedAt old s new command reply
 after_stay old mid new s command reply serves runs stays uses reads writes applied =
-    (applied.0, applied_after old mid new s applied.0 command reply serves (still_going old s serves runs) stays uses.same reads writes applied.1)
+    (applied.0, applied_after old mid new s applied.0 command reply serves (still_going old s serves runs) stays uses.same reads uses.reads writes applied.1)
 
 module _ {S : Type 0} {G : Ghosts S} (old new : Fs S G) (s : State) where
   abbrev before : Meaning
@@ -158,17 +138,19 @@ module _ {S : Type 0} {G : Ghosts S} (old new : Fs S G) (s : State) where
       stays_read runs_on served goes opens = stays_by runs_on served (leaves_unchanged before behind (OpensTo before s) opens goes)
 
       -- a call that was answered
-      pub called : (c : Command) (reply : Reply) → IsCall c → IsSure s c ⊎ ¬ IsSure s c → IsFalse new.has_failed → behind.failed_reads ≡ before.failed_reads → behind.failed_writes ≡ before.failed_writes
-          → IsCalled old.system new.system s (serves.kept is_still) c reply → ((t : State) → ServesState new.system t → EachCut behind (OpensTo behind t)) → IsAppliedAt old s new c reply
+      pub called : (c : Command) (reply : Reply) → IsCall c → IsSure s c ⊎ ¬ IsSure s c → IsFalse new.has_failed → MayGrow before.failed_reads behind.failed_reads → behind.failed_writes ≡ before.failed_writes
+          → IsFulfilled old.system new.system s c reply → ((t : State) → ServesState new.system t → EachCut behind (OpensTo behind t)) → IsAppliedAt old s new c reply
       called c reply is_call sure runs_on reads writes is opens =
-          let t = is.after in
-          let still : t.mark ≡ going = ap (λ (u : State). u.mark) is.serves.state in
-          let room = room_at new.system t is.serves false in (
+          let does = is.done in
+          let t = does.after in
+          let still : t.mark ≡ going = ap (λ (u : State). u.mark) does.serves.state in
+          let room = room_at new.system t does.serves false in
+          let count = told before.failed_reads behind.failed_reads reads in (
             t,
-            done old new s t c is_still still same (going_serves t (same.honest.0 serves.honest) still runs_on is.serves) serves.honest reply (clear room)
-                (record { reads = reads; writes = writes; room = λ _. has_room new.system t is.serves false (λ e. absurd (false≢true e)) })
-                (allowed_call s c room reply t is_still is_call sure (is.need, is.step room))
-                is.leaves (opens t is.serves),
+            done old new s t c is_still still same (going_serves t (same.honest.0 serves.honest) still runs_on does.serves) serves.honest reply (came count.0 false false room)
+                (record { reads = count.1; writes = writes; room = λ _. has_room new.system t does.serves false (λ e. absurd (false≢true e)) })
+                (allowed_call s c count.0 room reply t is_still is_call sure (does.need, does.step room))
+                is.leaves (opens t does.serves),
           )
 
       -- a command that was refused for a cause
@@ -203,33 +185,36 @@ module _ {S : Type 0} {G : Ghosts S} (old new : Fs S G) (s : State) where
       broken_off c not_sure stopped reads writes is = cut_short c not_sure stopped reads writes (cut_within old.system new.system s c is)
 
     -- a call that wasn't answered
-    pub not_answered : (c : Command) (e : CallError) → ¬ IsSure s c → e ≢ call.NoRoom → e ≢ call.LogFull → new.has_failed ≡ fails_call e → Counted before behind (call_error_failed false e)
-        → (e ≡ call.Damaged → ⊥) → (e ≢ call.NotWritten → Goes Unchanged before behind) → (e ≢ call.NotWritten → ServesState new.system s)
-        → (e ≡ call.NotWritten → IsBrokenOff old.system new.system s c) → EachCut before (OpensTo before s) → IsAppliedAt old s new c (Refused (errno_of_call e))
-    not_answered c call.NoMemory not_sure room full flag counted damaged goes served off opens =
-        let other : call.NoMemory ≢ call.NotWritten = λ e. cc in
+    pub not_answered : (c : Command) (e : CallError) → ¬ IsSure s c → e ≢ call.NoRoom → e ≢ call.LogFull → e ≢ call.StepDue → new.has_failed ≡ fails_call e
+        → Counted before behind (beside_reads (call_error_failed false e)) → (e ≡ call.Damaged → ⊥)
+        → (e ≢ call.NotWritten → ServesState new.system s × LeavesOnly before behind (OpensTo before s)) → (e ≡ call.NotWritten → IsBrokenOff old.system new.system s c)
+        → IsAppliedAt old s new c (Refused (errno_of_call e))
+    not_answered c call.NoMemory not_sure room full due flag counted damaged stays off =
+        let kept = stays (λ e. cc) in
         let count = told before.failed_reads behind.failed_reads counted.uses.reads in
-        refused counted.uses.same c not_sure (stays_read counted.uses.same flag (served other) (goes other) opens) count.0 true ENOMEM count.1 counted.writes (λ _. refl)
-    not_answered c call.NotRead not_sure room full flag counted damaged goes served off opens =
-        let other : call.NotRead ≢ call.NotWritten = λ e. cc in
-        refused counted.uses.same c not_sure (stays_read counted.uses.same flag (served other) (goes other) opens) true false EIO counted.reads counted.writes (λ _. refl)
-    not_answered c call.Damaged not_sure room full flag counted damaged goes served off opens = absurd (damaged refl)
-    not_answered c call.NoRoom not_sure room full flag counted damaged goes served off opens = absurd (room refl)
-    not_answered c call.LogFull not_sure room full flag counted damaged goes served off opens = absurd (full refl)
-    not_answered c call.NotWritten not_sure room full flag counted damaged goes served off opens = broken_off counted.uses.same c not_sure flag counted.uses.reads counted.writes (off refl)
+        refused counted.uses.same c not_sure (stays_by counted.uses.same flag kept.0 kept.1) count.0 true ENOMEM count.1 counted.writes (λ _. refl)
+    not_answered c call.NotRead not_sure room full due flag counted damaged stays off =
+        let kept = stays (λ e. cc) in
+        refused counted.uses.same c not_sure (stays_by counted.uses.same flag kept.0 kept.1) true false EIO counted.reads counted.writes (λ _. refl)
+    not_answered c call.Damaged not_sure room full due flag counted damaged stays off = absurd (damaged refl)
+    not_answered c call.NoRoom not_sure room full due flag counted damaged stays off = absurd (room refl)
+    not_answered c call.LogFull not_sure room full due flag counted damaged stays off = absurd (full refl)
+    not_answered c call.StepDue not_sure room full due flag counted damaged stays off = absurd (due refl)
+    not_answered c call.NotWritten not_sure room full due flag counted damaged stays off = broken_off counted.uses.same c not_sure flag counted.uses.reads counted.writes (off refl)
 
     -- a command that a covered system has no room for
-    pub short : (command : Command) → ¬ IsSure s command → Stays old new s → systems.IsCovered new.system s.tree.descriptors s → behind.failed_reads ≡ before.failed_reads → behind.failed_writes ≡ before.failed_writes
+    pub short : (command : Command) → ¬ IsSure s command → Stays old new s → systems.IsCovered new.system s.tree.descriptors s → MayGrow before.failed_reads behind.failed_reads → behind.failed_writes ≡ before.failed_writes
         → ((room : Room) → IsTrue room.is_covered → room.free ≡ new.system.free → room.blocks ≡ new.system.root.geometry.blocks → room.pledged ≡ new.system.pledged → IsShortFor room s command)
         → IsAppliedAt old s new command (Refused ENOSPC)
     short command not_sure stays covered reads writes is_short =
         let room = room_at new.system s covered.serves true in
-        let c = clear room in (
+        let count = told before.failed_reads behind.failed_reads reads in
+        let c = came count.0 false false room in (
           s,
           stayed old new s command serves is_still stays (Refused ENOSPC) c
-              (record { reads = reads; writes = writes; room = λ _. has_room new.system s covered.serves true (λ _. all_covered new.system s covered) })
+              (record { reads = count.1; writes = writes; room = λ _. has_room new.system s covered.serves true (λ _. all_covered new.system s.tree.descriptors s covered) })
               (allowed_by s command c (Refused ENOSPC) s is_still not_sure
-              (inr (is_short room refl (sym (free_is new.system s.tree.descriptors s covered.serves)) refl (sym covered.serves.pledges), refl))),
+              (inr (is_short room refl (sym (free_is new.system s.tree.descriptors s covered.serves)) refl (sym covered.serves.lasts.pledges), refl))),
         )
 
     -- a command whose consistency point wasn't made
@@ -271,18 +256,19 @@ module _ {S : Type 0} {G : Ghosts S} (old new : Fs S G) (s : State) where
         let c = clear (room_at new.system t covered.serves true) in (
           t,
           done old new s t command is_still still same (going_serves t (same.honest.0 serves.honest) still runs_on covered.serves) serves.honest Done c
-              (record { reads = reads; writes = writes; room = λ _. has_room new.system t covered.serves true (λ _. all_covered new.system t covered) })
+              (record { reads = reads; writes = writes; room = λ _. has_room new.system t covered.serves true (λ _. all_covered new.system t.tree.descriptors t covered) })
               (allowed_by s command c Done t is_still not_sure (inl ((is.need, is.step c.room), λ _ _. refl)))
               is.leaves (opens t covered.serves),
         )
 
     -- `sync` on a system whose root covers all that is
-    pub synced : Stays old new s → behind.failed_reads ≡ before.failed_reads → behind.failed_writes ≡ before.failed_writes → systems.IsCovered new.system s.tree.descriptors s → IsAppliedAt old s new Sync Done
+    pub synced : Stays old new s → MayGrow before.failed_reads behind.failed_reads → behind.failed_writes ≡ before.failed_writes → systems.IsCovered new.system s.tree.descriptors s → IsAppliedAt old s new Sync Done
     synced stays reads writes covered =
-        let c = clear (room_at new.system s covered.serves true) in (
+        let count = told before.failed_reads behind.failed_reads reads in
+        let c = came count.0 false false (room_at new.system s covered.serves true) in (
           s,
           stayed old new s Sync serves is_still stays Done c
-              (record { reads = reads; writes = writes; room = λ _. has_room new.system s covered.serves true (λ _. all_covered new.system s covered) })
+              (record { reads = count.1; writes = writes; room = λ _. has_room new.system s covered.serves true (λ _. all_covered new.system s.tree.descriptors s covered) })
               (allowed_by s Sync c Done s is_still (λ no. no) (inl ((nothing, (refl, refl, refl)), λ _ _. refl))),
         )
 

@@ -7,7 +7,7 @@ use Rattle.conspoint.specs.declared.error.PlanError.TheVariants as plan
 use Rattle.model.specs.declared.errno.Errno.{Errno}
 use Rattle.model.specs.declared.errno.Errno.TheVariants.{EIO}
 use Rattle.model.specs.declared.reply.Reply.TheVariants.{Refused}
-use Rattle.system.specs.Counting.{Counted, call_error_failed, point_error_failed}
+use Rattle.system.specs.Counting.{Counted, beside_reads, call_error_failed, point_error_failed}
 use Rattle.system.specs.Opening.{HasFailed}
 use Rattle.system.specs.declared.error.CallError.{CallError}
 use Rattle.system.specs.declared.error.CallError.TheVariants as call
@@ -33,43 +33,26 @@ failed_after m mid new uses (inr write) = inr (grown_since m.failed_writes mid.f
 -- ---- EIO, and any other
 
 module _ (m new : Meaning) where
-  pub call_eio : (e : CallError) → Counted m new (call_error_failed false e) → errno_of_call e ≡ EIO → HasFailed m new
-  call_eio call.NoMemory counted is = cc
+  pub call_eio : (e : CallError) → Counted m new (beside_reads (call_error_failed false e)) → errno_of_call e ≡ EIO → HasFailed m new
   call_eio call.NotRead counted is = inl counted.reads
-  call_eio call.Damaged counted is = cc
-  call_eio call.LogFull counted is = cc
-  call_eio call.NoRoom counted is = cc
   call_eio call.NotWritten counted is = inr counted.writes
+  call_eio e counted is = cc
 
-  pub call_written : (e : CallError) → Counted m new (call_error_failed false e) → errno_of_call e ≢ EIO → NoWriteFailed m new
-  call_written call.NoMemory counted other = counted.writes
-  call_written call.NotRead counted other = counted.writes
-  call_written call.Damaged counted other = counted.writes
-  call_written call.LogFull counted other = counted.writes
-  call_written call.NoRoom counted other = counted.writes
+  pub call_written : (e : CallError) → Counted m new (beside_reads (call_error_failed false e)) → errno_of_call e ≢ EIO → NoWriteFailed m new
   call_written call.NotWritten counted other = absurd (other refl)
+  call_written e counted other = counted.writes
 
   pub point_eio : (e : PointError) → Counted m new (point_error_failed e) → errno_of_point e ≡ EIO → HasFailed m new
-  point_eio (point.NotPlanned plan.NoMemory) counted is = cc
   point_eio (point.NotPlanned plan.Device) counted is = inl counted.reads
-  point_eio (point.NotPlanned plan.NoSpace) counted is = cc
-  point_eio (point.NotPlanned plan.Damaged) counted is = cc
   point_eio point.NotWritten counted is = inr counted.writes
-  point_eio point.NoGeneration counted is = cc
+  point_eio e counted is = cc
 
   pub point_written : (e : PointError) → Counted m new (point_error_failed e) → errno_of_point e ≢ EIO → NoWriteFailed m new
-  point_written (point.NotPlanned plan.NoMemory) counted other = counted.writes
-  point_written (point.NotPlanned plan.Device) counted other = counted.writes
-  point_written (point.NotPlanned plan.NoSpace) counted other = counted.writes
-  point_written (point.NotPlanned plan.Damaged) counted other = counted.writes
   point_written point.NotWritten counted other = absurd (other refl)
-  point_written point.NoGeneration counted other = counted.writes
+  point_written (point.NotPlanned plan.Device) counted other = counted.writes
+  point_written e counted other = counted.writes
 
 -- an error that isn't EIO came before the first write
 pub call_refuses : (e : CallError) → errno_of_call e ≢ EIO → e ≢ call.NotWritten
 call_refuses call.NotWritten other is = other refl
-call_refuses call.NoMemory other is = cc
-call_refuses call.NotRead other is = cc
-call_refuses call.Damaged other is = cc
-call_refuses call.LogFull other is = cc
-call_refuses call.NoRoom other is = cc
+call_refuses e other is = cc

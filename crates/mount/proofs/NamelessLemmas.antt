@@ -18,7 +18,7 @@ use Rattle.images.specs.Contents.{Content, StandsAs, HoldsVolume, tree_contents}
 use Rattle.images.specs.Roots.{Whole, whole}
 use Rattle.images.specs.Snapshots.{AreKeptAbove, AreSnapshots, HasSnapshot}
 use Rattle.system.specs.Serving.{ServesState}
-use Rattle.system.specs.Systems.{meaning_of}
+use Rattle.system.specs.Systems.{disk_of}
 use Rattle.system.specs.declared.system.System.{System}
 
 -- what a content stands for is a file without names, or it isn't
@@ -76,7 +76,7 @@ module _ (r : Root) (w : Whole) (are : AreSnapshots r w) (k : ℕ) (head : Snaps
 
 module _ {S : Type 0} {G : Ghosts S} (f : System S G) (s : State) (serves : ServesState f s) where
   abbrev held : Whole
-  held = whole (blocks_of (meaning_of f).seen.disk) f.root
+  held = whole (blocks_of (disk_of f)) f.root
 
   -- how many a system's image keeps under the snapshot of a name
   abbrev pub nameless_of : Name → ℕ

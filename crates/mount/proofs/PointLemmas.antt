@@ -1,9 +1,9 @@
 -- What a file system promises of commands that make consistency points.
-use Rattle.std.proofs.Common.{◌≡◌, ◌≢◌, ◌⊎◌, inl, inr, ℕ, ◌+◌, ◌≤◌, ◌^◌, Bool, Result, Ok, Err, refl, ap, sym, subst, ◌∙◌, arith}
+use Rattle.std.proofs.Common.{◌≡◌, ◌≢◌, inl, ℕ, ◌+◌, ◌≤◌, ◌^◌, Bool, false, Result, Ok, Err, refl, ap, sym, subst, ◌∙◌, arith}
 use Rattle.std.specs.Prelude.{IfErr, IsFalse, MatchResult}
-use Rattle.station.specs.Moments.{LeavesOnly, Meaning}
+use Rattle.station.specs.Moments.{Meaning}
 use Rattle.station.specs.declared.station.Station.{Ghosts}
-use Rattle.station.proofs.Moments.{weaker}
+use Rattle.station.proofs.Moments.{leaves_unchanged, weaker}
 use Rattle.model.specs.Circumstances.{IsSure}
 use Rattle.model.specs.Room.{nothing}
 use Rattle.model.specs.Runs.{IsWithin}
@@ -14,20 +14,19 @@ use Rattle.model.specs.declared.errno.Errno.{Errno}
 use Rattle.model.specs.declared.errno.Errno.TheVariants.{EIO}
 use Rattle.model.specs.declared.reply.Reply.TheVariants.{Done, Refused}
 use Rattle.oplog.specs.LogEnd.{LogEnd}
-use Rattle.system.specs.Counting.{Counted, call_error_failed}
+use Rattle.system.specs.Counting.{Counted, call_error_failed, no_call}
 use Rattle.system.specs.Images.{OpensTo}
-use Rattle.system.specs.Points.{MakesPoint, StaysAt}
 use Rattle.system.specs.Serving.{ServesState, WouldCall}
-use Rattle.system.specs.Settling.{Glances, IsRefusedBy, IsSettled, Settles}
+use Rattle.system.specs.Settling.{Glances, IsRefusedBy, IsSettled, MakesCovered, Settles}
 use Rattle.system.specs.Systems as systems
 use Rattle.system.specs.declared.error.CallError.{CallError}
 use Rattle.system.specs.declared.error.PointError.{PointError}
-use Rattle.system.proofs.CountingLaws.{next_age, nothing_logged, same_age}
+use Rattle.system.proofs.CountingLaws.{nothing_logged, told_beside_reads}
 use Rattle.mount.specs.Applying.{AnswersCommand, HasSettled, KeepsStates, MakesRoom, Stays}
 use Rattle.mount.specs.Refusals.{errno_of_call, errno_of_point, fails_point}
 use Rattle.mount.specs.Systems.{OpensToSome, Serves, mounted}
 use Rattle.mount.specs.declared.fs.Fs.{Fs}
-use Rattle.mount.proofs.AttemptLemmas.{answered_as, cut_within, log_emptied, no_point, not_answered, own_refusal, reads_fail_nothing, settled, stays_by, stays_read, still_going, synced}
+use Rattle.mount.proofs.AttemptLemmas.{answered_as, cut_within, no_point, not_answered, own_refusal, reads_fail_nothing, settled, stays_by, stays_read, still_going, synced}
 use Rattle.mount.proofs.CountLemmas.{call_eio, call_written, point_eio, point_written, refused_same}
 use Rattle.mount.proofs.AnswerLemmas.{AllOpen, ages_same, ages_within}
 
@@ -43,49 +42,45 @@ module _ {S : Type 0} {G : Ghosts S} (old new : Fs S G) (runs : IsFalse old.has_
   held : (s : State) → Serves (mounted old s) → ServesState old.system s
   held s serves = serves.kept (still_going old s serves runs)
 
-  one_of : (s : State) → LeavesOnly first last (λ c. OpensTo first s c ⊎ OpensTo first s c) → LeavesOnly first last (OpensTo first s)
-  one_of s leaves = weaker first last (λ c. OpensTo first s c ⊎ OpensTo first s c) (OpensTo first s) leaves (λ c either. elim either [ inl one ↦ one | inr other ↦ other ])
-
-  -- one was made
-  pub makes_room : (u : Unit {0}) → MakesPoint StaysAt (λ _. Unit {0}) old.system new.system (Ok u) → IsFalse new.has_failed → MakesRoom old new (Ok u)
+  -- one was made, or all was in the newest root
+  pub makes_room : (u : Unit {0}) → MakesCovered old.system new.system (Ok u) → IsFalse new.has_failed → MakesRoom old new (Ok u)
   makes_room u told runs_on = record {
     uses = told.counted.uses;
     eio = λ is. cc;
     written = tt;
     unlogged = told.unlogged;
-    epoch = next_age old.system.log.epoch new.system.log.epoch (ap (λ (l : LogEnd). l.epoch) told.log);
+    epoch = told.epoch;
     made = record {
       keeps = record {
-        counted = told.counted;
+        counted = told_beside_reads first last no_call told.counted;
         unlogged = told.unlogged;
-        epoch = next_age old.system.log.epoch new.system.log.epoch (ap (λ (l : LogEnd). l.epoch) told.log);
-        stays = λ s serves.
-            stays_by old new s serves runs told.counted.uses.same runs_on (told.covered s.tree.descriptors s (held s serves) s refl tt).serves
-            (one_of s (told.any_moment s.tree.descriptors s (held s serves) s refl tt));
+        epoch = told.epoch;
+        stays = λ s serves. stays_by old new s serves runs told.counted.uses.same runs_on (told.covered s (held s serves)).serves (told.leaves s (held s serves));
       };
       going = runs_on;
-      empty = log_emptied new.system old.system.log old.system.log.epoch told.log told.generation;
-      covered = λ s serves. told.covered s.tree.descriptors s (held s serves) s refl tt;
+      rests = told.rests;
+      empty = told.empty;
+      covered = λ s serves. told.covered s (held s serves);
     };
     applied = λ command s serves next needs. tt;
   }
 
   -- none was
-  pub makes_none : (e : PointError) (errno : Errno) → errno ≡ errno_of_point e → MakesPoint StaysAt (λ _. Unit {0}) old.system new.system (Err e) → new.has_failed ≡ fails_point e → MakesRoom old new (Err errno)
+  pub makes_none : (e : PointError) (errno : Errno) → errno ≡ errno_of_point e → MakesCovered old.system new.system (Err e) → new.has_failed ≡ fails_point e → MakesRoom old new (Err errno)
   makes_none e errno is told flag = record {
     uses = told.counted.uses;
     eio = λ same. point_eio first last e told.counted (sym is ∙ errno_same errno EIO (Err errno) (Err EIO) refl refl same);
     written = λ other. point_written first last e told.counted (λ fault. other (is ∙ fault));
     unlogged = told.unlogged;
-    epoch = same_age old.system.log.epoch new.system.log.epoch (ap (λ (l : LogEnd). l.epoch) told.log);
+    epoch = told.epoch;
     made = tt;
     applied = λ command s serves next needs.
         let here = held s serves in
-        let leaves = one_of s (told.any_moment s.tree.descriptors s here s refl tt) in
+        let leaves = told.leaves s here in
         answered_as old new s command (errno_of_point e) errno is
-        (no_point old new s serves runs command e needs next told.counted (λ x. told.roomy s.tree.descriptors s here tt (ap (λ y. Err y) x))
-        (λ x. told.last s.tree.descriptors s here (ap (λ y. Err y) x)) (λ x. told.damaged s.tree.descriptors s here (ap (λ y. Err y) x)) flag
-        (λ refused runs_on. stays_by old new s serves runs told.counted.uses.same runs_on (told.refused s.tree.descriptors s here refused) leaves)
+        (no_point old new s serves runs command e needs next told.counted (λ x. told.roomy s here (ap (λ y. Err y) x))
+        (λ x. told.last s here (ap (λ y. Err y) x)) (λ x. told.damaged s here (ap (λ y. Err y) x)) flag
+        (λ refused runs_on. stays_by old new s serves runs told.counted.uses.same runs_on (told.refused s here refused) leaves)
         (λ x. weaker first last (OpensTo first s) (OpensToSome first (IsWithin s command)) leaves (λ i opens. (s, opens, inl refl))));
   }
     where
@@ -101,7 +96,7 @@ synced_by n old new runs le made = record {
   unlogged = λ errno is. cc;
   epoch = ages_within n 1 old.system.log.epoch new.system.log.epoch le made.keeps.epoch;
   still = λ s serves p sure. absurd sure;
-  applied = λ s serves young p. synced old new s serves runs (made.keeps.stays s serves) made.keeps.counted.reads made.keeps.counted.writes (made.covered s serves);
+  applied = λ s serves young p. synced old new s serves runs (made.keeps.stays s serves) made.keeps.counted.uses.reads made.keeps.counted.writes (made.covered s serves);
 }
 
 -- ---- the tests of `snap take`
@@ -118,7 +113,7 @@ module _ {S : Type 0} {G : Ghosts S} (old new : Fs S G) (runs : IsFalse old.has_
   -- they were read
   pub glance_keeps : {T : Type 0} (x : T) → Glances {T = T} old.system new.system (Ok x) → KeepsStates 0 old new
   glance_keeps {T = T} x told = record {
-    counted = told.counted;
+    counted = told_beside_reads (systems.meaning_of old.system) (systems.meaning_of new.system) no_call told.counted;
     unlogged = nothing_logged (systems.meaning_of old.system) (systems.meaning_of new.system) told.reads.goes;
     epoch = ages_same 0 old.system.log.epoch new.system.log.epoch (same_epoch {T = T} (Ok x) told);
     stays = kept_as {T = T} (Ok x) told;
@@ -145,7 +140,7 @@ module _ {S : Type 0} {G : Ghosts S} (old new : Fs S G) (runs : IsFalse old.has_
     glance_fails {T = T} e errno is told not_stopped =
         let m = systems.meaning_of old.system in
         let l = systems.meaning_of new.system in
-        let counted = subst (λ (b : Bool). Counted m l (call_error_failed b e)) not_stopped told.counted in
+        let counted = told_beside_reads m l (call_error_failed false e) (subst (λ (b : Bool). Counted m l (call_error_failed b e)) not_stopped told.counted) in
         record {
           uses = counted.uses;
           eio = λ same. call_eio m l e counted (sym is ∙ refused_same same);
@@ -156,8 +151,8 @@ module _ {S : Type 0} {G : Ghosts S} (old new : Fs S G) (runs : IsFalse old.has_
           applied = λ s serves young p.
               let here = serves.kept (still_going old s serves runs) in
               answered_as old new s command (errno_of_call e) errno is
-              (not_answered old new s serves runs command e (not_sure s) told.refuses.0 told.refuses.1 (reads_fail_nothing e new.has_failed told.refuses.2 runs_on) counted
-              (λ x. told.damaged s here (ap (λ y. Err y) x)) (λ _. told.reads.goes) (λ _. told.serves s here) (λ x. absurd (told.refuses.2 x)) (opens s here));
+              (not_answered old new s serves runs command e (not_sure s) told.refuses.0 told.refuses.1 told.refuses.3 (reads_fail_nothing e new.has_failed told.refuses.2 runs_on) counted
+              (λ x. told.damaged s here (ap (λ y. Err y) x)) (λ _. (told.serves s here, leaves_unchanged m l (OpensTo m s) (opens s here) told.reads.goes)) (λ x. absurd (told.refuses.2 x)));
         }
 
 -- ---- commands that end behind a consistency point of their own
@@ -226,6 +221,6 @@ module _ {S : Type 0} {G : Ghosts S} (n : ℕ) (P : State → Type 0) (old new :
         answered_as old new s command (errno_of_point e) errno is
         (no_point old new s serves runs command e (not_sure s) (one_point old.system.log.epoch young) told.counted (λ x. told.roomy s here p (ap (λ y. Err y) x))
         (λ x. told.last s here (ap (λ y. Err y) x)) (λ x. told.damaged s here (ap (λ y. Err y) x)) flag
-        (λ refused runs_on. stays_read old new s serves runs told.counted.uses.same runs_on (told.serves s here refused) (told.kept refused) (opens s here))
+        (λ refused runs_on. let kept = told.stays s here refused in stays_by old new s serves runs told.counted.uses.same runs_on kept.0 kept.1)
         (λ x. cut_within old.system new.system s command (told.broken s here p (ap (λ y. Err y) x))));
   }

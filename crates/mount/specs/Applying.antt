@@ -1,8 +1,8 @@
 -- What applying commands comes to.
-use Rattle.std.specs.Prelude.{ℕ, ◌≡◌, ◌≢◌, ◌⊎◌, ◌↔◌, ◌≤◌, List, Bool, true, false, IsFalse, Result, Ok, IfErr, IfOk, IsErrOf, MatchResult, OnOk}
+use Rattle.std.specs.Prelude.{ℕ, ◌≡◌, ◌≢◌, ◌⊎◌, ◌↔◌, ◌≤◌, List, Bool, true, false, IsFalse, None, Result, Ok, IfErr, IfOk, IsErrOf, MatchResult, OnOk}
 use Rattle.station.specs.Calls.{Uses}
-use Rattle.station.specs.Images.{Images, Unchanged}
-use Rattle.station.specs.Moments.{Goes, Meaning, LeftBetween, HasGrown, IsSameStation, LeavesOnly}
+use Rattle.station.specs.Images.{Images}
+use Rattle.station.specs.Moments.{Meaning, LeftBetween, HasGrown, IsSameStation, LeavesOnly}
 use Rattle.station.specs.declared.station.Station.{Ghosts}
 use Rattle.model.specs.declared.command.Command.{Command}
 use Rattle.model.specs.declared.errno.Errno.{Errno}
@@ -20,7 +20,7 @@ use Rattle.images.specs.Contents.{HoldsVolume, tree_contents}
 use Rattle.images.specs.Roots.{whole}
 use Rattle.images.specs.Snapshots.{HasSnapshot}
 use Rattle.layout.specs.SnapRoot.{Snapshot}
-use Rattle.system.specs.Counting.{AgesBy, Counted, LogsNothing, call_failed, no_call}
+use Rattle.system.specs.Counting.{AgesBy, Counted, LogsNothing, beside_reads, call_failed, perhaps_reads}
 use Rattle.system.specs.Images.{OpensTo}
 use Rattle.system.specs.Opening.{HasFailed}
 use Rattle.images.specs.Room.{free_under}
@@ -44,17 +44,17 @@ abbrev pub TellsOfFault : Bool → ℕ → ℕ → Type 0
 TellsOfFault true old new = HasGrown old new
 TellsOfFault false old new = new ≡ old
 
--- The room of a system at a state that it serves: all blocks of its disk, those that are free under its root, and those that a
+-- The room of a system at a state that it serves: all blocks of its disk, those that are free under its settled root, and those that a
 -- consistency point may store for what that root doesn't cover.
 pub record HasRoomAtPoint {S : Type 0} {G : Ghosts S} (f : System S G) (s : State) (room : Room) : Type 0 where
   pub serves : ServesState f s
   pub blocks : room.blocks ≡ f.root.geometry.blocks
   pub free :
-      let disk = blocks_of (systems.meaning_of f).seen.disk in
-      room.free ≡ free_under (whole disk f.root).active f.root.geometry.blocks
-  pub told : TellsRoom f.root.geometry.inodes serves.first serves.running serves.replayed.changes room
+      let root = serves.settled.root in
+      room.free ≡ free_under (whole (blocks_of serves.settled.disk) root).active root.geometry.blocks
+  pub told : TellsRoom serves.settled.root.geometry.inodes serves.settled.volume serves.running serves.lasts.replayed.changes room
   pub nameless : (k : ℕ) (head : Snapshot) (v : Volume)
-      → let disk = blocks_of (systems.meaning_of f).seen.disk in
+      → let disk = blocks_of (systems.disk_of f) in
       HasSnapshot f.root (whole disk f.root) k head
       → HoldsVolume f.root.geometry.inodes (tree_contents ((whole disk f.root).frozen k)) v
       → room.nameless_of head.name ≡ count_nameless f.root.geometry.inodes v
@@ -108,7 +108,7 @@ pub record AnswersCommand {S : Type 0} {G : Ghosts S} (points : ℕ) (P : State 
       → LogsNothing (systems.meaning_of old.system) (systems.meaning_of new.system)
   pub epoch : AgesBy points old.system.log.epoch new.system.log.epoch
   pub still : (s : State) → Serves (mounted old s) → P s → IsSure s command
-      → new.system.blocks.station ≡ old.system.blocks.station
+      → new.system.blocks.buffers.station ≡ old.system.blocks.buffers.station
   pub applied : (s : State) → Serves (mounted old s) → HasPoints points old → P s → IsAppliedAt old s new command reply
 
 -- the same, whatever the state
@@ -144,23 +144,24 @@ pub record ReadsCut (old new other : Meaning) : Type 0 where
   pub left : LeftBetween new old.moment new.moment other.seen
   pub sectors : other.sectors ≡ new.sectors
 
--- From one file system to another nothing failed and nothing was logged, by so many consistency points at most, and each state that the
+-- From one file system to another no write failed and nothing was logged, by so many consistency points at most, and each state that the
 -- first one serves stays.
 pub record KeepsStates {S : Type 0} {G : Ghosts S} (points : ℕ) (old new : Fs S G) : Type 0 where
-  pub counted : Counted (systems.meaning_of old.system) (systems.meaning_of new.system) no_call
+  pub counted : Counted (systems.meaning_of old.system) (systems.meaning_of new.system) perhaps_reads
   pub unlogged : LogsNothing (systems.meaning_of old.system) (systems.meaning_of new.system)
   pub epoch : AgesBy points old.system.log.epoch new.system.log.epoch
   pub stays : (s : State) → Serves (mounted old s) → Stays old new s
 
--- What a call without a consistency point does to a file system that goes on.
+-- What a call with no whole consistency point does to a file system that goes on.
 pub record Attempts {S : Type 0} {G : Ghosts S} (old new : Fs S G) (call : Command) (result : Result Reply CallError) : Type 0 where
-  pub counted : Counted (systems.meaning_of old.system) (systems.meaning_of new.system) (call_failed false result)
+  pub counted : Counted (systems.meaning_of old.system) (systems.meaning_of new.system) (beside_reads (call_failed false result))
   pub no_fault : IfOk result TellsNoFault
-  pub refused : (errno : Errno) → result ≡ Ok (Refused errno) → Goes Unchanged (systems.meaning_of old.system) (systems.meaning_of new.system)
-  pub kept : IfErr result (λ e. e ≢ NotWritten → Goes Unchanged (systems.meaning_of old.system) (systems.meaning_of new.system))
-  pub epoch : new.system.log.epoch ≡ old.system.log.epoch
+  pub refused : (errno : Errno) → result ≡ Ok (Refused errno) → LogsNothing (systems.meaning_of old.system) (systems.meaning_of new.system)
+  pub kept : IfErr result (λ e. e ≢ NotWritten → LogsNothing (systems.meaning_of old.system) (systems.meaning_of new.system))
+  pub epoch : AgesBy 1 old.system.log.epoch new.system.log.epoch
+  pub calm : HasEmptyLog old.system → new.system.log.epoch ≡ old.system.log.epoch
   pub sure : (s : State) → Serves (mounted old s) → IsSure s call
-      → MatchResult result (λ _. new.system.blocks.station ≡ old.system.blocks.station) (λ _. ⊥)
+      → MatchResult result (λ _. new.system.blocks.buffers.station ≡ old.system.blocks.buffers.station) (λ _. ⊥)
   pub applied : (s : State) → Serves (mounted old s) → MatchResult result (IsAppliedAt old s new call)
       (λ e. e ≢ NoRoom → e ≢ LogFull → IsAppliedAt old s new call (Refused (errno_of_call e)))
   pub going : IfErr result (λ e. e ≢ NotWritten → IsFalse new.has_failed)
@@ -170,10 +171,11 @@ pub record Attempts {S : Type 0} {G : Ghosts S} (old new : Fs S G) (call : Comma
   pub short : (s : State) → Serves (mounted old s) → IsErrOf result NoRoom
       → LacksRoom new.system s call × (IsCovered old.system s.tree.descriptors s → IsCovered new.system s.tree.descriptors s)
 
--- A consistency point was made: all is in the root.
+-- All is in the newest root.
 pub record HasSettled {S : Type 0} {G : Ghosts S} (old new : Fs S G) : Type 0 where
   pub keeps : KeepsStates 1 old new
   pub going : IsFalse new.has_failed
+  pub rests : new.system.blocks.laid ≡ None
   pub empty : HasEmptyLog new.system
   pub covered : (s : State) → Serves (mounted old s) → IsCovered new.system s.tree.descriptors s
 

@@ -9,8 +9,8 @@ use station::Station;
 use std::alloc::Global;
 use system::{CallError, Space, System, served_states_open};
 
-/// The most consistency points that one command makes: a `snap take` settles what isn't under the newest root, and then takes the
-/// snapshot.
+/// The most consistency points that one command begins: a `snap take` settles what isn't under the newest root, and then takes the
+/// snapshot, and a call may plan one ahead before it needs room.
 pub const POINTS: u64 = 2;
 
 /// A mounted file system. Over an honest station it *serves* a state, as long as no device write failed: whatever a power
@@ -25,7 +25,7 @@ pub struct Fs<S: Station> {
 }
 
 impl<S: Station> Fs<S> {
-    ghost use Rattle.std.specs.Prelude.{◌≡◌, IsTrue, IsFalse, IfOk, OnErr, List, [], ◌∷◌, ◌++◌, length, vec_len, ◌*◌};
+    ghost use Rattle.std.specs.Prelude.{◌≡◌, IsTrue, IsFalse, IfOk, None, OnErr, List, [], ◌∷◌, ◌++◌, length, vec_len, ◌*◌};
     ghost use Rattle.std.specs.List.{Contains, zip};
     ghost use Rattle.station.specs.Calls.{Uses};
     ghost use Rattle.station.specs.Moments.{MayLeave};
@@ -135,7 +135,7 @@ impl<S: Station> Fs<S> {
         }
     }
 
-    /// A call, with no consistency point. Nothing changed where its record doesn't go into the log.
+    /// A call, with a step of a consistency point at most. The state stays where its record doesn't go into the log.
     fn attempt(&mut self, call: &Command) -> Result<Reply, CallError>
         requires going { IsFalse self.old.has_failed }
         requires is_call { IsCall call.now }
@@ -199,7 +199,8 @@ impl<S: Station> Fs<S> {
 
     /// The same where the newest root covers all.
     fn take_covered(&mut self, name: &Text) -> Reply
-        requires { IsFalse self.old.has_failed }
+        requires going { IsFalse self.old.has_failed }
+        requires rests { self.old.system.blocks.laid ≡ None }
         ensures { AnswersCommand 1 (λ s. IsCovered self.old.system s.tree.descriptors s
             × WouldChange s (Command.SnapTake name.now)) self.old self.new (Command.SnapTake name.now) result }
     {
@@ -239,12 +240,12 @@ impl<S: Station> Fs<S> {
         }
     }
 
-    /// Runs a consistency point, and says why there is none.
+    /// Ends the consistency point under way, makes one where something is uncovered, and says why all isn't covered then.
     fn settle(&mut self) -> Result<(), Errno>
         requires { IsFalse self.old.has_failed }
         ensures { MakesRoom self.old self.new result }
     {
-        match self.system.point() {
+        match self.system.settle() {
             Ok(()) => Ok(()),
             Err(error) => {
                 self.has_failed = fails_point(error);
@@ -287,14 +288,14 @@ impl<S: Station> Fs<S> {
 
     /// The station, to look at.
     pub fn station(&self) -> &S
-        ensures { result.now ≡ self.now.system.blocks.station }
+        ensures { result.now ≡ self.now.system.blocks.buffers.station }
     {
         self.system.station()
     }
 
     /// The station as it stands, with no device call.
     pub fn into_station(self) -> S
-        ensures station { result ≡ self.system.blocks.station }
+        ensures station { result ≡ self.system.blocks.buffers.station }
         ensures leaves { (s : State) → Serves (mounted self s) → LeavesState (S.meaning result) s }
         ensures seen { (s : State) → Serves (mounted self s)
             → MayLeave (S.meaning result) (S.meaning result).seen }

@@ -22,8 +22,8 @@ use system::System;
 /// cut leaves what it might have left before. Where what the station reads opens to a state, Ok serves that state, without open
 /// files; `NoRoot` comes where neither slot holds a root, `Damaged` only where one does but what the station reads opens to no
 /// state, `Device` only where a device call failed. Whatever else the station holds, Ok has taken the newest root, the station
-/// has its sizes, and the NVRAM holds a log over it. Over images without a fault whose files can be read neither `NoRoot`
-/// nor `Damaged` comes.
+/// has its sizes, and the NVRAM holds a log over it. Over images without a fault neither `NoRoot` nor `Damaged` comes, whatever
+/// blocks of files can be read.
 pub fn mount<S: Station>(alloc: Global, station: S) -> Result<Fs<S>, (MountError, S)>
     ensures same { MatchResult result
         (λ fs. IsSameStation (S.meaning station) (meaning_of fs.system))

@@ -35,6 +35,10 @@ unopened_after epoch bytes bodies fits (inr is) = elim is.0.earlier [
   }
 ]
 
+-- epochs of one parity stand in one half
+same_half : (half : ℕ) (nvram : List ℕ) (a b : ℕ) → a % 2 ≡ b % 2 → half_of half a nvram ≡ half_of half b nvram
+same_half half nvram a b is = ap (λ (r : ℕ). half_at half r nvram) is
+
 -- under a root of the log's epoch, a log that goes to the next epoch holds nothing
 pub covered : (log : LogEnd) (g : ℕ) (bodies : Bodies) (nvram : List ℕ) → g < 2 ^ 62 → StandsAt log g bodies nvram
     → StandsAt (record log { epoch = log.epoch + 1; end = Unopened }) log.epoch no_bodies nvram
@@ -47,9 +51,6 @@ covered log g bodies nvram fits stands =
       | inr is ↦ omega (arith, is.0)
     ]
 
-    same_half : (a b : ℕ) → a % 2 ≡ b % 2 → half_of log.half a nvram ≡ half_of log.half b nvram
-    same_half a b is = ap (λ (r : ℕ). half_at log.half r nvram) is
-
     next : IsUnopened (log.epoch + 1) (half_of log.half (log.epoch + 1) nvram)
     next = elim stands.other [
       | inl is ↦
@@ -58,9 +59,21 @@ covered log g bodies nvram fits stands =
       | inr is ↦
           let at : g + 1 + 2 ≡ log.epoch + 1 = omega (arith, is.0) in
           subst (λ (e : ℕ). IsUnopened e (half_of log.half e nvram)) at
-          (subst (IsUnopened (g + 1 + 2)) (same_half (g + 1) (g + 1 + 2) (omega arith)) (unopened_after (g + 1) (half_of log.half (g + 1) nvram) bodies.older (omega (arith, fits)) is.1))
+          (subst (IsUnopened (g + 1 + 2)) (same_half log.half nvram (g + 1) (g + 1 + 2) (omega arith)) (unopened_after (g + 1) (half_of log.half (g + 1) nvram) bodies.older (omega (arith, fits)) is.1))
     ]
 
     after : IsUnopened (log.epoch + 2) (half_of log.half (log.epoch + 2) nvram)
-    after = subst (IsUnopened (log.epoch + 2)) (same_half log.epoch (log.epoch + 2) (omega arith))
+    after = subst (IsUnopened (log.epoch + 2)) (same_half log.half nvram log.epoch (log.epoch + 2) (omega arith))
         (unopened_after log.epoch (half_of log.half log.epoch nvram) bodies.newest low (ends_hold log.end log.epoch (half_of log.half log.epoch nvram) bodies.newest stands.ends))
+
+-- under a root that covers the older of two epochs, the log holds what stands in the newest
+pub older_covered : (log : LogEnd) (g : ℕ) (bodies : Bodies) (nvram : List ℕ) → g < 2 ^ 62 → log.epoch ≡ g + 2 → StandsAt log g bodies nvram
+    → StandsAt log (g + 1) (record { older = []; newest = bodies.newest }) nvram
+older_covered log g bodies nvram fits second stands =
+    stands_by log (g + 1) (record { older = []; newest = bodies.newest }) nvram stands.holds.size stands.ends (inl (omega (arith, second), after, refl))
+  where
+    after : IsUnopened (g + 1 + 2) (half_of log.half (g + 1 + 2) nvram)
+    after = elim stands.other [
+      | inl is ↦ absurd (omega (arith, is.0, second))
+      | inr is ↦ subst (IsUnopened (g + 1 + 2)) (same_half log.half nvram (g + 1) (g + 1 + 2) (omega arith)) (unopened_after (g + 1) (half_of log.half (g + 1) nvram) bodies.older (omega (arith, fits)) is.1)
+    ]

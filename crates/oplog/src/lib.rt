@@ -3,8 +3,10 @@
 #![tactic(auto)]
 
 mod append;
+mod laws;
 mod log;
 mod saved;
 
+pub use laws::roots_cover_the_older_epoch;
 pub use log::{AppendError, Log};
 pub use saved::{SavedLog, SavedLogError};

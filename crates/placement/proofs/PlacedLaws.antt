@@ -13,7 +13,6 @@ use Rattle.layout.specs.declared.pointer.Pointer.TheVariants.{Hole, Block}
 use Rattle.layout.proofs.PointerLaws.{hole_block}
 use Rattle.blocktree.specs.PlaceMaps.{AreBelow, place_at}
 use Rattle.blocktree.specs.declared.place_map.PlaceMap.{PlaceMap}
-use Rattle.blocktree.proofs.WalkLaws.{node_below}
 use Rattle.conspoint.specs.declared.draft.Draft.{Draft}
 use Rattle.conspoint.specs.Drafts.{Grows, WasTaken}
 use Rattle.conspoint.specs.Groups.{ArePlaced}
@@ -28,6 +27,10 @@ wider_one n m (Block b) le below = (below.0, omega (arith, below.1))
 
 pub wider : (n m : ℕ) (p : PlaceMap) → n ≤ m → AreBelow n p → AreBelow m p
 wider n m p le all i = wider_one n m (place_at p i) le (all i)
+
+-- the block that a pointer within a disk leads to stands there
+pub node_below : (blocks : ℕ) (p : Pointer) (node : ℕ) → p ≡ Block node → PointsBelow blocks p → node < blocks
+node_below blocks p node is below = let at : PointsBelow blocks (Block node) = subst (PointsBelow blocks) is below in at.1
 
 -- a pointer within the largest disk that leads to a block of this one
 narrower : (n : ℕ) (p : Pointer) → PointsBelow MOST_BLOCKS p → ((b : ℕ) → p ≡ Block b → b < n) → PointsBelow n p

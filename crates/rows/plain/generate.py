@@ -17,6 +17,7 @@ import sys
 from pathlib import Path
 
 from commands import Numbers, command
+from cuts import rows_of_cuts
 from model import ROOT, System
 from objects import BLOCK
 from calls import word_of
@@ -37,11 +38,20 @@ FILES = [
     ('random_snapshots.rows', 128, 32, True, KEEPS, [5, 20, 53, 65, 68, 77]),
     ('random_unreadable.rows', 128, 32, True, LOSING_KEEPS, [3, 10, 23, 31, 40, 57]),
 ]
+# The seed of the list that is cut at each of its writes: two points are planned in it, and one ends by slices.
+CUT_SEEDS = [29]
 HEAD = '''\
 # Commands made from fixed numbers, with the replies of a plain model in Python: see the folder
 # `plain`, which writes this file. How a row is written stands in the head of sessions.rows.
 # Each row is one list of commands over a new image, in several runs, half of which end with a
 # cut; the last run reads all that is left. A row's name ends with its seed.
+'''
+CUT_HEAD = '''\
+# Commands made from fixed numbers, with the replies of a plain model in Python: see the folder
+# `plain`, which writes this file. How a row is written stands in the head of sessions.rows.
+# Lists over an image with some files, which fill the log and then have a point written in slices.
+# Each list is cut at each of its device writes; a row stands for those that leave the same. Then all
+# that is left is read, and further commands come.
 '''
 
 
@@ -133,9 +143,17 @@ def made_file(blocks, inodes, has_snapshots, keeps, seeds):
     return '\n'.join(lines) + '\n'
 
 
+def cut_file(seeds):
+    """The text of a file with the cuts of a list for each seed."""
+    lines = CUT_HEAD.splitlines()
+    for seed in seeds:
+        lines += rows_of_cuts(seed, reading)
+    return '\n'.join(lines) + '\n'
+
+
 def fixed_files():
     """The names and texts of the files that belong to the data."""
-    return [(name, made_file(*rest)) for name, *rest in FILES]
+    return [(name, made_file(*rest)) for name, *rest in FILES] + [('random_slices.rows', cut_file(CUT_SEEDS))]
 
 
 def tell(name, text):

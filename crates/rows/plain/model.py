@@ -6,9 +6,13 @@ the open files, what the log holds (its length, whether its epoch is open, how m
 their costs, which are what it pledges), and the blocks that are free under the newest root. A
 consistency point stores what changed since that root, and empties the log.
 
-A block has a place, a number of its own that no other block ever gets: what a tree and snapshots
-share is told by places, and a block is free where neither the tree under the newest root nor a
-snapshot has its place.
+Each block has a place on the disk. A place is free where neither the tree under the newest root nor a
+snapshot has it.
+
+A point is planned and then finished, at once or by slices that later commands write. From the plan
+on the system runs over the root to come: what changed is what changed since, and records go to the
+second epoch behind the newest root. What stands under that root is kept aside (`settled`): a cut,
+or the end of a run, leaves it with the records of both epochs (`give_up`).
 
 Every command tells how many device writes it makes, and what a cut within each of them leaves.
 
@@ -20,6 +24,7 @@ it for a slot without a root, and the next root goes there.
 import copy
 
 from objects import BLOCK, DIRECT, Directory
+from places import ENTRIES_OF_A_BLOCK, HEAD, is_of_map, places_to_come
 
 ROOT = 3
 FIRST = 4
@@ -27,6 +32,9 @@ DESCRIPTORS = 32
 INODES_OF_A_BLOCK = 21
 LOG_START = 9
 SLOTS = (0, 8)
+SLICE = 8
+OF_A_ROOT = ['costs', 'kept_nameless', 'is_changed', 'records', 'log_end', 'is_log_open', 'is_beyond',
+             'inode_blocks', 'changed_inodes', 'places', 'snapshots', 'free']
 
 
 class Refusal(Exception):
@@ -54,7 +62,7 @@ class Step:
 
 
 class Snapshot:
-    """A tree as it was taken, and the places of its blocks."""
+    """A tree as it was taken, and the places of its blocks and of its root."""
 
     def __init__(self, name, volume, places):
         self.name, self.volume, self.places = name, volume, places
@@ -67,13 +75,15 @@ class System:
         self.block_count, self.inode_count, self.half = blocks, inodes, half
         self.volume = {ROOT: Directory(0o755)}
         self.descriptors = [None] * DESCRIPTORS
-        self.log_end, self.is_log_open = LOG_START, False
+        self.log_end, self.is_log_open, self.is_beyond = LOG_START, False, False
         self.costs, self.kept_nameless, self.is_changed = 0, 0, False
         self.generation, self.records = 1, 0
         self.inode_blocks, self.changed_inodes = {0}, set()
-        self.snapshots, self.places, self.next_place = [], {}, 0
+        self.snapshots, self.places, self.free = [], {}, blocks - 2
         self.slot, self.is_other_lost = 0, False
-        self.give_places(self.blocks())
+        self.settled, self.left = None, 0
+        self.places, _ = self.stored_places(range(0, blocks, ENTRIES_OF_A_BLOCK))
+        self.free = self.free_blocks()
         self.begin_command()
 
     def copy(self):
@@ -151,75 +161,122 @@ class System:
         indirect = rounded_up(self.inode_count, INODES_OF_A_BLOCK) > DIRECT
         return {('inodes', index) for index in indices} | ({('over inodes', 0)} if indirect else set())
 
-    def block_map_blocks(self):
-        """Blocks of the block map, with the indirect one over them."""
-        count = rounded_up(4 * self.block_count, BLOCK)
-        own = {('map', index) for index in range(count)}
-        return own | ({('over map', 0)} if count > DIRECT else set())
-
     def blocks(self):
-        """All blocks of the tree."""
+        """All blocks of the tree but those of the block map."""
         inner = [(number, *block) for number, thing in self.volume.items() for block in thing.blocks()]
-        return set(inner) | self.inode_file_blocks(self.inode_blocks) | self.inode_map_blocks() \
-            | self.block_map_blocks()
+        stored = self.inode_blocks | self.changed_inode_blocks()
+        return set(inner) | self.inode_file_blocks(stored) | self.inode_map_blocks()
 
     def changed_inode_blocks(self):
         """Blocks of the inode file that a point stores, by their indices."""
         return {0} | {number // INODES_OF_A_BLOCK for number in self.changed_inodes}
 
     def changed_blocks(self):
-        """Blocks that a point stores; not exact where a disk has more than 1,024 blocks."""
+        """Blocks that a point stores, but for those of the block map."""
         inner = [(number, *block) for number, thing in self.volume.items()
                  for block in thing.changed_blocks()]
-        return set(inner) | self.inode_file_blocks(self.changed_inode_blocks()) \
-            | self.inode_map_blocks() | self.block_map_blocks()
+        return set(inner) | self.inode_file_blocks(self.changed_inode_blocks()) | self.inode_map_blocks()
 
-    def give_places(self, changed):
-        """Each block that is stored gets a place of its own, and then what is free is counted."""
-        blocks = self.blocks()
-        self.places = {block: self.places[block] for block in blocks - changed}
-        for block in blocks & changed:
-            self.places[block] = self.next_place
-            self.next_place += 1
-        taken = set(self.places.values()).union(*[kept.places for kept in self.snapshots])
-        self.free = self.block_count - 2 - len(taken) - len(self.snapshots)
+    def taken_places(self):
+        """The places that the tree under the newest root and the snapshots have."""
+        return set(self.places.values()).union(*[kept.places for kept in self.snapshots])
+
+    def free_blocks(self):
+        """How many places are free."""
+        return self.block_count - 2 - len(self.taken_places())
+
+    def stored_places(self, entries, heads=()):
+        """The places of all blocks behind a point that also changes these entries of the block map.
+
+        And how many blocks it writes, the root blocks of snapshots (`heads`) among them.
+        """
+        taken, blocks, changed = self.taken_places(), self.blocks(), self.changed_blocks()
+        free = [place for place in range(2, self.block_count) if place not in taken]
+        gone = [block for block in self.places
+                if not is_of_map(block) and (block not in blocks or block in changed)]
+        return places_to_come(self.places, changed.union(heads), gone, entries, free, self.block_count)
 
     # A consistency point and the log
 
     def point(self):
         """Stores what isn't under the newest root, if anything, and empties the log."""
+        self.finish()
         if not self.is_covered():
-            self.store(0, self.snapshots)
+            self.plan()
+            self.finish()
 
     def take(self, name):
         """Keeps the tree under the newest root, which holds all, as a snapshot."""
         volume = {number: thing for number, thing in self.copy().volume.items()
                   if thing.kind != 'file' or self.links(number) > 0}
         kept = Snapshot(name, volume, set(self.places.values()))
-        self.store(1, self.snapshots + [kept])
+        self.plan(range(0, self.block_count, ENTRIES_OF_A_BLOCK), [HEAD])
+        kept.places.add(self.places.pop(HEAD))
+        self.snapshots = self.snapshots + [kept]
+        self.finish()
 
     def delete(self, snapshot):
         """Drops a snapshot with what isn't under the newest root."""
-        self.store(0, [kept for kept in self.snapshots if kept is not snapshot])
+        self.finish()
+        self.plan(snapshot.places)
+        self.snapshots = [kept for kept in self.snapshots if kept is not snapshot]
+        self.finish()
 
-    def store(self, heads, snapshots):
-        """Stores all that changed, and so many root blocks of snapshots, of which then these stand."""
-        changed = self.changed_blocks()
-        assert len(changed) + heads <= self.free, 'a point has no room'
-        self.writes += len(changed) + heads + 1
-        before = self.copy()
-        self.snapshots = snapshots
+    def plan(self, entries=(), heads=()):
+        """Plans a point of all that changed, and goes over to the root to come."""
+        self.settled = {name: getattr(self, name) for name in OF_A_ROOT}
+        self.places, self.left = self.stored_places(entries, heads)
+        assert self.left <= self.free, 'a point has no room'
+        self.next_generation = self.generation + (2 if self.is_beyond else 1)
         self.inode_blocks = self.inode_blocks | self.changed_inode_blocks()
         self.changed_inodes = set()
         for thing in self.volume.values():
-            thing.settle()
-        self.give_places(changed)
+            thing.plan()
         self.kept_nameless = len(self.nameless())
-        self.costs, self.is_changed = 0, False
-        self.generation, self.records = self.generation + 1, 0
-        self.log_end, self.is_log_open = LOG_START, False
+        self.costs, self.is_changed, self.records = 0, False, 0
+        self.log_end, self.is_log_open, self.is_beyond = LOG_START, False, False
+
+    def write_slice(self):
+        """Writes some of the planned blocks, and behind the last one the root."""
+        if self.left <= SLICE:
+            self.finish()
+        else:
+            self.left -= SLICE
+            self.writes += SLICE
+
+    def finish(self):
+        """Writes what is left of a planned point, and then its root."""
+        if self.settled is None:
+            return
+        self.writes += self.left + 1
+        before = self.copy()
+        self.settled, self.left = None, 0
+        for thing in self.volume.values():
+            thing.settle()
+        self.free = self.free_blocks()
+        self.generation = self.next_generation
         self.slot, self.is_other_lost = 1 - self.slot, False
         self.steps.append(Step('root', self.writes, before, self.copy()))
+
+    def give_up(self):
+        """Goes back to the newest root and all records, where a point is under way."""
+        if self.settled is None:
+            return
+        settled = self.settled
+        for name in ('costs', 'records'):
+            setattr(self, name, settled[name] + getattr(self, name))
+        for name in ('kept_nameless', 'inode_blocks', 'places', 'snapshots', 'free'):
+            setattr(self, name, settled[name])
+        self.changed_inodes |= settled['changed_inodes']
+        self.is_changed |= settled['is_changed']
+        for thing in self.volume.values():
+            thing.give_up()
+        if self.is_log_open:
+            self.is_beyond = True
+        else:
+            for name in ('log_end', 'is_log_open', 'is_beyond'):
+                setattr(self, name, settled[name])
+        self.settled, self.left = None, 0
 
     def fixed(self):
         """Blocks that every point may store, whatever changed."""
@@ -240,11 +297,21 @@ class System:
             if not self.has_room(asked):
                 refuse('ENOSPC')
 
+    def step(self):
+        """What a command that logs a record does first: a whole point, a slice, a plan, or nothing."""
+        if self.is_beyond:
+            self.point()
+        elif self.settled is not None:
+            self.write_slice()
+        elif self.half - self.log_end < self.half // 16:
+            self.plan()
+
     def log(self, length, cost, keep):
         """Appends a record whose body has this length, behind a point where it doesn't fit.
 
         It may cost a point so many blocks, and so many stay free behind it.
         """
+        self.step()
         self.make_room(cost + keep)
         if self.log_end + 5 + length + 1 > self.half:
             self.point()
@@ -261,7 +328,10 @@ class System:
 
     def pledged(self):
         """Blocks that a point may store for what isn't under the newest root yet."""
-        return self.costs + 4 * self.kept_nameless
+        costs, kept = self.costs, self.kept_nameless
+        if self.settled is not None:
+            costs, kept = self.settled['costs'] + costs, self.settled['kept_nameless']
+        return costs + 4 * kept
 
     def checked(self):
         """What a check says of it."""
@@ -278,24 +348,25 @@ class System:
         `before` stood before the command. A sector stays by `keep`, and the one byte of an NVRAM
         write by `kept_bytes`.
         """
-        left = before
+        standing, loses_slot = self.standing(write, before, keep, kept_bytes)
+        left = standing.copy()
+        left.give_up()
+        left.is_other_lost |= loses_slot
+        return left
+
+    def standing(self, write, before, keep, kept_bytes):
+        """What stood when what such a cut leaves came into force, and whether the slot without it is lost."""
+        if self.record is not None and self.record.write == write:
+            return (self if kept_bytes >= 1 else self.record.before), False
+        standing = before
         for step in self.steps:
             if step.write < write:
-                left = step.after
+                standing = step.after
             elif step.write == write:
                 stays = kept_bytes >= 1 if step.kind == 'open' else mark_of(keep) == '1'
-                left = step.after if stays else step.before
-                if step.kind == 'root' and mark_of(keep) == '2':
-                    left = left.with_lost_slot()
-        if self.record is not None and self.record.write == write:
-            left = self if kept_bytes >= 1 else self.record.before
-        return left.copy()
-
-    def with_lost_slot(self):
-        """The same, where the slot without the newest root can't be read."""
-        other = self.copy()
-        other.is_other_lost = True
-        return other
+                loses_slot = step.kind == 'root' and mark_of(keep) == '2'
+                return (step.after if stays else step.before), loses_slot
+        return standing, False
 
 
 def mark_of(keep):

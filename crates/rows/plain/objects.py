@@ -1,8 +1,8 @@
 """Files, directories and symbolic links of the plain model.
 
 Each object knows which blocks it takes on the disk, and which of them a consistency point has to
-store anew: `blocks()` and `changed_blocks()`, each block by what it has and its index. `settle()`
-says that a point has stored them.
+store anew: `blocks()` and `changed_blocks()`, each block by what it has and its index. `plan()` says
+that a point is to store them, `settle()` that it has, and `give_up()` that it never will.
 """
 
 import copy
@@ -38,6 +38,7 @@ class File:
         self.stored = set()
         self.changed = set()
         self.changed_indirect = set()
+        self.planned = (set(), set())
 
     def copy(self):
         """An object of its own with the same contents."""
@@ -120,9 +121,17 @@ class File:
     def changed_blocks(self):
         return blocks_of(self.changed & self.stored, self.indirect() & self.changed_indirect)
 
+    def plan(self):
+        self.planned = (self.changed, self.changed_indirect)
+        self.changed, self.changed_indirect = set(), set()
+
     def settle(self):
-        self.changed = set()
-        self.changed_indirect = set()
+        self.planned = (set(), set())
+
+    def give_up(self):
+        self.changed |= self.planned[0]
+        self.changed_indirect |= self.planned[1]
+        self.settle()
 
 
 class Directory:
@@ -135,6 +144,7 @@ class Directory:
         self.names = {}
         self.records = []
         self.changed = set()
+        self.planned = set()
 
     def copy(self):
         """An object of its own with the same contents."""
@@ -172,8 +182,15 @@ class Directory:
         stored = [index for index in self.changed if index < len(self.records)]
         return blocks_of(stored, {0} if len(self.records) > DIRECT and self.changed else {})
 
+    def plan(self):
+        self.planned, self.changed = self.changed, set()
+
     def settle(self):
-        self.changed = set()
+        self.planned = set()
+
+    def give_up(self):
+        self.changed |= self.planned
+        self.settle()
 
 
 class Link:
@@ -185,6 +202,7 @@ class Link:
     def __init__(self, text):
         self.text = text
         self.is_new = True
+        self.is_planned = False
 
     def copy(self):
         """An object of its own with the same contents."""
@@ -196,5 +214,12 @@ class Link:
     def changed_blocks(self):
         return self.blocks() if self.is_new else set()
 
+    def plan(self):
+        self.is_planned, self.is_new = self.is_new, False
+
     def settle(self):
-        self.is_new = False
+        self.is_planned = False
+
+    def give_up(self):
+        self.is_new |= self.is_planned
+        self.settle()

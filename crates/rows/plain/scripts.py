@@ -58,7 +58,10 @@ def step(system, line):
 
 
 def run(system, lines, cut=None, keep='none', kept_bytes=0):
-    """Mounts a copy and does the lines, until the power is cut: the replies, and what is left."""
+    """Mounts a copy and does the lines, until the power is cut: the replies, and what is left.
+
+    A point that is under way at the end isn't finished.
+    """
     system = system.copy()
     system.mount()
     replies = []
@@ -71,4 +74,5 @@ def run(system, lines, cut=None, keep='none', kept_bytes=0):
             return replies + [b'cut'], left
         writes += system.writes
         replies.append(reply)
+    system.give_up()
     return replies, system

@@ -51,8 +51,17 @@ impl<'a> Bench<'a> {
         }
     }
 
+    /// Does what a row's lines say, but for the first, its title, and says how many choices it has.
+    pub fn check(&mut self, rt: &HostRuntime, row: &'a str) -> Result<u64, Fault> {
+        for line in row.lines().skip(1) {
+            self.take(rt, line)?;
+        }
+        self.end_open(rt)?;
+        Ok(self.choices.count())
+    }
+
     /// Does what a line says.
-    pub fn take(&mut self, rt: &HostRuntime, line: &'a str) -> Result<(), Fault> {
+    fn take(&mut self, rt: &HostRuntime, line: &'a str) -> Result<(), Fault> {
         if line.is_empty() || line.starts_with('#') {
             return Ok(());
         }
@@ -74,12 +83,6 @@ impl<'a> Bench<'a> {
         Ok(())
     }
 
-    /// Ends the row: how many choices it has.
-    pub fn finish(mut self, rt: &HostRuntime) -> Result<u64, Fault> {
-        self.end_open(rt)?;
-        Ok(self.choices.count())
-    }
-
     /// Whether a line says what is expected of what is being read.
     fn is_about_open(&mut self, verb: &str, words: &'a str) -> bool {
         match &mut self.open {
@@ -95,15 +98,23 @@ impl<'a> Bench<'a> {
     fn end_open(&mut self, rt: &HostRuntime) -> Result<(), Fault> {
         match mem::replace(&mut self.open, Open::Nothing) {
             Open::Nothing => Ok(()),
-            Open::Run(run) => {
-                run.finish(self.alloc, &mut self.images)?;
-                if self.is_checked && self.are_left {
-                    expect_faultless(self.alloc, &self.images)?;
-                }
-                Ok(())
-            }
+            Open::Run(run) => self.end_run(&run),
             Open::Obeyed(obeyed) => obeyed.finish(rt),
         }
+    }
+
+    fn end_run(&mut self, run: &Run<'a>) -> Result<(), Fault> {
+        run.finish(self.alloc, &mut self.images)?;
+        if self.is_checked && self.are_left {
+            return expect_faultless(self.alloc, &self.images);
+        }
+        Ok(())
+    }
+
+    /// Begins to read a run or a command line.
+    fn begin_reading(&mut self, open: Open<'a>) -> Result<bool, Fault> {
+        self.open = open;
+        Ok(true)
     }
 
     /// Does what a line says that begins something. False where it isn't understood.
@@ -122,13 +133,9 @@ impl<'a> Bench<'a> {
         match verb {
             "run" | "shell" => {
                 let run = Run::new(self.alloc, verb == "shell", words, &mut self.choices)?;
-                self.open = Open::Run(run);
-                Ok(true)
+                self.begin_reading(Open::Run(run))
             }
-            "obey" => {
-                self.open = Open::Obeyed(Obeyed::new(self.alloc, words));
-                Ok(true)
-            }
+            "obey" => self.begin_reading(Open::Obeyed(Obeyed::new(self.alloc, words))),
             "words" => compare_words(self.alloc, words),
             "image" => self.make_image(words),
             "random" => self.randomize(words),
@@ -162,13 +169,10 @@ impl<'a> Bench<'a> {
         let [Some(blocks), Some(inodes), Some(half)] = self.choices.numbers(words) else {
             return Ok(false);
         };
-        let Some(sim) = used_station(self.alloc, blocks, half)? else {
+        let Some(images) = new_images(self.alloc, blocks, inodes, half)? else {
             return Ok(false);
         };
-        let Some(sim) = made(self.alloc, sim, blocks, inodes, half) else {
-            return Ok(false);
-        };
-        self.images = Images::of(self.alloc, &sim)?;
+        self.images = images;
         self.are_left = true;
         Ok(true)
     }
@@ -199,18 +203,31 @@ fn is_about_run<'a>(run: &mut Run<'a>, verb: &str, words: &'a str) -> bool {
     true
 }
 
-/// A station of these sizes that held other bytes before. None where no station has them.
-fn used_station(alloc: Global, blocks: u32, half: u32) -> Result<Option<Sim>, AllocError> {
+/// The images of a new image, on a station that held other bytes before. None where none is made.
+fn new_images(
+    alloc: Global,
+    blocks: u32,
+    inodes: u32,
+    half: u32,
+) -> Result<Option<Images>, AllocError> {
     let disk = vec![in alloc; 0xaa; 4096_usize.saturating_mul(blocks as usize)]?;
     let nvram = vec![in alloc; 0x55; 2_usize.saturating_mul(half as usize)]?;
-    Ok(Sim::load(alloc, disk, nvram).ok())
+    match Sim::load(alloc, disk, nvram) {
+        Ok(sim) => made(alloc, sim, blocks, inodes, half),
+        Err(_) => Ok(None),
+    }
 }
 
-/// The station with a new image. None where none is made.
-fn made(alloc: Global, sim: Sim, blocks: u32, inodes: u32, half: u32) -> Option<Sim> {
+fn made(
+    alloc: Global,
+    sim: Sim,
+    blocks: u32,
+    inodes: u32,
+    half: u32,
+) -> Result<Option<Images>, AllocError> {
     match make(alloc, sim, blocks, inodes, half) {
-        Ok(sim) => Some(sim),
-        Err(_) => None,
+        Ok(sim) => Ok(Some(Images::of(alloc, sim)?)),
+        Err(_) => Ok(None),
     }
 }
 

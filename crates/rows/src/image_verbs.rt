@@ -25,14 +25,9 @@ impl Images {
         }
     }
 
-    /// What a station holds.
-    pub fn of(alloc: Global, sim: &Sim) -> Result<Images, AllocError> {
-        let (disk, nvram) = sim.images();
-        Ok(Images {
-            disk: Vec::from_slice(alloc, disk)?,
-            nvram: Vec::from_slice(alloc, nvram)?,
-            bad: Vec::from_slice(alloc, sim.bad_sectors())?,
-        })
+    /// What a station holds. It ends there: what it takes is given back in this one place.
+    pub fn of(alloc: Global, sim: Sim) -> Result<Images, AllocError> {
+        copied(alloc, &sim)
     }
 
     /// A station in memory with these.
@@ -97,6 +92,15 @@ const SECTOR: u32 = SECTOR_BYTES as u32;
 
 /// Sectors of the two blocks that roots stand in.
 const SLOT_SECTORS: u32 = 16;
+
+fn copied(alloc: Global, sim: &Sim) -> Result<Images, AllocError> {
+    let (disk, nvram) = sim.images();
+    Ok(Images {
+        disk: Vec::from_slice(alloc, disk)?,
+        nvram: Vec::from_slice(alloc, nvram)?,
+        bad: Vec::from_slice(alloc, sim.bad_sectors())?,
+    })
+}
 
 /// Whether words behind `bad` change nothing.
 pub fn looks_at_bad(words: &str) -> bool {

@@ -90,8 +90,5 @@ fn check_row(rt: &HostRuntime, row: &str) -> Result<(), Fault> {
 /// Checks a row for one of its choices, and says how many it has.
 fn check_choice(rt: &HostRuntime, row: &str, choice: u64) -> Result<u64, Fault> {
     let mut bench = Bench::new(rt.alloc(), choice);
-    for line in row.lines().skip(1) {
-        bench.take(rt, line)?;
-    }
-    bench.finish(rt)
+    bench.check(rt, row)
 }

@@ -156,7 +156,7 @@ impl<'a> Run<'a> {
                 &mut err,
             )
         };
-        let images = Images::of(alloc, &sim)?;
+        let images = Images::of(alloc, sim)?;
         Ok(Outcome {
             status: ending.status().number(),
             out,

@@ -28,7 +28,7 @@ use Rattle.session.specs.declared.status.Status.TheVariants.{Done, FileFault, No
 -- the last serves what they come to; and a cut at any moment leaves what the commands up to then come to.
 pub record RunsOn {S : Type 0} {G : Ghosts S} (fs : Fs S G) (new : S) (steps : List (Command × Reply)) : Type 0 where
   pub last : Fs S G
-  pub station : last.system.blocks.station ≡ new
+  pub station : last.system.blocks.buffers.station ≡ new
   pub done : HasDone fs last steps
 
 -- What a session promises of a run, all in the words of `mount` and `Fs::apply`: a mount left all that a cut could leave before, and of

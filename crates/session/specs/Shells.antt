@@ -114,7 +114,7 @@ pub record HasListened {S : Type 0} (G : Ghosts S) (prompts : Bool) (was_cut : B
   pub finds : (G.meaning old).is_honest → (s : State) → OpensTo (G.meaning old) s (G.meaning old).seen
       → (t : State) × Forgets s t × Serves (mounted fs t)
   pub last : Fs S G
-  pub station : last.system.blocks.station ≡ new
+  pub station : last.system.blocks.buffers.station ≡ new
   pub ends : EndsListening fs last was_cut input w.out w'.out status
   pub tells : prompts ≡ false → w'.err ≡ w.err
 

@@ -30,7 +30,7 @@ pub(crate) fn answer<S: Station, C: Fn(&S) -> bool, O: Write>(
 ) -> Result<Reply, Status>
     requires { C.IsAlwaysCallable was_cut.now }
     ensures { AnswersShowing fs.old fs.new command.now
-        (FnReturnsAt C.Fn was_cut.now fs.new.system.blocks.station)
+        (FnReturnsAt C.Fn was_cut.now fs.new.system.blocks.buffers.station)
         (O.contents out.old) (O.contents out.new) result }
 {
     let reply = fs.apply(command);

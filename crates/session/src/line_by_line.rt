@@ -66,7 +66,7 @@ fn answer_lines<S: Station, C: Fn(&S) -> bool, R: Read, O: Write, E: Write>(
 ) -> Status
     requires { C.IsAlwaysCallable was_cut.now }
     ensures ends { EndsListening fs.old fs.new
-        (FnReturnsAt C.Fn was_cut.now fs.new.system.blocks.station) (R.remaining input.old)
+        (FnReturnsAt C.Fn was_cut.now fs.new.system.blocks.buffers.station) (R.remaining input.old)
         (O.contents out.old) (O.contents out.new) result }
     ensures quiet { prompts ≡ false → E.contents err.new ≡ E.contents err.old }
 {
@@ -114,8 +114,8 @@ fn answer_heard<S: Station, C: Fn(&S) -> bool, O: Write>(
 ) -> Result<(), Status>
     requires { C.IsAlwaysCallable was_cut.now }
     ensures { (line : List ℕ) → IsHeardAs line heard.now → AnswersLine fs.old fs.new line
-        (FnReturnsAt C.Fn was_cut.now fs.old.system.blocks.station)
-        (FnReturnsAt C.Fn was_cut.now fs.new.system.blocks.station)
+        (FnReturnsAt C.Fn was_cut.now fs.old.system.blocks.buffers.station)
+        (FnReturnsAt C.Fn was_cut.now fs.new.system.blocks.buffers.station)
         (O.contents out.old) (O.contents out.new) result }
 {
     match heard {

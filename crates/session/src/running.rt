@@ -100,7 +100,7 @@ fn run_commands<S: Station, C: Fn(&S) -> bool, O: Write>(
 ) -> Status
     requires { C.IsAlwaysCallable was_cut.now }
     ensures { EndsRunning fs.old fs.new commands.now stops
-        (FnReturnsAt C.Fn was_cut.now fs.new.system.blocks.station)
+        (FnReturnsAt C.Fn was_cut.now fs.new.system.blocks.buffers.station)
         (O.contents out.old) (O.contents out.new) result }
 {
     fs.begins();

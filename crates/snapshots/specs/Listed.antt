@@ -1,6 +1,7 @@
 -- The snapshots of a root in the order of their order numbers.
 use Rattle.std.specs.Prelude.{ℕ, ◌≡◌, ◌<◌, ◌≤◌, ◌^◌, nat_lt, Option, Some, None, if◌then◌else◌, slice_index_or}
 use Rattle.layout.specs.Places.{Blocks}
+use Rattle.layout.specs.Pointer.{PointsBelow}
 use Rattle.layout.specs.SnapRoot.{Snapshot}
 use Rattle.layout.specs.declared.pointer.Pointer.{Pointer}
 use Rattle.layout.specs.declared.pointer.Pointer.TheVariants.{Hole, Block}
@@ -18,7 +19,7 @@ pub record IsOver (disk : Blocks) (p : Pointer) (above : ℕ) (next : Next) : Ty
 
 -- its root block is one of a disk of so many, and its order number above this one and in its limits
 pub record IsHigher (blocks above : ℕ) (next : Next) : Type 0 where
-  pub place : next.place < blocks
+  pub place : PointsBelow blocks (Block next.place)
   pub above_it : above < next.order
   pub last : next.order < 2 ^ 62
 

@@ -1,6 +1,6 @@
 //! The names of all snapshots, oldest first.
 
-ghost use Rattle.std.specs.Prelude.{◌≡◌, ◌<◌, ◌≤◌, ℕ, List, map, IfOk, IfSome, IfNone, IsErrOf};
+ghost use Rattle.std.specs.Prelude.{◌≡◌, ◌≤◌, ℕ, List, map, IfOk, IfSome, IfNone, IsErrOf};
 ghost use Rattle.layout.specs.Limits.{Sizes};
 ghost use Rattle.layout.specs.Pointer.{PointsBelow};
 ghost use Rattle.layout.specs.Root.{IsRoot};
@@ -102,7 +102,7 @@ fn name_at<B: Blocks>(
     blocks: &mut B,
     place: BlockNumber,
 ) -> Result<Vec<u8>, ReadError>
-    requires { place < B.count blocks.old }
+    requires { PointsBelow (B.count blocks.old) (Pointer.Block place) }
     ensures reads { ReadsBlocks B.Blocks IsFault blocks.old blocks.new result }
     ensures name { (disk : ℕ → List ℕ) → B.Shows blocks.old disk → IfOk result (λ name.
         (s : Snapshot) → SpellsSnapshot disk (Pointer.Block place) s → name.items ≡ s.name) }

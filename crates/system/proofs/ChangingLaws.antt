@@ -1,8 +1,6 @@
 -- What a call comes to whose record is prepared as a change, on a system that serves a state.
 use Rattle.std.proofs.Common.{◌≡◌, ℕ, List, Option, Some, Result, Ok, Err, ap, sym, subst, ◌∙◌}
 use Rattle.std.specs.Result.{IsErrAnd}
-use Rattle.station.specs.Images.{Images}
-use Rattle.station.specs.Moments.{Meaning}
 use Rattle.station.specs.declared.station.Station.{Ghosts}
 use Rattle.layout.specs.Places.{blocks_of}
 use Rattle.layout.specs.Record.{Change, IsChange}
@@ -107,9 +105,9 @@ changing_told f s serves call c change says is_change told =
     }
 
 -- a prepared change does the same on a disk that reads the same
-pub does_over : (m n : Meaning) (root : Root) (inodes : InodeFile) (v : Volume) (prepared : Prepared) (change said : Change) → change ≡ said → m.seen ≡ n.seen
-    → Does (blocks_of m.seen.disk) (inodes_of (whole (blocks_of m.seen.disk) root).active) inodes v prepared said
-    → Does (blocks_of n.seen.disk) (inodes_of (whole (blocks_of n.seen.disk) root).active) inodes v prepared change
-does_over m n root inodes v prepared change said says same does =
-    subst (λ (i : Images). Does (blocks_of i.disk) (inodes_of (whole (blocks_of i.disk) root).active) inodes v prepared change) same
-    (subst (Does (blocks_of m.seen.disk) (inodes_of (whole (blocks_of m.seen.disk) root).active) inodes v prepared) (sym says) does)
+pub does_over : (d e : ℕ → List ℕ) (root : Root) (inodes : InodeFile) (v : Volume) (prepared : Prepared) (change said : Change) → change ≡ said → d ≡ e
+    → Does (blocks_of d) (inodes_of (whole (blocks_of d) root).active) inodes v prepared said
+    → Does (blocks_of e) (inodes_of (whole (blocks_of e) root).active) inodes v prepared change
+does_over d e root inodes v prepared change said says same does =
+    subst (λ (x : ℕ → List ℕ). Does (blocks_of x) (inodes_of (whole (blocks_of x) root).active) inodes v prepared change) same
+    (subst (Does (blocks_of d) (inodes_of (whole (blocks_of d) root).active) inodes v prepared) (sym says) does)

@@ -18,7 +18,7 @@ use Rattle.inofile.specs.Volumes.{IsVolumeOf}
 use Rattle.inofile.specs.declared.inode_file.InodeFile.{InodeFile}
 use Rattle.images.specs.Roots.{whole}
 use Rattle.loading.specs.Images.{inodes_of}
-use Rattle.buffers.specs.declared.cache.Buffers.{Buffers}
+use Rattle.overlay.specs.declared.overlay.Overlay.{Overlay}
 use Rattle.descriptors.specs.Files.{description_of}
 use Rattle.descriptors.specs.Fits.{FitsVolume}
 use Rattle.descriptors.specs.Tables.{table_of}
@@ -27,7 +27,7 @@ use Rattle.files.specs.Closing.{IsOpenNameless}
 use Rattle.files.specs.Opened.{tree_with}
 use Rattle.system.specs.Laws.{RecordLaws}
 use Rattle.system.specs.Serving.{IsSureOn, ServesState}
-use Rattle.system.specs.Systems.{IsServing, meaning_of, system_parts, state_with}
+use Rattle.system.specs.Systems.{IsServing, disk_of, meaning_of, system_parts, state_with}
 use Rattle.system.specs.declared.system.System.{System}
 use Rattle.system.proofs.MovedLaws.{dropped}
 use Rattle.system.proofs.ServingLaws.{LeadsTo}
@@ -67,17 +67,17 @@ module _ {S : Type 0} {G : Ghosts S} (law : NamedHavePaths) (f : System S G) (s 
   -- whether it has to be answered; no block is read then
   pub close_sure : (new : System S G) → ((IsOpenNameless serves.running f.files fd → ⊥) → new.blocks ≡ f.blocks) → IsSureOn f new s (command.Close fd) ⊎ ¬ IsSure s (command.Close fd)
   close_sure new still = elim (sure_or_not law f.root.geometry.inodes serves.running s.tree.descriptors serves.memory.volume serves.mounted s.tree tree fd (s.tree.descriptors fd) refl) [
-    | inl sure ↦ inl (record { sure = sure; still = ap (λ (b : Buffers S). b.station) (still (λ opened. nameless_not_sure opened sure)) })
+    | inl sure ↦ inl (record { sure = sure; still = ap (λ (b : Overlay S G). b.buffers.station) (still (λ opened. nameless_not_sure opened sure)) })
     | inr not ↦ inr not
   ]
 
 -- what the system serves once it is freed
 pub close_leads : {S : Type 0} {G : Ghosts S} (records : RecordLaws) (new : System S G) (s : State) (fd : ℕ) (reply : Reply) (inodes : InodeFile) (files : Descriptors)
     (now : IsServing (meaning_of new) (record (system_parts new) { inodes = inodes; files = files }) s.tree.descriptors s)
-    → IsVolumeOf new.root.geometry.blocks (blocks_of (meaning_of new).seen.disk) (inodes_of (whole (blocks_of (meaning_of new).seen.disk) new.root).active) new.inodes (swept (table_of new.files) now.running)
+    → IsVolumeOf new.root.geometry.blocks (blocks_of (disk_of new)) (inodes_of (whole (blocks_of (disk_of new)) new.root).active) new.inodes (swept (table_of new.files) now.running)
     → memory_room now.first new.inodes (swept (table_of new.files) now.running) ≤ memory_room now.first inodes now.running
     → FitsVolume new.files (swept (table_of new.files) now.running) → IsMounted (swept (table_of new.files) now.running) (table_of new.files)
-    → closes (tree_with files now.running) fd reply (tree_with new.files (swept (table_of new.files) now.running)) nothing → LeadsTo new s (command.Close fd) reply now.replayed.changes
+    → closes (tree_with files now.running) fd reply (tree_with new.files (swept (table_of new.files) now.running)) nothing → LeadsTo new s (command.Close fd) reply now.lasts.replayed.changes
 close_leads {S} {G} records new s fd reply inodes files now stands stores fits mounted told =
     let n = new.root.geometry.inodes in
     let v = now.running in

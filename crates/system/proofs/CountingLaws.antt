@@ -9,7 +9,7 @@ use Rattle.station.proofs.Moments.{joined, leaves_unchanged, started, weaker}
 use Rattle.buffers.specs.Disks.{ReadsOn}
 use Rattle.conspoint.specs.declared.error.PlanError.{PlanError}
 use Rattle.conspoint.specs.declared.error.PlanError.TheVariants as plan
-use Rattle.system.specs.Counting.{AgesBy, Counted, Failed, LogsNothing, SameNvram, TellsReads, TellsWrites, a_read, a_write, no_call, perhaps_any, perhaps_reads, point_error_failed}
+use Rattle.system.specs.Counting.{AgesBy, Counted, Failed, LogsNothing, SameNvram, TellsReads, TellsWrites, a_read, a_write, beside_reads, no_call, perhaps_any, perhaps_reads, point_error_failed}
 use Rattle.system.specs.Errors.{IsNotWritten, IsRefused}
 use Rattle.system.specs.declared.error.PointError.{PointError}
 use Rattle.system.specs.declared.error.PointError.TheVariants.{NotPlanned, NotWritten}
@@ -64,6 +64,11 @@ not_written_yet IsFault m new e true writes fault = record {
   writes = tt;
 }
 not_written_yet {T = T} {E = E} IsFault m new e false writes fault = not_written {T = T} {E = E} IsFault m new e writes (fault refl)
+
+-- what is told is no less beside reads of which some may have failed
+pub told_beside_reads : (m new : Meaning) (why : Failed) → Counted m new why → Counted m new (beside_reads why)
+told_beside_reads m new no_call told = record { uses = told.uses; reads = tt; writes = told.writes }
+told_beside_reads m new why told = told
 
 -- ---- a consistency point
 

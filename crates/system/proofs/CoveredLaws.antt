@@ -1,5 +1,5 @@
 -- A system that has nothing beside its root.
-use Rattle.std.proofs.Common.{◌≡◌, ℕ, ◌+◌, ◌≤◌, ◌^◌, List, [], ◌∷◌, Option, refl, ap, sym, subst, ◌∙◌, arith, inl, inr}
+use Rattle.std.proofs.Common.{◌≡◌, ℕ, ◌+◌, ◌≤◌, ◌^◌, List, [], ◌∷◌, Option, None, refl, ap, sym, subst, ◌∙◌, arith, inl, inr}
 use Rattle.std.specs.Prelude.{map}
 use Rattle.station.specs.declared.station.Station.{Ghosts}
 use Rattle.station.specs.Moments.{Meaning, MayLeave}
@@ -9,6 +9,7 @@ use Rattle.layout.specs.Places.{blocks_of}
 use Rattle.layout.specs.Record.{Change, change_bytes}
 use Rattle.layout.specs.declared.inode.Inode.{Inode}
 use Rattle.layout.specs.declared.log.TheConstants.{FIRST_GATE}
+use Rattle.model.specs.Records.{CoversAll}
 use Rattle.model.specs.States.{State}
 use Rattle.model.specs.Trees.{Description}
 use Rattle.model.specs.Volumes.{Volume}
@@ -22,12 +23,14 @@ use Rattle.loading.specs.Images.{inodes_of}
 use Rattle.oplog.specs.LogEnd.{EndsBehind, all_bodies, next_of, no_bodies}
 use Rattle.oplog.specs.declared.log.End.{End}
 use Rattle.oplog.specs.declared.log.End.TheVariants.{Unopened, At}
+use Rattle.system.specs.Images.{Base}
 use Rattle.system.specs.Laws.{RootLaws}
-use Rattle.system.specs.Systems.{Parts, IsCovered, IsServing}
+use Rattle.system.specs.Systems.{Parts, IsCovered, IsServing, disk_over}
 use Rattle.system.specs.declared.system.System.{System}
+use Rattle.system.proofs.SystemLaws.{at_rest}
 
 -- no body spells no record
-pub none_spelled : (changes : List Change) → [] ≡ map change_bytes changes → changes ≡ []
+none_spelled : (changes : List Change) → [] ≡ map change_bytes changes → changes ≡ []
 none_spelled [] is = refl
 none_spelled (c ∷ changes) is = absurd (cc)
 
@@ -40,18 +43,19 @@ none_newest (At next) epoch bytes (body ∷ bodies) first ends = absurd (omega (
 module _ {m : Meaning} {k : Parts} {table : ℕ → Option Description} {s : State}
     (serves : IsServing m k table s) where
   -- no record stands in an empty log
-  pub no_record : MayLeave m m.seen → k.log.epoch ≡ k.root.generation + 1 → next_of k.log.end ≡ FIRST_GATE → serves.bodies ≡ no_bodies
-  no_record seen next first =
+  pub no_record : k.laid ≡ None → MayLeave m m.seen → k.log.epoch ≡ k.root.generation + 1 → next_of k.log.end ≡ FIRST_GATE → serves.lasts.bodies ≡ no_bodies
+  no_record none seen next first =
+      let bodies = serves.lasts.bodies in
       let stands = (serves.left serves.honest m.seen seen).log_stands in
-      let newest = none_newest k.log.end k.log.epoch (half_of k.log.half k.log.epoch m.seen.nvram) serves.bodies.newest first stands.ends in
-      let older : serves.bodies.older ≡ [] = elim stands.other [
+      let newest = none_newest k.log.end k.log.epoch (half_of k.log.half k.log.epoch m.seen.nvram) bodies.newest first stands.ends in
+      let older : bodies.older ≡ [] = elim stands.other [
         | inl other ↦ other.2
-        | inr second ↦ let after = second.0 in absurd (omega (arith, after, next))
+        | inr second ↦ let after = second.0 in absurd (omega (arith, after, next, ap (λ (b : Base). b.root.generation) (at_rest serves none).base))
       ] in
       λ i. record { older = older i; newest = newest i }
 
-  pub no_change : serves.bodies ≡ no_bodies → serves.replayed.changes ≡ []
-  no_change none = none_spelled serves.replayed.changes (sym (ap all_bodies none) ∙ serves.replayed.spelled)
+  pub no_change : serves.lasts.bodies ≡ no_bodies → serves.lasts.replayed.changes ≡ []
+  no_change none = none_spelled serves.lasts.replayed.changes (sym (ap all_bodies none) ∙ serves.lasts.replayed.spelled)
 
   -- what memory stands for is settled
   pub settled : RootLaws → k.inodes.geometry ≡ k.root.geometry
@@ -59,7 +63,7 @@ module _ {m : Meaning} {k : Parts} {table : ℕ → Option Description} {s : Sta
       → HoldsVolume s.geometry.inodes (λ n. held_content disk (settled n)) w → w ≡ v)
       → HasNoChange k.inodes → serves.first ≡ serves.running
   settled laws sizes only none =
-      let d = blocks_of m.seen.disk in
+      let d = blocks_of (disk_over k m.seen.disk) in
       let is = serves.under.newest.there.root in
       let ready = laws.readable d k.root serves.first serves.snapshots serves.under.holds in
       let most = is.head.sizes.most_inodes in
@@ -68,6 +72,12 @@ module _ {m : Meaning} {k : Parts} {table : ℕ → Option Description} {s : Sta
       (subst (λ (g : Sizes). g.inodes ≤ 2 ^ 32) (sym sizes) few) serves.memory.stands none
       (subst (λ (g : Sizes). HoldsVolume g.inodes (λ n. held_content d (inodes_of (whole d k.root).active n)) serves.first) (sym sizes)
       (laws.held d k.root serves.first is ready serves.under.holds.holds))
+
+-- all that is done is in the root of a covered system
+pub all_covered : {S : Type 0} {G : Ghosts S} (f : System S G) (table : ℕ → Option Description) (s : State) → (covered : IsCovered f table s)
+    → CoversAll covered.serves.settled.volume covered.serves.running covered.serves.lasts.replayed.changes
+all_covered f table s covered =
+    (ap (λ (b : Base). b.volume) (at_rest covered.serves covered.rests).base ∙ covered.held, no_change covered.serves covered.no_record)
 
 -- a covered system is so at the same state
 pub covered_at : {S : Type 0} {G : Ghosts S} (f : System S G) (table : ℕ → Option Description) (s t : State) → t ≡ s → IsCovered f table s → IsCovered f table t

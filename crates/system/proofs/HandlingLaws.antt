@@ -1,6 +1,6 @@
 -- What a call comes to that a record is logged for, once objects came into memory.
 use Rattle.std.proofs.Common.{◌≡◌, ◌≢◌, ◌⊎◌, inl, inr, ℕ, ◌+◌, ◌≤◌, [], ◌∷◌, ◌++◌, length, Result, Ok, Err, refl, ap, sym, subst, ◌∙◌, if◌then◌else◌, arith}
-use Rattle.std.specs.Prelude.{IsFalse}
+use Rattle.std.specs.Prelude.{Bool, IsFalse, IsTrue}
 use Rattle.station.specs.Calls.{OnlyWrites}
 use Rattle.station.specs.Images.{Images}
 use Rattle.station.specs.Moments.{Meaning, EachCut}
@@ -16,7 +16,7 @@ use Rattle.model.specs.declared.errno.Errno.{Errno}
 use Rattle.model.specs.declared.reply.Reply.{Reply}
 use Rattle.model.specs.declared.reply.Reply.TheVariants.{Refused}
 use Rattle.buffers.specs.Disks.{ReadsOn}
-use Rattle.buffers.specs.declared.cache.Buffers.{Buffers}
+use Rattle.overlay.specs.declared.overlay.Overlay.{Overlay}
 use Rattle.inofile.specs.declared.inode_file.InodeFile.{InodeFile}
 use Rattle.images.specs.States.{Opens}
 use Rattle.layout.specs.declared.root.Root.{Root}
@@ -24,7 +24,7 @@ use Rattle.oplog.specs.LogEnd.{LogEnd, HasRoomInHalf, logged_body, next_of}
 use Rattle.system.specs.Counting.{Counted, a_write, call_error_failed, no_call, perhaps_any}
 use Rattle.system.specs.Images.{OpensTo}
 use Rattle.system.specs.Room.{HasRoomForWork}
-use Rattle.system.specs.Serving.{Handles, HasEmptyLog, LeavesEither, ServesState, TellsNoFault, WouldCall, WouldChange}
+use Rattle.system.specs.Serving.{Handles, HasEmptyLog, IsStepDue, LeavesEither, ServesState, TellsNoFault, WouldCall, WouldChange}
 use Rattle.system.specs.Systems.{IsCovered, Parts, IsServing, meaning_of, system_parts}
 use Rattle.system.specs.declared.error.CallError.{CallError}
 use Rattle.system.specs.declared.error.CallError.TheVariants as call_errors
@@ -49,24 +49,24 @@ either_after m mid new s t reads opens leaves =
     ]))
 
 -- a system that has the same serves the same
-pub serves_same : {S : Type 0} {G : Ghosts S} (f g : System S G) (blocks : Buffers S) (inodes : InodeFile) (s : State) → g.blocks ≡ blocks
-    → system_parts g ≡ record (system_parts f) { kept = blocks.kept; inodes = inodes; log = g.log } → g.log ≡ f.log → (over : ServesOver f blocks inodes s)
-    → (serves : ServesState g s) × (serves.bodies ≡ over.bodies) × ((over.first ≡ over.running) → serves.first ≡ serves.running)
+pub serves_same : {S : Type 0} {G : Ghosts S} (f g : System S G) (blocks : Overlay S G) (inodes : InodeFile) (s : State) → g.blocks ≡ blocks
+    → system_parts g ≡ record (system_parts f) { kept = blocks.buffers.kept; laid = blocks.laid; inodes = inodes; log = g.log } → g.log ≡ f.log → (over : ServesOver f blocks inodes s)
+    → (serves : ServesState g s) × (serves.lasts.bodies ≡ over.lasts.bodies) × ((over.first ≡ over.running) → serves.first ≡ serves.running)
 serves_same {S} {G} f g blocks inodes s same_blocks parts log over =
-    let all : system_parts g ≡ record (system_parts f) { kept = blocks.kept; inodes = inodes } = parts ∙ (λ i. record (system_parts f) { kept = blocks.kept; inodes = inodes; log = log i }) in
-    let Same = λ (m : Meaning) (k : Parts). (serves : IsServing m k s.tree.descriptors s) × (serves.bodies ≡ over.bodies) × ((over.first ≡ over.running) → serves.first ≡ serves.running) in
-    subst (λ (k : Parts). Same (G.meaning g.blocks.station) k) (sym all)
-    (subst (λ (b : Buffers S). Same (G.meaning b.station) (record (system_parts f) { kept = blocks.kept; inodes = inodes })) (sym same_blocks) (over, refl, λ held. held))
+    let all : system_parts g ≡ record (system_parts f) { kept = blocks.buffers.kept; laid = blocks.laid; inodes = inodes } = parts ∙ (λ i. record (system_parts f) { kept = blocks.buffers.kept; laid = blocks.laid; inodes = inodes; log = log i }) in
+    let Same = λ (m : Meaning) (k : Parts). (serves : IsServing m k s.tree.descriptors s) × (serves.lasts.bodies ≡ over.lasts.bodies) × ((over.first ≡ over.running) → serves.first ≡ serves.running) in
+    subst (λ (k : Parts). Same (G.meaning g.blocks.buffers.station) k) (sym all)
+    (subst (λ (b : Overlay S G). Same (G.meaning b.buffers.station) (record (system_parts f) { kept = blocks.buffers.kept; laid = blocks.laid; inodes = inodes })) (sym same_blocks) (over, refl, λ held. held))
 
 -- a system serves what another one served, by the same records, and where its root held the running volume, it does so still
 abbrev pub KeepsServing : {S : Type 0} {G : Ghosts S} → System S G → System S G → Type 0
 KeepsServing old new =
-    (s : State) (served : ServesState old s) → (serves : ServesState new s) × (serves.bodies ≡ served.bodies) × ((served.first ≡ served.running) → serves.first ≡ serves.running)
+    (s : State) (served : ServesState old s) → (serves : ServesState new s) × (serves.lasts.bodies ≡ served.lasts.bodies) × ((served.first ≡ served.running) → serves.first ≡ serves.running)
 
 -- a covered one is covered still
-covered_same : {S : Type 0} {G : Ghosts S} {old : System S G} (new : System S G) (s : State) (covered : IsCovered old s.tree.descriptors s)
-    → ((serves : ServesState new s) × (serves.bodies ≡ covered.serves.bodies) × ((covered.serves.first ≡ covered.serves.running) → serves.first ≡ serves.running)) → IsCovered new s.tree.descriptors s
-covered_same new s covered kept = record { serves = kept.0; no_record = kept.1 ∙ covered.no_record; held = kept.2 covered.held }
+covered_same : {S : Type 0} {G : Ghosts S} {old : System S G} (new : System S G) (s : State) (covered : IsCovered old s.tree.descriptors s) → new.blocks.laid ≡ old.blocks.laid
+    → ((serves : ServesState new s) × (serves.lasts.bodies ≡ covered.serves.lasts.bodies) × ((covered.serves.first ≡ covered.serves.running) → serves.first ≡ serves.running)) → IsCovered new s.tree.descriptors s
+covered_same new s covered laid kept = record { rests = laid ∙ covered.rests; serves = kept.0; no_record = kept.1 ∙ covered.no_record; held = kept.2 covered.held }
 
 -- one with the same log over the same root has an empty log where the other has one
 was_empty : {S : Type 0} {G : Ghosts S} (old new : System S G) → new.log ≡ old.log → new.root ≡ old.root → HasEmptyLog new → HasEmptyLog old
@@ -95,10 +95,10 @@ pub record LeadsOn {S : Type 0} {G : Ghosts S} (old new : System S G) (mid : Mea
 abbrev pub IsFirstFault : LogEnd → CallError → Type 0
 IsFirstFault log e = (e ≡ call_errors.NotWritten) × IsFalse log.is_stopped
 
-error_is : (x y : CallError) (r q : Result Reply CallError) → r ≡ Err x → q ≡ Err y → r ≡ q → x ≡ y
+pub error_is : (x y : CallError) (r q : Result Reply CallError) → r ≡ Err x → q ≡ Err y → r ≡ q → x ≡ y
 error_is x y r q first second is = cc
 
-module _ {S : Type 0} {G : Ghosts S} (old new : System S G) (mid : Meaning) (call : Command) (reply : Reply) (reads : ReadsOn (meaning_of old) mid)
+module _ {S : Type 0} {G : Ghosts S} (old new : System S G) (mid : Meaning) (call : Command) (reply : Reply) (reads : ReadsOn (meaning_of old) mid) (laid : new.blocks.laid ≡ old.blocks.laid)
     (counted : mid.failed_reads ≡ (meaning_of old).failed_reads) (epoch : new.log.epoch ≡ old.log.epoch) (opens : AllOpen old)
     (not_sure : (s : State) → ServesState old s → ¬ IsSure s call) (leads : (s : State) → ServesState old s → LeadsOn old new mid s call reply) where
   leaves_either : (s : State) (served : ServesState old s) → LeavesEither (meaning_of old) (meaning_of new) s (leads s served).after
@@ -116,16 +116,18 @@ module _ {S : Type 0} {G : Ghosts S} (old new : System S G) (mid : Meaning) (cal
   }
 
   -- the record is logged, and its change is in force
-  pub logged : {T : Type 0} (u : T) (change : Change) → ((s : State) (served : ServesState old s) → (leads s served).work ≡ work_of served.running change) → TellsNoFault reply → ((errno : Errno) → reply ≡ Refused errno → ⊥) → OnlyWrites {T = T} {E = CallError} (IsFirstFault old.log) mid (meaning_of new) (Ok u)
+  pub logged : {steps : Bool} {T : Type 0} (u : T) (change : Change) → ((s : State) (served : ServesState old s) → (leads s served).work ≡ work_of served.running change) → TellsNoFault reply → ((errno : Errno) → reply ≡ Refused errno → ⊥) → OnlyWrites {T = T} {E = CallError} (IsFirstFault old.log) mid (meaning_of new) (Ok u)
       → new.log.is_stopped ≡ old.log.is_stopped
       → ((s : State) (served : ServesState old s) → HasRoomForWork old (leads s served).work)
-      → ((s : State) (served : ServesState old s) → (serves : ServesState new (leads s served).after) × (serves.replayed.changes ≡ served.replayed.changes ++ change ∷ []))
-      → Handles old new call (Ok reply)
-  logged {T} u change works own accepted writes stopped room serves =
+      → ((s : State) (served : ServesState old s) → (serves : ServesState new (leads s served).after) × (serves.lasts.replayed.changes ≡ served.lasts.replayed.changes ++ change ∷ []))
+      → Handles steps old new call (Ok reply)
+  logged {T = T} u change works own accepted writes stopped room serves =
       let m = meaning_of old in
       record {
         counted = counted_after m mid (meaning_of new) no_call (all_read m mid reads counted) (all_written {T = T} {E = CallError} (IsFirstFault old.log) mid (meaning_of new) u writes);
         no_fault = own;
+        asks = λ is. cc;
+        laid = laid;
         epoch = epoch;
         runs = λ runs. stopped ∙ runs;
         refused = λ errno is. absurd (accepted errno (ok_is reply (Refused errno) (Ok reply) (Ok (Refused errno)) refl refl is));
@@ -159,11 +161,15 @@ module _ {S : Type 0} {G : Ghosts S} (old new : System S G) (mid : Meaning) (cal
     counted_now = subst (λ (n : Meaning). n.failed_reads ≡ (meaning_of old).failed_reads) same counted
 
     -- with such an error
-    unlogged : (e : CallError) → (e ≢ call_errors.NotWritten) → (e ≢ call_errors.Damaged) → Counted (meaning_of old) (meaning_of new) (call_error_failed old.log.is_stopped e)
-        → (e ≡ call_errors.LogFull → HasEmptyLog old → ⊥) → (e ≡ call_errors.NoRoom → (s : State) (served : ServesState old s) → HasRoomForWork new (leads s served).work → ⊥) → Handles old new call (Err e)
-    unlogged e other own counts fits lacks = record {
+    unlogged : {steps : Bool} (e : CallError) → (e ≢ call_errors.NotWritten) → (e ≢ call_errors.Damaged) → Counted (meaning_of old) (meaning_of new) (call_error_failed old.log.is_stopped e)
+        → (e ≡ call_errors.StepDue → IsTrue steps × IsStepDue new) → (e ≡ call_errors.LogFull → HasEmptyLog old → ⊥) → (e ≡ call_errors.NoRoom → (s : State) (served : ServesState old s) → HasRoomForWork new (leads s served).work → ⊥) → Handles steps old new call (Err e)
+    unlogged e other own counts asked fits lacks = record {
       counted = counts;
       no_fault = tt;
+      asks = λ is.
+          let due = asked (error_is e call_errors.StepDue (Err e) (Err call_errors.StepDue) refl refl is) in
+          record { asked = due.0; due = due.1; log = log; root = root; changes = would_change };
+      laid = laid;
       epoch = epoch;
       runs = λ runs _. ap (λ (l : LogEnd). l.is_stopped) log ∙ runs;
       refused = λ errno is. cc;
@@ -184,17 +190,19 @@ module _ {S : Type 0} {G : Ghosts S} (old new : System S G) (mid : Meaning) (cal
               step = (leads s served).step;
               short = lacks room s served;
             },
-            λ covered. covered_same new s covered (keeps s covered.serves),
+            λ covered. covered_same new s covered laid (keeps s covered.serves),
           );
       damaged = λ s served is. own (error_is e call_errors.Damaged (Err e) (Err call_errors.Damaged) refl refl is);
     }
 
   -- its write failed
-  half_logged : {T : Type 0} → OnlyWrites {T = T} {E = CallError} (IsFirstFault old.log) mid (meaning_of new) (Err call_errors.NotWritten) → Handles old new call (Err call_errors.NotWritten)
-  half_logged {T} writes = record {
+  half_logged : {steps : Bool} {T : Type 0} → OnlyWrites {T = T} {E = CallError} (IsFirstFault old.log) mid (meaning_of new) (Err call_errors.NotWritten) → Handles steps old new call (Err call_errors.NotWritten)
+  half_logged {T = T} writes = record {
     counted = counted_after (meaning_of old) mid (meaning_of new) (if old.log.is_stopped then perhaps_any else a_write) (all_read (meaning_of old) mid reads counted)
         (not_written_yet {T = T} {E = CallError} (IsFirstFault old.log) mid (meaning_of new) call_errors.NotWritten old.log.is_stopped writes (λ runs. (refl, runs)));
     no_fault = tt;
+    asks = λ is. cc;
+    laid = laid;
     epoch = epoch;
     runs = λ runs is. absurd (is refl);
     refused = λ errno is. cc;
@@ -215,22 +223,26 @@ module _ {S : Type 0} {G : Ghosts S} (old new : System S G) (mid : Meaning) (cal
   }
 
   -- it isn't logged
-  pub not_logged : {T : Type 0} (e : CallError) → (e ≢ call_errors.NotRead) × (e ≢ call_errors.Damaged)
+  pub not_logged : {steps : Bool} {T : Type 0} (e : CallError) → (e ≢ call_errors.NotRead) × (e ≢ call_errors.Damaged)
       → OnlyWrites {T = T} {E = CallError} (IsFirstFault old.log) mid (meaning_of new) (Err e)
       → (e ≢ call_errors.NotWritten → (mid ≡ meaning_of new) × (new.log ≡ old.log) × (new.root ≡ old.root) × (KeepsServing old new))
-      → (e ≡ call_errors.LogFull → HasEmptyLog old → ⊥)
-      → (e ≡ call_errors.NoRoom → (s : State) (served : ServesState old s) → HasRoomForWork new (leads s served).work → ⊥) → Handles old new call (Err e)
-  not_logged call_errors.NotRead own writes kept fits lacks = absurd (own.0 refl)
-  not_logged call_errors.Damaged own writes kept fits lacks = absurd (own.1 refl)
-  not_logged {T} call_errors.NotWritten own writes kept fits lacks = half_logged {T = T} writes
-  not_logged call_errors.NoMemory own writes kept fits lacks =
+      → (e ≡ call_errors.StepDue → IsTrue steps × IsStepDue new) → (e ≡ call_errors.LogFull → HasEmptyLog old → ⊥)
+      → (e ≡ call_errors.NoRoom → (s : State) (served : ServesState old s) → HasRoomForWork new (leads s served).work → ⊥) → Handles steps old new call (Err e)
+  not_logged call_errors.NotRead own writes kept asked fits lacks = absurd (own.0 refl)
+  not_logged call_errors.Damaged own writes kept asked fits lacks = absurd (own.1 refl)
+  not_logged {T = T} call_errors.NotWritten own writes kept asked fits lacks = half_logged {T = T} writes
+  not_logged call_errors.NoMemory own writes kept asked fits lacks =
       let now = kept (λ is. cc) in
-      unlogged now.0 now.1 now.2 now.3 call_errors.NoMemory (λ is. cc) own.1 (perhaps_read (meaning_of old) (meaning_of new) (on_now now.0 now.1 now.2 now.3)) fits lacks
-  not_logged call_errors.LogFull own writes kept fits lacks =
+      unlogged now.0 now.1 now.2 now.3 call_errors.NoMemory (λ is. cc) own.1 (perhaps_read (meaning_of old) (meaning_of new) (on_now now.0 now.1 now.2 now.3)) asked fits lacks
+  not_logged call_errors.LogFull own writes kept asked fits lacks =
       let now = kept (λ is. cc) in
       unlogged now.0 now.1 now.2 now.3 call_errors.LogFull (λ is. cc) own.1
-      (all_read (meaning_of old) (meaning_of new) (on_now now.0 now.1 now.2 now.3) (counted_now now.0 now.1 now.2 now.3)) fits lacks
-  not_logged call_errors.NoRoom own writes kept fits lacks =
+      (all_read (meaning_of old) (meaning_of new) (on_now now.0 now.1 now.2 now.3) (counted_now now.0 now.1 now.2 now.3)) asked fits lacks
+  not_logged call_errors.NoRoom own writes kept asked fits lacks =
       let now = kept (λ is. cc) in
       unlogged now.0 now.1 now.2 now.3 call_errors.NoRoom (λ is. cc) own.1
-      (all_read (meaning_of old) (meaning_of new) (on_now now.0 now.1 now.2 now.3) (counted_now now.0 now.1 now.2 now.3)) fits lacks
+      (all_read (meaning_of old) (meaning_of new) (on_now now.0 now.1 now.2 now.3) (counted_now now.0 now.1 now.2 now.3)) asked fits lacks
+  not_logged call_errors.StepDue own writes kept asked fits lacks =
+      let now = kept (λ is. cc) in
+      unlogged now.0 now.1 now.2 now.3 call_errors.StepDue (λ is. cc) own.1
+      (all_read (meaning_of old) (meaning_of new) (on_now now.0 now.1 now.2 now.3) (counted_now now.0 now.1 now.2 now.3)) asked fits lacks

@@ -4,10 +4,16 @@ mod PointLaws
 mod SettledLaws
 mod OpenLaws
 mod LoggedLaws
+mod UnderWayLaws
+mod LaidLaws
 mod LookedLaws
 mod ServingLaws
 mod AskingLaws
+mod GoingOnLaws
+mod SteppingLaws
+mod CoveringLaws
 mod HandlingLaws
+mod FulfilLaws
 mod ChangingLaws
 pub mod RoomLaws
 pub mod CoveredLaws

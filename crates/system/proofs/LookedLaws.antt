@@ -1,8 +1,6 @@
 -- What the layers below tell of blocks and of objects in memory, on a system that serves a state.
 use Rattle.std.proofs.Common.{◌≡◌, ◌*◌, ◌/◌, ◌∙◌, ℕ, List, Option, Result, arith, refl, sym, subst}
 use Rattle.std.specs.Prelude.{IsErrOf}
-use Rattle.std.specs.BTreeMap as tree
-use Rattle.std.specs.Ordering.{nat_cmp}
 use Rattle.station.specs.declared.station.Station.{Ghosts}
 use Rattle.layout.specs.Limits.{Sizes}
 use Rattle.layout.specs.Places.{blocks_of}
@@ -10,10 +8,10 @@ use Rattle.layout.specs.declared.inode.Inode.{Inode}
 use Rattle.model.specs.States.{State}
 use Rattle.model.specs.Trees.{Description}
 use Rattle.model.specs.Volumes.{IsMounted, IsVolume, Volume}
-use Rattle.buffers.specs.Disks.{ReadsOn, ShowsDisk}
 use Rattle.buffers.specs.Readings.{reads_none}
 use Rattle.buffers.specs.declared.blocks.Blocks as blocks
-use Rattle.buffers.specs.declared.cache.Buffers.{Buffers}
+use Rattle.overlay.specs.Overlays.{IsHere, ReadsOver, ShowsOver, planned_disk}
+use Rattle.overlay.specs.declared.overlay.Overlay.{Overlay}
 use Rattle.blocktree.specs.Errors.{IsFault}
 use Rattle.blocktree.specs.declared.error.ReadError.{ReadError}
 use Rattle.blocktree.specs.declared.error.ReadError.TheVariants.{Damaged}
@@ -27,30 +25,37 @@ use Rattle.descriptors.specs.Tables.{table_of}
 use Rattle.calls.specs.Seeing.{OnTrees}
 use Rattle.files.specs.Opened.{OnOpen}
 use Rattle.system.specs.Serving.{ServesState}
-use Rattle.system.specs.Systems.{IsServing, meaning_of, system_parts}
+use Rattle.system.specs.Systems.{IsServing, disk_of, meaning_of, system_parts}
 use Rattle.system.specs.declared.system.System.{System}
 use Rattle.system.proofs.SystemLaws.{read_into}
 
 -- the blocks of a station, as the layers below have them
-abbrev pub blocks_with : {S : Type 0} → Ghosts S → blocks.Ghosts (Buffers S)
+abbrev pub blocks_with : {S : Type 0} (G : Ghosts S) → blocks.Ghosts (Overlay S G)
 blocks_with G = record {
-  Shows = λ b disk. ShowsDisk (G.meaning b.station) b.kept disk;
-  ReadsOn = λ a b. ReadsOn (G.meaning a.station) (G.meaning b.station);
-  IsResident = λ b place. tree.ContainsKey nat_cmp b.kept place;
-  failed = λ b. (G.meaning b.station).failed_reads;
-  count = λ b. (G.meaning b.station).sectors / 8;
+  Shows = λ b disk. ShowsOver (G.meaning b.buffers.station) b.buffers.kept b.laid disk;
+  ReadsOn = λ a b. ReadsOver (G.meaning a.buffers.station) (G.meaning b.buffers.station) a.laid b.laid;
+  IsResident = λ b place. IsHere b.buffers.kept b.laid place;
+  failed = λ b. (G.meaning b.buffers.station).failed_reads;
+  count = λ b. (G.meaning b.buffers.station).sectors / 8;
 }
 
 -- a system serves a state that has these blocks and these inodes in memory, and all else as another
-abbrev pub ServesOver : {S : Type 0} {G : Ghosts S} → System S G → Buffers S → InodeFile → State → Type 0
-ServesOver {S} {G} f kept inodes s = IsServing (G.meaning kept.station) (record (system_parts f) { kept = kept.kept; inodes = inodes }) s.tree.descriptors s
+abbrev pub ServesOver : {S : Type 0} {G : Ghosts S} → System S G → Overlay S G → InodeFile → State → Type 0
+ServesOver {S} {G} f kept inodes s = IsServing (G.meaning kept.buffers.station) (record (system_parts f) { kept = kept.buffers.kept; laid = kept.laid; inodes = inodes }) s.tree.descriptors s
+
+-- nothing was done to blocks but reading
+abbrev pub ReadsBlocksOn : {S : Type 0} (G : Ghosts S) → Overlay S G → Overlay S G → Type 0
+ReadsBlocksOn G old new = ReadsOver (G.meaning old.buffers.station) (G.meaning new.buffers.station) old.laid new.laid
+
+pub reads_nothing : {S : Type 0} (G : Ghosts S) (blocks : Overlay S G) → ReadsBlocksOn G blocks blocks
+reads_nothing G blocks = record { below = reads_none (G.meaning blocks.buffers.station); laid = refl }
 
 pub eighth : (n b : ℕ) → n ≡ 8 * b → n / 8 ≡ b
 eighth n b is = omega arith
 
 module _ {S : Type 0} {G : Ghosts S} (f : System S G) where
   abbrev pub disk_under : ℕ → List ℕ
-  disk_under = blocks_of (meaning_of f).seen.disk
+  disk_under = blocks_of (disk_of f)
 
   abbrev pub inodes_under : ℕ → Inode
   inodes_under = inodes_of (whole disk_under f.root).active
@@ -86,16 +91,22 @@ module _ {S : Type 0} {G : Ghosts S} (f : System S G) where
   never_damaged told s served = told disk_under inodes_under served.running (stands s served)
 
   -- where nothing is done but looking, it serves on
-  module _ (kept : Buffers S) (inodes : InodeFile) {T : Type 0} {r : Result T ReadError} (looks : Looks (blocks_with G) IsFault f.blocks kept f.inodes inodes r) where
-    pub reads_on : ReadsOn (meaning_of f) (G.meaning kept.station)
-    reads_on = looks.reads.reads f.blocks (reads_none (meaning_of f))
+  module _ (kept : Overlay S G) (inodes : InodeFile) {T : Type 0} {r : Result T ReadError} (looks : Looks (blocks_with G) IsFault f.blocks kept f.inodes inodes r) where
+    pub reads_on : ReadsBlocksOn G f.blocks kept
+    reads_on = looks.reads.reads f.blocks (reads_nothing G f.blocks)
+
+    -- over the disk that it was over
+    pub same_disk : (s : State) → ServesState f s → disk_of f ≡ planned_disk kept.laid (G.meaning kept.buffers.station).seen.disk
+    same_disk s served =
+        let went = reads_on.below.goes served.honest in
+        λ i. planned_disk (sym reads_on.laid i) ((sym went.seen i).disk)
 
     abbrev pub looked_on : (s : State) → ServesState f s → ServesOver f kept inodes s
     looked_on s served =
         let before = eighth (meaning_of f).sectors f.root.geometry.blocks f.sectors in
-        let after = eighth (G.meaning kept.station).sectors f.root.geometry.blocks (reads_on.same.sectors ∙ f.sectors) in
-        read_into served (G.meaning kept.station) kept.kept inodes f.map reads_on looks.reads.same (λ v over.
+        let after = eighth (G.meaning kept.buffers.station).sectors f.root.geometry.blocks (reads_on.below.same.sectors ∙ f.sectors) in
+        read_into served (G.meaning kept.buffers.station) kept.buffers.kept kept.laid inodes f.map reads_on looks.reads.same (λ v over.
         subst (λ (n : ℕ). IsVolumeOf n disk_under inodes_under inodes v) after (looks.kept disk_under inodes_under v (record {
           shows = served.shows;
           volume = subst (λ (n : ℕ). IsVolumeOf n disk_under inodes_under f.inodes v) (sym before) over;
-        })).volume) looks.geometry looks.needs (λ b. refl)
+        })).volume) looks.geometry looks.needs (λ b. refl) (λ coming b. refl)

@@ -10,18 +10,17 @@ use Rattle.model.specs.Records.{Extends, is_vacant}
 use Rattle.model.specs.States.{State}
 use Rattle.model.specs.Trees.{Description, Tree}
 use Rattle.model.specs.Volumes.{IsMounted, Node, Volume, directory_node, file_node, is_open, link_node, swept, swept_node}
-use Rattle.images.specs.Roots.{whole}
 use Rattle.inofile.specs.Room.{memory_room}
-use Rattle.inofile.specs.Volumes.{IsVolumeOf}
 use Rattle.inofile.specs.declared.inode_file.InodeFile.{InodeFile}
-use Rattle.loading.specs.Images.{inodes_of}
 use Rattle.descriptors.specs.Fits.{FitsVolume}
 use Rattle.descriptors.specs.Tables.{table_of}
 use Rattle.descriptors.specs.declared.table.Descriptors.{Descriptors}
-use Rattle.system.specs.Images.{OpensTo}
+use Rattle.oplog.specs.LogEnd.{Bodies}
+use Rattle.system.specs.Images.{IsReplayed, OpensTo}
 use Rattle.system.specs.Laws.{RecordLaws}
 use Rattle.system.specs.Serving.{LeavesEither}
-use Rattle.system.specs.Systems.{Parts, IsServing, state_with}
+use Rattle.system.specs.Systems.{Parts, IsServing, disk_over, state_with}
+use Rattle.system.proofs.SystemLaws.{OverRoot}
 
 -- what opens to a state opens to it with other open files
 pub opens_moved : (m : Meaning) (n : ℕ) (v : Volume) (table after : ℕ → Option Description) (snapshots : List (Name × Tree)) (c : Images)
@@ -90,6 +89,17 @@ sweep_extends running replayed table extends = record {
   rest = λ n none. dropped_vacant (is_open table 32 n) (running n) (replayed n) (extends.kept n) (extends.rest n) none;
 }
 
+-- so the records that lead to it lead to what is left
+abbrev pub sweep_replayed : {inodes : ℕ} {bodies : Bodies} {first running : Volume} (table : ℕ → Option Description) → IsReplayed inodes bodies first running → IsReplayed inodes bodies first (swept table running)
+sweep_replayed {running = running} table was = record {
+  changes = was.changes;
+  are = was.are;
+  spelled = was.spelled;
+  last = was.last;
+  replays = was.replays;
+  extends = sweep_extends running was.last table was.extends;
+}
+
 -- ---- the system
 
 module _ {m : Meaning} {k : Parts} {table : ℕ → Option Description} {s : State}
@@ -103,16 +113,16 @@ module _ {m : Meaning} {k : Parts} {table : ℕ → Option Description} {s : Sta
     first = serves.first;
     snapshots = serves.snapshots;
     under = serves.under;
-    bodies = serves.bodies;
-    left = serves.left;
     running = serves.running;
     mounted = mounted;
-    replayed = serves.replayed;
     memory = serves.memory;
+    settled = serves.settled;
+    lasts = serves.lasts;
+    left = serves.left;
+    entries = serves.entries;
+    bridge = serves.bridge;
     goes = serves.goes;
-    pledges = serves.pledges;
     stored = serves.stored;
-    reserved = serves.reserved;
     opened = opened;
     fits = fits;
     state = refl;
@@ -120,38 +130,57 @@ module _ {m : Meaning} {k : Parts} {table : ℕ → Option Description} {s : Sta
 
   -- with other open files, and without the files that then have neither name nor descriptor
   abbrev pub dropped : (records : RecordLaws) (now_inodes : InodeFile)
-      → IsVolumeOf k.root.geometry.blocks (blocks_of m.seen.disk) (inodes_of (whole (blocks_of m.seen.disk) k.root).active) now_inodes (swept after serves.running)
+      → OverRoot (blocks_of (disk_over k m.seen.disk)) k.root now_inodes (swept after serves.running)
       → memory_room serves.first now_inodes (swept after serves.running) ≤ memory_room serves.first k.inodes serves.running
       → FitsVolume now_files (swept after serves.running) → IsMounted (swept after serves.running) after
       → IsServing m (record k { inodes = now_inodes; files = now_files }) after (state_with k.root.geometry.inodes (swept after serves.running) after serves.snapshots)
-  dropped records now_inodes stands stores fits mounted = record {
-    honest = serves.honest;
-    shows = serves.shows;
-    first = serves.first;
-    snapshots = serves.snapshots;
-    under = serves.under;
-    bodies = serves.bodies;
-    left = serves.left;
-    running = swept after serves.running;
-    mounted = mounted;
-    replayed = record {
-      changes = serves.replayed.changes;
-      are = serves.replayed.are;
-      spelled = serves.replayed.spelled;
-      last = serves.replayed.last;
-      replays = serves.replayed.replays;
-      extends = sweep_extends serves.running serves.replayed.last after serves.replayed.extends;
-    };
-    memory = record {
-      stands = stands;
-      volume = records.sweeps k.root.geometry.inodes serves.running after serves.memory.volume;
-      entries = serves.memory.entries;
-    };
-    goes = serves.goes;
-    pledges = serves.pledges;
-    stored = omega (arith, stores, serves.stored);
-    reserved = serves.reserved;
-    opened = opened;
-    fits = fits;
-    state = refl;
-  }
+  dropped records now_inodes stands stores fits mounted =
+      let lasts = serves.lasts in
+      record {
+        honest = serves.honest;
+        shows = serves.shows;
+        first = serves.first;
+        snapshots = serves.snapshots;
+        under = serves.under;
+        running = swept after serves.running;
+        mounted = mounted;
+        memory = record {
+          stands = stands;
+          volume = records.sweeps k.root.geometry.inodes serves.running after serves.memory.volume;
+        };
+        settled = serves.settled;
+        lasts = record {
+          newest = lasts.newest;
+          holds = lasts.holds;
+          bodies = lasts.bodies;
+          replayed = sweep_replayed after lasts.replayed;
+          pledges = lasts.pledges;
+          reserved = lasts.reserved;
+        };
+        left = serves.left;
+        entries = serves.entries;
+        bridge = elim serves.bridge [
+          | inl rests ↦ inl rests
+          | inr coming ↦ inr (record {
+            point = coming.point;
+            is = coming.is;
+            way = let way = coming.way in record {
+              slot = way.slot;
+              planned = way.planned;
+              epoch = way.epoch;
+              stays = way.stays;
+              since = sweep_replayed after way.since;
+              pledges = way.pledges;
+              saves = way.saves;
+            };
+            sound = coming.sound;
+            place = coming.place;
+            to_come = coming.to_come;
+          })
+        ];
+        goes = serves.goes;
+        stored = omega (arith, stores, serves.stored);
+        opened = opened;
+        fits = fits;
+        state = refl;
+      }

@@ -70,7 +70,7 @@ led_to {k = k} now call reply after told =
 pub table_leads : {S : Type 0} {G : Ghosts S} (new : System S G) (s : State) (call : Command) (reply : Reply) (files : Descriptors)
     (now : IsServing (meaning_of new) (record (system_parts new) { files = files }) s.tree.descriptors s) (after : ℕ → Option Description)
     → after ≡ table_of new.files → FitsVolume new.files now.running → IsMounted now.running after
-    → WouldLead new.root.geometry.inodes now.running (table_of files) call reply now.running after nothing → LeadsTo new s call reply now.replayed.changes
+    → WouldLead new.root.geometry.inodes now.running (table_of files) call reply now.running after nothing → LeadsTo new s call reply now.lasts.replayed.changes
 table_leads new s call reply files now after opened fits mounted told = record {
   after = state_with new.root.geometry.inodes now.running after now.snapshots;
   step = led_to now call reply after told;

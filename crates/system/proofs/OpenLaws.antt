@@ -5,6 +5,7 @@ use Rattle.std.specs.BTreeMap.{BTreeMap}
 use Rattle.std.specs.Option.{option_map}
 use Rattle.station.specs.Images.{Images, Unchanged}
 use Rattle.station.specs.Moments.{Meaning, Goes, IsSameStation, LeavesJust}
+use Rattle.station.specs.declared.station.Station.{Ghosts}
 use Rattle.layout.specs.Limits.{Sizes}
 use Rattle.layout.specs.Log.{LogHolds}
 use Rattle.layout.specs.Places.{Blocks, blocks_of}
@@ -15,9 +16,13 @@ use Rattle.model.specs.Records.{Extends, Replays, is_vacant, pledged_for, withou
 use Rattle.model.specs.States.{State}
 use Rattle.model.specs.Trees.{Tree}
 use Rattle.model.specs.Volumes.{Node, directory_node, file_node, link_node, IsMounted, IsVolume, Volume, swept_node}
-use Rattle.buffers.specs.Disks.{ShowsDisk}
+use Rattle.buffers.specs.Disks.{ReadsOn, ShowsDisk}
 use Rattle.buffers.specs.declared.block.Block.{Block}
+use Rattle.buffers.specs.declared.cache.Buffers.{Buffers}
 use Rattle.oplog.specs.LogEnd.{StandsAt}
+use Rattle.overlay.specs.Overlays.{ShowsOver}
+use Rattle.overlay.specs.declared.laid.Laid.{Laid}
+use Rattle.overlay.specs.declared.overlay.Overlay.{Overlay}
 use Rattle.oplog.specs.SavedLog.{Saved, StandsBehind}
 use Rattle.blockmap.specs.declared.map.BlockMap.{BlockMap}
 use Rattle.descriptors.specs.Files.{description_of}
@@ -47,6 +52,7 @@ use Rattle.system.specs.Systems.{Parts, IsServing, state_with}
 use Rattle.system.specs.declared.open_error.OpenError.{OpenError}
 use Rattle.system.specs.declared.opening.FoundImages.{FoundImages}
 use Rattle.system.specs.declared.opening.Mounted.{Mounted}
+use Rattle.system.proofs.LookedLaws.{ReadsBlocksOn, reads_nothing}
 
 -- ---- refusals
 
@@ -94,6 +100,22 @@ still_left old new i same goes just honest c left =
     let d = (goes before).now c left in
     d.2 ∙ just before d.0 d.1
 
+-- blocks were read of a station that no block was read of before, and no point is under way
+module _ {S : Type 0} {G : Ghosts S} (station : S) (buffers : Buffers S) (blocks : Overlay S G) (is : buffers.station ≡ station) (same : blocks.buffers ≡ buffers) where
+  over_station : blocks.buffers.station ≡ station
+  over_station = ap (λ (b : Buffers S). b.station) same ∙ is
+
+  pub read_from : (new : Overlay S G) → ((origin : Overlay S G) → ReadsBlocksOn G origin blocks → ReadsBlocksOn G origin new) → ReadsOn (G.meaning station) (G.meaning new.buffers.station)
+  read_from new reads = subst (λ (s : S). ReadsOn (G.meaning s) (G.meaning new.buffers.station)) over_station (reads blocks (reads_nothing G blocks)).below
+
+  pub shown_new : ShowsDisk (G.meaning buffers.station) buffers.kept (blocks_of (G.meaning station).seen.disk)
+      → (ShowsDisk (G.meaning buffers.station) buffers.kept (blocks_of (G.meaning buffers.station).seen.disk)
+      → ShowsOver (G.meaning blocks.buffers.station) blocks.buffers.kept blocks.laid (blocks_of (G.meaning blocks.buffers.station).seen.disk))
+      → ShowsOver (G.meaning blocks.buffers.station) blocks.buffers.kept blocks.laid (blocks_of (G.meaning station).seen.disk)
+  shown_new below over =
+      subst (λ (s : S). ShowsOver (G.meaning blocks.buffers.station) blocks.buffers.kept blocks.laid (blocks_of (G.meaning s).seen.disk)) over_station
+      (over (subst (λ (s : S). ShowsDisk (G.meaning buffers.station) buffers.kept (blocks_of (G.meaning s).seen.disk)) (sym is) below))
+
 -- ---- what memory has
 
 module _ (disk : Blocks) (r : Root) (nvram : List ℕ) (first last : Volume) (snapshots : List (Name × Tree)) (changes : List Change) (saved : Saved)
@@ -121,8 +143,8 @@ module _ (disk : Blocks) (r : Root) (nvram : List ℕ) (first last : Volume) (sn
     memory = record {
       stands = subst (λ (n : ℕ). IsVolumeOf n disk (inodes_of (whole disk r).active) p.inodes (without_nameless last)) is has.memory;
       volume = subst (λ (s : Sizes). IsVolume s.inodes (without_nameless last)) geometry has.volume;
-      entries = loaded.map.settled;
     };
+    entries = loaded.map.settled;
     pledges = pledges ∙ ap (λ (s : Sizes). pledged_for s.inodes first changes) sizes;
     stored = stored;
   }
@@ -176,59 +198,70 @@ module _ (m : Meaning) (kept : BTreeMap ℕ Block) (found : FoundImages) (p : Mo
   -- memory over what was found, where reads give these images
   pub record IsOver (i : Images) : Type 0 where
     pub just : LeavesJust m i
-    pub shows : ShowsDisk m kept (blocks_of i.disk)
+    pub shows : ShowsOver m kept None (blocks_of i.disk)
     pub of : IsOf i found
     pub holds : HoldsRecords (blocks_of i.disk) found.newest.root i.nvram first last snapshots changes
     pub has : HasImage (blocks_of i.disk) found.newest.root i.nvram first last changes p
 
-  abbrev parts : Parts
-  parts = record {
+  abbrev parts : Option Laid → Parts
+  parts laid = record {
     kept = kept;
+    laid = laid;
     root = found.newest.root;
     slot = found.newest.slot;
     inodes = p.inodes;
     map = p.map;
     log = p.log;
     pledged = p.pledged;
+    pledged_then = p.pledged;
     files = files;
   }
 
   abbrev shown : State
   shown = state_with found.newest.root.geometry.inodes (without_nameless last) (λ d. None) snapshots
 
-  serving : IsMounted (without_nameless last) (λ d. None) → IsFalse p.log.is_stopped → IsOver m.seen → IsServing m parts (λ d. None) shown
+  serving : IsMounted (without_nameless last) (λ d. None) → IsFalse p.log.is_stopped → IsOver m.seen → IsServing m (parts None) (λ d. None) shown
   serving mounted runs over = record {
-    honest = over.shows.honest;
+    honest = over.shows.below.honest;
     shows = over.shows;
     first = first;
     snapshots = snapshots;
     under = record { newest = over.of.newest; holds = over.holds.holds };
-    bodies = over.has.log.bodies;
+    running = without_nameless last;
+    mounted = mounted;
+    memory = over.has.memory;
+    settled = record { disk = m.seen.disk; root = found.newest.root; volume = first };
+    lasts = record {
+      newest = over.of.newest.newest;
+      holds = over.holds.holds;
+      bodies = over.has.log.bodies;
+      replayed = record {
+        changes = changes;
+        are = over.holds.log.are;
+        spelled = over.has.log.all;
+        last = last;
+        replays = over.holds.replays;
+        extends = extends last;
+      };
+      pledges = over.has.pledges;
+      reserved = over.holds.room;
+    };
     left = λ honest c left.
         let is = over.just honest c left in
         record {
           same = λ n some. ap (λ (i : Images). i.disk n) is;
           log_stands = subst (λ (i : Images). StandsAt p.log found.newest.root.generation over.has.log.bodies i.nvram) (sym is) over.has.log.stands;
         };
-    running = without_nameless last;
-    mounted = mounted;
-    replayed = record {
-      changes = changes;
-      are = over.holds.log.are;
-      spelled = over.has.log.all;
-      last = last;
-      replays = over.holds.replays;
-      extends = extends last;
-    };
-    memory = over.has.memory;
+    entries = over.has.entries;
+    bridge = inl (record { none = refl; base = refl; all = refl });
     goes = runs;
-    pledges = over.has.pledges;
     stored = over.has.stored;
-    reserved = over.holds.room;
     opened = λ i d. option_map description_of (sym (none d) i);
     fits = fits (without_nameless last);
     state = refl;
   }
 
-  pub serves : (i : Images) → m.seen ≡ i → IsMounted (without_nameless last) (λ d. None) → IsFalse p.log.is_stopped → IsOver i → IsServing m parts (λ d. None) shown
-  serves i is mounted runs over = serving mounted runs (subst IsOver (sym is) over)
+  pub serves : (laid : Option Laid) → laid ≡ None → (i : Images) → m.seen ≡ i → IsMounted (without_nameless last) (λ d. None) → IsFalse p.log.is_stopped → IsOver i
+      → IsServing m (parts laid) (λ d. None) shown
+  serves laid rests i is mounted runs over =
+      subst (λ (l : Option Laid). IsServing m (parts l) (λ d. None) shown) (sym rests) (serving mounted runs (subst IsOver (sym is) over))

@@ -1,8 +1,9 @@
 -- What is pledged of the disk's blocks, and what of them is free.
-use Rattle.std.proofs.Common.{◌≡◌, ◌∙◌, inl, inr, ℕ, zero, suc, ◌+◌, ◌*◌, ◌<◌, ◌≤◌, List, [], ◌∷◌, ◌++◌, Option, Some, Bool, true, false, refl, replicate, ap, sym, arith}
+use Rattle.std.proofs.Common.{◌≡◌, ◌∙◌, inl, inr, ℕ, zero, suc, ◌+◌, ◌*◌, ◌<◌, ◌≤◌, List, [], ◌∷◌, ◌++◌, Option, Some, None, Bool, true, false, refl, replicate, ap, sym, arith}
 use Rattle.std.specs.Prelude.{IsTrue, IsFalse, if◌then◌else◌, ◌==◌}
 use Rattle.std.proofs.lemmas.Bool.{cases_lt, cond-false, ne_eqb}
 use Rattle.std.proofs.lemmas.List.{length-replicate}
+use Rattle.layout.specs.Limits.{Sizes}
 use Rattle.layout.specs.Places.{blocks_of}
 use Rattle.model.specs.Records.{Change, applied, costs, count_nameless, pledged_for, work_of, create, link, unname, rename, write, cut, change_mode}
 use Rattle.model.specs.Room.{cost}
@@ -10,6 +11,7 @@ use Rattle.model.specs.States.{State}
 use Rattle.model.specs.Trees.{Description}
 use Rattle.model.specs.Volumes.{Volume, file_node}
 use Rattle.blockmap.specs.Maps.{free_below, settled_at}
+use Rattle.blockmap.specs.Parts.{Part}
 use Rattle.blockmap.specs.Space.{left}
 use Rattle.blockmap.specs.declared.map.BlockMap.{BlockMap}
 use Rattle.layout.specs.declared.root.Root.{Root}
@@ -24,15 +26,13 @@ use Rattle.inofile.proofs.RoomLaws.{nameless_four}
 use Rattle.oplog.specs.LogEnd.{LogEnd, HasRoomInHalf, next_of}
 use Rattle.replay.specs.Costs.{IsSizeBefore}
 use Rattle.station.specs.declared.station.Station.{Ghosts}
+use Rattle.system.specs.Images.{Base}
 use Rattle.system.specs.Memory.{HasEntries}
 use Rattle.system.specs.Systems.{HasState, meaning_of}
 use Rattle.system.specs.declared.system.System.{System}
+use Rattle.system.proofs.SystemLaws.{at_rest, sizes}
 
 -- ---- what is pledged
-
--- where no record stands, 4 blocks for each file without names
-pub nameless_pledged : (inodes count : ℕ) (v : Volume) → count ≡ count_nameless inodes v → 4 * count ≡ pledged_for inodes v []
-nameless_pledged inodes count v is = omega (arith, is)
 
 -- a record more costs what it costs any volume
 costs_more : (v : Volume) (changes : List Change) (change : Change) (k : ℕ) → ((u : Volume) → k ≡ cost (work_of u change)) → costs v (changes ++ change ∷ []) ≡ costs v changes + k
@@ -61,12 +61,20 @@ unfolding free_below sum_below
 free_same t map has zero = refl
 free_same t map has (suc b) = λ i. free_same t map has b i + (if has b i == 0 then 1 else 0)
 
+abbrev pub free_of : Base → ℕ
+free_of base = free_under (whole (blocks_of base.disk) base.root).active base.root.geometry.blocks
+
 -- what a system keeps of it
-pub free_is : {S : Type 0} {G : Ghosts S} (f : System S G) (table : ℕ → Option Description) (s : State) → HasState f table s
-    → f.free ≡ free_under (whole (blocks_of (meaning_of f).seen.disk) f.root).active f.root.geometry.blocks
+pub free_is : {S : Type 0} {G : Ghosts S} (f : System S G) (table : ℕ → Option Description) (s : State) → (serves : HasState f table s) → f.free ≡ free_of serves.settled
 free_is f table s serves =
     f.counted ∙ ap (free_below f.map.parts.items) f.count
-    ∙ free_same (whole (blocks_of (meaning_of f).seen.disk) f.root).active f.map serves.memory.entries f.root.geometry.blocks
+    ∙ free_same (whole (blocks_of serves.settled.disk) serves.settled.root).active f.map serves.entries f.root.geometry.blocks
+    ∙ ap (λ (g : Sizes). free_under (whole (blocks_of serves.settled.disk) serves.settled.root).active g.blocks) (sym (sizes serves))
+
+-- where no consistency point is under way it is so under the root
+pub rest_free : {S : Type 0} {G : Ghosts S} (f : System S G) (table : ℕ → Option Description) (s : State) → HasState f table s → f.blocks.laid ≡ None
+    → f.free ≡ free_under (whole (blocks_of (meaning_of f).seen.disk) f.root).active f.root.geometry.blocks
+rest_free f table s serves none = free_is f table s serves ∙ ap free_of (at_rest serves none).base
 
 free_settled : (given m : BlockMap) → ((b : ℕ) → settled_at given.parts.items b ≡ settled_at m.parts.items b) → (n : ℕ) → free_below given.parts.items n ≡ free_below m.parts.items n
 unfolding free_below
@@ -78,6 +86,12 @@ pub still_counted : {S : Type 0} {G : Ghosts S} (f : System S G) (given : BlockM
     → f.free ≡ free_below given.parts.items given.count
 still_counted f given count settled = f.counted ∙ sym (ap (free_below given.parts.items) count ∙ free_settled given f.map settled f.map.count)
 
+-- no more blocks are free than there are
+pub few_free : (items : List Part) (n : ℕ) → free_below items n ≤ n
+unfolding free_below
+few_free items zero = omega arith
+few_free items (suc b) = grind (arith, few_free items b)
+
 -- the first two blocks aren't
 system_kept : (r : Root) (w : Whole) → IsExact r w → free_under w.active 2 ≡ 0
 unfolding sum_below
@@ -86,14 +100,16 @@ system_kept r w exact = omega (arith, kept 0 (omega arith), kept 1 (omega arith)
     kept : (b : ℕ) → b < 2 → free_at w.active b ≡ 0
     kept b low = cond-false (entry w.active b == 0) 1 0 (ne_eqb (entry w.active b) 0 (λ free. no_bit 31 _ free ((exact.system b).1 (roots low))))
 
--- what is left of its map is all that
-pub all_left : {S : Type 0} {G : Ghosts S} (f : System S G) (table : ℕ → Option Description) (s : State) → HasState f table s → left f.map ≡ f.free
+-- what is left of its map with no change is all that
+pub all_left : {S : Type 0} {G : Ghosts S} (f : System S G) (table : ℕ → Option Description) (s : State) → HasState f table s → f.blocks.laid ≡ None
+    → (given : BlockMap) → given.next ≡ 2 → given.count ≡ f.map.count → ((b : ℕ) → settled_at given.parts.items b ≡ settled_at f.map.parts.items b) → left given ≡ f.free
 unfolding left
-all_left f table s serves =
+all_left f table s serves none given fresh count settled =
+    let rest = at_rest serves none in
     let w = whole (blocks_of (meaning_of f).seen.disk) f.root in
-    let low : free_below f.map.parts.items f.map.next ≡ 0 =
-    ap (free_below f.map.parts.items) f.fresh ∙ free_same w.active f.map serves.memory.entries 2 ∙ system_kept f.root w serves.under.holds.sound.exact in
-    omega (arith, f.counted, low)
+    let low : free_below given.parts.items given.next ≡ 0 =
+    ap (free_below given.parts.items) fresh ∙ free_settled given f.map settled 2 ∙ free_same w.active f.map rest.entries 2 ∙ system_kept f.root w rest.under.holds.sound.exact in
+    omega (arith, still_counted f given count settled, low)
 
 -- ---- what a record costs
 

@@ -1,6 +1,7 @@
 -- What a call comes to on a system that serves a state.
-use Rattle.std.proofs.Common.{◌≡◌, ◌⊎◌, inl, inr, List, Result, Ok, Err, refl, ap, sym, subst}
+use Rattle.std.proofs.Common.{◌≡◌, ◌⊎◌, inl, inr, Bool, List, Result, Ok, Err, refl, ap, sym, subst}
 use Rattle.std.specs.Prelude.{IsErrOf, IsFalse, IsTrue, IfErr, IfOk, OnErr, OnOk, false}
+use Rattle.std.proofs.lemmas.Bool.{false≢true}
 use Rattle.std.proofs.lemmas.Result.{IfOk-weaker}
 use Rattle.station.specs.Moments.{EachCut, HasGrown}
 use Rattle.station.specs.declared.station.Station.{Ghosts}
@@ -20,7 +21,6 @@ use Rattle.model.specs.declared.errno.Errno.TheVariants.{EIO}
 use Rattle.model.specs.declared.reply.Reply.{Reply}
 use Rattle.model.specs.declared.reply.Reply.TheVariants.{Done, Refused}
 use Rattle.calls.specs.Refusals.{is_path_refusal}
-use Rattle.buffers.specs.Disks.{ReadsOn}
 use Rattle.oplog.specs.LogEnd.{LogEnd}
 use Rattle.blocktree.specs.Errors.{IsFault}
 use Rattle.blocktree.specs.declared.error.ReadError.{ReadError}
@@ -32,11 +32,12 @@ use Rattle.system.specs.Answering.{answer_to, answered_reply}
 use Rattle.system.specs.Counting.{Counted, call_error_failed}
 use Rattle.system.specs.Errors.{call_error}
 use Rattle.system.specs.Images.{OpensTo}
-use Rattle.system.specs.Serving.{Handles, IsSureOn, TellsNoFault, ServesState, WouldCall}
+use Rattle.system.specs.Serving.{Handles, IsAccepted, IsSureOn, TellsNoFault, ServesState, WouldCall}
 use Rattle.system.specs.Systems.{meaning_of}
 use Rattle.system.specs.declared.error.CallError.{CallError}
 use Rattle.system.specs.declared.error.CallError.TheVariants as call_errors
 use Rattle.system.specs.declared.system.System.{System}
+use Rattle.system.proofs.LookedLaws.{ReadsBlocksOn}
 use Rattle.system.proofs.CountingLaws.{all_read, not_read, perhaps_read}
 
 -- what is told of a system's volume is told of the state that it serves
@@ -59,16 +60,19 @@ own_refusal {T} r errno is own same =
 pub done_is_no_fault : TellsNoFault Done
 done_is_no_fault is = cc
 
+pub done_is_accepted : IsAccepted Done
+done_is_accepted errno is = cc
+
 -- A call that logs nothing was answered so at a state, and the system serves the state that it leaves, by these records.
 pub record LeadsTo {S : Type 0} {G : Ghosts S} (new : System S G) (s : State) (call : Command) (reply : Reply) (changes : List Change) : Type 0 where
   pub after : State
   pub step : WouldCall s call reply after nothing
   pub serves : ServesState new after
-  pub records : serves.replayed.changes ≡ changes
+  pub records : serves.lasts.replayed.changes ≡ changes
 
 -- a system serves what another does, by the same records
 abbrev pub ServesOn : {S : Type 0} {G : Ghosts S} → System S G → System S G → Type 0
-ServesOn old new = (s : State) → (served : ServesState old s) → (serves : ServesState new s) × (serves.replayed.changes ≡ served.replayed.changes)
+ServesOn old new = (s : State) → (served : ServesState old s) → (serves : ServesState new s) × (serves.lasts.replayed.changes ≡ served.lasts.replayed.changes)
 
 -- a call is sure, and then no device is called, or it isn't
 abbrev pub SureOrNot : {S : Type 0} {G : Ghosts S} → System S G → System S G → Command → Type 0
@@ -78,23 +82,22 @@ SureOrNot old new call = (s : State) → ServesState old s → IsSureOn old new 
 abbrev pub AllOpen : {S : Type 0} {G : Ghosts S} → System S G → Type 0
 AllOpen f = (s : State) → ServesState f s → EachCut (meaning_of f) (OpensTo (meaning_of f) s)
 
-module _ {S : Type 0} {G : Ghosts S} (old new : System S G) (call : Command) (reads : ReadsOn (meaning_of old) (meaning_of new))
+module _ {S : Type 0} {G : Ghosts S} {steps : Bool} (old new : System S G) (call : Command) (reads : ReadsBlocksOn G old.blocks new.blocks)
     (log : new.log ≡ old.log) where
-  runs_on : IsFalse old.log.is_stopped → IsFalse new.log.is_stopped
-  runs_on runs = subst (λ (l : LogEnd). IsFalse l.is_stopped) (sym log) runs
-
   -- a call that logs nothing was answered
   pub answered_leading : SureOrNot old new call → (reply : Reply) → (meaning_of new).failed_reads ≡ (meaning_of old).failed_reads → TellsNoFault reply
-      → AllOpen old → ((s : State) → (served : ServesState old s) → LeadsTo new s call reply served.replayed.changes) → Handles old new call (Ok reply)
+      → AllOpen old → ((s : State) → (served : ServesState old s) → LeadsTo new s call reply served.lasts.replayed.changes) → Handles steps old new call (Ok reply)
   answered_leading sure reply same own opens leads =
       let m = meaning_of old in
       let n = meaning_of new in
       record {
-        counted = all_read m n reads same;
+        counted = all_read m n reads.below same;
         no_fault = own;
+        asks = λ is. cc;
+        laid = reads.laid;
         epoch = ap (λ (l : LogEnd). l.epoch) log;
-        runs = runs_on;
-        refused = λ errno is. reads.goes;
+        runs = λ runs. subst (λ (l : LogEnd). IsFalse l.is_stopped) (sym log) runs;
+        refused = λ errno is. reads.below.goes;
         kept = tt;
         serves = λ s served. tt;
         done = λ s served. record {
@@ -104,7 +107,7 @@ module _ {S : Type 0} {G : Ghosts S} (old new : System S G) (call : Command) (re
           room = tt;
           serves = (leads s served).serves;
           logs = (leads s served).records;
-          leaves = weaker m n (OpensTo m s) (λ c. OpensTo m s c ⊎ OpensTo m (leads s served).after c) (leaves_unchanged m n (OpensTo m s) (opens s served) reads.goes) (λ c here. inl here);
+          leaves = weaker m n (OpensTo m s) (λ c. OpensTo m s c ⊎ OpensTo m (leads s served).after c) (leaves_unchanged m n (OpensTo m s) (opens s served) reads.below.goes) (λ c here. inl here);
         };
         broken = λ s served is. cc;
         sure = sure;
@@ -115,21 +118,23 @@ module _ {S : Type 0} {G : Ghosts S} (old new : System S G) (call : Command) (re
 
   -- a call that only reads was answered
   pub answered : ServesOn old new → SureOrNot old new call → (reply : Reply) → (meaning_of new).failed_reads ≡ (meaning_of old).failed_reads → TellsNoFault reply
-      → AllOpen old → ((s : State) → ServesState old s → WouldCall s call reply s nothing) → Handles old new call (Ok reply)
+      → AllOpen old → ((s : State) → ServesState old s → WouldCall s call reply s nothing) → Handles steps old new call (Ok reply)
   answered stays sure reply same own opens told =
       answered_leading sure reply same own opens (λ s served. record { after = s; step = told s served; serves = (stays s served).0; records = (stays s served).1 })
 
   -- a call wasn't answered, because a read was refused
   pub unanswered_read : ServesOn old new → ((s : State) → ServesState old s → ¬ IsSure s call) → (error : ReadError) (e : CallError) → e ≡ call_error error
       → (error ≡ read_errors.Device → HasGrown (meaning_of old).failed_reads (meaning_of new).failed_reads)
-      → ((s : State) → ServesState old s → error ≡ read_errors.Damaged → ⊥) → Handles old new call (Err e)
-  unanswered_read stays not_sure error e is fault damaged = subst (λ (x : CallError). Handles old new call (Err x)) (sym is) (record {
+      → ((s : State) → ServesState old s → error ≡ read_errors.Damaged → ⊥) → Handles steps old new call (Err e)
+  unanswered_read stays not_sure error e is fault damaged = subst (λ (x : CallError). Handles steps old new call (Err x)) (sym is) (record {
     counted = counted error fault;
     no_fault = tt;
+    asks = λ is. absurd (never_due error is);
+    laid = reads.laid;
     epoch = ap (λ (l : LogEnd). l.epoch) log;
-    runs = λ runs _. runs_on runs;
+    runs = λ runs _. subst (λ (l : LogEnd). IsFalse l.is_stopped) (sym log) runs;
     refused = λ errno is. cc;
-    kept = λ _. reads.goes;
+    kept = λ _. reads.below.goes;
     serves = λ s served _. (stays s served).0;
     done = λ s served. tt;
     broken = λ s served bad. absurd ((told_by error).0 bad);
@@ -141,9 +146,14 @@ module _ {S : Type 0} {G : Ghosts S} (old new : System S G) (call : Command) (re
     where
       counted : (error : ReadError) → (error ≡ read_errors.Device → HasGrown (meaning_of old).failed_reads (meaning_of new).failed_reads)
           → Counted (meaning_of old) (meaning_of new) (call_error_failed old.log.is_stopped (call_error error))
-      counted read_errors.NoMemory fault = perhaps_read (meaning_of old) (meaning_of new) reads
-      counted read_errors.Device fault = not_read (meaning_of old) (meaning_of new) reads (fault refl)
-      counted read_errors.Damaged fault = perhaps_read (meaning_of old) (meaning_of new) reads
+      counted read_errors.NoMemory fault = perhaps_read (meaning_of old) (meaning_of new) reads.below
+      counted read_errors.Device fault = not_read (meaning_of old) (meaning_of new) reads.below (fault refl)
+      counted read_errors.Damaged fault = perhaps_read (meaning_of old) (meaning_of new) reads.below
+
+      never_due : (error : ReadError) → let r : Result Reply CallError = Err (call_error error) in IsErrOf r call_errors.StepDue → ⊥
+      never_due read_errors.NoMemory is = cc
+      never_due read_errors.Device is = cc
+      never_due read_errors.Damaged is = cc
 
       told_by : (error : ReadError) → let r : Result Reply CallError = Err (call_error error) in
           (IsErrOf r call_errors.NotWritten → ⊥) × (IsErrOf r call_errors.LogFull → ⊥) × (IsErrOf r call_errors.NoRoom → ⊥) × (IsErrOf r call_errors.Damaged → error ≡ read_errors.Damaged)
@@ -158,25 +168,25 @@ module _ {S : Type 0} {G : Ghosts S} (old new : System S G) (call : Command) (re
       → IfOk (told {T = T} (Err f)) (λ r. IfErr r (λ e. IsTrue (is_path_refusal e))) → ServesOn old new
       → (Answer : (s : State) → ServesState old s → Result T Errno → Type 0) → ((s : State) (served : ServesState old s) → IfOk (told (Err f)) (Answer s served))
       → ((s : State) (served : ServesState old s) (errno : Errno) → Answer s served (Err errno) → WouldCall s call (Refused errno) s nothing)
-      → ((s : State) → ServesState old s → IsErrOf (told {T = T} (Err f)) read_errors.Damaged → ⊥) → Handles old new call q
+      → ((s : State) → ServesState old s → IsErrOf (told {T = T} (Err f)) read_errors.Damaged → ⊥) → Handles steps old new call q
   failed_by {T} (failures.Refused errno) q is not_sure opens counted device own stays Answer answers refused damaged =
-      subst (Handles old new call) (sym is)
+      subst (Handles steps old new call) (sym is)
       (answered stays (λ s served. inr (not_sure s served)) (Refused errno) counted (own_refusal {T = T} (Err errno) errno refl own) opens
       (λ s served. refused s served errno (answers s served)))
   failed_by (failures.Read e) q is not_sure opens counted device own stays Answer answers refused damaged =
-      subst (Handles old new call) (sym is) (unanswered_read stays not_sure e (call_error e) refl device (λ s served bad. damaged s served (ap (λ x. Err x) bad)))
+      subst (Handles steps old new call) (sym is) (unanswered_read stays not_sure e (call_error e) refl device (λ s served bad. damaged s served (ap (λ x. Err x) bad)))
 
   -- a call that logs nothing came to this
   pub came_to : (r : Result Reply Failure) (q : Result Reply CallError) → q ≡ answer_to r → ((s : State) → ServesState old s → ¬ IsSure s call) → AllOpen old
       → OnOk (told r) ((meaning_of new).failed_reads ≡ (meaning_of old).failed_reads)
       → IfErr (told r) (λ e. IsFault e → HasGrown (meaning_of old).failed_reads (meaning_of new).failed_reads)
       → IfOk (told r) (λ x. IfErr x (λ e. IsTrue (is_path_refusal e))) → IfOk r TellsNoFault → OnErr r (ServesOn old new)
-      → ((s : State) → (served : ServesState old s) → IfOk (told r) (λ x. LeadsTo new s call (answered_reply x) served.replayed.changes))
-      → ((s : State) → ServesState old s → IsErrOf (told r) read_errors.Damaged → ⊥) → Handles old new call q
+      → ((s : State) → (served : ServesState old s) → IfOk (told r) (λ x. LeadsTo new s call (answered_reply x) served.lasts.replayed.changes))
+      → ((s : State) → ServesState old s → IsErrOf (told r) read_errors.Damaged → ⊥) → Handles steps old new call q
   came_to (Ok reply) q is not_sure opens counted device own no_fault stays leads damaged =
-      subst (Handles old new call) (sym is) (answered_leading (λ s served. inr (not_sure s served)) reply counted no_fault opens leads)
+      subst (Handles steps old new call) (sym is) (answered_leading (λ s served. inr (not_sure s served)) reply counted no_fault opens leads)
   came_to (Err (failures.Refused errno)) q is not_sure opens counted device own no_fault stays leads damaged =
-      subst (Handles old new call) (sym is)
+      subst (Handles steps old new call) (sym is)
       (answered_leading (λ s served. inr (not_sure s served)) (Refused errno) counted (own_refusal {T = Reply} (Err errno) errno refl own) opens leads)
   came_to (Err (failures.Read e)) q is not_sure opens counted device own no_fault stays leads damaged =
       failed_by {T = Reply} (failures.Read e) q is not_sure opens counted device own stays (λ s served r. ⊥) (λ s served. tt) (λ s served errno is. absurd is) damaged
@@ -187,7 +197,7 @@ module _ {S : Type 0} {G : Ghosts S} (old new : System S G) (call : Command) (re
       → IfErr (told r) (λ e. IsFault e → HasGrown (meaning_of old).failed_reads (meaning_of new).failed_reads)
       → IfOk (told r) (λ x. IfErr x (λ e. IsTrue (is_path_refusal e))) → IfOk r TellsNoFault → ServesOn old new
       → ((s : State) → ServesState old s → IfOk (told r) (λ x. WouldCall s call (answered_reply x) s nothing))
-      → ((s : State) → ServesState old s → IsErrOf (told r) read_errors.Damaged → ⊥) → Handles old new call q
+      → ((s : State) → ServesState old s → IsErrOf (told r) read_errors.Damaged → ⊥) → Handles steps old new call q
   looked_up r q is not_sure opens counted device own no_fault stays steps damaged =
       came_to r q is not_sure opens counted device own no_fault (on_err r)
       (λ s served. IfOk-weaker (told r) _ _ (λ x step. record { after = s; step = step; serves = (stays s served).0; records = (stays s served).1 }) (steps s served)) damaged
@@ -195,3 +205,23 @@ module _ {S : Type 0} {G : Ghosts S} (old new : System S G) (call : Command) (re
       on_err : (r : Result Reply Failure) → OnErr r (ServesOn old new)
       on_err (Ok reply) = tt
       on_err (Err f) = stays
+
+-- a call that can't ask for a step may be said to ask for one
+pub any_steps : {S : Type 0} {G : Ghosts S} {old new : System S G} {call : Command} {result : Result Reply CallError} (steps : Bool) → Handles false old new call result → Handles steps old new call result
+any_steps steps told = record {
+  counted = told.counted;
+  no_fault = told.no_fault;
+  asks = λ is. absurd (false≢true (told.asks is).asked);
+  laid = told.laid;
+  epoch = told.epoch;
+  runs = told.runs;
+  refused = told.refused;
+  kept = told.kept;
+  serves = told.serves;
+  done = told.done;
+  broken = told.broken;
+  sure = told.sure;
+  full = told.full;
+  short = told.short;
+  damaged = told.damaged;
+}

@@ -1,11 +1,10 @@
 -- What the tests of `snap take` come to, and a command that ends behind a consistency point of its own.
-use Rattle.std.proofs.Common.{◌≡◌, ◌≢◌, ◌+◌, ◌≤◌, ◌<◌, ◌^◌, List, [], ◌∷◌, ◌++◌, not, Option, Some, None, Result, Ok, Err, refl, ap, sym, subst, ◌∙◌}
+use Rattle.std.proofs.Common.{◌≡◌, ◌≢◌, ◌⊎◌, inl, inr, ◌+◌, ◌≤◌, ◌<◌, ◌^◌, List, [], ◌∷◌, ◌++◌, not, Option, Some, None, Result, Ok, Err, refl, ap, sym, subst, ◌∙◌}
 use Rattle.std.specs.Prelude.{bytes_eq, filter, is_none}
-use Rattle.station.specs.Images.{Unchanged}
-use Rattle.station.specs.Moments.{Goes, HasGrown, Meaning}
+use Rattle.station.specs.Moments.{HasGrown, LeavesOnly, Meaning}
 use Rattle.station.specs.declared.station.Station.{Ghosts}
-use Rattle.station.proofs.Moments.{unchanged_twice}
-use Rattle.layout.specs.Places.{Blocks}
+use Rattle.station.proofs.Moments.{joined, leaves_unchanged, weaker}
+use Rattle.layout.specs.Places.{Blocks, blocks_of}
 use Rattle.layout.specs.Root.{IsRoot}
 use Rattle.layout.specs.declared.root.Root.{Root}
 use Rattle.layout.specs.declared.version.TheConstants.{SNAPSHOT_SLOTS}
@@ -37,16 +36,20 @@ use Rattle.snapshots.specs.Found.{FindsSnapshot, named, snapshot_found}
 use Rattle.snapshots.specs.Taken.{MayTake}
 use Rattle.snapshots.specs.declared.finding.FoundSnapshot.{FoundSnapshot}
 use Rattle.snapshots.specs.declared.taking.Taking.{Taking}
-use Rattle.system.specs.Counting.{Counted, Failed, LogsNothing, no_call, point_error_failed}
-use Rattle.system.specs.Errors.{IsRefused, call_error}
-use Rattle.system.specs.Serving.{IsBrokenOff, ServesState, WouldCall, WouldChange}
+use Rattle.system.specs.Counting.{AgesBy, Counted, Failed, LogsNothing, no_call, point_error_failed}
+use Rattle.system.specs.Errors.{IsNotWritten, IsRefused, call_error}
+use Rattle.system.specs.Images.{OpensTo}
+use Rattle.system.specs.Serving.{IsBrokenOff, LeavesEither, ServesState, WouldCall, WouldChange}
 use Rattle.system.specs.Settling.{Glances, IsSettled, Settles}
-use Rattle.system.specs.Systems.{meaning_of}
+use Rattle.system.specs.Slicing.{Finishes}
+use Rattle.system.specs.Systems.{Parts, disk_of, meaning_of}
 use Rattle.system.specs.declared.error.CallError.{CallError}
 use Rattle.system.specs.declared.error.PointError.{PointError}
 use Rattle.system.specs.declared.error.PointError.TheVariants as point
 use Rattle.system.specs.declared.system.System.{System}
-use Rattle.system.proofs.CountingLaws.{all_read, counted_after, logged_twice, next_age, not_read, nothing_logged, perhaps_read, same_age}
+use Rattle.system.proofs.CountingLaws.{all_read, all_written, counted_after, logged_twice, next_age, not_read, not_written, nothing_logged, perhaps_read, same_age}
+use Rattle.system.proofs.HandlingLaws.{opens_same}
+use Rattle.system.proofs.ServingLaws.{AllOpen}
 use Rattle.system.proofs.ViewLaws.{closed, extends_itself, snapshots_of}
 
 error_is : (x y : PointError) (r q : Result (Result (Unit {0}) Errno) PointError) → r ≡ Err x → q ≡ Err y → r ≡ q → x ≡ y
@@ -76,7 +79,7 @@ module _ {S : Type 0} {G : Ghosts S} (old new : System S G) (reads : ReadsOn (me
         reads = reads;
         counted = perhaps_read (meaning_of old) (meaning_of new) reads;
         log = log;
-        refuses = (λ is. cc, λ is. cc, λ is. cc);
+        refuses = (λ is. cc, λ is. cc, λ is. cc, λ is. cc);
         serves = serves;
         damaged = λ s served is. cc;
       }
@@ -84,7 +87,7 @@ module _ {S : Type 0} {G : Ghosts S} (old new : System S G) (reads : ReadsOn (me
         reads = reads;
         counted = not_read (meaning_of old) (meaning_of new) reads (fault refl);
         log = log;
-        refuses = (λ is. cc, λ is. cc, λ is. cc);
+        refuses = (λ is. cc, λ is. cc, λ is. cc, λ is. cc);
         serves = serves;
         damaged = λ s served is. cc;
       }
@@ -92,7 +95,7 @@ module _ {S : Type 0} {G : Ghosts S} (old new : System S G) (reads : ReadsOn (me
         reads = reads;
         counted = perhaps_read (meaning_of old) (meaning_of new) reads;
         log = log;
-        refuses = (λ is. cc, λ is. cc, λ is. cc);
+        refuses = (λ is. cc, λ is. cc, λ is. cc, λ is. cc);
         serves = serves;
         damaged = λ s served is. damaged s served refl;
       }
@@ -100,7 +103,7 @@ module _ {S : Type 0} {G : Ghosts S} (old new : System S G) (reads : ReadsOn (me
 -- ---- a command that ends behind a consistency point, where nothing but reading was done
 
 module _ {S : Type 0} {G : Ghosts S} (old new : System S G) (P : State → Type 0) (c : Command) (reads : ReadsOn (meaning_of old) (meaning_of new)) (log : new.log ≡ old.log)
-    (serves : (s : State) → ServesState old s → ServesState new s) where
+    (opens : AllOpen old) (serves : (s : State) → ServesState old s → ServesState new s) where
   -- it was refused by its own tests
   pub refuses : (errno : Errno) → errno ≢ EIO → (meaning_of new).failed_reads ≡ (meaning_of old).failed_reads → ((s : State) → ServesState old s → WouldCall s c (Refused errno) s nothing)
       → Settles old new P c (Ok (Err errno))
@@ -110,8 +113,7 @@ module _ {S : Type 0} {G : Ghosts S} (old new : System S G) (P : State → Type 
     unlogged = nothing_logged (meaning_of old) (meaning_of new) reads.goes;
     epoch = same_age old.log.epoch new.log.epoch (ap (λ (l : LogEnd). l.epoch) log);
     runs = ap (λ (l : LogEnd). l.is_stopped) log;
-    kept = tt;
-    serves = λ s served. tt;
+    stays = λ s served. tt;
     done = λ s served covered. record { step = step s served; serves = serves s served; goes = reads.goes };
     broken = λ s served covered is. cc;
     roomy = λ s served covered is. cc;
@@ -128,8 +130,7 @@ module _ {S : Type 0} {G : Ghosts S} (old new : System S G) (P : State → Type 
     unlogged = nothing_logged (meaning_of old) (meaning_of new) reads.goes;
     epoch = same_age old.log.epoch new.log.epoch (ap (λ (l : LogEnd). l.epoch) log);
     runs = ap (λ (l : LogEnd). l.is_stopped) log;
-    kept = λ _. reads.goes;
-    serves = λ s served _. serves s served;
+    stays = λ s served _. (serves s served, leaves_unchanged (meaning_of old) (meaning_of new) (OpensTo (meaning_of old) s) (opens s served) reads.goes);
     done = λ s served covered. tt;
     broken = λ s served covered is. absurd (wrote (error_is e _ (Err e) (Err point.NotWritten) refl refl is));
     roomy = λ s served covered is. absurd (full (error_is e _ (Err e) (Err (point.NotPlanned plan.NoSpace)) refl refl is));
@@ -155,15 +156,15 @@ module _ {S : Type 0} {G : Ghosts S} (old new : System S G) (P : State → Type 
   pub too_old : ((s : State) → ServesState old s → 2 ^ 62 ≤ old.log.epoch) → Settles old new P c (Err point.NoGeneration)
   too_old last = not_begun point.NoGeneration (λ is. cc) (λ is. cc) (perhaps_read (meaning_of old) (meaning_of new) reads) (λ s served is. cc) (λ s served is. last s served)
 
--- ---- and its consistency point, behind reads
+-- ---- and its consistency point, behind calls that didn't fail
 
-module _ {S : Type 0} {G : Ghosts S} (old new : System S G) (mid : Meaning) (P : State → Type 0) (c : Command) (reads : ReadsOn (meaning_of old) mid)
-    (counted : mid.failed_reads ≡ (meaning_of old).failed_reads) (unlogged : LogsNothing mid (meaning_of new)) where
+module _ {S : Type 0} {G : Ghosts S} (old new : System S G) (mid : Meaning) (P : State → Type 0) (c : Command) (before : Counted (meaning_of old) mid no_call)
+    (unlogged : LogsNothing (meaning_of old) mid) (unlogged_then : LogsNothing mid (meaning_of new)) where
   nothing_written : LogsNothing (meaning_of old) (meaning_of new)
-  nothing_written = logged_twice (meaning_of old) mid (meaning_of new) (nothing_logged (meaning_of old) mid reads.goes) unlogged
+  nothing_written = logged_twice (meaning_of old) mid (meaning_of new) unlogged unlogged_then
 
   both_counted : (why : Failed) → Counted mid (meaning_of new) why → Counted (meaning_of old) (meaning_of new) why
-  both_counted why made = counted_after (meaning_of old) mid (meaning_of new) why (all_read (meaning_of old) mid reads counted) made
+  both_counted why made = counted_after (meaning_of old) mid (meaning_of new) why before made
 
   -- it was made
   pub settles : Counted mid (meaning_of new) no_call → new.log ≡ record old.log { epoch = old.log.epoch + 1; end = Unopened }
@@ -174,8 +175,7 @@ module _ {S : Type 0} {G : Ghosts S} (old new : System S G) (mid : Meaning) (P :
     unlogged = nothing_written;
     epoch = next_age old.log.epoch new.log.epoch (ap (λ (l : LogEnd). l.epoch) log);
     runs = ap (λ (l : LogEnd). l.is_stopped) log;
-    kept = tt;
-    serves = λ s served. tt;
+    stays = λ s served. tt;
     done = done;
     broken = λ s served covered is. cc;
     roomy = λ s served covered is. cc;
@@ -184,24 +184,92 @@ module _ {S : Type 0} {G : Ghosts S} (old new : System S G) (mid : Meaning) (P :
   }
 
   -- it wasn't
-  pub not_settled : (e : PointError) → Counted mid (meaning_of new) (point_error_failed e) → new.log ≡ old.log → (IsRefused e → Goes Unchanged mid (meaning_of new))
-      → ((s : State) → ServesState old s → IsRefused e → ServesState new s) → ((s : State) → ServesState old s → P s → e ≡ point.NotWritten → IsBrokenOff old new s c)
+  pub not_settled : (e : PointError) → Counted mid (meaning_of new) (point_error_failed e) → AgesBy 1 old.log.epoch new.log.epoch × (new.log.is_stopped ≡ old.log.is_stopped)
+      → ((s : State) → ServesState old s → IsRefused e → ServesState new s × LeavesOnly (meaning_of old) (meaning_of new) (OpensTo (meaning_of old) s)) → ((s : State) → ServesState old s → P s → e ≡ point.NotWritten → IsBrokenOff old new s c)
       → ((s : State) → ServesState old s → P s → e ≡ point.NotPlanned plan.NoSpace → ⊥)
       → ((s : State) → ServesState old s → e ≡ point.NotPlanned plan.Damaged → ⊥) → ((s : State) → ServesState old s → e ≡ point.NoGeneration → 2 ^ 62 ≤ old.log.epoch) → Settles old new P c (Err e)
-  not_settled e made log kept serves broken roomy damaged last = record {
+  not_settled e made log stays broken roomy damaged last = record {
     counted = both_counted (point_error_failed e) made;
     own = tt;
     unlogged = nothing_written;
-    epoch = same_age old.log.epoch new.log.epoch (ap (λ (l : LogEnd). l.epoch) log);
-    runs = ap (λ (l : LogEnd). l.is_stopped) log;
-    kept = λ refused. unchanged_twice (meaning_of old) mid (meaning_of new) reads.goes (kept refused);
-    serves = serves;
+    epoch = log.0;
+    runs = log.1;
+    stays = stays;
     done = λ s served covered. tt;
     broken = λ s served covered is. broken s served covered (error_is e _ (Err e) (Err point.NotWritten) refl refl is);
     roomy = λ s served covered is. roomy s served covered (error_is e _ (Err e) (Err (point.NotPlanned plan.NoSpace)) refl refl is);
     damaged = λ s served is. damaged s served (error_is e _ (Err e) (Err (point.NotPlanned plan.Damaged)) refl refl is);
     last = λ s served is. last s served (error_is e _ (Err e) (Err point.NoGeneration) refl refl is);
   }
+
+-- the log behind a point that wasn't made
+pub unmade : (old new : LogEnd) (e : PointError)
+    → (IsRefused e × (new ≡ old)) ⊎ ((e ≡ point.NotWritten) × (new ≡ record old { epoch = old.epoch + 1; end = Unopened })) → AgesBy 1 old.epoch new.epoch × (new.is_stopped ≡ old.is_stopped)
+unmade old new e (inl refused) = (same_age old.epoch new.epoch (ap (λ (l : LogEnd). l.epoch) refused.1), ap (λ (l : LogEnd). l.is_stopped) refused.1)
+unmade old new e (inr broken) = (next_age old.epoch new.epoch (ap (λ (l : LogEnd). l.epoch) broken.1), ap (λ (l : LogEnd). l.is_stopped) broken.1)
+
+-- a cut leaves a state until a command begins, and then that or another
+pub either_behind : (m mid new : Meaning) (s t : State) → mid.sectors ≡ m.sectors → LeavesOnly m mid (OpensTo m s) → LeavesEither mid new s t → LeavesEither m new s t
+either_behind m mid new s t same before leaves =
+    joined m mid new (λ c. OpensTo m s c ⊎ OpensTo m t c) (weaker m mid (OpensTo m s) (λ c. OpensTo m s c ⊎ OpensTo m t c) before (λ c here. inl here))
+    (weaker mid new (λ c. OpensTo mid s c ⊎ OpensTo mid t c) (λ c. OpensTo m s c ⊎ OpensTo m t c) leaves (λ c here. elim here [
+      | inl one ↦ inl (opens_same m mid s c same one)
+      | inr other ↦ inr (opens_same m mid t c same other)
+    ]))
+
+-- ---- the point under way is brought to its end, behind reads
+
+pub ended_root : {S : Type 0} {G : Ghosts S} {read ended : System S G} {r : Result (Unit {0}) PointError} → Finishes read ended r → ended.root ≡ read.root
+ended_root told = ap (λ (k : Parts). k.root) told.parts
+
+-- it was, and what was served stays, at a cut at any moment
+pub record Ends {S : Type 0} {G : Ghosts S} (old ended : System S G) : Type 0 where
+  pub counted : Counted (meaning_of old) (meaning_of ended) no_call
+  pub unlogged : LogsNothing (meaning_of old) (meaning_of ended)
+  pub log : ended.log ≡ old.log
+  pub serves : (s : State) → ServesState old s → ServesState ended s
+  pub leaves : (s : State) → ServesState old s → LeavesOnly (meaning_of old) (meaning_of ended) (OpensTo (meaning_of old) s)
+
+module _ {S : Type 0} {G : Ghosts S} (old : System S G) {read : System S G} (ended : System S G) (reads : ReadsOn (meaning_of old) (meaning_of read)) (log : read.log ≡ old.log)
+    (counted : (meaning_of read).failed_reads ≡ (meaning_of old).failed_reads) (opens : AllOpen old) (serves : (s : State) → ServesState old s → ServesState read s) where
+  ended_leaves : {r : Result (Unit {0}) PointError} → Finishes read ended r → (s : State) → ServesState old s → LeavesOnly (meaning_of old) (meaning_of ended) (OpensTo (meaning_of old) s)
+  ended_leaves told s served =
+      joined (meaning_of old) (meaning_of read) (meaning_of ended) (OpensTo (meaning_of old) s) (leaves_unchanged (meaning_of old) (meaning_of read) (OpensTo (meaning_of old) s) (opens s served) reads.goes)
+      (weaker (meaning_of read) (meaning_of ended) (OpensTo (meaning_of read) s) (OpensTo (meaning_of old) s) (told.goes_on s.tree.descriptors s (serves s served)).leaves
+      (λ c here. opens_same (meaning_of old) (meaning_of read) s c reads.same.sectors here))
+
+  ended_log : {r : Result (Unit {0}) PointError} → Finishes read ended r → ended.log ≡ old.log
+  ended_log told = ap (λ (k : Parts). k.log) told.parts ∙ log
+
+  pub ends : {u : Unit {0}} → Finishes read ended (Ok u) → Ends old ended
+  ends {u} told = record {
+    counted = counted_after (meaning_of old) (meaning_of read) (meaning_of ended) no_call (all_read (meaning_of old) (meaning_of read) reads counted)
+        (all_written IsNotWritten (meaning_of read) (meaning_of ended) u told.writes);
+    unlogged = logged_twice (meaning_of old) (meaning_of read) (meaning_of ended) (nothing_logged (meaning_of old) (meaning_of read) reads.goes) told.unlogged;
+    log = ended_log told;
+    serves = λ s served. (told.goes_on s.tree.descriptors s (serves s served)).stays;
+    leaves = ended_leaves told;
+  }
+
+  -- it wasn't, and so nothing else was done
+  pub not_ended : (P : State → Type 0) (c : Command) (e : PointError) → e ≡ point.NotWritten → Finishes read ended (Err e)
+      → ((s : State) → ServesState old s → (reply : Reply) × (after : State) × (need : Need) × WouldCall s c reply after need) → Settles old ended P c (Err e)
+  not_ended P c e why told would =
+      let same = ended_log told in
+      not_settled old ended (meaning_of read) P c (all_read (meaning_of old) (meaning_of read) reads counted) (nothing_logged (meaning_of old) (meaning_of read) reads.goes) told.unlogged e
+      (subst (λ (x : PointError). Counted (meaning_of read) (meaning_of ended) (point_error_failed x)) (sym why) (not_written IsNotWritten (meaning_of read) (meaning_of ended) e told.writes why))
+      (same_age old.log.epoch ended.log.epoch (ap (λ (l : LogEnd). l.epoch) same), ap (λ (l : LogEnd). l.is_stopped) same)
+      (λ s served refused. absurd (subst IsRefused why refused))
+      (λ s served may is.
+      let one = would s served in
+      record {
+        reply = one.0;
+        after = one.1;
+        need = one.2;
+        step = one.3;
+        leaves = weaker (meaning_of old) (meaning_of ended) (OpensTo (meaning_of old) s) (λ c. OpensTo (meaning_of old) s c ⊎ OpensTo (meaning_of old) one.1 c) (ended_leaves told s served) (λ c here. inl here);
+      })
+      (λ s served may is. cc) (λ s served is. cc) (λ s served is. cc)
 
 -- ---- the tests of `snap take`
 
@@ -257,11 +325,10 @@ can_take r disk other name t root same may low =
       order = may.order;
     })
 
-pub can_delete : (r : Root) (disk other : Blocks) (name : Name) (pairs : List (Name × Tree)) (f : FoundSnapshot) → disk ≡ other → FindsSnapshot r disk name pairs (Some f) → (1 ≤ f.slot) × (f.slot ≤ SNAPSHOT_SLOTS)
-    → CanDelete r (whole other r) f.slot name
-can_delete r disk other name pairs f same finds number =
-    subst (λ (d : Blocks). CanDelete r (whole d r) f.slot name) same
-    (record { number = record { first = number.0; last = number.1 }; snapshot = snapshot_found name f; has = finds.0; named = refl })
+pub can_delete : (r : Root) (disk : Blocks) (name : Name) (pairs : List (Name × Tree)) (f : FoundSnapshot) → FindsSnapshot r disk name pairs (Some f) → (1 ≤ f.slot) × (f.slot ≤ SNAPSHOT_SLOTS)
+    → CanDelete r (whole disk r) f.slot name
+can_delete r disk name pairs f finds number =
+    record { number = record { first = number.0; last = number.1 }; snapshot = snapshot_found name f; has = finds.0; named = refl }
 
 module _ (s : State) (name : Name) where
   abbrev deleted_done : Step
@@ -289,6 +356,15 @@ take_step {S} {G} f s forgets name served held passed =
 -- the state without the snapshot of this name
 abbrev pub without : {S : Type 0} {G : Ghosts S} (f : System S G) (s : State) (name : Name) → ServesState f s → State
 without f s name served = with_snapshots (filter (λ pair. not (bytes_eq pair.0 name)) served.snapshots) s
+
+-- what was found stands behind the end of a point
+pub found_still : {S : Type 0} {G : Ghosts S} (f g : System S G) (s : State) (name : Name) (found : FoundSnapshot) → g.root ≡ f.root → (disk : Blocks) → disk ≡ blocks_of (disk_of g)
+    → (served : ServesState f s) (there : ServesState g s) → FindsSnapshot f.root disk name served.snapshots (Some found) → FindsSnapshot g.root (blocks_of (disk_of g)) name there.snapshots (Some found)
+found_still {S} {G} f g s name found root disk is served there finds =
+    let pairs = sym (snapshots_of {G = G} f s served) ∙ snapshots_of {G = G} g s there in
+    subst (λ (r : Root). FindsSnapshot r (blocks_of (disk_of g)) name there.snapshots (Some found)) (sym root)
+    (subst (λ (d : Blocks). FindsSnapshot f.root d name there.snapshots (Some found)) is
+    (subst (λ (p : List (Name × Tree)). FindsSnapshot f.root disk name p (Some found)) pairs finds))
 
 pub delete_step : {S : Type 0} {G : Ghosts S} (f : System S G) (s : State) (name : Name) → (served : ServesState f s) → (pair : Name × Tree) → named name served.snapshots ≡ Some pair
     → deletes s name Done (without {G = G} f s name served) nothing

@@ -15,13 +15,13 @@ use Rattle.model.specs.declared.reply.Reply.{Reply}
 use Rattle.model.specs.declared.reply.Reply.TheVariants.{Refused, Snaps}
 use Rattle.calls.specs.Seeing.{ReadingForgets}
 use Rattle.station.specs.declared.station.Station.{Ghosts}
-use Rattle.buffers.specs.Disks.{ReadsOn, ShowsDisk}
-use Rattle.buffers.specs.declared.cache.Buffers.{Buffers}
+use Rattle.overlay.specs.Overlays.{ReadsOver, ShowsOver}
+use Rattle.overlay.specs.declared.overlay.Overlay.{Overlay}
 use Rattle.system.specs.Serving.{ServesState, TellsNoFault}
 use Rattle.system.specs.Systems.{meaning_of}
 use Rattle.system.specs.declared.system.System.{System}
 use Rattle.system.proofs.LookedLaws.{ServesOver}
-use Rattle.system.proofs.SystemLaws.{read_on}
+use Rattle.system.proofs.SystemLaws.{read_into}
 
 abbrev pub closed : ℕ → Option Description
 closed d = None
@@ -49,10 +49,11 @@ module _ (s : State) (name : Name) (c : PathCall) where
       (subst (λ (b : Bool). viewed b (Some pair) reply) (sym reading) (told, refl))
 
 -- a system of which blocks were read serves on
-abbrev pub stays_read : {S : Type 0} {G : Ghosts S} (f : System S G) (blocks : Buffers S) (s : State) → ReadsOn (meaning_of f) (G.meaning blocks.station)
-    → ((disk : ℕ → List ℕ) → ShowsDisk (meaning_of f) f.blocks.kept disk → ShowsDisk (G.meaning blocks.station) blocks.kept disk) → ServesState f s → ServesOver f blocks f.inodes s
+abbrev pub stays_read : {S : Type 0} {G : Ghosts S} (f : System S G) (blocks : Overlay S G) (s : State) → ReadsOver (meaning_of f) (G.meaning blocks.buffers.station) f.blocks.laid blocks.laid
+    → ((disk : ℕ → List ℕ) → ShowsOver (meaning_of f) f.blocks.buffers.kept f.blocks.laid disk → ShowsOver (G.meaning blocks.buffers.station) blocks.buffers.kept blocks.laid disk) → ServesState f s
+    → ServesOver f blocks f.inodes s
 stays_read {S} {G} f blocks s reads shows served =
-    read_on served (G.meaning blocks.station) blocks.kept f.map reads shows (λ b. refl)
+    read_into served (G.meaning blocks.buffers.station) blocks.buffers.kept blocks.laid f.inodes f.map reads shows (λ v over. over) refl (λ n k least. least) (λ b. refl) (λ coming b. refl)
 
 -- the snapshots of the state that a system serves
 pub snapshots_of : {S : Type 0} {G : Ghosts S} (f : System S G) (s : State) → (served : ServesState f s) → s.snapshots ≡ served.snapshots

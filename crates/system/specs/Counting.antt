@@ -42,12 +42,18 @@ call_error_failed had_stopped call.NotRead = a_read
 call_error_failed had_stopped call.Damaged = perhaps_reads
 call_error_failed had_stopped call.NoRoom = no_call
 call_error_failed had_stopped call.LogFull = no_call
+call_error_failed had_stopped call.StepDue = no_call
 call_error_failed had_stopped call.NotWritten = if had_stopped then perhaps_any else a_write
 
 -- and its answer: where there is one, nothing failed
 abbrev pub call_failed : {T : Type 0} → Bool → Result T CallError → Failed
 call_failed had_stopped (Ok answer) = no_call
 call_failed had_stopped (Err error) = call_error_failed had_stopped error
+
+-- the same of what a plan may have come before that was given up, perhaps for a failed read
+abbrev pub beside_reads : Failed → Failed
+beside_reads no_call = perhaps_reads
+beside_reads why = why
 
 -- what an error of a consistency point tells
 abbrev pub point_error_failed : PointError → Failed

@@ -3,6 +3,8 @@ pub mod Counting
 pub mod Slots
 pub mod Images
 pub mod Memory
+pub mod Plans
+pub mod UnderWay
 pub mod Systems
 pub mod Points
 pub mod Laws
@@ -16,3 +18,4 @@ pub mod Changing
 pub mod Answering
 pub mod OpenFiles
 pub mod Settling
+pub mod Slicing

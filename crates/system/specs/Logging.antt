@@ -17,7 +17,7 @@ use Rattle.inofile.specs.Volumes.{IsVolumeOf}
 use Rattle.inofile.specs.declared.inode_file.InodeFile.{InodeFile}
 use Rattle.images.specs.Roots.{whole}
 use Rattle.loading.specs.Images.{inodes_of}
-use Rattle.system.specs.Systems.{IsServingWith, meaning_of, system_parts}
+use Rattle.system.specs.Systems.{IsServingWith, disk_of, meaning_of, system_parts}
 use Rattle.system.specs.declared.system.System.{System}
 
 -- a record applies to a volume of so many inodes, and leads to one that these descriptors fit once the
@@ -28,16 +28,16 @@ pub record Advances (inodes : ℕ) (running : Volume) (table : ℕ → Option De
   pub applies : Applies inodes running change
   pub mounted : IsMounted (swept table (applied change running)) table
 
--- once memory stands for a volume, over the disk that a system read, and needs no more than is pledged, and the open files fit it, the
+-- once memory stands for a volume, over the disk of a system, and needs no more than is pledged, and the open files fit it, the
 -- system serves a state by it, with these records beside the root, which holds the first volume
 abbrev pub WouldServe : {S : Type 0} {G : Ghosts S} → System S G → System S G → Volume → Volume
     → List Change → (ℕ → Option Description) → State → Type 0
 WouldServe old new first running changes table s =
-    let disk = blocks_of (meaning_of old).seen.disk in
+    let disk = blocks_of (disk_of old) in
     let settled = inodes_of (whole disk old.root).active in
     (inodes : InodeFile) (files : Descriptors)
     → IsVolumeOf old.root.geometry.blocks disk settled inodes running
-    → memory_room first inodes running ≤ new.pledged
+    → memory_room first inodes running ≤ new.pledged_then
     → table ≡ table_of files → FitsVolume files running
     → IsServingWith (meaning_of new) (record (system_parts new) { inodes = inodes; files = files }) table s
     running changes
@@ -45,5 +45,5 @@ WouldServe old new first running changes table s =
 -- put in force on a system with this running volume, a prepared change does what the record says
 abbrev pub DoesOver : {S : Type 0} {G : Ghosts S} → System S G → Volume → Prepared → Change → Type 0
 DoesOver f running prepared change =
-    let disk = blocks_of (meaning_of f).seen.disk in
+    let disk = blocks_of (disk_of f) in
     Does disk (inodes_of (whole disk f.root).active) f.inodes running prepared change

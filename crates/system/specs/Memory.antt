@@ -19,10 +19,12 @@ IsClean map = (b : ℕ) → entry_at map.parts.items b ≡ settled_at map.parts.
 abbrev pub HasEntries : HeldTree → BlockMap → Type 0
 HasEntries t map = (b : ℕ) → settled_at map.parts.items b ≡ entry t b
 
--- The inodes in memory stand for the running volume, over the tree of the root, and the block map is that tree's.
-pub record IsInMemory (disk : Blocks) (root : Root) (inodes : InodeFile) (map : BlockMap)
-    (running : Volume) : Type 0 where
+-- and so will be those that it is changed to
+abbrev pub HasEntriesToCome : HeldTree → BlockMap → Type 0
+HasEntriesToCome t map = (b : ℕ) → entry_at map.parts.items b ≡ entry t b
+
+-- The inodes in memory stand for the running volume, over the tree of a root.
+pub record IsInMemory (disk : Blocks) (root : Root) (inodes : InodeFile) (running : Volume) : Type 0 where
   pub stands : IsVolumeOf root.geometry.blocks disk (inodes_of (whole disk root).active) inodes
       running
   pub volume : IsVolume root.geometry.inodes running
-  pub entries : HasEntries (whole disk root).active map

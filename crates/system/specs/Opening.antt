@@ -17,7 +17,7 @@ use Rattle.oplog.specs.LogEnd.{LogEnd}
 use Rattle.oplog.specs.SavedLog.{StandsBehind, TellsLog}
 use Rattle.loading.specs.Slots.{FitsStation, IsNewestAt}
 use Rattle.replay.specs.Volumes.{bodies_of}
-use Rattle.system.specs.Memory.{IsClean, IsInMemory}
+use Rattle.system.specs.Memory.{HasEntries, IsClean, IsInMemory}
 use Rattle.system.specs.declared.opening.FoundImages.{FoundImages}
 use Rattle.system.specs.declared.opening.Mounted.{Mounted}
 
@@ -73,6 +73,7 @@ pub record HoldsRecords (disk : Blocks) (r : Root) (nvram : List ℕ) (first las
 pub record HasImage (disk : Blocks) (r : Root) (nvram : List ℕ) (first last : Volume)
     (changes : List Change) (p : Mounted) : Type 0 where
   pub log : StandsBehind p.log r.generation nvram (bodies_of changes)
-  pub memory : IsInMemory disk r p.inodes p.map (without_nameless last)
+  pub memory : IsInMemory disk r p.inodes (without_nameless last)
+  pub entries : HasEntries (whole disk r).active p.map
   pub pledges : p.pledged ≡ pledged_for r.geometry.inodes first changes
   pub stored : memory_room first p.inodes (without_nameless last) ≤ p.pledged

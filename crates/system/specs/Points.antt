@@ -1,21 +1,13 @@
 -- What is planned of a consistency point for a system.
-use Rattle.std.specs.Prelude.{ℕ, ◌≡◌, ◌⊎◌, ◌+◌, ◌*◌, ◌≤◌, ◌^◌, List, Option, Result, OnOk, IfErr, IsErrOf, MatchResult}
+use Rattle.std.specs.Prelude.{ℕ, ◌≡◌, ◌⊎◌, ◌+◌, ◌≤◌, ◌^◌, List, Option, Result, OnOk, IfErr, IsErrOf, MatchResult, None}
 use Rattle.station.specs.Images.{Unchanged}
 use Rattle.station.specs.Moments.{Goes, LeavesOnly}
 use Rattle.station.specs.declared.station.Station.{Ghosts}
-use Rattle.layout.specs.Root.{root_bytes}
-use Rattle.layout.specs.declared.root.Root.{Root}
-use Rattle.model.specs.Records.{count_nameless}
-use Rattle.model.specs.Room.{fixed_of}
 use Rattle.model.specs.Volumes.{Volume}
-use Rattle.images.specs.Cuts.{IsPointWith, LeavesFree, Write}
-use Rattle.images.specs.Room.{free_under}
 use Rattle.images.specs.Roots.{whole}
 use Rattle.images.specs.SnapshotSteps.{SnapshotStep, CanStep, kept_after}
 use Rattle.inofile.specs.Inodes.{IsChanged}
 use Rattle.oplog.specs.declared.log.End.TheVariants.{Unopened}
-use Rattle.conspoint.specs.Plans.{Planned, FitsDisk}
-use Rattle.conspoint.specs.Writes.{writes_of}
 use Rattle.conspoint.specs.declared.error.PlanError.TheVariants.{Damaged, NoSpace}
 use Rattle.planning.specs.Changes.{IsStepOf}
 use Rattle.planning.specs.declared.change.SnapshotChange.{SnapshotChange}
@@ -28,39 +20,20 @@ use Rattle.system.specs.Counting.{Counted, LogsNothing, point_failed}
 use Rattle.system.specs.Errors.{IsRefused}
 use Rattle.system.specs.Images.{OpensTo}
 use Rattle.system.specs.Room.{HasRoomToTake}
-use Rattle.system.specs.Slots.{other_slot}
-use Rattle.system.specs.Systems.{IsCovered, HasState, meaning_of}
+use Rattle.system.specs.Systems.{IsCovered, HasState, disk_of, meaning_of}
 use Rattle.system.specs.declared.error.PointError.{PointError}
-use Rattle.system.specs.declared.error.PointError.TheVariants.{NoGeneration, NotPlanned}
+use Rattle.system.specs.declared.error.PointError.TheVariants.{NoGeneration, NotPlanned, NotWritten}
 use Rattle.system.specs.declared.system.System.{System}
-
--- A new root that holds this volume leaves as many blocks free as the next point may store, on each disk that has what is written.
-pub record LeavesRoom (disk : ℕ → List ℕ) (root : Root) (running : Volume) (writes : List Write) (new : Root) : Type 0 where
-  pub spent : ℕ
-  pub leaves : LeavesFree spent root (blocks_of disk) writes new
-  pub enough : 4 * count_nameless root.geometry.inodes running + fixed_of root.geometry.blocks + spent
-      ≤ free_under (whole (blocks_of disk) root).active root.geometry.blocks
-
--- A point is planned over a disk with this root in this slot, and none of it is written: its root covers this epoch, comes into the
--- other slot, and leads to the running volume; and this is done with the snapshots. It leaves as many blocks free as the next one may
--- store.
-pub record IsPlannedOver (step : SnapshotStep) (disk : ℕ → List ℕ) (root : Root) (slot epoch : ℕ) (p : Planned) (new : Root) (running : Volume) : Type 0 where
-  pub bytes : p.root ≡ root_bytes new
-  pub other : p.slot ≡ other_slot slot
-  pub covers : new.generation ≡ epoch
-  pub fits : FitsDisk (8 * root.geometry.blocks) p
-  pub point : IsPointWith step root disk (writes_of p.blocks) p.slot new running
-  pub room : LeavesRoom disk root running (writes_of p.blocks) new
 
 -- The disk has room for a point that does this with the snapshots: always, but where one is taken only if it has room for that.
 abbrev pub HasRoomToStep : {S : Type 0} {G : Ghosts S} → SnapshotChange → System S G → Type 0
 HasRoomToStep (Take slot order name) f = HasRoomToTake f
 HasRoomToStep change f = Unit {0}
 
--- what is asked of the snapshots is this step, and the disk that a system reads allows it
+-- what is asked of the snapshots is this step, and the disk of a system allows it
 pub record IsStepFor {S : Type 0} {G : Ghosts S} (change : SnapshotChange) (f : System S G) (step : SnapshotStep) : Type 0 where
   pub is : IsStepOf change f.root step
-  pub can : CanStep step f.root (whole (blocks_of (meaning_of f).seen.disk) f.root)
+  pub can : CanStep step f.root (whole (blocks_of (disk_of f)) f.root)
 
 -- the state after a step, over a root that holds this volume and these snapshots
 abbrev pub stepped : SnapshotStep → Volume → List (Name × Tree) → State → State
@@ -90,7 +63,9 @@ pub record MakesPoint {S : Type 0} {G : Ghosts S}
   pub kept : IfErr result (λ e. IsRefused e → Goes Unchanged (meaning_of old) (meaning_of new))
   pub unlogged : LogsNothing (meaning_of old) (meaning_of new)
   pub generation : OnOk result (new.root.generation ≡ old.log.epoch)
-  pub log : MatchResult result (λ _. new.log ≡ record old.log { epoch = old.log.epoch + 1; end = Unopened }) (λ _. new.log ≡ old.log)
+  pub log : MatchResult result (λ _. new.log ≡ record old.log { epoch = old.log.epoch + 1; end = Unopened })
+      (λ e. (IsRefused e × (new.log ≡ old.log)) ⊎ ((e ≡ NotWritten) × (new.log ≡ record old.log { epoch = old.log.epoch + 1; end = Unopened })))
+  pub rests : new.blocks.laid ≡ None
   pub unchanged : OnOk result ((n : ℕ) → IsChanged new.inodes n → ⊥)
   pub roomy : (table : ℕ → Option Description) (s : State) → HasState old table s → IsRoomy old → IsErrOf result (NotPlanned NoSpace) → ⊥
   pub damaged : (table : ℕ → Option Description) (s : State) → HasState old table s → IsErrOf result (NotPlanned Damaged) → ⊥

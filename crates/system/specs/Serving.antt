@@ -1,5 +1,5 @@
 -- What calls do to a system.
-use Rattle.std.specs.Prelude.{◌≡◌, ◌⊎◌, ◌+◌, ◌≢◌, ◌∷◌, ◌++◌, List, [], IsFalse, Result, Ok, IfOk, IfErr, IsErrOf, MatchResult}
+use Rattle.std.specs.Prelude.{◌≡◌, ◌⊎◌, ◌+◌, ◌/◌, ◌<◌, ◌≢◌, Bool, ◌∷◌, ◌++◌, List, [], IsFalse, IsTrue, Result, Ok, IfOk, IfErr, IsErrOf, MatchResult, None}
 use Rattle.station.specs.Images.{Unchanged}
 use Rattle.station.specs.Moments.{Meaning, Goes, LeavesOnly}
 use Rattle.station.specs.declared.station.Station.{Ghosts}
@@ -23,7 +23,7 @@ use Rattle.system.specs.Images.{OpensTo}
 use Rattle.system.specs.Room.{HasRoomForNeed, HasRoomForWork}
 use Rattle.system.specs.Systems.{HasState, IsCovered, meaning_of}
 use Rattle.system.specs.declared.error.CallError.{CallError}
-use Rattle.system.specs.declared.error.CallError.TheVariants.{Damaged, LogFull, NoRoom, NotWritten}
+use Rattle.system.specs.declared.error.CallError.TheVariants.{Damaged, LogFull, NoRoom, NotWritten, StepDue}
 use Rattle.system.specs.declared.system.System.{System}
 
 -- a system serves a state, with the descriptors that this has
@@ -84,7 +84,7 @@ pub record IsCalled {S : Type 0} {G : Ghosts S} (old new : System S G) (s : Stat
   pub step : WouldCall s call reply after need
   pub room : HasRoomForNeed old need
   pub serves : ServesState new after
-  pub logs : HasLogged need served.running served.replayed.changes serves.replayed.changes
+  pub logs : HasLogged need served.running served.lasts.replayed.changes serves.lasts.replayed.changes
   pub leaves : LeavesEither (meaning_of old) (meaning_of new) s after
 
 -- A call on a system at a state was cut short: a cut leaves that state, or one that the call would leave.
@@ -109,21 +109,43 @@ pub record HasEmptyLog {S : Type 0} {G : Ghosts S} (f : System S G) : Type 0 whe
   pub epoch : f.log.epoch ≡ f.root.generation + 1
   pub end : next_of f.log.end ≡ FIRST_GATE
 
--- a system has nothing that its root doesn't hold: no record of its own in the log, and no object in memory that is changed
+-- a system has nothing that its newest root doesn't hold: no point under way, no record of its own in the log, and no object in memory
+-- that is changed
 pub record HasNothingNew {S : Type 0} {G : Ghosts S} (f : System S G) : Type 0 where
+  pub rests : f.blocks.laid ≡ None
   pub log : HasEmptyLog f
   pub settled : HasNoChange f.inodes
 
 -- a sure call may be done, and calls no device
 pub record IsSureOn {S : Type 0} {G : Ghosts S} (old new : System S G) (s : State) (call : Command) : Type 0 where
   pub sure : IsSure s call
-  pub still : new.blocks.station ≡ old.blocks.station
+  pub still : new.blocks.buffers.station ≡ old.blocks.buffers.station
 
--- What a call does to a system: all that is promised of it. A sure one is answered, and a refused one logs nothing.
-pub record Handles {S : Type 0} {G : Ghosts S} (old new : System S G) (call : Command)
+-- a point is to be planned: none is under way, the log is in the first epoch over the root, and less than a sixteenth of its half is left
+pub record IsPlanDue {S : Type 0} {G : Ghosts S} (f : System S G) : Type 0 where
+  pub none : f.blocks.laid ≡ None
+  pub epoch : f.log.epoch ≡ f.root.generation + 1
+  pub late : f.log.half < next_of f.log.end + f.log.half / 16
+
+-- a record waits for a step: a point is under way, or is to be planned
+abbrev pub IsStepDue : {S : Type 0} {G : Ghosts S} → System S G → Type 0
+IsStepDue f = (f.blocks.laid ≢ None) ⊎ IsPlanDue f
+
+-- A call that would log a record comes to this where a step is due before that, and is asked for: nothing is done but looking.
+pub record AsksForStep {S : Type 0} {G : Ghosts S} (steps : Bool) (old new : System S G) (call : Command) : Type 0 where
+  pub asked : IsTrue steps
+  pub due : IsStepDue new
+  pub log : new.log ≡ old.log
+  pub root : new.root ≡ old.root
+  pub changes : (s : State) → ServesState old s → WouldChange s call
+
+-- What a call does to a system with no step of a consistency point, where it may ask for one or not. A sure one is answered, and a refused one logs nothing.
+pub record Handles {S : Type 0} {G : Ghosts S} (steps : Bool) (old new : System S G) (call : Command)
     (result : Result Reply CallError) : Type 0 where
   pub counted : Counted (meaning_of old) (meaning_of new) (call_failed old.log.is_stopped result)
   pub no_fault : IfOk result TellsNoFault
+  pub asks : IsErrOf result StepDue → AsksForStep steps old new call
+  pub laid : new.blocks.laid ≡ old.blocks.laid
   pub epoch : new.log.epoch ≡ old.log.epoch
   pub runs : IsFalse old.log.is_stopped → MatchResult result
       (λ _. IsFalse new.log.is_stopped) (λ e. e ≢ NotWritten → IsFalse new.log.is_stopped)

@@ -1,7 +1,7 @@
 -- Commands that end behind a consistency point, and the tests that come before one.
-use Rattle.std.specs.Prelude.{◌≡◌, ◌≢◌, ◌≤◌, ◌^◌, IfErr, IfOk, IsErrOf, MatchResult, Option, Some, None, Result}
+use Rattle.std.specs.Prelude.{◌≡◌, ◌≢◌, OnOk, ◌≤◌, ◌^◌, IfErr, IfOk, IsErrOf, MatchResult, Option, Some, None, Result}
 use Rattle.station.specs.Images.{Unchanged}
-use Rattle.station.specs.Moments.{Goes}
+use Rattle.station.specs.Moments.{Goes, LeavesOnly}
 use Rattle.station.specs.declared.station.Station.{Ghosts}
 use Rattle.model.specs.Paths.{Name}
 use Rattle.model.specs.Room.{Need, nothing}
@@ -15,10 +15,11 @@ use Rattle.buffers.specs.Disks.{ReadsOn}
 use Rattle.conspoint.specs.declared.error.PlanError.TheVariants as plan
 use Rattle.system.specs.Counting.{AgesBy, Counted, LogsNothing, call_failed, point_failed}
 use Rattle.system.specs.Errors.{IsRefused}
-use Rattle.system.specs.Serving.{IsBrokenOff, LeavesEither, ServesState, WouldCall, WouldChange}
+use Rattle.system.specs.Images.{OpensTo}
+use Rattle.system.specs.Serving.{HasEmptyLog, IsBrokenOff, LeavesEither, ServesState, WouldCall, WouldChange}
 use Rattle.system.specs.Systems.{IsCovered, meaning_of}
 use Rattle.system.specs.declared.error.CallError.{CallError}
-use Rattle.system.specs.declared.error.CallError.TheVariants.{Damaged, LogFull, NoRoom, NotWritten}
+use Rattle.system.specs.declared.error.CallError.TheVariants.{Damaged, LogFull, NoRoom, NotWritten, StepDue}
 use Rattle.system.specs.declared.error.PointError.{PointError}
 use Rattle.system.specs.declared.error.PointError.TheVariants as point
 use Rattle.system.specs.declared.system.System.{System}
@@ -28,7 +29,7 @@ pub record Glances {S : Type 0} {G : Ghosts S} {T : Type 0} (old new : System S 
   pub reads : ReadsOn (meaning_of old) (meaning_of new)
   pub counted : Counted (meaning_of old) (meaning_of new) (call_failed old.log.is_stopped result)
   pub log : new.log ≡ old.log
-  pub refuses : IfErr result (λ e. (e ≢ NoRoom) × (e ≢ LogFull) × (e ≢ NotWritten))
+  pub refuses : IfErr result (λ e. (e ≢ NoRoom) × (e ≢ LogFull) × (e ≢ NotWritten) × (e ≢ StepDue))
   pub serves : (s : State) → ServesState old s → ServesState new s
   pub damaged : (s : State) → ServesState old s → IsErrOf result Damaged → ⊥
 
@@ -58,10 +59,26 @@ pub record Settles {S : Type 0} {G : Ghosts S} (old new : System S G) (P : State
   pub unlogged : LogsNothing (meaning_of old) (meaning_of new)
   pub epoch : AgesBy 1 old.log.epoch new.log.epoch
   pub runs : new.log.is_stopped ≡ old.log.is_stopped
-  pub kept : IfErr result (λ e. IsRefused e → Goes Unchanged (meaning_of old) (meaning_of new))
-  pub serves : (s : State) → ServesState old s → IfErr result (λ e. IsRefused e → ServesState new s)
+  pub stays : (s : State) → ServesState old s → IfErr result (λ e. IsRefused e
+      → ServesState new s × LeavesOnly (meaning_of old) (meaning_of new) (OpensTo (meaning_of old) s))
   pub done : (s : State) → ServesState old s → P s → IfOk result (λ r. MatchResult r (λ _. IsSettled old new s c) (IsRefusedBy old new s c))
   pub broken : (s : State) → ServesState old s → P s → IsErrOf result point.NotWritten → IsBrokenOff old new s c
   pub roomy : (s : State) → ServesState old s → P s → IsErrOf result (point.NotPlanned plan.NoSpace) → ⊥
+  pub damaged : (s : State) → ServesState old s → IsErrOf result (point.NotPlanned plan.Damaged) → ⊥
+  pub last : (s : State) → ServesState old s → IsErrOf result point.NoGeneration → 2 ^ 62 ≤ old.log.epoch
+
+-- What bringing all under the newest root does to a system, by one consistency point at most beside the one under way: its log is empty
+-- then, and what it serves stays, also at a cut at any moment. Nothing is logged.
+pub record MakesCovered {S : Type 0} {G : Ghosts S} (old new : System S G) (result : Result (Unit {0}) PointError) : Type 0 where
+  pub counted : Counted (meaning_of old) (meaning_of new) (point_failed result)
+  pub unlogged : LogsNothing (meaning_of old) (meaning_of new)
+  pub epoch : AgesBy 1 old.log.epoch new.log.epoch
+  pub runs : new.log.is_stopped ≡ old.log.is_stopped
+  pub leaves : (s : State) → ServesState old s → LeavesOnly (meaning_of old) (meaning_of new) (OpensTo (meaning_of old) s)
+  pub rests : OnOk result (new.blocks.laid ≡ None)
+  pub empty : OnOk result (HasEmptyLog new)
+  pub covered : (s : State) → ServesState old s → OnOk result (IsCovered new s.tree.descriptors s)
+  pub refused : (s : State) → ServesState old s → IfErr result (λ e. IsRefused e → ServesState new s)
+  pub roomy : (s : State) → ServesState old s → IsErrOf result (point.NotPlanned plan.NoSpace) → ⊥
   pub damaged : (s : State) → ServesState old s → IsErrOf result (point.NotPlanned plan.Damaged) → ⊥
   pub last : (s : State) → ServesState old s → IsErrOf result point.NoGeneration → 2 ^ 62 ≤ old.log.epoch

@@ -1,84 +1,121 @@
 -- What a mounted system stands for.
-use Rattle.std.specs.Prelude.{ℕ, ◌≡◌, ◌≤◌, List, Option, IsFalse}
+use Rattle.std.specs.Prelude.{ℕ, ◌≡◌, ◌⊎◌, ◌≤◌, List, Option, Some, None, IsFalse}
 use Rattle.std.specs.BTreeMap.{BTreeMap}
-use Rattle.station.specs.Moments.{Meaning, EachCut}
+use Rattle.station.specs.Moments.{EachCut, Meaning}
 use Rattle.station.specs.declared.station.Station.{Ghosts}
 use Rattle.layout.specs.Places.{blocks_of}
 use Rattle.layout.specs.declared.root.Root.{Root}
 use Rattle.model.specs.Paths.{Name}
-use Rattle.model.specs.Records.{Change, pledged_for}
+use Rattle.model.specs.Records.{Change}
 use Rattle.model.specs.States.{State, going}
 use Rattle.model.specs.Trees.{Tree, Description}
 use Rattle.model.specs.Volumes.{Volume, IsMounted, tree_of}
-use Rattle.buffers.specs.Disks.{ShowsDisk}
 use Rattle.buffers.specs.declared.block.Block.{Block}
 use Rattle.blockmap.specs.declared.map.BlockMap.{BlockMap}
-use Rattle.images.specs.Roots.{whole}
-use Rattle.images.specs.States.{HasReserve}
 use Rattle.inofile.specs.Room.{memory_room}
 use Rattle.inofile.specs.declared.inode_file.InodeFile.{InodeFile}
 use Rattle.descriptors.specs.Fits.{FitsVolume}
 use Rattle.descriptors.specs.Tables.{table_of}
 use Rattle.descriptors.specs.declared.table.Descriptors.{Descriptors}
-use Rattle.oplog.specs.LogEnd.{LogEnd, Bodies, no_bodies}
-use Rattle.system.specs.Images.{IsUnder, IsLeft, IsReplayed}
-use Rattle.system.specs.Memory.{IsInMemory}
+use Rattle.oplog.specs.LogEnd.{LogEnd, no_bodies}
+use Rattle.images.specs.Roots.{whole}
+use Rattle.conspoint.specs.Finished.{disk_after}
+use Rattle.conspoint.specs.Plans.{IsPlanned}
+use Rattle.overlay.specs.Overlays.{ShowsOver, planned_disk}
+use Rattle.overlay.specs.declared.laid.Laid.{Laid}
+use Rattle.system.specs.Images.{Base, IsLeft, IsUnder, Lasts}
+use Rattle.system.specs.Memory.{HasEntries, HasEntriesToCome, IsInMemory}
+use Rattle.system.specs.UnderWay.{IsUnderWay}
 use Rattle.system.specs.declared.system.System.{System}
 
 -- the meaning of a system's station
 abbrev pub meaning_of : {S : Type 0} {G : Ghosts S} → System S G → Meaning
-meaning_of {S} {G} f = G.meaning f.blocks.station
+meaning_of {S} {G} f = G.meaning f.blocks.buffers.station
 
 -- the state that a system with this running volume shows, with these snapshots and open files
 abbrev pub state_with : ℕ → Volume → (ℕ → Option Description) → List (Name × Tree) → State
 state_with inodes running table snapshots =
     record { inodes = inodes; tree = tree_of running table; snapshots = snapshots; mark = going }
 
--- What a system has beside its station: blocks that it keeps clean in memory, its newest root with the slot of that, objects and the
--- block map in memory, the log's end, what is pledged, and the open files.
+-- What a system has beside its station: blocks that it keeps clean in memory, the consistency point that is under way, the root that
+-- memory stands on with the slot of that, objects and the block map in memory, the log's end, what is pledged and what of it stays so
+-- behind the point, and the open files.
 pub record Parts : Type 0 where
   pub kept : BTreeMap ℕ Block
+  pub laid : Option Laid
   pub root : Root
   pub slot : ℕ
   pub inodes : InodeFile
   pub map : BlockMap
   pub log : LogEnd
   pub pledged : ℕ
+  pub pledged_then : ℕ
   pub files : Descriptors
 
 -- those of a system
 abbrev pub system_parts : {S : Type 0} {G : Ghosts S} → System S G → Parts
 system_parts f = record {
-  kept = f.blocks.kept;
+  kept = f.blocks.buffers.kept;
+  laid = f.blocks.laid;
   root = f.root;
   slot = f.slot;
   inodes = f.inodes;
   map = f.map;
   log = f.log;
   pledged = f.pledged;
+  pledged_then = f.pledged_then;
   files = f.files;
 }
 
--- What a system has serves a state, over an honest station: the disk that it reads holds a volume under the newest root, the records
--- that this root doesn't cover lead to the running volume, which memory stands for and which is the state's tree; and
--- whatever a cut may leave has that disk and those records. What these may cost a consistency point is pledged: memory needs no more, and
--- as many blocks are free, with those that every point stores. The open files are the state's, each with its size and its links.
+-- the disk that memory stands on, where a station reads this one
+abbrev pub disk_over : Parts → (ℕ → List ℕ) → ℕ → List ℕ
+disk_over k seen = planned_disk k.laid seen
+
+-- that of a system
+abbrev pub disk_of : {S : Type 0} {G : Ghosts S} → System S G → ℕ → List ℕ
+disk_of f = disk_over (system_parts f) (meaning_of f).seen.disk
+
+-- No consistency point is under way: what is settled is what memory stands on, and all that is pledged stays so.
+pub record Rests (laid : Option Laid) (over settled : Base) (pledged pledged_then : ℕ) : Type 0 where
+  pub none : laid ≡ None
+  pub base : settled ≡ over
+  pub all : pledged_then ≡ pledged
+
+-- The consistency point under way has this root, in this slot, and leads to this volume, and to these entries of the map.
+pub record IsComing (m : Meaning) (log : LogEnd) (laid : Option Laid) (root : Root) (slot : ℕ)
+    (first : Volume) (map : BlockMap) {settled : Base} {snapshots : List (Name × Tree)} {pledged : ℕ}
+    {running : Volume} (lasts : Lasts settled snapshots pledged running) (pledged_then : ℕ) : Type 0 where
+  pub point : Laid
+  pub is : laid ≡ Some point
+  pub way : IsUnderWay m log lasts
+      (record { plan = point.plan; root = root; volume = first; pledged = pledged_then })
+  pub sound : IsPlanned point.plan
+  pub place : slot ≡ point.plan.slot
+  pub to_come : HasEntriesToCome (whole (blocks_of (disk_after point.plan m.seen.disk)) root).active map
+
+-- What a system has serves a state, over an honest station. Memory stands for the running volume, which is the state's tree, over a
+-- disk that holds a volume under the newest root, and needs no more than is pledged; and whatever a cut may leave has the disk that is
+-- settled, and the records from there on: the same disk, or the one that a point under way leads on from. What the map has settled is
+-- that disk's. The open files are the state's, each with its size and its links.
 pub record IsServing (m : Meaning) (k : Parts) (table : ℕ → Option Description) (s : State) : Type 0 where
   pub honest : m.is_honest
-  pub shows : ShowsDisk m k.kept (blocks_of m.seen.disk)
+  pub shows : ShowsOver m k.kept k.laid (blocks_of (disk_over k m.seen.disk))
   pub first : Volume
   pub snapshots : List (Name × Tree)
-  pub under : IsUnder k.slot k.root first snapshots m.seen.disk
-  pub bodies : Bodies
-  pub left : EachCut m (IsLeft k.root k.log bodies m.seen.disk)
+  pub under : IsUnder k.slot k.root first snapshots (disk_over k m.seen.disk)
   pub running : Volume
   pub mounted : IsMounted running table
-  pub replayed : IsReplayed k.root.geometry.inodes bodies first running
-  pub memory : IsInMemory (blocks_of m.seen.disk) k.root k.inodes k.map running
+  pub memory : IsInMemory (blocks_of (disk_over k m.seen.disk)) k.root k.inodes running
+  pub settled : Base
+  pub lasts : Lasts settled snapshots k.pledged running
+  pub left : EachCut m (IsLeft settled.root k.log lasts.bodies settled.disk)
+  pub entries : HasEntries (whole (blocks_of settled.disk) settled.root).active k.map
+  pub bridge :
+      Rests k.laid (record { disk = m.seen.disk; root = k.root; volume = first }) settled k.pledged
+      k.pledged_then
+      ⊎ IsComing m k.log k.laid k.root k.slot first k.map lasts k.pledged_then
   pub goes : IsFalse k.log.is_stopped
-  pub pledges : k.pledged ≡ pledged_for k.root.geometry.inodes first replayed.changes
-  pub stored : memory_room first k.inodes running ≤ k.pledged
-  pub reserved : HasReserve k.root (whole (blocks_of m.seen.disk) k.root) first replayed.changes
+  pub stored : memory_room first k.inodes running ≤ k.pledged_then
   pub opened : table ≡ table_of k.files
   pub fits : FitsVolume k.files running
   pub state : s ≡ state_with k.root.geometry.inodes running table snapshots
@@ -93,16 +130,17 @@ pub record IsServingWith (m : Meaning) (k : Parts) (table : ℕ → Option Descr
     (running : Volume) (changes : List Change) : Type 0 where
   pub serves : IsServing m k table s
   pub volume : serves.running ≡ running
-  pub records : serves.replayed.changes ≡ changes
+  pub records : serves.lasts.replayed.changes ≡ changes
 
 abbrev pub ServesWith : {S : Type 0} {G : Ghosts S} → System S G → (ℕ → Option Description) → State
     → Volume → List Change → Type 0
 ServesWith f table s running changes =
     IsServingWith (meaning_of f) (system_parts f) table s running changes
 
--- a system is covered: its root holds the running volume, and no record stands that this root doesn't cover
+-- a system is covered: no point is under way, its root holds the running volume, and no record stands that this root doesn't cover
 pub record IsCovered {S : Type 0} {G : Ghosts S} (f : System S G) (table : ℕ → Option Description)
     (s : State) : Type 0 where
+  pub rests : f.blocks.laid ≡ None
   pub serves : HasState f table s
-  pub no_record : serves.bodies ≡ no_bodies
+  pub no_record : serves.lasts.bodies ≡ no_bodies
   pub held : serves.first ≡ serves.running

@@ -21,10 +21,13 @@ impl<S: Station> System<S> {
             → IsTrue result → IsCovered self.now table s }
         ensures all { (table : ℕ → Option Description) (s : State)
             → (serves : HasState self.now table s) → IsTrue result
-            → records.CoversAll serves.first serves.running serves.replayed.changes }
+            → records.CoversAll serves.settled.volume serves.running serves.lasts.replayed.changes }
     {
         new_roots_hold();
         unchanged_memory_is_settled();
+        if self.blocks.is_under_way() {
+            return false;
+        }
         self.has_empty_log() && self.inodes.is_settled()
     }
 

@@ -7,9 +7,10 @@ ghost use Rattle.model.specs.Trees.{Description};
 ghost use Rattle.system.specs.Images.{OpensTo};
 ghost use Rattle.system.specs.Laws.{CutLaws, RecordLaws, RootLaws};
 ghost use Rattle.system.specs.Systems.{HasState, meaning_of};
+ghost use Rattle.system.specs.UnderWay.{WayLaws};
 
 use crate::System;
-use conspoint::{cuts_are_those_of_images, written_disks_have_the_blocks};
+use conspoint::{cuts_are_those_of_images, finished_disks_are_one, written_disks_have_the_blocks};
 use images::{
     finished_points_hold, finished_points_open, free_blocks_are_no_matter,
     free_blocks_are_unneeded, lost_slots_open_as_before, needed_blocks_are_of_the_disk,
@@ -20,6 +21,7 @@ use model::{
     mounts_forget_open_files, records_keep_volumes, replays_end_same, replays_follow,
     sweeps_keep_volumes,
 };
+use oplog::roots_cover_the_older_epoch;
 use station::Station;
 
 /// Whatever a cut may leave of a system opens to the state that it serves. It does nothing.
@@ -53,6 +55,14 @@ pub(crate) fn new_roots_hold()
     volumes_are_readable();
     readable_inodes_are_settled();
     written_disks_have_the_blocks();
+}
+
+/// A point that is under way goes on from its root to the next. It does nothing.
+pub(crate) fn points_go_on()
+    ensures { WayLaws }
+{
+    roots_cover_the_older_epoch();
+    finished_disks_are_one();
 }
 
 /// A record that applies leads from volume to volume, and a replay follows. It does nothing.

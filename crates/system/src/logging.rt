@@ -1,6 +1,6 @@
 //! Records put into the log of a mounted system.
 
-ghost use Rattle.std.specs.Prelude.{◌≡◌, ◌≢◌, ◌⊎◌, ◌+◌, ◌∷◌, ◌++◌, [], ℕ, Option, OnOk, OnErr, IfErr, IsErrOf, IsFalse, length, true};
+ghost use Rattle.std.specs.Prelude.{◌≡◌, ◌≢◌, ◌⊎◌, ◌+◌, ◌∷◌, ◌++◌, [], ℕ, Option, OnOk, OnErr, IfErr, IsErrOf, IsFalse, IsTrue, length, true};
 ghost use Rattle.station.specs.Calls.{OnlyWrites};
 ghost use Rattle.station.specs.Moments.{LeavesOnly};
 ghost use Rattle.layout.specs.Record.{KeepsLimits, change_of};
@@ -16,7 +16,7 @@ ghost use Rattle.records.specs.Prepared.{IsReady};
 ghost use Rattle.system.specs.Logging.{Advances, DoesOver, WouldServe};
 ghost use Rattle.replay.specs.Costs.{KnowsFile};
 ghost use Rattle.system.specs.Room.{HasRoomForWork, HasRoomToLog};
-ghost use Rattle.system.specs.Serving.{LeavesEither};
+ghost use Rattle.system.specs.Serving.{IsStepDue, LeavesEither};
 ghost use Rattle.system.specs.Systems.{HasState, ServesWith, meaning_of, system_parts, state_with};
 
 use crate::laws::{cuts_open, records_lead_on, served_states_open};
@@ -46,11 +46,16 @@ impl<S: Station> System<S> {
             → self.new.log ≡ record self.old.log { is_stopped = true } }
         ensures end { OnOk result
             (self.new.log ≡ behind_record self.old.log (logged_body (change_of change.now))) }
-        ensures stays { (system_parts self.new
-            ≡ record (system_parts self.old) { log = self.new.log; pledged = self.new.pledged })
-            × OnErr result (self.new.pledged ≡ self.old.pledged) }
-        ensures pledges { (v : Volume) → OnOk result (self.new.pledged
-            ≡ self.old.pledged + cost (work_of v (change_of change.now))) }
+        ensures stays { (system_parts self.new ≡ record (system_parts self.old) {
+          log = self.new.log;
+          pledged = self.new.pledged;
+          pledged_then = self.new.pledged_then;
+        }) × OnErr result ((self.new.pledged ≡ self.old.pledged)
+            × (self.new.pledged_then ≡ self.old.pledged_then)) }
+        ensures pledges { (v : Volume) → OnOk result ((self.new.pledged
+            ≡ self.old.pledged + cost (work_of v (change_of change.now)))
+            × (self.new.pledged_then
+            ≡ self.old.pledged_then + cost (work_of v (change_of change.now)))) }
         ensures any_moment { (table : ℕ → Option Description) (s : State)
             → (serves : HasState self.old table s)
             → Advances self.old.root.geometry.inodes serves.running table (change_of change.now)
@@ -63,7 +68,7 @@ impl<S: Station> System<S> {
             → Advances self.old.root.geometry.inodes serves.running table (change_of change.now)
             → OnOk result (WouldServe self.old self.new serves.first
             (swept table (applied (change_of change.now) serves.running))
-            (serves.replayed.changes ++ change_of change.now ∷ []) table
+            (serves.lasts.replayed.changes ++ change_of change.now ∷ []) table
             (state_with self.old.root.geometry.inodes
             (swept table (applied (change_of change.now) serves.running)) table serves.snapshots)) }
     {
@@ -72,10 +77,11 @@ impl<S: Station> System<S> {
         let cost = cost_of(change, size_before(&self.inodes, change));
         match self
             .log
-            .append(self.alloc, &mut self.blocks.station, change)
+            .append(self.alloc, &mut self.blocks.buffers.station, change)
         {
             Ok(()) => {
                 self.pledged += cost;
+                self.pledged_then += cost;
                 Ok(())
             }
             Err(error) => Err(error),
@@ -85,7 +91,12 @@ impl<S: Station> System<S> {
     /// Logs the record of a prepared change, and puts the change in force. `LogFull` where the log is in its second epoch over the
     /// root, and a point has to come first, or where the record doesn't fit what is left of the half, and before that `NoRoom` where
     /// the disk has no room for it; these and `NoMemory` change nothing. After `NotWritten` the log has stopped.
-    pub(crate) fn log(&mut self, change: &Record, prepared: Prepared) -> Result<(), CallError>
+    pub(crate) fn log(
+        &mut self,
+        change: &Record,
+        prepared: Prepared,
+        steps: bool,
+    ) -> Result<(), CallError>
         requires fits { KeepsLimits (change_of change.now) }
         requires ready { IsReady self.old.inodes prepared }
         ensures writes { OnlyWrites
@@ -99,6 +110,9 @@ impl<S: Station> System<S> {
             (λ e. (e ≢ CallError.NotRead) × (e ≢ CallError.Damaged)) }
         ensures opened { (self.new.root ≡ self.old.root)
             × (table_of self.new.files ≡ table_of self.old.files) }
+        ensures laid { self.new.blocks.laid ≡ self.old.blocks.laid }
+        ensures due { IsErrOf result CallError.StepDue
+            → IsTrue steps × IsStepDue self.old × (self.new ≡ self.old) }
         ensures full { IsErrOf result CallError.LogFull
             → (self.old.log.epoch ≢ self.old.root.generation + 1)
             ⊎ (HasRoomInHalf self.old.log (length (logged_body (change_of change.now))) → ⊥) }
@@ -125,9 +139,12 @@ impl<S: Station> System<S> {
             → let after = swept table (applied (change_of change.now) serves.running) in
             OnOk result (ServesWith self.new table
             (state_with self.old.root.geometry.inodes after table serves.snapshots) after
-            (serves.replayed.changes ++ change_of change.now ∷ [])) }
+            (serves.lasts.replayed.changes ++ change_of change.now ∷ [])) }
     {
         served_states_open(self);
+        if steps && self.is_step_due() {
+            return Err(CallError::StepDue);
+        }
         if !self.has_room(change) {
             return Err(CallError::NoRoom);
         }

@@ -1,6 +1,6 @@
 //! Calls on descriptors, served on a mounted system.
 
-ghost use Rattle.std.specs.Prelude.{IsTrue};
+ghost use Rattle.std.specs.Prelude.{IsTrue, false};
 ghost use Rattle.system.specs.OpenFiles.{is_logging_call, is_looking_call, is_table_call};
 ghost use Rattle.system.specs.Serving.{Handles, IsOpenFileCall};
 
@@ -16,9 +16,13 @@ use station::Station;
 
 impl<S: Station> System<S> {
     /// Serves a call on descriptors.
-    pub(crate) fn serve_open_file(&mut self, call: &Command) -> Result<Reply, CallError>
+    pub(crate) fn serve_open_file(
+        &mut self,
+        call: &Command,
+        steps: bool,
+    ) -> Result<Reply, CallError>
         requires { IsOpenFileCall call.now }
-        ensures { Handles self.old self.new call.now result }
+        ensures { Handles steps self.old self.new call.now result }
     {
         match call {
             Command::Lseek { .. } => Ok(self.answer_at_once(call)),
@@ -27,14 +31,14 @@ impl<S: Station> System<S> {
             Command::Pread { .. } => self.look_at_open_file(call),
             Command::Fstat { .. } => self.look_at_open_file(call),
             Command::Close { fd } => self.close_file(*fd),
-            _ => self.change_open_file(call),
+            _ => self.change_open_file(call, steps),
         }
     }
 
     // Answers a call that looks at the table of open files alone: no memory is taken, and no device is called.
     fn answer_at_once(&mut self, call: &Command) -> Reply
         requires { IsTrue (is_table_call call.now) }
-        ensures { Handles self.old self.new call.now (Ok result) }
+        ensures { Handles false self.old self.new call.now (Ok result) }
     {
         served_states_open(self);
         answer_from_table(&mut self.files, call)
@@ -43,7 +47,7 @@ impl<S: Station> System<S> {
     // Answers a call that only reads a file.
     fn look_at_open_file(&mut self, call: &Command) -> Result<Reply, CallError>
         requires { IsTrue (is_looking_call call.now) }
-        ensures { Handles self.old self.new call.now result }
+        ensures { Handles false self.old self.new call.now result }
     {
         served_states_open(self);
         let outcome = read_open_file(
@@ -59,7 +63,7 @@ impl<S: Station> System<S> {
     // Frees a descriptor. A file that it leaves with neither name nor descriptor goes from memory; the image keeps it until the
     // next consistency point.
     fn close_file(&mut self, fd: u32) -> Result<Reply, CallError>
-        ensures { Handles self.old self.new (Command.Close fd) result }
+        ensures { Handles false self.old self.new (Command.Close fd) result }
     {
         served_states_open(self);
         records_lead_on();
@@ -80,9 +84,9 @@ impl<S: Station> System<S> {
     }
 
     // Logs the record of a call, if it has one, and puts it in force; and then does to the table what the call does.
-    fn change_open_file(&mut self, call: &Command) -> Result<Reply, CallError>
+    fn change_open_file(&mut self, call: &Command, steps: bool) -> Result<Reply, CallError>
         requires { IsTrue (is_logging_call call.now) }
-        ensures { Handles self.old self.new call.now result }
+        ensures { Handles steps self.old self.new call.now result }
     {
         served_states_open(self);
         match prepare_open_file(
@@ -100,7 +104,7 @@ impl<S: Station> System<S> {
                 } = doing;
                 match change {
                     Some(FileChange { record, prepared }) => {
-                        match self.log(&record.record(), prepared) {
+                        match self.log(&record.record(), prepared, steps) {
                             Ok(()) => {
                                 table.put_into(&mut self.files);
                                 Ok(reply)

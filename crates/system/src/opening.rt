@@ -35,6 +35,7 @@ use layout::Root;
 use loading::{Loaded, Newest, check_snapshots, load, newest_root, volumes_are_readable};
 use model::{mounts_find_volumes, replays_keep_volumes};
 use oplog::{Log, SavedLog};
+use overlay::Overlay;
 use replay::{Replayed, replay};
 use station::Station;
 use std::alloc::Global;
@@ -164,7 +165,8 @@ fn open_found<S: Station>(
     mounts_find_volumes();
     replays_keep_volumes();
     let FoundImages { newest, saved } = found;
-    let mut blocks = Buffers::new(alloc, station);
+    let buffers = Buffers::new(alloc, station);
+    let mut blocks = Overlay::new(buffers);
     match read_image(alloc, &mut blocks, &newest.root, saved) {
         Ok(
             Mounted {
@@ -184,11 +186,12 @@ fn open_found<S: Station>(
                 map,
                 log,
                 pledged,
+                pledged_then: pledged,
                 free,
                 files: Descriptors::new(),
             })
         }
-        Err(error) => Err((error, blocks.into_station())),
+        Err(error) => Err((error, blocks.buffers.into_station())),
     }
 }
 
@@ -198,7 +201,7 @@ impl<S: Station> System<S> {
     /// `Device` only where a device call failed. Where what the station reads opens to a state, Ok gives a system that serves what
     /// a mount finds of it, and `Damaged` doesn't come. No directory and no file is read, so Ok may come over an image that opens
     /// to none; but it has taken the newest root, the station has its sizes, and the NVRAM holds a log over it. Neither `NoRoot` nor
-    /// `Damaged` comes over images without a fault whose files can be read.
+    /// `Damaged` comes over images without a fault, whatever blocks of files can be read.
     pub fn open(alloc: Global, mut station: S) -> Result<System<S>, (OpenError, S)>
         ensures same { MatchResult result
             (λ f. IsSameStation (S.meaning station) (meaning_of f))

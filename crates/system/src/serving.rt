@@ -1,10 +1,11 @@
 //! Calls that a consistency point isn't part of, served on a mounted system.
 
-ghost use Rattle.std.specs.Prelude.{◌≡◌, IsFalse, IsTrue};
+ghost use Rattle.std.specs.Prelude.{◌≡◌, IsFalse, IsTrue, false};
 ghost use Rattle.model.specs.Steps.{is_reading_call};
 ghost use Rattle.system.specs.Answering.{answer_to};
 ghost use Rattle.system.specs.Errors.{call_error, log_error};
 ghost use Rattle.system.specs.Serving.{Handles, IsCall};
+ghost use Rattle.system.specs.Slicing.{Fulfils};
 
 use crate::changing::prepare;
 use crate::laws::served_states_open;
@@ -57,46 +58,64 @@ impl<S: Station> System<S> {
     /// changed, but for `NotWritten`: then a cut leaves the state before the call or the one after it. A sure call is always answered.
     pub fn call(&mut self, call: &Command) -> Result<Reply, CallError>
         requires { IsCall call.now }
-        ensures { Handles self.old self.new call.now result }
+        ensures { Fulfils self.old self.new call.now result }
+    {
+        served_states_open(self);
+        match self.serve(call, true) {
+            Ok(reply) => Ok(reply),
+            Err(error) => match error {
+                CallError::StepDue => match self.step() {
+                    Ok(()) => self.serve(call, false),
+                    Err(_) => Err(CallError::NotWritten),
+                },
+                _ => Err(error),
+            },
+        }
+    }
+
+    // The same of a call that a point is due for, or a slice of one, if it `steps`. It plans none, but says so.
+    fn serve(&mut self, call: &Command, steps: bool) -> Result<Reply, CallError>
+        requires { IsCall call.now }
+        ensures { Handles steps self.old self.new call.now result }
     {
         match call {
-            Command::Path(call) => self.serve_path(call),
+            Command::Path(call) => self.serve_path(call, steps),
             Command::SnapList => self.list_snapshots(),
             Command::Within { name, call } => self.look_within(name, call),
-            _ => self.serve_open_file(call),
+            _ => self.serve_open_file(call, steps),
         }
     }
 
     // Serves a call by a path.
-    fn serve_path(&mut self, call: &PathCall) -> Result<Reply, CallError>
-        ensures { Handles self.old self.new (Command.Path call.now) result }
+    fn serve_path(&mut self, call: &PathCall, steps: bool) -> Result<Reply, CallError>
+        ensures { Handles steps self.old self.new (Command.Path call.now) result }
     {
         if is_reading(call) {
             self.look(call)
         } else {
-            self.change(call)
+            self.change(call, steps)
         }
     }
 
     // Answers a call that only reads.
     fn look(&mut self, call: &PathCall) -> Result<Reply, CallError>
         requires { IsTrue (is_reading_call call.now) }
-        ensures { Handles self.old self.new (Command.Path call.now) result }
+        ensures { Handles false self.old self.new (Command.Path call.now) result }
     {
         served_states_open(self);
         answer(read(self.alloc, &mut self.inodes, &mut self.blocks, call))
     }
 
     // Logs the record of a call that changes something, and puts it in force.
-    fn change(&mut self, call: &PathCall) -> Result<Reply, CallError>
+    fn change(&mut self, call: &PathCall, steps: bool) -> Result<Reply, CallError>
         requires { IsFalse (is_reading_call call.now) }
-        ensures { Handles self.old self.new (Command.Path call.now) result }
+        ensures { Handles steps self.old self.new (Command.Path call.now) result }
     {
         served_states_open(self);
         match prepare(self.alloc, &mut self.inodes, &mut self.blocks, call) {
             Ok(Some(changing)) => {
                 let Changing { change, prepared } = changing;
-                match self.log(&change.record(), prepared) {
+                match self.log(&change.record(), prepared, steps) {
                     Ok(()) => Ok(Reply::Done),
                     Err(error) => Err(error),
                 }

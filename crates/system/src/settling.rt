@@ -1,6 +1,6 @@
 //! Commands that end behind a consistency point of their own: taking a snapshot and deleting one.
 
-ghost use Rattle.std.specs.Prelude.{IfOk, IfSome, ◌≢◌};
+ghost use Rattle.std.specs.Prelude.{IfOk, IfSome, ◌≡◌, ◌≢◌, None};
 ghost use Rattle.model.specs.States.{State};
 ghost use Rattle.model.specs.declared.command.Command.{Command};
 ghost use Rattle.system.specs.Room.{HasRoomToTake};
@@ -39,6 +39,7 @@ impl<S: Station> System<S> {
     /// or a refusal as of `refuses_take`. The snapshot has the tree without open files. After an error nothing has changed, but for
     /// `NotWritten`: then a cut leaves the state before it, or the one with the snapshot.
     pub fn take(&mut self, name: &Text) -> Result<Result<(), Errno>, PointError>
+        requires { self.old.blocks.laid ≡ None }
         ensures { Settles self.old self.new (λ s. IsCovered self.old s.tree.descriptors s
             × HasRoomToTake self.old) (Command.SnapTake name.now) result }
     {
@@ -65,8 +66,8 @@ impl<S: Station> System<S> {
         }
     }
 
-    /// Deletes a snapshot by a consistency point, whose root holds all that the system has: Ok behind its second sync, or
-    /// NOSNAP. The blocks that only the snapshot had are free then. An error as of `take`.
+    /// Deletes a snapshot by a consistency point, behind the one under way, whose root holds all that the system has: Ok behind its
+    /// second sync, or NOSNAP. The blocks that only the snapshot had are free then. An error as of `take`.
     pub fn delete(&mut self, name: &Text) -> Result<Result<(), Errno>, PointError>
         ensures { Settles self.old self.new (λ s. Unit {0}) (Command.SnapDelete name.now) result }
     {
@@ -78,6 +79,7 @@ impl<S: Station> System<S> {
         let Some(found) = found else {
             return Ok(Err(Errno::NOSNAP));
         };
+        self.finish()?;
         match self.point_with(&SnapshotChange::Delete { slot: found.slot }) {
             Ok(()) => Ok(Ok(())),
             Err(error) => Err(error),

@@ -1,6 +1,6 @@
 //! Calls on the snapshots that change nothing.
 
-ghost use Rattle.std.specs.Prelude.{◌≡◌, ℕ, List, IfErr, IfOk, IsErrOf, IsTrue};
+ghost use Rattle.std.specs.Prelude.{◌≡◌, ℕ, List, IfErr, IfOk, IsErrOf, IsTrue, false};
 ghost use Rattle.layout.specs.Root.{IsRoot};
 ghost use Rattle.model.specs.Paths.{Name};
 ghost use Rattle.model.specs.Room.{nothing};
@@ -70,7 +70,7 @@ fn read_within<B: Blocks>(
 impl<S: Station> System<S> {
     /// Answers a call on the tree of the snapshot of a name.
     pub(crate) fn look_within(&mut self, name: &Text, call: &PathCall) -> Result<Reply, CallError>
-        ensures { Handles self.old self.new (Command.Within name.now call.now) result }
+        ensures { Handles false self.old self.new (Command.Within name.now call.now) result }
     {
         served_states_open(self);
         let outcome = read_within(
@@ -85,7 +85,7 @@ impl<S: Station> System<S> {
 
     /// Lists the names of the snapshots, oldest first.
     pub(crate) fn list_snapshots(&mut self) -> Result<Reply, CallError>
-        ensures { Handles self.old self.new Command.SnapList result }
+        ensures { Handles false self.old self.new Command.SnapList result }
     {
         served_states_open(self);
         match names(self.alloc, &mut self.blocks, &self.root) {

@@ -9,7 +9,7 @@ ghost use Rattle.model.specs.States.{State};
 ghost use Rattle.model.specs.Trees.{Description};
 ghost use Rattle.images.specs.Roots.{whole};
 ghost use Rattle.images.specs.Room.{free_under};
-ghost use Rattle.system.specs.Systems.{HasState, meaning_of};
+ghost use Rattle.system.specs.Systems.{HasState};
 
 use crate::System;
 use station::Station;
@@ -19,7 +19,7 @@ use station::Station;
 pub struct Space {
     /// All blocks of the disk.
     pub blocks: u32,
-    /// Those that are free under the newest root.
+    /// Those that are free under the settled root.
     pub free: u32,
     /// Those that a consistency point may store for what that root doesn't cover.
     pub pledged: u64,
@@ -29,16 +29,16 @@ impl<S: Station> System<S> {
     /// The room of the disk, with no device call.
     pub fn space(&self) -> Space
         ensures blocks { result.blocks ≡ self.now.root.geometry.blocks }
-        ensures free { (table : ℕ → Option Description) (s : State) → HasState self.now table s
-            → let disk = blocks_of (meaning_of self.now).seen.disk in
+        ensures free { (table : ℕ → Option Description) (s : State)
+            → (serves : HasState self.now table s) → let root = serves.settled.root in
             result.free
-            ≡ free_under (whole disk self.now.root).active self.now.root.geometry.blocks }
+            ≡ free_under (whole (blocks_of serves.settled.disk) root).active root.geometry.blocks }
         ensures told { (table : ℕ → Option Description) (s : State)
             → (serves : HasState self.now table s) → (nameless : Name → ℕ) → (covered : Bool)
             → (IsTrue covered
-            → records.CoversAll serves.first serves.running serves.replayed.changes)
-            → TellsRoom self.now.root.geometry.inodes serves.first serves.running
-            serves.replayed.changes (record {
+            → records.CoversAll serves.settled.volume serves.running serves.lasts.replayed.changes)
+            → TellsRoom serves.settled.root.geometry.inodes serves.settled.volume serves.running
+            serves.lasts.replayed.changes (record {
               blocks = result.blocks;
               free = result.free;
               pledged = result.pledged;

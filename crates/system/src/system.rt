@@ -6,15 +6,14 @@ ghost use Rattle.blockmap.specs.Maps.{free_below};
 ghost use Rattle.oplog.specs.LogEnd.{next_of};
 ghost use Rattle.records.specs.Opened.{HasNumbers};
 ghost use Rattle.replay.specs.declared.costs.TheConstants.{MOST_COST};
-ghost use Rattle.system.specs.Memory.{IsClean};
 ghost use Rattle.system.specs.Props.{IsRoot-prop};
 
 use blockmap::BlockMap;
-use buffers::Buffers;
 use descriptors::Descriptors;
 use inofile::InodeFile;
 use layout::Root;
 use oplog::Log;
+use overlay::Overlay;
 use station::Station;
 use std::alloc::Global;
 
@@ -22,29 +21,30 @@ use std::alloc::Global;
 #[derive(Drop)]
 pub struct System<S: Station> {
     pub(crate) alloc: Global,
-    pub(crate) blocks: Buffers<S>,
-    /// The newest root.
+    /// Those of the disk, and over them those of the consistency point that is under way.
+    pub(crate) blocks: Overlay<S>,
+    /// The root that memory stands on: that of the point under way, or else the newest one.
     pub(crate) root: Root,
     /// The sector of the slot that it stands in.
     pub(crate) slot: u32,
     pub(crate) inodes: InodeFile,
     pub(crate) map: BlockMap,
     pub(crate) log: Log,
-    /// Blocks that a consistency point may store for what the root doesn't cover.
+    /// Blocks that a consistency point may store for what the newest root doesn't cover.
     pub(crate) pledged: u64,
-    /// Blocks that are free under the root.
+    /// Those of them that stay pledged behind the point under way.
+    pub(crate) pledged_then: u64,
+    /// Blocks that are free under the newest root.
     pub(crate) free: u32,
     /// The files that are open.
     pub(crate) files: Descriptors,
-    ghost sectors: { (S.meaning blocks.station).sectors ≡ 8 * root.geometry.blocks },
-    ghost nvram: { (S.meaning blocks.station).nvram_bytes ≡ 2 * log.half },
+    ghost sectors: { (S.meaning blocks.buffers.station).sectors ≡ 8 * root.geometry.blocks },
+    ghost nvram: { (S.meaning blocks.buffers.station).nvram_bytes ≡ 2 * log.half },
     ghost half: { log.half ≡ root.geometry.half },
     ghost sizes: { inodes.geometry ≡ root.geometry },
     ghost count: { map.count ≡ root.geometry.blocks },
-    ghost clean: { IsClean map },
-    ghost fresh: { map.next ≡ 2 },
     ghost counted: { free ≡ free_below map.parts.items map.count },
-    ghost few: { pledged ≤ 2 ^ 32 + MOST_COST * next_of log.end },
+    ghost few: { pledged_then ≤ 2 ^ 32 + MOST_COST * next_of log.end },
     ghost numbers: { HasNumbers inodes.geometry.inodes files },
     ghost is_root: { IsRoot root } by { IsRoot-prop root },
 }
@@ -52,16 +52,16 @@ pub struct System<S: Station> {
 impl<S: Station> System<S> {
     /// The station, to look at.
     pub fn station(&self) -> &S
-        ensures { result.now ≡ self.now.blocks.station }
+        ensures { result.now ≡ self.now.blocks.buffers.station }
     {
-        &self.blocks.station
+        &self.blocks.buffers.station
     }
 
     /// The station as it stands, with no device call.
     pub fn into_station(self) -> S
-        ensures { result ≡ self.blocks.station }
+        ensures { result ≡ self.blocks.buffers.station }
     {
         let System { blocks, .. } = self;
-        blocks.into_station()
+        blocks.buffers.into_station()
     }
 }

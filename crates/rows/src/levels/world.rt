@@ -34,7 +34,10 @@ impl World {
     pub fn run(&mut self, alloc: Global, row: &str) -> Result<String, Fault> {
         let (word, rest) = row.split_once(' ').unwrap_or((row, ""));
         match word {
-            "put" => self.put(alloc, rest)?,
+            "put" => {
+                put_digits(alloc, &mut self.disk, rest)?;
+                self.load(alloc)?;
+            }
             "fail" => self
                 .buffers
                 .station
@@ -44,18 +47,30 @@ impl World {
         Ok(String::from_str(alloc, "ok")?)
     }
 
-    // `BLOCK OFFSET HEX`: puts bytes on the disk, before anything is read. They are left out where they don't fit there.
-    fn put(&mut self, alloc: Global, words: &str) -> Result<(), Fault> {
-        let (block, rest) = words.split_once(' ').unwrap_or((words, ""));
-        let (offset, text) = rest.split_once(' ').unwrap_or((rest, ""));
-        let block = u32::from(block.parse::<u8>().unwrap_or(0));
-        let offset = u32::from(offset.parse::<u16>().unwrap_or(0));
-        let Ok(bytes) = hex::decode(alloc, text) else {
-            return Err(Fault::misread(alloc, words));
-        };
-        let at = block.saturating_mul(4096).saturating_add(offset);
-        put(&mut self.disk, at, &bytes);
-        self.buffers = Buffers::new(alloc, station_of(alloc, &self.disk)?);
+    /// From here on the disk is read as it stands now.
+    fn load(&mut self, alloc: Global) -> Result<(), Fault> {
+        let station = station_of(alloc, &self.disk)?;
+        self.buffers = Buffers::new(alloc, station);
         Ok(())
     }
+}
+
+/// `BLOCK OFFSET HEX`: puts bytes on the disk, before anything is read. They are left out where they don't fit there.
+fn put_digits(alloc: Global, disk: &mut Vec<u8>, words: &str) -> Result<(), Fault> {
+    let (block, rest) = words.split_once(' ').unwrap_or((words, ""));
+    let (offset, digits) = rest.split_once(' ').unwrap_or((rest, ""));
+    match hex::decode(alloc, digits) {
+        Ok(bytes) => {
+            put(disk, place_of(block, offset), &bytes);
+            Ok(())
+        }
+        Err(_) => Err(Fault::misread(alloc, words)),
+    }
+}
+
+/// The byte of a block, each by its number.
+fn place_of(block: &str, offset: &str) -> u32 {
+    let block = u32::from(block.parse::<u8>().unwrap_or(0));
+    let offset = u32::from(offset.parse::<u16>().unwrap_or(0));
+    block.saturating_mul(4096).saturating_add(offset)
 }

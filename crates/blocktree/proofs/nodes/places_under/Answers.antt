@@ -1,8 +1,9 @@
 use Rattle.std.proofs.Common.{rules, arith, ℕ, ◌-◌, ◌*◌, ◌<◌, ◌≤◌, subst, sym}
 use Rattle.layout.specs.Maps.{IsIndirectBlock}
 use Rattle.layout.specs.Pointer.{PointsBelow}
+use Rattle.layout.specs.declared.pointer.Pointer.TheVariants.{Block}
 use Rattle.blocktree.specs.PlaceMaps.{place_at}
-use Rattle.blocktree.proofs.WalkLaws.{follows_more, follows_all, group_low, node_below, sound_more, sound_all, node_block}
+use Rattle.blocktree.proofs.WalkLaws.{follows_more, follows_all, group_low, sound_more, sound_all, node_block}
 use Rattle.blocktree.proofs.nodes.places_under.Goals as goal
 
 pub add_group-requires : goal.add_group-requires
@@ -12,7 +13,7 @@ add_group-requires g c =
     let found = c.in-Some.ensures.found in
     let count = so_far.read.count in
     record {
-      place = subst (λ (k : ℕ). n.place < k) (sym count) (node_below (g.B.Blocks.count c.args.blocks.now) (place_at c.args.above.now n.index) n.place found.2 (c.requires n.index));
+      place = subst (λ (k : ℕ). PointsBelow k (Block n.place)) (sym count) (subst (PointsBelow (g.B.Blocks.count c.args.blocks.now)) found.2 (c.requires n.index));
       index = group_low c.args.count n.index c.div_ceil-groups.result c.div_ceil-groups.ensures found.1;
       within = λ i. subst (λ (k : ℕ). PointsBelow k (place_at c.loop-node.places i)) (sym count) (so_far.within i);
       end = λ i le. so_far.behind i (omega (arith, le, found.0));

@@ -32,12 +32,12 @@ returns-then-not-branch-clause-marked g t c disk h shows at nodes = (
   refl,
 )
 
-pub returns-then-not-is_indirect_block-clause-marked : goal.returns-then-not-is_indirect_block-clause-marked
-returns-then-not-is_indirect_block-clause-marked g t c disk h shows at nodes =
+pub returns-then-not-is_indirect-clause-marked : goal.returns-then-not-is_indirect-clause-marked
+returns-then-not-is_indirect-clause-marked g t c disk h shows at nodes =
     let bad : IsIndirectBlock (g.B.Blocks.count c.args.blocks.now) c.used_below-used.result (disk c.in-Block.place) → ⊥ = λ good.
-    let is = c.is_indirect_block.ensures.1 (indirect_same (g.B.Blocks.count c.args.blocks.now) c.count.result c.used_below-used.result (disk c.in-Block.place) c.bytes-stored.result.now
+    let is = c.is_indirect.ensures.1 (indirect_same (g.B.Blocks.count c.args.blocks.now) c.count.result c.used_below-used.result (disk c.in-Block.place) c.bytes-stored.result.now
     (sym (c.count.ensures ∙ c.read_block.ensures.reads.count)) (sym (c.bytes-stored.ensures disk (c.read_block.ensures.reads.same disk shows))) good) in
-    absurd (let e = sym is ∙ c.if-not-is_indirect_block.true in cc) in (
+    absurd (let e = sym is ∙ c.if-not-is_indirect.true in cc) in (
       own_bad (g.B.Blocks.count c.args.blocks.now) disk h c.args.node (c.args.node.height - 1) c.used_below-used.result c.in-Block.place c.args.count c.if-node-eq0.false refl (at ∙ c.in-Block.is) nodes c.used_below-used.ensures.used bad,
       Indirect c.args.node.number c.get.result,
       refl,
@@ -46,7 +46,7 @@ returns-then-not-is_indirect_block-clause-marked g t c disk h shows at nodes =
 pub returns-then-before-bits-clause-marked : goal.returns-then-before-bits-clause-marked
 returns-then-before-bits-clause-marked g t c disk h shows at nodes =
     let good = indirect_same c.count.result (g.B.Blocks.count c.args.blocks.now) c.used_below-used.result c.bytes-stored.result.now (disk c.in-Block.place)
-    (c.count.ensures ∙ c.read_block.ensures.reads.count) (c.bytes-stored.ensures disk (c.read_block.ensures.reads.same disk shows)) (c.is_indirect_block.ensures.0 c.if-not-is_indirect_block.false) in
+    (c.count.ensures ∙ c.read_block.ensures.reads.count) (c.bytes-stored.ensures disk (c.read_block.ensures.reads.same disk shows)) (c.is_indirect.ensures.0 c.if-not-is_indirect.false) in
     again_marked (g.B.Blocks.count c.args.blocks.now) disk h c.args.node (c.args.node.height - 1) c.used_below-used.result c.in-Block.place c.args.count c.if-node-eq0.false refl (at ∙ c.in-Block.is) nodes c.used_below-used.ensures.used
     c.args.bits c.args.marks.now c.mark_block-before.new.marks c.args.shared.now.of c.mark_block-before.new.shared.of c.if-height-eq0.true good
     (c.mark_block-before.ensures.again c.if-before-bits.true) (c.mark_block-before.ensures.marked h (at ∙ c.in-Block.is))
@@ -59,7 +59,7 @@ mark_node-requires g t c κs within =
         within,
         (
           pointer_below c.count.result (g.B.Blocks.count c.loop-r.blocks) c.used_below-used.result c.loop-r.r c.bytes-stored.result.now c.indirect_pointer-below.result
-              (c.is_indirect_block.ensures.0 c.if-not-is_indirect_block.false) low (c.count.ensures ∙ sym c.loop-r.invariant.looked.count) c.indirect_pointer-below.ensures,
+              (c.is_indirect.ensures.0 c.if-not-is_indirect.false) low (c.count.ensures ∙ sym c.loop-r.invariant.looked.count) c.indirect_pointer-below.ensures,
           (
             c.loop-r.invariant.keeps.length_is ∙ (c.mark_block-before.ensures.keeps.length_is ∙ (c.requires.table ∙ sym (c.loop-r.invariant.looked.count ∙ c.read_block.ensures.reads.count))),
             c.requires.planes,
@@ -75,7 +75,7 @@ pub returns-in_err-mark_node-clause-marked : goal.returns-in_err-mark_node-claus
 returns-in_err-mark_node-clause-marked g t c disk h shows at nodes =
     let r : c.loop-r.r < 1024 = omega (arith, c.loop-r-test.true, c.min-r-end.ensures) in
     let shown = c.read_block.ensures.reads.same disk shows in
-    let first = first_exact c.count.result c.used_below-used.result c.saturating_mul-first.result c.args.node.index c.bytes-stored.result.now (c.is_indirect_block.ensures.0 c.if-not-is_indirect_block.false)
+    let first = first_exact c.count.result c.used_below-used.result c.saturating_mul-first.result c.args.node.index c.bytes-stored.result.now (c.is_indirect.ensures.0 c.if-not-is_indirect.false)
     c.saturating_mul-first.ensures c.used_below-used.ensures.low in
     let index : c.saturating_add.result ≡ c.saturating_mul-first.result + c.loop-r.r = omega (arith, first, c.saturating_add.ensures, c.used_below-used.ensures.low (omega (arith, c.loop-r-test.true, c.min-r-end.ensures)), c.loop-r-test.true, c.min-r-end.ensures) in
     err_marked (g.B.Blocks.count c.args.blocks.now) (g.B.Blocks.count c.loop-r.blocks) disk h (IsUnder (c.args.node.height - 1) c.saturating_add.result) (IsUnder c.args.node.height c.args.node.index) c.args.node.number c.args.count c.args.bits
@@ -91,7 +91,7 @@ returns-in_err-mark_node-clause-marked g t c disk h shows at nodes =
 pub loop-r-preserved : goal.loop-r-preserved
 loop-r-preserved g t c =
     let r : c.loop-r.r < 1024 = omega (arith, c.loop-r-test.true, c.min-r-end.ensures) in
-    let first = first_exact c.count.result c.used_below-used.result c.saturating_mul-first.result c.args.node.index c.bytes-stored.result.now (c.is_indirect_block.ensures.0 c.if-not-is_indirect_block.false)
+    let first = first_exact c.count.result c.used_below-used.result c.saturating_mul-first.result c.args.node.index c.bytes-stored.result.now (c.is_indirect.ensures.0 c.if-not-is_indirect.false)
     c.saturating_mul-first.ensures c.used_below-used.ensures.low in
     let index : c.saturating_add.result ≡ c.saturating_mul-first.result + c.loop-r.r = omega (arith, first, c.saturating_add.ensures, c.used_below-used.ensures.low (omega (arith, c.loop-r-test.true, c.min-r-end.ensures)), c.loop-r-test.true, c.min-r-end.ensures) in
     let before = c.loop-r.invariant in
@@ -114,7 +114,7 @@ returns-clause-keeps g t c = keeps_more c.mark_block-before.ensures.keeps c.loop
 pub returns-clause-marked : goal.returns-clause-marked
 returns-clause-marked g t c disk h shows at nodes =
     let shown = c.read_block.ensures.reads.same disk shows in
-    let tested = c.is_indirect_block.ensures.0 c.if-not-is_indirect_block.false in
+    let tested = c.is_indirect.ensures.0 c.if-not-is_indirect.false in
     let first = first_exact c.count.result c.used_below-used.result c.saturating_mul-first.result c.args.node.index c.bytes-stored.result.now tested c.saturating_mul-first.ensures c.used_below-used.ensures.low in
     let good = indirect_same c.count.result (g.B.Blocks.count c.args.blocks.now) c.used_below-used.result c.bytes-stored.result.now (disk c.in-Block.place)
     (c.count.ensures ∙ c.read_block.ensures.reads.count) (c.bytes-stored.ensures disk shown) tested in

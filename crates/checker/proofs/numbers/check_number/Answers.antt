@@ -1,5 +1,6 @@
 use Rattle.std.proofs.Common.{◌≡◌, ℕ, ◌+◌, ◌*◌, ◌<◌, ◌≤◌, length, bit_or, arith, sym, subst, inl, inr}
 use Rattle.std.specs.Prelude.{Some, slice_get}
+use Rattle.checker.specs.Rows.{rows_of}
 use Rattle.checker.specs.Trees.{AreTrees, IsSeenTo}
 use Rattle.checker.proofs.BetweenLaws.{between_end, between_more, between_skip, between_start}
 use Rattle.checker.proofs.EachLaws.{get_at}
@@ -12,7 +13,7 @@ pub loop-k-init : goal.loop-k-init
 loop-k-init g c = record {
   kept = kept_none c.args.blocks.now c.args.trees.now.items c.args.marks.now c.args.shared.now.of;
   between = λ disk r i shows root same is are seen.
-      between_start disk r i c.args.number c.args.place c.args.marks.now c.args.shared.now.of c.args.rows.now.items c.args.trees.now.items are
+      between_start disk r i c.args.number c.args.place c.args.marks.now c.args.shared.now.of (rows_of c.args.rows.now) c.args.trees.now.items are
       (subst (λ (n : ℕ). AreTrees r c.args.trees.now.items (IsSeenTo disk r i n c.args.marks.now c.args.shared.now.of)) (sym is) seen);
 }
 
@@ -22,26 +23,26 @@ loop-k-preserved-then-is_done g c =
     record {
       kept = c.loop-k.invariant.kept;
       between = λ disk r i shows root same is are seen.
-          between_skip disk r i c.args.number c.args.place c.loop-k.marks c.loop-k.shared.of c.args.rows.now.items c.loop-k.trees.items c.loop-k.done c.loop-k.k c.index.result.now
+          between_skip disk r i c.args.number c.args.place c.loop-k.marks c.loop-k.shared.of (rows_of c.args.rows.now) c.loop-k.trees.items c.loop-k.done c.loop-k.k c.index.result.now
           (c.loop-k.invariant.between disk r i shows root same is are seen) (get_at c.loop-k.trees.items c.loop-k.k c.index.result.now lt c.index.ensures) ((c.is_done.ensures).0 c.if-is_done.true);
     }
 
 pub returns-in_err-check_inode-clause-trees : goal.returns-in_err-check_inode-clause-trees
 returns-in_err-check_inode-clause-trees g c =
-    (kept_more c.loop-k.invariant.kept (kept_inode c.args.rows.now.items c.loop-k.k c.args.place (looked c.check_inode.ensures.reads) c.check_inode.ensures.keeps c.check_inode.ensures.trees c.twins-bits.ensures)).trees
+    (kept_more c.loop-k.invariant.kept (kept_inode (rows_of c.args.rows.now) c.loop-k.k c.args.place (looked c.check_inode.ensures.reads) c.check_inode.ensures.keeps c.check_inode.ensures.trees c.twins-bits.ensures)).trees
 
 pub returns-in_err-check_inode-clause-others : goal.returns-in_err-check_inode-clause-others
 returns-in_err-check_inode-clause-others g c =
-    (kept_more c.loop-k.invariant.kept (kept_inode c.args.rows.now.items c.loop-k.k c.args.place (looked c.check_inode.ensures.reads) c.check_inode.ensures.keeps c.check_inode.ensures.trees c.twins-bits.ensures)).others
+    (kept_more c.loop-k.invariant.kept (kept_inode (rows_of c.args.rows.now) c.loop-k.k c.args.place (looked c.check_inode.ensures.reads) c.check_inode.ensures.keeps c.check_inode.ensures.trees c.twins-bits.ensures)).others
 
 pub loop-k-preserved : goal.loop-k-preserved
 loop-k-preserved g c =
     let lt : c.loop-k.k < length c.loop-k.trees.items = omega (arith, c.loop-k-test.true, c.len-k-end.ensures, c.loop-k.invariant.kept.trees.length_is) in
     let at : slice_get c.loop-k.trees.items c.loop-k.k ≡ Some c.index.result.now = get_at c.loop-k.trees.items c.loop-k.k c.index.result.now lt c.index.ensures in
     record {
-      kept = kept_more c.loop-k.invariant.kept (kept_inode c.args.rows.now.items c.loop-k.k c.args.place (looked c.check_inode.ensures.reads) c.check_inode.ensures.keeps c.check_inode.ensures.trees c.twins-bits.ensures);
+      kept = kept_more c.loop-k.invariant.kept (kept_inode (rows_of c.args.rows.now) c.loop-k.k c.args.place (looked c.check_inode.ensures.reads) c.check_inode.ensures.keeps c.check_inode.ensures.trees c.twins-bits.ensures);
       between = λ disk r i shows root same is are seen.
-          between_more disk r i c.args.number c.args.place c.loop-k.marks c.loop-k.shared.of c.args.rows.now.items c.loop-k.trees.items c.loop-k.done c.loop-k.k c.twins-bits.result
+          between_more disk r i c.args.number c.args.place c.loop-k.marks c.loop-k.shared.of (rows_of c.args.rows.now) c.loop-k.trees.items c.loop-k.done c.loop-k.k c.twins-bits.result
           (bit_or c.loop-k.done c.twins-bits.result) c.part_of-bytes.result.now c.check_inode.new.marks c.check_inode.new.shared.of c.check_inode.new.trees.items c.index.result.now
           (c.loop-k.invariant.between disk r i shows root same is are seen) at
           (λ out. let yes = (c.is_done.ensures).1 (inl out) in let is_not = c.if-is_done.false in cc)
@@ -58,5 +59,5 @@ returns-clause-seen g c = λ disk r i shows root same is are seen.
     let all : length c.loop-k.trees.items ≤ c.loop-k.k = omega (arith, c.loop-k-test.false, c.len-k-end.ensures, c.loop-k.invariant.kept.trees.length_is) in (
       so.rows_are,
       subst (λ (n : ℕ). AreTrees r c.loop-k.trees.items (IsSeenTo disk r i n c.loop-k.marks c.loop-k.shared.of)) next
-          (between_end disk r i c.args.number c.args.place c.loop-k.marks c.loop-k.shared.of c.args.rows.now.items c.loop-k.trees.items c.loop-k.done c.loop-k.k so all),
+          (between_end disk r i c.args.number c.args.place c.loop-k.marks c.loop-k.shared.of (rows_of c.args.rows.now) c.loop-k.trees.items c.loop-k.done c.loop-k.k so all),
     )

@@ -1,7 +1,7 @@
 use Rattle.std.proofs.Common.{◌≡◌, ℕ, ◌+◌, ◌*◌, List}
 use Rattle.layout.specs.Root.{IsRoot}
 use Rattle.layout.specs.declared.root.Root.{Root}
-use Rattle.checker.specs.Rows.{AreRows, AreSeenInBlock}
+use Rattle.checker.specs.Rows.{AreRows, AreSeenInBlock, rows_of}
 use Rattle.checker.proofs.BetweenLaws.{IsBetween}
 use Rattle.checker.proofs.RowLaws.{HasKept}
 use Rattle.checker.proofs.numbers.check_number.Given as goal
@@ -10,6 +10,6 @@ abbrev pub invariant-loop-k : goal.invariant-loop-k
 invariant-loop-k g l = record {
   kept : HasKept g.B.Blocks l.fn.blocks l.blocks l.fn.trees.items l.trees.items l.fn.marks l.marks l.fn.shared.of l.shared.of;
   between : (disk : ℕ → List ℕ) (r : Root) (i : ℕ) → g.B.Blocks.Shows l.fn.blocks disk → IsRoot r → r.geometry ≡ l.geometry → l.number ≡ 21 * i + l.place
-      → AreRows disk r i l.fn.trees.items l.rows.items → AreSeenInBlock disk r i l.place l.fn.marks l.fn.shared.of l.fn.trees.items
-      → IsBetween disk r i l.number l.place l.done l.k l.marks l.shared.of l.rows.items l.trees.items;
+      → AreRows disk r i l.fn.trees.items (rows_of l.rows) → AreSeenInBlock disk r i l.place l.fn.marks l.fn.shared.of l.fn.trees.items
+      → IsBetween disk r i l.number l.place l.done l.k l.marks l.shared.of (rows_of l.rows) l.trees.items;
 }

@@ -1,7 +1,7 @@
 use Rattle.std.proofs.Common.{Contains}
-use Rattle.blocktree.proofs.WalkLaws.{node_below}
 use Rattle.placement.specs.Nodes.{node}
 use Rattle.placement.proofs.ListLaws.{left_more, left_all}
+use Rattle.placement.proofs.PlacedLaws.{node_below}
 use Rattle.placement.proofs.nodes.add_left.Goals as goal
 
 pub loop-next-preserved : goal.loop-next-preserved

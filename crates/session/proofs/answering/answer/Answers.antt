@@ -6,7 +6,7 @@ use Rattle.session.proofs.answering.answer.Goals as goal
 
 pub returns-then-was_cut : goal.returns-then-was_cut
 returns-then-was_cut g c =
-    let cut = λ (b : Bool). FnReturnsAt g.C.Fn c.args.was_cut.now c.apply-reply.new.self.system.blocks.station b in (
+    let cut = λ (b : Bool). FnReturnsAt g.C.Fn c.args.was_cut.now c.apply-reply.new.self.system.blocks.buffers.station b in (
       c.apply-reply.result,
       record { lasts = c.apply-reply.ensures.answers.epoch.lasts; goes_on = c.apply-reply.ensures.goes_on },
       cut_ends c.apply-reply.result cut _ _ c.show_cut.result
@@ -15,7 +15,7 @@ returns-then-was_cut g c =
 
 pub returns-in-Err : goal.returns-in-Err
 returns-in-Err g c =
-    let cut = λ (b : Bool). FnReturnsAt g.C.Fn c.args.was_cut.now c.apply-reply.new.self.system.blocks.station b in (
+    let cut = λ (b : Bool). FnReturnsAt g.C.Fn c.args.was_cut.now c.apply-reply.new.self.system.blocks.buffers.station b in (
       c.apply-reply.result,
       record { lasts = c.apply-reply.ensures.answers.epoch.lasts; goes_on = c.apply-reply.ensures.goes_on },
       reply_ends c.apply-reply.result cut _ _ c.in-Err.status c.in-Err.ensures,

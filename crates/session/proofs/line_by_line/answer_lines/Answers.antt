@@ -12,14 +12,14 @@ use Rattle.session.proofs.line_by_line.answer_lines.Goals as goal
 pub returns-then-was_cut-clause-ends : goal.returns-then-was_cut-clause-ends
 returns-then-was_cut-clause-ends g c =
     let fs = c.args.fs.now in
-    let cut = λ (b : Bool). FnReturnsAt g.C.Fn c.args.was_cut.now fs.system.blocks.station b in
+    let cut = λ (b : Bool). FnReturnsAt g.C.Fn c.args.was_cut.now fs.system.blocks.buffers.station b in
     ends_at_first fs _ _ _ cut c.show_cut.result (done_none fs c.begins.ensures)
     (subst (λ s. FnReturnsAt g.C.Fn c.args.was_cut.now s true) c.station.ensures (says_at g.C.Fn c.was_cut.ensures c.if-was_cut.true)) c.show_cut.ensures
 
 pub loop-init : goal.loop-init
 loop-init g c =
     let fs = c.args.fs.now in
-    let cut = λ (b : Bool). FnReturnsAt g.C.Fn c.args.was_cut.now fs.system.blocks.station b in
+    let cut = λ (b : Bool). FnReturnsAt g.C.Fn c.args.was_cut.now fs.system.blocks.buffers.station b in
     let r = g.R.Read.remaining c.args.input.now in
     let out = g.O.Write.contents c.args.out.now in
     let going = subst (λ s. FnReturnsAt g.C.Fn c.args.was_cut.now s false) c.station.ensures (says_at g.C.Fn c.was_cut.ensures c.if-was_cut.false) in
@@ -31,15 +31,15 @@ loop-init g c =
 
 pub returns-in-Err-clause-ends : goal.returns-in-Err-clause-ends
 returns-in-Err-clause-ends g c =
-    let cut = λ (b : Bool). FnReturnsAt g.C.Fn c.args.was_cut.now c.loop.fs.system.blocks.station b in
+    let cut = λ (b : Bool). FnReturnsAt g.C.Fn c.args.was_cut.now c.loop.fs.system.blocks.buffers.station b in
     let r = g.R.Read.remaining c.args.input.now in
     subst (λ (k : Option (List ℕ)). EndsListening {G = g.S.Station} c.args.fs.now c.loop.fs cut k (g.O.Write.contents c.args.out.now) (g.O.Write.contents c.loop.out) c.in-Err.status) (known_none r)
     (ends_unread c.args.fs.now c.loop.fs (prepend_known [] r) _ _ _ cut c.in-Err.status c.loop.invariant.listening c.in-Err.ensures)
 
 pub returns-in-Err-answer_heard-clause-ends : goal.returns-in-Err-answer_heard-clause-ends
 returns-in-Err-answer_heard-clause-ends g c =
-    let before = λ (b : Bool). FnReturnsAt g.C.Fn c.args.was_cut.now c.loop.fs.system.blocks.station b in
-    let now = λ (b : Bool). FnReturnsAt g.C.Fn c.args.was_cut.now c.answer_heard.new.fs.system.blocks.station b in
+    let before = λ (b : Bool). FnReturnsAt g.C.Fn c.args.was_cut.now c.loop.fs.system.blocks.buffers.station b in
+    let now = λ (b : Bool). FnReturnsAt g.C.Fn c.args.was_cut.now c.answer_heard.new.fs.system.blocks.buffers.station b in
     let r = g.R.Read.remaining c.args.input.now in
     let status = c.in-Err-answer_heard.status in
     let read = rw c.in-Ok-Some.field-0-is at c.in-Ok-Some.ensures in
@@ -48,8 +48,8 @@ returns-in-Err-answer_heard-clause-ends g c =
 
 pub loop-preserved : goal.loop-preserved
 loop-preserved g c =
-    let before = λ (b : Bool). FnReturnsAt g.C.Fn c.args.was_cut.now c.loop.fs.system.blocks.station b in
-    let now = λ (b : Bool). FnReturnsAt g.C.Fn c.args.was_cut.now c.answer_heard.new.fs.system.blocks.station b in
+    let before = λ (b : Bool). FnReturnsAt g.C.Fn c.args.was_cut.now c.loop.fs.system.blocks.buffers.station b in
+    let now = λ (b : Bool). FnReturnsAt g.C.Fn c.args.was_cut.now c.answer_heard.new.fs.system.blocks.buffers.station b in
     let r = g.R.Read.remaining c.args.input.now in
     let read = rw c.in-Ok-Some.field-0-is at c.in-Ok-Some.ensures in
     record {
@@ -59,14 +59,14 @@ loop-preserved g c =
 
 pub returns-clause-ends : goal.returns-clause-ends
 returns-clause-ends g c =
-    let cut = λ (b : Bool). FnReturnsAt g.C.Fn c.args.was_cut.now c.loop.fs.system.blocks.station b in
+    let cut = λ (b : Bool). FnReturnsAt g.C.Fn c.args.was_cut.now c.loop.fs.system.blocks.buffers.station b in
     let r = g.R.Read.remaining c.args.input.now in
     subst (λ (k : Option (List ℕ)). EndsListening {G = g.S.Station} c.args.fs.now c.loop.fs cut k (g.O.Write.contents c.args.out.now) (g.O.Write.contents c.loop.out) FileFault) (known_none r)
     (ends_unread c.args.fs.now c.loop.fs (prepend_known [] r) _ _ _ cut FileFault c.loop.invariant.listening tt)
 
 pub returns-in-Ok-None-clause-ends : goal.returns-in-Ok-None-clause-ends
 returns-in-Ok-None-clause-ends g c =
-    let cut = λ (b : Bool). FnReturnsAt g.C.Fn c.args.was_cut.now c.loop.fs.system.blocks.station b in
+    let cut = λ (b : Bool). FnReturnsAt g.C.Fn c.args.was_cut.now c.loop.fs.system.blocks.buffers.station b in
     let r = g.R.Read.remaining c.args.input.now in
     let end = rw c.in-Ok-None.field-0-is at c.in-Ok-None.ensures in
     subst (λ (k : Option (List ℕ)). EndsListening {G = g.S.Station} c.args.fs.now c.loop.fs cut k (g.O.Write.contents c.args.out.now) (g.O.Write.contents c.loop.out) Done) (known_none r)

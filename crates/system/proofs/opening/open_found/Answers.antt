@@ -1,50 +1,76 @@
-use Rattle.std.proofs.Common.{refl, sym, subst}
+use Rattle.std.proofs.Common.{◌≡◌, ◌∙◌, ◌*◌, ℕ, Option, None, ap, refl, sym, subst}
 use Rattle.station.specs.Images.{Unchanged}
 use Rattle.station.specs.Moments.{Goes, IsSameStation}
 use Rattle.layout.specs.Places.{blocks_of}
-use Rattle.buffers.specs.Disks.{ReadsOn}
-use Rattle.buffers.specs.Readings.{reads_none}
-use Rattle.system.proofs.OpenLaws.{IsOver, serves, still_left}
+use Rattle.overlay.specs.Overlays.{ShowsOver}
+use Rattle.overlay.specs.declared.laid.Laid.{Laid}
+use Rattle.system.proofs.LookedLaws.{reads_nothing}
+use Rattle.system.proofs.OpenLaws.{IsOver, read_from, serves, shown_new, still_left}
 use Rattle.system.proofs.opening.open_found.Goals as goal
+
+pub invariant_of-result-clause-sectors : goal.invariant_of-result-clause-sectors
+invariant_of-result-clause-sectors g c =
+    (read_from {G = g.S.Station} c.args.station c.new-buffers.result c.new-blocks.result c.new-buffers.ensures.station c.new-blocks.ensures.buffers c.read_image.new.blocks c.read_image.ensures.reads.reads).same.sectors ∙ c.requires.fits.sectors
+
+pub invariant_of-result-clause-nvram : goal.invariant_of-result-clause-nvram
+invariant_of-result-clause-nvram g c =
+    (read_from {G = g.S.Station} c.args.station c.new-buffers.result c.new-blocks.result c.new-buffers.ensures.station c.new-blocks.ensures.buffers c.read_image.new.blocks c.read_image.ensures.reads.reads).same.nvram_bytes ∙ c.requires.fits.nvram
+    ∙ ap (λ (n : ℕ). 2 * n) (sym c.in-Ok.ensures.fits.half)
+
+pub returns-in-Ok-clause-same : goal.returns-in-Ok-clause-same
+returns-in-Ok-clause-same g c =
+    (read_from {G = g.S.Station} c.args.station c.new-buffers.result c.new-blocks.result c.new-buffers.ensures.station c.new-blocks.ensures.buffers c.read_image.new.blocks c.read_image.ensures.reads.reads).same
 
 pub returns-in-Ok-clause-goes : goal.returns-in-Ok-clause-goes
 returns-in-Ok-clause-goes g c =
-    let on : ReadsOn (g.S.Station.meaning c.new-blocks.result.station) (g.S.Station.meaning c.read_image.new.blocks.station) =
-    c.read_image.ensures.reads.reads c.new-blocks.result (reads_none (g.S.Station.meaning c.new-blocks.result.station)) in
-    subst (λ (s : g.row.S.Denot). Goes Unchanged (g.S.Station.meaning s) (g.S.Station.meaning c.read_image.new.blocks.station)) c.new-blocks.ensures.station on.goes
+    (read_from {G = g.S.Station} c.args.station c.new-buffers.result c.new-blocks.result c.new-buffers.ensures.station c.new-blocks.ensures.buffers c.read_image.new.blocks c.read_image.ensures.reads.reads).goes
+
+pub returns-in-Ok-clause-writes : goal.returns-in-Ok-clause-writes
+returns-in-Ok-clause-writes g c =
+    (read_from {G = g.S.Station} c.args.station c.new-buffers.result c.new-blocks.result c.new-buffers.ensures.station c.new-blocks.ensures.buffers c.read_image.new.blocks c.read_image.ensures.reads.reads).writes
 
 pub returns-in-Err-clause-same : goal.returns-in-Err-clause-same
 returns-in-Err-clause-same g c =
-    let on : ReadsOn (g.S.Station.meaning c.new-blocks.result.station) (g.S.Station.meaning c.read_image.new.blocks.station) =
-    c.read_image.ensures.reads.reads c.new-blocks.result (reads_none (g.S.Station.meaning c.new-blocks.result.station)) in
     subst (λ (s : g.row.S.Denot). IsSameStation (g.S.Station.meaning c.args.station) (g.S.Station.meaning s)) (sym c.into_station.ensures)
-    (subst (λ (s : g.row.S.Denot). IsSameStation (g.S.Station.meaning s) (g.S.Station.meaning c.read_image.new.blocks.station)) c.new-blocks.ensures.station on.same)
+    (read_from {G = g.S.Station} c.args.station c.new-buffers.result c.new-blocks.result c.new-buffers.ensures.station c.new-blocks.ensures.buffers c.read_image.new.blocks c.read_image.ensures.reads.reads).same
+
+pub returns-in-Err-clause-goes : goal.returns-in-Err-clause-goes
+returns-in-Err-clause-goes g c =
+    subst (λ (s : g.row.S.Denot). Goes Unchanged (g.S.Station.meaning c.args.station) (g.S.Station.meaning s)) (sym c.into_station.ensures)
+    (read_from {G = g.S.Station} c.args.station c.new-buffers.result c.new-blocks.result c.new-buffers.ensures.station c.new-blocks.ensures.buffers c.read_image.new.blocks c.read_image.ensures.reads.reads).goes
+
+pub returns-in-Err-clause-writes : goal.returns-in-Err-clause-writes
+returns-in-Err-clause-writes g c =
+    subst (λ (s : g.row.S.Denot). (g.S.Station.meaning s).failed_writes ≡ (g.S.Station.meaning c.args.station).failed_writes) (sym c.into_station.ensures)
+    (read_from {G = g.S.Station} c.args.station c.new-buffers.result c.new-blocks.result c.new-buffers.ensures.station c.new-blocks.ensures.buffers c.read_image.new.blocks c.read_image.ensures.reads.reads).writes
 
 pub returns-in-Ok-clause-serves : goal.returns-in-Ok-clause-serves
 returns-in-Ok-clause-serves g c honest just of first last snapshots changes holds =
     let m = g.S.Station.meaning c.args.station in
-    let new = g.S.Station.meaning c.read_image.new.blocks.station in
+    let new = g.S.Station.meaning c.read_image.new.blocks.buffers.station in
+    let kept = c.read_image.new.blocks.buffers.kept in
     let i = m.seen in
-    let shows = c.new-blocks.ensures.shows (blocks_of i.disk) honest (λ place within. refl) in
-    let on : ReadsOn (g.S.Station.meaning c.new-blocks.result.station) new =
-    c.read_image.ensures.reads.reads c.new-blocks.result (reads_none (g.S.Station.meaning c.new-blocks.result.station)) in
-    let from : ReadsOn m new = subst (λ (s : g.row.S.Denot). ReadsOn (g.S.Station.meaning s) new) c.new-blocks.ensures.station on in
-    let over : IsOver new c.read_image.new.blocks.kept c.args.found c.in-Ok.field-0 first last snapshots changes c.new.result c.new.ensures.closed c.new.ensures.fits i = record {
+    let shows = shown_new {G = g.S.Station} c.args.station c.new-buffers.result c.new-blocks.result c.new-buffers.ensures.station c.new-blocks.ensures.buffers
+    (c.new-buffers.ensures.shows (blocks_of i.disk) honest (λ place within. refl)) c.new-blocks.ensures.shows in
+    let from = read_from {G = g.S.Station} c.args.station c.new-buffers.result c.new-blocks.result c.new-buffers.ensures.station c.new-blocks.ensures.buffers c.read_image.new.blocks c.read_image.ensures.reads.reads in
+    let rests : c.read_image.new.blocks.laid ≡ None = (c.read_image.ensures.reads.reads c.new-blocks.result (reads_nothing g.S.Station c.new-blocks.result)).laid ∙ c.new-blocks.ensures.none in
+    let over : IsOver new kept c.args.found c.in-Ok.field-0 first last snapshots changes c.new.result c.new.ensures.closed c.new.ensures.fits i = record {
       just = still_left m new i from.same from.goes just;
-      shows = c.read_image.ensures.reads.same (blocks_of i.disk) shows;
+      shows = subst (λ (l : Option Laid). ShowsOver new kept l (blocks_of i.disk)) rests (c.read_image.ensures.reads.same (blocks_of i.disk) shows);
       of = of;
       holds = holds;
       has = c.in-Ok.ensures.has (blocks_of i.disk) i.nvram first last snapshots changes shows of.saved holds;
     } in
     let inodes = c.args.found.newest.root.geometry.inodes in
     let mounted = (c.mounts_find_volumes.ensures inodes last (c.replays_keep_volumes.ensures inodes first changes last holds.holds.volume holds.replays)).1 in
-    serves new c.read_image.new.blocks.kept c.args.found c.in-Ok.field-0 first last snapshots changes c.new.result c.new.ensures.closed c.new.ensures.fits i (from.goes honest).seen mounted c.in-Ok.ensures.fits.runs over
+    serves new kept c.args.found c.in-Ok.field-0 first last snapshots changes c.new.result c.new.ensures.closed c.new.ensures.fits c.read_image.new.blocks.laid rests i (from.goes honest).seen mounted
+    c.in-Ok.ensures.fits.runs over
 
 pub returns-in-Err-clause-serves : goal.returns-in-Err-clause-serves
 returns-in-Err-clause-serves g c honest just of first last snapshots changes holds =
-    let m = g.S.Station.meaning c.args.station in
-    let i = m.seen in
-    let shows = c.new-blocks.ensures.shows (blocks_of i.disk) honest (λ place within. refl) in
+    let i = (g.S.Station.meaning c.args.station).seen in
+    let shows = shown_new {G = g.S.Station} c.args.station c.new-buffers.result c.new-blocks.result c.new-buffers.ensures.station c.new-blocks.ensures.buffers
+    (c.new-buffers.ensures.shows (blocks_of i.disk) honest (λ place within. refl)) c.new-blocks.ensures.shows in
     c.in-Err.ensures.has (blocks_of i.disk) i.nvram first last snapshots changes shows of.saved holds
 
 pub returns-in-Ok-clause-found : goal.returns-in-Ok-clause-found
@@ -52,7 +78,7 @@ returns-in-Ok-clause-found g c = (refl, refl, c.in-Ok.ensures.log)
 
 pub returns-in-Err-clause-faultless : goal.returns-in-Err-clause-faultless
 returns-in-Err-clause-faultless g c honest of changes under =
-    let m = g.S.Station.meaning c.args.station in
-    let i = m.seen in
-    let shows = c.new-blocks.ensures.shows (blocks_of i.disk) honest (λ place within. refl) in
+    let i = (g.S.Station.meaning c.args.station).seen in
+    let shows = shown_new {G = g.S.Station} c.args.station c.new-buffers.result c.new-blocks.result c.new-buffers.ensures.station c.new-blocks.ensures.buffers
+    (c.new-buffers.ensures.shows (blocks_of i.disk) honest (λ place within. refl)) c.new-blocks.ensures.shows in
     c.in-Err.ensures.faultless (blocks_of i.disk) i.nvram changes shows of.saved under

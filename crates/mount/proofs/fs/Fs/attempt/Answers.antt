@@ -9,4 +9,3 @@ returns-in-Ok g c =
 pub returns-in-Err : goal.returns-in-Err
 returns-in-Err g c =
     attempts_not {G = g.S.Station} c.args.self.now _ c.args.call.now c.requires.going c.in-Err.error c.in-Err.ensures (c.args.self.now.runs c.requires.going) c.fails_call-self.ensures
-    (λ t here. c.served_states_open.ensures t.tree.descriptors t here)

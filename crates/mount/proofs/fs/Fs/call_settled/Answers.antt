@@ -1,6 +1,6 @@
 use Rattle.std.proofs.Common.{arith, inl, inr}
 use Rattle.system.specs.Systems.{IsCovered}
-use Rattle.mount.proofs.AnswerLemmas.{attempted, behind_that, no_room, no_room_left, not_attempted, settled_applied, short_by}
+use Rattle.mount.proofs.AnswerLemmas.{ages_same, attempted, behind_that, no_room, no_room_left, not_attempted, settled_applied, short_by}
 use Rattle.mount.proofs.AttemptLemmas.{still_going}
 use Rattle.mount.proofs.fs.Fs.call_settled.Goals as goal
 
@@ -20,12 +20,12 @@ returns-in-Err g c = no_room 1 _ _ _ c.args.call.now c.in-Err.errno (omega arith
 pub returns-in-Ok : goal.returns-in-Ok
 returns-in-Ok g c =
     behind_that 1 1 0 _ (λ s. Unit {0}) c.args.self.now c.settle.new.self _ c.args.call.now c.in-Ok.reply (omega arith) c.requires.going c.in_default.ensures.made.keeps
-    (attempted 0 _ _ _ c.args.call.now c.in-Ok.reply c.in-Ok.ensures) (λ s serves needs. tt) (λ s serves needs. needs.not_sure)
+    (attempted 0 _ _ _ c.args.call.now c.in-Ok.reply (ages_same 0 _ _ (c.in-Ok.ensures.calm c.in_default.ensures.made.empty)) c.in-Ok.ensures) (λ s serves needs. tt) (λ s serves needs. needs.not_sure)
 
 pub returns-in-Err-attempt : goal.returns-in-Err-attempt
 returns-in-Err-attempt g c =
     let made = c.in_default.ensures.made in
     behind_that 1 1 0 _ (λ s. IsCovered c.settle.new.self.system s.tree.descriptors s) c.args.self.now c.settle.new.self _ c.args.call.now _ (omega arith) c.requires.going made.keeps
-    (not_attempted 0 _ _ _ c.args.call.now c.in-Err-attempt.error _ c.errno_of_call.ensures c.in-Err-attempt.ensures
+    (not_attempted 0 _ _ _ c.args.call.now c.in-Err-attempt.error _ c.errno_of_call.ensures (ages_same 0 _ _ (c.in-Err-attempt.ensures.calm made.empty)) c.in-Err-attempt.ensures
     (λ s serves covered. settled_applied {G = g.S.Station} _ _ c.args.call.now c.in-Err-attempt.error c.in-Err-attempt.ensures made.going made.empty s serves covered))
     (λ s serves needs. made.covered s serves) (λ s serves needs. needs.not_sure)

@@ -1,4 +1,4 @@
-use Rattle.std.proofs.Common.{arith, refl}
+use Rattle.std.proofs.Common.{arith, inl, refl}
 use Rattle.station.proofs.Moments.{same_none, started}
 use Rattle.model.specs.declared.command.Command.TheVariants.{Sync}
 use Rattle.model.specs.declared.reply.Reply.TheVariants.{Done}
@@ -16,7 +16,7 @@ returns-then-is_covered g c =
     at_once 2 _ fs fs Sync Done (λ is. cc) refl refl refl (λ s serves young _.
     let served = serves.kept (still_going fs s serves c.requires) in
     let opens = c.served_states_open.ensures s.tree.descriptors s served in
-    synced fs fs s serves c.requires (stays_by fs fs s serves c.requires (same_none m) c.requires served (started m (OpensTo m s) opens)) refl refl
+    synced fs fs s serves c.requires (stays_by fs fs s serves c.requires (same_none m) c.requires served (started m (OpensTo m s) opens)) (inl refl) refl
     (c.is_covered.ensures.covers s.tree.descriptors s served c.if-is_covered.true))
 
 pub returns-in-Ok : goal.returns-in-Ok

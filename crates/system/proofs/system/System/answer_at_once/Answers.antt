@@ -1,9 +1,8 @@
 use Rattle.std.proofs.Common.{ℕ, Option, inl, refl, subst}
 use Rattle.model.specs.Trees.{Description}
 use Rattle.model.specs.Volumes.{IsMounted}
-use Rattle.buffers.specs.Readings.{reads_none}
+use Rattle.system.proofs.LookedLaws.{reads_nothing}
 use Rattle.descriptors.specs.Tables.{table_of}
-use Rattle.system.specs.Systems.{meaning_of}
 use Rattle.system.proofs.OpenFileLaws.{table_leads, table_sure}
 use Rattle.system.proofs.ServingLaws.{answered_leading}
 use Rattle.system.proofs.system.System.answer_at_once.Goals as goal
@@ -13,7 +12,7 @@ returns g c =
     let fs = c.args.self.now in
     let call = c.args.call.now in
     let told = c.answer_from_table.ensures in
-    answered_leading fs _ call (reads_none (meaning_of {G = g.S.Station} fs)) refl (λ s served. inl (record { sure = table_sure s call c.requires; still = refl })) c.answer_from_table.result refl told.no_fault
+    answered_leading fs _ call (reads_nothing g.S.Station fs.blocks) refl (λ s served. inl (record { sure = table_sure s call c.requires; still = refl })) c.answer_from_table.result refl told.no_fault
     (λ s served. c.served_states_open.ensures s.tree.descriptors s served)
     (λ s served.
     let v = served.running in

@@ -1,4 +1,4 @@
-use Rattle.std.proofs.Common.{ℕ, Err, Option, ap, inr, refl, sym, subst, [], ◌∷◌, ◌++◌}
+use Rattle.std.proofs.Common.{◌∙◌, ℕ, Err, Option, ap, inr, refl, sym, subst, [], ◌∷◌, ◌++◌}
 use Rattle.replay.specs.Costs.{KnowsFile}
 use Rattle.layout.specs.Record.{change_of}
 use Rattle.model.specs.Records.{applied, work_of}
@@ -6,15 +6,16 @@ use Rattle.model.specs.States.{State}
 use Rattle.model.specs.Trees.{Description}
 use Rattle.model.specs.Volumes.{IsMounted, swept}
 use Rattle.model.specs.declared.errno.Errno.TheVariants.{EIO}
-use Rattle.buffers.specs.declared.cache.Buffers.{Buffers}
+use Rattle.overlay.specs.declared.overlay.Overlay.{Overlay}
 use Rattle.descriptors.specs.Tables.{table_of}
 use Rattle.system.specs.OpenFiles.{DoesCall, moved_table}
-use Rattle.system.specs.Serving.{ServesState}
-use Rattle.system.specs.Systems.{meaning_of}
+use Rattle.system.specs.Serving.{IsStepDue, ServesState}
+use Rattle.system.specs.Systems.{disk_of, meaning_of}
+use Rattle.system.specs.declared.system.System.{System}
 use Rattle.system.proofs.ChangingLaws.{does_over}
 use Rattle.system.proofs.FileChangeLaws.{Moves, logged_moves}
 use Rattle.system.proofs.HandlingLaws.{logged, not_logged, serves_same}
-use Rattle.system.proofs.LookedLaws.{looked_on, never_damaged, on_open, on_volumes, reads_on}
+use Rattle.system.proofs.LookedLaws.{looked_on, never_damaged, on_open, on_volumes, reads_on, same_disk}
 use Rattle.system.proofs.MovedLaws.{leaves_moved}
 use Rattle.system.proofs.OpenFileLaws.{logging_not_sure, record_fits, refused_by, table_leads, told_beside, told_logged}
 use Rattle.system.proofs.ServingLaws.{answered_leading, failed_by}
@@ -58,7 +59,7 @@ returns-in-Ok-log g c =
     let looks = told.looks in
     let blocks = c.prepare_open_file.new.blocks in
     let inodes = c.prepare_open_file.new.inodes in
-    let mid = g.S.Station.meaning blocks.station in
+    let mid = g.S.Station.meaning blocks.buffers.station in
     let reads = reads_on {G = g.S.Station} fs blocks inodes looks in
     let before = looked_on {G = g.S.Station} fs blocks inodes looks in
     let doing = c.in-Ok.doing in
@@ -74,7 +75,7 @@ returns-in-Ok-log g c =
       fits = put.fits;
       mounted = put.mounted;
     } in
-    logged {G = g.S.Station} fs _ mid call doing.reply reads looks.reads.counted c.log.ensures.log.0
+    logged {G = g.S.Station} fs _ mid call doing.reply reads.below (c.log.ensures.laid ∙ reads.laid) looks.reads.counted c.log.ensures.log.0
     (λ s served. c.served_states_open.ensures s.tree.descriptors s served) (λ s served. logging_not_sure s call c.requires)
     (λ s served. record { after = _; work = work_of served.running change; step = (made s served).step; leaves = leads s served })
     c.in-Ok-log.field-0 change (λ s served. refl) (told.within.accepted EIO) told.within.accepted c.in-Ok-log.ensures.writes c.in-Ok-log.ensures.log.1
@@ -83,9 +84,9 @@ returns-in-Ok-log g c =
     (λ s served.
     let is = made s served in
     let behind = logged_moves {G = g.S.Station} c.log.new.self c.put_into.new.files doing.table s.tree.descriptors fs.root.geometry.inodes (swept s.tree.descriptors (applied change served.running)) served.snapshots
-    (served.replayed.changes ++ change ∷ [])
+    (served.lasts.replayed.changes ++ change ∷ [])
     (c.in-Ok-log.ensures.done s.tree.descriptors s (before s served) is.advances
-    (does_over (meaning_of {G = g.S.Station} fs) mid fs.root inodes served.running _ change _ c.record.ensures.says (sym (reads.goes served.honest).seen)
+    (does_over (disk_of {G = g.S.Station} fs) _ fs.root inodes served.running _ change _ c.record.ensures.says (same_disk {G = g.S.Station} fs blocks inodes looks s served)
     (rw c.in-Some.is at (on_volumes {G = g.S.Station} fs told.does s served))))
     is.advances.mounted is.fits moves in
     (behind.serves, behind.records))
@@ -98,7 +99,7 @@ returns-in-Err-log g c =
     let looks = told.looks in
     let blocks = c.prepare_open_file.new.blocks in
     let inodes = c.prepare_open_file.new.inodes in
-    let mid = g.S.Station.meaning blocks.station in
+    let mid = g.S.Station.meaning blocks.buffers.station in
     let before = looked_on {G = g.S.Station} fs blocks inodes looks in
     let doing = c.in-Ok.doing in
     let change = change_of c.record.result in
@@ -107,17 +108,21 @@ returns-in-Err-log g c =
     let leads = λ (s : State) (served : ServesState {G = g.S.Station} fs s).
     leaves_moved mid (meaning_of {G = g.S.Station} c.log.new.self) s fs.root.geometry.inodes (swept s.tree.descriptors (applied change served.running)) s.tree.descriptors
     (moved_table doing.table s.tree.descriptors) served.snapshots (c.log.ensures.any_moment s.tree.descriptors s (before s served) (made s served).advances) in
+    let reads = reads_on {G = g.S.Station} fs blocks inodes looks in
     let failed = c.in-Err-log.ensures in
-    not_logged {G = g.S.Station} fs c.log.new.self mid call doing.reply (reads_on {G = g.S.Station} fs blocks inodes looks) looks.reads.counted c.log.ensures.log.0
+    not_logged {G = g.S.Station} fs c.log.new.self mid call doing.reply reads.below (c.log.ensures.laid ∙ reads.laid) looks.reads.counted c.log.ensures.log.0
     (λ s served. c.served_states_open.ensures s.tree.descriptors s served) (λ s served. logging_not_sure s call c.requires)
     (λ s served. record { after = _; work = work_of served.running change; step = (made s served).step; leaves = leads s served })
     c.in-Err-log.error failed.own failed.writes
     (λ is.
     let same = failed.refused.1 is in (
-      ap (λ (b : Buffers g.row.S.Denot). g.S.Station.meaning b.station) (sym same.0),
+      ap (λ (b : Overlay g.row.S.Denot g.S.Station). g.S.Station.meaning b.buffers.station) (sym same.0),
       same.1,
       c.log.ensures.opened.0,
       λ s served. serves_same {G = g.S.Station} fs c.log.new.self blocks inodes s same.0 failed.refused.0 same.1 (before s served),
     ))
+    (λ is.
+    let due = failed.due (ap (λ e. Err e) is) in
+    (due.0, subst (λ (f : System g.row.S.Denot g.S.Station). IsStepDue f) (sym due.2) due.1))
     (λ is empty. record_fits {G = g.S.Station} fs change empty c.record.ensures.short (failed.full (ap (λ e. Err e) is)))
     (λ is s served. failed.short s.tree.descriptors s (before s served) (subst (KnowsFile inodes) (sym c.record.ensures.says) (rw c.in-Some.is at (on_volumes {G = g.S.Station} fs told.does s served)).knows) (ap (λ e. Err e) is))

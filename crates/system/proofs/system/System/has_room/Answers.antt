@@ -5,7 +5,7 @@ use Rattle.layout.specs.Places.{blocks_of}
 use Rattle.model.specs.Room as room
 use Rattle.images.specs.Roots.{whole}
 use Rattle.loading.specs.Images.{inodes_of}
-use Rattle.system.specs.Systems.{meaning_of}
+use Rattle.system.specs.Systems.{disk_of}
 use Rattle.system.proofs.RoomLaws.{same_cost}
 use Rattle.system.proofs.system.System.has_room.Goals as goal
 
@@ -18,7 +18,7 @@ returns-clause-logs g c = λ yes v.
 pub returns-clause-told : goal.returns-clause-told
 returns-clause-told g c = λ table s serves knows.
     let f = c.args.self.now in
-    let disk = blocks_of (meaning_of {G = g.S.Station} f).seen.disk in
+    let disk = blocks_of (disk_of {G = g.S.Station} f) in
     let size = c.size_before-size.ensures _ f.root.geometry.blocks disk (inodes_of (whole disk f.root).active) serves.running serves.memory.stands knows in
     let fixed = c.fixed_of.ensures ∙ ap room.fixed_of (c.count.ensures ∙ f.count) in
     let cost = c.cost_of.ensures.cost serves.running size in

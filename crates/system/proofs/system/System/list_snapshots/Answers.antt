@@ -1,12 +1,12 @@
 use Rattle.std.proofs.Common.{◌∙◌, List, map, ap, inr, refl, sym}
 use Rattle.std.specs.Prelude.{Err}
 use Rattle.layout.specs.Places.{blocks_of}
-use Rattle.buffers.specs.Readings.{reads_none}
+use Rattle.system.proofs.LookedLaws.{reads_nothing}
 use Rattle.model.specs.Paths.{Name}
 use Rattle.model.specs.Trees.{Tree}
 use Rattle.model.specs.declared.command.Command.TheVariants as command
 use Rattle.model.specs.declared.reply.Reply.TheVariants.{Snaps}
-use Rattle.system.specs.Systems.{meaning_of}
+use Rattle.system.specs.Systems.{disk_of}
 use Rattle.system.proofs.ServingLaws.{answered, unanswered_read}
 use Rattle.system.proofs.ViewLaws.{snapshots_of, snaps_no_fault, stays_read}
 use Rattle.system.proofs.system.System.list_snapshots.Goals as goal
@@ -14,10 +14,9 @@ use Rattle.system.proofs.system.System.list_snapshots.Goals as goal
 pub returns-in-Ok : goal.returns-in-Ok
 returns-in-Ok g c =
     let fs = c.args.self.now in
-    let m = meaning_of {G = g.S.Station} fs in
-    let d = blocks_of m.seen.disk in
+    let d = blocks_of (disk_of {G = g.S.Station} fs) in
     let told = c.in-Ok.ensures in
-    let reads = told.reads.reads fs.blocks (reads_none m) in
+    let reads = told.reads.reads fs.blocks (reads_nothing g.S.Station fs.blocks) in
     answered fs _ command.SnapList reads refl (λ s served. (stays_read {G = g.S.Station} fs c.names.new.blocks s reads told.reads.same served, refl)) (λ s served. inr (λ x. x)) _ told.reads.counted (snaps_no_fault _)
     (λ s served. c.served_states_open.ensures s.tree.descriptors s served)
     (λ s served room. (
@@ -29,9 +28,8 @@ returns-in-Ok g c =
 pub returns-in-Err : goal.returns-in-Err
 returns-in-Err g c =
     let fs = c.args.self.now in
-    let m = meaning_of {G = g.S.Station} fs in
-    let d = blocks_of m.seen.disk in
+    let d = blocks_of (disk_of {G = g.S.Station} fs) in
     let told = c.in-Err.ensures in
-    let reads = told.reads.reads fs.blocks (reads_none m) in
+    let reads = told.reads.reads fs.blocks (reads_nothing g.S.Station fs.blocks) in
     unanswered_read fs _ command.SnapList reads refl (λ s served. (stays_read {G = g.S.Station} fs c.names.new.blocks s reads told.reads.same served, refl)) (λ s served x. x) c.in-Err.error _ c.call_error.ensures told.reads.device
     (λ s served is. told.damaged d served.shows served.first served.snapshots served.under.holds (ap (λ e. Err e) is))

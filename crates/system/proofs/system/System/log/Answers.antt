@@ -1,11 +1,14 @@
-use Rattle.std.proofs.Common.{◌≡◌, ◌≤◌, ◌+◌, ◌∙◌, ◌⊎◌, ℕ, Option, ap, arith, inl, sym, subst}
+use Rattle.std.proofs.Common.{Err, ◌≡◌, ◌≤◌, ◌+◌, ◌∙◌, ◌⊎◌, ℕ, Option, ap, arith, inl, sym, subst}
+use Rattle.std.specs.Prelude.{IsErrOf}
 use Rattle.std.proofs.lemmas.Bool.{false≢true}
 use Rattle.station.specs.Images.{Images}
+use Rattle.station.specs.Moments.{EachCut, Meaning}
 use Rattle.station.proofs.Moments.{started, weaker}
 use Rattle.layout.specs.Places.{blocks_of}
 use Rattle.layout.specs.Record.{change_of}
 use Rattle.model.specs.Records.{applied, work_of}
 use Rattle.model.specs.Room.{cost}
+use Rattle.model.specs.States.{State}
 use Rattle.model.specs.Trees.{Description}
 use Rattle.model.specs.Volumes.{IsMounted, Volume, swept}
 use Rattle.descriptors.specs.Fits.{FitsVolume}
@@ -17,23 +20,32 @@ use Rattle.inofile.specs.declared.inode_file.InodeFile.{InodeFile}
 use Rattle.images.specs.Roots.{whole}
 use Rattle.loading.specs.Images.{inodes_of}
 use Rattle.records.specs.Prepared.{Does}
+use Rattle.oplog.specs.declared.log.AppendError.{AppendError}
+use Rattle.oplog.specs.declared.log.AppendError.TheVariants.{Device, LogFull, NoMemory}
+use Rattle.system.specs.Errors.{log_error}
 use Rattle.system.specs.Images.{OpensTo}
-use Rattle.system.specs.Systems.{Parts, meaning_of, state_with}
+use Rattle.system.specs.declared.error.CallError.{CallError}
+use Rattle.system.specs.declared.error.CallError.TheVariants.{NoRoom}
+use Rattle.system.specs.Serving.{LeavesEither}
+use Rattle.system.specs.Systems.{Parts, disk_of}
 use Rattle.system.proofs.system.System.log.Goals as goal
 
+-- where nothing is done a cut leaves the state before it
+before : (m : Meaning) (s t : State) → EachCut m (OpensTo m s) → LeavesEither m m s t
+before m s t opens = weaker m m (OpensTo m s) (λ (i : Images). OpensTo m s i ⊎ OpensTo m t i) (started m (OpensTo m s) opens) (λ i here. inl here)
+
+pub returns-then-is_step_due-clause-any_moment : goal.returns-then-is_step_due-clause-any_moment
+returns-then-is_step_due-clause-any_moment g c = λ table s serves advances. before _ s _ (c.served_states_open.ensures table s serves)
+
 pub returns-then-ne-clause-any_moment : goal.returns-then-ne-clause-any_moment
-returns-then-ne-clause-any_moment g c = λ table s serves advances.
-    let f = c.args.self.now in
-    let m = meaning_of {G = g.S.Station} f in
-    let after = state_with f.root.geometry.inodes (swept table (applied (change_of c.args.change.now) serves.running)) table serves.snapshots in
-    weaker m m (OpensTo m s) (λ (i : Images). OpensTo m s i ⊎ OpensTo m after i) (started m (OpensTo m s) (c.served_states_open.ensures table s serves)) (λ i here. inl here)
+returns-then-ne-clause-any_moment g c = λ table s serves advances. before _ s _ (c.served_states_open.ensures table s serves)
 
 pub returns-clause-done : goal.returns-clause-done
 returns-clause-done g c = λ table s serves advances does.
     let f = c.args.self.now in
     let change = change_of c.args.change.now in
     let v = serves.running in
-    let disk = blocks_of (meaning_of {G = g.S.Station} f).seen.disk in
+    let disk = blocks_of (disk_of {G = g.S.Station} f) in
     let settled = inodes_of (whole disk f.root).active in
     let count = f.root.geometry.blocks in
     let stays = c.log_record.ensures.stays.0 in
@@ -46,8 +58,8 @@ returns-clause-done g c = λ table s serves advances does.
     let mounted = subst (λ (t : ℕ → Option Description). IsMounted v t) opened serves.mounted in
     let within = subst (λ (i : InodeFile). memory_room serves.first c.commit_swept.new.inodes (after (table_of c.log_record.new.self.files)) ≤ memory_room serves.first i v + cost (work_of v change))
     (sym same) (c.commit_swept.ensures.room serves.first count disk settled v change over doing mounted) in
-    let stored = subst (λ (t : ℕ → Option Description). memory_room serves.first c.commit_swept.new.inodes (after t) ≤ c.log_record.new.self.pledged) (sym opened)
-    (omega (arith, within, serves.stored, c.in_default.ensures.pledges v)) in
+    let stored = subst (λ (t : ℕ → Option Description). memory_room serves.first c.commit_swept.new.inodes (after t) ≤ c.log_record.new.self.pledged_then) (sym opened)
+    (omega (arith, within, serves.stored, (c.in_default.ensures.pledges v).1)) in
     c.in_default.ensures.logged table s serves advances c.commit_swept.new.inodes c.commit_swept.new.files
     (subst (λ (t : ℕ → Option Description). IsVolumeOf count disk settled c.commit_swept.new.inodes (after t)) (sym opened)
     (c.commit_swept.ensures.volume count disk settled v change over doing mounted))
@@ -62,11 +74,16 @@ pub returns-then-not-has_room-clause-short : goal.returns-then-not-has_room-clau
 returns-then-not-has_room-clause-short g c = λ table s serves knows is room. false≢true (sym c.if-not-has_room.true ∙ (c.has_room.ensures.told table s serves knows).1 room)
 
 pub returns-then-not-has_room-clause-any_moment : goal.returns-then-not-has_room-clause-any_moment
-returns-then-not-has_room-clause-any_moment g c = λ table s serves advances.
-    let f = c.args.self.now in
-    let m = meaning_of {G = g.S.Station} f in
-    let after = state_with f.root.geometry.inodes (swept table (applied (change_of c.args.change.now) serves.running)) table serves.snapshots in
-    weaker m m (OpensTo m s) (λ (i : Images). OpensTo m s i ⊎ OpensTo m after i) (started m (OpensTo m s) (c.served_states_open.ensures table s serves)) (λ i here. inl here)
+returns-then-not-has_room-clause-any_moment g c = λ table s serves advances. before _ s _ (c.served_states_open.ensures table s serves)
 
 pub returns-clause-room : goal.returns-clause-room
 returns-clause-room g c = λ table s serves knows. (c.has_room.ensures.told table s serves knows).0 c.if-not-has_room.false
+
+-- an append fails for other reasons
+other_reason : (e : AppendError) (x : CallError) → x ≡ log_error e → IsErrOf {T = Unit {0}} (Err x) NoRoom → ⊥
+other_reason NoMemory x is err = cc
+other_reason Device x is err = cc
+other_reason LogFull x is err = cc
+
+pub returns-in-Err-clause-short : goal.returns-in-Err-clause-short
+returns-in-Err-clause-short g c = λ table s serves knows is room. other_reason c.in-Err.error c.log_error.result c.log_error.ensures is

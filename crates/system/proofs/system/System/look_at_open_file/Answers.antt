@@ -23,8 +23,8 @@ returns g c =
     came_to fs _ call (reads_on {G = g.S.Station} fs blocks inodes looks) refl result _ c.answer.ensures (λ s served. looking_not_sure s call c.requires)
     (λ s served. c.served_states_open.ensures s.tree.descriptors s served) looks.reads.counted looks.reads.device seen.own c.read_open_file-outcome.ensures.no_fault
     (on_err_weaker result
-    (λ same s served. subst (λ (x : Descriptors). (serves : IsServing (g.S.Station.meaning blocks.station)
-    (record (system_parts {G = g.S.Station} fs) { kept = blocks.kept; inodes = inodes; files = x }) s.tree.descriptors s) × (serves.replayed.changes ≡ served.replayed.changes)) (sym same)
+    (λ same s served. subst (λ (x : Descriptors). (serves : IsServing (g.S.Station.meaning blocks.buffers.station)
+    (record (system_parts {G = g.S.Station} fs) { kept = blocks.buffers.kept; laid = blocks.laid; inodes = inodes; files = x }) s.tree.descriptors s) × (serves.lasts.replayed.changes ≡ served.lasts.replayed.changes)) (sym same)
     (looked_on {G = g.S.Station} fs blocks inodes looks s served, refl)) seen.refused)
     (λ s served.
     let mounted = subst (λ (t : ℕ → Option Description). IsMounted served.running t) served.opened served.mounted in

@@ -1,13 +1,13 @@
 use Rattle.std.proofs.Common.{List, ℕ, refl, subst}
 use Rattle.std.proofs.lemmas.Result.{IfOk-weaker}
 use Rattle.layout.specs.Places.{blocks_of}
-use Rattle.buffers.specs.Readings.{reads_none}
+use Rattle.system.proofs.LookedLaws.{reads_nothing}
 use Rattle.model.specs.Room.{nothing}
 use Rattle.model.specs.Steps.{views}
 use Rattle.model.specs.declared.command.Command.TheVariants as command
 use Rattle.records.specs.Failures.{told}
 use Rattle.system.specs.Answering.{answered_reply}
-use Rattle.system.specs.Systems.{meaning_of}
+use Rattle.system.specs.Systems.{disk_of}
 use Rattle.system.proofs.ServingLaws.{looked_up}
 use Rattle.system.proofs.ViewLaws.{snapshots_of, stays_read}
 use Rattle.system.proofs.system.System.look_within.Goals as goal
@@ -15,10 +15,9 @@ use Rattle.system.proofs.system.System.look_within.Goals as goal
 pub returns : goal.returns
 returns g c =
     let fs = c.args.self.now in
-    let m = meaning_of {G = g.S.Station} fs in
-    let d = blocks_of m.seen.disk in
+    let d = blocks_of (disk_of {G = g.S.Station} fs) in
     let seen = c.read_within-outcome.ensures in
-    let reads = seen.reads.reads fs.blocks (reads_none m) in
+    let reads = seen.reads.reads fs.blocks (reads_nothing g.S.Station fs.blocks) in
     let call = c.args.call.now in
     looked_up fs _ (command.Within c.args.name.now call) reads refl c.read_within-outcome.result _ c.answer.ensures (λ s served x. x) (λ s served. c.served_states_open.ensures s.tree.descriptors s served)
     seen.reads.counted seen.reads.device seen.own seen.no_fault

@@ -21,6 +21,7 @@ returns g c =
       unlogged = made.unlogged;
       generation = made.generation;
       log = made.log;
+      rests = made.rests;
       unchanged = made.unchanged;
       roomy = made.roomy;
       damaged = made.damaged;

@@ -1,9 +1,8 @@
-use Rattle.std.proofs.Common.{◌≡◌, ◌≢◌, inl, inr, ◌<◌, ◌^◌, [], ◌∷◌, ◌++◌, None, Result, Err, ap, refl, sym, subst, arith}
+use Rattle.std.proofs.Common.{◌≡◌, ◌≢◌, inl, inr, ◌<◌, ◌^◌, [], ◌∷◌, ◌++◌, None, Result, Err, ap, refl, subst, arith}
 use Rattle.std.specs.Prelude.{IfErr, IfOk, MatchResult}
 use Rattle.std.proofs.lemmas.Bool.{cases_lt, false≢true}
-use Rattle.station.specs.Images.{Images}
+use Rattle.station.proofs.Moments.{goes_on_unchanged, leaves_unchanged}
 use Rattle.layout.specs.Places.{blocks_of}
-use Rattle.buffers.specs.Readings.{reads_none}
 use Rattle.images.specs.SnapshotSteps.SnapshotStep.{taken}
 use Rattle.model.specs.Paths.{Name, first_refusal}
 use Rattle.model.specs.Room.{a_snapshot, nothing}
@@ -17,11 +16,16 @@ use Rattle.model.specs.declared.errno.Errno.TheVariants.{EIO}
 use Rattle.model.specs.declared.reply.Reply.TheVariants.{Done, Refused}
 use Rattle.snapshots.specs.Taken.{MayTake, RefusesTake}
 use Rattle.snapshots.specs.declared.taking.Taking.{Taking}
+use Rattle.overlay.specs.Overlays.{planned_disk}
+use Rattle.system.specs.Images.{OpensTo}
 use Rattle.system.specs.Serving.{ServesState}
-use Rattle.system.specs.Systems.{meaning_of}
+use Rattle.system.specs.Systems.{disk_of, meaning_of}
+use Rattle.system.proofs.CountingLaws.{all_read, nothing_logged}
 use Rattle.system.proofs.HandlingLaws.{either_after}
+use Rattle.system.proofs.LookedLaws.{reads_nothing}
 use Rattle.system.proofs.PointLaws.{later}
-use Rattle.system.proofs.SettlingLaws.{can_take, not_settled, refuses, settles, take_refused, take_step, too_old, unread}
+use Rattle.system.proofs.SettlingLaws.{can_take, not_settled, refuses, settles, take_refused, take_step, too_old, unmade, unread}
+use Rattle.system.proofs.SystemLaws.{at_rest}
 use Rattle.system.proofs.ViewLaws.{closed, snapshots_of, stays_read}
 use Rattle.system.proofs.system.System.take.Given.{Over}
 use Rattle.system.proofs.system.System.take.Goals as goal
@@ -31,16 +35,16 @@ use Rattle.system.proofs.system.System.take.Goals.{In-Ok-Ok}
 passed : (g : Over) (c : In-Ok-Ok g) (s : State) → ServesState {G = g.S.Station} c.args.self.now s → first_refusal (take_tests s c.as_bytes-name.result.now) ≡ None
 passed g c s served =
     let fs = c.args.self.now in
-    let d = blocks_of (meaning_of {G = g.S.Station} fs).seen.disk in
+    let d = blocks_of (disk_of {G = g.S.Station} fs) in
     let name = c.as_bytes-name.result.now in
     subst (λ (r : Result Taking Errno). MatchResult r (λ t. first_refusal (take_tests s name) ≡ None) (RefusesTake s name)) c.in-Ok-Ok.field-0-is
     (c.in-Ok-Ok.ensures.tests d served.shows served.first served.snapshots served.under.holds s (snapshots_of {G = g.S.Station} fs s served))
 
 may : (g : Over) (c : In-Ok-Ok g) (s : State) → ServesState {G = g.S.Station} c.args.self.now s
-    → MayTake (blocks_of (meaning_of {G = g.S.Station} c.args.self.now).seen.disk) c.args.self.now.root c.as_bytes-name.result.now c.in-Ok-Ok.taking
+    → MayTake (blocks_of (disk_of {G = g.S.Station} c.args.self.now)) c.args.self.now.root c.as_bytes-name.result.now c.in-Ok-Ok.taking
 may g c s served =
     let fs = c.args.self.now in
-    let d = blocks_of (meaning_of {G = g.S.Station} fs).seen.disk in
+    let d = blocks_of (disk_of {G = g.S.Station} fs) in
     subst (λ (r : Result Taking Errno). IfOk r (MayTake d fs.root c.as_bytes-name.result.now)) c.in-Ok-Ok.field-0-is
     (c.in-Ok-Ok.ensures.may d served.shows served.first served.snapshots served.under.holds)
 
@@ -48,13 +52,14 @@ pub returns-in-Ok-Err : goal.returns-in-Ok-Err
 returns-in-Ok-Err g c =
     let fs = c.args.self.now in
     let m = meaning_of {G = g.S.Station} fs in
-    let d = blocks_of m.seen.disk in
+    let d = blocks_of (disk_of {G = g.S.Station} fs) in
     let told = c.in-Ok-Err.ensures in
-    let reads = told.reads.reads fs.blocks (reads_none m) in
+    let on = told.reads.reads fs.blocks (reads_nothing g.S.Station fs.blocks) in
+    let opens = λ (s : State) (served : ServesState {G = g.S.Station} fs s). c.served_states_open.ensures s.tree.descriptors s served in
     let name = c.as_bytes-name.result.now in
     let errno = c.in-Ok-Err.errno in
     let own : errno ≢ EIO = subst (λ (r : Result Taking Errno). IfErr r (λ e. e ≢ EIO)) c.in-Ok-Err.field-0-is told.own in
-    refuses fs _ _ (command.SnapTake c.args.name.now) reads refl (λ s served. stays_read {G = g.S.Station} fs c.prepare_take.new.blocks s reads told.reads.same served) errno own told.reads.counted
+    refuses fs _ _ (command.SnapTake c.args.name.now) on.below refl opens (λ s served. stays_read {G = g.S.Station} fs c.prepare_take.new.blocks s on told.reads.same served) errno own told.reads.counted
     (λ s served room. subst (λ (n : Name). takes s n (Refused errno) s nothing) c.as_bytes-name.ensures
     (take_refused s name errno
     (subst (λ (r : Result Taking Errno). MatchResult r (λ t. first_refusal (take_tests s name) ≡ None) (RefusesTake s name)) c.in-Ok-Err.field-0-is
@@ -64,24 +69,27 @@ pub returns-in-Err : goal.returns-in-Err
 returns-in-Err g c =
     let fs = c.args.self.now in
     let m = meaning_of {G = g.S.Station} fs in
-    let d = blocks_of m.seen.disk in
+    let d = blocks_of (disk_of {G = g.S.Station} fs) in
     let told = c.in-Err.ensures in
-    let reads = told.reads.reads fs.blocks (reads_none m) in
-    unread fs _ _ (command.SnapTake c.args.name.now) reads refl (λ s served. stays_read {G = g.S.Station} fs c.prepare_take.new.blocks s reads told.reads.same served) c.in-Err.error _ c.from.ensures told.reads.device
+    let on = told.reads.reads fs.blocks (reads_nothing g.S.Station fs.blocks) in
+    let opens = λ (s : State) (served : ServesState {G = g.S.Station} fs s). c.served_states_open.ensures s.tree.descriptors s served in
+    unread fs _ _ (command.SnapTake c.args.name.now) on.below refl opens (λ s served. stays_read {G = g.S.Station} fs c.prepare_take.new.blocks s on told.reads.same served) c.in-Err.error _ c.from.ensures told.reads.device
     (λ s served is. told.damaged d served.shows served.first served.snapshots served.under.holds (ap (λ e. Err e) is))
 
 pub returns-in_default : goal.returns-in_default
 returns-in_default g c =
     let fs = c.args.self.now in
     let m = meaning_of {G = g.S.Station} fs in
-    let d = blocks_of m.seen.disk in
+    let d = blocks_of (disk_of {G = g.S.Station} fs) in
     let told = c.in-Ok-Ok.ensures in
-    let reads = told.reads.reads fs.blocks (reads_none m) in
-    too_old fs _ _ (command.SnapTake c.args.name.now) reads refl (λ s served. stays_read {G = g.S.Station} fs c.prepare_take.new.blocks s reads told.reads.same served)
+    let on = told.reads.reads fs.blocks (reads_nothing g.S.Station fs.blocks) in
+    let opens = λ (s : State) (served : ServesState {G = g.S.Station} fs s). c.served_states_open.ensures s.tree.descriptors s served in
+    too_old fs _ _ (command.SnapTake c.args.name.now) on.below refl opens (λ s served. stays_read {G = g.S.Station} fs c.prepare_take.new.blocks s on told.reads.same served)
     (λ s served.
     let t = may g (goal.at.returns-in_default g c).In-Ok-Ok s served in
-    let here = g.met.S.Station.seen_may_be_left fs.blocks.station served.honest in
-    let newer = later fs.log fs.root.generation served.bodies m.seen.nvram (served.left served.honest m.seen here).log_stands in
+    let here = g.met.S.Station.seen_may_be_left fs.blocks.buffers.station served.honest in
+    let rest = at_rest served c.requires in
+    let newer = later fs.log fs.root.generation rest.lasts.bodies m.seen.nvram (rest.left served.honest m.seen here).log_stands in
     elim (cases_lt c.in-Ok-Ok.taking.order 4611686018427387904) [
       | inl lt ↦ absurd (false≢true (c.in_default.ensures.within.1 (t.first, lt)))
       | inr ge ↦ omega (arith, ge, t.order, newer)
@@ -91,31 +99,31 @@ pub returns-in-Ok : goal.returns-in-Ok
 returns-in-Ok g c =
     let fs = c.args.self.now in
     let m = meaning_of {G = g.S.Station} fs in
-    let d = blocks_of m.seen.disk in
+    let d = blocks_of (disk_of {G = g.S.Station} fs) in
     let told = c.in-Ok-Ok.ensures in
-    let reads = told.reads.reads fs.blocks (reads_none m) in
-    let mid = g.S.Station.meaning c.prepare_take.new.blocks.station in
+    let on = told.reads.reads fs.blocks (reads_nothing g.S.Station fs.blocks) in
+    let opens = λ (s : State) (served : ServesState {G = g.S.Station} fs s). c.served_states_open.ensures s.tree.descriptors s served in
+    let mid = g.S.Station.meaning c.prepare_take.new.blocks.buffers.station in
     let new = c.point_with.new.self in
     let name = c.as_bytes-name.result.now in
     let taking = c.in-Ok-Ok.taking in
     let made = c.in-Ok.ensures in
-    settles fs new mid _ (command.SnapTake c.args.name.now) reads told.reads.counted made.unlogged made.counted made.log
+    settles fs new mid _ (command.SnapTake c.args.name.now) (all_read m mid on.below told.reads.counted) (nothing_logged m mid on.below.goes) made.unlogged made.counted made.log
     (λ s served covered.
     let v = covered.0.serves in
-    let over = stays_read {G = g.S.Station} fs c.prepare_take.new.blocks s reads told.reads.same v in
+    let over = stays_read {G = g.S.Station} fs c.prepare_take.new.blocks s on told.reads.same v in
     let after : State = with_snapshots (v.snapshots ++ (name, tree_of (without_nameless v.first) closed) ∷ []) s in
     let step = taken taking.slot (record { order = taking.order; name = name; inode_file = fs.root.inode_file }) in
-    let went = reads.goes v.honest in
-    let same = ap (λ (i : Images). blocks_of i.disk) (sym went.seen) in
+    let same = (told.reads.same d v.shows).is in
     let low : taking.order < 2 ^ 62 = (c.in-Some.ensures.within.0 refl).1 in
-    let can = can_take fs.root d (blocks_of mid.seen.disk) name taking fs.is_root same (may g (goal.at.returns-in-Ok g c).In-Ok-Ok s v) low in
+    let can = can_take fs.root d (blocks_of (planned_disk c.prepare_take.new.blocks.laid mid.seen.disk)) name taking fs.is_root same (may g (goal.at.returns-in-Ok g c).In-Ok-Ok s v) low in
     record {
       after = after;
       need = a_snapshot;
       step = λ room. subst (λ (n : Name). takes s n Done after a_snapshot) c.as_bytes-name.ensures
           (take_step {G = g.S.Station} fs s c.cuts_open.ensures.forgets name v covered.0.held (passed g (goal.at.returns-in-Ok g c).In-Ok-Ok s v));
       covered = made.covered s.tree.descriptors s over after (step, record { is = refl; can = can }, refl) covered.1;
-      leaves = either_after m mid (meaning_of {G = g.S.Station} new) s after reads (c.served_states_open.ensures s.tree.descriptors s served)
+      leaves = either_after m mid (meaning_of {G = g.S.Station} new) s after on.below (opens s served)
           (made.any_moment s.tree.descriptors s over after (step, record { is = refl; can = can }, refl) covered.1);
     }) _
 
@@ -123,31 +131,36 @@ pub returns-in-Err-point_with : goal.returns-in-Err-point_with
 returns-in-Err-point_with g c =
     let fs = c.args.self.now in
     let m = meaning_of {G = g.S.Station} fs in
-    let d = blocks_of m.seen.disk in
+    let d = blocks_of (disk_of {G = g.S.Station} fs) in
     let told = c.in-Ok-Ok.ensures in
-    let reads = told.reads.reads fs.blocks (reads_none m) in
-    let mid = g.S.Station.meaning c.prepare_take.new.blocks.station in
+    let on = told.reads.reads fs.blocks (reads_nothing g.S.Station fs.blocks) in
+    let opens = λ (s : State) (served : ServesState {G = g.S.Station} fs s). c.served_states_open.ensures s.tree.descriptors s served in
+    let mid = g.S.Station.meaning c.prepare_take.new.blocks.buffers.station in
     let new = c.point_with.new.self in
     let name = c.as_bytes-name.result.now in
     let taking = c.in-Ok-Ok.taking in
     let made = c.in-Err-point_with.ensures in
-    let over = λ (s : State) (served : ServesState {G = g.S.Station} fs s). stays_read {G = g.S.Station} fs c.prepare_take.new.blocks s reads told.reads.same served in
-    not_settled fs new mid _ (command.SnapTake c.args.name.now) reads told.reads.counted made.unlogged c.in-Err-point_with.error made.counted made.log made.kept (λ s served refused. made.refused s.tree.descriptors s (over s served) refused)
+    let over = λ (s : State) (served : ServesState {G = g.S.Station} fs s). stays_read {G = g.S.Station} fs c.prepare_take.new.blocks s on told.reads.same served in
+    not_settled fs new mid _ (command.SnapTake c.args.name.now) (all_read m mid on.below told.reads.counted) (nothing_logged m mid on.below.goes) made.unlogged c.in-Err-point_with.error made.counted
+    (unmade fs.log new.log c.in-Err-point_with.error made.log)
+    (λ s served refused. (
+      made.refused s.tree.descriptors s (over s served) refused,
+      goes_on_unchanged m mid (meaning_of {G = g.S.Station} new) (OpensTo m s) (leaves_unchanged m mid (OpensTo m s) (opens s served) on.below.goes) (made.kept refused),
+    ))
     (λ s served covered is.
     let v = covered.0.serves in
     let after : State = with_snapshots (v.snapshots ++ (name, tree_of (without_nameless v.first) closed) ∷ []) s in
     let step = taken taking.slot (record { order = taking.order; name = name; inode_file = fs.root.inode_file }) in
-    let went = reads.goes v.honest in
-    let same = ap (λ (i : Images). blocks_of i.disk) (sym went.seen) in
+    let same = (told.reads.same d v.shows).is in
     let low : taking.order < 2 ^ 62 = (c.in-Some.ensures.within.0 refl).1 in
-    let can = can_take fs.root d (blocks_of mid.seen.disk) name taking fs.is_root same (may g (goal.at.returns-in-Err-point_with g c).In-Ok-Ok s v) low in
+    let can = can_take fs.root d (blocks_of (planned_disk c.prepare_take.new.blocks.laid mid.seen.disk)) name taking fs.is_root same (may g (goal.at.returns-in-Err-point_with g c).In-Ok-Ok s v) low in
     record {
       reply = Done;
       after = after;
       need = a_snapshot;
       step = λ room. subst (λ (n : Name). takes s n Done after a_snapshot) c.as_bytes-name.ensures
           (take_step {G = g.S.Station} fs s c.cuts_open.ensures.forgets name v covered.0.held (passed g (goal.at.returns-in-Err-point_with g c).In-Ok-Ok s v));
-      leaves = either_after m mid (meaning_of {G = g.S.Station} new) s after reads (c.served_states_open.ensures s.tree.descriptors s served)
+      leaves = either_after m mid (meaning_of {G = g.S.Station} new) s after on.below (opens s served)
           (made.any_moment s.tree.descriptors s (over s v) after (step, record { is = refl; can = can }, refl) covered.1);
     })
     (λ s served covered is. made.roomy s.tree.descriptors s (over s served) covered.1 (ap (λ e. Err e) is))

@@ -1,0 +1,232 @@
+-- A system behind a consistency point that was laid over its blocks and then carried out.
+use Rattle.std.proofs.Common.{◌≡◌, ◌⊎◌, inl, inr, ℕ, ◌+◌, ◌*◌, ◌≤◌, Option, None, Result, Ok, Err, refl, ap, sym, subst, ◌∙◌, arith}
+use Rattle.std.specs.Prelude.{IfSome, IsErrOf, IsFalse}
+use Rattle.station.specs.Images.{Images, Sector}
+use Rattle.station.specs.Moments.{EachCut, HasSizes, LeavesOnly, MayLeave, Meaning}
+use Rattle.station.specs.declared.station.Station.{Ghosts}
+use Rattle.station.proofs.Moments.{leaves_unchanged}
+use Rattle.layout.specs.Limits.{Sizes}
+use Rattle.layout.specs.Places.{blocks_of}
+use Rattle.model.specs.Records.{count_nameless}
+use Rattle.model.specs.Room.{fixed_of}
+use Rattle.model.specs.States.{State, with_snapshots}
+use Rattle.model.specs.Trees.{Description}
+use Rattle.descriptors.specs.Fits.{FitsVolume}
+use Rattle.descriptors.specs.Tables.{table_of}
+use Rattle.descriptors.specs.declared.table.Descriptors.{Descriptors}
+use Rattle.images.specs.Roots.{whole}
+use Rattle.images.specs.Room.{free_under}
+use Rattle.images.specs.SnapshotSteps.{SnapshotStep, kept_after}
+use Rattle.inofile.specs.Inodes.{IsChanged}
+use Rattle.oplog.specs.LogEnd.{LogEnd, StandsAt, no_bodies}
+use Rattle.conspoint.specs.Cuts.{HasNewRoot}
+use Rattle.conspoint.specs.Finished.{disk_after}
+use Rattle.conspoint.specs.Plans.{FitsDisk, Planned}
+use Rattle.conspoint.specs.Writes.{writes_of}
+use Rattle.overlay.specs.Overlays.{ShowsOver, planned_disk}
+use Rattle.overlay.specs.declared.laid.Laid.{Laid}
+use Rattle.planning.specs.declared.change.SnapshotChange.{SnapshotChange}
+use Rattle.system.specs.Counting.{Counted, no_call, point_error_failed}
+use Rattle.system.specs.Errors.{IsNotWritten, IsRefused}
+use Rattle.system.specs.Images.{IsLeft, IsUnder, OpensTo}
+use Rattle.system.specs.Laws.{CutLaws, RootLaws}
+use Rattle.system.specs.Memory.{HasEntries, IsInMemory}
+use Rattle.system.specs.Points.{HasRoomToStep, MakesPoint, StepsTo, stepped}
+use Rattle.system.specs.Slicing.{CarriesOut, Finishes, IsLaid, Lays}
+use Rattle.system.specs.Systems.{HasState, IsCovered, Parts, disk_of, meaning_of, state_with, system_parts}
+use Rattle.system.specs.UnderWay.{WayLaws}
+use Rattle.system.specs.declared.error.PointError.{PointError}
+use Rattle.system.specs.declared.error.PointError.TheVariants.{NotWritten}
+use Rattle.system.specs.declared.system.System.{System}
+use Rattle.system.proofs.CountingLaws.{all_written, counted_after, logged_twice, not_written, nothing_logged}
+use Rattle.system.proofs.CoveredLaws.{covered_at}
+use Rattle.system.proofs.PointLaws as points
+use Rattle.system.proofs.PointLaws.{OnceCovered}
+use Rattle.system.proofs.SettledLaws.{none_replayed}
+use Rattle.system.proofs.SystemLaws as served
+
+-- a write that failed isn't another error
+abbrev error_of : Result (Unit {0}) PointError → PointError
+error_of (Ok it) = NotWritten
+error_of (Err e) = e
+
+not_other : (e other : PointError) → e ≡ NotWritten → IsRefused other → IsErrOf {T = Unit {0}} {E = PointError} (Err e) other → ⊥
+not_other e other failed refused is = subst IsRefused (sym (ap error_of is) ∙ failed) refused
+
+module _ (cuts : CutLaws) (roots : RootLaws) (ways : WayLaws) {S : Type 0} {G : Ghosts S} (old mid new : System S G) (change : SnapshotChange) (none : old.blocks.laid ≡ None)
+    (lays : Lays change old mid (Ok tt)) where
+  abbrev m : Meaning
+  m = meaning_of old
+
+  abbrev n : Meaning
+  n = meaning_of new
+
+  module _ {table : ℕ → Option Description} {s : State} (serves : HasState old table s) (step : SnapshotStep) (is : IsLaid step old mid table s serves) (here : MayLeave m m.seen)
+      (result : Result (Unit {0}) PointError) (does : Finishes mid new result) where
+    abbrev p : Planned
+    p = is.laid.plan
+
+    carries : CarriesOut mid new result is.laid
+    carries = subst (λ (l : Option Laid). IfSome l (CarriesOut mid new result)) is.is does.carried
+
+    at_any_moment : LeavesOnly m n (λ c. OpensTo m s c ⊎ OpensTo m (stepped step serves.first serves.snapshots s) c)
+    at_any_moment =
+        points.at_any_moment cuts serves none old.sectors old.half p mid.root step is.planned here (meaning_of mid) n lays.reads.goes carries.any_moment
+
+  -- ---- it is carried out
+
+  module _ {table : ℕ → Option Description} {s : State} (serves : HasState old table s) (step : SnapshotStep) (is : IsLaid step old mid table s serves) (here : MayLeave m m.seen)
+      (does : Finishes mid new (Ok tt)) (left : n.is_honest → MayLeave n n.seen) (sized : EachCut n (HasSizes n)) where
+    abbrev plan : Planned
+    plan = is.laid.plan
+
+    honest : n.is_honest
+    honest = does.writes.same.honest.0 (lays.reads.goes serves.honest).honest
+
+    done : CarriesOut mid new (Ok tt) is.laid
+    done = carries serves step is here (Ok tt) does
+
+    has : HasNewRoot plan m.seen n.seen
+    has = subst (λ (i : Images). HasNewRoot plan i n.seen) (lays.reads.goes serves.honest).seen (done.settled honest n.seen (left honest))
+
+    -- the disk that is read is the one that memory stood on
+    disk : disk_of mid ≡ n.seen.disk
+    disk =
+        let fits = subst (λ (k : ℕ). FitsDisk k plan) (sym (does.writes.same.sectors ∙ lays.reads.same.sectors ∙ old.sectors)) is.planned.fits in
+        ap (λ (l : Option Laid). planned_disk l (meaning_of mid).seen.disk) is.is ∙ ap (λ (i : Images). disk_after plan i.disk) (lays.reads.goes serves.honest).seen
+        ∙ sym (ways.one n.sectors plan m.seen n.seen is.sound fits (sized honest n.seen (left honest)).sector has)
+
+    abbrev parts_then : Parts
+    parts_then = record (system_parts mid) { kept = new.blocks.buffers.kept; laid = None; map = new.map; pledged = mid.pledged_then }
+
+    parts_are : system_parts new ≡ parts_then
+    parts_are =
+        does.parts ∙ ap (λ (k : ℕ). record (system_parts mid) { kept = new.blocks.buffers.kept; laid = None; map = new.map; pledged = k }) (does.pledges (λ rests. served.not_both is.laid (sym is.is ∙ rests)))
+
+    under : IsUnder mid.slot mid.root serves.running (kept_after step serves.first serves.snapshots) n.seen.disk
+    under = subst (IsUnder mid.slot mid.root serves.running (kept_after step serves.first serves.snapshots)) disk is.under
+
+    entries : HasEntries (whole (blocks_of n.seen.disk) mid.root).active new.map
+    entries = subst (λ (d : ℕ → Sector). HasEntries (whole (blocks_of d) mid.root).active new.map) disk (λ b. done.map.settled b ∙ is.to_come b)
+
+    shows : ShowsOver n new.blocks.buffers.kept None (blocks_of n.seen.disk)
+    shows = subst (λ (d : ℕ → Sector). ShowsOver n new.blocks.buffers.kept None (blocks_of d)) disk
+        (subst (λ (l : Option Laid). ShowsOver n new.blocks.buffers.kept l (blocks_of (disk_of mid))) (ap (λ (k : Parts). k.laid) does.parts) (does.shows (blocks_of (disk_of mid)) is.shows))
+
+    stands : StandsAt mid.log mid.root.generation no_bodies n.seen.nvram
+    stands =
+        let rest = served.at_rest serves none in
+        let last = rest.under.newest.there.root.head.last in
+        subst (λ (g : ℕ). StandsAt mid.log g no_bodies n.seen.nvram) (sym is.planned.covers)
+        (subst (StandsAt mid.log old.log.epoch no_bodies) (sym has.nvram)
+        (is.covered old.root.generation rest.lasts.bodies m.seen.nvram (omega (arith, last)) (rest.left serves.honest m.seen here).log_stands))
+
+    free : free_under (whole (blocks_of m.seen.disk) old.root).active old.root.geometry.blocks ≤ free_under (whole (blocks_of n.seen.disk) mid.root).active old.root.geometry.blocks + is.planned.room.spent
+    free = roots.free m.sectors m.seen.disk n.seen.disk m.seen.nvram s (writes_of plan.blocks) plan.slot mid.root serves.running step is.planned.room.spent
+        (points.reads cuts serves none old.sectors old.half plan mid.root step is.planned here) is.planned.point
+        (points.with_root cuts serves none old.sectors old.half plan mid.root step is.planned here n.seen has) is.planned.room.leaves
+
+    settled : OnceCovered n parts_then table (stepped step serves.first serves.snapshots s)
+    settled = (
+      record {
+        honest = honest;
+        shows = shows;
+        first = serves.running;
+        snapshots = kept_after step serves.first serves.snapshots;
+        under = under;
+        running = serves.running;
+        mounted = serves.mounted;
+        memory = subst (λ (d : ℕ → Sector). IsInMemory (blocks_of d) mid.root mid.inodes serves.running) disk is.memory;
+        settled = record { disk = n.seen.disk; root = mid.root; volume = serves.running };
+        lasts = record {
+          newest = under.newest.newest;
+          holds = under.holds;
+          bodies = no_bodies;
+          replayed = none_replayed mid.root.geometry.inodes serves.running;
+          pledges = omega (arith, is.pledges, ap (λ (g : Sizes). count_nameless g.inodes serves.running) is.planned.point.geometry);
+          reserved = subst (λ (g : Sizes). 4 * count_nameless g.inodes serves.running + 0 + fixed_of g.blocks ≤ free_under (whole (blocks_of n.seen.disk) mid.root).active g.blocks) (sym is.planned.point.geometry)
+              (omega (arith, free, is.planned.room.enough));
+        };
+        left = λ honest c left. subst (IsLeft mid.root mid.log no_bodies n.seen.disk) (sym (done.just honest c left)) (record { same = λ k some. refl; log_stands = stands });
+        entries = entries;
+        bridge = inl (record { none = refl; base = refl; all = refl });
+        goes = subst (λ (l : LogEnd). IsFalse l.is_stopped) (sym lays.log) serves.goes;
+        stored = is.stored;
+        opened = serves.opened ∙ ap table_of (sym lays.same.1);
+        fits = subst (λ (d : Descriptors). FitsVolume d serves.running) (sym lays.same.1) serves.fits;
+        state = ap (with_snapshots (kept_after step serves.first serves.snapshots)) serves.state
+            ∙ ap (λ (g : Sizes). state_with g.inodes serves.running table (kept_after step serves.first serves.snapshots)) (sym is.planned.point.geometry);
+      },
+      refl,
+      refl,
+    )
+
+    covered : IsCovered new table (stepped step serves.first serves.snapshots s)
+    covered =
+        let there = subst (λ (k : Parts). OnceCovered n k table (stepped step serves.first serves.snapshots s)) (sym parts_are) settled in
+        record { rests = ap (λ (k : Parts). k.laid) does.parts; serves = there.0; no_record = there.1; held = there.2 }
+
+  -- ---- what is promised of it
+
+  module _ (here : m.is_honest → MayLeave m m.seen) (left : n.is_honest → MayLeave n n.seen) (sized : EachCut n (HasSizes n)) where
+    moments : (result : Result (Unit {0}) PointError) → Finishes mid new result → (table : ℕ → Option Description) (s : State) (serves : HasState old table s) (t : State) → StepsTo change old table s serves t
+        → HasRoomToStep change old → LeavesOnly m n (λ c. OpensTo m s c ⊎ OpensTo m t c)
+    moments result does table s serves t leads room =
+        subst (λ (u : State). LeavesOnly m n (λ c. OpensTo m s c ⊎ OpensTo m u c)) (sym leads.2)
+        (at_any_moment serves leads.0 (lays.laid table s serves leads.0 leads.1 room) (here serves.honest) result does)
+
+    pub made : (result : Result (Unit {0}) PointError) → Finishes mid new result → MakesPoint (StepsTo change) (HasRoomToStep change) old new result
+    made (Ok it) does = record {
+      counted = counted_after m (meaning_of mid) n no_call lays.counted (all_written {T = Unit {0}} {E = PointError} IsNotWritten (meaning_of mid) n it does.writes);
+      any_moment = moments (Ok it) does;
+      covered = λ table s serves t leads room.
+          covered_at new table _ t leads.2 (covered serves leads.0 (lays.laid table s serves leads.0 leads.1 room) (here serves.honest) does left sized);
+      refused = λ table s serves. tt;
+      kept = tt;
+      unlogged = logged_twice m (meaning_of mid) n (nothing_logged m (meaning_of mid) lays.reads.goes) does.unlogged;
+      generation = ap (λ (k : Parts). k.root.generation) does.parts ∙ lays.generation;
+      log = ap (λ (k : Parts). k.log) does.parts ∙ lays.log;
+      rests = ap (λ (k : Parts). k.laid) does.parts;
+      unchanged = subst (λ (k : Parts). (n : ℕ) → IsChanged k.inodes n → ⊥) (sym does.parts) lays.unchanged;
+      roomy = λ table s serves room is. cc;
+      damaged = λ table s serves is. cc;
+      last = λ table s serves is. cc;
+    }
+    made (Err e) does = record {
+      counted = counted_after m (meaning_of mid) n (point_error_failed e) lays.counted (subst (λ (x : PointError). Counted (meaning_of mid) n (point_error_failed x)) (sym does.why)
+          (not_written {T = Unit {0}} {E = PointError} IsNotWritten (meaning_of mid) n e does.writes does.why));
+      any_moment = moments (Err e) does;
+      covered = λ table s serves t leads room. tt;
+      refused = λ table s serves refused. absurd (subst IsRefused does.why refused);
+      kept = λ refused. absurd (subst IsRefused does.why refused);
+      unlogged = logged_twice m (meaning_of mid) n (nothing_logged m (meaning_of mid) lays.reads.goes) does.unlogged;
+      generation = tt;
+      log = inr (does.why, ap (λ (k : Parts). k.log) does.parts ∙ lays.log);
+      rests = ap (λ (k : Parts). k.laid) does.parts;
+      unchanged = tt;
+      roomy = λ table s serves room is. absurd (not_other e _ does.why tt is);
+      damaged = λ table s serves is. absurd (not_other e _ does.why tt is);
+      last = λ table s serves is. absurd (not_other e _ does.why tt is);
+    }
+
+-- nothing was planned
+pub not_made : (cuts : CutLaws) {S : Type 0} {G : Ghosts S} (old new : System S G) (change : SnapshotChange) (e : PointError) → Lays change old new (Err e) → MakesPoint (StepsTo change) (HasRoomToStep change) old new (Err e)
+not_made cuts old new change e lays =
+    let m = meaning_of old in
+    let n = meaning_of new in
+    record {
+      counted = lays.counted;
+      any_moment = λ table s serves t leads room.
+          leaves_unchanged m n (λ c. OpensTo m s c ⊎ OpensTo m t c) (λ honest c left. inl (served.all_open serves old.sectors old.half cuts honest c left)) lays.reads.goes;
+      covered = λ table s serves t leads room. tt;
+      refused = λ table s serves refused. lays.refused table s serves;
+      kept = λ refused. lays.reads.goes;
+      unlogged = nothing_logged m n lays.reads.goes;
+      generation = tt;
+      log = inl (lays.why, lays.log);
+      rests = lays.none;
+      unchanged = tt;
+      roomy = lays.roomy;
+      damaged = lays.damaged;
+      last = lays.last;
+    }

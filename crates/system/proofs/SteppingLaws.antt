@@ -1,0 +1,236 @@
+-- What a step of a consistency point does to a system, and the end of one.
+use Rattle.std.proofs.Common.{◌≡◌, ◌≢◌, ◌⊎◌, Ok, ℕ, ◌+◌, ◌≤◌, ◌<◌, List, Option, Some, None, Result, Err, ◌-◌, length, min, refl, ap, sym, subst, ◌∙◌, arith}
+use Rattle.std.specs.Prelude.{IfErr, IfSome, OnOk}
+use Rattle.station.specs.Calls.{OnlyWrites}
+use Rattle.station.specs.Moments.{Meaning, MayLeave, EachCut, After, Goes, HasGrown, HasSizes, LeavesJust, LeavesOnly}
+use Rattle.station.specs.declared.station.Station.{Ghosts}
+use Rattle.station.proofs.Moments.{goes_on, leaves_unchanged}
+use Rattle.layout.specs.Places.{blocks_of}
+use Rattle.model.specs.States.{State}
+use Rattle.model.specs.Trees.{Description}
+use Rattle.blockmap.specs.Changes.{SettlesAs}
+use Rattle.blockmap.specs.Maps.{entry_at}
+use Rattle.images.specs.SnapshotSteps.{unchanged}
+use Rattle.planning.specs.declared.change.SnapshotChange.TheVariants.{Unchanged}
+use Rattle.oplog.specs.LogEnd.{LogEnd}
+use Rattle.conspoint.specs.Cuts.{HasNewRoot, HasRootOrLost, StaysOutside}
+use Rattle.overlay.specs.Overlays.{ShowsOver, SlicesOn, unwritten}
+use Rattle.overlay.specs.declared.laid.Laid.{Laid}
+use Rattle.system.specs.Counting.{AgesBy, LogsNothing}
+use Rattle.system.specs.Errors.{IsNotWritten}
+use Rattle.system.specs.Images.{OpensTo}
+use Rattle.system.specs.Laws.{CutLaws, RootLaws}
+use Rattle.system.specs.Slicing.{CarriesOut, Finishes, Lays, Steps, StepsOn}
+use Rattle.system.specs.Systems.{Parts, HasState, IsComing, IsServing, disk_of, meaning_of, system_parts}
+use Rattle.system.specs.UnderWay.{WayLaws}
+use Rattle.system.specs.declared.error.PointError.{PointError}
+use Rattle.system.specs.declared.error.PointError.TheVariants.{NotWritten}
+use Rattle.system.specs.declared.slicing.TheConstants.{SLICE_BLOCKS}
+use Rattle.system.specs.declared.system.System.{System}
+use Rattle.system.proofs.CountingLaws.{next_age, nothing_logged, perhaps_read, same_age}
+use Rattle.system.proofs.SystemLaws.{all_open}
+use Rattle.system.proofs.GoingOnLaws.{carried_unlogged, coming_of, end_leaves, ended, laid_serves, slice_leaves, slice_unlogged, sliced, wrote}
+
+-- ---- slices
+
+-- few blocks are left
+pub ends_within : (o : Option Laid) → o ≢ None → unwritten o ≤ SLICE_BLOCKS → StepsOn o None
+ends_within None some few = absurd (some refl)
+ends_within (Some laid) some few = omega (arith, few)
+
+-- a slice of them was written
+pub slice_of : {T E : Type 0} (o n : Option Laid) (r : Result T E) (x : T) → r ≡ Ok x → o ≢ None → SlicesOn SLICE_BLOCKS o n r → SLICE_BLOCKS < unwritten o
+    → IfSome o (λ a. (b : Laid) × (n ≡ Some b) × (b.plan ≡ record a.plan { written = a.plan.written + SLICE_BLOCKS }) × (a.plan.written + SLICE_BLOCKS < length a.plan.blocks))
+slice_of None n r x is some slices more = absurd (some refl)
+slice_of {T} {E} (Some a) None r x is some slices more = absurd (subst (λ (q : Result T E). OnOk q ⊥) is slices)
+slice_of {T} {E} (Some a) (Some b) r x is some slices more =
+    let written : b.plan.written ≡ a.plan.written + SLICE_BLOCKS =
+    subst (λ (q : Result T E). OnOk q (b.plan.written ≡ min (length a.plan.blocks) (a.plan.written + SLICE_BLOCKS))) is slices.1 ∙ min_right (length a.plan.blocks) a.plan.written more in
+    (b, refl, slices.0 ∙ ap (λ (k : ℕ). record a.plan { written = k }) written, omega (arith, more))
+  where
+    min_right : (n k : ℕ) → SLICE_BLOCKS < n - k → min n (k + SLICE_BLOCKS) ≡ k + SLICE_BLOCKS
+    min_right n k more = omega (arith, more)
+
+pub sliced_so : (o n : Option Laid) → o ≢ None → IfSome o (λ a. (b : Laid) × (n ≡ Some b) × (b.plan ≡ record a.plan { written = a.plan.written + SLICE_BLOCKS }) × (a.plan.written + SLICE_BLOCKS < length a.plan.blocks)) → StepsOn o n
+sliced_so None n some slice = absurd (some refl)
+sliced_so (Some a) n some slice = subst (StepsOn (Some a)) (sym slice.1) (slice.2, slice.3)
+
+-- one was planned, or none was
+pub planned_so : (o n : Option Laid) → o ≡ None → IfSome n (λ l. l.plan.written ≡ 0) → StepsOn o n
+planned_so o None none fresh = subst (λ (x : Option Laid). StepsOn x None) (sym none) tt
+planned_so o (Some laid) none fresh = subst (λ (x : Option Laid). StepsOn x (Some laid)) (sym none) fresh
+
+-- a step that plans a point, or doesn't
+module _ {S : Type 0} {G : Ghosts S} (laws : CutLaws) (old new : System S G) (none : old.blocks.laid ≡ None) (first : old.log.epoch ≡ old.root.generation + 1) where
+  abbrev start : Meaning
+  start = meaning_of old
+
+  abbrev end : Meaning
+  end = meaning_of new
+
+  lays_on : {r : Result (Unit {0}) PointError} → Lays Unchanged old new r → ((table : ℕ → Option Description) (s : State) → HasState old table s → HasState new table s)
+      → AgesBy 1 old.log.epoch new.log.epoch → new.log.is_stopped ≡ old.log.is_stopped → StepsOn old.blocks.laid new.blocks.laid → Steps old new (Ok tt)
+  lays_on lays stays ages runs laid = record {
+    counted = perhaps_read start end lays.reads;
+    unlogged = nothing_logged start end lays.reads.goes;
+    goes_on = λ table s serves. record { leaves = leaves_unchanged start end (OpensTo start s) (all_open serves old.sectors old.half laws) lays.reads.goes; stays = stays table s serves };
+    epoch = ages;
+    runs = runs;
+    same = λ under. absurd (under none);
+    laid = laid;
+  }
+
+  pub planned_step : (r : Result (Unit {0}) PointError) → Lays Unchanged old new r → Steps old new (Ok tt)
+  planned_step (Ok u) lays =
+      lays_on lays (λ table s serves. laid_serves old new table s serves none first lays.reads lays.log lays.same.0 lays.same.1 (lays.laid table s serves unchanged (record { is = refl; can = tt }) tt))
+      (next_age old.log.epoch new.log.epoch (ap (λ (l : LogEnd). l.epoch) lays.log)) (ap (λ (l : LogEnd). l.is_stopped) lays.log)
+      (planned_so old.blocks.laid new.blocks.laid none lays.unwritten)
+  planned_step (Err e) lays =
+      lays_on lays lays.refused (same_age old.log.epoch new.log.epoch (ap (λ (l : LogEnd). l.epoch) lays.log)) (ap (λ (l : LogEnd). l.is_stopped) lays.log)
+      (planned_so old.blocks.laid new.blocks.laid none (subst (λ (l : Option Laid). IfSome l (λ l. l.plan.written ≡ 0)) (sym lays.none) tt))
+
+-- ---- what the blocks were told
+
+-- an answer of the blocks, as the system gives it
+pub done_too : {T E : Type 0} (r : Result T E) (x : T) → r ≡ Ok x → (A : Type 0) → OnOk r A → OnOk {T = Unit {0}} {E = PointError} (Ok tt) A
+done_too {T} {E} r x is A h = subst (λ (q : Result T E). OnOk q A) is h
+
+pub wrote_all : {T E : Type 0} (F : E → Type 0) (m n : Meaning) (r : Result T E) (x : T) → r ≡ Ok x → OnlyWrites F m n r → OnlyWrites {T = Unit {0}} {E = PointError} IsNotWritten m n (Ok tt)
+wrote_all F m n r x is writes = record { same = writes.same; reads = writes.reads; writes = writes.writes; ok = done_too r x is (n.failed_writes ≡ m.failed_writes) writes.ok; fault = tt }
+
+pub wrote_not : {T E : Type 0} (F : E → Type 0) (m n : Meaning) (r : Result T E) (e : E) → r ≡ Err e → OnlyWrites F m n r → IfErr r F → OnlyWrites {T = Unit {0}} {E = PointError} IsNotWritten m n (Err NotWritten)
+wrote_not {T} {E} F m n r e is writes why =
+    let fault = subst (λ (q : Result T E). IfErr q (λ e. F e → HasGrown m.failed_writes n.failed_writes)) is writes.fault in
+    let here = subst (λ (q : Result T E). IfErr q F) is why in
+    record { same = writes.same; reads = writes.reads; writes = writes.writes; ok = tt; fault = λ _. fault here }
+
+pub all_three : {T E : Type 0} (r : Result T E) (q : Result (Unit {0}) PointError) (P Q R : Laid → Type 0) (o : Option Laid) → ((A : Type 0) → OnOk r A → OnOk q A)
+    → IfSome o P → IfSome o (λ l. OnOk r (Q l)) → IfSome o (λ l. OnOk r (R l)) → IfSome o (λ l. P l × OnOk q (Q l) × OnOk q (R l))
+all_three r q P Q R None too p one two = tt
+all_three r q P Q R (Some laid) too p one two = (p, too (Q laid) one, too (R laid) two)
+
+-- The blocks of a system with a point under way were ended, and its map settled.
+module _ {S : Type 0} {G : Ghosts S} (laws : CutLaws) (roots : RootLaws) (ways : WayLaws) (old new : System S G) (under : old.blocks.laid ≢ None)
+    (here : (meaning_of old).is_honest → MayLeave (meaning_of old) (meaning_of old).seen) (now_seen : (meaning_of new).is_honest → MayLeave (meaning_of new) (meaning_of new).seen)
+    (sized : EachCut (meaning_of new) (HasSizes (meaning_of new))) where
+  abbrev m : Meaning
+  m = meaning_of old
+
+  abbrev n : Meaning
+  n = meaning_of new
+
+  abbrev pub Ends : Result (Unit {0}) PointError → Laid → Type 0
+  Ends r laid = LeavesOnly m n (λ c. After (StaysOutside laid.plan.blocks) m c ⊎ HasRootOrLost laid.plan m.seen c)
+      × OnOk r (EachCut n (HasNewRoot laid.plan m.seen)) × OnOk r (LeavesJust n n.seen)
+
+  carries : (r : Result (Unit {0}) PointError) → SettlesAs (entry_at old.map.parts.items) old.map new.map → (o : Option Laid) → IfSome o (Ends r) → IfSome o (CarriesOut old new r)
+  carries r map None ends = tt
+  carries r map (Some laid) ends = record { any_moment = ends.0; settled = ends.1; just = ends.2; map = map }
+
+  unlogged : (r : Result (Unit {0}) PointError) (o : Option Laid) → o ≢ None → IfSome o (Ends r) → LogsNothing m n
+  unlogged r None some ends = absurd (some refl)
+  unlogged r (Some laid) some ends = carried_unlogged m n laid.plan here ends.0
+
+  pub finishes : (r : Result (Unit {0}) PointError) → OnlyWrites {T = Unit {0}} {E = PointError} IsNotWritten m n r → IfErr r IsNotWritten → new.blocks.laid ≡ None
+      → system_parts new ≡ record (system_parts old) { kept = new.blocks.buffers.kept; laid = None; map = new.map; pledged = new.pledged } → new.pledged ≡ old.pledged_then
+      → ((disk : ℕ → List ℕ) → ShowsOver m old.blocks.buffers.kept old.blocks.laid disk → OnOk r (ShowsOver n new.blocks.buffers.kept new.blocks.laid disk))
+      → SettlesAs (entry_at old.map.parts.items) old.map new.map → IfSome old.blocks.laid (Ends r) → Finishes old new r
+  finishes r writes why none parts pledged shows map ends = record {
+    writes = writes;
+    why = why;
+    unlogged = unlogged r old.blocks.laid under ends;
+    idle = λ rests. absurd (under rests);
+    parts = parts;
+    pledges = λ _. pledged;
+    shows = shows;
+    carried = carries r map old.blocks.laid ends;
+    goes_on = λ table s serves.
+        let coming = coming_of serves under in
+        let done = subst (λ (l : Option Laid). IfSome l (Ends r)) coming.is ends in
+        record {
+          leaves = end_leaves laws ways serves old.sectors old.half coming n roots (here serves.honest) done.0;
+          stays = stays r table s serves coming done (shows (blocks_of (disk_of old)) serves.shows);
+        };
+  }
+    where
+      stays : (r : Result (Unit {0}) PointError) (table : ℕ → Option Description) (s : State) (serves : HasState old table s)
+          (coming : IsComing m old.log old.blocks.laid old.root old.slot serves.first old.map serves.lasts old.pledged_then) → Ends r coming.point
+          → OnOk r (ShowsOver n new.blocks.buffers.kept new.blocks.laid (blocks_of (disk_of old))) → OnOk r (HasState new table s)
+      stays (Err e) table s serves coming done shown = tt
+      stays (Ok u) table s serves coming done shown =
+          let honest = writes.same.honest.0 serves.honest in
+          let sizes = sized honest n.seen (now_seen honest) in
+          subst (λ (k : Parts). IsServing n k table s) (sym (parts ∙ (λ i. record (system_parts old) { kept = new.blocks.buffers.kept; laid = None; map = new.map; pledged = pledged i })))
+          (ended laws ways serves old.sectors old.half coming n roots (here serves.honest) writes.same honest (done.1 honest n.seen (now_seen honest)) (λ k lt. sizes.sector k lt) done.2
+          new.blocks.buffers.kept (subst (λ (l : Option Laid). ShowsOver n new.blocks.buffers.kept l (blocks_of (disk_of old))) none shown) new.map map)
+
+on_ok_any : {T E : Type 0} {A : Type 0} (r : Result T E) → A → OnOk r A
+on_ok_any (Ok x) a = a
+on_ok_any (Err e) a = tt
+
+-- few blocks were left, and the point was ended
+pub last_slice : {S : Type 0} {G : Ghosts S} (old new : System S G) (r : Result (Unit {0}) PointError) → old.blocks.laid ≢ None → unwritten old.blocks.laid ≤ SLICE_BLOCKS → Finishes old new r → Steps old new r
+last_slice old new r under few does =
+    let log : new.log ≡ old.log = ap (λ (k : Parts). k.log) does.parts in
+    record {
+      counted = wrote {T = Unit {0}} (meaning_of old) (meaning_of new) r does.writes does.why;
+      unlogged = does.unlogged;
+      goes_on = does.goes_on;
+      epoch = same_age old.log.epoch new.log.epoch (ap (λ (l : LogEnd). l.epoch) log);
+      runs = ap (λ (l : LogEnd). l.is_stopped) log;
+      same = λ _. (log, ap (λ (k : Parts). k.root) does.parts);
+      laid = on_ok_any r (subst (StepsOn old.blocks.laid) (sym (ap (λ (k : Parts). k.laid) does.parts)) (ends_within old.blocks.laid under few));
+    }
+
+-- a slice of it was written
+module _ {S : Type 0} {G : Ghosts S} (laws : CutLaws) (ways : WayLaws) (old new : System S G) (under : old.blocks.laid ≢ None)
+    (parts : system_parts new ≡ record (system_parts old) { kept = new.blocks.buffers.kept; laid = new.blocks.laid })
+    (goes : IfSome old.blocks.laid (λ l. Goes (StaysOutside l.plan.blocks) (meaning_of old) (meaning_of new))) where
+  abbrev before : Meaning
+  before = meaning_of old
+
+  abbrev behind : Meaning
+  behind = meaning_of new
+
+  abbrev pub Slice : Laid → Type 0
+  Slice a = (b : Laid) × (new.blocks.laid ≡ Some b) × (b.plan ≡ record a.plan { written = a.plan.written + SLICE_BLOCKS }) × (a.plan.written + SLICE_BLOCKS < length a.plan.blocks)
+
+  slice_silent : (o : Option Laid) → o ≢ None → IfSome o (λ l. Goes (StaysOutside l.plan.blocks) before behind) → LogsNothing before behind
+  slice_silent None some goes = absurd (some refl)
+  slice_silent (Some laid) some goes = slice_unlogged before behind laid.plan.blocks goes
+
+  pub slice_step : (r : Result (Unit {0}) PointError) → OnlyWrites {T = Unit {0}} {E = PointError} IsNotWritten before behind r → IfErr r IsNotWritten
+      → ((disk : ℕ → List ℕ) → ShowsOver before old.blocks.buffers.kept old.blocks.laid disk → OnOk r (ShowsOver behind new.blocks.buffers.kept new.blocks.laid disk))
+      → OnOk r (IfSome old.blocks.laid Slice) → Steps old new r
+  slice_step r writes why shows slice =
+      let log : new.log ≡ old.log = ap (λ (k : Parts). k.log) parts in
+      record {
+        counted = wrote {T = Unit {0}} before behind r writes why;
+        unlogged = slice_silent old.blocks.laid under goes;
+        goes_on = λ table s serves.
+            let coming = coming_of serves under in
+            let went = subst (λ (l : Option Laid). IfSome l (λ l. Goes (StaysOutside l.plan.blocks) before behind)) coming.is goes in
+            record {
+              leaves = slice_leaves laws ways serves old.sectors old.half coming behind went;
+              stays = stays r table s serves coming went slice (shows (blocks_of (disk_of old)) serves.shows);
+            };
+        epoch = same_age old.log.epoch new.log.epoch (ap (λ (l : LogEnd). l.epoch) log);
+        runs = ap (λ (l : LogEnd). l.is_stopped) log;
+        same = λ _. (log, ap (λ (k : Parts). k.root) parts);
+        laid = steps r slice;
+      }
+    where
+      steps : (r : Result (Unit {0}) PointError) → OnOk r (IfSome old.blocks.laid Slice) → OnOk r (StepsOn old.blocks.laid new.blocks.laid)
+      steps (Ok u) slice = sliced_so old.blocks.laid new.blocks.laid under slice
+      steps (Err e) slice = tt
+
+      stays : (r : Result (Unit {0}) PointError) (table : ℕ → Option Description) (s : State) (serves : HasState old table s)
+          (coming : IsComing before old.log old.blocks.laid old.root old.slot serves.first old.map serves.lasts old.pledged_then) → Goes (StaysOutside coming.point.plan.blocks) before behind
+          → OnOk r (IfSome old.blocks.laid Slice) → OnOk r (ShowsOver behind new.blocks.buffers.kept new.blocks.laid (blocks_of (disk_of old))) → OnOk r (HasState new table s)
+      stays (Err e) table s serves coming went slice shown = tt
+      stays (Ok u) table s serves coming went slice shown =
+          let one = subst (λ (l : Option Laid). IfSome l Slice) coming.is slice in
+          let less = one.3 in
+          subst (λ (k : Parts). IsServing behind k table s) (sym (parts ∙ (λ i. record (system_parts old) { kept = new.blocks.buffers.kept; laid = one.1 i })))
+          (sliced laws ways serves old.sectors old.half coming behind went (coming.point.plan.written + SLICE_BLOCKS) (omega (arith, less)) one.0 one.2 (went serves.honest).honest
+          new.blocks.buffers.kept (subst (λ (l : Option Laid). ShowsOver behind new.blocks.buffers.kept l (blocks_of (disk_of old))) one.1 shown))

@@ -1,0 +1,34 @@
+use Rattle.std.proofs.Common.{◌<◌, ◌≤◌, Ok, Err, refl, arith}
+use Rattle.conspoint.specs.Cuts.{IsFault}
+use Rattle.overlay.specs.Overlays.{unwritten}
+use Rattle.system.specs.declared.error.PointError.TheVariants.{NotWritten}
+use Rattle.system.specs.declared.slicing.TheConstants.{SLICE_BLOCKS}
+use Rattle.system.proofs.SteppingLaws.{done_too, last_slice, slice_of, slice_step, wrote_all, wrote_not}
+use Rattle.system.proofs.system.System.advance.Goals as goal
+
+pub returns-then-left-le-SLICE_BLOCKS : goal.returns-then-left-le-SLICE_BLOCKS
+returns-then-left-le-SLICE_BLOCKS g c =
+    let few : unwritten c.args.self.now.blocks.laid ≤ SLICE_BLOCKS = omega (arith, c.left.ensures, c.if-left-le-SLICE_BLOCKS.true) in
+    last_slice {G = g.S.Station} c.args.self.now c.finish.new.self c.finish.result c.requires few c.finish.ensures
+
+pub returns-in-Ok : goal.returns-in-Ok
+returns-in-Ok g c =
+    let f = c.args.self.now in
+    let m = g.S.Station.meaning f.blocks.buffers.station in
+    let now = c.write_some.new.self in
+    let n = g.S.Station.meaning now.buffers.station in
+    let did = c.write_some.ensures in
+    let more : SLICE_BLOCKS < unwritten f.blocks.laid = omega (arith, c.left.ensures, c.if-left-le-SLICE_BLOCKS.false) in
+    slice_step {G = g.S.Station} c.cuts_open.ensures c.points_go_on.ensures f _ c.requires refl did.goes (Ok tt)
+    (wrote_all IsFault m n c.write_some.result c.in-Ok.field-0 c.in-Ok.is did.writes) tt
+    (λ disk shows. done_too c.write_some.result c.in-Ok.field-0 c.in-Ok.is _ (did.shows disk shows))
+    (slice_of f.blocks.laid now.laid c.write_some.result c.in-Ok.field-0 c.in-Ok.is c.requires did.slice more)
+
+pub returns-in-Err : goal.returns-in-Err
+returns-in-Err g c =
+    let f = c.args.self.now in
+    let m = g.S.Station.meaning f.blocks.buffers.station in
+    let n = g.S.Station.meaning c.write_some.new.self.buffers.station in
+    let did = c.write_some.ensures in
+    slice_step {G = g.S.Station} c.cuts_open.ensures c.points_go_on.ensures f _ c.requires refl did.goes (Err NotWritten)
+    (wrote_not IsFault m n c.write_some.result c.in-Err.field-0 c.in-Err.is did.writes did.device) refl (λ disk shows. tt) tt

@@ -1,0 +1,186 @@
+-- A consistency point that is carried out in slices, between calls.
+use Rattle.std.specs.Prelude.{[], ℕ, ◌≡◌, ◌≢◌, ◌⊎◌, ◌+◌, ◌*◌, ◌<◌, ◌≤◌, ◌^◌, List, Option, Some, None, Result, Ok, Err, OnOk, IfErr, IfOk, IfSome, IsErrOf, IsFalse, MatchResult, length}
+use Rattle.station.specs.Calls.{OnlyWrites}
+use Rattle.station.specs.Moments.{After, EachCut, LeavesJust, LeavesOnly}
+use Rattle.station.specs.declared.station.Station.{Ghosts}
+use Rattle.layout.specs.Places.{blocks_of}
+use Rattle.model.specs.Records.{count_nameless}
+use Rattle.model.specs.States.{State}
+use Rattle.model.specs.Trees.{Description}
+use Rattle.model.specs.declared.command.Command.{Command}
+use Rattle.model.specs.declared.errno.Errno.{Errno}
+use Rattle.model.specs.declared.reply.Reply.{Reply}
+use Rattle.model.specs.declared.reply.Reply.TheVariants.{Refused}
+use Rattle.model.specs.Circumstances.{IsSure}
+use Rattle.buffers.specs.Disks.{ReadsOn}
+use Rattle.blockmap.specs.Changes.{SettlesAs}
+use Rattle.blockmap.specs.Maps.{entry_at}
+use Rattle.inofile.specs.Inodes.{IsChanged}
+use Rattle.inofile.specs.Room.{memory_room}
+use Rattle.images.specs.Roots.{whole}
+use Rattle.images.specs.SnapshotSteps.{SnapshotStep, kept_after}
+use Rattle.oplog.specs.LogEnd.{Bodies, StandsAt, all_bodies, no_bodies}
+use Rattle.oplog.specs.declared.log.End.TheVariants.{Unopened}
+use Rattle.conspoint.specs.Cuts.{HasNewRoot, HasRootOrLost, StaysOutside}
+use Rattle.conspoint.specs.Plans.{IsPlanned}
+use Rattle.conspoint.specs.declared.error.PlanError.TheVariants.{Damaged, NoSpace}
+use Rattle.overlay.specs.Overlays.{ShowsOver}
+use Rattle.overlay.specs.declared.laid.Laid.{Laid}
+use Rattle.planning.specs.Changes.{TakesNone}
+use Rattle.planning.specs.declared.change.SnapshotChange.{SnapshotChange}
+use Rattle.system.specs.Counting.{AgesBy, Counted, Failed, LogsNothing, a_write, beside_reads, call_failed, perhaps_reads, point_failed}
+use Rattle.system.specs.Errors.{IsNotWritten, IsRefused}
+use Rattle.system.specs.Images.{IsUnder, OpensTo}
+use Rattle.system.specs.Memory.{HasEntries, HasEntriesToCome, IsInMemory}
+use Rattle.system.specs.Plans.{IsPlannedOver}
+use Rattle.system.specs.Points.{HasRoomToStep, IsStepFor}
+use Rattle.system.specs.Serving.{HasEmptyLog, IsBrokenOff, IsCalled, IsSureOn, LacksRoom, LeavesEither, ServesState, TellsNoFault, WouldChange}
+use Rattle.system.specs.Systems.{HasState, IsCovered, disk_of, meaning_of, system_parts}
+use Rattle.system.specs.declared.error.CallError.{CallError}
+use Rattle.system.specs.declared.error.CallError.TheVariants as calls
+use Rattle.system.specs.declared.error.CallError.TheVariants.{LogFull, NoRoom, NotWritten, StepDue}
+use Rattle.system.specs.declared.error.PointError.{PointError}
+use Rattle.system.specs.declared.error.PointError.TheVariants.{NoGeneration, NotPlanned}
+use Rattle.system.specs.declared.slicing.TheConstants.{SLICE_BLOCKS}
+use Rattle.system.specs.declared.system.System.{System}
+
+-- ---- a point is laid over the blocks
+
+-- A point that does this with the snapshots is under way on a system, of which nothing is written: memory stands on its root, over
+-- the disk that it leaves. What is pledged for what that root doesn't cover is what its files without names may cost.
+pub record IsLaid {S : Type 0} {G : Ghosts S} (step : SnapshotStep) (old new : System S G) (table : ℕ → Option Description) (s : State)
+    (serves : HasState old table s) : Type 0 where
+  pub laid : Laid
+  pub is : new.blocks.laid ≡ Some laid
+  pub unwritten : laid.plan.written ≡ 0
+  pub sound : IsPlanned laid.plan
+  pub slot : new.slot ≡ laid.plan.slot
+  pub planned : IsPlannedOver step (meaning_of old).seen.disk old.root old.slot old.log.epoch laid.plan new.root serves.running
+  pub under : IsUnder new.slot new.root serves.running (kept_after step serves.first serves.snapshots) (disk_of new)
+  pub shows : ShowsOver (meaning_of new) new.blocks.buffers.kept new.blocks.laid (blocks_of (disk_of new))
+  pub memory : IsInMemory (blocks_of (disk_of new)) new.root new.inodes serves.running
+  pub entries : HasEntries (whole (blocks_of (meaning_of old).seen.disk) old.root).active new.map
+  pub to_come : HasEntriesToCome (whole (blocks_of (disk_of new)) new.root).active new.map
+  pub newer : (g : ℕ) (bodies : Bodies) (nvram : List ℕ) → old.log.epoch ≡ g + 1 → StandsAt old.log g bodies nvram
+      → StandsAt new.log g (record { older = all_bodies bodies; newest = [] }) nvram
+  pub covered : (g : ℕ) (bodies : Bodies) (nvram : List ℕ) → g < 2 ^ 62 → StandsAt old.log g bodies nvram
+      → StandsAt new.log old.log.epoch no_bodies nvram
+  pub pledges : new.pledged_then ≡ 4 * count_nameless old.root.geometry.inodes serves.running
+  pub stored : memory_room serves.running new.inodes serves.running ≤ new.pledged_then
+  pub saves : TakesNone step → planned.room.spent + new.pledged_then ≤ old.pledged
+
+-- What laying a point over a system's blocks does, or why there is none: nothing is done but reading. A refused one leaves what was.
+pub record Lays {S : Type 0} {G : Ghosts S} (change : SnapshotChange) (old new : System S G) (result : Result (Unit {0}) PointError) : Type 0 where
+  pub reads : ReadsOn (meaning_of old) (meaning_of new)
+  pub counted : Counted (meaning_of old) (meaning_of new) (point_failed result)
+  pub why : IfErr result IsRefused
+  pub none : IfErr result (λ e. new.blocks.laid ≡ None)
+  pub refused : (table : ℕ → Option Description) (s : State) → HasState old table s → IfErr result (λ e. HasState new table s)
+  pub log : MatchResult result (λ _. new.log ≡ record old.log { epoch = old.log.epoch + 1; end = Unopened }) (λ _. new.log ≡ old.log)
+  pub same : OnOk result ((new.pledged ≡ old.pledged) × (new.files ≡ old.files))
+  pub generation : OnOk result (new.root.generation ≡ old.log.epoch)
+  pub unchanged : OnOk result ((n : ℕ) → IsChanged new.inodes n → ⊥)
+  pub unwritten : OnOk result (IfSome new.blocks.laid (λ l. l.plan.written ≡ 0))
+  pub laid : (table : ℕ → Option Description) (s : State) → (serves : HasState old table s) → (step : SnapshotStep) → IsStepFor change old step
+      → HasRoomToStep change old → OnOk result (IsLaid step old new table s serves)
+  pub roomy : (table : ℕ → Option Description) (s : State) → HasState old table s → HasRoomToStep change old → IsErrOf result (NotPlanned NoSpace) → ⊥
+  pub damaged : (table : ℕ → Option Description) (s : State) → HasState old table s → IsErrOf result (NotPlanned Damaged) → ⊥
+  pub last : (table : ℕ → Option Description) (s : State) → HasState old table s → IsErrOf result NoGeneration → 2 ^ 62 ≤ old.log.epoch
+
+-- ---- it is carried out
+
+-- What carrying out this point does to a system, whatever it serves. A cut at any moment leaves some of its blocks, or the new root, or a
+-- disk on which the root's sector is lost.
+pub record CarriesOut {S : Type 0} {G : Ghosts S} (old new : System S G) (result : Result (Unit {0}) PointError) (laid : Laid) : Type 0 where
+  pub any_moment : LeavesOnly (meaning_of old) (meaning_of new)
+      (λ c. After (StaysOutside laid.plan.blocks) (meaning_of old) c ⊎ HasRootOrLost laid.plan (meaning_of old).seen c)
+  pub settled : OnOk result (EachCut (meaning_of new) (HasNewRoot laid.plan (meaning_of old).seen))
+  pub just : OnOk result (LeavesJust (meaning_of new) (meaning_of new).seen)
+  pub map : SettlesAs (entry_at old.map.parts.items) old.map new.map
+
+-- A state that a system serves stays, by the same running volume, also at a cut at any moment.
+pub record GoesOn {S : Type 0} {G : Ghosts S} (old new : System S G) (result : Result (Unit {0}) PointError) (table : ℕ → Option Description) (s : State)
+    (serves : HasState old table s) : Type 0 where
+  pub leaves : LeavesOnly (meaning_of old) (meaning_of new) (OpensTo (meaning_of old) s)
+  pub stays : OnOk result (HasState new table s)
+
+-- What ending the point under way does to a system: none is under way then, and where none was, nothing is done.
+pub record Finishes {S : Type 0} {G : Ghosts S} (old new : System S G) (result : Result (Unit {0}) PointError) : Type 0 where
+  pub writes : OnlyWrites IsNotWritten (meaning_of old) (meaning_of new) result
+  pub why : IfErr result IsNotWritten
+  pub unlogged : LogsNothing (meaning_of old) (meaning_of new)
+  pub idle : old.blocks.laid ≡ None → (new ≡ old) × (result ≡ Ok tt)
+  pub parts : system_parts new ≡ record (system_parts old) {
+    kept = new.blocks.buffers.kept;
+    laid = None;
+    map = new.map;
+    pledged = new.pledged;
+  }
+  pub pledges : old.blocks.laid ≢ None → new.pledged ≡ old.pledged_then
+  pub shows : (disk : ℕ → List ℕ) → ShowsOver (meaning_of old) old.blocks.buffers.kept old.blocks.laid disk
+      → OnOk result (ShowsOver (meaning_of new) new.blocks.buffers.kept new.blocks.laid disk)
+  pub carried : IfSome old.blocks.laid (CarriesOut old new result)
+  pub goes_on : (table : ℕ → Option Description) (s : State) → (serves : HasState old table s) → GoesOn old new result table s serves
+
+-- ---- between calls
+
+-- A step of the point under way: none is planned and written at once, and so many of its blocks are written, or else all that are left.
+abbrev pub StepsOn : Option Laid → Option Laid → Type 0
+StepsOn None None = Unit {0}
+StepsOn None (Some laid) = laid.plan.written ≡ 0
+StepsOn (Some old) None = length old.plan.blocks ≤ old.plan.written + SLICE_BLOCKS
+StepsOn (Some old) (Some new) =
+    (new.plan ≡ record old.plan { written = old.plan.written + SLICE_BLOCKS })
+    × (old.plan.written + SLICE_BLOCKS < length old.plan.blocks)
+
+-- such a step, or none
+abbrev pub MayStep : Option Laid → Option Laid → Type 0
+MayStep old new = (new ≡ old) ⊎ StepsOn old new
+
+-- which device calls failed of a step: of one that was done perhaps reads, since a plan may have been given up
+abbrev pub step_failed : {T E : Type 0} → Result T E → Failed
+step_failed (Ok it) = perhaps_reads
+step_failed (Err e) = a_write
+
+-- What a step does to a system. What it serves stays, also at a cut at any moment, and nothing is logged.
+pub record Steps {S : Type 0} {G : Ghosts S} (old new : System S G) (result : Result (Unit {0}) PointError) : Type 0 where
+  pub counted : Counted (meaning_of old) (meaning_of new) (step_failed result)
+  pub unlogged : LogsNothing (meaning_of old) (meaning_of new)
+  pub goes_on : (table : ℕ → Option Description) (s : State) → (serves : HasState old table s) → GoesOn old new result table s serves
+  pub epoch : AgesBy 1 old.log.epoch new.log.epoch
+  pub runs : new.log.is_stopped ≡ old.log.is_stopped
+  pub same : old.blocks.laid ≢ None → (new.log ≡ old.log) × (new.root ≡ old.root)
+  pub laid : OnOk result (StepsOn old.blocks.laid new.blocks.laid)
+
+-- A call was done on a system that serves a state, behind a step of a consistency point if one was due.
+pub record IsFulfilled {S : Type 0} {G : Ghosts S} (old new : System S G) (s : State) (call : Command) (reply : Reply) : Type 0 where
+  pub between : System S G
+  pub served : ServesState between s
+  pub done : IsCalled between new s served call reply
+  pub leaves : LeavesEither (meaning_of old) (meaning_of new) s done.after
+
+-- What a call does to a system: all that is promised of it. A step of a consistency point may come before its record, and what it serves
+-- stays by that. A sure call is answered, and a refused one logs nothing.
+pub record Fulfils {S : Type 0} {G : Ghosts S} (old new : System S G) (call : Command) (result : Result Reply CallError) : Type 0 where
+  pub counted : Counted (meaning_of old) (meaning_of new) (beside_reads (call_failed old.log.is_stopped result))
+  pub no_fault : IfOk result TellsNoFault
+  pub own : IsErrOf result StepDue → ⊥
+  pub step : MatchResult result (λ _. MayStep old.blocks.laid new.blocks.laid)
+      (λ e. e ≢ NotWritten → MayStep old.blocks.laid new.blocks.laid)
+  pub epoch : AgesBy 1 old.log.epoch new.log.epoch
+  pub calm : HasEmptyLog old → new.log.epoch ≡ old.log.epoch
+  pub runs : IsFalse old.log.is_stopped → MatchResult result
+      (λ _. IsFalse new.log.is_stopped) (λ e. e ≢ NotWritten → IsFalse new.log.is_stopped)
+  pub refused : (errno : Errno) → result ≡ Ok (Refused errno) → LogsNothing (meaning_of old) (meaning_of new)
+  pub kept : IfErr result (λ e. e ≢ NotWritten → LogsNothing (meaning_of old) (meaning_of new))
+  pub stays : (s : State) → ServesState old s → IfErr result (λ e. e ≢ NotWritten
+      → ServesState new s × LeavesOnly (meaning_of old) (meaning_of new) (OpensTo (meaning_of old) s))
+  pub done : (s : State) → ServesState old s → IfOk result (IsFulfilled old new s call)
+  pub broken : (s : State) → ServesState old s → IsErrOf result NotWritten → IsBrokenOff old new s call
+  pub sure : (s : State) → ServesState old s → MatchResult result
+      (λ _. IsSureOn old new s call ⊎ ¬ IsSure s call) (λ _. ¬ IsSure s call)
+  pub full : (s : State) → ServesState old s → IsErrOf result LogFull
+      → WouldChange s call × (HasEmptyLog old → ⊥) × (HasEmptyLog new → ⊥)
+  pub short : (s : State) → ServesState old s → IsErrOf result NoRoom
+      → LacksRoom new s call × (IsCovered old s.tree.descriptors s → IsCovered new s.tree.descriptors s)
+  pub damaged : (s : State) → ServesState old s → IsErrOf result calls.Damaged → ⊥

@@ -1,0 +1,99 @@
+//! A consistency point that is carried out in slices, between calls.
+
+ghost use Rattle.std.specs.Prelude.{◌≢◌, ◌↔◌, IsTrue, None, Some};
+ghost use Rattle.system.specs.Serving.{IsPlanDue, IsStepDue};
+ghost use Rattle.system.specs.Settling.{MakesCovered};
+ghost use Rattle.system.specs.Slicing.{Finishes, Steps};
+
+use crate::laws::{cuts_open, new_roots_hold, points_go_on, served_states_open};
+use crate::{PointError, System};
+use layout::RECORD_HEAD_BYTES;
+use planning::SnapshotChange;
+use station::Station;
+
+/// So many blocks of the point under way are written by a call at most.
+pub const SLICE_BLOCKS: usize = 8;
+
+impl<S: Station> System<S> {
+    /// Whether a point is to be planned: none is under way, the log is in the first epoch over the root, and less than a sixteenth
+    /// of its half is left.
+    fn is_plan_due(&self) -> bool
+        ensures { IsTrue result ↔ IsPlanDue self.now }
+    {
+        let next = self.root.generation.epoch_after(1);
+        let least = (self.root.geometry.half() / 16) as usize - (RECORD_HEAD_BYTES + 1);
+        !self.blocks.is_under_way() && self.log.epoch() == next && !self.log.room(least)
+    }
+
+    /// Whether a call's record waits for a step: a point is under way, or is to be planned.
+    pub(crate) fn is_step_due(&self) -> bool
+        ensures { IsTrue result ↔ IsStepDue self.now }
+    {
+        self.blocks.is_under_way() || self.is_plan_due()
+    }
+
+    /// The step that is due: plans a point, or writes a slice of the one that is under way. Where no point could be planned, nothing
+    /// changed.
+    pub(crate) fn step(&mut self) -> Result<(), PointError>
+        requires { IsStepDue self.old }
+        ensures { Steps self.old self.new result }
+    {
+        cuts_open();
+        if self.blocks.is_under_way() {
+            return self.advance();
+        }
+        let _ = self.lay_point(&SnapshotChange::Unchanged);
+        Ok(())
+    }
+
+    /// Writes a slice of the point that is under way, and behind its last block the root. It takes no memory and reads nothing.
+    fn advance(&mut self) -> Result<(), PointError>
+        requires { self.old.blocks.laid ≢ None }
+        ensures { Steps self.old self.new result }
+    {
+        cuts_open();
+        points_go_on();
+        if self.blocks.left() <= SLICE_BLOCKS {
+            return self.finish();
+        }
+        match self.blocks.write_some(SLICE_BLOCKS) {
+            Ok(()) => Ok(()),
+            Err(_) => Err(PointError::NotWritten),
+        }
+    }
+
+    /// Brings the point that is under way to its end; where none is, it does nothing. It takes no memory and reads nothing.
+    pub(crate) fn finish(&mut self) -> Result<(), PointError>
+        ensures { Finishes self.old self.new result }
+    {
+        cuts_open();
+        new_roots_hold();
+        points_go_on();
+        if !self.blocks.is_under_way() {
+            return Ok(());
+        }
+        let written = self.blocks.finish();
+        self.map.settle();
+        self.free = self.map.free_count();
+        self.pledged = self.pledged_then;
+        match written {
+            Ok(()) => Ok(()),
+            Err(_) => Err(PointError::NotWritten),
+        }
+    }
+
+    /// Brings all that the system has under its newest root: ends the point that is under way, and makes a whole one where something
+    /// is left.
+    pub fn settle(&mut self) -> Result<(), PointError>
+        ensures { MakesCovered self.old self.new result }
+    {
+        served_states_open(self);
+        if let Err(error) = self.finish() {
+            return Err(error);
+        }
+        if self.is_covered() {
+            return Ok(());
+        }
+        self.point()
+    }
+}
