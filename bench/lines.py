@@ -2,7 +2,8 @@
 """What bench/shell.sh and bench/slices.sh ask of a program that answers line by line.
 
     python3 lines.py ask FILE COMMAND..       sends each line of FILE when the line before it is answered; tells the seconds that took
-    python3 lines.py pauses FILE COMMAND..    the same, and tells how long the five lines that took longest did, and the one in the middle
+    python3 lines.py pauses FILE COMMAND..    the same, and tells how long those five took that took longest, behind the first, and the one in
+                                              the middle
     python3 lines.py memory AT COMMAND..      tells the program's memory in MiB behind its first line of output, and behind line AT"""
 import subprocess
 import sys
@@ -33,7 +34,7 @@ def ask(file, command):
 
 
 def pauses(file, command):
-    took = sorted(waits(file, command))
+    took = sorted(waits(file, command)[1:])
     for wait, number, line in reversed(took[-5:]):
         print(f"{wait * 1000:9.2f} ms at line {number}, {line[:40].decode().strip()}")
     print(f"{took[len(took) // 2][0] * 1000:9.2f} ms in the middle, {sum(wait for wait, _, _ in took):.2f} s in all")

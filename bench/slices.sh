@@ -3,7 +3,7 @@
 # blocks: each directory goes into the next one of 100, and each 8 bytes of data to another block of 64 MiB. No sync is asked for, so
 # consistency points come where the log gets full. Does so over two builds of the program: one whose points are written in slices,
 # between commands, and one from before that. Tells the longest that any line waited for its reply, and which line that was, and
-# seconds, device writes, syncs and peak memory of the whole.
+# seconds, device writes, syncs and peak memory of the whole. The first line, a `df`, waits for the mount and isn't counted.
 #
 #   WAFL=path BEFORE=path sh bench/slices.sh [COMMANDS]
 #
@@ -23,6 +23,7 @@ cd "$folder"
 # commands : the lines, behind those that make what they need.
 commands() {
     awk -v count="$count" 'BEGIN {
+        print "df"
         for (i = 0; i < 100; i++) print "mkdir /d" i
         print "open /file rwc"
         print "truncate /file 67108864"
@@ -47,5 +48,5 @@ for name in before wafl; do
     eval "program=\$$name"
     fresh
     measure "$name" "$program" run disk nvram script
-    refused '^(ok|fd 0|wrote 8)$'
+    refused '^(ok|fd 0|wrote 8|blocks 262144 .*)$'
 done

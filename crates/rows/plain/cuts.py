@@ -10,8 +10,7 @@ from model import System
 from scripts import run, step
 from session_rows import bytes_of, shown
 
-# A cut that leaves the same by all of them is made by the first one.
-KEEPS = ['201', 'none', 'all']
+KEEPS = ['none', 'all', '201']
 BLOCKS, INODES, HALF = 320, 64, 131072
 FIRST, LENGTH = 8, 14
 # Behind these three records the next gate is the first one at which a point is planned.
@@ -51,7 +50,7 @@ class Moment:
                     if kept_bytes == 0 or told != self.outcome(write, keep, 0):
                         found.setdefault(tuple(told), []).append(keep)
                 for told, keeps in found.items():
-                    self.add(groups, write, (KEEPS[:1] if keeps == KEEPS else keeps, kept_bytes, told))
+                    self.add(groups, write, (keeps, kept_bytes, told))
         return groups
 
     def add(self, groups, write, what):

@@ -38,8 +38,9 @@ FILES = [
     ('random_snapshots.rows', 128, 32, True, KEEPS, [5, 20, 53, 65, 68, 77]),
     ('random_unreadable.rows', 128, 32, True, LOSING_KEEPS, [3, 10, 23, 31, 40, 57]),
 ]
-# The seed of the list that is cut at each of its writes: two points are planned in it, and one ends by slices.
-CUT_SEEDS = [29]
+# The seeds of the lists that are cut at each of their writes: in one a snapshot is taken while a point is under way, in the other one a
+# point ends by its slices, another one is planned, and a snapshot is deleted then.
+CUT_SEEDS = [13, 29]
 HEAD = '''\
 # Commands made from fixed numbers, with the replies of a plain model in Python: see the folder
 # `plain`, which writes this file. How a row is written stands in the head of sessions.rows.
