@@ -1,3 +1,4 @@
 mod BitLemmas
+mod LaneLemmas
 mod MapLemmas
 pub mod SpaceLemmas

@@ -1,10 +1,9 @@
 -- Entries of the map, where one of them changes.
 use Rattle.std.proofs.Common.{suc, ◌≡◌, ◌≢◌, ℕ, ◌+◌, ◌*◌, ◌/◌, ◌%◌, ◌<◌, ◌≤◌, Bool, true, false, List, length, take, zero, inl, inr, refl, ap, sym, subst, ◌∙◌, arith}
-use Rattle.std.specs.Prelude.{slice_index, slice_index_or, slice_set, if◌then◌else◌, ◌==◌}
+use Rattle.std.specs.Prelude.{slice_index, slice_index_or, slice_set, ◌==◌}
 use Rattle.std.specs.Int.{bit_at}
 use Rattle.std.proofs.lemmas.Bool.{cases_eq}
 use Rattle.std.proofs.lemmas.Bool.Decides.{nat_tests}
-use Rattle.std.proofs.lemmas.Nat.Bits.{bit_at_lowest}
 use Rattle.std.proofs.lemmas.Grind.{common_steps}
 use Rattle.std.proofs.lemmas.List.{get_or-set_same, get_or-set_other, get_or_default, take_all}
 use Rattle.std.proofs.lemmas.List.Sums.{count_by_more_yes, count_by_more_no}
@@ -20,32 +19,6 @@ bit_set parts block b entry value k is_in p new same within at was now bit =
     let old_is : entry_at parts b ≡ entry = ap (λ (q : Part). slice_index q.entries (b % 1024)) (get_or_default parts (b / 1024) no_part p within ∙ sym at) ∙ sym was in
     let new_is : entry_at (slice_set parts (b / 1024) new) b ≡ value = ap (λ (q : Part). slice_index q.entries (b % 1024)) (get_or-set_same parts (b / 1024) new no_part within) ∙ now in
     subst (λ (x : ℕ). SetsBit k is_in (entry_at parts x) (entry_at (slice_set parts (b / 1024) new) x)) same (rw (old_is, new_is) bit)
-
--- an odd number's lowest bit
-lowest : (x : ℕ) → (if x % 2 == 1 then 1 else 0) ≡ bit_at x 0
-lowest x = elim (cases_eq (x % 2) 1) [
-  | inl odd ↦ (let is : (x % 2 == 1) ≡ true = grind (arith, nat_tests) in rw is (sym (bit_at_lowest x ∙ odd)))
-  | inr even ↦ (let is : (x % 2 == 1) ≡ false = grind (arith, nat_tests) in let none : x % 2 ≡ 0 = omega arith in rw is (sym (bit_at_lowest x ∙ none)))
-]
-
--- one entry more of a set that takes set 0 of others
-pub plane_more : (i k value x : ℕ) (source first old new : ℕ → ℕ) → SetsPlane i k (λ b. bit_at (source b) 0) first old → ((b : ℕ) → i ≤ b → old b ≡ first b)
-    → new i ≡ value → ((b : ℕ) → b ≢ i → new b ≡ old b) → x ≡ source i → SetsBit k (x % 2 == 1) (old i) value
-    → SetsPlane (i + 1) k (λ b. bit_at (source b) 0) first new
-plane_more i k value x source first old new so_far rest here others is bit = record {
-  there = λ b below. elim (cases_eq b i) [
-    | inl e ↦
-        let at : bit_at (new i) k ≡ bit_at (source i) 0 = ap (λ n. bit_at n k) here ∙ bit.there ∙ lowest x ∙ ap (λ n. bit_at n 0) is in
-        subst (λ (n : ℕ). bit_at (new n) k ≡ bit_at (source n) 0) (sym e) at
-    | inr other ↦ ap (λ n. bit_at n k) (others b other) ∙ so_far.there b (omega arith)
-  ];
-  others = λ b j below differ. elim (cases_eq b i) [
-    | inl e ↦
-        let at : bit_at (new i) j ≡ bit_at (first i) j = ap (λ n. bit_at n j) here ∙ bit.others j differ ∙ ap (λ n. bit_at n j) (rest i (omega arith)) in
-        subst (λ (n : ℕ). bit_at (new n) j ≡ bit_at (first n) j) (sym e) at
-    | inr other ↦ ap (λ n. bit_at n j) (others b other) ∙ so_far.others b j (omega arith) differ
-  ];
-}
 
 -- a block's settled entry is one of its part's
 pub settled_in : (parts : List Part) (b j : ℕ) (p : Part) → b / 1024 ≡ j → j < length parts → p ≡ slice_index_or parts j p → settled_at parts b ≡ slice_index p.settled (b % 1024)

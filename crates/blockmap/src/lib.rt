@@ -4,6 +4,7 @@
 #![tactic(auto)]
 
 mod bits;
+mod lanes;
 mod map;
 mod part;
 

@@ -6,7 +6,8 @@ ghost use Rattle.blockmap.specs.Bits.{SetsPlane};
 ghost use Rattle.blockmap.specs.Parts.{HasSet, Spells, free_entries};
 ghost use Rattle.layout.specs.declared.TheConstants.{BLOCK_POINTERS};
 
-use crate::bits::{has_bit, with_bit};
+use crate::bits::has_bit;
+use crate::lanes::{and_all, are_words, count_zero, first_zero, take_all};
 use layout::{BLOCK_BYTES, BLOCK_POINTERS, map_entry, set_map_entry};
 use std::alloc::{AllocError, Global};
 use std::marker::Model;
@@ -38,7 +39,7 @@ fn count_free(entries: &[u32]) -> u32
     requires { length entries.now ≡ BLOCK_POINTERS }
     ensures { result ≡ free_entries entries.now }
 {
-    entries.iter().filter(|entry| **entry == 0).count() as u32
+    count_zero(entries) as u32
 }
 
 impl MapPart {
@@ -120,9 +121,9 @@ impl MapPart {
             (λ i. bit_at (slice_index self.old.settled i) 0)
             (slice_index self.old.entries) (slice_index self.new.entries) }
     {
-        for i in 0..BLOCK_POINTERS as u32 {
-            let is_in = self.settled(i) % 2 == 1;
-            self.set(i, with_bit(self.entry(i), set, is_in));
+        if let Some(entries) = &mut self.changed {
+            are_words(entries);
+            take_all(entries, &self.settled, !(1 << set), 1 << set);
         }
     }
 
@@ -147,11 +148,9 @@ impl MapPart {
         ensures entries { SetsPlane BLOCK_POINTERS set (λ i. 0)
             (slice_index self.old.entries) (slice_index self.new.entries) }
     {
-        for i in 0..BLOCK_POINTERS as u32 {
-            let entry = self.entry(i);
-            if has_bit(entry, set) {
-                self.set(i, with_bit(entry, set, false));
-            }
+        if let Some(entries) = &mut self.changed {
+            are_words(entries);
+            and_all(entries, !(1 << set));
         }
     }
 
@@ -186,12 +185,11 @@ impl MapPart {
         if self.free == 0 {
             return None;
         }
-        for i in from..BLOCK_POINTERS as u32 {
-            if self.settled[i as usize] == 0 {
-                return Some(i);
-            }
+        if from >= BLOCK_POINTERS as u32 {
+            return None;
         }
-        None
+        let found = first_zero(&self.settled, from as usize)?;
+        Some(found as u32)
     }
 
     /// The changes come into force with a root.

@@ -1,16 +1,15 @@
 -- What reading and writing a block do to the disk that is shown.
-use Rattle.std.proofs.Common.{◌≡◌, ℕ, ◌+◌, ◌-◌, ◌*◌, ◌/◌, ◌<◌, ◌≤◌, List, length, take, drop, refl, sym, ◌∙◌, ap, subst, inl, inr, arith, eqb, leb, ltb, ◌&&◌, true, false, Some, None}
+use Rattle.std.proofs.Common.{Result, Ok, Err, IfOk, ◌≡◌, ◌⊎◌, ℕ, ◌+◌, ◌-◌, ◌*◌, ◌/◌, ◌<◌, ◌≤◌, List, length, take, drop, refl, sym, ◌∙◌, ap, subst, inl, inr, arith, eqb, leb, ltb, ◌&&◌, true, false}
 use Rattle.std.proofs.lemmas.Bool.{cases_eq}
 use Rattle.std.proofs.lemmas.Bool.Decides.{nat_tests}
-use Rattle.std.proofs.lemmas.Grind.{common_steps}
-use Rattle.std.specs.Ordering.{nat_cmp}
-use Rattle.std.specs.BTreeMap.{BTreeMap, get, Updates}
 use Rattle.station.specs.Images.{Images, Sector, Unchanged}
 use Rattle.station.specs.Images as images
 use Rattle.station.specs.Moments.{Meaning, IsSameStation, Goes}
 use Rattle.layout.specs.Places.{blocks_of}
 use Rattle.buffers.specs.Disks.{IsBlock, IsDisk, ShowsDisk, ReadsOn, disk_with_block, disk_with_sector}
+use Rattle.buffers.specs.Memory.{Has, Loses}
 use Rattle.buffers.specs.declared.block.Block.{Block}
+use Rattle.buffers.specs.declared.kept.Kept.{Kept}
 use Rattle.layout.proofs.PointerLaws.{same_block}
 use Rattle.buffers.proofs.SectorLaws.{sectors_block}
 
@@ -18,25 +17,33 @@ disk_stays : (m n : Meaning) (disk : ℕ → List ℕ) → IsSameStation m n →
 disk_stays m n disk same seen is place within =
     subst (λ (i : Images). IsBlock i.disk place (disk place)) (sym seen) (is place (subst (λ (s : ℕ). 8 * place + 8 ≤ s) same.sectors within))
 
--- a block that was read is kept
-pub read_kept : (m n : Meaning) (old new : BTreeMap ℕ Block) (place : ℕ) (block : Block) (disk : ℕ → List ℕ) → ReadsOn m n → 8 * place + 8 ≤ m.sectors → (m.is_honest → IsBlock m.seen.disk place block)
-    → Updates nat_cmp old new place (Some block) → ShowsDisk m old disk → ShowsDisk n new disk
-read_kept m n old new place block disk reads within is u shows =
+-- a block that is as the disk has it comes into memory
+pub kept_more : (m : Meaning) (old new : Kept) (place : ℕ) (block : Block) (disk : ℕ → List ℕ) → ((p : ℕ) (b : Block) → Has new p b → ((p ≡ place) × (b ≡ block)) ⊎ Has old p b) → block ≡ disk place
+    → ShowsDisk m old disk → ShowsDisk m new disk
+kept_more m old new place block disk only is shows = record {
+  honest = shows.honest;
+  reads = shows.reads;
+  kept_is = λ p b has. elim (only p b has) [
+    | inl same ↦ same.1 ∙ is ∙ ap disk (sym same.0)
+    | inr had ↦ shows.kept_is p b had
+  ];
+}
+
+-- less is kept, and reads go on
+pub read_less : (m n : Meaning) (old new : Kept) (disk : ℕ → List ℕ) → ReadsOn m n → Loses old new → ShowsDisk m old disk → ShowsDisk n new disk
+read_less m n old new disk reads loses shows =
     let went = reads.goes shows.honest in
-    record {
-      honest = went.honest;
-      reads = disk_stays m n disk reads.same went.seen shows.reads;
-      kept_is = λ p b got. elim (cases_eq p place) [
-        | inl e ↦
-            let one : Some block ≡ Some b = sym u.1 ∙ ap (get nat_cmp new) (sym e) ∙ got in
-            let same : block ≡ b = cc in
-            sym same ∙ is shows.honest ∙ sym (shows.reads place within) ∙ ap disk (sym e)
-        | inr ne ↦ shows.kept_is p b (kept_before old new place p b block u ne got)
-      ];
-    }
-  where
-    kept_before : (m n : BTreeMap ℕ Block) (place p : ℕ) (b block : Block) → Updates nat_cmp m n place (Some block) → (p ≡ place → ⊥) → get nat_cmp n p ≡ Some b → get nat_cmp m p ≡ Some b
-    kept_before m n place p b block u ne got = grind (arith, common_steps, u.0 p)
+    record { honest = went.honest; reads = disk_stays m n disk reads.same went.seen shows.reads; kept_is = λ p b has. shows.kept_is p b (loses p b has) }
+
+-- less is kept
+pub kept_less : (m : Meaning) (old new : Kept) (disk : ℕ → List ℕ) → Loses old new → ShowsDisk m old disk → ShowsDisk m new disk
+kept_less m old new disk loses shows = record { honest = shows.honest; reads = shows.reads; kept_is = λ p b has. shows.kept_is p b (loses p b has) }
+
+-- a block that is read is as the disk has it
+pub read_is : {E : Type 0} (m : Meaning) (kept : Kept) (place : ℕ) (disk : ℕ → List ℕ) (r : Result Block E) → 8 * place + 8 ≤ m.sectors → (m.is_honest → IfOk r (IsBlock m.seen.disk place))
+    → ShowsDisk m kept disk → IfOk r (λ b. b ≡ disk place)
+read_is m kept place disk (Ok block) within is shows = is shows.honest ∙ sym (shows.reads place within)
+read_is m kept place disk (Err e) within is shows = tt
 
 -- a sector of the block that was written, and one of another block
 hit : (place i n : ℕ) → 512 * i < n → leb (8 * place) (8 * place + i) && ltb (512 * (8 * place + i - 8 * place)) n ≡ true
@@ -69,10 +76,10 @@ this_block disk place b bytes e = rw (same b place e) refl
     same b place e = grind (arith, nat_tests)
 
 -- a block that was stored reads so, and what was kept of it is let go
-pub stored : (m n : Meaning) (old new : BTreeMap ℕ Block) (place : ℕ) (bytes : List ℕ) (disk : ℕ → List ℕ) → length bytes ≡ 4096 → IsSameStation m n
+pub stored : (m n : Meaning) (old new : Kept) (place : ℕ) (bytes : List ℕ) (disk : ℕ → List ℕ) → length bytes ≡ 4096 → IsSameStation m n
     → (m.is_honest → n.seen ≡ record { disk = images.disk_with (8 * place) bytes m.seen.disk; nvram = m.seen.nvram })
-    → Updates nat_cmp old new place None → ShowsDisk m old disk → ShowsDisk n new (disk_with_block place bytes disk)
-stored m n old new place bytes disk len same written u shows = record {
+    → Loses old new → ((b : Block) → Has new place b → ⊥) → ShowsDisk m old disk → ShowsDisk n new (disk_with_block place bytes disk)
+stored m n old new place bytes disk len same written loses gone shows = record {
   honest = same.honest.0 shows.honest;
   reads = λ b within. subst (λ (i : Images). IsBlock i.disk b (disk_with_block place bytes disk b)) (sym (written shows.honest)) (elim (cases_eq b place) [
     | inl e ↦
@@ -83,16 +90,13 @@ stored m n old new place bytes disk len same written u shows = record {
         (block_elsewhere m.seen.disk place b bytes (disk b) len ne (shows.reads b (subst (λ (s : ℕ). 8 * b + 8 ≤ s) same.sectors within)))
   ]);
   kept_is = λ b block got. elim (cases_eq b place) [
-    | inl e ↦ absurd (cc (u.1, ap (get nat_cmp new) e))
-    | inr ne ↦ shows.kept_is b block (kept_before old new place b block u ne got) ∙ other_block disk place b bytes ne
+    | inl e ↦ absurd (gone block (subst (λ (p : ℕ). Has new p block) e got))
+    | inr ne ↦ shows.kept_is b block (loses b block got) ∙ other_block disk place b bytes ne
   ];
 }
-  where
-    kept_before : (m n : BTreeMap ℕ Block) (place b : ℕ) (block : Block) → Updates nat_cmp m n place None → (b ≡ place → ⊥) → get nat_cmp n b ≡ Some block → get nat_cmp m b ≡ Some block
-    kept_before m n place b block u ne got = grind (arith, common_steps, u.0 b)
 
 -- what the station does beside its disk doesn't change what the disk shows
-pub still_shows : (m n : Meaning) (kept : BTreeMap ℕ Block) (disk : ℕ → List ℕ) → n.is_honest → n.sectors ≡ m.sectors → n.seen.disk ≡ m.seen.disk → ShowsDisk m kept disk → ShowsDisk n kept disk
+pub still_shows : (m n : Meaning) (kept : Kept) (disk : ℕ → List ℕ) → n.is_honest → n.sectors ≡ m.sectors → n.seen.disk ≡ m.seen.disk → ShowsDisk m kept disk → ShowsDisk n kept disk
 still_shows m n kept disk honest sectors same shows = record {
   honest = honest;
   reads = λ place within. subst (λ (d : ℕ → Sector). IsBlock d place (disk place)) (sym same) (shows.reads place (subst (λ (s : ℕ). 8 * place + 8 ≤ s) sectors within));
@@ -107,10 +111,10 @@ block_beside sectors sector b bytes size other = same_block sectors (images.disk
     off n size is differ = grind (arith, nat_tests)
 
 -- a sector that was written: its block reads as the station has it, and what was kept of that is let go
-pub sector_stored : (m n : Meaning) (old new : BTreeMap ℕ Block) (sector : ℕ) (bytes : List ℕ) (disk : ℕ → List ℕ) → length bytes ≡ 512 → IsSameStation m n
+pub sector_stored : (m n : Meaning) (old new : Kept) (sector : ℕ) (bytes : List ℕ) (disk : ℕ → List ℕ) → length bytes ≡ 512 → IsSameStation m n
     → (m.is_honest → n.seen ≡ record { disk = images.disk_with sector bytes m.seen.disk; nvram = m.seen.nvram })
-    → Updates nat_cmp old new (sector / 8) None → ShowsDisk m old disk → ShowsDisk n new (disk_with_sector n.seen.disk sector disk)
-sector_stored m n old new sector bytes disk size same written u shows =
+    → Loses old new → ((b : Block) → Has new (sector / 8) b → ⊥) → ShowsDisk m old disk → ShowsDisk n new (disk_with_sector n.seen.disk sector disk)
+sector_stored m n old new sector bytes disk size same written loses gone shows =
     let q = sector / 8 in
     let block = blocks_of n.seen.disk q in
     record {
@@ -122,15 +126,12 @@ sector_stored m n old new sector bytes disk size same written u shows =
             ∙ sym (block_beside m.seen.disk sector b bytes size ne) ∙ ap (λ (i : Images). blocks_of i.disk b) (sym (written shows.honest))
       ];
       kept_is = λ b kept got. elim (cases_eq b q) [
-        | inl e ↦ absurd (cc (u.1, ap (get nat_cmp new) e))
-        | inr ne ↦ shows.kept_is b kept (kept_still old new q b kept u ne got) ∙ other_block disk q b block ne
+        | inl e ↦ absurd (gone kept (subst (λ (p : ℕ). Has new p kept) e got))
+        | inr ne ↦ shows.kept_is b kept (loses b kept got) ∙ other_block disk q b block ne
       ];
     }
-  where
-    kept_still : (m n : BTreeMap ℕ Block) (place b : ℕ) (block : Block) → Updates nat_cmp m n place None → (b ≡ place → ⊥) → get nat_cmp n b ≡ Some block → get nat_cmp m b ≡ Some block
-    kept_still m n place b block u ne got = grind (arith, common_steps, u.0 b)
 
 -- what is shown still is, where reads give the same
-pub same_shows : (m n : Meaning) (kept : BTreeMap ℕ Block) (disk : ℕ → List ℕ) → IsSameStation m n → Goes Unchanged m n → ShowsDisk m kept disk → ShowsDisk n kept disk
+pub same_shows : (m n : Meaning) (kept : Kept) (disk : ℕ → List ℕ) → IsSameStation m n → Goes Unchanged m n → ShowsDisk m kept disk → ShowsDisk n kept disk
 same_shows m n kept disk same goes shows =
     record { honest = same.honest.0 shows.honest; reads = disk_stays m n disk same (goes shows.honest).seen shows.reads; kept_is = shows.kept_is }

@@ -1,3 +1,4 @@
 pub mod SectorLaws
+pub mod KeptLaws
 pub mod DiskLaws
 pub mod ReadLaws

@@ -1,12 +1,12 @@
 -- What the disk of a station reads as, block by block, and what of it is kept in memory.
-use Rattle.std.specs.Prelude.{ℕ, ◌≡◌, ◌+◌, ◌*◌, ◌/◌, ◌≤◌, ◌==◌, List, length, Some, if◌then◌else◌}
-use Rattle.std.specs.Ordering.{nat_cmp}
-use Rattle.std.specs.BTreeMap.{BTreeMap, get}
+use Rattle.std.specs.Prelude.{ℕ, ◌≡◌, ◌+◌, ◌*◌, ◌/◌, ◌≤◌, ◌==◌, List, length, if◌then◌else◌}
 use Rattle.station.specs.Images.{Sector, Unchanged}
 use Rattle.station.specs.Moments.{Meaning, IsSameStation, MayGrow, Goes}
 use Rattle.layout.specs.Places.{blocks_of}
 use Rattle.layout.specs.declared.TheConstants.{BLOCK_BYTES}
+use Rattle.buffers.specs.Memory.{Has}
 use Rattle.buffers.specs.declared.block.Block.{Block}
+use Rattle.buffers.specs.declared.kept.Kept.{Kept}
 
 -- these are the bytes of a block of the disk: its eight sectors one behind the other, fewer than a block has where one of
 -- them can't be read
@@ -22,10 +22,10 @@ abbrev pub IsDisk : Meaning → (ℕ → List ℕ) → Type 0
 IsDisk m disk = (place : ℕ) → 8 * place + 8 ≤ m.sectors → IsBlock m.seen.disk place (disk place)
 
 -- over an honest station each block of the disk reads so, and those that are kept are as the disk has them
-pub record ShowsDisk (m : Meaning) (kept : BTreeMap ℕ Block) (disk : ℕ → List ℕ) : Type 0 where
+pub record ShowsDisk (m : Meaning) (kept : Kept) (disk : ℕ → List ℕ) : Type 0 where
   pub honest : m.is_honest
   pub reads : IsDisk m disk
-  pub kept_is : (place : ℕ) (block : Block) → get nat_cmp kept place ≡ Some block → block ≡ disk place
+  pub kept_is : (place : ℕ) (block : Block) → Has kept place block → block ≡ disk place
 
 -- the disk with a block written anew
 abbrev pub disk_with_block : ℕ → List ℕ → (ℕ → List ℕ) → ℕ → List ℕ

@@ -7,20 +7,23 @@ ghost use Rattle.station.specs.Images.{SomeSectorsWritten, SectorsWritten, Uncha
 ghost use Rattle.station.specs.Moments.{HasGrown, LeavesJust, SeenGoes, Shows};
 ghost use Rattle.station.specs.Calls.{WriteCall};
 ghost use Rattle.layout.specs.Places.{blocks_of};
+ghost use Rattle.buffers.specs.Caches.{count_cached};
+ghost use Rattle.buffers.specs.declared.kept.TheConstants.{CACHED_BLOCKS};
 ghost use Rattle.buffers.specs.Disks.{IsBlock, IsDisk, IsWhole, ShowsDisk, ReadsOn, disk_with_block, disk_with_sector};
 
+use crate::kept::Kept;
 use crate::{Block, Blocks, BufferError};
 use layout::{BLOCK_BYTES, BlockNumber, SECTOR_BYTES};
 use station::Station;
 use std::alloc::Global;
-use std::collections::BTreeMap;
 
-/// A station, and those blocks of its disk that are kept in memory. Every block that was read stays.
+/// A station, and those blocks of its disk that are kept in memory. Those that were made resident are held until they are let go of,
+/// and a cache has the last used ones of the others.
 #[derive(Drop)]
 pub struct Buffers<S> {
     /// Its disk is to be written by `store` and `store_sector` alone: what is kept would not change with it.
     pub station: S,
-    kept: BTreeMap<u32, Block>,
+    kept: Kept,
     alloc: Global,
 }
 
@@ -59,7 +62,7 @@ impl<S: Station> Blocks for Buffers<S> {
 
     ghost ReadsOn = { λ a b. ReadsOn (S.meaning a.station) (S.meaning b.station) };
 
-    ghost IsResident = { λ b place. tree.ContainsKey nat_cmp b.kept place };
+    ghost IsResident = { λ b place. tree.ContainsKey nat_cmp b.kept.held place };
 
     ghost failed = { λ b. (S.meaning b.station).failed_reads };
 
@@ -71,20 +74,19 @@ impl<S: Station> Blocks for Buffers<S> {
 
     fn make_resident(&mut self, place: BlockNumber) -> Result<(), BufferError> {
         let place = place.get();
-        if let Some(block) = self.kept.get(&place) {
+        if let Some(block) = self.kept.held.get(&place) {
             block.is_whole();
             return Ok(());
         }
         let _ = self.station.sectors();
-        let block = read_block(self.alloc, &mut self.station, place)?;
-        match self.kept.insert(place, block) {
-            Ok(_) => Ok(()),
-            Err(_) => Err(BufferError::NoMemory),
-        }
+        let block = self.fetch(place)?;
+        block.is_whole();
+        self.kept.hold(place, block)?;
+        Ok(())
     }
 
     fn bytes(&self, place: BlockNumber) -> &[u8; BLOCK_BYTES] {
-        match self.kept.get(&place.get()) {
+        match self.kept.held.get(&place.get()) {
             Some(block) => block.bytes(),
             None => unreachable!(),
         }
@@ -103,7 +105,7 @@ impl<S: Station> Buffers<S> {
     {
         Buffers {
             station,
-            kept: BTreeMap::new(alloc),
+            kept: Kept::new(alloc),
             alloc,
         }
     }
@@ -128,21 +130,57 @@ impl<S: Station> Buffers<S> {
             (disk_with_block place bytes.now disk)) }
     {
         let place = place.get();
-        let _ = self.kept.remove(&place);
+        self.kept.forget(place);
         match self.station.write_block(place, bytes) {
             Ok(()) => Ok(()),
             Err(_) => Err(BufferError::Device),
         }
     }
 
-    /// Lets go of the blocks that a command made resident: they may have to be made resident again.
+    /// The block at a place that isn't held: that of the cache, or else it is read.
+    fn fetch(&mut self, place: u32) -> Result<Block, BufferError>
+        requires within { 8 * place + 8 ≤ (S.meaning self.old.station).sectors }
+        requires fits { 8 * place + 8 < 2 ^ 32 }
+        ensures reads { ReadsOn (S.meaning self.old.station) (S.meaning self.new.station) }
+        ensures counted { OnOk result ((S.meaning self.new.station).failed_reads
+            ≡ (S.meaning self.old.station).failed_reads) }
+        ensures device { IfErr result (λ e. e ≡ BufferError.Device
+            → HasGrown (S.meaning self.old.station).failed_reads
+            (S.meaning self.new.station).failed_reads) }
+        ensures held { self.new.kept.held ≡ self.old.kept.held }
+        ensures same { (disk : ℕ → List ℕ)
+            → ShowsDisk (S.meaning self.old.station) self.old.kept disk
+            → ShowsDisk (S.meaning self.new.station) self.new.kept disk }
+        ensures block { (disk : ℕ → List ℕ)
+            → ShowsDisk (S.meaning self.old.station) self.old.kept disk
+            → IfOk result (λ b. b ≡ disk place) }
+        ensures damaged { IsErrOf result BufferError.Damaged
+            → Shows (S.meaning self.old.station) (λ c. IsWhole (blocks_of c.disk place) → ⊥) }
+    {
+        match self.kept.take_cached(place) {
+            Some(block) => Ok(block),
+            None => read_block(self.alloc, &mut self.station, place),
+        }
+    }
+
+    /// How many blocks the cache has.
+    pub fn cached_count(&self) -> usize
+        ensures count { result ≡ count_cached self.now.kept.cache }
+        ensures bound { result ≤ CACHED_BLOCKS }
+    {
+        self.kept.cached_count()
+    }
+
+    /// Lets go of the blocks that were made resident: they have to be made resident again. The cache gets them, as far as there is
+    /// memory for it.
     pub fn let_go(&mut self)
         ensures station { self.new.station ≡ self.old.station }
         ensures shows { (disk : ℕ → List ℕ)
             → ShowsDisk (S.meaning self.old.station) self.old.kept disk
             → ShowsDisk (S.meaning self.new.station) self.new.kept disk }
+        ensures none { tree.IsEmpty self.new.kept.held }
     {
-        self.kept.clear();
+        self.kept.let_go();
     }
 
     /// Writes a sector, and its block then reads as the station has it. It takes no memory. Where it fails, the sector may
@@ -164,7 +202,7 @@ impl<S: Station> Buffers<S> {
             (ShowsDisk (S.meaning self.new.station) self.new.kept
             (disk_with_sector (S.meaning self.new.station).seen.disk sector disk)) }
     {
-        let _ = self.kept.remove(&(sector / 8));
+        self.kept.forget(sector / 8);
         match self.station.write_sector(sector, bytes) {
             Ok(()) => Ok(()),
             Err(_) => Err(BufferError::Device),

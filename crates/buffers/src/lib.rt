@@ -7,8 +7,10 @@ mod block;
 mod blocks;
 mod cache;
 mod error;
+mod kept;
 
 pub use block::Block;
 pub use blocks::Blocks;
 pub use cache::Buffers;
 pub use error::BufferError;
+pub use kept::{CACHED_BLOCKS, Kept};

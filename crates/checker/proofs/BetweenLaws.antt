@@ -17,7 +17,8 @@ use Rattle.checker.specs.Rows.{AreRows, AreTwins, KeepsTrees, SeesInode}
 use Rattle.checker.specs.Trees.{AreTrees, IsOut, IsSeenTo}
 use Rattle.checker.specs.declared.nodes.Shared.{Shared}
 use Rattle.checker.specs.declared.tree.Tree.{Tree}
-use Rattle.checker.proofs.EachLaws.{some_at, some_of}
+use Rattle.model.proofs.OptionLaws.{some_same}
+use Rattle.checker.proofs.EachLaws.{some_at}
 use Rattle.checker.proofs.OutLaws.{seen_out}
 use Rattle.checker.proofs.RowLaws.{known_at, plane_same, trees_again, trees_none}
 use Rattle.checker.proofs.SeenLaws.{seen_stays}
@@ -45,7 +46,7 @@ module _ (disk : Blocks) (r : Root) (i n place : ℕ) (marks : List ℕ) (shared
   pub between_start : AreRows disk r i trees rows → AreTrees r trees (IsSeenTo disk r i n marks shared) → IsBetween disk r i n place 0 0 marks shared rows trees
   between_start are seen = record {
     are = trees_again r trees trees (IsSeenTo disk r i n marks shared) (λ t. IsSeenTo disk r i n marks shared t ⊎ IsSeenTo disk r i (n + 1) marks shared t)
-        (trees_none trees) seen (λ l t q was is known. inl (subst (IsSeenTo disk r i n marks shared) (some_of (sym was ∙ is)) known));
+        (trees_none trees) seen (λ l t q was is known. inl (subst (IsSeenTo disk r i n marks shared) (some_same (sym was ∙ is)) known));
     rows_are = are;
     seen = λ l t is bit. absurd (no_bit t.plane bit);
     left = λ l t is none. known_at r trees (IsSeenTo disk r i n marks shared) l t seen is;
@@ -65,7 +66,7 @@ module _ (disk : Blocks) (r : Root) (i n place : ℕ) (marks : List ℕ) (shared
       | inl less ↦ so.passed l u is less
       | inr high ↦
           let same : l ≡ k = omega (arith, low, high) in
-          subst (λ (v : Tree). IsOut v.fault ⊎ HasBit v.plane done) (some_of (sym at ∙ ap (slice_get trees) (sym same) ∙ is)) here
+          subst (λ (v : Tree). IsOut v.fault ⊎ HasBit v.plane done) (some_same (sym at ∙ ap (slice_get trees) (sym same) ∙ is)) here
     ];
     closed = λ l m u v ul vm a b. so.closed l m u v ul vm (omega (arith, a)) (omega (arith, b));
   }
@@ -91,11 +92,11 @@ module _ (disk : Blocks) (r : Root) (i n place : ℕ) (marks : List ℕ) (shared
             → (k ≤ l) × (IsOut x.fault → ⊥) × HasSameInode rows place l k
         found one =
             let same : l ≡ one.0 = so.are.once l one.0 x one.1 is one.2 (sym one.3) in
-            let tree : one.1 ≡ x = some_of (sym one.2 ∙ ap (slice_get trees) (sym same) ∙ is) in
+            let tree : one.1 ≡ x = some_same (sym one.2 ∙ ap (slice_get trees) (sym same) ∙ is) in
             elim one.4 [
               | inl itself ↦
                   let here : l ≡ k = same ∙ itself in
-                  let own : t ≡ x = some_of (sym at ∙ ap (slice_get trees) (sym here) ∙ is) in (
+                  let own : t ≡ x = some_same (sym at ∙ ap (slice_get trees) (sym here) ∙ is) in (
                     omega (arith, here),
                     subst (λ (v : Tree). IsOut v.fault → ⊥) own inside,
                     ap (λ (m : ℕ). inode_part (slice_index_or rows m []) place) here,
@@ -158,7 +159,7 @@ module _ (disk : Blocks) (r : Root) (i n place : ℕ) (marks : List ℕ) (shared
     ]
     passed_of l x y was is (inr high) low =
         let same : l ≡ k = omega (arith, low, high) in
-        let own : t ≡ x = some_of (sym at ∙ ap (slice_get trees) (sym same) ∙ was) in
+        let own : t ≡ x = some_same (sym at ∙ ap (slice_get trees) (sym same) ∙ was) in
         inr (more_of l x y was is (inr (subst (λ (v : Tree). HasBit v.plane bits) own ((are_twins t.plane).1 (k, t, at, refl, inl refl)))))
 
     closed_of : (l m : ℕ) (x y u v : Tree) → slice_get trees l ≡ Some x → slice_get next l ≡ Some y → slice_get trees m ≡ Some u → slice_get next m ≡ Some v → k + 1 ≤ l → k + 1 ≤ m

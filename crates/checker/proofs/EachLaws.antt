@@ -4,9 +4,7 @@ use Rattle.std.specs.Prelude.{Some, slice_get, Contains}
 use Rattle.std.proofs.Math.Nat.{eq-or-lt_of_le}
 use Rattle.std.proofs.lemmas.Bool.{cases_lt}
 use Rattle.std.proofs.lemmas.Option.{get_or_from_slice_get, slice_get-get_or, slice_get_cases, slice_get_past, slice_get_read, slice_get_within}
-
-pub some_of : {X : Type 0} {x y : X} → Some x ≡ Some y → x ≡ y
-some_of is = cc
+use Rattle.model.proofs.OptionLaws.{some_same}
 
 -- an element that is written
 pub get_set : {X : Type 0} (xs : List X) (i : ℕ) (x : X) → i < length xs → slice_get (set xs i x) i ≡ Some x
@@ -54,8 +52,8 @@ module _ {X : Type 0} (P : ℕ → X → X → Type 0) where
     length_is = each.length_is;
     below = λ i v w was is low. let most : i ≤ k = omega (arith, low) in elim (eq-or-lt_of_le most) [
       | inl same ↦
-          let v_is : v ≡ x = some_of (sym was ∙ ap (slice_get old) same ∙ sym (each.rest k (omega arith)) ∙ at) in
-          let w_is : w ≡ x = some_of (sym is ∙ ap (slice_get new) same ∙ at) in
+          let v_is : v ≡ x = some_same (sym was ∙ ap (slice_get old) same ∙ sym (each.rest k (omega arith)) ∙ at) in
+          let w_is : w ≡ x = some_same (sym is ∙ ap (slice_get new) same ∙ at) in
           subst (λ (n : ℕ). P n v w) (sym same) (subst (λ (z : X). P k z w) (sym v_is) (subst (P k x) (sym w_is) here))
       | inr lt ↦ each.below i v w was is lt
     ];
@@ -68,8 +66,8 @@ module _ {X : Type 0} (P : ℕ → X → X → Type 0) where
     length_is = length-set new k y ∙ each.length_is;
     below = λ i v w was is low. let most : i ≤ k = omega (arith, low) in elim (eq-or-lt_of_le most) [
       | inl same ↦
-          let v_is : v ≡ x = some_of (sym was ∙ ap (slice_get old) same ∙ sym (each.rest k (omega arith)) ∙ at) in
-          let w_is : w ≡ y = some_of (sym is ∙ ap (slice_get (set new k y)) same ∙ get_set new k y lt) in
+          let v_is : v ≡ x = some_same (sym was ∙ ap (slice_get old) same ∙ sym (each.rest k (omega arith)) ∙ at) in
+          let w_is : w ≡ y = some_same (sym is ∙ ap (slice_get (set new k y)) same ∙ get_set new k y lt) in
           subst (λ (n : ℕ). P n v w) (sym same) (subst (λ (z : X). P k z w) (sym v_is) (subst (P k x) (sym w_is) here))
       | inr less ↦
           let ne : i ≢ k = λ same. omega (arith, same, less) in

@@ -27,10 +27,9 @@ use Rattle.checker.specs.declared.fault.Fault.TheVariants as faults
 use Rattle.checker.specs.declared.fault.TreeFault.{TreeFault}
 use Rattle.checker.specs.declared.nodes.Shared.{Shared}
 use Rattle.checker.specs.declared.tree.Tree.{Tree}
-use Rattle.checker.proofs.EachLaws.{some_of}
+use Rattle.model.proofs.OptionLaws.{some_same}
 use Rattle.checker.proofs.NumberLaws.{IsNumbers, map_finding, mapped_past, number_grammar, numbers_of, seen_more, spelled_in}
 use Rattle.checker.proofs.OutLaws.{again, first_found, seen_added}
-use Rattle.checker.proofs.SeenLaws.{stays_none}
 
 -- ---- what was answered
 
@@ -49,9 +48,6 @@ marked_fault (Err (halts.Fault found)) fault told = cc
 pub told_none : (m : Result (Unit {0}) Halt) (o : Option Fault) → ((x : Fault) → o ≡ Some x → ⊥) → TellsFault m (Ok o) → TellsFault m (Ok None)
 told_none m None other told = told
 told_none m (Some x) other told = absurd (other x refl)
-
-pub marks_none : (bits : ℕ) (marks : List ℕ) (shared : List (Option Shared)) → KeepsMarks bits marks marks shared shared
-marks_none bits marks shared = record { length_is = refl; others = λ k none. stays_none k marks shared; kept = λ k s is. is }
 
 -- ---- an inode
 
@@ -97,7 +93,7 @@ module _ (disk : Blocks) (r : Root) (i n bits : ℕ) (bytes marks new : List ℕ
               (λ some. (known.inodes inside).files 1 (inr some)) wrong.1.1 wrong.0) in
               subst (IsSeenTo disk r i (n + 1) new after) (sym (again t q (Some (first_fault t.fault (faults.InodeMap n wrong.1.0))) (kept.same l t q was is) wrong.1.2))
               (seen_more disk r i n marks new shared after t inode known inside is_own (looks t.plane bit) keeps.kept (Some (first_fault t.fault (faults.InodeMap n wrong.1.0))) at grammar
-              (λ f one. subst (IsTreeFinding r (tree_in (whole disk r) t.plane)) (some_of one) finding)
+              (λ f one. subst (IsTreeFinding r (tree_in (whole disk r) t.plane)) (some_same one) finding)
               (λ none. absurd (none_is none)))
         ]
       where
@@ -116,7 +112,7 @@ module _ (disk : Blocks) (r : Root) (i n bits : ℕ) (bytes marks new : List ℕ
     pub told_past : (same : next ≡ old) → r.geometry.inodes ≤ n → (l : ℕ) (t q : Tree) → slice_get old l ≡ Some t → slice_get next l ≡ Some q → HasBit t.plane bits → (IsOut t.fault → ⊥)
         → IsSeenTo disk r i n marks shared t → IsTold t q
     told_past same past l t q was is bit inside known =
-        inl (some_of (sym is ∙ ap (λ (ts : List Tree). slice_get ts l) same ∙ was), mapped_past r.geometry n inode t.numbers.items (omega (arith, are.least_inodes)) (known.maps inside).within kind past)
+        inl (some_same (sym is ∙ ap (λ (ts : List Tree). slice_get ts l) same ∙ was), mapped_past r.geometry n inode t.numbers.items (omega (arith, are.least_inodes)) (known.maps inside).within kind past)
 
 -- the bytes aren't an inode of their place
 pub not_spelled : (disk : Blocks) (r : Root) (n : ℕ) (bytes : List ℕ) → AreSizes r.geometry

@@ -73,13 +73,6 @@ adds_set bits k s old new v bit is keep add = record {
 
 -- WHAT STAYS
 
-pub keeps_none : (bits : ℕ) (marks : List ℕ) (shared : List (Option Shared)) → KeepsMarks bits marks marks shared shared
-keeps_none bits marks shared = record {
-  length_is = refl;
-  others = λ k other. record { marks = λ b. (λ bit. bit, λ bit. bit); shared = refl };
-  kept = λ k s is. is;
-}
-
 pub keeps_more : {bits : ℕ} {a b c : List ℕ} {p q r : List (Option Shared)} → KeepsMarks bits a b p q → KeepsMarks bits b c q r → KeepsMarks bits a c p r
 keeps_more first last = record {
   length_is = last.length_is ∙ first.length_is;

@@ -108,14 +108,6 @@ among_more blocks now number count bits disk h height low high index next old mi
     blocks number count bits disk old mid new before middle after kept one
     (two.0, λ m i b under is. subst (λ (n : ℕ). IsIndirectBlock n (nodes_at count m - 1024 * i) (disk b)) same (two.1 m i b under is))
 
--- no node stands among none
-pub among_none : (blocks number count bits : ℕ) (disk : Blocks) (h : Held) (height low high : ℕ) (marks : List ℕ) (shared : List (Option Shared)) → high ≤ low
-    → MarksFor h (IsAmong height low high) number bits marks marks shared shared × AreIndirect blocks disk h count (IsAmong height low high)
-among_none blocks number count bits disk h height low high marks shared le = (
-  (λ k bit. looks_none h (IsAmong height low high) k number marks shared (λ m i b among is. omega (arith, among.1, among.2, le))),
-  (λ m i b among is. absurd (omega (arith, among.1, among.2, le))),
-)
-
 -- the same was done for all nodes of a set, where those that it has more are holes
 pub looks_same : (h : Held) (S1 S : ℕ → ℕ → Type 0) (k number : ℕ) (old new : List ℕ) (before after : List (Option Shared))
     → ((m i b : ℕ) → S m i → h.place m i ≡ Block b → S1 m i) → ((m i : ℕ) → S1 m i → S m i)

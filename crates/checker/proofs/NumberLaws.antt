@@ -24,6 +24,7 @@ use Rattle.images.specs.Roots.{HeldTree, free_inode, inode_bytes_at, whole}
 use Rattle.images.proofs.EmptyLaws.{free_bytes, free_fits, free_named}
 use Rattle.loading.specs.InodeBlocks.{HasKindOfPlace, IsInodeAt}
 use Rattle.loading.specs.Laws.{EndTrees, SpellTrees}
+use Rattle.model.proofs.OptionLaws.{some_same}
 use Rattle.checker.specs.Findings.{IsTreeFinding, StandsIn, tree_in}
 use Rattle.checker.specs.Nodes.{IsAny, KeepsShared, LooksUnder, MarksNodes, SharesNone}
 use Rattle.checker.specs.Rows.{IsMappedAs}
@@ -289,9 +290,6 @@ module _ (disk : Blocks) (t : HeldTree) (n k : ℕ) (i : Inode) (is : IsNumbers 
 none_or_some : (o : Option Shared) → (o ≡ None) ⊎ ((s : Shared) × (o ≡ Some s))
 none_or_some None = inl refl
 none_or_some (Some s) = inr (s, refl)
-
-some_same : {s u : Shared} → Some s ≡ Some u → s ≡ u
-some_same is = cc
 
 no_some : {s : Shared} → Some s ≡ None → ⊥
 no_some is = cc

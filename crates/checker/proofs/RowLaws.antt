@@ -25,7 +25,8 @@ use Rattle.checker.specs.declared.fault.Fault.TheVariants as faults
 use Rattle.checker.specs.declared.fault.TreeFault.TheVariants.{InodeBlock}
 use Rattle.checker.specs.declared.nodes.Shared.{Shared}
 use Rattle.checker.specs.declared.tree.Tree.{Tree}
-use Rattle.checker.proofs.EachLaws.{Each, contained, contains, each_all, some_at, some_of}
+use Rattle.model.proofs.OptionLaws.{some_same}
+use Rattle.checker.proofs.EachLaws.{Each, contained, contains, each_all, some_at}
 use Rattle.checker.proofs.OutLaws.{again, out_keeps, out_or_not, seen_added, seen_out}
 use Rattle.checker.proofs.ReadLaws.{HasLooked, looked_more, looked_none}
 use Rattle.checker.proofs.SeenLaws.{stays_more, stays_none}
@@ -119,7 +120,7 @@ pub trees_none : (trees : List Tree) → KeepsTrees trees trees
 trees_none trees = record {
   length_is = refl;
   same = λ i t q was is.
-      let one : t ≡ q = some_of (sym was ∙ is) in
+      let one : t ≡ q = some_same (sym was ∙ is) in
       ap (λ (v : Tree). record t { fault = v.fault }) (sym one) ∙ one;
 }
 
@@ -142,7 +143,7 @@ keeps_part k old new each = record {
   same = λ l t q was is. elim (cases_lt l k) [
     | inl low ↦ each.below l t q was is low
     | inr high ↦
-        let one : t ≡ q = some_of (sym was ∙ sym (each.rest l high) ∙ is) in
+        let one : t ≡ q = some_same (sym was ∙ sym (each.rest l high) ∙ is) in
         ap (λ (v : Tree). record t { fault = v.fault }) (sym one) ∙ one
   ];
 }
@@ -187,7 +188,7 @@ first_plane [] t is all = absurd (none_is is)
   where
     none_is : {x : Tree} → None ≡ Some x → ⊥
     none_is same = cc
-first_plane (x ∷ xs) t is all = ap (λ (v : Tree). v.plane) (sym (some_of is)) ∙ all x xs refl
+first_plane (x ∷ xs) t is all = ap (λ (v : Tree). v.plane) (sym (some_same is)) ∙ all x xs refl
 
 pub trees_again : (r : Root) (old new : List Tree) (K L : Tree → Type 0) → KeepsTrees old new → AreTrees r old K
     → ((l : ℕ) (t q : Tree) → slice_get old l ≡ Some t → slice_get new l ≡ Some q → K t → L q) → AreTrees r new L

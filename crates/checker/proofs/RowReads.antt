@@ -25,7 +25,8 @@ use Rattle.checker.specs.declared.tree.Tree.{Tree}
 use Rattle.checker.proofs.HeldLaws.{top_is, top_readable}
 use Rattle.checker.proofs.OwnerLaws.{AreAllSound, file_sound}
 use Rattle.checker.proofs.PlaceLaws.{places_are, stored_at, top_large, whole_at}
-use Rattle.checker.proofs.EachLaws.{Each, get_others, get_set, some_at, some_of}
+use Rattle.model.proofs.OptionLaws.{some_same}
+use Rattle.checker.proofs.EachLaws.{Each, get_others, get_set, some_at}
 use Rattle.checker.proofs.FoundLaws.{get_pushed}
 use Rattle.checker.proofs.RowLaws.{IsRowOf, IsSame, known_at, trees_again}
 
@@ -72,8 +73,8 @@ module _ (disk : Blocks) (r : Root) (i : ℕ) (marks : List ℕ) (shared : List 
   rows_more x y rows new row each lt at long is before here j t q was now low known =
       let most : j ≤ k = omega (arith, low) in elim (eq-or-lt_of_le most) [
         | inl same ↦
-            let t_is : t ≡ x = some_of (sym was ∙ ap (slice_get old) same ∙ sym (each.rest k (omega arith)) ∙ at) in
-            let q_is : q ≡ y = some_of (sym now ∙ ap (slice_get (set mid k y)) same ∙ get_set mid k y lt) in
+            let t_is : t ≡ x = some_same (sym was ∙ ap (slice_get old) same ∙ sym (each.rest k (omega arith)) ∙ at) in
+            let q_is : q ≡ y = some_same (sym now ∙ ap (slice_get (set mid k y)) same ∙ get_set mid k y lt) in
             let told = here (subst (IsSeenTo disk r i (21 * i) marks shared) t_is known) in
             let last : slice_index_or new j (file_block (tree_in (whole disk r) y.plane 0) i) ≡ row =
             ap (λ (rs : List (List ℕ)). slice_index_or rs j (file_block (tree_in (whole disk r) y.plane 0) i)) is
@@ -124,7 +125,7 @@ pub places_more : (blocks : ℕ) (disk : Blocks) (trees : List Tree) (old new : 
 places_more blocks disk trees old new t p is tree before here l v q there at = elim (get_pushed old p l q (subst (λ (ps : List PlaceMap). slice_get ps l ≡ Some q) is at)) [
   | inl was ↦ before l v q there was
   | inr last ↦
-      let same : t ≡ v = some_of (sym tree ∙ sym (ap (slice_get trees) last.0) ∙ there) in
+      let same : t ≡ v = some_same (sym tree ∙ sym (ap (slice_get trees) last.0) ∙ there) in
       subst (λ (x : Tree). AreSound blocks disk x.file.tree → ArePlaces disk x.file.tree q) same
       (subst (λ (m : PlaceMap). AreSound blocks disk t.file.tree → ArePlaces disk t.file.tree m) (sym last.1) here)
 ]

@@ -59,24 +59,24 @@ use Rattle.checker.proofs.NameLaws.{rows_all}
 
 module _ {K : Type 0} (name : K → Name) where
   pub knows_none : (set : BTreeSet K) (e : Name → Option ℕ) → set.keys ≡ [] → ((x : Name) → e x ≡ None) → KnowsNames set name e
-  knows_none set e empty none key = ap (list_any (is_at (λ k. slice_cmp nat_cmp (name key) (name k)))) empty ∙ sym (ap is_some (none (name key)))
+  knows_none set e empty none key = ap (list_any (is_at (λ k. slice_cmp nat_cmp (name k) (name key)))) empty ∙ sym (ap is_some (none (name key)))
 
-  at_key : (key q : K) → name q ≡ name key → is_at (λ k. slice_cmp nat_cmp (name key) (name k)) q ≡ true
-  at_key key q same = is_eq-slice_cmp (name key) (name q) ∙ (bytes_eq-Decides (name key) (name q)).1 (sym same)
+  at_key : (key q : K) → name q ≡ name key → is_at (λ k. slice_cmp nat_cmp (name k) (name key)) q ≡ true
+  at_key key q same = is_eq-slice_cmp (name q) (name key) ∙ (bytes_eq-Decides (name q) (name key)).1 same
 
-  not_at_key : (key q : K) → name q ≢ name key → is_at (λ k. slice_cmp nat_cmp (name key) (name k)) q ≡ false
+  not_at_key : (key q : K) → name q ≢ name key → is_at (λ k. slice_cmp nat_cmp (name k) (name key)) q ≡ false
   not_at_key key q other =
-      is_eq-slice_cmp (name key) (name q) ∙ false_from_ne_true (bytes_eq (name key) (name q)) (λ t. other (sym ((bytes_eq-Decides (name key) (name q)).0 t)))
+      is_eq-slice_cmp (name q) (name key) ∙ false_from_ne_true (bytes_eq (name q) (name key)) (λ t. other ((bytes_eq-Decides (name q) (name key)).0 t))
 
   pub knows_more : (old new : BTreeSet K) (key : K) (d n : ℕ) (x : Name) (e : Entries) → name key ≡ x
-      → ((q : K) → contains (λ a b. slice_cmp nat_cmp (name a) (name b)) new q ≡ (if is_at (λ k. slice_cmp nat_cmp (name key) (name k)) q then true else contains (λ a b. slice_cmp nat_cmp (name a) (name b)) old q))
+      → ((q : K) → contains (λ a b. slice_cmp nat_cmp (name b) (name a)) new q ≡ (if is_at (λ k. slice_cmp nat_cmp (name k) (name key)) q then true else contains (λ a b. slice_cmp nat_cmp (name b) (name a)) old q))
       → KnowsNames old name (e d) → KnowsNames new name (with_edge d x (Some n) e d)
   knows_more old new key d n x e is updates knows q = elim (names_apart (name q) x) [
     | inl same ↦
-        updates q ∙ cond-true (is_at (λ k. slice_cmp nat_cmp (name key) (name k)) q) true (contains (λ a b. slice_cmp nat_cmp (name a) (name b)) old q) (at_key key q (same ∙ sym is))
+        updates q ∙ cond-true (is_at (λ k. slice_cmp nat_cmp (name k) (name key)) q) true (contains (λ a b. slice_cmp nat_cmp (name b) (name a)) old q) (at_key key q (same ∙ sym is))
         ∙ sym (ap is_some (ap (with_edge d x (Some n) e d) same ∙ edge_here d x (Some n) e))
     | inr other ↦
-        updates q ∙ cond-false (is_at (λ k. slice_cmp nat_cmp (name key) (name k)) q) true (contains (λ a b. slice_cmp nat_cmp (name a) (name b)) old q) (not_at_key key q (λ same. other (same ∙ is)))
+        updates q ∙ cond-false (is_at (λ k. slice_cmp nat_cmp (name k) (name key)) q) true (contains (λ a b. slice_cmp nat_cmp (name b) (name a)) old q) (not_at_key key q (λ same. other (same ∙ is)))
         ∙ knows q ∙ sym (ap is_some (edge_other d d x (name q) (Some n) e (λ _. other)))
   ]
 

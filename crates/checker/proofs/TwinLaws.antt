@@ -8,7 +8,7 @@ use Rattle.images.specs.Roots.{inode_part}
 use Rattle.checker.specs.Rows.{AreTwins}
 use Rattle.checker.specs.Trees.{IsOut}
 use Rattle.checker.specs.declared.tree.Tree.{Tree}
-use Rattle.checker.proofs.EachLaws.{some_of}
+use Rattle.model.proofs.OptionLaws.{some_same}
 use Rattle.checker.proofs.MarkLaws.{bits_or}
 
 -- tree l is one of them, among those before place m
@@ -26,7 +26,7 @@ module _ (trees : List Tree) (rows : List (List ℕ)) (k place : ℕ) where
   twins_start bits t at bit p = (
     (λ has. (k, t, at, sym ((bit p).0 has), inl refl)),
     (λ twin. elim twin.4 [
-      | inl itself ↦ (bit p).1 (sym (ap (λ (v : Tree). v.plane) (some_of (sym at ∙ ap (slice_get trees) (sym itself) ∙ twin.2)) ∙ twin.3))
+      | inl itself ↦ (bit p).1 (sym (ap (λ (v : Tree). v.plane) (some_same (sym at ∙ ap (slice_get trees) (sym itself) ∙ twin.2)) ∙ twin.3))
       | inr later ↦ absurd (omega (arith, later.0, later.1))
     ]),
   )
@@ -57,7 +57,7 @@ module _ (trees : List Tree) (rows : List (List ℕ)) (k place : ℕ) where
         | inl less ↦ (bit p).1 (inl ((so p).1 (twin.0, twin.1, twin.2, twin.3, inr (later.0, less, later.2, later.3))))
         | inr high ↦
             let here : twin.0 ≡ l = omega (arith, later.1, high) in
-            (bit p).1 (inr (sym (ap (λ (v : Tree). v.plane) (some_of (sym at ∙ ap (slice_get trees) (sym here) ∙ twin.2)) ∙ twin.3)))
+            (bit p).1 (inr (sym (ap (λ (v : Tree). v.plane) (some_same (sym at ∙ ap (slice_get trees) (sym here) ∙ twin.2)) ∙ twin.3)))
       ]
     ]),
   )
@@ -72,7 +72,7 @@ module _ (trees : List Tree) (rows : List (List ℕ)) (k place : ℕ) where
         | inl less ↦ (so p).1 (twin.0, twin.1, twin.2, twin.3, inr (later.0, less, later.2, later.3))
         | inr high ↦
             let here : twin.0 ≡ l = omega (arith, later.1, high) in
-            let tree : twin.1 ≡ t = some_of (sym twin.2 ∙ ap (slice_get trees) here ∙ at) in
+            let tree : twin.1 ≡ t = some_same (sym twin.2 ∙ ap (slice_get trees) here ∙ at) in
             absurd (other (subst (λ (v : Tree). IsOut v.fault → ⊥) tree later.2)
             (ap (λ (m : ℕ). inode_part (slice_index_or rows m []) place) (sym here) ∙ later.3))
       ]

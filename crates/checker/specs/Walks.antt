@@ -60,10 +60,10 @@ pub record LooksInto (s : Sizes) (t : HeldTree) (e : Entries) (count : ℕ) (fou
   pub way : IsOnWay s t e count found table
   pub names : AreDirectories s t e count found
 
--- a set has the names of a directory that have a number so far
+-- a set, in falling order, has the names of a directory that have a number so far
 abbrev pub KnowsNames : {K : Type 0} → BTreeSet K → (K → Name) → NameMap → Type 0
 KnowsNames {K} set name names =
-    (key : K) → contains (λ x y. slice_cmp nat_cmp (name x) (name y)) set key ≡ is_some (names (name key))
+    (key : K) → contains (λ x y. slice_cmp nat_cmp (name y) (name x)) set key ≡ is_some (names (name key))
 
 -- bytes of a directory whose entries a volume has, where none of them is counted yet
 pub record IsAwaited (inodes : ℕ) (v : Volume) (d : ℕ) (e : Entries) (bytes : List ℕ) : Type 0 where

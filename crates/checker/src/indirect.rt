@@ -37,16 +37,11 @@ fn is_zero_behind(bytes: &[u8; BLOCK_BYTES], from: usize) -> bool
     requires { from ≤ BLOCK_BYTES }
     ensures { IsTrue result → drop from bytes.now ≡ zeros (BLOCK_BYTES - from) }
 {
-    let zeros = [0u8; BLOCK_BYTES];
-    behind(bytes, from) == behind(&zeros, from)
-}
-
-/// The bytes of a block from one place on.
-fn behind(bytes: &[u8; BLOCK_BYTES], from: usize) -> &[u8]
-    requires { from ≤ BLOCK_BYTES }
-    ensures { result.now ≡ drop from bytes.now }
-{
-    &bytes[from..]
+    let mut all = 0;
+    for i in from..BLOCK_BYTES {
+        all |= bytes[i];
+    }
+    all == 0
 }
 
 /// Whether the first so many pointers are holes or lead to blocks of the disk.

@@ -35,6 +35,7 @@ use layout::{
     BLOCK_BYTES, Entry, FIRST_NUMBER, Geometry, Kind, NextEntry, ROOT_NUMBER, next_entry,
 };
 use std::alloc::Global;
+use std::cmp::Reverse;
 use std::collections::BTreeSet;
 
 /// What a tree has of a number: the kind of its inode and its links, and how many names were found.
@@ -166,6 +167,7 @@ fn count_blocks<B: LetsGo>(
     ensures sound { (disk : ℕ → List ℕ) → B.Shows blocks.old disk → OnOk result ((i : ℕ)
         → i < file.now.size / BLOCK_BYTES → IsSoundAt (B.count blocks.old) disk file.now.tree i) }
 {
+    // Most names stand in rising order, and a set of them is searched from its least on.
     let mut names = BTreeSet::new(alloc);
     for i in 0..(file.size() / BLOCK_BYTES as u64) as u32 {
         let location = or_fault(
@@ -188,7 +190,7 @@ fn count_entries(
     inodes: u32,
     directory: u32,
     block: u32,
-    names: &mut BTreeSet<Vec<u8>>,
+    names: &mut BTreeSet<Reverse<Vec<u8>>>,
     table: &mut Vec<NumberRow>,
     found: &mut Vec<u32>,
 ) -> Result<(), Halt>
@@ -199,10 +201,10 @@ fn count_entries(
         → r.geometry.inodes ≡ inodes
         → IsOnWay r.geometry t e count found.old.items table.old.items
         → IsFirst found.old.items count directory
-        → KnowsNames names.old (λ n. n.items) (e directory)
+        → KnowsNames names.old (λ n. n.0.items) (e directory)
         → ((g : HoldsNames r.geometry.inodes t) → IsAwaited r.geometry.inodes g.volume directory e bytes.now)
         → Passes (λ _. (h : HasCounted r.geometry t directory bytes.now e count found.new.items table.new.items)
-        × KnowsNames names.new (λ n. n.items) (h.names directory))
+        × KnowsNames names.new (λ n. n.0.items) (h.names directory))
         (IsTreeFinding r t) result }
 {
     match next_entry(bytes, inodes) {
@@ -248,7 +250,7 @@ fn count_entry(
     alloc: Global,
     entry: &Entry<'_>,
     directory: u32,
-    names: &mut BTreeSet<Vec<u8>>,
+    names: &mut BTreeSet<Reverse<Vec<u8>>>,
     table: &mut Vec<NumberRow>,
     found: &mut Vec<u32>,
 ) -> Result<(), Halt>
@@ -259,7 +261,7 @@ fn count_entry(
     ensures counted { (r : Root) (t : HeldTree) (e : Entries) (count : ℕ)
         → IsOnWay r.geometry t e count found.old.items table.old.items
         → IsFirst found.old.items count directory
-        → KnowsNames names.old (λ n. n.items) (e directory)
+        → KnowsNames names.old (λ n. n.0.items) (e directory)
         → IsEntry r.geometry.inodes (named_of entry.now)
         → ((g : HoldsNames r.geometry.inodes t)
         → (entries g.volume directory entry.now.name.now ≡ Some entry.now.number)
@@ -267,11 +269,11 @@ fn count_entry(
         → Passes (λ _. (e directory entry.now.name.now ≡ None)
         × IsOnWay r.geometry t (with_edge directory entry.now.name.now (Some entry.now.number) e)
         count found.new.items table.new.items
-        × KnowsNames names.new (λ n. n.items)
+        × KnowsNames names.new (λ n. n.0.items)
         (with_edge directory entry.now.name.now (Some entry.now.number) e directory))
         (IsTreeFinding r t) result }
 {
-    let is_new = names.insert(Vec::from_slice(alloc, entry.name)?)?;
+    let is_new = names.insert(Reverse(Vec::from_slice(alloc, entry.name)?))?;
     if !is_new {
         return Err(Halt::Fault(Fault::Directory(DirectoryFault::Repeated { directory })));
     }

@@ -1,17 +1,18 @@
 //! The nodes of a file: each is marked, and each indirect block tested.
 
-ghost use Rattle.std.specs.Prelude.{◌≡◌, ◌+◌, ◌-◌, ◌*◌, ◌^◌, ◌<◌, ◌≤◌, ℕ, List, None, Some, length, slice_index_or};
+ghost use Rattle.std.specs.Prelude.{◌≡◌, ◌⊎◌, IsTrue, ◌+◌, ◌-◌, ◌*◌, ◌^◌, ◌<◌, ◌≤◌, ℕ, List, None, Some, length, slice_index_or};
 ghost use Rattle.std.specs.Int.{div_ceil};
 ghost use Rattle.layout.specs.Inode.{IsInode};
 ghost use Rattle.layout.specs.Limits.{Sizes};
 ghost use Rattle.layout.specs.Pointer.{PointsBelow};
 ghost use Rattle.layout.specs.Version.{greatest_size, level_of};
+ghost use Rattle.layout.specs.declared.pointer.Pointer.TheVariants.{Hole};
 ghost use Rattle.layout.specs.declared.version.TheConstants.{VERSION};
 ghost use Rattle.blocktree.specs.Names.{nodes_at};
 ghost use Rattle.checker.specs.Errors.{IsHaltFault, Looks};
 ghost use Rattle.images.specs.BlockMap.{HasBit};
 ghost use Rattle.images.specs.Nodes.{Held};
-ghost use Rattle.checker.specs.Nodes.{HasNodes, IsAt, IsUnder, KeepsMarks, KeepsShared, MarksFile, MarksFor, MarksThese, SharesNone};
+ghost use Rattle.checker.specs.Nodes.{AreIndirect, HasNodes, IsAt, IsUnder, KeepsMarks, KeepsShared, MarksFile, MarksFor, MarksThese, SharesNone};
 
 use crate::error::Halt;
 use crate::indirect::is_indirect;
@@ -100,7 +101,7 @@ pub(crate) fn mark_file<B: LetsGo>(
             height,
             index: i as u32,
         };
-        mark_node(blocks, pointers[i], node, count, bits, marks, shared)?;
+        mark_top(blocks, pointers[i], node, count, bits, marks, shared)?;
     }
     Ok(())
 }
@@ -118,6 +119,37 @@ fn top_height(size: u64) -> u32
     ensures { result ≡ level_of size - 1 }
 {
     u32::from(level_of(size).saturating_sub(1))
+}
+
+/// Marks the node at a pointer of an inode, of a file of so many blocks, and those below it.
+fn mark_top<B: LetsGo>(
+    blocks: &mut B,
+    pointer: Pointer,
+    node: FileNode,
+    count: u32,
+    bits: u32,
+    marks: &mut Marks,
+    shared: &mut SharedBlocks,
+) -> Result<(), Halt>
+    requires pointer { PointsBelow (B.count blocks.old) pointer }
+    requires table { length marks.old ≡ B.count blocks.old }
+    requires planes { (k : ℕ) → HasBit k bits → k < PLANES }
+    ensures reads { Looks B.Blocks IsHaltFault blocks.old blocks.new result }
+    ensures keeps { KeepsMarks bits marks.old marks.new shared.old.of shared.new.of }
+    ensures marked { (disk : ℕ → List ℕ) (h : Held) → B.Shows blocks.old disk
+        → h.place node.height node.index ≡ pointer → HasNodes disk h node.height
+        → MarksThese (B.count blocks.old) disk h (IsUnder node.height node.index) node.number count bits
+        marks.old marks.new shared.old.of shared.new.of result }
+{
+    let Pointer::Block(place) = pointer else {
+        return Ok(());
+    };
+    if node.height == 0 {
+        let _ = mark_block(place, node, bits, marks, shared);
+        return Ok(());
+    }
+    let pointer = Pointer::Block(place);
+    mark_node(blocks, pointer, node, count, bits, marks, shared)
 }
 
 /// Marks the node at a pointer, of a file of so many blocks, and those below it. The file's blocks below an indirect one that all of
@@ -173,9 +205,44 @@ fn mark_node<B: LetsGo>(
             height,
             index: first.saturating_add(r),
         };
+        if is_leaf(height, below) {
+            mark_leaf(below, node, bits, marks, shared);
+            continue;
+        }
         mark_node(blocks, below, node, count, bits, marks, shared)?;
     }
     Ok(())
+}
+
+/// Whether no nodes stand below the one of this height at a pointer.
+fn is_leaf(height: u32, pointer: Pointer) -> bool
+    ensures { IsTrue result → (height ≡ 0) ⊎ (pointer ≡ Hole) }
+{
+    height == 0 || pointer.is_hole()
+}
+
+/// Marks the node at a pointer, below which no nodes stand. It has no memory of a block of its own, as `mark_node` has.
+fn mark_leaf(
+    pointer: Pointer,
+    node: FileNode,
+    bits: u32,
+    marks: &mut Marks,
+    shared: &mut SharedBlocks,
+)
+    requires leaf { (node.height ≡ 0) ⊎ (pointer ≡ Hole) }
+    requires pointer { PointsBelow (length marks.old) pointer }
+    requires planes { (k : ℕ) → HasBit k bits → k < PLANES }
+    ensures keeps { KeepsMarks bits marks.old marks.new shared.old.of shared.new.of }
+    ensures marked { (blocks count : ℕ) (disk : ℕ → List ℕ) (h : Held)
+        → h.place node.height node.index ≡ pointer → HasNodes disk h node.height
+        → MarksFor h (IsUnder node.height node.index) node.number bits
+        marks.old marks.new shared.old.of shared.new.of
+        × AreIndirect blocks disk h count (IsUnder node.height node.index) }
+{
+    let Pointer::Block(place) = pointer else {
+        return;
+    };
+    let _ = mark_block(place, node, bits, marks, shared);
 }
 
 /// Marks the block of a node for the trees of these bits, and tells which of them named it before.

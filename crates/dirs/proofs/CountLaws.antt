@@ -6,7 +6,7 @@ use Rattle.model.specs.Paths.{Name}
 use Rattle.layout.specs.DirectoryNames.{number_of, HasEachOnce, NameMap, AreNames}
 use Rattle.model.specs.Counting.{Counts}
 use Rattle.dirs.specs.Directory.{HasCount, first_entries}
-use Rattle.dirs.proofs.NameLaws.{number_of-here, number_of-behind, not_same, other_name, missing_parts}
+use Rattle.entries.proofs.MissingLaws.{number_of-here, number_of-behind, not_same, other_name, missing_parts}
 use Rattle.model.proofs.OptionLaws.{none_some}
 
 -- a name stands among the entries, or doesn't

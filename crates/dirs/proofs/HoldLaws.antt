@@ -4,14 +4,15 @@ use Rattle.std.proofs.lemmas.Bool.{cases_Bool, cases_lt, cases_eq, cond-true, co
 use Rattle.layout.specs.Directory.{Named, HoldsEntries}
 use Rattle.model.specs.Paths.{Name}
 use Rattle.layout.specs.DirectoryNames.{number_of, NameMap, AreNames, HoldNames}
-use Rattle.dirs.specs.Entries.{without}
+use Rattle.entries.specs.Entries.{without}
 use Rattle.dirs.specs.Directory.{HasCount, first_entries, with_name, with_at}
 use Rattle.dirs.specs.Errors.{add_error}
 use Rattle.blocktree.specs.declared.error.ReadError.{ReadError}
 use Rattle.blocktree.specs.declared.error.ReadError.TheVariants as below
 use Rattle.dirs.specs.declared.error.AddError.TheVariants.{Damaged}
 use Rattle.dirs.proofs.CountLaws.{count_is}
-use Rattle.dirs.proofs.NameLaws.{removed, added_to, same_name, with_at-here, with_at-else}
+use Rattle.dirs.proofs.NameLaws.{removed, added_to, with_at-here, with_at-else}
+use Rattle.entries.proofs.MissingLaws.{same_name}
 
 -- a name that no block has is none of the names
 pub missing_name : (inodes count : ℕ) (block : ℕ → List ℕ) (names : NameMap) (name : Name) → (h : HoldNames inodes count block names) → ((i : ℕ) → i < count → number_of name (h.entries i) ≡ None) → names name ≡ None

@@ -1,4 +1,3 @@
-pub mod EntryLists
 pub mod NameLaws
 pub mod CountLaws
 pub mod SurveyLaws

@@ -18,7 +18,7 @@ use Rattle.model.specs.Paths.{Name}
 use Rattle.layout.specs.DirectoryNames.{number_of, NameMap, HoldNames}
 use Rattle.dirs.specs.Directory.{first_entries}
 use Rattle.dirs.specs.Listings.{lists_name, IsListingOfNames}
-use Rattle.dirs.proofs.NameLaws.{number_of-here, number_of-behind}
+use Rattle.entries.proofs.MissingLaws.{number_of-here, number_of-behind}
 use Rattle.dirs.proofs.CountLaws.{name_stands, entry_names, some_of}
 
 pub or_comm : (a b : Bool) → (a || b) ≡ (b || a)

@@ -4,8 +4,8 @@ use Rattle.std.proofs.lemmas.Bool.{cases_eq}
 use Rattle.model.specs.Paths.{Name}
 use Rattle.blocktree.specs.declared.error.ReadError.{ReadError}
 use Rattle.dirs.specs.Edits.{HasNumber, IsFirstFound}
-use Rattle.dirs.specs.Looks.{TellsEntries}
-use Rattle.dirs.specs.declared.look.Look.{Look}
+use Rattle.entries.specs.Looks.{TellsEntries}
+use Rattle.entries.specs.declared.look.Look.{Look}
 
 -- a block has the number that a look at it tells
 pub number_told : (inodes : ℕ) (bytes : List ℕ) (name : Name) (l : Look) → TellsEntries inodes bytes name l → HasNumber inodes bytes name l.number

@@ -4,11 +4,11 @@ use Rattle.std.proofs.lemmas.Bool.{cases_Bool, cases_eq, leb-true, leb-false, co
 use Rattle.std.proofs.lemmas.List.{length-append}
 use Rattle.layout.specs.Directory.{Named, HoldsEntries}
 use Rattle.model.specs.Paths.{Name}
-use Rattle.dirs.specs.Entries.{used_by}
+use Rattle.entries.specs.Entries.{used_by}
 use Rattle.dirs.specs.Directory.{first_entries}
-use Rattle.dirs.specs.Looks.{TellsEntries, IsLikely}
+use Rattle.entries.specs.Looks.{TellsEntries, IsLikely}
 use Rattle.dirs.specs.Surveys.{SurveysBlocks, IsBounded, IsFirstRoom, next_room}
-use Rattle.dirs.specs.declared.look.Look.{Look}
+use Rattle.entries.specs.declared.look.Look.{Look}
 use Rattle.dirs.specs.declared.survey.Survey.{Survey}
 
 room_more : (entries : ℕ → List Named) (i bytes : ℕ) (room : Option ℕ) → IsFirstRoom entries i bytes room → IsFirstRoom entries (i + 1) bytes (next_room i (used_by (entries i) + bytes) room)

@@ -2,7 +2,7 @@
 use Rattle.std.specs.Prelude.{ℕ, ◌≡◌, ◌≢◌, ◌+◌, ◌<◌, ◌≤◌, List, [], ◌∷◌, ◌++◌, length, max}
 use Rattle.layout.specs.Directory.{Named, HoldsEntries, entry_bytes}
 use Rattle.layout.specs.declared.TheConstants.{BLOCK_BYTES}
-use Rattle.dirs.specs.Entries.{used_by}
+use Rattle.entries.specs.Entries.{used_by}
 
 -- Of blocks that hold these entries, none past the first so many, the first one with room for another entry gets it, behind
 -- its own: where all are full, a new last one. No other block changes.

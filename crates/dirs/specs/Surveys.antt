@@ -1,7 +1,7 @@
 -- What a survey of all blocks of a directory tells.
 use Rattle.std.specs.Prelude.{ℕ, ◌≡◌, ◌+◌, ◌*◌, ◌<◌, ◌≤◌, List, length, Option, Some, None, nat_le, if◌then◌else◌}
 use Rattle.layout.specs.Directory.{Named}
-use Rattle.dirs.specs.Entries.{used_by}
+use Rattle.entries.specs.Entries.{used_by}
 use Rattle.layout.specs.DirectoryNames.{AllHold}
 use Rattle.dirs.specs.Directory.{AreDirectoryBlocks, first_entries}
 use Rattle.dirs.specs.declared.survey.Survey.{Survey}

@@ -8,11 +8,11 @@ ghost use Rattle.dirs.specs.Errors.{IsAddFault};
 ghost use Rattle.model.specs.declared.limits.TheConstants.{DIRECTORY_NAMES};
 ghost use Rattle.dirs.specs.declared.TheConstants.{FILE_BLOCKS};
 
-use crate::entries::add;
 use crate::survey::survey_of;
 use crate::{AddError, Edit, FILE_BLOCKS};
 use blocktree::ReadError;
 use buffers::Blocks;
+use entries::{Known, add};
 use inode::File;
 use layout::{BLOCK_BYTES, Entry};
 use model::DIRECTORY_NAMES;
@@ -23,7 +23,7 @@ impl Edit {
     ghost use Rattle.inode.specs.Files.{IsSameFile};
     ghost use Rattle.layout.specs.DirectoryNames.{NameMap};
     ghost use Rattle.dirs.specs.Directory.{HasCount, with_name};
-    ghost use Rattle.dirs.specs.Entries.{used_by};
+    ghost use Rattle.entries.specs.Entries.{used_by};
     ghost use Rattle.dirs.specs.Edits.{edited_block, HasEditedNames, IsSoundEdit, IsReached, FitsIn};
     ghost use Rattle.dirs.specs.FirstFit.{IsFirstFit};
     ghost use Rattle.dirs.specs.Room.{AddsPiece};
@@ -34,6 +34,7 @@ impl Edit {
         &mut self,
         alloc: Global,
         file: &mut File,
+        known: &mut Known,
         blocks: &mut B,
         inodes: u32,
         entry: &Entry<'_>,
@@ -71,7 +72,7 @@ impl Edit {
             IsReached (B.count blocks.old) disk file.old self.old.count →
             IsSoundEdit inodes disk file.old self.old → ⊥ }
     {
-        let survey = survey_of(self, file, blocks, inodes, entry.encoded_len())?;
+        let survey = survey_of(self, file, known, blocks, inodes, entry.encoded_len())?;
         let is_full = survey.names as usize >= DIRECTORY_NAMES;
         if is_full {
             return Err(AddError::DirFull);

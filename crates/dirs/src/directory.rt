@@ -12,13 +12,14 @@ ghost use Rattle.inode.specs.Files.{file_block};
 ghost use Rattle.model.specs.Paths.{Name};
 ghost use Rattle.layout.specs.DirectoryNames.{number_of, NameMap};
 ghost use Rattle.dirs.specs.Directory.{AreDirectoryBlocks};
-ghost use Rattle.dirs.specs.Entries.{IsObjectNumber};
+ghost use Rattle.entries.specs.Entries.{IsObjectNumber};
 ghost use Rattle.dirs.specs.Edits.{IsDirectory, IsReached, IsFirstFound};
 ghost use Rattle.dirs.specs.Listings.{IsListingOfNames, lists_name};
 
 use crate::Edit;
 use blocktree::ReadError;
 use buffers::Blocks;
+use entries::Known;
 use inode::File;
 use layout::{BLOCK_BYTES, NextEntry, is_directory_block, next_entry};
 use model::Names;
@@ -29,6 +30,7 @@ use std::collections::BTreeSet;
 pub fn find<B: Blocks>(
     alloc: Global,
     file: &File,
+    known: &mut Known,
     blocks: &mut B,
     inodes: u32,
     name: &[u8],
@@ -46,7 +48,7 @@ pub fn find<B: Blocks>(
         AreDirectoryBlocks inodes (file.now.size / 4096) (file_block disk file.now) → ⊥ }
 {
     let edit = Edit::of(alloc, file);
-    edit.find(file, blocks, inodes, name)
+    edit.find(file, known, blocks, inodes, name)
 }
 
 /// The names of a directory, sorted by their bytes.

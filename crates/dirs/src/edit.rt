@@ -1,9 +1,9 @@
 //! An edit of a directory, prepared before it is made.
 
 use crate::FILE_BLOCKS;
-use crate::look::{Look, look_at};
 use blocktree::ReadError;
 use buffers::{Block, Blocks};
+use entries::{Known, Look};
 use inode::File;
 use layout::BLOCK_BYTES;
 use std::alloc::{AllocError, Global};
@@ -40,9 +40,9 @@ impl Edit {
     ghost use Rattle.inode.specs.Bases.{KeepsBase};
     ghost use Rattle.inode.specs.Files.{IsFile, IsSameFile, file_block};
     ghost use Rattle.layout.specs.DirectoryNames.{NameMap, AllHold};
-    ghost use Rattle.dirs.specs.Entries.{IsObjectNumber};
+    ghost use Rattle.entries.specs.Entries.{IsObjectNumber};
     ghost use Rattle.dirs.specs.Edits.{AreWhole, edited_block, HasEditedNames, IsSoundEdit, IsReached, IsNamePlace, IsFirstFound, FitsIn, IsDirectory};
-    ghost use Rattle.dirs.specs.Looks.{TellsEntries, IsLikely};
+    ghost use Rattle.entries.specs.Looks.{TellsEntries, IsLikely};
     ghost use Rattle.dirs.specs.Room.{AddsPiece, ChangesFew, piece_count};
 
     /// An edit of this directory that changes nothing yet.
@@ -64,6 +64,7 @@ impl Edit {
     pub(crate) fn look<B: Blocks>(
         &self,
         file: &File,
+        known: &mut Known,
         blocks: &mut B,
         i: u32,
         inodes: u32,
@@ -80,10 +81,10 @@ impl Edit {
             HoldsEntries inodes (edited_block disk file.now self.now i) entries → ⊥ }
     {
         if let Some(block) = self.changed.get(&i) {
-            return look_at(block.bytes(), inodes, name);
+            return known.look_at(i, block.bytes(), inodes, name);
         }
         let location = file.locate(blocks, i)?;
-        look_at(file.bytes(blocks, i, location), inodes, name)
+        known.look_at(i, file.bytes(blocks, i, location), inodes, name)
     }
 
     // Copies block `i`.
@@ -143,6 +144,7 @@ impl Edit {
     pub(crate) fn locate<B: Blocks>(
         &self,
         file: &File,
+        known: &mut Known,
         blocks: &mut B,
         inodes: u32,
         name: &[u8],
@@ -163,7 +165,7 @@ impl Edit {
             IsSoundEdit inodes disk file.now self.now → ⊥ }
     {
         for i in 0..self.count {
-            let look = self.look(file, blocks, i, inodes, name)?;
+            let look = self.look(file, known, blocks, i, inodes, name)?;
             if let Some(number) = look.number {
                 return Ok(Some(Place { block: i, number }));
             }
@@ -175,6 +177,7 @@ impl Edit {
     pub fn find<B: Blocks>(
         &self,
         file: &File,
+        known: &mut Known,
         blocks: &mut B,
         inodes: u32,
         name: &[u8],
@@ -192,7 +195,7 @@ impl Edit {
             IsReached (B.count blocks.old) disk file.now self.now.count →
             IsSoundEdit inodes disk file.now self.now → ⊥ }
     {
-        match self.locate(file, blocks, inodes, name)? {
+        match self.locate(file, known, blocks, inodes, name)? {
             Some(place) => Ok(Some(place.number)),
             None => Ok(None),
         }

@@ -5,9 +5,7 @@
 mod adding;
 mod directory;
 mod edit;
-mod entries;
 mod error;
-mod look;
 mod removing;
 mod survey;
 

@@ -6,9 +6,9 @@ ghost use Rattle.buffers.specs.Reads.{ReadsBlocks};
 ghost use Rattle.blocktree.specs.Errors.{IsFault};
 
 use crate::Edit;
-use crate::entries::{count, remove};
 use blocktree::ReadError;
 use buffers::Blocks;
+use entries::{Known, count, remove};
 use inode::File;
 use layout::BLOCK_BYTES;
 use std::alloc::Global;
@@ -25,6 +25,7 @@ impl Edit {
     fn trimmed<B: Blocks>(
         &self,
         file: &File,
+        known: &mut Known,
         blocks: &mut B,
         inodes: u32,
         end: u32,
@@ -40,7 +41,7 @@ impl Edit {
             AreDirectoryBlocks inodes end (edited_block disk file.now self.now) → ⊥ }
     {
         for i in (0..end).rev() {
-            let look = self.look(file, blocks, i, inodes, b"")?;
+            let look = self.look(file, known, blocks, i, inodes, b"")?;
             if look.names > 0 {
                 return Ok(i + 1);
             }
@@ -54,6 +55,7 @@ impl Edit {
         &mut self,
         alloc: Global,
         file: &mut File,
+        known: &mut Known,
         blocks: &mut B,
         inodes: u32,
         name: &[u8],
@@ -77,14 +79,14 @@ impl Edit {
             IsReached (B.count blocks.old) disk file.old self.old.count →
             IsSoundEdit inodes disk file.old self.old → ⊥ }
     {
-        let Some(place) = self.locate(file, blocks, inodes, name)? else {
+        let Some(place) = self.locate(file, known, blocks, inodes, name)? else {
             return Ok(());
         };
         let mut bytes = [0; BLOCK_BYTES];
         self.copy(file, blocks, place.block, &mut bytes)?;
         remove(&mut bytes, inodes, name);
         if place.block + 1 == self.count && count(&bytes, inodes) == 0 {
-            self.count = self.trimmed(file, blocks, inodes, place.block)?;
+            self.count = self.trimmed(file, known, blocks, inodes, place.block)?;
             return Ok(());
         }
         self.put(alloc, file, place.block, &bytes)?;

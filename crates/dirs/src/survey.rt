@@ -7,9 +7,9 @@ ghost use Rattle.dirs.specs.Edits.{edited_block, IsReached, IsSoundEdit};
 ghost use Rattle.dirs.specs.Surveys.{SurveysBlocks, IsBounded, next_room};
 
 use crate::Edit;
-use crate::look::Look;
 use blocktree::ReadError;
 use buffers::Blocks;
+use entries::{Known, Look};
 use inode::File;
 use layout::BLOCK_BYTES;
 
@@ -26,6 +26,7 @@ pub(crate) struct Survey {
 pub(crate) fn survey_of<B: Blocks>(
     edit: &Edit,
     file: &File,
+    known: &mut Known,
     blocks: &mut B,
     inodes: u32,
     bytes: usize,
@@ -46,7 +47,7 @@ pub(crate) fn survey_of<B: Blocks>(
         room: None,
     };
     for i in 0..edit.count {
-        let look = edit.look(file, blocks, i, inodes, b"")?;
+        let look = edit.look(file, known, blocks, i, inodes, b"")?;
         survey = with_block(survey, i, look, bytes);
     }
     Ok(survey)

@@ -8,7 +8,7 @@ ghost use Rattle.file_station.specs.declared.image_files.Part.TheVariants.{Disk,
 use crate::{FileStation, ImageFiles, Part, SizeError};
 use std::fs::OpenFile;
 use std::io;
-use std::io::{Read, Seek, SeekFrom, Write};
+use std::os::unix::fs::FileExt;
 
 /// Two open files, of the lengths that they had when they were given.
 #[derive(Drop)]
@@ -19,7 +19,7 @@ pub struct OpenFiles<F> {
     nvram_bytes: u64,
 }
 
-impl<F: Read + Write + Seek + OpenFile + Drop> FileStation<OpenFiles<F>> {
+impl<F: FileExt + OpenFile + Drop> FileStation<OpenFiles<F>> {
     /// A station over these files, open for reading and writing. Unreadable where a file's length can't be had,
     /// BadSize where the disk's is no whole number of sectors, or a count (of sectors, of NVRAM bytes) is past
     /// `u32::MAX`.
@@ -47,20 +47,10 @@ fn size_of_file<F: OpenFile>(file: &F) -> Result<u64, SizeError> {
     }
 }
 
-fn read_at<F: Read + Seek>(file: &mut F, at: u64, out: &mut [u8]) -> io::Result<()> {
-    file.seek(SeekFrom::Start(at))?;
-    file.read_exact(out)
-}
-
-fn write_at<F: Write + Seek>(file: &mut F, at: u64, bytes: &[u8]) -> io::Result<()> {
-    file.seek(SeekFrom::Start(at))?;
-    file.write_all(bytes)
-}
-
 // No contract can say what a file of the operating system keeps, so nothing is claimed of one: these files are never
 // honest, and no clause on honest files or on an honest station says anything of them. That a file system keeps to the
 // rules at `ImageFiles` is a premise outside the proof, and this block, which calls it, is all that rests on it.
-impl<F: Read + Write + Seek + OpenFile + Drop> ImageFiles for OpenFiles<F> {
+impl<F: FileExt + OpenFile + Drop> ImageFiles for OpenFiles<F> {
     ghost meaning = { λ s. claims_nothing s.disk_bytes s.nvram_bytes };
 
     ghost seen_may_be_left = { λ s part honest. absurd honest };
@@ -76,15 +66,15 @@ impl<F: Read + Write + Seek + OpenFile + Drop> ImageFiles for OpenFiles<F> {
 
     fn read(&mut self, part: Part, at: u64, out: &mut [u8]) -> io::Result<()> {
         match part {
-            Part::Disk => read_at(&mut self.disk, at, out),
-            Part::Nvram => read_at(&mut self.nvram, at, out),
+            Part::Disk => self.disk.read_exact_at(out, at),
+            Part::Nvram => self.nvram.read_exact_at(out, at),
         }
     }
 
     fn write(&mut self, part: Part, at: u64, bytes: &[u8]) -> io::Result<()> {
         match part {
-            Part::Disk => write_at(&mut self.disk, at, bytes),
-            Part::Nvram => write_at(&mut self.nvram, at, bytes),
+            Part::Disk => self.disk.write_all_at(bytes, at),
+            Part::Nvram => self.nvram.write_all_at(bytes, at),
         }
     }
 

@@ -6,6 +6,7 @@ ghost use Rattle.layout.specs.declared.version.TheConstants.{VERSION};
 ghost use Rattle.inode.specs.Bodies.{inode_block};
 
 use crate::File;
+use entries::Known;
 use layout::{Inode, Kind};
 use model::Mode;
 use std::alloc::{AllocError, Global};
@@ -24,6 +25,8 @@ pub struct Attributes {
 pub struct Object {
     pub attributes: Attributes,
     pub file: File,
+    /// What is known of a directory's blocks; of another object nothing.
+    pub known: Known,
 }
 
 impl Object {
@@ -56,6 +59,11 @@ impl Object {
             links: inode.links,
         };
         let file = File::load(alloc, inode)?;
-        Ok(Object { attributes, file })
+        let known = Known::new(alloc);
+        Ok(Object {
+            attributes,
+            file,
+            known,
+        })
     }
 }

@@ -14,6 +14,7 @@ ghost use Rattle.making.specs.Starts.{inodes_block};
 
 use crate::inode_map::own_attributes;
 use buffers::Block;
+use entries::Known;
 use inode::{File, Object};
 use layout::{Body, Geometry, INLINE_BYTES, INODE_BYTES, Inode, Kind};
 use model::Mode;
@@ -31,7 +32,12 @@ pub(crate) fn inode_file(alloc: Global, geometry: Geometry) -> Object
     let mut file = File::empty(alloc);
     file.set_size(4096 * u64::from(geometry.inodes().div_ceil(21)));
     let attributes = own_attributes(Kind::InodeFile);
-    Object { attributes, file }
+    let known = Known::new(alloc);
+    Object {
+        attributes,
+        file,
+        known,
+    }
 }
 
 /// The root directory, without a name in it.

@@ -10,6 +10,7 @@ ghost use Rattle.placement.specs.Files.{AreAllChanged};
 ghost use Rattle.making.specs.Starts.{numbers_block};
 
 use buffers::Block;
+use entries::Known;
 use inode::{Attributes, File, Object};
 use layout::{BLOCK_BYTES, Geometry, Kind};
 use model::Mode;
@@ -56,5 +57,10 @@ pub(crate) fn inode_map(alloc: Global, geometry: Geometry) -> Result<Object, All
         file.set_block(i, map_block(alloc, i)?);
     }
     let attributes = own_attributes(Kind::InodeMap);
-    Ok(Object { attributes, file })
+    let known = Known::new(alloc);
+    Ok(Object {
+        attributes,
+        file,
+        known,
+    })
 }

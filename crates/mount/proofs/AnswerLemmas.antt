@@ -1,7 +1,7 @@
 -- What a file system promises of a command, by the way that it is answered.
-use Rattle.std.proofs.Common.{◌≡◌, ◌≢◌, ◌⊎◌, inl, inr, ℕ, ◌+◌, ◌*◌, ◌≤◌, ◌^◌, List, Option, Some, None, Bool, false, Ok, Err, refl, ap, sym, subst, ◌∙◌, arith}
+use Rattle.std.proofs.Common.{◌≡◌, ◌≢◌, ◌⊎◌, inl, inr, ℕ, ◌+◌, ◌*◌, ◌≤◌, ◌^◌, List, Option, Some, None, Bool, false, Result, Ok, Err, refl, ap, sym, subst, ◌∙◌, arith}
 use Rattle.std.specs.Prelude.{IsFalse, IsTrue}
-use Rattle.std.proofs.lemmas.Bool.{cases_lt}
+use Rattle.std.proofs.lemmas.Bool.{cases_lt, false≢true}
 use Rattle.station.specs.Calls.{Uses}
 use Rattle.station.specs.Moments.{EachCut, Meaning}
 use Rattle.station.specs.declared.station.Station.{Ghosts}
@@ -45,6 +45,11 @@ ages_more n j k old mid new le one two =
 
 pub ages_within : (n k old new : ℕ) → k ≤ n → AgesBy k old new → AgesBy n old new
 ages_within n k old new le one = record { ages = one.ages; lasts = omega (arith, le, one.lasts) }
+
+-- whether a write failed or not
+off_or_not : (P : Type 0) (e : CallError) → (e ≢ failure.NotWritten → P) → (e ≡ failure.NotWritten → P) → P
+off_or_not P failure.NotWritten other off = off refl
+off_or_not P e other off = other (λ is. cc)
 
 points_left : (n j k old mid : ℕ) → j + k ≤ n → mid ≤ old + j → old + n ≤ 2 ^ 62 → mid + k ≤ 2 ^ 62
 points_left n j k old mid le one young = omega (arith, le, one, young)
@@ -90,8 +95,14 @@ module _ {S : Type 0} {G : Ghosts S} (n : ℕ) (P : State → Type 0) (old new :
   not_attempted e errno is ages made applied = record {
     uses = made.counted.uses;
     eio = λ same. call_eio before behind e made.counted (sym is ∙ refused_same same);
-    written = λ other. call_written before behind e made.counted (λ fault. other (ap Refused (is ∙ fault)));
-    unlogged = λ x same other. made.kept (call_refuses e (λ fault. other (sym (refused_same same) ∙ is ∙ fault)));
+    written = λ why. call_written before behind e made.counted (elim why [
+      | inl other ↦ call_refuses e (λ fault. other (ap Refused (is ∙ fault)))
+      | inr runs_on ↦ λ fault. false≢true (sym runs_on ∙ made.failed (ap (λ y. Err y) fault))
+    ]);
+    unlogged = λ x same why. elim why [
+      | inl other ↦ made.kept (call_refuses e (λ fault. other (sym (refused_same same) ∙ is ∙ fault)))
+      | inr runs_on ↦ off_or_not (LogsNothing before behind) e made.kept (λ fault. made.unlogged (ap (λ y. Err y) fault) runs_on)
+    ];
     epoch = ages;
     still = λ s serves p sure. absurd (made.sure s serves sure);
     applied = λ s serves young p. answered_as old new s command (errno_of_call e) errno is (applied s serves p);
@@ -102,7 +113,7 @@ module _ {S : Type 0} {G : Ghosts S} (n : ℕ) (P : State → Type 0) (old new :
   no_room errno le made needs = record {
     uses = made.uses;
     eio = λ is. made.eio (ap (λ e. Err e) (refused_same is));
-    written = λ other. made.written (λ is. other (ap Refused is));
+    written = λ why. made.written (elim why [ inl other ↦ inl (λ is. other (ap Refused is)) | inr runs_on ↦ inr runs_on ]);
     unlogged = λ x is other. made.unlogged;
     epoch = ages_within n 1 old.system.log.epoch new.system.log.epoch le made.epoch;
     still = λ s serves p sure. absurd (needs s p sure);
@@ -180,10 +191,11 @@ no_room_left n P f command runs opens not_sure covered is_short =
     short f f s serves runs command (not_sure s serves p)
     (stays_read f f s serves runs (same_none (systems.meaning_of f.system)) runs here (unchanged_none (systems.meaning_of f.system)) (opens s here)) (covered s serves p) (inl refl) refl (is_short s serves p))
 
--- a command behind what left each state as it was
-pub behind_that : {S : Type 0} {G : Ghosts S} (n j k : ℕ) (P Q : State → Type 0) (old mid new : Fs S G) (command : Command) (reply : Reply) → j + k ≤ n → IsFalse old.has_failed → KeepsStates j old mid
-    → AnswersCommand k Q mid new command reply → ((s : State) → Serves (mounted old s) → P s → Q s) → ((s : State) → Serves (mounted old s) → P s → ¬ IsSure s command) → AnswersCommand n P old new command reply
-behind_that n j k P Q old mid new command reply le runs keeps then leads not_sure =
+-- a command behind what left each state as it was, with no device call where the command is sure
+pub behind_still : {S : Type 0} {G : Ghosts S} (n j k : ℕ) (P Q : State → Type 0) (old mid new : Fs S G) (command : Command) (reply : Reply) → j + k ≤ n → IsFalse old.has_failed → KeepsStates j old mid
+    → AnswersCommand k Q mid new command reply → ((s : State) → Serves (mounted old s) → P s → Q s)
+    → ((s : State) → Serves (mounted old s) → P s → IsSure s command → mid.system.blocks.buffers.station ≡ old.system.blocks.buffers.station) → AnswersCommand n P old new command reply
+behind_still n j k P Q old mid new command reply le runs keeps then leads still =
     let m = systems.meaning_of old.system in
     let i = systems.meaning_of mid.system in
     let l = systems.meaning_of new.system in
@@ -193,12 +205,18 @@ behind_that n j k P Q old mid new command reply le runs keeps then leads not_sur
       written = λ other. then.written other ∙ keeps.counted.writes;
       unlogged = λ errno is other. logged_twice m i l keeps.unlogged (then.unlogged errno is other);
       epoch = ages_more n j k old.system.log.epoch mid.system.log.epoch new.system.log.epoch le keeps.epoch then.epoch;
-      still = λ s serves p sure. absurd (not_sure s serves p sure);
+      still = λ s serves p sure. then.still s (keeps.stays s serves).serves (leads s serves p) sure ∙ still s serves p sure;
       applied = λ s serves young p.
           let stays = keeps.stays s serves in
           after_stay old mid new s command reply serves runs stays then.uses keeps.counted.uses.reads keeps.counted.writes
           (then.applied s stays.serves (points_left n j k old.system.log.epoch mid.system.log.epoch le keeps.epoch.lasts young) (leads s serves p));
     }
+
+-- a command that isn't sure
+pub behind_that : {S : Type 0} {G : Ghosts S} (n j k : ℕ) (P Q : State → Type 0) (old mid new : Fs S G) (command : Command) (reply : Reply) → j + k ≤ n → IsFalse old.has_failed → KeepsStates j old mid
+    → AnswersCommand k Q mid new command reply → ((s : State) → Serves (mounted old s) → P s → Q s) → ((s : State) → Serves (mounted old s) → P s → ¬ IsSure s command) → AnswersCommand n P old new command reply
+behind_that n j k P Q old mid new command reply le runs keeps then leads not_sure =
+    behind_still n j k P Q old mid new command reply le runs keeps then leads (λ s serves p sure. absurd (not_sure s serves p sure))
 
 -- the same promise for fewer states, and for more points
 pub answers_more : {S : Type 0} {G : Ghosts S} (n k : ℕ) (P Q : State → Type 0) (old new : Fs S G) (command : Command) (reply : Reply) → k ≤ n → AnswersCommand k Q old new command reply
@@ -230,6 +248,10 @@ fails_none : (e : CallError) → e ≢ failure.NotWritten → fails_call e ≡ f
 fails_none failure.NotWritten other = absurd (other refl)
 fails_none e other = refl
 
+-- and that of a write does
+fails_by : (r : Result Reply CallError) (e : CallError) → r ≡ Err e → r ≡ Err failure.NotWritten → IsTrue (fails_call e)
+fails_by r e is fault = subst (λ (x : CallError). IsTrue (fails_call x)) (sym (let it : e ≡ failure.NotWritten = cc in it)) refl
+
 -- a call that waits wrote nothing
 waits_written : (e : CallError) → (e ≡ failure.NoRoom) ⊎ (e ≡ failure.LogFull) → e ≢ failure.NotWritten
 waits_written e (inl room) fault = cc
@@ -251,6 +273,7 @@ module _ {S : Type 0} {G : Ghosts S} (old new : Fs S G) (call : Command) (runs :
     no_fault = told.no_fault;
     refused = told.refused;
     kept = tt;
+    unlogged = λ is. cc;
     epoch = told.epoch;
     calm = told.calm;
     sure = λ s serves sure. elim (told.sure s (served s serves)) [ inl on ↦ on.still | inr not ↦ absurd (not sure) ];
@@ -258,6 +281,7 @@ module _ {S : Type 0} {G : Ghosts S} (old new : Fs S G) (call : Command) (runs :
         called old new s serves runs told.counted.uses.same call reply is_call (elim (told.sure s (served s serves)) [ inl on ↦ inl on.sure | inr not ↦ inr not ]) runs_on
         told.counted.uses.reads told.counted.writes (told.done s (served s serves)) opens;
     going = tt;
+    failed = λ is. cc;
     waits = λ s serves. tt;
     fits = λ s serves is. cc;
     short = λ s serves is. cc;
@@ -272,6 +296,7 @@ module _ {S : Type 0} {G : Ghosts S} (old new : Fs S G) (call : Command) (runs :
         no_fault = tt;
         refused = λ errno is. cc;
         kept = told.kept;
+        unlogged = told.unlogged;
         epoch = told.epoch;
         calm = told.calm;
         sure = λ s serves sure. told.sure s (served s serves) sure;
@@ -279,6 +304,7 @@ module _ {S : Type 0} {G : Ghosts S} (old new : Fs S G) (call : Command) (runs :
             not_answered old new s serves runs call e (told.sure s (served s serves)) room full (λ is. told.own (ap (λ x. Err x) is)) flag counted
             (λ is. told.damaged s (served s serves) (ap (λ x. Err x) is)) (told.stays s (served s serves)) (λ is. told.broken s (served s serves) (ap (λ x. Err x) is));
         going = λ other. flag ∙ fails_none e other;
+        failed = λ is. flag ∙ fails_by (Err e) e refl is;
         waits = λ s serves is.
             let here = served s serves in
             let other = waits_written e is in

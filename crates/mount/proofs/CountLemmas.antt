@@ -38,7 +38,7 @@ module _ (m new : Meaning) where
   call_eio call.NotWritten counted is = inr counted.writes
   call_eio e counted is = cc
 
-  pub call_written : (e : CallError) → Counted m new (beside_reads (call_error_failed false e)) → errno_of_call e ≢ EIO → NoWriteFailed m new
+  pub call_written : (e : CallError) → Counted m new (beside_reads (call_error_failed false e)) → e ≢ call.NotWritten → NoWriteFailed m new
   call_written call.NotWritten counted other = absurd (other refl)
   call_written e counted other = counted.writes
 
@@ -47,7 +47,7 @@ module _ (m new : Meaning) where
   point_eio point.NotWritten counted is = inr counted.writes
   point_eio e counted is = cc
 
-  pub point_written : (e : PointError) → Counted m new (point_error_failed e) → errno_of_point e ≢ EIO → NoWriteFailed m new
+  pub point_written : (e : PointError) → Counted m new (point_error_failed e) → e ≢ point.NotWritten → NoWriteFailed m new
   point_written point.NotWritten counted other = absurd (other refl)
   point_written (point.NotPlanned plan.Device) counted other = counted.writes
   point_written e counted other = counted.writes
@@ -56,3 +56,7 @@ module _ (m new : Meaning) where
 pub call_refuses : (e : CallError) → errno_of_call e ≢ EIO → e ≢ call.NotWritten
 call_refuses call.NotWritten other is = other refl
 call_refuses e other is = cc
+
+pub point_refuses : (e : PointError) → errno_of_point e ≢ EIO → e ≢ point.NotWritten
+point_refuses point.NotWritten other is = other refl
+point_refuses e other is = cc

@@ -1,6 +1,7 @@
 -- What a file system promises of commands that make consistency points.
-use Rattle.std.proofs.Common.{◌≡◌, ◌≢◌, inl, ℕ, ◌+◌, ◌≤◌, ◌^◌, Bool, false, Result, Ok, Err, refl, ap, sym, subst, ◌∙◌, arith}
+use Rattle.std.proofs.Common.{◌≡◌, ◌≢◌, inl, inr, ℕ, ◌+◌, ◌≤◌, ◌^◌, Bool, false, Result, Ok, Err, refl, ap, sym, subst, ◌∙◌, arith}
 use Rattle.std.specs.Prelude.{IfErr, IsFalse, MatchResult}
+use Rattle.std.proofs.lemmas.Bool.{false≢true}
 use Rattle.station.specs.Moments.{Meaning}
 use Rattle.station.specs.declared.station.Station.{Ghosts}
 use Rattle.station.proofs.Moments.{leaves_unchanged, weaker}
@@ -12,6 +13,7 @@ use Rattle.model.specs.declared.command.Command.{Command}
 use Rattle.model.specs.declared.command.Command.TheVariants.{Sync}
 use Rattle.model.specs.declared.errno.Errno.{Errno}
 use Rattle.model.specs.declared.errno.Errno.TheVariants.{EIO}
+use Rattle.model.specs.declared.reply.Reply.{Reply}
 use Rattle.model.specs.declared.reply.Reply.TheVariants.{Done, Refused}
 use Rattle.oplog.specs.LogEnd.{LogEnd}
 use Rattle.system.specs.Counting.{Counted, call_error_failed, no_call}
@@ -22,13 +24,14 @@ use Rattle.system.specs.Systems as systems
 use Rattle.system.specs.declared.error.CallError.{CallError}
 use Rattle.system.specs.declared.error.PointError.{PointError}
 use Rattle.system.proofs.CountingLaws.{nothing_logged, told_beside_reads}
-use Rattle.mount.specs.Applying.{AnswersCommand, HasSettled, KeepsStates, MakesRoom, Stays}
+use Rattle.mount.specs.Applying.{AnswersAlways, AnswersCommand, HasSettled, KeepsStates, MakesRoom, Stays}
 use Rattle.mount.specs.Refusals.{errno_of_call, errno_of_point, fails_point}
 use Rattle.mount.specs.Systems.{OpensToSome, Serves, mounted}
 use Rattle.mount.specs.declared.fs.Fs.{Fs}
+use Rattle.mount.specs.declared.fs.TheConstants.{POINTS}
 use Rattle.mount.proofs.AttemptLemmas.{answered_as, cut_within, no_point, not_answered, own_refusal, reads_fail_nothing, settled, stays_by, stays_read, still_going, synced}
-use Rattle.mount.proofs.CountLemmas.{call_eio, call_written, point_eio, point_written, refused_same}
-use Rattle.mount.proofs.AnswerLemmas.{AllOpen, ages_same, ages_within}
+use Rattle.mount.proofs.CountLemmas.{call_eio, call_written, point_eio, point_refuses, point_written, refused_same}
+use Rattle.mount.proofs.AnswerLemmas.{AllOpen, ages_same, ages_within, behind_still}
 
 -- ---- a consistency point
 
@@ -70,7 +73,10 @@ module _ {S : Type 0} {G : Ghosts S} (old new : Fs S G) (runs : IsFalse old.has_
   makes_none e errno is told flag = record {
     uses = told.counted.uses;
     eio = λ same. point_eio first last e told.counted (sym is ∙ errno_same errno EIO (Err errno) (Err EIO) refl refl same);
-    written = λ other. point_written first last e told.counted (λ fault. other (is ∙ fault));
+    written = λ why. point_written first last e told.counted (elim why [
+      | inl other ↦ point_refuses e (λ fault. other (is ∙ fault))
+      | inr runs_on ↦ λ fault. false≢true (sym runs_on ∙ flag ∙ ap fails_point fault)
+    ]);
     unlogged = told.unlogged;
     epoch = told.epoch;
     made = tt;
@@ -144,7 +150,7 @@ module _ {S : Type 0} {G : Ghosts S} (old new : Fs S G) (runs : IsFalse old.has_
         record {
           uses = counted.uses;
           eio = λ same. call_eio m l e counted (sym is ∙ refused_same same);
-          written = λ other. call_written m l e counted (λ fault. other (ap Refused (is ∙ fault)));
+          written = λ _. call_written m l e counted told.refuses.2;
           unlogged = λ x same other. nothing_logged m l told.reads.goes;
           epoch = ages_same n old.system.log.epoch new.system.log.epoch (same_epoch {T = T} (Err e) told);
           still = λ s serves p sure. absurd (not_sure s sure);
@@ -212,7 +218,10 @@ module _ {S : Type 0} {G : Ghosts S} (n : ℕ) (P : State → Type 0) (old new :
   settles_not e errno is told flag = record {
     uses = told.counted.uses;
     eio = λ same. point_eio start end e told.counted (sym is ∙ refused_same same);
-    written = λ other. point_written start end e told.counted (λ fault. other (ap Refused (is ∙ fault)));
+    written = λ why. point_written start end e told.counted (elim why [
+      | inl other ↦ point_refuses e (λ fault. other (ap Refused (is ∙ fault)))
+      | inr runs_on ↦ λ fault. false≢true (sym runs_on ∙ flag ∙ ap fails_point fault)
+    ]);
     unlogged = λ x same other. told.unlogged;
     epoch = ages_within n 1 old.system.log.epoch new.system.log.epoch le told.epoch;
     still = λ s serves p sure. absurd (not_sure s sure);
@@ -224,3 +233,12 @@ module _ {S : Type 0} {G : Ghosts S} (n : ℕ) (P : State → Type 0) (old new :
         (λ refused runs_on. let kept = told.stays s here refused in stays_by old new s serves runs told.counted.uses.same runs_on kept.0 kept.1)
         (λ x. cut_within old.system new.system s command (told.broken s here p (ap (λ y. Err y) x))));
   }
+
+-- ---- what the last command read
+
+-- a command behind the letting go of that
+pub behind_letting_go : {S : Type 0} {G : Ghosts S} (old mid new : Fs S G) (command : Command) (reply : Reply) → IsFalse old.has_failed → IsFalse mid.has_failed → AllOpen old.system → Glances {T = Unit {0}} old.system mid.system (Ok tt)
+    → mid.system.blocks.buffers.station ≡ old.system.blocks.buffers.station → AnswersAlways mid new command reply → AnswersAlways old new command reply
+behind_letting_go old mid new command reply runs runs_on opens told station then =
+    behind_still POINTS 0 POINTS (λ s. Unit {0}) (λ s. Unit {0}) old mid new command reply (omega arith) runs (glance_keeps old mid runs runs_on opens tt told) then (λ s serves p. tt)
+    (λ s serves p sure. station)

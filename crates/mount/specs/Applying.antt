@@ -1,5 +1,5 @@
 -- What applying commands comes to.
-use Rattle.std.specs.Prelude.{ℕ, ◌≡◌, ◌≢◌, ◌⊎◌, ◌↔◌, ◌≤◌, List, Bool, true, false, IsFalse, None, Result, Ok, IfErr, IfOk, IsErrOf, MatchResult, OnOk}
+use Rattle.std.specs.Prelude.{ℕ, ◌≡◌, ◌≢◌, ◌⊎◌, ◌↔◌, ◌≤◌, List, Bool, true, false, IsFalse, IsTrue, None, Result, Ok, IfErr, IfOk, IsErrOf, MatchResult, OnOk}
 use Rattle.station.specs.Calls.{Uses}
 use Rattle.station.specs.Images.{Images}
 use Rattle.station.specs.Moments.{Meaning, LeftBetween, HasGrown, IsSameStation, LeavesOnly}
@@ -98,13 +98,13 @@ abbrev pub IsAppliedAt : {S : Type 0} {G : Ghosts S} → Fs S G → State → Fs
 IsAppliedAt old s new command reply = (t : State) × IsApplied (mounted old s) (mounted new t) command reply
 
 -- What a command does to a file system at a state with P, and over any bytes: all that is promised of it. It makes so many
--- consistency points at most. EIO comes only where a device call failed, and nothing else where a write failed; a refusal for
--- another cause logged nothing; and a sure command calls no device.
+-- consistency points at most. EIO comes only where a device call failed, and nothing else where a write failed, which fails the system; a refusal
+-- logged nothing, but where EIO came for a record, which stops the log; and a sure command calls no device.
 pub record AnswersCommand {S : Type 0} {G : Ghosts S} (points : ℕ) (P : State → Type 0) (old new : Fs S G) (command : Command) (reply : Reply) : Type 0 where
   pub uses : Uses (systems.meaning_of old.system) (systems.meaning_of new.system)
   pub eio : reply ≡ Refused EIO → HasFailed (systems.meaning_of old.system) (systems.meaning_of new.system)
-  pub written : reply ≢ Refused EIO → NoWriteFailed (systems.meaning_of old.system) (systems.meaning_of new.system)
-  pub unlogged : (errno : Errno) → reply ≡ Refused errno → errno ≢ EIO
+  pub written : (reply ≢ Refused EIO) ⊎ IsFalse new.has_failed → NoWriteFailed (systems.meaning_of old.system) (systems.meaning_of new.system)
+  pub unlogged : (errno : Errno) → reply ≡ Refused errno → (errno ≢ EIO) ⊎ IsFalse new.system.log.is_stopped
       → LogsNothing (systems.meaning_of old.system) (systems.meaning_of new.system)
   pub epoch : AgesBy points old.system.log.epoch new.system.log.epoch
   pub still : (s : State) → Serves (mounted old s) → P s → IsSure s command
@@ -158,6 +158,7 @@ pub record Attempts {S : Type 0} {G : Ghosts S} (old new : Fs S G) (call : Comma
   pub no_fault : IfOk result TellsNoFault
   pub refused : (errno : Errno) → result ≡ Ok (Refused errno) → LogsNothing (systems.meaning_of old.system) (systems.meaning_of new.system)
   pub kept : IfErr result (λ e. e ≢ NotWritten → LogsNothing (systems.meaning_of old.system) (systems.meaning_of new.system))
+  pub unlogged : IsErrOf result NotWritten → IsFalse new.system.log.is_stopped → LogsNothing (systems.meaning_of old.system) (systems.meaning_of new.system)
   pub epoch : AgesBy 1 old.system.log.epoch new.system.log.epoch
   pub calm : HasEmptyLog old.system → new.system.log.epoch ≡ old.system.log.epoch
   pub sure : (s : State) → Serves (mounted old s) → IsSure s call
@@ -165,6 +166,7 @@ pub record Attempts {S : Type 0} {G : Ghosts S} (old new : Fs S G) (call : Comma
   pub applied : (s : State) → Serves (mounted old s) → MatchResult result (IsAppliedAt old s new call)
       (λ e. e ≢ NoRoom → e ≢ LogFull → IsAppliedAt old s new call (Refused (errno_of_call e)))
   pub going : IfErr result (λ e. e ≢ NotWritten → IsFalse new.has_failed)
+  pub failed : IsErrOf result NotWritten → IsTrue new.has_failed
   pub waits : (s : State) → Serves (mounted old s)
       → IfErr result (λ e. (e ≡ NoRoom) ⊎ (e ≡ LogFull) → Stays old new s × WaitsForPoint new s call)
   pub fits : (s : State) → Serves (mounted old s) → IsErrOf result LogFull → HasEmptyLog old.system → ⊥
@@ -183,7 +185,7 @@ pub record HasSettled {S : Type 0} {G : Ghosts S} (old new : Fs S G) : Type 0 wh
 pub record MakesRoom {S : Type 0} {G : Ghosts S} (old new : Fs S G) (result : Result (Unit {0}) Errno) : Type 0 where
   pub uses : Uses (systems.meaning_of old.system) (systems.meaning_of new.system)
   pub eio : IsErrOf result EIO → HasFailed (systems.meaning_of old.system) (systems.meaning_of new.system)
-  pub written : IfErr result (λ errno. errno ≢ EIO → NoWriteFailed (systems.meaning_of old.system) (systems.meaning_of new.system))
+  pub written : IfErr result (λ errno. (errno ≢ EIO) ⊎ IsFalse new.has_failed → NoWriteFailed (systems.meaning_of old.system) (systems.meaning_of new.system))
   pub unlogged : LogsNothing (systems.meaning_of old.system) (systems.meaning_of new.system)
   pub epoch : AgesBy 1 old.system.log.epoch new.system.log.epoch
   pub made : OnOk result (HasSettled old new)

@@ -25,7 +25,7 @@ pub struct Fs<S: Station> {
 }
 
 impl<S: Station> Fs<S> {
-    ghost use Rattle.std.specs.Prelude.{◌≡◌, IsTrue, IsFalse, IfOk, None, OnErr, List, [], ◌∷◌, ◌++◌, length, vec_len, ◌*◌};
+    ghost use Rattle.std.specs.Prelude.{◌≡◌, ◌≢◌, IsTrue, IsFalse, IfOk, None, OnErr, List, [], ◌∷◌, ◌++◌, length, vec_len, ◌*◌};
     ghost use Rattle.std.specs.List.{Contains, zip};
     ghost use Rattle.station.specs.Calls.{Uses};
     ghost use Rattle.station.specs.Moments.{MayLeave};
@@ -72,8 +72,21 @@ impl<S: Station> Fs<S> {
             return Reply::Refused(Errno::FAILED);
         }
         match command {
-            Command::Sync => self.sync(),
             Command::Df => self.space(),
+            _ => self.answer_anew(command),
+        }
+    }
+
+    /// The same of a command that may read or write: it lets go of the blocks that the last one read.
+    fn answer_anew(&mut self, command: &Command) -> Reply
+        requires going { IsFalse self.old.has_failed }
+        requires other { command.now ≢ Command.Df }
+        ensures { AnswersAlways self.old self.new command.now result }
+    {
+        served_states_open(&self.system);
+        self.system.let_go();
+        match command {
+            Command::Sync => self.sync(),
             Command::SnapTake { name } => self.take(name),
             Command::SnapDelete { name } => self.delete(name),
             _ => self.call(command),

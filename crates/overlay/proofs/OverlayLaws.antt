@@ -3,13 +3,13 @@ use Rattle.std.proofs.Common.{◌≡◌, ◌≢◌, inl, inr, ℕ, ◌+◌, ◌*
 use Rattle.std.proofs.Math.Path.{fun_ext}
 use Rattle.std.proofs.lemmas.Bool.{cases_eq, cases_lt, cond-true, cond-false, eq-eqb, ne_eqb}
 use Rattle.std.proofs.lemmas.List.Elements.{All-contains, All-head, All-tail, All-take}
-use Rattle.std.specs.BTreeMap.{BTreeMap}
 use Rattle.std.specs.Prelude.{IfNone}
 use Rattle.station.specs.Images.{Images, Sector}
 use Rattle.station.specs.Moments.{Meaning, EachCut, Goes, HasSizes, IsSameStation, IsSector, MayLeave, Shows}
 use Rattle.layout.specs.Places.{blocks_of}
 use Rattle.buffers.specs.Disks.{IsBlock, ShowsDisk, disk_with_block, disk_with_sector}
 use Rattle.buffers.specs.declared.block.Block.{Block}
+use Rattle.buffers.specs.declared.kept.Kept.{Kept}
 use Rattle.conspoint.specs.Cuts.{HasNewRoot, HoldsBlocks, HoldsWritten, StaysOutside, disk_so_far, disk_with_blocks}
 use Rattle.conspoint.specs.Finished.{IsAbsent, disk_after}
 use Rattle.conspoint.specs.Plans.{FitsDisk, IsPlanned, IsSlot, Planned}
@@ -19,7 +19,7 @@ use Rattle.overlay.specs.Overlays.{HoldsSoFar, ShowsOver, planned_disk}
 use Rattle.overlay.specs.declared.laid.Laid.{Laid}
 
 -- What the station does beside its disk doesn't change what blocks read as, where what is kept goes on showing that.
-pub over_still : (m n : Meaning) (a b : BTreeMap ℕ Block) (laid : Option Laid) (disk : ℕ → List ℕ) → n.seen.disk ≡ m.seen.disk
+pub over_still : (m n : Meaning) (a b : Kept) (laid : Option Laid) (disk : ℕ → List ℕ) → n.seen.disk ≡ m.seen.disk
     → ((d : ℕ → List ℕ) → ShowsDisk m a d → ShowsDisk n b d) → ShowsOver m a laid disk → ShowsOver n b laid disk
 over_still m n a b laid disk same still shows = record {
   below = subst (λ (d : ℕ → Sector). ShowsDisk n b (blocks_of d)) (sym same) (still (blocks_of m.seen.disk) shows.below);
@@ -32,7 +32,7 @@ pub at_present : (blocks : List PlannedBlock) (place : ℕ) (block : Block) → 
 at_present blocks place block at absent = All-contains (λ b. b.place ≢ place) blocks (record { place = place; bytes = block }) absent at refl
 
 -- a plan of which nothing is written
-pub laid_over : (m : Meaning) (kept : BTreeMap ℕ Block) (old : Option Laid) (laid : Laid) (disk : ℕ → List ℕ) → laid.plan.written ≡ 0
+pub laid_over : (m : Meaning) (kept : Kept) (old : Option Laid) (laid : Laid) (disk : ℕ → List ℕ) → laid.plan.written ≡ 0
     → ShowsOver m kept old disk → ShowsOver m kept (Some laid) (blocks_of (disk_after laid.plan m.seen.disk))
 laid_over m kept old laid disk none shows = record {
   below = shows.below;
@@ -52,7 +52,7 @@ stand (b ∷ blocks) disk all =
     ∙ stand blocks disk (All-tail (λ x. x.bytes ≡ disk x.place) b blocks all)
 
 -- a disk that is shown is the one that is seen, if it is behind the end of that
-shown_is : (m : Meaning) (kept : BTreeMap ℕ Block) (disk : ℕ → List ℕ) → ((b : ℕ) → m.sectors < 8 * b + 8 → disk b ≡ blocks_of m.seen.disk b)
+shown_is : (m : Meaning) (kept : Kept) (disk : ℕ → List ℕ) → ((b : ℕ) → m.sectors < 8 * b + 8 → disk b ≡ blocks_of m.seen.disk b)
     → ShowsDisk m kept disk → ShowsDisk m kept (blocks_of m.seen.disk)
 shown_is m kept disk past shows =
     subst (ShowsDisk m kept) (fun_ext {f = disk} {g = blocks_of m.seen.disk} (λ b. elim (cases_lt m.sectors (8 * b + 8)) [
@@ -71,7 +71,7 @@ slot_beside (inr is) behind same = absurd (omega (arith, is, behind, same))
 -- What is below the blocks of a point, where other blocks of the disk that it leaves are as they were: that is given.
 module _ (others : (p : Planned) (disk : ℕ → Sector) (b : ℕ) → IsPlanned p → 2 ≤ b → IsAbsent p.blocks b → blocks_of (disk_after p disk) b ≡ blocks_of disk b) where
   -- a place that isn't planned reads as below
-  pub elsewhere : (m : Meaning) (kept : BTreeMap ℕ Block) (laid : Laid) (place : ℕ) (disk : ℕ → List ℕ) → IsPlanned laid.plan → 2 ≤ place → IsAbsent laid.plan.blocks place
+  pub elsewhere : (m : Meaning) (kept : Kept) (laid : Laid) (place : ℕ) (disk : ℕ → List ℕ) → IsPlanned laid.plan → 2 ≤ place → IsAbsent laid.plan.blocks place
       → ShowsOver m kept (Some laid) disk → disk place ≡ blocks_of m.seen.disk place
   elsewhere m kept laid place disk planned behind absent shows = ap (λ (d : ℕ → List ℕ). d place) shows.is ∙ others laid.plan m.seen.disk place planned behind absent
 
@@ -83,7 +83,7 @@ module _ (others : (p : Planned) (disk : ℕ → Sector) (b : ℕ) → IsPlanned
       sym (others p d b planned behind absent) ∙ sym (ap (λ (x : ℕ → Sector). blocks_of x b) same) ∙ others p e b planned behind absent
 
   module _ (beside : (blocks : List PlannedBlock) (disk : ℕ → List ℕ) (n : ℕ) → All (λ b. b.place ≢ n) blocks → disk_with_blocks blocks disk n ≡ disk n)
-      (m n : Meaning) (a b : BTreeMap ℕ Block) (laid : Laid) (disk : ℕ → List ℕ)
+      (m n : Meaning) (a b : Kept) (laid : Laid) (disk : ℕ → List ℕ)
       (planned : IsPlanned laid.plan) (fits : FitsDisk m.sectors laid.plan) (same : IsSameStation m n) (shows : ShowsOver m a (Some laid) disk) where
     abbrev p : Planned
     p = laid.plan
@@ -134,7 +134,7 @@ module _ (others : (p : Planned) (disk : ℕ → Sector) (b : ℕ) → IsPlanned
         }
 
 -- a planned block reads as the disk to come does
-pub here : (m : Meaning) (kept : BTreeMap ℕ Block) (laid : Laid) (place : ℕ) (block : Block) (disk : ℕ → List ℕ) → HoldsBlocks laid.plan.blocks (disk_after laid.plan m.seen.disk)
+pub here : (m : Meaning) (kept : Kept) (laid : Laid) (place : ℕ) (block : Block) (disk : ℕ → List ℕ) → HoldsBlocks laid.plan.blocks (disk_after laid.plan m.seen.disk)
     → IsAt laid.plan.blocks place block → ShowsOver m kept (Some laid) disk → block ≡ disk place
 here m kept laid place block disk holds at shows =
     All-contains (λ b. IsBlock (disk_after laid.plan m.seen.disk) b.place b.bytes) laid.plan.blocks (record { place = place; bytes = block }) holds at

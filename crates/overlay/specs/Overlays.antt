@@ -1,12 +1,12 @@
 -- The blocks that are read while a consistency point is under way: those of the disk that it leaves.
 use Rattle.std.specs.Prelude.{ℕ, ◌≡◌, ◌⊎◌, ◌+◌, ◌-◌, ◌≤◌, List, Option, Some, None, Result, OnOk, length, min, take}
 use Rattle.std.specs.Ordering.{nat_cmp}
-use Rattle.std.specs.BTreeMap.{BTreeMap, ContainsKey}
+use Rattle.std.specs.BTreeMap.{ContainsKey}
 use Rattle.station.specs.Images.{Sector}
 use Rattle.station.specs.Moments.{Meaning}
 use Rattle.layout.specs.Places.{blocks_of}
 use Rattle.buffers.specs.Disks.{ReadsOn, ShowsDisk}
-use Rattle.buffers.specs.declared.block.Block.{Block}
+use Rattle.buffers.specs.declared.kept.Kept.{Kept}
 use Rattle.conspoint.specs.Cuts.{HoldsBlocks}
 use Rattle.conspoint.specs.Finished.{IsAbsent, disk_after}
 use Rattle.conspoint.specs.Plans.{FitsDisk}
@@ -27,7 +27,7 @@ abbrev pub HoldsHere : Meaning → Option Laid → Type 0
 HoldsHere m laid = m.is_honest → HoldsSoFar laid m.seen.disk
 
 -- Blocks read as on this disk, the one that is to come. What is kept in memory of the disk below is as that has it.
-pub record ShowsOver (m : Meaning) (kept : BTreeMap ℕ Block) (laid : Option Laid) (disk : ℕ → List ℕ) : Type 0 where
+pub record ShowsOver (m : Meaning) (kept : Kept) (laid : Option Laid) (disk : ℕ → List ℕ) : Type 0 where
   pub below : ShowsDisk m kept (blocks_of m.seen.disk)
   pub written : HoldsSoFar laid m.seen.disk
   pub is : disk ≡ blocks_of (planned_disk laid m.seen.disk)
@@ -43,8 +43,8 @@ IsPlannedAt None place = ⊥
 IsPlannedAt (Some laid) place = IsAbsent laid.plan.blocks place → ⊥
 
 -- the block at a place behind the slots of the roots is in memory: kept, or planned
-abbrev pub IsHere : BTreeMap ℕ Block → Option Laid → ℕ → Type 0
-IsHere kept laid place = (2 ≤ place) × (ContainsKey nat_cmp kept place ⊎ IsPlannedAt laid place)
+abbrev pub IsHere : Kept → Option Laid → ℕ → Type 0
+IsHere kept laid place = (2 ≤ place) × (ContainsKey nat_cmp kept.held place ⊎ IsPlannedAt laid place)
 
 -- the places of a point under way lie on a disk of so many sectors
 abbrev pub FitsOver : ℕ → Option Laid → Type 0

@@ -1,6 +1,7 @@
 //! The blocks of a disk while a consistency point is under way.
 
 ghost use Rattle.std.specs.Prelude.{◌≡◌, ◌≢◌, ◌⊎◌, ◌↔◌, ◌/◌, ◌≤◌, ℕ, List, Some, None, OnOk, IfErr, IfSome, IfNone, IsTrue};
+ghost use Rattle.std.specs.BTreeMap.{IsEmpty};
 ghost use Rattle.station.specs.Calls.{OnlyWrites};
 ghost use Rattle.station.specs.Moments.{After, Goes, EachCut, LeavesJust, LeavesOnly};
 ghost use Rattle.layout.specs.Places.{blocks_of};
@@ -118,6 +119,21 @@ impl<S: Station> Overlay<S> {
             Some(laid) => laid.find(place.get()),
             None => None,
         }
+    }
+
+    /// Lets go of the blocks of the disk below that were made resident: they have to be made resident again.
+    pub fn let_go(&mut self)
+        ensures station { self.new.buffers.station ≡ self.old.buffers.station }
+        ensures reads { ReadsOver (S.meaning self.old.buffers.station)
+            (S.meaning self.new.buffers.station) self.old.laid self.new.laid }
+        ensures same { (disk : ℕ → List ℕ)
+            → ShowsOver (S.meaning self.old.buffers.station) self.old.buffers.kept self.old.laid
+            disk
+            → ShowsOver (S.meaning self.new.buffers.station) self.new.buffers.kept self.new.laid
+            disk }
+        ensures none { IsEmpty self.new.buffers.kept.held }
+    {
+        self.buffers.let_go();
     }
 
     /// Lays a plan over the blocks, of which nothing is written yet. None is under way.

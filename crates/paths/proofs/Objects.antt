@@ -1,5 +1,5 @@
 -- Objects in memory, as those of the volume that they stand for.
-use Rattle.std.proofs.Common.{◌≡◌, ◌≢◌, ℕ, ◌/◌, List, [], Option, Some, None, IsSome, true, false, refl, sym, ap, subst, arith}
+use Rattle.std.proofs.Common.{◌≡◌, ◌≢◌, ℕ, ◌/◌, List, [], Option, Some, None, IfNone, IfSome, IsSome, true, false, refl, sym, ap, subst, arith}
 use Rattle.std.specs.List.Sorted.{IsStrictlySortedBy}
 use Rattle.dirs.specs.Directory.{AreDirectoryBlocks}
 use Rattle.dirs.specs.Listings.{IsListingOfNames}
@@ -10,7 +10,8 @@ use Rattle.layout.specs.declared.inode.Inode.{Inode}
 use Rattle.images.specs.Contents.{Content, StandsAs, content_bytes}
 use Rattle.inode.specs.Files.{file_block}
 use Rattle.inode.specs.declared.object.Object.{Object}
-use Rattle.inofile.specs.Objects.{IsObject, IsObjectIn, IsObjectKind}
+use Rattle.inode.proofs.BaseLaws.{same_itself}
+use Rattle.inofile.specs.Objects.{IsObject, IsObjectIn, IsObjectKind, IsObjectOrNone, IsSameOrNone}
 use Rattle.images.specs.Sizes.{CanReadBlock}
 use Rattle.images.specs.Soundness.{Detail}
 use Rattle.inofile.specs.Settled.{content_of_object}
@@ -84,6 +85,17 @@ found_is kinds.Link inodes c node is = sym (ap found_in is.2)
 found_is kinds.InodeFile inodes c node is = sym (ap found_in is)
 found_is kinds.InodeMap inodes c node is = sym (ap found_in is)
 found_is kinds.BlockMap inodes c node is = sym (ap found_in is)
+
+-- what isn't touched is the same
+pub same_object : (x : Option Object) → IsSameOrNone x x
+same_object (Some o) = record { attributes = refl; file = same_itself o.file }
+same_object None = tt
+
+-- an object that was taken out, or none
+pub object_or_none : (detail : Detail) (disk : ℕ → List ℕ) (inodes : ℕ) (settled : Inode) (o : Option Object) (found : Option Node)
+    → IfSome o (λ x. IsObjectIn detail disk inodes settled x found) → IfNone o (found ≡ None) → IsObjectOrNone detail disk inodes settled o found
+object_or_none detail disk inodes settled (Some x) found stands none = stands
+object_or_none detail disk inodes settled None found stands none = none
 
 -- what has no names
 pub nothing_listed : (names : NameMap) → ((x : Name) → names x ≡ None) → IsListingOfNames names []

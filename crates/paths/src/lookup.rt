@@ -1,12 +1,18 @@
 //! What numbers and names stand for.
 
-ghost use Rattle.std.specs.Prelude.{◌≡◌, ℕ, List, IfOk, IfSome, IsErrOf};
+ghost use Rattle.std.specs.Prelude.{◌≡◌, ℕ, List, Option, Some, IfOk, IfSome, IsErrOf};
 ghost use Rattle.buffers.specs.Reads.{ReadsBlocks};
 ghost use Rattle.blocktree.specs.Errors.{IsFault};
 ghost use Rattle.blocktree.specs.Trees.{IsSoundAt};
 ghost use Rattle.dirs.specs.Listings.{IsListingOfNames};
+ghost use Rattle.entries.specs.Entries.{IsObjectNumber};
+ghost use Rattle.images.specs.Soundness.{Detail};
+ghost use Rattle.inode.specs.declared.object.Object.{Object};
+ghost use Rattle.inofile.specs.Objects.{IsObjectOrNone, IsSameOrNone};
+ghost use Rattle.layout.specs.declared.inode.Inode.{Inode};
+ghost use Rattle.layout.specs.declared.kind.Kind.TheVariants as kinds;
 ghost use Rattle.inode.specs.Files.{bytes_of_file};
-ghost use Rattle.model.specs.Volumes.{entries};
+ghost use Rattle.model.specs.Volumes.{Node, entries, names_in};
 ghost use Rattle.paths.specs.Loads.{IsAny, LooksInto, LooksUp};
 ghost use Rattle.paths.specs.Numbers.{IsNumber};
 ghost use Rattle.paths.specs.Steps.{found_as, found_in, text_in};
@@ -14,7 +20,7 @@ ghost use Rattle.paths.specs.Steps.{found_as, found_in, text_in};
 use crate::loading::{load, object};
 use blocktree::ReadError;
 use buffers::Blocks;
-use inode::File;
+use inode::{File, Object};
 use inofile::{InodeFile, objects_stand_in_their_grammar};
 use layout::{InodeNumber, Kind};
 use model::Names;
@@ -73,15 +79,42 @@ pub fn number_at<B: Blocks>(
         (λ v number. number ≡ entries v directory name.now) result }
 {
     load(alloc, inodes, blocks, directory)?;
+    objects_stand_in_their_grammar();
     let count = inodes.geometry().inodes();
-    let Some(object) = object(inodes, directory) else {
+    let n = directory.get();
+    let mut object = inodes.take(n);
+    let found = find_in(alloc, &mut object, blocks, count, name);
+    inodes.put_back(n, object);
+    numbered(found)
+}
+
+// The number at a name of an object in memory; None where it has no such name. What is known of its blocks may grow.
+fn find_in<B: Blocks>(
+    alloc: Global,
+    object: &mut Option<Object>,
+    blocks: &mut B,
+    inodes: u32,
+    name: &[u8],
+) -> Result<Option<u32>, ReadError>
+    ensures reads { ReadsBlocks B.Blocks IsFault blocks.old blocks.new result }
+    ensures same { IsSameOrNone object.old object.new }
+    ensures within { IfOk result (λ number. IfSome number (IsObjectNumber inodes)) }
+    ensures found { (detail : Detail) (disk : ℕ → List ℕ) (settled : Inode) (node : Option Node) →
+        B.Shows blocks.old disk → IsObjectOrNone detail disk inodes settled object.old node →
+        IfOk result (λ number. number ≡ names_in node name.now) }
+    ensures damaged { (detail : Detail) (disk : ℕ → List ℕ) (settled : Inode) (node : Option Node) →
+        B.Shows blocks.old disk → IsErrOf result ReadError.Damaged →
+        IsObjectOrNone detail disk inodes settled object.old node → ((o : Object) →
+        object.old ≡ Some o → o.attributes.kind ≡ kinds.Directory → (i : ℕ) →
+        IsSoundAt (B.count blocks.old) disk o.file.tree i) → ⊥ }
+{
+    let Some(object) = object else {
         return Ok(None);
     };
     if object.attributes.kind != Kind::Directory {
         return Ok(None);
     }
-    objects_stand_in_their_grammar();
-    numbered(dirs::find(alloc, &object.file, blocks, count, name))
+    dirs::find(alloc, &object.file, &mut object.known, blocks, inodes, name)
 }
 
 // A number that was looked for.

@@ -19,6 +19,7 @@ ghost use Rattle.placement.specs.Steps.{PlacesFile};
 
 use buffers::Blocks;
 use conspoint::{Draft, PlanError};
+use entries::Known;
 use inode::{Attributes, File, Object};
 use inofile::InodeFile;
 use layout::{Inode, Kind};
@@ -51,7 +52,12 @@ fn clear<B: Blocks>(
         mode: Mode::new(0).unwrap(),
         links: 0,
     };
-    let object = Object { attributes, file };
+    let known = Known::new(alloc);
+    let object = Object {
+        attributes,
+        file,
+        known,
+    };
     let placed = place_file(alloc, draft, blocks, &object)?;
     Ok(placed)
 }

@@ -109,7 +109,7 @@ module _ (inodes size : ℕ) (block : ℕ → List ℕ) (f : List ℕ → List �
 -- a file in memory with other bytes
 module _ (disk : ℕ → List ℕ) (inodes : ℕ) (o : Object) (found : Option Node) (f : List ℕ → List ℕ) (change : Change) (new : File) (is : IsTrue (is_file_node found)) (done : IsCommitted o.file change new) where
   abbrev rewritten : Object
-  rewritten = record { attributes = o.attributes; file = new }
+  rewritten = record { attributes = o.attributes; file = new; known = o.known }
 
   stands_in : (detail : Detail) → RewritesFile detail disk f o.file change → StandsForIn detail inodes (content_of_object disk o) found
       → StandsForIn detail inodes (content_of_object disk rewritten) (with_file_bytes f found)
@@ -126,7 +126,7 @@ module _ (disk : ℕ → List ℕ) (inodes : ℕ) (o : Object) (found : Option N
 
 pub bytes_put : (detail : Detail) (disk : ℕ → List ℕ) (inodes : ℕ) (settled : Inode) (o : Object) (found : Option Node) (f : List ℕ → List ℕ) (change : Change) (new : File)
     → IsObjectIn detail disk inodes settled o found → IsTrue (is_file_node found) → RewritesFile detail disk f o.file change → IsCommitted o.file change new
-    → IsObjectIn detail disk inodes settled (record { attributes = o.attributes; file = new }) (with_file_bytes f found)
+    → IsObjectIn detail disk inodes settled (record { attributes = o.attributes; file = new; known = o.known }) (with_file_bytes f found)
 bytes_put detail disk inodes settled o found f change new was is rewrites done = record {
   kind = was.kind;
   mode = was.mode;

@@ -155,17 +155,6 @@ pub not_some : {A : Type 0} (o : Option A) → is_some o ≡ false → o ≡ Non
 not_some None is = refl
 not_some (Some a) is = absurd (false≢true (sym is))
 
--- what isn't touched is the same
-pub same_object : (x : Option Object) → IsSameOrNone x x
-same_object (Some o) = record { attributes = refl; file = same_itself o.file }
-same_object None = tt
-
--- an object that was taken out, or none
-pub object_or_none : (detail : Detail) (disk : ℕ → List ℕ) (inodes : ℕ) (settled : Inode) (o : Option Object) (found : Option Node)
-    → IfSome o (λ x. IsObjectIn detail disk inodes settled x found) → IfNone o (found ≡ None) → IsObjectOrNone detail disk inodes settled o found
-object_or_none detail disk inodes settled (Some x) found stands none = stands
-object_or_none detail disk inodes settled None found stands none = none
-
 -- ---- the volume
 
 -- a name and its object, the name first, make what both make at once

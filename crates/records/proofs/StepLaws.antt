@@ -74,7 +74,7 @@ module _ (inodes mode : ℕ) (c : Content) (found : Option Node) (is : HasMode f
 -- a file or directory in memory with another mode
 pub mode_set : (detail : Detail) (disk : ℕ → List ℕ) (inodes : ℕ) (settled : Inode) (o : Object) (found : Option Node) (mode : ℕ) → mode ≤ 4095
     → IsObjectIn detail disk inodes settled o found → HasMode found
-    → IsObjectIn detail disk inodes settled (record { attributes = record { kind = o.attributes.kind; mode = mode; links = o.attributes.links }; file = o.file }) (with_node_mode mode found)
+    → IsObjectIn detail disk inodes settled (record { attributes = record { kind = o.attributes.kind; mode = mode; links = o.attributes.links }; file = o.file; known = o.known }) (with_node_mode mode found)
 mode_set detail disk inodes settled o found mode good was is = record {
   kind = was.kind;
   mode = good;
@@ -121,7 +121,7 @@ module _ (inodes links : ℕ) (c : Content) (found : Option Node) (is : IsTrue (
 -- a file in memory with another count of names
 pub links_set : (detail : Detail) (disk : ℕ → List ℕ) (inodes : ℕ) (settled : Inode) (o : Object) (found : Option Node) (links : ℕ) → links ≤ 1000
     → IsObjectIn detail disk inodes settled o found → IsTrue (is_file_node found)
-    → IsObjectIn detail disk inodes settled (record { attributes = record { kind = o.attributes.kind; mode = o.attributes.mode; links = links }; file = o.file }) (with_node_links links found)
+    → IsObjectIn detail disk inodes settled (record { attributes = record { kind = o.attributes.kind; mode = o.attributes.mode; links = links }; file = o.file; known = o.known }) (with_node_links links found)
 links_set detail disk inodes settled o found links few was is = record {
   kind = was.kind;
   mode = was.mode;

@@ -104,7 +104,14 @@ fn edit_object<B: Blocks>(
     let Some(mut directory) = object.take() else {
         return Ok(None);
     };
-    let edit = edit_file(alloc, &mut directory.file, blocks, inodes, wanted);
+    let edit = edit_file(
+        alloc,
+        &mut directory.file,
+        &mut directory.known,
+        blocks,
+        inodes,
+        wanted,
+    );
     *object = Some(directory);
     edit
 }

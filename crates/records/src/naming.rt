@@ -17,6 +17,7 @@ ghost use Rattle.records.specs.declared.naming.NameEdit.TheVariants as edits;
 use blocktree::ReadError;
 use buffers::Blocks;
 use dirs::{AddError, Edit};
+use entries::Known;
 use inode::File;
 use layout::Entry;
 use std::alloc::Global;
@@ -39,6 +40,7 @@ pub(crate) enum NameEdit<'a> {
 pub(crate) fn edit_file<B: Blocks>(
     alloc: Global,
     file: &mut File,
+    known: &mut Known,
     blocks: &mut B,
     inodes: u32,
     wanted: &NameEdit<'_>,
@@ -49,10 +51,10 @@ pub(crate) fn edit_file<B: Blocks>(
 {
     let edit = Edit::of(alloc, file);
     match wanted {
-        NameEdit::Add(entry) => add_new(alloc, file, blocks, inodes, edit, entry),
-        NameEdit::Remove(name) => remove_one(alloc, file, blocks, inodes, edit, name),
-        NameEdit::Replace(entry) => replace_in(alloc, file, blocks, inodes, edit, entry),
-        NameEdit::Move(old, entry) => move_in(alloc, file, blocks, inodes, edit, old, entry),
+        NameEdit::Add(entry) => add_new(alloc, file, known, blocks, inodes, edit, entry),
+        NameEdit::Remove(name) => remove_one(alloc, file, known, blocks, inodes, edit, name),
+        NameEdit::Replace(entry) => replace_in(alloc, file, known, blocks, inodes, edit, entry),
+        NameEdit::Move(old, entry) => move_in(alloc, file, known, blocks, inodes, edit, old, entry),
     }
 }
 
@@ -60,6 +62,7 @@ pub(crate) fn edit_file<B: Blocks>(
 fn add_new<B: Blocks>(
     alloc: Global,
     file: &mut File,
+    known: &mut Known,
     blocks: &mut B,
     inodes: u32,
     edit: Edit,
@@ -70,17 +73,18 @@ fn add_new<B: Blocks>(
     ensures { EditsFile (λ disk. HasEditedNames inodes disk file.old edit) (piece_count edit + 1) B.Blocks blocks.old blocks.new
         inodes file.old file.new (NameEdit.Add entry.now) result }
 {
-    let found = edit.find(file, blocks, inodes, entry.name)?;
+    let found = edit.find(file, known, blocks, inodes, entry.name)?;
     if found.is_some() {
         return Ok(None);
     }
-    add_in(alloc, file, blocks, inodes, edit, entry)
+    add_in(alloc, file, known, blocks, inodes, edit, entry)
 }
 
 // A name is gone; never None.
 fn remove_one<B: Blocks>(
     alloc: Global,
     file: &mut File,
+    known: &mut Known,
     blocks: &mut B,
     inodes: u32,
     edit: Edit,
@@ -90,7 +94,7 @@ fn remove_one<B: Blocks>(
     ensures { EditsFile (λ disk. HasEditedNames inodes disk file.old edit) (piece_count edit + 1) B.Blocks blocks.old blocks.new
         inodes file.old file.new (edits.Remove name.entry) result }
 {
-    let edit = remove_in(alloc, file, blocks, inodes, edit, name)?;
+    let edit = remove_in(alloc, file, known, blocks, inodes, edit, name)?;
     Ok(Some(edit))
 }
 
@@ -98,6 +102,7 @@ fn remove_one<B: Blocks>(
 fn replace_in<B: Blocks>(
     alloc: Global,
     file: &mut File,
+    known: &mut Known,
     blocks: &mut B,
     inodes: u32,
     edit: Edit,
@@ -108,14 +113,15 @@ fn replace_in<B: Blocks>(
     ensures { EditsFile (λ disk. HasEditedNames inodes disk file.old edit) (piece_count edit + 2) B.Blocks blocks.old blocks.new
         inodes file.old file.new (NameEdit.Replace entry.now) result }
 {
-    let edit = remove_in(alloc, file, blocks, inodes, edit, entry.name)?;
-    add_in(alloc, file, blocks, inodes, edit, entry)
+    let edit = remove_in(alloc, file, known, blocks, inodes, edit, entry.name)?;
+    add_in(alloc, file, known, blocks, inodes, edit, entry)
 }
 
 // A name is gone, and the entry stands in place of the one with its name; None where there is no place for one more.
 fn move_in<B: Blocks>(
     alloc: Global,
     file: &mut File,
+    known: &mut Known,
     blocks: &mut B,
     inodes: u32,
     edit: Edit,
@@ -127,15 +133,16 @@ fn move_in<B: Blocks>(
     ensures { EditsFile (λ disk. HasEditedNames inodes disk file.old edit) (piece_count edit + 3) B.Blocks blocks.old blocks.new
         inodes file.old file.new (edits.Move old.entry entry.now) result }
 {
-    let edit = remove_in(alloc, file, blocks, inodes, edit, old)?;
-    let edit = remove_in(alloc, file, blocks, inodes, edit, entry.name)?;
-    add_in(alloc, file, blocks, inodes, edit, entry)
+    let edit = remove_in(alloc, file, known, blocks, inodes, edit, old)?;
+    let edit = remove_in(alloc, file, known, blocks, inodes, edit, entry.name)?;
+    add_in(alloc, file, known, blocks, inodes, edit, entry)
 }
 
 // One more name in an edit of names without it; None where there is no place for it.
 fn add_in<B: Blocks>(
     alloc: Global,
     file: &mut File,
+    known: &mut Known,
     blocks: &mut B,
     inodes: u32,
     edit: Edit,
@@ -148,7 +155,7 @@ fn add_in<B: Blocks>(
         inodes file.old file.new (NameEdit.Replace entry.now) result }
 {
     let mut edit = edit;
-    match edit.prepare_add(alloc, file, blocks, inodes, entry) {
+    match edit.prepare_add(alloc, file, known, blocks, inodes, entry) {
         Ok(()) => Ok(Some(edit)),
         Err(AddError::DirFull) => Ok(None),
         Err(AddError::NoMemory) => Err(ReadError::NoMemory),
@@ -161,6 +168,7 @@ fn add_in<B: Blocks>(
 fn remove_in<B: Blocks>(
     alloc: Global,
     file: &mut File,
+    known: &mut Known,
     blocks: &mut B,
     inodes: u32,
     edit: Edit,
@@ -179,6 +187,6 @@ fn remove_in<B: Blocks>(
         → ((i : ℕ) → IsSoundAt (B.count blocks.old) disk file.old.tree i) → ⊥ }
 {
     let mut edit = edit;
-    edit.prepare_remove(alloc, file, blocks, inodes, name)?;
+    edit.prepare_remove(alloc, file, known, blocks, inodes, name)?;
     Ok(edit)
 }

@@ -18,6 +18,7 @@ ghost use Rattle.records.specs.Looking.{Finds};
 use crate::loading::load;
 use blocktree::ReadError;
 use buffers::Blocks;
+use entries::Known;
 use inode::{Attributes, ChangeError, File, Object};
 use inofile::InodeFile;
 use layout::{FIRST_NUMBER, InodeNumber, Kind, NewObject, is_link_text};
@@ -109,6 +110,7 @@ fn new_link<B: Blocks>(alloc: Global, blocks: &mut B, text: &[u8]) -> Result<Obj
             links: 1,
         },
         file,
+        known: Known::new(alloc),
     })
 }
 
@@ -128,6 +130,7 @@ fn new_file(alloc: Global, mode: Mode) -> Object
             links: 1,
         },
         file: File::empty(alloc),
+        known: Known::new(alloc),
     }
 }
 
@@ -148,5 +151,6 @@ pub(crate) fn new_directory(alloc: Global, mode: Mode) -> Object
             links: 1,
         },
         file: File::empty(alloc),
+        known: Known::new(alloc),
     }
 }

@@ -5,6 +5,7 @@
 //!
 //!     put BLOCK OFFSET HEX    these bytes lie on the disk
 //!     fail N                  device call N from the last `put` on, counted from 1, is to fail
+//!     let_go                  lets go of the blocks that were read
 //!
 //! The other rows are told in `file_row`.
 

@@ -1,6 +1,6 @@
 -- What a call comes to with a step of a consistency point before its record, or with none.
 use Rattle.std.proofs.Common.{◌≡◌, ◌≢◌, ◌⊎◌, inl, inr, Bool, true, false, ℕ, ◌+◌, List, [], ◌∷◌, Result, Ok, Err, Option, None, refl, ap, sym, subst, ◌∙◌, if◌then◌else◌, arith}
-use Rattle.std.specs.Prelude.{IfErr, IsErrOf, MatchResult}
+use Rattle.std.specs.Prelude.{IfErr, IfOk, IsErrOf, IsFalse, IsTrue, MatchResult}
 use Rattle.std.proofs.lemmas.Bool.{false≢true}
 use Rattle.std.proofs.lemmas.Result.{IfErr-weaker, IfOk-weaker}
 use Rattle.station.specs.Images.{Images, Unchanged}
@@ -22,7 +22,7 @@ use Rattle.overlay.specs.declared.laid.Laid.{Laid}
 use Rattle.system.specs.Counting.{AgesBy, Counted, Failed, LogsNothing, a_read, a_write, beside_reads, call_failed, no_call, perhaps_any, perhaps_reads}
 use Rattle.system.specs.Images.{OpensTo}
 use Rattle.system.specs.Serving.{AsksForStep, Handles, HasEmptyLog, IsSureOn, LeavesEither, ServesState}
-use Rattle.system.specs.Slicing.{Fulfils, MayStep, Steps, StepsOn}
+use Rattle.system.specs.Slicing.{Fulfils, Steps, StepsOn}
 use Rattle.system.specs.Systems.{IsCovered, meaning_of}
 use Rattle.system.specs.declared.error.CallError.{CallError}
 use Rattle.system.specs.declared.error.CallError.TheVariants.{NotWritten, StepDue}
@@ -67,6 +67,18 @@ and_so : (P Q R : Type 0) (q : Result Reply CallError) → (P → R) → IfErr q
 and_so P Q R (Ok reply) to one two = tt
 and_so P Q R (Err e) to one two = λ other. (two other, to (one other))
 
+-- where the log's end moves a step was done, or it doesn't move
+stepped_or : (P Q : Type 0) (q : Result Reply CallError) → P → IfOk q (λ _. Q → P)
+stepped_or P Q (Ok reply) is = λ moved. is
+stepped_or P Q (Err e) is = tt
+
+unmoved : (P : Type 0) {end now : End} (q : Result Reply CallError) → now ≡ end → IfOk q (λ _. now ≢ end → P)
+unmoved P (Ok reply) is = λ moved. absurd (moved is)
+unmoved P (Err e) is = tt
+
+not_both : {X : Type 0} {b : Bool} → IsFalse b → IsTrue b → X
+not_both runs stopped = absurd (false≢true (sym runs ∙ stopped))
+
 module _ {S : Type 0} {G : Ghosts S} {old new : System S G} {call : Command} (opens : AllOpen old) where
   fulfilled : (q : Result Reply CallError) → (IsErrOf q StepDue → ⊥) → Handles true old new call q → Fulfils old new call q
   fulfilled q own told =
@@ -77,11 +89,13 @@ module _ {S : Type 0} {G : Ghosts S} {old new : System S G} {call : Command} (op
         no_fault = told.no_fault;
         own = own;
         step = whichever q (inl told.laid);
+        comes = λ laid. unmoved (StepsOn old.blocks.laid new.blocks.laid) q (told.waits refl laid);
         epoch = same_age old.log.epoch new.log.epoch told.epoch;
         calm = λ empty. told.epoch;
         runs = told.runs;
         refused = λ errno is. nothing_logged m n (told.refused errno is);
         kept = IfErr-weaker q _ _ (λ e goes other. nothing_logged m n (goes other)) told.kept;
+        unlogged = λ is runs. absurd (not_both runs (told.stops is));
         stays = λ s served. and_so _ (ServesState new s) _ q (leaves_unchanged m n (OpensTo m s) (opens s served)) told.kept (told.serves s served);
         done = λ s served. IfOk-weaker q _ _ (λ reply done. record { between = old; served = served; done = done; leaves = done.leaves }) (told.done s served);
         broken = told.broken;
@@ -183,11 +197,13 @@ module _ {S : Type 0} {G : Ghosts S} {old mid : System S G} {call : Command} (as
         no_fault = tt;
         own = λ is. cc;
         step = λ other. absurd (other refl);
+        comes = λ laid. tt;
         epoch = ages new (Err e) stepped;
         calm = λ empty. ap (λ (l : LogEnd). l.epoch) (same_log new (Err e) stepped empty.end).0;
         runs = λ runs other. absurd (other refl);
         refused = λ errno is. cc;
         kept = λ other. absurd (other refl);
+        unlogged = λ is runs. stepped_quietly new (Err e) stepped;
         stays = λ s served other. absurd (other refl);
         done = λ s served. tt;
         broken = λ s served is.
@@ -210,8 +226,8 @@ module _ {S : Type 0} {G : Ghosts S} {old mid : System S G} {call : Command} (as
     there : (s : State) → ServesState old s → ServesState between s
     there s served = (stepped.goes_on s.tree.descriptors s (serves_still s served)).stays
 
-    took_step : new.blocks.laid ≡ between.blocks.laid → MayStep old.blocks.laid new.blocks.laid
-    took_step laid = inr (subst (λ (o : Option Laid). StepsOn old.blocks.laid o) (sym laid) (subst (λ (o : Option Laid). StepsOn o between.blocks.laid) asked.laid stepped.laid))
+    steps_on : new.blocks.laid ≡ between.blocks.laid → StepsOn old.blocks.laid new.blocks.laid
+    steps_on laid = subst (λ (o : Option Laid). StepsOn old.blocks.laid o) (sym laid) (subst (λ (o : Option Laid). StepsOn o between.blocks.laid) asked.laid stepped.laid)
 
     pub fulfilled_behind : (q : Result Reply CallError) → ((s : State) → ServesState old s → MayLeave (meaning_of old) (meaning_of old).seen) → Handles false between new call q → Fulfils old new call q
     fulfilled_behind q seen told =
@@ -223,12 +239,14 @@ module _ {S : Type 0} {G : Ghosts S} {old mid : System S G} {call : Command} (as
               (counted_beside m b n (call_failed between.log.is_stopped q) (counted_after m (meaning_of mid) b perhaps_reads asked.counted stepped.counted) told.counted);
           no_fault = told.no_fault;
           own = λ is. false≢true (told.asks is).asked;
-          step = whichever q (took_step told.laid);
+          step = whichever q (inr (steps_on told.laid));
+          comes = λ laid. stepped_or (StepsOn old.blocks.laid new.blocks.laid) (new.log.end ≢ old.log.end) q (steps_on told.laid);
           epoch = subst (λ (k : ℕ). AgesBy 1 old.log.epoch k) (sym told.epoch) (ages between (Ok u) stepped);
           calm = λ empty. told.epoch ∙ ap (λ (l : LogEnd). l.epoch) (same_log between (Ok u) stepped empty.end).0;
           runs = λ runs. told.runs (runs_on between (Ok u) stepped ∙ runs);
           refused = λ errno is. quiet (told.refused errno is);
           kept = IfErr-weaker q _ _ (λ e goes other. quiet (goes other)) told.kept;
+          unlogged = λ is runs. absurd (not_both runs (told.stops is));
           stays = λ s served. and_so _ (ServesState new s) _ q (goes_on_unchanged m b n (OpensTo m s) (leaves_it between (Ok u) stepped s served)) told.kept (told.serves s (there s served));
           done = λ s served. IfOk-weaker q _ _ (λ reply done. record {
             between = between;

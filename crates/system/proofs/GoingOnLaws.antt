@@ -1,7 +1,6 @@
 -- What a step of a consistency point leaves of what a system serves.
 use Rattle.std.proofs.Common.{◌≡◌, ◌≢◌, ◌⊎◌, ◌↔◌, inl, inr, Bool, Ok, ℕ, ◌+◌, ◌*◌, ◌≤◌, ◌<◌, List, Option, Some, None, Result, Err, length, refl, ap, sym, subst, ◌∙◌, arith}
 use Rattle.std.specs.Prelude.{IfErr, IsFalse, IsTrue}
-use Rattle.std.specs.BTreeMap.{BTreeMap}
 use Rattle.std.proofs.lemmas.Bool.{false≢true}
 use Rattle.station.specs.Calls.{OnlyWrites}
 use Rattle.station.specs.Images.{Images, Sector}
@@ -13,7 +12,7 @@ use Rattle.layout.specs.Places.{blocks_of}
 use Rattle.model.specs.States.{State}
 use Rattle.model.specs.Trees.{Description}
 use Rattle.buffers.specs.Disks.{ReadsOn}
-use Rattle.buffers.specs.declared.block.Block.{Block}
+use Rattle.buffers.specs.declared.kept.Kept.{Kept}
 use Rattle.blockmap.specs.Changes.{SettlesAs}
 use Rattle.blockmap.specs.Maps.{entry_at}
 use Rattle.blockmap.specs.declared.map.BlockMap.{BlockMap}
@@ -36,9 +35,11 @@ use Rattle.system.specs.Images.{IsLeft, IsUnder, Lasts, OpensTo}
 use Rattle.system.specs.Laws.{CutLaws, RootLaws}
 use Rattle.system.specs.Memory.{HasEntries, HasEntriesToCome, IsInMemory}
 use Rattle.system.specs.Slicing.{IsLaid, step_failed}
-use Rattle.system.specs.Systems.{Parts, HasState, IsComing, IsServing, disk_over, meaning_of, state_with}
+use Rattle.system.specs.Systems.{HasState, IsComing, IsServing, Parts, disk_of, disk_over, meaning_of, state_with}
 use Rattle.system.specs.UnderWay.{IsUnderWay, WayLaws, base_to_come}
 use Rattle.system.specs.declared.error.PointError.{PointError}
+use Rattle.system.specs.Views.{ShowsSnapshot}
+use Rattle.system.specs.declared.snapshot_reading.View.{View}
 use Rattle.system.specs.declared.system.System.{System}
 use Rattle.system.proofs.SystemLaws.{at_rest, its_sizes}
 use Rattle.system.proofs.UnderWayLaws.{begins, disk_is, ends_left, lasts_older, lasts_to_come, left_older, points_open, same_to_come, slice_left, slices_keep, slices_open}
@@ -91,7 +92,7 @@ module _ (laws : CutLaws) (ways : WayLaws) {m : Meaning} {k : Parts} {table : �
     pub slice_leaves : LeavesOnly m now (OpensTo m s)
     slice_leaves = slices_open laws serves.left coming.way serves.honest now goes (its_sizes serves size half)
 
-    abbrev pub sliced : (n : ℕ) → n ≤ length plan.blocks → (laid : Laid) → laid.plan ≡ record plan { written = n } → now.is_honest → (now_kept : BTreeMap ℕ Block)
+    abbrev pub sliced : (n : ℕ) → n ≤ length plan.blocks → (laid : Laid) → laid.plan ≡ record plan { written = n } → now.is_honest → (now_kept : Kept)
         → ShowsOver now now_kept (Some laid) (blocks_of (disk_over k m.seen.disk)) → IsServing now (record k { kept = now_kept; laid = Some laid }) table s
     sliced n most laid is honest now_kept shown =
         let stays : disk_after plan now.seen.disk ≡ disk_after plan m.seen.disk = ways.stays plan m.seen now.seen coming.sound (goes serves.honest).seen in
@@ -106,6 +107,7 @@ module _ (laws : CutLaws) (ways : WayLaws) {m : Meaning} {k : Parts} {table : �
           running = serves.running;
           mounted = serves.mounted;
           memory = subst (λ (d : ℕ → Sector). IsInMemory (blocks_of d) k.root k.inodes serves.running) disk serves.memory;
+          view = subst (λ (d : ℕ → Sector). ShowsSnapshot (blocks_of d) k.root.geometry.blocks serves.snapshots k.view) disk serves.view;
           settled = serves.settled;
           lasts = serves.lasts;
           left = slice_left laws serves.left coming.way serves.honest now goes;
@@ -133,7 +135,7 @@ module _ (laws : CutLaws) (ways : WayLaws) {m : Meaning} {k : Parts} {table : �
     end_leaves = points_open laws serves.left coming.way roots ways serves.honest here (its_sizes serves size half) now
 
     abbrev pub ended : IsSameStation m now → now.is_honest → HasNewRoot plan m.seen now.seen → ((n : ℕ) → n < now.sectors → IsSector (now.seen.disk n)) → LeavesJust now now.seen
-        → (now_kept : BTreeMap ℕ Block) → ShowsOver now now_kept None (blocks_of (disk_over k m.seen.disk)) → (now_map : BlockMap) → SettlesAs (entry_at k.map.parts.items) k.map now_map
+        → (now_kept : Kept) → ShowsOver now now_kept None (blocks_of (disk_over k m.seen.disk)) → (now_map : BlockMap) → SettlesAs (entry_at k.map.parts.items) k.map now_map
         → IsServing now (record k { kept = now_kept; laid = None; map = now_map; pledged = k.pledged_then }) table s
     ended station honest has sized just now_kept shown now_map settles =
         let are = its_sizes serves size half in
@@ -156,6 +158,7 @@ module _ (laws : CutLaws) (ways : WayLaws) {m : Meaning} {k : Parts} {table : �
           running = serves.running;
           mounted = serves.mounted;
           memory = subst (λ (d : ℕ → Sector). IsInMemory (blocks_of d) k.root k.inodes serves.running) disk serves.memory;
+          view = subst (λ (d : ℕ → Sector). ShowsSnapshot (blocks_of d) k.root.geometry.blocks serves.snapshots k.view) disk serves.view;
           settled = record { disk = now.seen.disk; root = k.root; volume = serves.first };
           lasts = lasting.0;
           left = lasting.1;
@@ -201,6 +204,7 @@ laid_serves old new table s serves none first reads log pledged files laid =
       running = serves.running;
       mounted = serves.mounted;
       memory = laid.memory;
+      view = subst (λ (o : Option View). ShowsSnapshot (blocks_of (disk_of new)) new.root.geometry.blocks serves.snapshots o) (sym laid.viewless) tt;
       settled = record { disk = m.seen.disk; root = old.root; volume = serves.first };
       lasts = lasting.0;
       left = lasting.1;

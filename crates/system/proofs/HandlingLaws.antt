@@ -1,6 +1,6 @@
 -- What a call comes to that a record is logged for, once objects came into memory.
 use Rattle.std.proofs.Common.{◌≡◌, ◌≢◌, ◌⊎◌, inl, inr, ℕ, ◌+◌, ◌≤◌, [], ◌∷◌, ◌++◌, length, Result, Ok, Err, refl, ap, sym, subst, ◌∙◌, if◌then◌else◌, arith}
-use Rattle.std.specs.Prelude.{Bool, IsFalse, IsTrue}
+use Rattle.std.specs.Prelude.{Bool, IsErrOf, IsFalse, IsTrue, None}
 use Rattle.station.specs.Calls.{OnlyWrites}
 use Rattle.station.specs.Images.{Images}
 use Rattle.station.specs.Moments.{Meaning, EachCut}
@@ -118,10 +118,11 @@ module _ {S : Type 0} {G : Ghosts S} (old new : System S G) (mid : Meaning) (cal
   -- the record is logged, and its change is in force
   pub logged : {steps : Bool} {T : Type 0} (u : T) (change : Change) → ((s : State) (served : ServesState old s) → (leads s served).work ≡ work_of served.running change) → TellsNoFault reply → ((errno : Errno) → reply ≡ Refused errno → ⊥) → OnlyWrites {T = T} {E = CallError} (IsFirstFault old.log) mid (meaning_of new) (Ok u)
       → new.log.is_stopped ≡ old.log.is_stopped
+      → (IsTrue steps → old.blocks.laid ≢ None → new.log.end ≡ old.log.end)
       → ((s : State) (served : ServesState old s) → HasRoomForWork old (leads s served).work)
       → ((s : State) (served : ServesState old s) → (serves : ServesState new (leads s served).after) × (serves.lasts.replayed.changes ≡ served.lasts.replayed.changes ++ change ∷ []))
       → Handles steps old new call (Ok reply)
-  logged {T = T} u change works own accepted writes stopped room serves =
+  logged {T = T} u change works own accepted writes stopped waits room serves =
       let m = meaning_of old in
       record {
         counted = counted_after m mid (meaning_of new) no_call (all_read m mid reads counted) (all_written {T = T} {E = CallError} (IsFirstFault old.log) mid (meaning_of new) u writes);
@@ -130,6 +131,8 @@ module _ {S : Type 0} {G : Ghosts S} (old new : System S G) (mid : Meaning) (cal
         laid = laid;
         epoch = epoch;
         runs = λ runs. stopped ∙ runs;
+        stops = λ is. cc;
+        waits = waits;
         refused = λ errno is. absurd (accepted errno (ok_is reply (Refused errno) (Ok reply) (Ok (Refused errno)) refl refl is));
         kept = tt;
         serves = λ s served. tt;
@@ -172,6 +175,8 @@ module _ {S : Type 0} {G : Ghosts S} (old new : System S G) (mid : Meaning) (cal
       laid = laid;
       epoch = epoch;
       runs = λ runs _. ap (λ (l : LogEnd). l.is_stopped) log ∙ runs;
+      stops = λ is. absurd (other (error_is e call_errors.NotWritten (Err e) (Err call_errors.NotWritten) refl refl is));
+      waits = λ _ _. ap (λ (l : LogEnd). l.end) log;
       refused = λ errno is. cc;
       kept = λ _. on_now.goes;
       serves = λ s served _. (keeps s served).0;
@@ -196,8 +201,8 @@ module _ {S : Type 0} {G : Ghosts S} (old new : System S G) (mid : Meaning) (cal
     }
 
   -- its write failed
-  half_logged : {steps : Bool} {T : Type 0} → OnlyWrites {T = T} {E = CallError} (IsFirstFault old.log) mid (meaning_of new) (Err call_errors.NotWritten) → Handles steps old new call (Err call_errors.NotWritten)
-  half_logged {T = T} writes = record {
+  half_logged : {steps : Bool} {T : Type 0} → IsTrue new.log.is_stopped → (IsTrue steps → old.blocks.laid ≢ None → new.log.end ≡ old.log.end) → OnlyWrites {T = T} {E = CallError} (IsFirstFault old.log) mid (meaning_of new) (Err call_errors.NotWritten) → Handles steps old new call (Err call_errors.NotWritten)
+  half_logged {T = T} stopped waits writes = record {
     counted = counted_after (meaning_of old) mid (meaning_of new) (if old.log.is_stopped then perhaps_any else a_write) (all_read (meaning_of old) mid reads counted)
         (not_written_yet {T = T} {E = CallError} (IsFirstFault old.log) mid (meaning_of new) call_errors.NotWritten old.log.is_stopped writes (λ runs. (refl, runs)));
     no_fault = tt;
@@ -205,6 +210,8 @@ module _ {S : Type 0} {G : Ghosts S} (old new : System S G) (mid : Meaning) (cal
     laid = laid;
     epoch = epoch;
     runs = λ runs is. absurd (is refl);
+    stops = λ is. stopped;
+    waits = waits;
     refused = λ errno is. cc;
     kept = λ is. absurd (is refl);
     serves = λ s served is. absurd (is refl);
@@ -224,25 +231,26 @@ module _ {S : Type 0} {G : Ghosts S} (old new : System S G) (mid : Meaning) (cal
 
   -- it isn't logged
   pub not_logged : {steps : Bool} {T : Type 0} (e : CallError) → (e ≢ call_errors.NotRead) × (e ≢ call_errors.Damaged)
+      → (IsErrOf {T = T} (Err e) call_errors.NotWritten → IsTrue new.log.is_stopped) → (IsTrue steps → old.blocks.laid ≢ None → new.log.end ≡ old.log.end)
       → OnlyWrites {T = T} {E = CallError} (IsFirstFault old.log) mid (meaning_of new) (Err e)
       → (e ≢ call_errors.NotWritten → (mid ≡ meaning_of new) × (new.log ≡ old.log) × (new.root ≡ old.root) × (KeepsServing old new))
       → (e ≡ call_errors.StepDue → IsTrue steps × IsStepDue new) → (e ≡ call_errors.LogFull → HasEmptyLog old → ⊥)
       → (e ≡ call_errors.NoRoom → (s : State) (served : ServesState old s) → HasRoomForWork new (leads s served).work → ⊥) → Handles steps old new call (Err e)
-  not_logged call_errors.NotRead own writes kept asked fits lacks = absurd (own.0 refl)
-  not_logged call_errors.Damaged own writes kept asked fits lacks = absurd (own.1 refl)
-  not_logged {T = T} call_errors.NotWritten own writes kept asked fits lacks = half_logged {T = T} writes
-  not_logged call_errors.NoMemory own writes kept asked fits lacks =
+  not_logged call_errors.NotRead own stops waits writes kept asked fits lacks = absurd (own.0 refl)
+  not_logged call_errors.Damaged own stops waits writes kept asked fits lacks = absurd (own.1 refl)
+  not_logged {T = T} call_errors.NotWritten own stops waits writes kept asked fits lacks = half_logged {T = T} (stops refl) waits writes
+  not_logged call_errors.NoMemory own stops waits writes kept asked fits lacks =
       let now = kept (λ is. cc) in
       unlogged now.0 now.1 now.2 now.3 call_errors.NoMemory (λ is. cc) own.1 (perhaps_read (meaning_of old) (meaning_of new) (on_now now.0 now.1 now.2 now.3)) asked fits lacks
-  not_logged call_errors.LogFull own writes kept asked fits lacks =
+  not_logged call_errors.LogFull own stops waits writes kept asked fits lacks =
       let now = kept (λ is. cc) in
       unlogged now.0 now.1 now.2 now.3 call_errors.LogFull (λ is. cc) own.1
       (all_read (meaning_of old) (meaning_of new) (on_now now.0 now.1 now.2 now.3) (counted_now now.0 now.1 now.2 now.3)) asked fits lacks
-  not_logged call_errors.NoRoom own writes kept asked fits lacks =
+  not_logged call_errors.NoRoom own stops waits writes kept asked fits lacks =
       let now = kept (λ is. cc) in
       unlogged now.0 now.1 now.2 now.3 call_errors.NoRoom (λ is. cc) own.1
       (all_read (meaning_of old) (meaning_of new) (on_now now.0 now.1 now.2 now.3) (counted_now now.0 now.1 now.2 now.3)) asked fits lacks
-  not_logged call_errors.StepDue own writes kept asked fits lacks =
+  not_logged call_errors.StepDue own stops waits writes kept asked fits lacks =
       let now = kept (λ is. cc) in
       unlogged now.0 now.1 now.2 now.3 call_errors.StepDue (λ is. cc) own.1
       (all_read (meaning_of old) (meaning_of new) (on_now now.0 now.1 now.2 now.3) (counted_now now.0 now.1 now.2 now.3)) asked fits lacks

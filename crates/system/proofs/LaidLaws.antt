@@ -37,6 +37,8 @@ use Rattle.system.specs.Systems.{HasState, IsCovered, Parts, disk_of, meaning_of
 use Rattle.system.specs.UnderWay.{WayLaws}
 use Rattle.system.specs.declared.error.PointError.{PointError}
 use Rattle.system.specs.declared.error.PointError.TheVariants.{NotWritten}
+use Rattle.system.specs.Views.{ShowsSnapshot}
+use Rattle.system.specs.declared.snapshot_reading.View.{View}
 use Rattle.system.specs.declared.system.System.{System}
 use Rattle.system.proofs.CountingLaws.{all_written, counted_after, logged_twice, not_written, nothing_logged}
 use Rattle.system.proofs.CoveredLaws.{covered_at}
@@ -137,6 +139,7 @@ module _ (cuts : CutLaws) (roots : RootLaws) (ways : WayLaws) {S : Type 0} {G : 
         running = serves.running;
         mounted = serves.mounted;
         memory = subst (λ (d : ℕ → Sector). IsInMemory (blocks_of d) mid.root mid.inodes serves.running) disk is.memory;
+        view = subst (λ (o : Option View). ShowsSnapshot (blocks_of n.seen.disk) mid.root.geometry.blocks (kept_after step serves.first serves.snapshots) o) (sym is.viewless) tt;
         settled = record { disk = n.seen.disk; root = mid.root; volume = serves.running };
         lasts = record {
           newest = under.newest.newest;

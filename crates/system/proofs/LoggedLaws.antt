@@ -39,6 +39,7 @@ use Rattle.system.specs.Images.{Base, IsReplayed, IsUnder, Lasts, OpensTo}
 use Rattle.system.specs.Laws.{CutLaws, RecordLaws}
 use Rattle.system.specs.Memory.{HasEntriesToCome, IsInMemory}
 use Rattle.system.specs.Logging.{Advances}
+use Rattle.system.specs.Views.{ShowsSnapshot}
 use Rattle.system.specs.Systems.{Parts, IsServing, IsServingWith, disk_over, state_with}
 use Rattle.system.specs.UnderWay.{IsUnderWay, Way}
 use Rattle.system.proofs.RoomLaws.{one_pledged}
@@ -190,6 +191,7 @@ module _ (laws : CutLaws) (records : RecordLaws) {m : Meaning} {k : Parts} {tabl
           running = volume_after;
           mounted = advances.mounted;
           memory = subst (λ (d : ℕ → Sector). IsInMemory (blocks_of d) k.root now_inodes volume_after) disk (record { stands = stands; volume = volume });
+          view = subst (λ (d : ℕ → Sector). ShowsSnapshot (blocks_of d) k.root.geometry.blocks serves.snapshots k.view) disk serves.view;
           settled = serves.settled;
           lasts = lasts_after;
           left = λ honest c left.

@@ -116,6 +116,7 @@ module _ {m : Meaning} {k : Parts} {table : ℕ → Option Description} {s : Sta
     running = serves.running;
     mounted = mounted;
     memory = serves.memory;
+    view = serves.view;
     settled = serves.settled;
     lasts = serves.lasts;
     left = serves.left;
@@ -148,6 +149,7 @@ module _ {m : Meaning} {k : Parts} {table : ℕ → Option Description} {s : Sta
           stands = stands;
           volume = records.sweeps k.root.geometry.inodes serves.running after serves.memory.volume;
         };
+        view = serves.view;
         settled = serves.settled;
         lasts = record {
           newest = lasts.newest;

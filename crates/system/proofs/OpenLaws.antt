@@ -1,7 +1,6 @@
 -- What is found on a station and read from it makes a system that serves it.
 use Rattle.std.proofs.Common.{◌≡◌, ◌⊎◌, inl, inr, ℕ, zero, suc, ◌≤◌, List, Option, Some, None, false, refl, sym, ap, subst, ◌∙◌}
 use Rattle.std.specs.Prelude.{Result, Ok, Err, IsErrAnd, IsErrOf, IsSome, IsTrue, IsFalse, MatchResult, IfErr}
-use Rattle.std.specs.BTreeMap.{BTreeMap}
 use Rattle.std.specs.Option.{option_map}
 use Rattle.station.specs.Images.{Images, Unchanged}
 use Rattle.station.specs.Moments.{Meaning, Goes, IsSameStation, LeavesJust}
@@ -17,8 +16,8 @@ use Rattle.model.specs.States.{State}
 use Rattle.model.specs.Trees.{Tree}
 use Rattle.model.specs.Volumes.{Node, directory_node, file_node, link_node, IsMounted, IsVolume, Volume, swept_node}
 use Rattle.buffers.specs.Disks.{ReadsOn, ShowsDisk}
-use Rattle.buffers.specs.declared.block.Block.{Block}
 use Rattle.buffers.specs.declared.cache.Buffers.{Buffers}
+use Rattle.buffers.specs.declared.kept.Kept.{Kept}
 use Rattle.oplog.specs.LogEnd.{StandsAt}
 use Rattle.overlay.specs.Overlays.{ShowsOver}
 use Rattle.overlay.specs.declared.laid.Laid.{Laid}
@@ -193,7 +192,7 @@ extends v = record { kept = λ n some. kept_nodes (v n) some; rest = λ n none. 
 
 -- ---- the system
 
-module _ (m : Meaning) (kept : BTreeMap ℕ Block) (found : FoundImages) (p : Mounted) (first last : Volume) (snapshots : List (Name × Tree)) (changes : List Change)
+module _ (m : Meaning) (kept : Kept) (found : FoundImages) (p : Mounted) (first last : Volume) (snapshots : List (Name × Tree)) (changes : List Change)
     (files : Descriptors) (none : (d : ℕ) → open_at files d ≡ None) (fits : (v : Volume) → FitsVolume files v) where
   -- memory over what was found, where reads give these images
   pub record IsOver (i : Images) : Type 0 where
@@ -210,6 +209,7 @@ module _ (m : Meaning) (kept : BTreeMap ℕ Block) (found : FoundImages) (p : Mo
     root = found.newest.root;
     slot = found.newest.slot;
     inodes = p.inodes;
+    view = None;
     map = p.map;
     log = p.log;
     pledged = p.pledged;
@@ -230,6 +230,7 @@ module _ (m : Meaning) (kept : BTreeMap ℕ Block) (found : FoundImages) (p : Mo
     running = without_nameless last;
     mounted = mounted;
     memory = over.has.memory;
+    view = tt;
     settled = record { disk = m.seen.disk; root = found.newest.root; volume = first };
     lasts = record {
       newest = over.of.newest.newest;

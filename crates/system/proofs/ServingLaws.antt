@@ -1,7 +1,6 @@
 -- What a call comes to on a system that serves a state.
 use Rattle.std.proofs.Common.{◌≡◌, ◌⊎◌, inl, inr, Bool, List, Result, Ok, Err, refl, ap, sym, subst}
 use Rattle.std.specs.Prelude.{IsErrOf, IsFalse, IsTrue, IfErr, IfOk, OnErr, OnOk, false}
-use Rattle.std.proofs.lemmas.Bool.{false≢true}
 use Rattle.std.proofs.lemmas.Result.{IfOk-weaker}
 use Rattle.station.specs.Moments.{EachCut, HasGrown}
 use Rattle.station.specs.declared.station.Station.{Ghosts}
@@ -97,6 +96,8 @@ module _ {S : Type 0} {G : Ghosts S} {steps : Bool} (old new : System S G) (call
         laid = reads.laid;
         epoch = ap (λ (l : LogEnd). l.epoch) log;
         runs = λ runs. subst (λ (l : LogEnd). IsFalse l.is_stopped) (sym log) runs;
+        stops = λ is. cc;
+        waits = λ _ _. ap (λ (l : LogEnd). l.end) log;
         refused = λ errno is. reads.below.goes;
         kept = tt;
         serves = λ s served. tt;
@@ -133,6 +134,8 @@ module _ {S : Type 0} {G : Ghosts S} {steps : Bool} (old new : System S G) (call
     laid = reads.laid;
     epoch = ap (λ (l : LogEnd). l.epoch) log;
     runs = λ runs _. subst (λ (l : LogEnd). IsFalse l.is_stopped) (sym log) runs;
+    stops = λ bad. absurd ((told_by error).0 bad);
+    waits = λ _ _. ap (λ (l : LogEnd). l.end) log;
     refused = λ errno is. cc;
     kept = λ _. reads.below.goes;
     serves = λ s served _. (stays s served).0;
@@ -205,23 +208,3 @@ module _ {S : Type 0} {G : Ghosts S} {steps : Bool} (old new : System S G) (call
       on_err : (r : Result Reply Failure) → OnErr r (ServesOn old new)
       on_err (Ok reply) = tt
       on_err (Err f) = stays
-
--- a call that can't ask for a step may be said to ask for one
-pub any_steps : {S : Type 0} {G : Ghosts S} {old new : System S G} {call : Command} {result : Result Reply CallError} (steps : Bool) → Handles false old new call result → Handles steps old new call result
-any_steps steps told = record {
-  counted = told.counted;
-  no_fault = told.no_fault;
-  asks = λ is. absurd (false≢true (told.asks is).asked);
-  laid = told.laid;
-  epoch = told.epoch;
-  runs = told.runs;
-  refused = told.refused;
-  kept = told.kept;
-  serves = told.serves;
-  done = told.done;
-  broken = told.broken;
-  sure = told.sure;
-  full = told.full;
-  short = told.short;
-  damaged = told.damaged;
-}

@@ -1,6 +1,5 @@
 -- The images of a system that serves a state open to it.
 use Rattle.std.proofs.Common.{◌≡◌, inl, inr, ℕ, ◌*◌, List, Option, Some, None, refl, ap, sym, subst, ◌∙◌, arith}
-use Rattle.std.specs.BTreeMap.{BTreeMap}
 use Rattle.station.specs.Images.{Images, Sector}
 use Rattle.station.specs.Moments.{Meaning, EachCut}
 use Rattle.station.proofs.Moments.{each_unchanged}
@@ -13,7 +12,7 @@ use Rattle.model.specs.Records.{without_nameless}
 use Rattle.model.specs.States.{State, Forgets, going}
 use Rattle.model.specs.Trees.{Description, Tree}
 use Rattle.model.specs.Volumes.{Volume, IsVolume, tree_of}
-use Rattle.buffers.specs.declared.block.Block.{Block}
+use Rattle.buffers.specs.declared.kept.Kept.{Kept}
 use Rattle.blockmap.specs.Maps.{entry_at, settled_at}
 use Rattle.blockmap.specs.declared.map.BlockMap.{BlockMap}
 use Rattle.inofile.specs.Volumes.{IsVolumeOf}
@@ -31,6 +30,7 @@ use Rattle.system.specs.Images.{Base, IsLeft, IsUnder, Lasts, OpensTo}
 use Rattle.system.specs.Laws.{CutLaws}
 use Rattle.system.specs.Memory.{HasEntries, HasEntriesToCome, IsInMemory}
 use Rattle.system.specs.Systems.{Parts, IsComing, IsServing, disk_over, state_with}
+use Rattle.system.specs.Views.{ShowsSnapshot}
 use Rattle.system.specs.UnderWay.{IsUnderWay, Way}
 
 -- memory over the tree of a root
@@ -93,7 +93,7 @@ module _ {m : Meaning} {k : Parts} {table : ℕ → Option Description} {s : Sta
   ]
 
   -- where nothing was done but reading, and objects came into memory
-  abbrev pub read_into : (new : Meaning) (now_kept : BTreeMap ℕ Block) (now_laid : Option Laid) (now_inodes : InodeFile) (now_map : BlockMap) → ReadsOver m new k.laid now_laid
+  abbrev pub read_into : (new : Meaning) (now_kept : Kept) (now_laid : Option Laid) (now_inodes : InodeFile) (now_map : BlockMap) → ReadsOver m new k.laid now_laid
       → ((disk : ℕ → List ℕ) → ShowsOver m k.kept k.laid disk → ShowsOver new now_kept now_laid disk)
       → ((v : Volume) → OverRoot (blocks_of (disk_over k m.seen.disk)) k.root k.inodes v → OverRoot (blocks_of (disk_over k m.seen.disk)) k.root now_inodes v)
       → now_inodes.geometry ≡ k.inodes.geometry → NeedsNoMore k.inodes now_inodes
@@ -116,6 +116,7 @@ module _ {m : Meaning} {k : Parts} {table : ℕ → Option Description} {s : Sta
           stands = stays serves.running serves.memory.stands;
           volume = serves.memory.volume;
         });
+        view = subst (λ (d : ℕ → Sector). ShowsSnapshot (blocks_of d) k.root.geometry.blocks serves.snapshots k.view) disk serves.view;
         settled = serves.settled;
         lasts = serves.lasts;
         left = each_unchanged m new (IsLeft serves.settled.root k.log serves.lasts.bodies serves.settled.disk) reads.below.same serves.left reads.below.goes;
@@ -139,7 +140,7 @@ module _ {m : Meaning} {k : Parts} {table : ℕ → Option Description} {s : Sta
       }
 
   -- where none did, and no point is under way
-  abbrev pub read_on : k.laid ≡ None → (new : Meaning) (now_kept : BTreeMap ℕ Block) (now_laid : Option Laid) (now_map : BlockMap) → ReadsOver m new k.laid now_laid
+  abbrev pub read_on : k.laid ≡ None → (new : Meaning) (now_kept : Kept) (now_laid : Option Laid) (now_map : BlockMap) → ReadsOver m new k.laid now_laid
       → ((disk : ℕ → List ℕ) → ShowsOver m k.kept k.laid disk → ShowsOver new now_kept now_laid disk)
       → ((b : ℕ) → settled_at now_map.parts.items b ≡ settled_at k.map.parts.items b) → IsServing new (record k { kept = now_kept; laid = now_laid; map = now_map }) table s
   read_on none new now_kept now_laid now_map reads shows entries =

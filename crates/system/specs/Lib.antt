@@ -5,6 +5,7 @@ pub mod Images
 pub mod Memory
 pub mod Plans
 pub mod UnderWay
+pub mod Views
 pub mod Systems
 pub mod Points
 pub mod Laws

@@ -54,8 +54,6 @@ pub record MemoryFitsRoot (r : Root) (p : Mounted) : Type 0 where
   pub half : p.log.half ≡ r.geometry.half
   pub sizes : p.inodes.geometry ≡ r.geometry
   pub count : p.map.count ≡ r.geometry.blocks
-  pub clean : IsClean p.map
-  pub fresh : p.map.next ≡ 2
   pub runs : IsFalse p.log.is_stopped
   pub few : p.pledged < 2 ^ 32
 

@@ -139,7 +139,8 @@ pub record AsksForStep {S : Type 0} {G : Ghosts S} (steps : Bool) (old new : Sys
   pub root : new.root ≡ old.root
   pub changes : (s : State) → ServesState old s → WouldChange s call
 
--- What a call does to a system with no step of a consistency point, where it may ask for one or not. A sure one is answered, and a refused one logs nothing.
+-- What a call does to a system with no step of a consistency point, where it may ask for one or not. A sure one is answered,
+-- and a refused one logs nothing; it moves the log's end by no step that is due, and stops the log where a write fails.
 pub record Handles {S : Type 0} {G : Ghosts S} (steps : Bool) (old new : System S G) (call : Command)
     (result : Result Reply CallError) : Type 0 where
   pub counted : Counted (meaning_of old) (meaning_of new) (call_failed old.log.is_stopped result)
@@ -149,6 +150,8 @@ pub record Handles {S : Type 0} {G : Ghosts S} (steps : Bool) (old new : System 
   pub epoch : new.log.epoch ≡ old.log.epoch
   pub runs : IsFalse old.log.is_stopped → MatchResult result
       (λ _. IsFalse new.log.is_stopped) (λ e. e ≢ NotWritten → IsFalse new.log.is_stopped)
+  pub stops : IsErrOf result NotWritten → IsTrue new.log.is_stopped
+  pub waits : IsTrue steps → old.blocks.laid ≢ None → new.log.end ≡ old.log.end
   pub refused : (errno : Errno) → result ≡ Ok (Refused errno)
       → Goes Unchanged (meaning_of old) (meaning_of new)
   pub kept : IfErr result (λ e. e ≢ NotWritten → Goes Unchanged (meaning_of old) (meaning_of new))

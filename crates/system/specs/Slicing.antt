@@ -59,6 +59,7 @@ pub record IsLaid {S : Type 0} {G : Ghosts S} (step : SnapshotStep) (old new : S
   pub under : IsUnder new.slot new.root serves.running (kept_after step serves.first serves.snapshots) (disk_of new)
   pub shows : ShowsOver (meaning_of new) new.blocks.buffers.kept new.blocks.laid (blocks_of (disk_of new))
   pub memory : IsInMemory (blocks_of (disk_of new)) new.root new.inodes serves.running
+  pub viewless : new.view ≡ None
   pub entries : HasEntries (whole (blocks_of (meaning_of old).seen.disk) old.root).active new.map
   pub to_come : HasEntriesToCome (whole (blocks_of (disk_of new)) new.root).active new.map
   pub newer : (g : ℕ) (bodies : Bodies) (nvram : List ℕ) → old.log.epoch ≡ g + 1 → StandsAt old.log g bodies nvram
@@ -159,20 +160,23 @@ pub record IsFulfilled {S : Type 0} {G : Ghosts S} (old new : System S G) (s : S
   pub done : IsCalled between new s served call reply
   pub leaves : LeavesEither (meaning_of old) (meaning_of new) s done.after
 
--- What a call does to a system: all that is promised of it. A step of a consistency point may come before its record, and what it serves
--- stays by that. A sure call is answered, and a refused one logs nothing.
+-- What a call does to a system: all that is promised of it. A step of a consistency point may come before its record, and comes where
+-- one is under way; what the system serves stays by that. A sure call is answered, and a refused one logs nothing, nor does one whose
+-- step failed: after that the log hasn't stopped.
 pub record Fulfils {S : Type 0} {G : Ghosts S} (old new : System S G) (call : Command) (result : Result Reply CallError) : Type 0 where
   pub counted : Counted (meaning_of old) (meaning_of new) (beside_reads (call_failed old.log.is_stopped result))
   pub no_fault : IfOk result TellsNoFault
   pub own : IsErrOf result StepDue → ⊥
   pub step : MatchResult result (λ _. MayStep old.blocks.laid new.blocks.laid)
       (λ e. e ≢ NotWritten → MayStep old.blocks.laid new.blocks.laid)
+  pub comes : old.blocks.laid ≢ None → IfOk result (λ _. new.log.end ≢ old.log.end → StepsOn old.blocks.laid new.blocks.laid)
   pub epoch : AgesBy 1 old.log.epoch new.log.epoch
   pub calm : HasEmptyLog old → new.log.epoch ≡ old.log.epoch
   pub runs : IsFalse old.log.is_stopped → MatchResult result
       (λ _. IsFalse new.log.is_stopped) (λ e. e ≢ NotWritten → IsFalse new.log.is_stopped)
   pub refused : (errno : Errno) → result ≡ Ok (Refused errno) → LogsNothing (meaning_of old) (meaning_of new)
   pub kept : IfErr result (λ e. e ≢ NotWritten → LogsNothing (meaning_of old) (meaning_of new))
+  pub unlogged : IsErrOf result NotWritten → IsFalse new.log.is_stopped → LogsNothing (meaning_of old) (meaning_of new)
   pub stays : (s : State) → ServesState old s → IfErr result (λ e. e ≢ NotWritten
       → ServesState new s × LeavesOnly (meaning_of old) (meaning_of new) (OpensTo (meaning_of old) s))
   pub done : (s : State) → ServesState old s → IfOk result (IsFulfilled old new s call)

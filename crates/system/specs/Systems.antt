@@ -1,6 +1,5 @@
 -- What a mounted system stands for.
 use Rattle.std.specs.Prelude.{ℕ, ◌≡◌, ◌⊎◌, ◌≤◌, List, Option, Some, None, IsFalse}
-use Rattle.std.specs.BTreeMap.{BTreeMap}
 use Rattle.station.specs.Moments.{EachCut, Meaning}
 use Rattle.station.specs.declared.station.Station.{Ghosts}
 use Rattle.layout.specs.Places.{blocks_of}
@@ -10,7 +9,7 @@ use Rattle.model.specs.Records.{Change}
 use Rattle.model.specs.States.{State, going}
 use Rattle.model.specs.Trees.{Tree, Description}
 use Rattle.model.specs.Volumes.{Volume, IsMounted, tree_of}
-use Rattle.buffers.specs.declared.block.Block.{Block}
+use Rattle.buffers.specs.declared.kept.Kept.{Kept}
 use Rattle.blockmap.specs.declared.map.BlockMap.{BlockMap}
 use Rattle.inofile.specs.Room.{memory_room}
 use Rattle.inofile.specs.declared.inode_file.InodeFile.{InodeFile}
@@ -26,6 +25,8 @@ use Rattle.overlay.specs.declared.laid.Laid.{Laid}
 use Rattle.system.specs.Images.{Base, IsLeft, IsUnder, Lasts}
 use Rattle.system.specs.Memory.{HasEntries, HasEntriesToCome, IsInMemory}
 use Rattle.system.specs.UnderWay.{IsUnderWay}
+use Rattle.system.specs.Views.{ShowsSnapshot}
+use Rattle.system.specs.declared.snapshot_reading.View.{View}
 use Rattle.system.specs.declared.system.System.{System}
 
 -- the meaning of a system's station
@@ -38,14 +39,15 @@ state_with inodes running table snapshots =
     record { inodes = inodes; tree = tree_of running table; snapshots = snapshots; mark = going }
 
 -- What a system has beside its station: blocks that it keeps clean in memory, the consistency point that is under way, the root that
--- memory stands on with the slot of that, objects and the block map in memory, the log's end, what is pledged and what of it stays so
+-- memory stands on with the slot of that, objects and the block map in memory, the view of a snapshot, the log's end, what is pledged and what of it stays so
 -- behind the point, and the open files.
 pub record Parts : Type 0 where
-  pub kept : BTreeMap ℕ Block
+  pub kept : Kept
   pub laid : Option Laid
   pub root : Root
   pub slot : ℕ
   pub inodes : InodeFile
+  pub view : Option View
   pub map : BlockMap
   pub log : LogEnd
   pub pledged : ℕ
@@ -60,6 +62,7 @@ system_parts f = record {
   root = f.root;
   slot = f.slot;
   inodes = f.inodes;
+  view = f.view;
   map = f.map;
   log = f.log;
   pledged = f.pledged;
@@ -96,7 +99,7 @@ pub record IsComing (m : Meaning) (log : LogEnd) (laid : Option Laid) (root : Ro
 -- What a system has serves a state, over an honest station. Memory stands for the running volume, which is the state's tree, over a
 -- disk that holds a volume under the newest root, and needs no more than is pledged; and whatever a cut may leave has the disk that is
 -- settled, and the records from there on: the same disk, or the one that a point under way leads on from. What the map has settled is
--- that disk's. The open files are the state's, each with its size and its links.
+-- that disk's. The view of a snapshot is of its tree. The open files are the state's, each with its size and its links.
 pub record IsServing (m : Meaning) (k : Parts) (table : ℕ → Option Description) (s : State) : Type 0 where
   pub honest : m.is_honest
   pub shows : ShowsOver m k.kept k.laid (blocks_of (disk_over k m.seen.disk))
@@ -106,6 +109,7 @@ pub record IsServing (m : Meaning) (k : Parts) (table : ℕ → Option Descripti
   pub running : Volume
   pub mounted : IsMounted running table
   pub memory : IsInMemory (blocks_of (disk_over k m.seen.disk)) k.root k.inodes running
+  pub view : ShowsSnapshot (blocks_of (disk_over k m.seen.disk)) k.root.geometry.blocks snapshots k.view
   pub settled : Base
   pub lasts : Lasts settled snapshots k.pledged running
   pub left : EachCut m (IsLeft settled.root k.log lasts.bodies settled.disk)

@@ -77,6 +77,8 @@ impl<S: Station> System<S> {
             Ok((laid, file)) => {
                 self.blocks.lay(laid);
                 self.inodes.settle(file);
+                // The snapshots may be others under its root.
+                self.view = None;
                 self.root = root;
                 self.slot = slot;
                 self.log.go_on(generation.epoch_after(1));

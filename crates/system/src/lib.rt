@@ -7,6 +7,7 @@ mod error;
 mod file_change;
 mod laws;
 mod laying;
+mod letting_go;
 mod logging;
 mod open_error;
 mod open_file_change;

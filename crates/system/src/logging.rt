@@ -1,6 +1,6 @@
 //! Records put into the log of a mounted system.
 
-ghost use Rattle.std.specs.Prelude.{◌≡◌, ◌≢◌, ◌⊎◌, ◌+◌, ◌∷◌, ◌++◌, [], ℕ, Option, OnOk, OnErr, IfErr, IsErrOf, IsFalse, IsTrue, length, true};
+ghost use Rattle.std.specs.Prelude.{◌≡◌, ◌≢◌, ◌⊎◌, ◌+◌, ◌∷◌, ◌++◌, [], ℕ, Option, OnOk, OnErr, IfErr, IsErrOf, IsFalse, IsTrue, None, length, true};
 ghost use Rattle.station.specs.Calls.{OnlyWrites};
 ghost use Rattle.station.specs.Moments.{LeavesOnly};
 ghost use Rattle.layout.specs.Record.{KeepsLimits, change_of};
@@ -113,6 +113,9 @@ impl<S: Station> System<S> {
         ensures laid { self.new.blocks.laid ≡ self.old.blocks.laid }
         ensures due { IsErrOf result CallError.StepDue
             → IsTrue steps × IsStepDue self.old × (self.new ≡ self.old) }
+        ensures stops { IsErrOf result CallError.NotWritten → IsTrue self.new.log.is_stopped }
+        ensures waits { IsTrue steps → self.old.blocks.laid ≢ None
+            → self.new.log.end ≡ self.old.log.end }
         ensures full { IsErrOf result CallError.LogFull
             → (self.old.log.epoch ≢ self.old.root.generation + 1)
             ⊎ (HasRoomInHalf self.old.log (length (logged_body (change_of change.now))) → ⊥) }

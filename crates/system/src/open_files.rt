@@ -1,6 +1,6 @@
 //! Calls on descriptors, served on a mounted system.
 
-ghost use Rattle.std.specs.Prelude.{IsTrue, false};
+ghost use Rattle.std.specs.Prelude.{Bool, IsTrue};
 ghost use Rattle.system.specs.OpenFiles.{is_logging_call, is_looking_call, is_table_call};
 ghost use Rattle.system.specs.Serving.{Handles, IsOpenFileCall};
 
@@ -38,7 +38,7 @@ impl<S: Station> System<S> {
     // Answers a call that looks at the table of open files alone: no memory is taken, and no device is called.
     fn answer_at_once(&mut self, call: &Command) -> Reply
         requires { IsTrue (is_table_call call.now) }
-        ensures { Handles false self.old self.new call.now (Ok result) }
+        ensures { (steps : Bool) → Handles steps self.old self.new call.now (Ok result) }
     {
         served_states_open(self);
         answer_from_table(&mut self.files, call)
@@ -47,7 +47,7 @@ impl<S: Station> System<S> {
     // Answers a call that only reads a file.
     fn look_at_open_file(&mut self, call: &Command) -> Result<Reply, CallError>
         requires { IsTrue (is_looking_call call.now) }
-        ensures { Handles false self.old self.new call.now result }
+        ensures { (steps : Bool) → Handles steps self.old self.new call.now result }
     {
         served_states_open(self);
         let outcome = read_open_file(
@@ -63,7 +63,7 @@ impl<S: Station> System<S> {
     // Frees a descriptor. A file that it leaves with neither name nor descriptor goes from memory; the image keeps it until the
     // next consistency point.
     fn close_file(&mut self, fd: u32) -> Result<Reply, CallError>
-        ensures { Handles false self.old self.new (Command.Close fd) result }
+        ensures { (steps : Bool) → Handles steps self.old self.new (Command.Close fd) result }
     {
         served_states_open(self);
         records_lead_on();

@@ -183,6 +183,7 @@ fn open_found<S: Station>(
                 root: newest.root,
                 slot: newest.slot,
                 inodes,
+                view: None,
                 map,
                 log,
                 pledged,

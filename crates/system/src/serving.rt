@@ -1,6 +1,6 @@
 //! Calls that a consistency point isn't part of, served on a mounted system.
 
-ghost use Rattle.std.specs.Prelude.{◌≡◌, IsFalse, IsTrue, false};
+ghost use Rattle.std.specs.Prelude.{◌≡◌, Bool, IsFalse, IsTrue};
 ghost use Rattle.model.specs.Steps.{is_reading_call};
 ghost use Rattle.system.specs.Answering.{answer_to};
 ghost use Rattle.system.specs.Errors.{call_error, log_error};
@@ -100,7 +100,7 @@ impl<S: Station> System<S> {
     // Answers a call that only reads.
     fn look(&mut self, call: &PathCall) -> Result<Reply, CallError>
         requires { IsTrue (is_reading_call call.now) }
-        ensures { Handles false self.old self.new (Command.Path call.now) result }
+        ensures { (steps : Bool) → Handles steps self.old self.new (Command.Path call.now) result }
     {
         served_states_open(self);
         answer(read(self.alloc, &mut self.inodes, &mut self.blocks, call))

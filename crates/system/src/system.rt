@@ -8,6 +8,7 @@ ghost use Rattle.records.specs.Opened.{HasNumbers};
 ghost use Rattle.replay.specs.declared.costs.TheConstants.{MOST_COST};
 ghost use Rattle.system.specs.Props.{IsRoot-prop};
 
+use crate::snapshot_reading::View;
 use blockmap::BlockMap;
 use descriptors::Descriptors;
 use inofile::InodeFile;
@@ -28,6 +29,8 @@ pub struct System<S: Station> {
     /// The sector of the slot that it stands in.
     pub(crate) slot: u32,
     pub(crate) inodes: InodeFile,
+    /// The view of a snapshot that was loaded last, until the next consistency point.
+    pub(crate) view: Option<View>,
     pub(crate) map: BlockMap,
     pub(crate) log: Log,
     /// Blocks that a consistency point may store for what the newest root doesn't cover.

@@ -12,7 +12,7 @@ use mount::{MakeError, make};
 use station::{SECTOR_BYTES, Station};
 use std::alloc::Global;
 use std::fs::{File, OpenFile};
-use std::io::{Read, Seek, Write};
+use std::os::unix::fs::FileExt;
 use std::rt::Files;
 
 /// Makes an empty image on two new files, which then replace those of these names, unless another program holds a lock on one of
@@ -57,7 +57,7 @@ fn make_files<'a, R: Files<File = File> + AllocGlobal>(
 }
 
 /// Makes an empty image on two empty files, and syncs them.
-fn make_on<'a, F: Read + Write + Seek + OpenFile + Drop>(
+fn make_on<'a, F: FileExt + OpenFile + Drop>(
     alloc: Global,
     image: Image<'a>,
     disk: F,

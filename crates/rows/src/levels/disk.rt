@@ -5,7 +5,7 @@ use layout::BLOCK_BYTES;
 use memory_station::Sim;
 use std::alloc::{AllocError, Global};
 
-const BLOCKS: u8 = 64;
+const BLOCKS: u8 = 210;
 
 /// A disk of zeros up to block 7; block b from there on is full of the letter with the code 65 + b % 26.
 pub fn made_disk(alloc: Global) -> Result<Vec<u8>, AllocError> {

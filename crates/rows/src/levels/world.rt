@@ -42,6 +42,7 @@ impl World {
                 .buffers
                 .station
                 .fail_at(rest.parse::<u32>().unwrap_or(0)),
+            "let_go" => self.buffers.let_go(),
             _ => return Ok(file_row(alloc, &mut self.buffers, &mut self.file, word, rest)?),
         }
         Ok(String::from_str(alloc, "ok")?)

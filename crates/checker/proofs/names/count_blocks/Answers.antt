@@ -24,7 +24,7 @@ loop-i-init g c = record {
   goes = goes_none _ _;
   counted = λ disk r t e count shows same file start. (
     record { names = e; rows = λ i. []; has = rows_none r.geometry.inodes (file_block (t c.args.directory)) c.args.directory e start.none; way = start.way },
-    knows_none (λ n. n.items) c.new-names.result (e c.args.directory) c.new-names.ensures.empty start.none,
+    knows_none (λ n. n.0.items) c.new-names.result (e c.args.directory) c.new-names.ensures.empty start.none,
   );
   sound = λ disk shows i low. absurd (omega (arith, low));
 }

@@ -16,6 +16,6 @@ invariant-loop-i g l = record {
       → HasFile (g.B.Blocks.count l.fn.blocks) disk l.file (t l.directory)
       → IsToCount r.geometry t l.directory e count l.fn.found.items l.fn.table.items
       → (h : HasCountedRows r.geometry t l.directory l.i (file_block (t l.directory)) e count l.found.items l.table.items)
-      × KnowsNames l.names (λ n. n.items) (h.names l.directory);
+      × KnowsNames l.names (λ n. n.0.items) (h.names l.directory);
   sound : (disk : ℕ → List ℕ) → g.B.Blocks.Shows l.fn.blocks disk → (i : ℕ) → i < l.i → IsSoundAt (g.B.Blocks.count l.fn.blocks) disk l.file.tree i;
 }

@@ -88,6 +88,26 @@ returns-in_err-mark_node-clause-marked g t c disk h shows at nodes =
     c.saturating_mul-first.result c.loop-r.r c.saturating_add.result c.bytes-stored.result.now c.indirect_pointer-below.result first r index c.indirect_pointer-below.ensures (c.bytes-stored.ensures disk shown))
     (λ m i lt. nodes m i (omega (arith, lt))))
 
+pub loop-r-preserved-then-is_leaf : goal.loop-r-preserved-then-is_leaf
+loop-r-preserved-then-is_leaf g t c =
+    let r : c.loop-r.r < 1024 = omega (arith, c.loop-r-test.true, c.min-r-end.ensures) in
+    let first = first_exact c.count.result c.used_below-used.result c.saturating_mul-first.result c.args.node.index c.bytes-stored.result.now (c.is_indirect.ensures.0 c.if-not-is_indirect.false)
+    c.saturating_mul-first.ensures c.used_below-used.ensures.low in
+    let index : c.saturating_add.result ≡ c.saturating_mul-first.result + c.loop-r.r = omega (arith, first, c.saturating_add.ensures, c.used_below-used.ensures.low (omega (arith, c.loop-r-test.true, c.min-r-end.ensures)), c.loop-r-test.true, c.min-r-end.ensures) in
+    let before = c.loop-r.invariant in
+    record {
+      looked = before.looked;
+      keeps = keeps_more before.keeps c.mark_leaf.ensures.keeps;
+      marked = λ disk h shows at nodes.
+          among_more (g.B.Blocks.count c.read_block.new.blocks) (g.B.Blocks.count c.loop-r.blocks) c.args.node.number c.args.count c.args.bits disk h (c.args.node.height - 1) c.saturating_mul-first.result
+          (c.saturating_mul-first.result + c.loop-r.r) c.saturating_add.result (c.saturating_mul-first.result + (c.loop-r.r + 1)) c.mark_block-before.new.marks c.loop-r.marks c.mark_leaf.new.marks c.mark_block-before.new.shared.of c.loop-r.shared.of c.mark_leaf.new.shared.of before.looked.count (omega arith) index (omega arith) c.mark_leaf.ensures.keeps.kept
+          (before.marked disk h shows at nodes)
+          (c.mark_leaf.ensures.marked (g.B.Blocks.count c.loop-r.blocks) c.args.count disk h
+          (child_place (g.B.Blocks.count c.args.blocks.now) disk h c.args.node (c.args.node.height - 1) c.used_below-used.result c.in-Block.place c.args.count c.if-node-eq0.false refl (at ∙ c.in-Block.is) nodes c.used_below-used.ensures.used
+          c.saturating_mul-first.result c.loop-r.r c.saturating_add.result c.bytes-stored.result.now c.indirect_pointer-below.result first r index c.indirect_pointer-below.ensures (c.bytes-stored.ensures disk shows))
+          (λ m i lt. nodes m i (omega (arith, lt))));
+    }
+
 pub loop-r-preserved : goal.loop-r-preserved
 loop-r-preserved g t c =
     let r : c.loop-r.r < 1024 = omega (arith, c.loop-r-test.true, c.min-r-end.ensures) in

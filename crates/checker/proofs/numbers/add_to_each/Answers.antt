@@ -2,7 +2,8 @@ use Rattle.std.proofs.Common.{◌≡◌, ◌∙◌, ◌+◌, ◌<◌, Vec, Globa
 use Rattle.std.specs.Prelude.{Some, slice_get}
 use Rattle.images.specs.BlockMap.{HasBit}
 use Rattle.checker.specs.declared.tree.Tree.{Tree}
-use Rattle.checker.proofs.EachLaws.{Each, each_all, each_same, each_set, get_at, some_of}
+use Rattle.model.proofs.OptionLaws.{some_same}
+use Rattle.checker.proofs.EachLaws.{Each, each_all, each_same, each_set, get_at}
 use Rattle.checker.proofs.RowLaws.{Adds, adds_in, adds_not, keeps}
 use Rattle.checker.proofs.numbers.add_to_each.Goals as goal
 use Rattle.checker.proofs.numbers.add_to_each.Goals.{then-is_among, else-is_among}
@@ -15,7 +16,7 @@ loop-k-preserved c =
     elim c.if-is_among.branch [
       | then-is_among w ↦
           let here : slice_get c.loop-k.trees.items c.loop-k.k ≡ Some w.index_mut.result.now = get_at c.loop-k.trees.items c.loop-k.k w.index_mut.result.now lt w.index_mut.ensures.value in
-          let bit : HasBit w.index_mut.result.now.plane c.args.bits = subst (λ (t : Tree). HasBit t.plane c.args.bits) (some_of (sym at ∙ here)) ((c.is_among.ensures).0 w.if-is_among.true) in
+          let bit : HasBit w.index_mut.result.now.plane c.args.bits = subst (λ (t : Tree). HasBit t.plane c.args.bits) (some_same (sym at ∙ here)) ((c.is_among.ensures).0 w.if-is_among.true) in
           subst (λ (v : Vec Tree Global). Each (Adds c.args.bits c.args.fault) (c.loop-k.k + 1) c.args.trees.now.items v.items) (sym w.trees-is)
           (each_set (Adds c.args.bits c.args.fault) c.loop-k.k c.args.trees.now.items c.loop-k.trees.items w.index_mut.result.now w.add.new.self c.loop-k.invariant lt here
           (adds_in c.args.bits c.args.fault c.loop-k.k w.index_mut.result.now w.add.new.self bit w.add.ensures))

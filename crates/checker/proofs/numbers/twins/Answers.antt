@@ -3,7 +3,8 @@ use Rattle.std.specs.Prelude.{Some, slice_get}
 use Rattle.checker.specs.Rows.{rows_of}
 use Rattle.checker.specs.Trees.{IsOut}
 use Rattle.checker.specs.declared.tree.Tree.{Tree}
-use Rattle.checker.proofs.EachLaws.{get_at, some_of}
+use Rattle.model.proofs.OptionLaws.{some_same}
+use Rattle.checker.proofs.EachLaws.{get_at}
 use Rattle.checker.proofs.TwinLaws.{AreTwinsTo, one_more, twins_end, twins_more, twins_skip, twins_start}
 use Rattle.checker.proofs.numbers.twins.Goals as goal
 use Rattle.checker.proofs.numbers.twins.Goals.{then-not-is_out+then-are_twins, else-not-is_out, else-not-is_out-via-then-not-is_out+else-are_twins, else-not-is_out-via-else-not-is_out}
@@ -23,7 +24,7 @@ loop-l-preserved c =
           let here : slice_get c.args.trees.now.items c.loop-l.l ≡ Some w.index-then-are_twins.result.now = get_at c.args.trees.now.items c.loop-l.l w.index-then-are_twins.result.now lt w.index-then-are_twins.ensures in
           subst (λ (n : ℕ). AreTwinsTo c.args.trees.now.items (rows_of c.args.rows.now) c.args.k c.args.place n (c.loop-l.l + 1)) (sym w.bits-is)
           (twins_more c.args.trees.now.items (rows_of c.args.rows.now) c.args.k c.args.place c.loop-l.bits (bit_or c.loop-l.bits w.bit-bits-then-are_twins.result) c.loop-l.l w.index-then-are_twins.result.now c.loop-l.invariant after here
-          (subst (λ (t : Tree). IsOut t.fault → ⊥) (some_of (sym at ∙ here)) (λ out. let yes = (c.is_out.ensures).1 out in let is_not = w.if-not-is_out.true in cc))
+          (subst (λ (t : Tree). IsOut t.fault → ⊥) (some_same (sym at ∙ here)) (λ out. let yes = (c.is_out.ensures).1 out in let is_not = w.if-not-is_out.true in cc))
           ((w.are_twins.ensures).0 w.if-are_twins.true)
           (one_more c.loop-l.bits w.bit-bits-then-are_twins.result w.index-then-are_twins.result.now.plane w.bit-bits-then-are_twins.ensures))
       | else-not-is_out w ↦

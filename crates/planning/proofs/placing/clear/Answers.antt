@@ -13,7 +13,7 @@ pub returns-clause-cleared : goal.returns-clause-cleared
 returns-clause-cleared g c = λ s disk shows file e has same.
     let none : (i : ℕ) → file_block disk c.set_size.new.self i ≡ zeros 4096 = λ i. c.set_size.ensures.blocks disk i ∙ cut_off i (file_block disk c.in_ok-file.file i) in
     let mode : c.unwrap.result ≡ 0 = search rules in
-    let o : Object = record { attributes = record { kind = kinds.Free; mode = c.unwrap.result; links = 0 }; file = c.set_size.new.self } in
+    let o : Object = record { attributes = record { kind = kinds.Free; mode = c.unwrap.result; links = 0 }; file = c.set_size.new.self; known = c.new-known.result } in
     let change : IsChangeOf s c.args.draft.now disk c.args.settled o =
     cleared_change s c.args.draft.now disk c.args.settled o file c.in_ok-file.file.tree c.in_ok-file.ensures.settled c.set_size.ensures.settled refl mode refl c.set_size.ensures.size none in
     is_cleared s c.args.draft.now disk c.args.settled o file c.in_ok-file.file.tree c.in_ok-file.ensures.settled c.set_size.ensures.settled refl mode refl c.set_size.ensures.size none e _ _ _
@@ -23,7 +23,7 @@ pub returns-in_err-placed-clause-damaged : goal.returns-in_err-placed-clause-dam
 returns-in_err-placed-clause-damaged g c = λ s disk shows file bad.
     let none : (i : ℕ) → file_block disk c.set_size.new.self i ≡ zeros 4096 = λ i. c.set_size.ensures.blocks disk i ∙ cut_off i (file_block disk c.in_ok-file.file i) in
     let mode : c.unwrap.result ≡ 0 = search rules in
-    let o : Object = record { attributes = record { kind = kinds.Free; mode = c.unwrap.result; links = 0 }; file = c.set_size.new.self } in
+    let o : Object = record { attributes = record { kind = kinds.Free; mode = c.unwrap.result; links = 0 }; file = c.set_size.new.self; known = c.new-known.result } in
     c.in_err-placed.ensures.damaged s disk c.args.settled shows
     (cleared_change s c.args.draft.now disk c.args.settled o file c.in_ok-file.file.tree c.in_ok-file.ensures.settled c.set_size.ensures.settled refl mode refl c.set_size.ensures.size none) (search rules)
 

@@ -6,7 +6,7 @@ use Rattle.paths.proofs.Looks.{looks_err, looks_more}
 use Rattle.records.specs.Contents.{RewriteRoom, RewritesIn, bytes_after}
 use Rattle.records.proofs.BlockLaws.{parts_read, reads_sound}
 use Rattle.records.proofs.ContentLaws.{told_both}
-use Rattle.records.proofs.EnterLaws.{object_or_none}
+use Rattle.paths.proofs.Objects.{object_or_none}
 use Rattle.records.proofs.StandLaws.{stands_over}
 use Rattle.records.proofs.contents.plan_number.Goals as goal
 

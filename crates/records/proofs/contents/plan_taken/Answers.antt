@@ -4,7 +4,7 @@ use Rattle.inofile.specs.Settled.{content_of_object}
 use Rattle.records.specs.Contents.{rewrite_room}
 use Rattle.images.specs.Soundness.{by_bytes, by_sizes}
 use Rattle.records.proofs.KindLaws.{not_file}
-use Rattle.records.proofs.EnterLaws.{same_object}
+use Rattle.paths.proofs.Objects.{same_object}
 use Rattle.records.proofs.contents.plan_taken.Goals as goal
 
 pub returns-in_default-clause-same : goal.returns-in_default-clause-same

@@ -21,7 +21,7 @@ returns-in-Some-clause-edits c = λ detail disk inodes settled found f stands ed
     let o = subst (λ (x : Option Object). IsObjectOrNone detail disk inodes settled x found) c.in-Some.is stands in
     let e = subst (λ (x : Option Object). EditsIn disk inodes f found x c.args.edit) c.in-Some.is edits in
     let names = f e.names in
-    let after : Object = record { attributes = c.in-Some.directory.attributes; file = c.commit.new.file } in
+    let after : Object = record { attributes = c.in-Some.directory.attributes; file = c.commit.new.file; known = c.in-Some.directory.known } in
     record {
       kind = o.kind;
       mode = o.mode;
@@ -40,4 +40,4 @@ returns-in-Some-clause-edits c = λ detail disk inodes settled found f stands ed
 
 pub returns-in-Some-clause-room : goal.returns-in-Some-clause-room
 returns-in-Some-clause-room c =
-    raises_to (record { attributes = c.in-Some.directory.attributes; file = c.commit.new.file }) (2 * piece_count c.args.edit + 3) c.in-Some.is c.commit.ensures.few.room
+    raises_to (record { attributes = c.in-Some.directory.attributes; file = c.commit.new.file; known = c.in-Some.directory.known }) (2 * piece_count c.args.edit + 3) c.in-Some.is c.commit.ensures.few.room

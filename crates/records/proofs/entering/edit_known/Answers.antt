@@ -6,7 +6,7 @@ use Rattle.inofile.specs.Settled.{content_of_object}
 use Rattle.inofile.proofs.DetailLaws.{directory_readable}
 use Rattle.inofile.proofs.RoomLaws.{back_needs}
 use Rattle.records.specs.Entering.{PreparesEdit}
-use Rattle.records.proofs.EnterLaws.{object_or_none}
+use Rattle.paths.proofs.Objects.{object_or_none}
 use Rattle.records.proofs.StandLaws.{stands_over}
 use Rattle.records.proofs.entering.edit_known.Goals as goal
 

@@ -5,13 +5,14 @@ use Rattle.inofile.specs.Objects.{IsObjectOrNone, IsSameOrNone}
 use Rattle.inofile.specs.Settled.{content_of_object}
 use Rattle.records.specs.Entering.{IsDirectoryObject}
 use Rattle.inofile.proofs.DetailLaws.{by_size}
-use Rattle.records.proofs.EnterLaws.{directory_stands, edits_directory, found_directory, is_directory_object, same_object}
+use Rattle.records.proofs.EnterLaws.{directory_stands, edits_directory, found_directory, is_directory_object}
+use Rattle.paths.proofs.Objects.{same_object}
 use Rattle.records.proofs.entering.edit_object.Goals as goal
 
 pub returns-clause-same : goal.returns-clause-same
 returns-clause-same g c =
     let was : c.args.object.now ≡ Some c.in-Some.directory = sym c.take.ensures.value ∙ c.in-Some.is in
-    subst (λ (x : Option Object). IsSameOrNone x (Some (record { attributes = c.in-Some.directory.attributes; file = c.edit_file-edit.new.file }))) (sym was)
+    subst (λ (x : Option Object). IsSameOrNone x (Some (record { attributes = c.in-Some.directory.attributes; file = c.edit_file-edit.new.file; known = c.edit_file-edit.new.known }))) (sym was)
     (record { attributes = refl; file = c.edit_file-edit.ensures.same })
 
 pub returns-clause-fits : goal.returns-clause-fits
@@ -23,7 +24,7 @@ returns-clause-edits g c = λ detail disk settled found shows stands.
     let o = subst (λ (x : Option Object). IsObjectOrNone detail disk c.args.inodes settled x found) was stands in
     let kind = subst IsDirectoryObject was (c.is_directory.ensures.0 c.if-not-is_directory.false) in
     let d = directory_stands c.in-Some.directory.attributes.kind c.args.inodes (content_of_object disk c.in-Some.directory) found kind (by_size detail c.in-Some.directory.attributes.kind c.args.inodes (content_of_object disk c.in-Some.directory) found o.stands) in
-    edits_directory disk c.args.inodes found (record { attributes = c.in-Some.directory.attributes; file = c.edit_file-edit.new.file }) c.args.wanted.now d.0 kind d.2 c.edit_file-edit.result
+    edits_directory disk c.args.inodes found (record { attributes = c.in-Some.directory.attributes; file = c.edit_file-edit.new.file; known = c.edit_file-edit.new.known }) c.args.wanted.now d.0 kind d.2 c.edit_file-edit.result
     (c.edit_file-edit.ensures.edited disk d.0 shows d.1) c.edit_file-edit.ensures.pieces
 
 pub returns-clause-damaged : goal.returns-clause-damaged

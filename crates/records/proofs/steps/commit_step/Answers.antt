@@ -10,7 +10,7 @@ use Rattle.inofile.specs.Volumes.{IsVolumeIn}
 use Rattle.model.specs.Volumes.{Node, Volume, with_node}
 use Rattle.records.specs.Room.{UpdateRoom}
 use Rattle.records.specs.Steps.{FitsUpdate, Updates}
-use Rattle.records.proofs.EnterLaws.{object_or_none}
+use Rattle.paths.proofs.Objects.{object_or_none}
 use Rattle.records.proofs.RoomLaws.{counts_object}
 use Rattle.records.proofs.StandLaws.{stays_at_hand}
 use Rattle.records.proofs.steps.commit_step.Goals as goal

@@ -1,53 +1,35 @@
-use Rattle.std.proofs.Common.{rules, ◌≡◌, ◌∙◌, ℕ, Option, ap, sym, subst}
+use Rattle.std.proofs.Common.{rules, ◌∙◌, Option, ap, subst}
 use Rattle.std.proofs.lemmas.Result.{IfOk-weaker}
-use Rattle.layout.specs.Limits.{Sizes}
-use Rattle.loading.specs.Images.{inodes_of}
-use Rattle.images.specs.Roots.{whole}
-use Rattle.inofile.specs.Volumes.{IsVolumeOf}
-use Rattle.model.specs.Steps.{calls}
-use Rattle.model.specs.Room.{nothing}
-use Rattle.model.specs.Trees.{Tree}
-use Rattle.model.specs.Volumes.{IsVolume}
-use Rattle.paths.specs.Standing.{Stands}
+use Rattle.model.specs.Records.{without_nameless}
+use Rattle.model.specs.Volumes.{tree_of}
 use Rattle.records.specs.Failures.{told}
-use Rattle.snapshots.specs.Found.{FindsSnapshot, named}
-use Rattle.snapshots.specs.declared.finding.FoundSnapshot.{FoundSnapshot}
+use Rattle.snapshots.specs.Found.{named}
 use Rattle.system.specs.Answering.{answered_reply}
-use Rattle.system.proofs.ViewLaws.{closed, frozen_told, reading_viewed}
+use Rattle.system.specs.Views.{ShowsSnapshot}
+use Rattle.system.specs.declared.snapshot_reading.View.{View}
+use Rattle.system.proofs.ViewLaws.{closed, frozen_told, kept_view, reading_viewed, view_looked, view_stands}
 use Rattle.system.proofs.snapshot_reading.read_within.Goals as goal
 
-pub returns-clause-views : goal.returns-clause-views
-returns-clause-views g c = λ disk shows v pairs holds s same.
-    let r = c.args.root.now in
+pub returns-in-Some-clause-shows : goal.returns-in-Some-clause-shows
+returns-in-Some-clause-shows g c = λ disk shows v pairs holds shown.
+    let kept = c.keep_view.ensures in
+    let is = subst (λ (o : Option View). ShowsSnapshot disk c.args.root.now.geometry.blocks pairs o) c.in-Some.is (kept.shows disk shows v pairs holds shown) in
+    view_looked (kept.reads.same disk shows) (kept.reads.count ∙ c.requires.size) is c.read.new.blocks c.read.new.inodes (told c.read.result) c.read.ensures.tells.looks
+
+pub returns-in-Some-clause-views : goal.returns-in-Some-clause-views
+returns-in-Some-clause-views g c = λ disk shows v pairs holds shown s same.
+    let kept = c.keep_view.ensures in
     let name = c.args.name.now in
     let call = c.args.call.now in
-    let finds = subst (λ (o : Option FoundSnapshot). FindsSnapshot r disk name pairs o) c.in-Some.is (c.in_ok-found.ensures.finds disk shows v pairs holds) in
-    let (kept, hold, volume, is) = finds.1.frozen in
-    let t = (whole disk r).frozen c.in-Some.found.slot in
-    let next = c.find.ensures.reads.same disk shows in
-    let are = c.in_ok-inodes.ensures.views disk next v name pairs holds finds in
-    let count : g.B.Blocks.count c.view.new.blocks ≡ r.geometry.blocks = c.view.ensures.reads.count ∙ c.find.ensures.reads.count ∙ c.requires.size in
-    let stands : Stands g.B.Blocks disk (inodes_of t) kept c.view.new.blocks c.in_ok-inodes.inodes = record {
-      shows = c.view.ensures.reads.same disk next;
-      volume = subst (λ (n : ℕ). IsVolumeOf n disk (inodes_of t) c.in_ok-inodes.inodes kept) (sym count) (are.volume kept hold);
-    } in
+    let is = kept_view disk c.args.root.now.geometry.blocks pairs name c.keep_view.new.kept c.in_ok-is_there.is_there c.in-Some.view c.in-Some.is c.if-not-is_there.false
+    (c.in_ok-is_there.ensures.keeps disk shows v pairs holds shown) in
     IfOk-weaker (told c.read.result) _ _
-    (λ x answers. reading_viewed s name call (name, finds.1.tree) (answered_reply x) (ap (named name) same ∙ finds.1.listed) (search rules)
-    (subst (λ (u : Tree). calls s.inodes u call (answered_reply x) u nothing) (sym is)
-    (frozen_told c.mounts_forget_open_files.ensures c.reading_forgets_open_files.ensures r.geometry.inodes s.inodes kept call (answered_reply x) volume (search rules) (answers s.inodes))))
-    (c.read.ensures.tells.answers disk (inodes_of t) kept closed stands (subst (λ (x : Sizes). IsVolume x.inodes kept) (sym are.geometry) volume))
+    (λ x answers. reading_viewed s name call (name, tree_of (without_nameless is.volume) closed) (answered_reply x) (ap (named name) same ∙ is.listed) (search rules)
+    (frozen_told c.mounts_forget_open_files.ensures c.reading_forgets_open_files.ensures c.in-Some.view.inodes.geometry.inodes s.inodes is.volume call (answered_reply x) is.is (search rules) (answers s.inodes)))
+    (c.read.ensures.tells.answers disk is.settled is.volume closed (view_stands (kept.reads.same disk shows) (kept.reads.count ∙ c.requires.size) is) is.is)
 
-pub returns-clause-damaged : goal.returns-clause-damaged
-returns-clause-damaged g c = λ disk shows v pairs holds is.
-    let r = c.args.root.now in
-    let name = c.args.name.now in
-    let finds = subst (λ (o : Option FoundSnapshot). FindsSnapshot r disk name pairs o) c.in-Some.is (c.in_ok-found.ensures.finds disk shows v pairs holds) in
-    let (kept, hold, volume, tree) = finds.1.frozen in
-    let t = (whole disk r).frozen c.in-Some.found.slot in
-    let next = c.find.ensures.reads.same disk shows in
-    let are = c.in_ok-inodes.ensures.views disk next v name pairs holds finds in
-    let count : g.B.Blocks.count c.view.new.blocks ≡ r.geometry.blocks = c.view.ensures.reads.count ∙ c.find.ensures.reads.count ∙ c.requires.size in
-    c.read.ensures.tells.damaged disk (inodes_of t) kept (record {
-      shows = c.view.ensures.reads.same disk next;
-      volume = subst (λ (n : ℕ). IsVolumeOf n disk (inodes_of t) c.in_ok-inodes.inodes kept) (sym count) (are.volume kept hold);
-    }) is
+pub returns-in-Some-clause-damaged : goal.returns-in-Some-clause-damaged
+returns-in-Some-clause-damaged g c = λ disk shows v pairs holds shown bad.
+    let kept = c.keep_view.ensures in
+    let is = subst (λ (o : Option View). ShowsSnapshot disk c.args.root.now.geometry.blocks pairs o) c.in-Some.is (kept.shows disk shows v pairs holds shown) in
+    c.read.ensures.tells.damaged disk is.settled is.volume (view_stands (kept.reads.same disk shows) (kept.reads.count ∙ c.requires.size) is) bad

@@ -1,23 +1,29 @@
-use Rattle.std.proofs.Common.{◌≡◌, ◌≢◌, ℕ, ap, sym, ◌∙◌, arith}
-use Rattle.std.specs.Prelude.{slice_index}
-use Rattle.std.proofs.lemmas.List.{get_or-set_other}
-use Rattle.blockmap.specs.Parts.{Part}
-use Rattle.blockmap.proofs.MapLemmas.{plane_more}
+use Rattle.std.proofs.Common.{◌≡◌, ℕ, Vec, Global, List, true, false, length, slice_index, refl, ap, sym, subst, ◌∙◌, arith}
+use Rattle.std.specs.Prelude.{is_some, Option}
+use Rattle.std.specs.Option.{option_map}
+use Rattle.std.proofs.lemmas.List.{with_items_is}
+use Rattle.std.specs.Int.{bit_at}
+use Rattle.blockmap.specs.Bits.{SetsPlane}
+use Rattle.blockmap.specs.Parts.{Part, or_else}
+use Rattle.blockmap.proofs.BitLemmas.{plane_taken}
+use Rattle.blockmap.proofs.part.MapPart.take_set.Goals.{in-Some, in_default}
 use Rattle.blockmap.proofs.part.MapPart.take_set.Goals as goal
 
-pub loop-i-preserved : goal.loop-i-preserved
-loop-i-preserved c =
-    let so_far = c.loop-i.invariant in
-    let i = c.loop-i.i in
-    let first = c.args.self.now in
-    let old = c.loop-i.self in
-    let new = c.set.new.self in
-    let others : (b : ℕ) → b ≢ i → slice_index new.entries b ≡ slice_index old.entries b = λ b other.
-    ap (λ (p : Part). slice_index p.entries b) c.set.ensures.part ∙ get_or-set_other old.entries i b c.with_bit.result 0 other in
-    record {
-      part = c.set.ensures.part ∙ (λ k. record (so_far.part k) { entries = ap (λ (p : Part). p.entries) (sym c.set.ensures.part) k });
-      done = plane_more i c.args.set c.with_bit.result c.settled.result (slice_index first.settled) (slice_index first.entries) (slice_index old.entries) (slice_index new.entries)
-          so_far.done so_far.rest c.set.ensures.there others (c.settled.ensures ∙ ap (λ (p : Part). slice_index p.settled i) so_far.part)
-          (rw (← c.entry.ensures) c.with_bit.ensures);
-      rest = λ b low. others b (omega (arith, low)) ∙ so_far.rest b (omega (arith, low));
-    }
+pub returns-clause-entries : goal.returns-clause-entries
+returns-clause-entries c =
+    let settled_is = ap (λ (p : Part). p.settled) (sym c.self.view_is) in
+    elim c.match-self.branch [
+      | in-Some w ↦
+          let entries_is : c.args.self.now.entries ≡ w.in-Some.entries.items = ap (λ (p : Part). p.entries) (sym c.self.view_is)
+          ∙ ap (λ (o : Option (Vec ℕ Global)). or_else (option_map {T = Vec ℕ Global} {U = List ℕ} (λ v. v.items) o) c.self.inside.settled.items) w.in-Some.is in
+          let size : length w.deref_mut.result.now ≡ 1024 = ap length (w.deref_mut.ensures.value ∙ sym entries_is) ∙ ap (λ (p : Part). length p.entries) (sym c.self.view_is) ∙ c.self.invariant.entries in
+          let back = with_items_is w.in-Some.entries w.take_all.new.entries (w.take_all.ensures.length ∙ ap length w.deref_mut.ensures.value ∙ sym w.in-Some.entries.ok.0) in
+          rw w.self-inside-is (subst (λ (xs : List ℕ). SetsPlane 1024 c.args.set (λ i. bit_at (slice_index c.args.self.now.settled i) 0) (slice_index c.args.self.now.entries) (slice_index xs)) (sym back)
+          (plane_taken 1024 c.args.set (slice_index c.args.self.now.settled) (slice_index c.args.self.now.entries) (slice_index w.take_all.new.entries) c.requires.set
+          (λ k. rw (entries_is, ← w.deref.ensures.value) (w.are_words.ensures k))
+          (λ k below. rw (settled_is, ← w.deref-in-Some.ensures.value, entries_is, ← w.deref_mut.ensures.value) (w.take_all.ensures.bits k (omega (arith, size, below))))))
+      | in_default w ↦
+          let no : is_some (option_map {T = Vec ℕ Global} {U = List ℕ} (λ v. v.items) c.self.inside.changed) ≡ false = rw w.in_default.is refl in
+          let yes : is_some (option_map {T = Vec ℕ Global} {U = List ℕ} (λ v. v.items) c.self.inside.changed) ≡ true = ap (λ (p : Part). p.is_touched) c.self.view_is ∙ c.requires.room in
+          absurd (cc)
+    ]

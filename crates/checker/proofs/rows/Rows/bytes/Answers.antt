@@ -1,4 +1,4 @@
-use Rattle.std.proofs.Common.{◌≡◌, ◌∙◌, ◌<◌, get_or, length, ap, arith, sym}
+use Rattle.std.proofs.Common.{◌∙◌, ◌<◌, length, ap, arith, sym}
 use Rattle.std.proofs.lemmas.List.{get_or_default}
 use Rattle.checker.specs.Rows.{block_in}
 use Rattle.checker.proofs.EachLaws.{get_at}

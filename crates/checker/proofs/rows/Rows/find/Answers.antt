@@ -1,4 +1,4 @@
-use Rattle.std.proofs.Common.{◌≡◌, length, arith}
+use Rattle.std.proofs.Common.{arith}
 use Rattle.checker.proofs.EachLaws.{get_at}
 use Rattle.checker.proofs.rows.Rows.find.Goals as goal
 

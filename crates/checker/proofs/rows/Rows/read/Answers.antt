@@ -1,4 +1,4 @@
-use Rattle.std.proofs.Common.{◌≡◌, ◌∙◌, ◌++◌, ◌∷◌, [], ap}
+use Rattle.std.proofs.Common.{◌∙◌, ap}
 use Rattle.layout.specs.Places.{pointed}
 use Rattle.checker.specs.Rows.{block_in, picked, rows_of}
 use Rattle.checker.proofs.RowsLaws.{last_is, picked_push, read_there, with_last}

@@ -2,7 +2,7 @@ use Rattle.std.proofs.Common.{rules, ◌≡◌, ◌+◌, ◌≤◌, ◌∷◌, �
 use Rattle.layout.specs.Directory.{Named, HoldsEntries, named_of, entry_bytes}
 use Rattle.layout.proofs.EntryLaws.{length-entry_bytes}
 use Rattle.blocktree.specs.Trees.{IsSoundAt}
-use Rattle.dirs.specs.Entries.{used_by}
+use Rattle.entries.specs.Entries.{used_by}
 use Rattle.layout.specs.DirectoryNames.{HoldNames}
 use Rattle.dirs.specs.Directory.{with_name}
 use Rattle.dirs.specs.Edits.{edited_block}

@@ -2,7 +2,7 @@ use Rattle.std.proofs.Common.{rules, ◌≡◌, ◌∙◌, inl, inr, ◌+◌, �
 use Rattle.std.proofs.lemmas.Bool.{cases_lt}
 use Rattle.std.proofs.lemmas.List.{nil_from_length}
 use Rattle.layout.specs.Directory.{HoldsEntries}
-use Rattle.dirs.specs.Entries.{without}
+use Rattle.entries.specs.Entries.{without}
 use Rattle.layout.specs.DirectoryNames.{HoldNames}
 use Rattle.dirs.specs.Directory.{with_name}
 use Rattle.dirs.specs.Edits.{IsNamePlace, IsReached, edited_block}

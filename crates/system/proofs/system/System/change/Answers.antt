@@ -1,4 +1,5 @@
-use Rattle.std.proofs.Common.{◌≡◌, ◌∙◌, [], ◌∷◌, ◌++◌, Bool, Ok, Err, inr, ap, sym, subst, refl}
+use Rattle.std.proofs.Common.{◌≡◌, ◌≢◌, ◌∙◌, [], ◌∷◌, ◌++◌, Bool, Ok, Err, inr, ap, sym, subst, refl}
+use Rattle.std.specs.Prelude.{IsTrue, None}
 use Rattle.station.specs.Calls.{OnlyWrites}
 use Rattle.station.specs.Moments.{Meaning}
 use Rattle.station.specs.declared.station.Station.{Ghosts}
@@ -52,17 +53,18 @@ in_force : {S : Type 0} {G : Ghosts S} {steps : Bool} (f new : System S G) (mid 
     → ((s : State) (served : ServesState f s) → LeavesEither mid (meaning_of new) s
     (state_with f.root.geometry.inodes (swept s.tree.descriptors (applied change served.running)) s.tree.descriptors served.snapshots))
     → (u : Unit {0}) → OnlyWrites {T = Unit {0}} {E = CallError} (IsFirstFault f.log) mid (meaning_of new) (Ok u)
+    → (IsTrue steps → f.blocks.laid ≢ None → new.log.end ≡ f.log.end)
     → ((s : State) (served : ServesState f s) → HasRoomForWork f (work_of served.running change))
     → ((s : State) (served : ServesState f s) → let after = swept s.tree.descriptors (applied change served.running) in
     ServesWith new s.tree.descriptors (state_with f.root.geometry.inodes after s.tree.descriptors served.snapshots) after (served.lasts.replayed.changes ++ change ∷ []))
     → Handles steps f new (command.Path call) (Ok Done)
-in_force f new mid call change reads laid counted log opens made leaves u writes room serves =
+in_force f new mid call change reads laid counted log opens made leaves u writes waits room serves =
     logged f new mid (command.Path call) Done reads laid counted log.0 opens (λ s served x. x) (λ s served. record {
       after = state_with f.root.geometry.inodes (swept s.tree.descriptors (applied change served.running)) s.tree.descriptors served.snapshots;
       work = work_of served.running change;
       step = (made s served).step;
       leaves = leaves s served;
-    }) u change (λ s served. refl) done_is_no_fault done_is_accepted writes log.1 room (λ s served. ((serves s served).serves, (serves s served).records))
+    }) u change (λ s served. refl) done_is_no_fault done_is_accepted writes log.1 waits room (λ s served. ((serves s served).serves, (serves s served).records))
 
 pub returns-in-Ok : goal.returns-in-Ok
 returns-in-Ok g c =
@@ -78,6 +80,7 @@ returns-in-Ok g c =
     in_force {G = g.S.Station} fs c.log.new.self (g.S.Station.meaning blocks.buffers.station) c.args.call.now change reads.below (c.log.ensures.laid ∙ reads.laid) looks.reads.counted
     (c.log.ensures.log.0, c.in-Ok.ensures.log.1) (λ s served. c.served_states_open.ensures s.tree.descriptors s served) made
     (λ s served. c.log.ensures.any_moment s.tree.descriptors s (before s served) (made s served).advances) c.in-Ok.field-0 c.in-Ok.ensures.writes
+    (λ steps laid. c.log.ensures.waits steps (λ is. laid (sym reads.laid ∙ is)))
     (λ s served. c.in-Ok.ensures.room s.tree.descriptors s (before s served)
     (subst (KnowsFile c.prepare.new.inodes) (sym c.record.ensures.says) (on_volumes {G = g.S.Station} fs told.does s served).knows))
     (λ s served. c.in-Ok.ensures.done s.tree.descriptors s (before s served) (made s served).advances
@@ -104,7 +107,7 @@ returns-in-Ok-Some g c =
       step = (made s served).step;
       leaves = c.log.ensures.any_moment s.tree.descriptors s (before s served) (made s served).advances;
     })
-    c.in-Err-log.error failed.own failed.writes
+    c.in-Err-log.error failed.own failed.stops (λ steps laid. c.log.ensures.waits steps (λ is. laid (sym reads.laid ∙ is))) failed.writes
     (λ is.
     let same = failed.refused.1 is in (
       ap (λ (b : Overlay g.row.S.Denot g.S.Station). g.S.Station.meaning b.buffers.station) (sym same.0),

@@ -79,6 +79,7 @@ returns-in-Ok-log g c =
     (λ s served. c.served_states_open.ensures s.tree.descriptors s served) (λ s served. logging_not_sure s call c.requires)
     (λ s served. record { after = _; work = work_of served.running change; step = (made s served).step; leaves = leads s served })
     c.in-Ok-log.field-0 change (λ s served. refl) (told.within.accepted EIO) told.within.accepted c.in-Ok-log.ensures.writes c.in-Ok-log.ensures.log.1
+    (λ steps laid. c.log.ensures.waits steps (λ is. laid (sym reads.laid ∙ is)))
     (λ s served. c.in-Ok-log.ensures.room s.tree.descriptors s (before s served)
     (subst (KnowsFile inodes) (sym c.record.ensures.says) (rw c.in-Some.is at (on_volumes {G = g.S.Station} fs told.does s served)).knows))
     (λ s served.
@@ -113,7 +114,7 @@ returns-in-Err-log g c =
     not_logged {G = g.S.Station} fs c.log.new.self mid call doing.reply reads.below (c.log.ensures.laid ∙ reads.laid) looks.reads.counted c.log.ensures.log.0
     (λ s served. c.served_states_open.ensures s.tree.descriptors s served) (λ s served. logging_not_sure s call c.requires)
     (λ s served. record { after = _; work = work_of served.running change; step = (made s served).step; leaves = leads s served })
-    c.in-Err-log.error failed.own failed.writes
+    c.in-Err-log.error failed.own failed.stops (λ steps laid. c.log.ensures.waits steps (λ is. laid (sym reads.laid ∙ is))) failed.writes
     (λ is.
     let same = failed.refused.1 is in (
       ap (λ (b : Overlay g.row.S.Denot g.S.Station). g.S.Station.meaning b.buffers.station) (sym same.0),

@@ -13,7 +13,7 @@ returns-in-Ok-close g c =
     let fs = c.args.self.now in
     let fd = c.args.fd in
     let looks = c.in-Ok.ensures.looks in
-    answered_leading fs _ (command.Close fd) (reads_on {G = g.S.Station} fs c.prepare_close.new.blocks c.prepare_close.new.inodes looks) refl
+    λ steps. answered_leading fs _ (command.Close fd) (reads_on {G = g.S.Station} fs c.prepare_close.new.blocks c.prepare_close.new.inodes looks) refl
     (λ s served. close_sure {G = g.S.Station} c.named_files_have_paths.ensures fs s served fd _ (on_open {G = g.S.Station} fs c.in-Ok.ensures.still s served)) Done looks.reads.counted done_is_no_fault
     (λ s served. c.served_states_open.ensures s.tree.descriptors s served)
     (λ s served.
@@ -30,7 +30,7 @@ returns-in-Err-close g c =
     let fd = c.args.fd in
     let errno = c.in-Err-close.errno in
     let looks = c.in-Ok.ensures.looks in
-    answered_leading fs _ (command.Close fd) (reads_on {G = g.S.Station} fs c.prepare_close.new.blocks c.prepare_close.new.inodes looks) refl
+    λ steps. answered_leading fs _ (command.Close fd) (reads_on {G = g.S.Station} fs c.prepare_close.new.blocks c.prepare_close.new.inodes looks) refl
     (λ s served. close_sure {G = g.S.Station} c.named_files_have_paths.ensures fs s served fd _ (on_open {G = g.S.Station} fs c.in-Ok.ensures.still s served)) (Refused errno) looks.reads.counted
     (own_refusal {T = Unit {0}} (Err errno) errno refl c.in-Err-close.ensures.own) (λ s served. c.served_states_open.ensures s.tree.descriptors s served)
     (λ s served.
@@ -46,7 +46,7 @@ returns-in-Err g c =
     let fs = c.args.self.now in
     let told = c.in-Err.ensures in
     let looks = told.looks in
-    unanswered_read fs _ (command.Close c.args.fd) (reads_on {G = g.S.Station} fs c.prepare_close.new.blocks c.prepare_close.new.inodes looks) refl
+    λ steps. unanswered_read fs _ (command.Close c.args.fd) (reads_on {G = g.S.Station} fs c.prepare_close.new.blocks c.prepare_close.new.inodes looks) refl
     (λ s served. (looked_on {G = g.S.Station} fs c.prepare_close.new.blocks c.prepare_close.new.inodes looks s served, refl))
     (λ s served. nameless_not_sure {G = g.S.Station} c.named_files_have_paths.ensures fs s served c.args.fd (on_open {G = g.S.Station} fs told.sure s served)) c.in-Err.error _ c.call_error.ensures looks.reads.device
     (λ s served is. never_damaged {G = g.S.Station} fs told.damaged s served (ap (λ e. Err e) is))

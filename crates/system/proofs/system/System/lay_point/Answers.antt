@@ -367,6 +367,7 @@ returns-in-Ok-take_memory g c =
             memory = subst (λ (d : ℕ → Sector). IsInMemory (blocks_of d) new c.settle.new.self serves.running) disk
                 (settled.memory cuts roots serves rests f.sectors f.half p new step plan here then has c.in-Ok-take_memory.file c.settle.new.self f.sizes
                 taken.file c.settle.ensures.volume);
+            viewless = refl;
             entries = λ b. c.plan-map.ensures.settled b ∙ given g at b ∙ rest.entries b;
             to_come = subst (λ (d : ℕ → Sector). HasEntriesToCome (whole (blocks_of d) new).active c.plan-map.result.0) disk
                 (λ b. sym (entries (blocks_of then.disk) (settled.has_all cuts roots serves rests f.sectors f.half p new step plan here then has)

@@ -9,7 +9,7 @@ use Rattle.records.specs.Failures.{told}
 use Rattle.system.specs.Answering.{answered_reply}
 use Rattle.system.specs.Systems.{disk_of}
 use Rattle.system.proofs.ServingLaws.{looked_up}
-use Rattle.system.proofs.ViewLaws.{snapshots_of, stays_read}
+use Rattle.system.proofs.ViewLaws.{snapshots_of, stays_viewed}
 use Rattle.system.proofs.system.System.look_within.Goals as goal
 
 pub returns : goal.returns
@@ -19,9 +19,13 @@ returns g c =
     let seen = c.read_within-outcome.ensures in
     let reads = seen.reads.reads fs.blocks (reads_nothing g.S.Station fs.blocks) in
     let call = c.args.call.now in
-    looked_up fs _ (command.Within c.args.name.now call) reads refl c.read_within-outcome.result _ c.answer.ensures (λ s served x. x) (λ s served. c.served_states_open.ensures s.tree.descriptors s served)
+    λ steps. looked_up fs _ (command.Within c.args.name.now call) reads refl c.read_within-outcome.result _ c.answer.ensures (λ s served x. x) (λ s served. c.served_states_open.ensures s.tree.descriptors s served)
     seen.reads.counted seen.reads.device seen.own seen.no_fault
-    (λ s served. (stays_read {G = g.S.Station} fs c.read_within-outcome.new.blocks s reads seen.reads.same served, refl))
+    (λ s served. (
+      stays_viewed {G = g.S.Station} fs c.read_within-outcome.new.blocks c.read_within-outcome.new.kept s reads seen.reads.same served
+          (seen.shows d served.shows served.first served.snapshots served.under.holds served.view),
+      refl,
+    ))
     (λ s served. IfOk-weaker (told c.read_within-outcome.result) _ _ (λ r views_so room. subst (λ (name : List ℕ). views s name call (answered_reply r) s nothing) c.as_bytes.ensures views_so)
-    (seen.views d served.shows served.first served.snapshots served.under.holds s (snapshots_of {G = g.S.Station} fs s served)))
-    (λ s served. seen.damaged d served.shows served.first served.snapshots served.under.holds)
+    (seen.views d served.shows served.first served.snapshots served.under.holds served.view s (snapshots_of {G = g.S.Station} fs s served)))
+    (λ s served. seen.damaged d served.shows served.first served.snapshots served.under.holds served.view)

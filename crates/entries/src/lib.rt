@@ -1,0 +1,17 @@
+//! A block of a directory: its entries, what a look at it tells of a name, and what is known of blocks that were looked at before.
+#![tactic(auto)]
+
+mod entries;
+mod known;
+mod look;
+mod marks;
+mod summary;
+
+pub use entries::{add, count, remove};
+pub use known::Known;
+pub use look::Look;
+
+/// Places for the marks of a block's names.
+const MARKS: usize = 8192;
+/// Blocks of one directory of which a summary is kept.
+const MOST_KNOWN: usize = 256;

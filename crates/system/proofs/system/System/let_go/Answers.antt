@@ -1,0 +1,10 @@
+use Rattle.std.proofs.Common.{ap, refl}
+use Rattle.system.proofs.SettlingLaws.{glanced}
+use Rattle.system.proofs.ViewLaws.{stays_read}
+use Rattle.system.proofs.system.System.let_go.Goals as goal
+
+pub returns-clause-glances : goal.returns-clause-glances
+returns-clause-glances g c =
+    let fs = c.args.self.now in
+    let goes = c.let_go.ensures in
+    glanced fs _ goes.reads.below refl (λ s served. stays_read {G = g.S.Station} fs c.let_go.new.self s goes.reads goes.same served) _ (ap (λ s. (g.S.Station.meaning s).failed_reads) goes.station)
