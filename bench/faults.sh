@@ -30,14 +30,15 @@ is() {
     "$wafl" "$command" disk nvram "$@"
 }
 
-# directories COUNT : lines that make so many directories.
-directories() { seq -f 'mkdir /d%g' "$1"; }
+# directories COUNT TEXT : a line of this text for each of so many directories, by their long names, which soon fill the log.
+long=$(printf 'n%.0s' $(seq 200))
+directories() { seq -f "$2d%03g$long" "$1"; }
 
 # stands REPLIES NAME : whether the directories that were answered `ok` are there, and at most the next one.
 stands() {
     answered=$(grep -c '^ok$' "$1") || true
     for done in $answered $((answered + 1)); do
-        names=$(seq -f 'd%g' "$done" | LC_ALL=C sort | tr '\n' ' ')
+        names=$(directories "$done" '' | tr '\n' ' ')
         if [ "$(is do list /)" = "names ${names% }" ]; then
             is check > checked 2>&1 || lost "$2: $(head -n 1 checked)"
             echo "$2: $answered commands answered, $((done - answered)) done without an answer; all are there"
@@ -50,20 +51,18 @@ stands() {
 # limited HALVES SIGNAL : a run under a limit of the size of files, so many halves of a KiB, that brings an error or a signal.
 limited() {
     fresh
-    directories 400 | sed '50~50a sync' > script
+    directories 60 'mkdir /' > script
     status=0
     (
         [ "$2" = signal ] || trap '' XFSZ
         ulimit -c 0
         ulimit -f "$1"
         exec "$wafl" run disk nvram script
-    ) > shown 2> told || status=$?
-    # What answers `ok` and is no directory is left out.
-    paste -d ' ' script shown | awk '/^mkdir/ {print $3 == "" ? "" : ($4 == "" ? $3 : $3 " " $4)}' > replies
+    ) > replies 2> told || status=$?
     if [ "$2" = error ]; then
         [ "$status" = 0 ] || lost "a limit of $1: ends with $status: $(cat told)"
-        [ "$(grep -c '^err EIO$' shown)" = 1 ] || lost "a limit of $1: not one EIO"
-        sed '1,/^err EIO$/d' shown | grep -qv '^err FAILED$' && lost "a limit of $1: something was done behind EIO"
+        [ "$(grep -c '^err EIO$' replies)" = 1 ] || lost "a limit of $1: not one EIO"
+        sed '1,/^err EIO$/d' replies | grep -qv '^err FAILED$' && lost "a limit of $1: something was done behind EIO"
     fi
     stands replies "files of $(($1 / 2)) KiB at most, by $2"
 }
@@ -141,7 +140,7 @@ unwritable() {
     chmod 644 disk nvram
 }
 
-for halves in 64 640 2048 4096 7168; do
+for halves in 4 10 16 128; do
     limited "$halves" error
     limited "$halves" signal
 done

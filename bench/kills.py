@@ -19,7 +19,7 @@ import time
 
 HERE = os.path.dirname(os.path.dirname(os.path.realpath(__file__)))
 WAFL = os.path.realpath(os.environ.get("WAFL", f"{HERE}/wafl"))
-COMMANDS = 100
+COMMANDS = 500
 KILLS_ON_ONE_IMAGE = 20
 
 
@@ -169,7 +169,7 @@ class Image:
 
 def killed(words, delay, feed=None, lock_step=False):
     """Runs the program and kills it after so many seconds. Returns the whole lines that it has shown, and its status. `killed.took` is
-    how many seconds it ran."""
+    how many seconds it ran, and `killed.hit` whether it was still running."""
     begin = time.time()
     run = subprocess.Popen([WAFL, *words], stdin=subprocess.PIPE, stdout=subprocess.PIPE, stderr=subprocess.DEVNULL, text=True)
     timer = threading.Timer(delay, run.kill)
@@ -191,7 +191,7 @@ def killed(words, delay, feed=None, lock_step=False):
         pass
     shown += run.stdout.read()
     status = run.wait()
-    killed.took = time.time() - begin
+    killed.took, killed.hit = time.time() - begin, status == -9
     timer.cancel()
     timer.join()
     return shown.split("\n")[:-1], status
@@ -285,11 +285,17 @@ def main(kills=500, seed=1, kinds=",".join(KINDS)):
         for kind in kinds:
             once(image, kind, 600, random.Random(f"{seed} {kind}"))
             seconds[kind] = killed.took
-        for at in range(int(kills)):
+        at = 0
+        while sum(map(len, results.values())) < int(kills):
             if at % KILLS_ON_ONE_IMAGE == 0:
                 image = Image()
             kind, chance = kinds[at % len(kinds)], random.Random(f"{seed} {at}")
-            results[kind].append(once(image, kind, chance.uniform(0, seconds[kind]), chance))
+            result = once(image, kind, chance.uniform(0, 1.2 * seconds[kind]), chance)
+            if killed.hit:
+                results[kind].append(result)
+            else:
+                seconds[kind] = killed.took
+            at += 1
     except Lost as lost:
         print(f"kill {sum(map(len, results.values())) + 1}: {lost}; the image stays in {folder}", file=sys.stderr)
         return 1

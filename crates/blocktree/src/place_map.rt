@@ -1,6 +1,6 @@
 //! Where the nodes at one height of a file lie.
 
-ghost use Rattle.std.specs.Prelude.{◌≡◌, ◌≢◌, ℕ, ◌<◌, ◌≤◌, IfNone, IfSome, None, OnOk};
+ghost use Rattle.std.specs.Prelude.{◌≡◌, ◌≢◌, ℕ, ◌<◌, ◌≤◌, IfNone, IfSome, None, OnOk, Some};
 ghost use Rattle.std.specs.BTreeMap as tree;
 ghost use Rattle.std.specs.Ordering.{nat_cmp};
 ghost use Rattle.layout.specs.declared.pointer.Pointer.TheVariants.{Hole, Block};
@@ -24,11 +24,11 @@ pub struct StoredNode {
     pub place: BlockNumber,
 }
 
-/// The least key of a map from one on and below another.
-pub(crate) fn next_key<V>(map: &BTreeMap<u32, V>, from: u32, to: u32) -> Option<u32>
-    ensures found { IfSome result (λ k. (from ≤ k) × (k < to)
-        × tree.ContainsKey nat_cmp map.now k) }
-    ensures before { IfSome result (λ k. (i : ℕ) → from ≤ i → i < k
+/// The entry of the least key of a map from one on and below another.
+pub(crate) fn next_entry<V>(map: &BTreeMap<u32, V>, from: u32, to: u32) -> Option<(u32, &V)>
+    ensures found { IfSome result (λ e. (from ≤ e.0) × (e.0 < to)
+        × (tree.get nat_cmp map.now e.0 ≡ Some e.1.now)) }
+    ensures before { IfSome result (λ e. (i : ℕ) → from ≤ i → i < e.0
         → tree.get nat_cmp map.now i ≡ None) }
     ensures none { IfNone result ((i : ℕ) → from ≤ i → i < to
         → tree.get nat_cmp map.now i ≡ None) }
@@ -37,7 +37,7 @@ pub(crate) fn next_key<V>(map: &BTreeMap<u32, V>, from: u32, to: u32) -> Option<
         return None;
     }
     match map.range(from..to).next() {
-        Some((key, _)) => Some(*key),
+        Some((key, value)) => Some((*key, value)),
         None => None,
     }
 }
@@ -90,9 +90,8 @@ impl PlaceMap {
         ensures none { IfNone result ((i : ℕ) → from ≤ i → i < to
             → place_at self.now i ≡ Hole) }
     {
-        let index = next_key(&self.blocks, from, to)?;
-        match self.blocks.get(&index) {
-            Some(place) => Some(StoredNode {
+        match next_entry(&self.blocks, from, to) {
+            Some((index, place)) => Some(StoredNode {
                 index,
                 place: *place,
             }),

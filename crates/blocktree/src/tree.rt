@@ -15,7 +15,7 @@ use crate::ReadError;
 use crate::names::{name_nodes, nodes_at};
 use crate::nodes::read_places;
 use crate::place::find_place;
-use crate::place_map::{PlaceMap, next_key};
+use crate::place_map::{PlaceMap, next_entry};
 use buffers::{Block, Blocks};
 use layout::{BLOCK_BYTES, BODY_POINTERS, BlockNumber, Pointer, level_of};
 use std::alloc::{AllocError, Global};
@@ -193,7 +193,7 @@ impl BlockTree {
         ensures none { IfNone result ((i : ℕ) → from ≤ i → i < to → IsChanged self.now i → ⊥) }
     {
         let mut from = from;
-        while let Some(i) = next_key(&self.slots, from, to) {
+        while let Some((i, _)) = next_entry(&self.slots, from, to) {
             if let Some(block) = self.changed(i) {
                 return Some((i, block));
             }

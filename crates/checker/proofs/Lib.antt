@@ -8,7 +8,6 @@ mod SystemLaws
 mod SeenLaws
 mod EachLaws
 mod EntryLaws
-mod IndirectLaws
 mod InodeLaws
 mod MarkLaws
 mod NodeFiles
@@ -39,3 +38,4 @@ mod WholeLaws
 mod EndLaws
 mod AllTreesLaws
 mod EachTreeLaws
+mod SeenNames

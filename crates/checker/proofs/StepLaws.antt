@@ -46,7 +46,7 @@ use Rattle.checker.proofs.ReadLaws.{HasLooked}
 use Rattle.checker.proofs.HeldLaws.{number_is}
 use Rattle.checker.proofs.ReadableLaws.{sound_readable}
 use Rattle.checker.specs.Names.{AreDirectories, AreWithin, IsFirst, IsTable, IsUnnamed}
-use Rattle.checker.specs.Walks.{HasCountedRows, HasFile, IsToCount, KnowsNames, LooksInto}
+use Rattle.checker.specs.Walks.{HasCountedRows, HasFile, IsToCount, LooksInto}
 use Rattle.checker.specs.declared.error.CheckError.{CheckError}
 use Rattle.checker.specs.declared.error.CheckError.TheVariants as check
 use Rattle.checker.specs.declared.error.Halt.{Halt}
@@ -54,44 +54,6 @@ use Rattle.checker.specs.declared.error.Halt.TheVariants as halts
 use Rattle.checker.specs.declared.fault.Fault.{Fault}
 use Rattle.checker.specs.declared.names.NumberRow.{NumberRow}
 use Rattle.checker.proofs.NameLaws.{rows_all}
-
--- ---- a set of names
-
-module _ {K : Type 0} (name : K → Name) where
-  pub knows_none : (set : BTreeSet K) (e : Name → Option ℕ) → set.keys ≡ [] → ((x : Name) → e x ≡ None) → KnowsNames set name e
-  knows_none set e empty none key = ap (list_any (is_at (λ k. slice_cmp nat_cmp (name k) (name key)))) empty ∙ sym (ap is_some (none (name key)))
-
-  at_key : (key q : K) → name q ≡ name key → is_at (λ k. slice_cmp nat_cmp (name k) (name key)) q ≡ true
-  at_key key q same = is_eq-slice_cmp (name q) (name key) ∙ (bytes_eq-Decides (name q) (name key)).1 same
-
-  not_at_key : (key q : K) → name q ≢ name key → is_at (λ k. slice_cmp nat_cmp (name k) (name key)) q ≡ false
-  not_at_key key q other =
-      is_eq-slice_cmp (name q) (name key) ∙ false_from_ne_true (bytes_eq (name q) (name key)) (λ t. other ((bytes_eq-Decides (name q) (name key)).0 t))
-
-  pub knows_more : (old new : BTreeSet K) (key : K) (d n : ℕ) (x : Name) (e : Entries) → name key ≡ x
-      → ((q : K) → contains (λ a b. slice_cmp nat_cmp (name b) (name a)) new q ≡ (if is_at (λ k. slice_cmp nat_cmp (name k) (name key)) q then true else contains (λ a b. slice_cmp nat_cmp (name b) (name a)) old q))
-      → KnowsNames old name (e d) → KnowsNames new name (with_edge d x (Some n) e d)
-  knows_more old new key d n x e is updates knows q = elim (names_apart (name q) x) [
-    | inl same ↦
-        updates q ∙ cond-true (is_at (λ k. slice_cmp nat_cmp (name k) (name key)) q) true (contains (λ a b. slice_cmp nat_cmp (name b) (name a)) old q) (at_key key q (same ∙ sym is))
-        ∙ sym (ap is_some (ap (with_edge d x (Some n) e d) same ∙ edge_here d x (Some n) e))
-    | inr other ↦
-        updates q ∙ cond-false (is_at (λ k. slice_cmp nat_cmp (name k) (name key)) q) true (contains (λ a b. slice_cmp nat_cmp (name b) (name a)) old q) (not_at_key key q (λ same. other (same ∙ is)))
-        ∙ knows q ∙ sym (ap is_some (edge_other d d x (name q) (Some n) e (λ _. other)))
-  ]
-
--- what was added to a set, and what was there
-pub was_there : (b c : Bool) → b ≡ not c → b ≡ false → c ≡ true
-was_there b true is old = refl
-was_there b false is old = absurd (false≢true (sym old ∙ is))
-
-pub was_new : (b c : Bool) → b ≡ not c → b ≡ true → c ≡ false
-was_new b true is new = absurd (false≢true (sym is ∙ new))
-was_new b false is new = refl
-
-pub is_none : (o : Option ℕ) → is_some o ≡ false → o ≡ None
-is_none None is = refl
-is_none (Some n) is = absurd (false≢true (sym is))
 
 pub not_none : (o : Option ℕ) → is_some o ≡ true → o ≡ None → ⊥
 not_none o is none = false≢true (sym (ap is_some none) ∙ is)

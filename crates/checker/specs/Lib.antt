@@ -4,6 +4,8 @@ pub mod Findings
 pub mod Trees
 pub mod Rows
 pub mod Names
+pub mod Spans
+pub mod Seen
 pub mod Links
 pub mod Walks
 pub mod Tables

@@ -1,8 +1,5 @@
 -- Directories as they are looked into, entry by entry.
 use Rattle.std.specs.Prelude.{ℕ, ◌≡◌, ◌≢◌, ◌+◌, ◌≤◌, ◌==◌, if◌then◌else◌, List, [], length, slice_get, sum_by, Some, None, is_some}
-use Rattle.std.specs.BTreeSet.{BTreeSet, contains}
-use Rattle.std.specs.Cmp.Lexicographic.{slice_cmp}
-use Rattle.std.specs.Ordering.{nat_cmp}
 use Rattle.layout.specs.Directory.{HoldsEntries, Named}
 use Rattle.layout.specs.DirectoryNames.{AllHold, AreNames, HasEachOnce, NameMap, number_of}
 use Rattle.layout.specs.Limits.{Sizes}
@@ -59,11 +56,6 @@ pub record IsOnWay (s : Sizes) (t : HeldTree) (e : Entries) (count : ℕ) (found
 pub record LooksInto (s : Sizes) (t : HeldTree) (e : Entries) (count : ℕ) (found : List ℕ) (table : List NumberRow) : Type 0 where
   pub way : IsOnWay s t e count found table
   pub names : AreDirectories s t e count found
-
--- a set, in falling order, has the names of a directory that have a number so far
-abbrev pub KnowsNames : {K : Type 0} → BTreeSet K → (K → Name) → NameMap → Type 0
-KnowsNames {K} set name names =
-    (key : K) → contains (λ x y. slice_cmp nat_cmp (name y) (name x)) set key ≡ is_some (names (name key))
 
 -- bytes of a directory whose entries a volume has, where none of them is counted yet
 pub record IsAwaited (inodes : ℕ) (v : Volume) (d : ℕ) (e : Entries) (bytes : List ℕ) : Type 0 where

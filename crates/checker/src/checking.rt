@@ -19,6 +19,7 @@ ghost use Rattle.checker.specs.Checks.{AreFaultless, AreFindings, HasFailed, IsF
 ghost use Rattle.checker.specs.Errors.{IsFault, Looks};
 ghost use Rattle.checker.specs.Findings.{IsFinding, IsFindingUnder, tree_in};
 ghost use Rattle.checker.specs.Rows.{AreSeenTo, KeepsTrees};
+ghost use Rattle.checker.specs.Tables.{IsKnown};
 ghost use Rattle.checker.specs.Trees.{IsApart, IsSeen, IsSeenTo};
 
 use crate::error::{Halt, fault_of};
@@ -31,6 +32,7 @@ use crate::nodes::{PLANES, SharedBlocks};
 use crate::numbers::check_numbers;
 use crate::owners::first_owner;
 use crate::snapshots::{count_snapshots, fault_in_slot};
+use crate::table::Known;
 use crate::tree::Tree;
 use crate::trees::open_trees;
 use crate::{CheckError, Fault, Finding, LetsGo, Report, RootsFault, Summary, TreeName, Watch};
@@ -229,7 +231,7 @@ fn check_trees<B: LetsGo, W: Watch>(
 {
     let geometry = root.geometry;
     let mut marks = Marks::new(alloc, geometry.blocks())?;
-    let mut shared = SharedBlocks::none();
+    let mut shared = SharedBlocks::none(alloc)?;
     let mut trees = open_trees(alloc, blocks, root, &mut marks, &mut shared)?;
     check_numbers(alloc, blocks, geometry, &mut trees, &mut marks, &mut shared)?;
     let are_apart = check_each(alloc, blocks, geometry, &mut trees, &shared, findings)?;
@@ -280,10 +282,11 @@ fn check_each<B: LetsGo, W: Watch>(
 {
     let parts = trees.len().min(PLANES) as u32 + 1;
     let mut are_apart = true;
+    let mut known = None;
     for k in 0..trees.len() {
         findings.goes_on(k.min(PLANES) as u32 + 1, parts);
         let tree = &mut trees[k];
-        check_tree(alloc, blocks, geometry, tree, shared)?;
+        check_tree(alloc, blocks, geometry, tree, shared, &mut known)?;
         if let Some(fault) = tree.fault {
             findings.find(tree.name, fault);
             are_apart = are_apart && fault.number() > 4;
@@ -300,12 +303,15 @@ fn check_tree<B: LetsGo>(
     geometry: Geometry,
     tree: &mut Tree,
     shared: &SharedBlocks,
+    known: &mut Option<Known>,
 ) -> Result<(), CheckError>
     requires { B.count blocks.old ≡ geometry.blocks }
     ensures reads { Looks B.Blocks IsFault blocks.old blocks.new result }
+    ensures known { (disk : ℕ → List ℕ) → B.Shows blocks.old disk
+        → IsKnown disk known.old → IsKnown disk known.new }
     ensures same { record tree.old { fault = tree.new.fault } ≡ tree.new }
     ensures checked { (disk : ℕ → List ℕ) (r : Root) (marks : List ℕ) → B.Shows blocks.old disk
-        → IsRoot r → r.geometry ≡ geometry
+        → IsKnown disk known.old → IsRoot r → r.geometry ≡ geometry
         → IsSeenTo disk r (div_ceil geometry.inodes INODES_PER_BLOCK)
         (INODES_PER_BLOCK * div_ceil geometry.inodes INODES_PER_BLOCK) marks shared.now.of tree.old
         → OnOk result (IsSeen disk r marks tree.new × (tree.new.fault ≡ None
@@ -329,7 +335,7 @@ fn check_tree<B: LetsGo>(
     if tree.fault.is_some() {
         return Ok(());
     }
-    let checked = check_names(alloc, blocks, geometry, tree);
+    let checked = check_names(alloc, blocks, geometry, tree, known);
     let Some(fault) = fault_of(checked)? else {
         return Ok(());
     };

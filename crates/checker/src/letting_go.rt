@@ -1,14 +1,16 @@
 //! Blocks that may be let go of.
 
-ghost use Rattle.std.specs.Prelude.{◌≡◌, ℕ, List, IfOk, IsFalse, IsTrue};
+ghost use Rattle.std.specs.Prelude.{◌≡◌, ◌+◌, ◌*◌, ◌^◌, ◌<◌, ◌≤◌, ℕ, List, IfErr, IfOk, IsErrOf, IsFalse, IsTrue, OnOk, length};
+ghost use Rattle.layout.specs.Places.{blocks_of};
+ghost use Rattle.layout.specs.declared.TheConstants.{BLOCK_BYTES};
 ghost use Rattle.layout.specs.Pointer.{PointsBelow};
-ghost use Rattle.station.specs.Moments.{MayGrow};
-ghost use Rattle.buffers.specs.Disks.{IsWhole};
+ghost use Rattle.station.specs.Moments.{HasGrown, MayGrow, Shows};
+ghost use Rattle.buffers.specs.Disks.{IsBlock, IsWhole, ReadsOn};
 ghost use Rattle.checker.specs.Errors.{IsFault, Looks};
 
 use crate::CheckError;
-use buffers::{Blocks, BufferError, Buffers};
-use layout::{BlockNumber, Pointer};
+use buffers::{Block, Blocks, BufferError, Buffers};
+use layout::{BLOCK_BYTES, BlockNumber, Pointer, SECTOR_BYTES};
 use station::Station;
 
 /// Blocks of a disk that are let go of, so that no more are kept than are needed at once.
@@ -20,6 +22,21 @@ pub trait LetsGo: Blocks {
         ensures reads { (start : Self) → Self.ReadsOn start self.old → Self.ReadsOn start self.new }
         ensures same { (disk : ℕ → List ℕ) → Self.Shows self.old disk → Self.Shows self.new disk };
 
+    /// Reads the block at a place into this one, as `make_resident` reads it, and keeps nothing of it.
+    fn read(&mut self, place: BlockNumber, block: &mut Block) -> Result<(), BufferError>
+        requires behind { 2 ≤ place }
+        requires within { place < Self.count self.old }
+        ensures count { Self.count self.new ≡ Self.count self.old }
+        ensures counted { OnOk result (Self.failed self.new ≡ Self.failed self.old) }
+        ensures device { IsErrOf result BufferError.Device
+            → HasGrown (Self.failed self.old) (Self.failed self.new) }
+        ensures damaged { (disk : ℕ → List ℕ) → Self.Shows self.old disk
+            → IsErrOf result BufferError.Damaged → IsWhole (disk place) → ⊥ }
+        ensures reads { (start : Self) → Self.ReadsOn start self.old → Self.ReadsOn start self.new }
+        ensures same { (disk : ℕ → List ℕ) → Self.Shows self.old disk → Self.Shows self.new disk }
+        ensures block { (disk : ℕ → List ℕ) → Self.Shows self.old disk
+            → OnOk result (block.new ≡ disk place) };
+
     /// Where nothing was done but reading, the count of failed reads is as it was, or has grown.
     ghost grows: { (s t : Self) → Self.ReadsOn s t → MayGrow (Self.failed s) (Self.failed t) };
 }
@@ -29,7 +46,51 @@ impl<S: Station> LetsGo for Buffers<S> {
         self.let_go();
     }
 
+    fn read(&mut self, place: BlockNumber, block: &mut Block) -> Result<(), BufferError> {
+        let _ = self.station.sectors();
+        read_sectors(&mut self.station, place.get(), block)
+    }
+
     ghost grows = { λ s t reads. reads.reads };
+}
+
+/// Reads a block. `Damaged` where a sector of it can't be read.
+fn read_sectors<S: Station>(
+    station: &mut S,
+    place: u32,
+    block: &mut Block,
+) -> Result<(), BufferError>
+    requires within { 8 * place + 8 ≤ (S.meaning station.old).sectors }
+    requires fits { 8 * place + 8 < 2 ^ 32 }
+    ensures reads { ReadsOn (S.meaning station.old) (S.meaning station.new) }
+    ensures counted { OnOk result
+        ((S.meaning station.new).failed_reads ≡ (S.meaning station.old).failed_reads) }
+    ensures device { IfErr result (λ e. e ≡ BufferError.Device
+        → HasGrown (S.meaning station.old).failed_reads (S.meaning station.new).failed_reads) }
+    ensures block { (S.meaning station.old).is_honest
+        → OnOk result (IsBlock (S.meaning station.old).seen.disk place block.new) }
+    ensures damaged { IsErrOf result BufferError.Damaged
+        → Shows (S.meaning station.old) (λ c. IsWhole (blocks_of c.disk place) → ⊥) }
+{
+    is_whole(block.bytes());
+    let mut sector = [0u8; SECTOR_BYTES];
+    for i in 0..8u32 {
+        let Ok(is_readable) = station.read_sector(8 * place + i, &mut sector) else {
+            return Err(BufferError::Device);
+        };
+        if !is_readable {
+            return Err(BufferError::Damaged);
+        }
+        block.put(512 * i as usize, &sector);
+    }
+    Ok(())
+}
+
+// A block in memory has all its bytes. It does nothing.
+fn is_whole(bytes: &[u8; BLOCK_BYTES])
+    ensures { length bytes.now ≡ BLOCK_BYTES }
+{
+    let _ = bytes;
 }
 
 /// Reads the block at a place into memory, and tells whether all of it can be read.
@@ -41,6 +102,30 @@ pub(crate) fn read_block<B: LetsGo>(blocks: &mut B, place: BlockNumber) -> Resul
         → IfOk result (λ whole. IsFalse whole → IsWhole (disk place) → ⊥) }
 {
     match blocks.make_resident(place) {
+        Ok(()) => Ok(true),
+        Err(BufferError::NoMemory) => Err(CheckError::NoMemory),
+        Err(BufferError::Device) => Err(CheckError::Device),
+        Err(BufferError::Damaged) => {
+            // It isn't resident.
+            Ok(false)
+        }
+    }
+}
+
+/// Reads the block at a place into this one, and tells whether all of it can be read.
+pub(crate) fn read_into<B: LetsGo>(
+    blocks: &mut B,
+    place: BlockNumber,
+    block: &mut Block,
+) -> Result<bool, CheckError>
+    requires { PointsBelow (B.count blocks.old) (Pointer.Block place) }
+    ensures reads { Looks B.Blocks IsFault blocks.old blocks.new result }
+    ensures block { (disk : ℕ → List ℕ) → B.Shows blocks.old disk
+        → IfOk result (λ whole. IsTrue whole → block.new ≡ disk place) }
+    ensures whole { (disk : ℕ → List ℕ) → B.Shows blocks.old disk
+        → IfOk result (λ whole. IsFalse whole → IsWhole (disk place) → ⊥) }
+{
+    match blocks.read(place, block) {
         Ok(()) => Ok(true),
         Err(BufferError::NoMemory) => Err(CheckError::NoMemory),
         Err(BufferError::Device) => Err(CheckError::Device),

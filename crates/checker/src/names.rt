@@ -21,12 +21,15 @@ ghost use Rattle.model.specs.Volumes.{Entries, entries, with_edge};
 ghost use Rattle.images.specs.Nodes.{file_block};
 ghost use Rattle.images.specs.Roots.{HeldTree};
 ghost use Rattle.checker.specs.Links.{AreLinked, AreReached, IsUnlinked, IsUnreached};
+ghost use Rattle.checker.specs.Seen.{KnowsSeen};
+ghost use Rattle.checker.specs.Tables.{IsKnown};
 ghost use Rattle.checker.specs.Names.{IsAllWalked, IsFirst, IsNamedKind, IsTable, IsUnnamed};
-ghost use Rattle.checker.specs.Walks.{GoesOn, HasCounted, HasCountedRows, HasFile, IsAwaited, IsOnWay, IsToCount, IsTreeAt, KnowsNames, LooksInto};
+ghost use Rattle.checker.specs.Walks.{GoesOn, HasCounted, HasCountedRows, HasFile, IsAwaited, IsOnWay, IsToCount, IsTreeAt, LooksInto};
 
 use crate::error::{Halt, or_fault};
 use crate::owners::read_inode;
-use crate::table::{KEPT, forget_over, read_table};
+use crate::seen::Seen;
+use crate::table::{KEPT, Known, forget_over, read_table};
 use crate::tree::Tree;
 use crate::{DirectoryFault, Fault, LetsGo, TreeFault};
 use images::files_hold_one_volume;
@@ -35,8 +38,6 @@ use layout::{
     BLOCK_BYTES, Entry, FIRST_NUMBER, Geometry, Kind, NextEntry, ROOT_NUMBER, next_entry,
 };
 use std::alloc::Global;
-use std::cmp::Reverse;
-use std::collections::BTreeSet;
 
 /// What a tree has of a number: the kind of its inode and its links, and how many names were found.
 #[derive(Clone, Copy, Debug)]
@@ -53,16 +54,19 @@ pub(crate) fn check_names<B: LetsGo>(
     blocks: &mut B,
     geometry: Geometry,
     tree: &Tree,
+    known: &mut Option<Known>,
 ) -> Result<(), Halt>
     ensures reads { Looks B.Blocks IsHaltFault blocks.old blocks.new result }
+    ensures known { (disk : ℕ → List ℕ) → B.Shows blocks.old disk
+        → IsKnown disk known.old → IsKnown disk known.new }
     ensures passes { (disk : ℕ → List ℕ) (r : Root) (marks : List ℕ) → B.Shows blocks.old disk
-        → IsRoot r → r.geometry ≡ geometry → B.count blocks.old ≡ r.geometry.blocks
+        → IsKnown disk known.old → IsRoot r → r.geometry ≡ geometry → B.count blocks.old ≡ r.geometry.blocks
         → IsSeen disk r marks tree.now → tree.now.fault ≡ None
         → Passes (λ _. HoldsGraph r.geometry.inodes (tree_in (whole disk r) tree.now.plane))
         (IsTreeFinding r (tree_in (whole disk r) tree.now.plane)) result }
 {
     files_hold_one_volume();
-    let mut table = read_table(alloc, blocks, geometry, tree)?;
+    let mut table = read_table(alloc, blocks, geometry, tree, known)?;
     walk(alloc, blocks, geometry, tree, &mut table)?;
     check_reached(&table)?;
     check_links(&table)
@@ -167,8 +171,7 @@ fn count_blocks<B: LetsGo>(
     ensures sound { (disk : ℕ → List ℕ) → B.Shows blocks.old disk → OnOk result ((i : ℕ)
         → i < file.now.size / BLOCK_BYTES → IsSoundAt (B.count blocks.old) disk file.now.tree i) }
 {
-    // Most names stand in rising order, and a set of them is searched from its least on.
-    let mut names = BTreeSet::new(alloc);
+    let mut names = Seen::none(alloc);
     for i in 0..(file.size() / BLOCK_BYTES as u64) as u32 {
         let location = or_fault(
             file.locate(blocks, i),
@@ -178,19 +181,18 @@ fn count_blocks<B: LetsGo>(
             }),
         )?;
         let bytes = file.bytes(blocks, i, location);
-        count_entries(alloc, bytes, inodes, directory, i, &mut names, table, found)?;
+        count_entries(bytes, inodes, directory, i, &mut names, table, found)?;
     }
     Ok(())
 }
 
 /// Counts the names that stand in these bytes of a directory's block.
 fn count_entries(
-    alloc: Global,
     bytes: &[u8],
     inodes: u32,
     directory: u32,
     block: u32,
-    names: &mut BTreeSet<Reverse<Vec<u8>>>,
+    names: &mut Seen,
     table: &mut Vec<NumberRow>,
     found: &mut Vec<u32>,
 ) -> Result<(), Halt>
@@ -201,10 +203,10 @@ fn count_entries(
         → r.geometry.inodes ≡ inodes
         → IsOnWay r.geometry t e count found.old.items table.old.items
         → IsFirst found.old.items count directory
-        → KnowsNames names.old (λ n. n.0.items) (e directory)
+        → KnowsSeen names.old (e directory)
         → ((g : HoldsNames r.geometry.inodes t) → IsAwaited r.geometry.inodes g.volume directory e bytes.now)
         → Passes (λ _. (h : HasCounted r.geometry t directory bytes.now e count found.new.items table.new.items)
-        × KnowsNames names.new (λ n. n.0.items) (h.names directory))
+        × KnowsSeen names.new (h.names directory))
         (IsTreeFinding r t) result }
 {
     match next_entry(bytes, inodes) {
@@ -214,8 +216,8 @@ fn count_entries(
             block,
         }))),
         NextEntry::Entry { entry, rest } => {
-            count_entry(alloc, &entry, directory, names, table, found)?;
-            count_entries(alloc, rest, inodes, directory, block, names, table, found)?;
+            count_entry(&entry, directory, names, table, found)?;
+            count_entries(rest, inodes, directory, block, names, table, found)?;
             Ok(())
         }
     }
@@ -247,10 +249,9 @@ fn takes_name(row: NumberRow) -> bool
 
 /// Counts one name of a directory.
 fn count_entry(
-    alloc: Global,
     entry: &Entry<'_>,
     directory: u32,
-    names: &mut BTreeSet<Reverse<Vec<u8>>>,
+    names: &mut Seen,
     table: &mut Vec<NumberRow>,
     found: &mut Vec<u32>,
 ) -> Result<(), Halt>
@@ -261,7 +262,7 @@ fn count_entry(
     ensures counted { (r : Root) (t : HeldTree) (e : Entries) (count : ℕ)
         → IsOnWay r.geometry t e count found.old.items table.old.items
         → IsFirst found.old.items count directory
-        → KnowsNames names.old (λ n. n.0.items) (e directory)
+        → KnowsSeen names.old (e directory)
         → IsEntry r.geometry.inodes (named_of entry.now)
         → ((g : HoldsNames r.geometry.inodes t)
         → (entries g.volume directory entry.now.name.now ≡ Some entry.now.number)
@@ -269,11 +270,11 @@ fn count_entry(
         → Passes (λ _. (e directory entry.now.name.now ≡ None)
         × IsOnWay r.geometry t (with_edge directory entry.now.name.now (Some entry.now.number) e)
         count found.new.items table.new.items
-        × KnowsNames names.new (λ n. n.0.items)
+        × KnowsSeen names.new
         (with_edge directory entry.now.name.now (Some entry.now.number) e directory))
         (IsTreeFinding r t) result }
 {
-    let is_new = names.insert(Reverse(Vec::from_slice(alloc, entry.name)?))?;
+    let is_new = names.add(entry.name)?;
     if !is_new {
         return Err(Halt::Fault(Fault::Directory(DirectoryFault::Repeated { directory })));
     }

@@ -1,6 +1,6 @@
 //! The nodes of a file: each is marked, and each indirect block tested.
 
-ghost use Rattle.std.specs.Prelude.{◌≡◌, ◌⊎◌, IsTrue, ◌+◌, ◌-◌, ◌*◌, ◌^◌, ◌<◌, ◌≤◌, ℕ, List, None, Some, length, slice_index_or};
+ghost use Rattle.std.specs.Prelude.{◌≡◌, ◌⊎◌, IfOk, IsTrue, ◌+◌, ◌-◌, ◌*◌, ◌^◌, ◌<◌, ◌≤◌, ℕ, List, None, Some, length, slice_index_or};
 ghost use Rattle.std.specs.Int.{div_ceil};
 ghost use Rattle.layout.specs.Inode.{IsInode};
 ghost use Rattle.layout.specs.Limits.{Sizes};
@@ -15,13 +15,15 @@ ghost use Rattle.images.specs.Nodes.{Held};
 ghost use Rattle.checker.specs.Nodes.{AreIndirect, HasNodes, IsAt, IsUnder, KeepsMarks, KeepsShared, MarksFile, MarksFor, MarksThese, SharesNone};
 
 use crate::error::Halt;
-use crate::indirect::is_indirect;
-use crate::letting_go::read_block;
+use crate::letting_go::read_into;
 use crate::marks::Marks;
 use crate::{Fault, FileNode, LetsGo, TreeFault};
+use buffers::Block;
 use layout::{
-    BLOCK_POINTERS, BODY_POINTERS, BlockNumber, Body, Inode, Pointer, indirect_pointer, level_of,
+    BLOCK_POINTERS, BODY_POINTERS, BlockNumber, Body, Inode, Pointer, indirect_pointer,
+    is_indirect_block, level_of,
 };
+use std::alloc::{AllocError, Global};
 
 /// Trees that are marked at once, each with a bit of a block's entry: the newest root's, and those of snapshots.
 pub(crate) const PLANES: usize = 21;
@@ -36,17 +38,22 @@ pub(crate) struct Shared {
     pub(crate) second: FileNode,
 }
 
-/// What the trees name twice, each its first such block.
-#[derive(Clone, Copy, Debug)]
+/// What the trees name twice, each its first such block; and memory for a block that is looked through.
+#[derive(Debug, Drop)]
 pub(crate) struct SharedBlocks {
     pub(crate) of: [Option<Shared>; PLANES],
+    block: Block,
 }
 
 impl SharedBlocks {
-    pub(crate) fn none() -> SharedBlocks
-        ensures { (k : ℕ) → SharesNone result.of k }
+    pub(crate) fn none(alloc: Global) -> Result<SharedBlocks, AllocError>
+        ensures { IfOk result (λ s. (k : ℕ) → SharesNone s.of k) }
     {
-        SharedBlocks { of: [None; PLANES] }
+        let block = Block::zeroed(alloc)?;
+        Ok(SharedBlocks {
+            of: [None; PLANES],
+            block,
+        })
     }
 
     /// The trees of these bits name a block that they named before.
@@ -187,12 +194,12 @@ fn mark_node<B: LetsGo>(
         number: node.number,
         block: place.get(),
     }));
-    if !read_block(blocks, place)? {
+    if !read_into(blocks, place, &mut shared.block)? {
         return Err(outside);
     }
-    let stored = blocks.bytes(place);
+    let stored = shared.block.bytes();
     let bytes = *stored;
-    if !is_indirect(&bytes, blocks.count(), used) {
+    if !is_indirect_block(&bytes, blocks.count(), used) {
         return Err(outside);
     }
     if height == 0 && before == bits {

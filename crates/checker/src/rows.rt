@@ -80,7 +80,7 @@ impl Rows {
     {
         for w in 0..self.blocks.len() {
             let row = &self.blocks[w];
-            if is_at(row, place) {
+            if is_same(row.place, *place) {
                 return Some(w);
             }
         }
@@ -160,14 +160,14 @@ fn no_row(alloc: Global, is_whole: bool) -> Result<Row, AllocError>
     })
 }
 
-/// Whether a block was read at a place.
-fn is_at(row: &Row, place: &Pointer) -> bool
-    ensures { IsTrue result → row.now.place ≡ place.now }
+/// Whether two places are the same.
+pub(crate) fn is_same(first: Pointer, second: Pointer) -> bool
+    ensures { IsTrue result → first ≡ second }
 {
-    let Pointer::Block(there) = row.place else {
-        return place.is_hole();
+    let Pointer::Block(there) = first else {
+        return second.is_hole();
     };
-    let Pointer::Block(here) = *place else {
+    let Pointer::Block(here) = second else {
         return false;
     };
     there.get() == here.get()

@@ -1,40 +1,35 @@
 //! The table of a tree's numbers: of each what its inode says, and how many names of it were found.
 
-ghost use Rattle.std.specs.Prelude.{◌≡◌, ◌≤◌, ◌<◌, ◌+◌, ◌*◌, min, ℕ, List, Err, IfOk, OnOk, length, vec_len};
+ghost use Rattle.std.specs.Prelude.{◌≡◌, ◌≤◌, ◌<◌, ◌+◌, ◌*◌, min, ℕ, List, Err, IfOk, IsFalse, IsTrue, OnOk, length, vec_len};
 ghost use Rattle.layout.specs.Inode.{IsInode, inode_bytes};
 ghost use Rattle.layout.specs.Limits.{Sizes};
 ghost use Rattle.layout.specs.Pointer.{PointsBelow};
-ghost use Rattle.layout.specs.Root.{IsRoot};
 ghost use Rattle.layout.specs.declared.TheConstants.{INODES_PER_BLOCK, INODE_BYTES};
 ghost use Rattle.layout.specs.declared.inode.Inode.{Inode};
 ghost use Rattle.layout.specs.declared.root.Root.{Root};
 ghost use Rattle.layout.specs.declared.version.TheConstants.{VERSION};
 ghost use Rattle.buffers.specs.Reads.{HasOnlyRead};
 ghost use Rattle.buffers.specs.Disks.{IsWhole};
-ghost use Rattle.blocktree.specs.PlaceMaps.{AreBelow};
-ghost use Rattle.blocktree.specs.Places.{pointed};
-ghost use Rattle.blocktree.specs.Trees.{AreSound, IsAtLocation, OnDisk, tree_block};
-ghost use Rattle.blocktree.specs.declared.tree.BlockTree.{BlockTree};
-ghost use Rattle.images.specs.Faults.{IsTreeGrammar};
-ghost use Rattle.images.specs.Nodes.{file_block};
-ghost use Rattle.images.specs.Roots.{HeldTree, whole};
+ghost use Rattle.layout.specs.Places.{pointed};
+ghost use Rattle.blocktree.specs.PlaceMaps.{AreBelow, place_at};
+ghost use Rattle.blocktree.specs.Trees.{AreSound};
+ghost use Rattle.images.specs.Roots.{whole};
 ghost use Rattle.checker.specs.Errors.{IsFault, Looks};
 ghost use Rattle.checker.specs.Findings.{tree_in};
 ghost use Rattle.checker.specs.Names.{IsTable, IsUnnamed};
-ghost use Rattle.checker.specs.Tables.{ArePlaces, HasRows};
-ghost use Rattle.checker.specs.Trees.{IsTreeOf};
+ghost use Rattle.checker.specs.Tables.{ArePlaces, AreRowsAt, IsKnown};
 ghost use Rattle.checker.specs.Walks.{IsTreeAt};
 ghost use Rattle.checker.specs.declared.error.CheckError.TheVariants as check;
 
 use crate::letting_go::read_block;
 use crate::names::NumberRow;
+use crate::rows::is_same;
 use crate::tree::Tree;
 use crate::{CheckError, LetsGo};
-use blocktree::{Location, PlaceMap, ReadError};
+use blocktree::{PlaceMap, ReadError};
 use inode::{File, based_trees_are_sound};
 use layout::{BLOCK_BYTES, Geometry, INODE_BYTES, INODES_PER_BLOCK, Inode, Kind, Pointer};
-use loading::sound_files_read_as_held;
-use std::alloc::Global;
+use std::alloc::{AllocError, Global};
 
 /// Numbers, or blocks of directories and inodes, after which the blocks that are kept are let go of.
 pub(crate) const KEPT: u64 = 256;
@@ -51,31 +46,96 @@ pub(crate) fn forget_over<B: LetsGo>(blocks: &mut B, kept: u64, most: u64) -> u6
     kept
 }
 
-/// What the tree has of each number, no name found yet.
+/// Rows of numbers as they were read, no name found yet, and where the blocks of inodes are that they were read of.
+#[derive(Drop)]
+pub(crate) struct Known {
+    pub(crate) places: PlaceMap,
+    pub(crate) rows: Vec<NumberRow>,
+}
+
+/// What the tree has of each number, no name found yet. Rows of blocks that another tree has at the same place are known from it.
 pub(crate) fn read_table<B: LetsGo>(
     alloc: Global,
     blocks: &mut B,
     geometry: Geometry,
     tree: &Tree,
+    known: &mut Option<Known>,
 ) -> Result<Vec<NumberRow>, CheckError>
     ensures reads { Looks B.Blocks IsFault blocks.old blocks.new result }
     ensures length { IfOk result (λ table. vec_len table ≡ geometry.inodes) }
-    ensures table { (disk : ℕ → List ℕ) (r : Root) → B.Shows blocks.old disk → IsRoot r
-        → r.geometry ≡ geometry → B.count blocks.old ≡ r.geometry.blocks
-        → IsTreeOf disk r tree.now
-        → IsTreeGrammar r.geometry (tree_in (whole disk r) tree.now.plane)
+    ensures known { (disk : ℕ → List ℕ) → B.Shows blocks.old disk
+        → IsKnown disk known.old → IsKnown disk known.new }
+    ensures table { (disk : ℕ → List ℕ) (r : Root) → B.Shows blocks.old disk
+        → IsKnown disk known.old → IsTreeAt disk r geometry (B.count blocks.old) tree.now
         → IfOk result (λ table. IsTable r.geometry (tree_in (whole disk r) tree.now.plane) table.items
         × IsUnnamed table.items) }
 {
     based_trees_are_sound();
     let places = find_places(alloc, blocks, &tree.file)?;
-    let mut table = Vec::new(alloc);
+    let rows = rows_at(alloc, blocks, geometry, &places, known)?;
+    let table = Vec::from_slice(alloc, &rows)?;
+    *known = Some(Known { places, rows });
+    Ok(table)
+}
+
+/// The rows of all numbers, of the blocks of inodes at these places.
+fn rows_at<B: LetsGo>(
+    alloc: Global,
+    blocks: &mut B,
+    geometry: Geometry,
+    places: &PlaceMap,
+    known: &Option<Known>,
+) -> Result<Vec<NumberRow>, CheckError>
+    requires { AreBelow (B.count blocks.old) places.now }
+    ensures reads { Looks B.Blocks IsFault blocks.old blocks.new result }
+    ensures length { IfOk result (λ rows. vec_len rows ≡ geometry.inodes) }
+    ensures rows { (disk : ℕ → List ℕ) → B.Shows blocks.old disk → IsKnown disk known.now
+        → IfOk result (λ rows. AreRowsAt disk places.now rows.items) }
+{
+    let mut rows = Vec::new(alloc);
     let mut kept = 0;
     for i in 0..geometry.inodes().div_ceil(INODES_PER_BLOCK) {
-        read_rows(blocks, geometry, tree, places.at(i), i, &mut table)?;
+        if take_rows(known, places, geometry, i, &mut rows)? {
+            continue;
+        }
+        read_rows(blocks, places, geometry, i, &mut rows)?;
         kept = forget_over(blocks, kept + 1, KEPT);
     }
-    Ok(table)
+    Ok(rows)
+}
+
+/// Adds the rows of block `i` of those at these places, where they are known. It tells whether they are.
+fn take_rows(
+    known: &Option<Known>,
+    places: &PlaceMap,
+    geometry: Geometry,
+    i: u32,
+    rows: &mut Vec<NumberRow>,
+) -> Result<bool, AllocError>
+    requires block { INODES_PER_BLOCK * i < geometry.inodes }
+    requires length { vec_len rows.old ≡ INODES_PER_BLOCK * i }
+    ensures length { IfOk result (λ taken. IsTrue taken
+        → vec_len rows.new ≡ min (INODES_PER_BLOCK * (i + 1)) geometry.inodes) }
+    ensures none { IfOk result (λ taken. IsFalse taken → rows.new ≡ rows.old) }
+    ensures rows { (disk : ℕ → List ℕ) → IsKnown disk known.now
+        → AreRowsAt disk places.now rows.old.items
+        → IfOk result (λ taken. IsTrue taken → AreRowsAt disk places.now rows.new.items) }
+{
+    let Some(known) = known else {
+        return Ok(false);
+    };
+    let from = (INODES_PER_BLOCK * i) as usize;
+    let to = (from + INODES_PER_BLOCK as usize).min(geometry.inodes() as usize);
+    if known.rows.len() < to {
+        return Ok(false);
+    }
+    let there = known.places.at(i);
+    let here = places.at(i);
+    if !is_same(there, here) {
+        return Ok(false);
+    }
+    rows.extend_from_slice(&known.rows[from..to])?;
+    Ok(true)
 }
 
 /// Where the blocks of a file are: nowhere, where one over them is out of its grammar.
@@ -98,48 +158,31 @@ pub(crate) fn find_places<B: LetsGo>(
     }
 }
 
-/// Adds the rows of the numbers in block `i` of the tree's inode file, which is at this place.
+/// Adds the rows of the numbers in block `i` of those at these places.
 fn read_rows<B: LetsGo>(
     blocks: &mut B,
+    places: &PlaceMap,
     geometry: Geometry,
-    tree: &Tree,
-    place: Pointer,
     i: u32,
-    table: &mut Vec<NumberRow>,
+    rows: &mut Vec<NumberRow>,
 ) -> Result<(), CheckError>
-    requires place { PointsBelow (B.count blocks.old) place }
+    requires below { AreBelow (B.count blocks.old) places.now }
     requires block { INODES_PER_BLOCK * i < geometry.inodes }
-    requires length { vec_len table.old ≡ INODES_PER_BLOCK * i }
+    requires length { vec_len rows.old ≡ INODES_PER_BLOCK * i }
     ensures reads { Looks B.Blocks IsFault blocks.old blocks.new result }
-    ensures length { OnOk result (vec_len table.new ≡ min (INODES_PER_BLOCK * (i + 1)) geometry.inodes) }
-    ensures rows { (disk : ℕ → List ℕ) (r : Root) → B.Shows blocks.old disk
-        → IsTreeAt disk r geometry (B.count blocks.old) tree.now
-        → place ≡ (tree_in (whole disk r) tree.now.plane 0).place 0 i
-        → HasRows (tree_in (whole disk r) tree.now.plane) table.old.items
-        → OnOk result (HasRows (tree_in (whole disk r) tree.now.plane) table.new.items) }
+    ensures length { OnOk result (vec_len rows.new ≡ min (INODES_PER_BLOCK * (i + 1)) geometry.inodes) }
+    ensures rows { (disk : ℕ → List ℕ) → B.Shows blocks.old disk
+        → AreRowsAt disk places.now rows.old.items
+        → OnOk result (AreRowsAt disk places.now rows.new.items) }
 {
-    sound_files_read_as_held();
-    let location = find_block(blocks, place)?;
-    add_rows(tree.file.bytes(blocks, i, location), geometry, i, table)
-}
-
-/// Where the block of a file is that is at a place: nowhere, where it can't be read.
-fn find_block<B: LetsGo>(blocks: &mut B, place: Pointer) -> Result<Location, CheckError>
-    requires { PointsBelow (B.count blocks.old) place }
-    ensures reads { Looks B.Blocks IsFault blocks.old blocks.new result }
-    ensures resident { IfOk result (λ l. OnDisk l (B.IsResident blocks.new)) }
-    ensures found { (disk : ℕ → List ℕ) (t : BlockTree) (i : ℕ) → B.Shows blocks.old disk
-        → IsWhole (pointed disk place) → tree_block disk t i ≡ pointed disk place
-        → IfOk result (IsAtLocation disk t i) }
-{
-    let Pointer::Block(place) = place else {
-        return Ok(Location::Hole);
+    let place = places.at(i);
+    let Pointer::Block(at) = place else {
+        return add_rows(&[0; BLOCK_BYTES], geometry, i, rows);
     };
-    if read_block(blocks, place)? {
-        Ok(Location::Disk(place))
-    } else {
-        Ok(Location::Hole)
+    if !read_block(blocks, at)? {
+        return add_rows(&[0; BLOCK_BYTES], geometry, i, rows);
     }
+    add_rows(blocks.bytes(at), geometry, i, rows)
 }
 
 /// Adds the rows of the numbers whose inodes stand in these bytes of block `i`.
@@ -147,19 +190,20 @@ fn add_rows(
     bytes: &[u8; BLOCK_BYTES],
     geometry: Geometry,
     i: u32,
-    table: &mut Vec<NumberRow>,
+    rows: &mut Vec<NumberRow>,
 ) -> Result<(), CheckError>
     requires block { INODES_PER_BLOCK * i < geometry.inodes }
-    requires length { vec_len table.old ≡ INODES_PER_BLOCK * i }
+    requires length { vec_len rows.old ≡ INODES_PER_BLOCK * i }
     ensures device { result ≡ Err check.Device → ⊥ }
-    ensures length { OnOk result (vec_len table.new ≡ min (INODES_PER_BLOCK * (i + 1)) geometry.inodes) }
-    ensures rows { (t : HeldTree) → IsTreeGrammar geometry t → bytes.now ≡ file_block (t 0) i
-        → HasRows t table.old.items → OnOk result (HasRows t table.new.items) }
+    ensures length { OnOk result (vec_len rows.new ≡ min (INODES_PER_BLOCK * (i + 1)) geometry.inodes) }
+    ensures rows { (disk : ℕ → List ℕ) (places : PlaceMap)
+        → (IsWhole (pointed disk (place_at places i)) → bytes.now ≡ pointed disk (place_at places i))
+        → AreRowsAt disk places rows.old.items → OnOk result (AreRowsAt disk places rows.new.items) }
 {
     for place in 0..INODES_PER_BLOCK.min(geometry.inodes() - INODES_PER_BLOCK * i) {
         let at = INODE_BYTES * place as usize;
         let row = row_of(&bytes[at..at + INODE_BYTES]);
-        table.push(row)?;
+        rows.push(row)?;
     }
     Ok(())
 }

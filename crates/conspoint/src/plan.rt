@@ -1,6 +1,6 @@
 //! A planned consistency point, and how it is written.
 
-ghost use Rattle.std.specs.Prelude.{◌≡◌, ◌⊎◌, ℕ, ◌+◌, ◌-◌, ◌<◌, List, OnOk, IfErr, length, min, IsTrue, ◌↔◌};
+ghost use Rattle.std.specs.Prelude.{◌≡◌, ◌⊎◌, ℕ, ◌+◌, ◌-◌, ◌<◌, List, OnOk, IfErr, length, min};
 ghost use Rattle.station.specs.Moments.{MayLeave, EachCut, LeavesJust, Shows, Goes, LeavesOnly};
 ghost use Rattle.station.specs.Calls.{OnlyWrites};
 ghost use Rattle.buffers.specs.Disks.{ShowsDisk, disk_with_sector};
@@ -63,13 +63,6 @@ impl Plan {
         ensures planned { IsPlanned self.now }
     {
         &self.blocks
-    }
-
-    /// Whether all blocks are written.
-    pub fn is_written(&self) -> bool
-        ensures { IsTrue result ↔ (self.now.written ≡ length self.now.blocks) }
-    {
-        self.written == self.blocks.len()
     }
 
     /// How many blocks aren't written yet.

@@ -1,6 +1,6 @@
 //! Adding a name.
 
-ghost use Rattle.std.specs.Prelude.{[], ◌∷◌, ◌++◌, ◌+◌, length, Some, ◌≢◌, OnErr, ◌≤◌, ◌≡◌, ◌<◌, ℕ, List, OnOk, IsErrOf, None};
+ghost use Rattle.std.specs.Prelude.{[], ◌∷◌, ◌++◌, ◌+◌, length, Some, ◌≢◌, OnErr, ◌≤◌, ◌≡◌, ◌<◌, ℕ, List, OnOk, IfOk, IsErrOf, IsFalse, IsSome, IsTrue, None};
 ghost use Rattle.layout.specs.Directory.{Named, HoldsEntries, IsEntry, named_of, entry_bytes};
 ghost use Rattle.buffers.specs.Reads.{ReadsBlocks};
 ghost use Rattle.blocktree.specs.Errors.{IsFault};
@@ -28,8 +28,8 @@ impl Edit {
     ghost use Rattle.dirs.specs.FirstFit.{IsFirstFit};
     ghost use Rattle.dirs.specs.Room.{AddsPiece};
 
-    /// Prepares that a name is added, which stands nowhere in the directory: in the first block with room for it, else in a
-    /// new last one. DirFull where the directory has as many names as it may have.
+    /// Prepares that a name is added, in the first block with room for it, else in a new last one; or answers that it isn't,
+    /// where it stands in the directory already. DirFull where the directory has as many names as it may have.
     pub fn prepare_add<B: Blocks>(
         &mut self,
         alloc: Global,
@@ -38,7 +38,7 @@ impl Edit {
         blocks: &mut B,
         inodes: u32,
         entry: &Entry<'_>,
-    ) -> Result<(), AddError>
+    ) -> Result<bool, AddError>
         requires { IsEntry inodes (named_of entry.now) }
         ensures reads { ReadsBlocks B.Blocks IsAddFault blocks.old blocks.new result }
         ensures counted_full { IsErrOf result AddError.DirFull →
@@ -47,13 +47,22 @@ impl Edit {
         ensures keeps { KeepsRoom file.old.tree file.new.tree }
         ensures fits { FitsIn file.old self.old → FitsIn file.new self.new }
         ensures pieces { AddsPiece self.old self.new }
+        ensures there { (disk : ℕ → List ℕ) (names : NameMap) → B.Shows blocks.old disk →
+            HasEditedNames inodes disk file.old self.old names → IfOk result
+            (λ added. IsFalse added → IsSome (names entry.now.name.now)) }
+        ensures same { IfOk result (λ added. IsFalse added →
+            (self.new ≡ self.old) × (file.new ≡ file.old)) }
+        ensures missing { (disk : ℕ → List ℕ) (names : NameMap) → B.Shows blocks.old disk →
+            HasEditedNames inodes disk file.old self.old names → IfOk result
+            (λ added. IsTrue added → names entry.now.name.now ≡ None) }
         ensures added { (disk : ℕ → List ℕ) (names : NameMap) → B.Shows blocks.old disk →
-            HasEditedNames inodes disk file.old self.old names → names entry.now.name.now ≡ None →
-            OnOk result (HasEditedNames inodes disk file.new self.new
+            HasEditedNames inodes disk file.old self.old names → IfOk result
+            (λ added. IsTrue added → HasEditedNames inodes disk file.new self.new
             (with_name entry.now.name.now (Some entry.now.number) names)) }
         ensures first { (disk : ℕ → List ℕ) (names : NameMap) → B.Shows blocks.old disk →
-            (has : HasEditedNames inodes disk file.old self.old names) → OnOk result
-            (IsFirstFit inodes (named_of entry.now) has.entries self.old.count self.new.count
+            (has : HasEditedNames inodes disk file.old self.old names) → IfOk result
+            (λ added. IsTrue added →
+            IsFirstFit inodes (named_of entry.now) has.entries self.old.count self.new.count
             (edited_block disk file.old self.old) (edited_block disk file.new self.new)) }
         ensures sound { (disk : ℕ → List ℕ) → B.Shows blocks.old disk →
             OnOk result (IsSoundEdit inodes disk file.old self.old) }
@@ -61,18 +70,22 @@ impl Edit {
             HasEditedNames inodes disk file.old self.old names →
             OnErr result (HasEditedNames inodes disk file.new self.new names) }
         ensures room { (disk : ℕ → List ℕ) (names : NameMap) → B.Shows blocks.old disk →
-            HasEditedNames inodes disk file.old self.old names →
-            OnOk result ((n : ℕ) × HasCount names n × (n < DIRECTORY_NAMES)) }
+            HasEditedNames inodes disk file.old self.old names → IfOk result
+            (λ added. IsTrue added → (n : ℕ) × HasCount names n × (n < DIRECTORY_NAMES)) }
         ensures full { (disk : ℕ → List ℕ) (names : NameMap) → B.Shows blocks.old disk →
             HasEditedNames inodes disk file.old self.old names →
-            IsErrOf result AddError.DirFull →
-            (n : ℕ) × HasCount names n × (DIRECTORY_NAMES ≤ n) }
+            IsErrOf result AddError.DirFull → (names entry.now.name.now ≡ None)
+            × (n : ℕ) × HasCount names n × (DIRECTORY_NAMES ≤ n) }
         ensures damaged { (disk : ℕ → List ℕ) → B.Shows blocks.old disk →
             IsErrOf result AddError.Damaged →
             IsReached (B.count blocks.old) disk file.old self.old.count →
             IsSoundEdit inodes disk file.old self.old → ⊥ }
     {
-        let survey = survey_of(self, file, known, blocks, inodes, entry.encoded_len())?;
+        let bytes = entry.encoded_len();
+        let survey = survey_of(self, file, known, blocks, inodes, entry.name, bytes)?;
+        if survey.place.is_some() {
+            return Ok(false);
+        }
         let is_full = survey.names as usize >= DIRECTORY_NAMES;
         if is_full {
             return Err(AddError::DirFull);
@@ -81,7 +94,7 @@ impl Edit {
             Some(i) => self.add_to(alloc, file, blocks, i, inodes, entry)?,
             None => self.add_behind(alloc, file, inodes, entry)?,
         }
-        Ok(())
+        Ok(true)
     }
 
     // Prepares an entry more in block `i`, which has room for it.

@@ -80,11 +80,17 @@ impl Edit {
             IsSoundAt (B.count blocks.old) disk file.now.tree i → (entries : List Named) →
             HoldsEntries inodes (edited_block disk file.now self.now i) entries → ⊥ }
     {
+        // Of block 0 nothing is kept: so nothing of a directory of one block, nor of bytes that the edit may change again.
         if let Some(block) = self.changed.get(&i) {
-            return known.look_at(i, block.bytes(), inodes, name);
+            return known.look_at(0, block.bytes(), inodes, name);
         }
+        let kept_as = if self.count > 1 {
+            i.saturating_add(1)
+        } else {
+            0
+        };
         let location = file.locate(blocks, i)?;
-        known.look_at(i, file.bytes(blocks, i, location), inodes, name)
+        known.look_at(kept_as, file.bytes(blocks, i, location), inodes, name)
     }
 
     // Copies block `i`.

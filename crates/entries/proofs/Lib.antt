@@ -1,3 +1,4 @@
 pub mod EntryLists
 pub mod MissingLaws
 pub mod Once
+pub mod SameLaws

@@ -5,6 +5,7 @@ mod entries;
 mod known;
 mod look;
 mod marks;
+mod same;
 mod summary;
 
 pub use entries::{add, count, remove};

@@ -30,6 +30,7 @@ ghost use Rattle.entries.specs.Marks.{IsBlock, IsTally};
 use crate::entries::find;
 use crate::look::{Look, look_at};
 use crate::marks::{mark_each, mark_of};
+use crate::same::are_same;
 use layout::BLOCK_BYTES;
 use std::alloc::{AllocError, Global};
 
@@ -65,7 +66,7 @@ impl Summary {
         ensures ordinary { IfSome result (λ l. IfSome l.number (IsObjectNumber inodes)) }
         ensures likely { IfSome result IsLikely }
     {
-        if self.inodes != inodes || self.block.bytes() != bytes {
+        if self.inodes != inodes || !are_same(self.block.bytes(), bytes) {
             return None;
         }
         let number = if self.marks[mark_of(name)] == 1 {

@@ -199,6 +199,7 @@ module _ {B T : Type 0} {G : Ghosts B} {table : Descriptors} {fd : ℕ} where
     ready = λ f some none. absurd (other f some none);
     sure = λ disk settled v stands volume mounted fits. tt;
     still = λ disk settled v stands volume mounted fits named. refl;
+    linked = λ is. (refl, tt);
     damaged = λ disk settled v stands bad. cc;
   }
 
@@ -210,5 +211,6 @@ module _ {B T : Type 0} {G : Ghosts B} {table : Descriptors} {fd : ℕ} where
     ready = ready_by table fd r t f some here;
     sure = λ disk settled v stands volume mounted fits. on_err r (open_nameless table fd f v fits some none);
     still = λ disk settled v stands volume mounted fits named. absurd (named (open_nameless table fd f v fits some none));
+    linked = λ is. absurd (is f some none);
     damaged = sound;
   }

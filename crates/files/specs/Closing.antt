@@ -1,5 +1,5 @@
 -- What freeing a descriptor comes to.
-use Rattle.std.specs.Prelude.{ℕ, ◌≡◌, ◌≤◌, List, IfErr, IsTrue, OnErr, OnOk, Option, Some, Result}
+use Rattle.std.specs.Prelude.{ℕ, ◌≡◌, ◌≢◌, ◌≤◌, List, IfErr, IsTrue, OnErr, OnOk, Option, Some, Result}
 use Rattle.layout.specs.declared.inode.Inode.{Inode}
 use Rattle.model.specs.Descriptors.{closes}
 use Rattle.model.specs.Room.{nothing}
@@ -33,16 +33,22 @@ ClosesReady s table fd = (f : OpenFile) → open_at table fd ≡ Some f → f.li
 abbrev pub IsOpenNameless : Volume → Descriptors → ℕ → Type 0
 IsOpenNameless v table fd = (f : OpenFile) × (open_at table fd ≡ Some f) × IsTrue (is_nameless (v f.number))
 
+-- a descriptor is open for a file that has a link, or isn't open
+abbrev pub IsLinked : Descriptors → ℕ → Type 0
+IsLinked table fd = (f : OpenFile) → open_at table fd ≡ Some f → f.links ≢ 0
+
 -- the volume without the file of a number, where it has neither name nor descriptor
 abbrev pub swept_at : (ℕ → Option Description) → ℕ → Volume → Volume
 swept_at table n v = with_node n (swept_node (is_open table OPEN_FILES n) (v n)) v
 
--- What freeing a descriptor needs is in memory then. Only for a file that has no name anything may fail, and only for one a block is read.
+-- What freeing a descriptor needs is in memory then. Only for a file that has no name anything may fail, and only for one a block is read;
+-- whatever an image holds, for one that has no link by the table.
 pub record PreparesClose {B T : Type 0} (G : Ghosts B) (blocks after : B) (s t : InodeFile) (table : Descriptors) (fd : ℕ) (result : Result T ReadError) : Type 0 where
   pub looks : Looks G IsFault blocks after s t result
   pub ready : OnOk result (ClosesReady t table fd)
   pub sure : OnOpen G blocks s table (λ v. OnErr result (IsOpenNameless v table fd))
   pub still : OnOpen G blocks s table (λ v. (IsOpenNameless v table fd → ⊥) → after ≡ blocks)
+  pub linked : IsLinked table fd → (after ≡ blocks) × OnErr result ⊥
   pub damaged : NeverDamaged G blocks s result
 
 -- A descriptor is freed, and its file is gone where it has neither name nor another descriptor. A refusal changes nothing.

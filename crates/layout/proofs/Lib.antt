@@ -10,6 +10,7 @@ pub mod WritingLaws
 pub mod LogLemmas
 pub mod WordLaws
 pub mod MapLaws
+pub mod IndirectLaws
 pub mod InodeLaws
 pub mod RootLaws
 pub mod EntryLaws

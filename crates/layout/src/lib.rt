@@ -6,6 +6,7 @@ mod directory;
 mod entry;
 mod fields;
 mod geometry;
+mod indirect;
 mod inode;
 mod kind;
 mod log;

@@ -6,6 +6,7 @@ ghost use Rattle.std.specs.Int.{bit_at};
 ghost use Rattle.layout.specs.Pointer.{PointsBelow, pointer_number};
 ghost use Rattle.layout.specs.declared.pointer.Pointer.TheVariants.{Hole};
 
+use crate::indirect::is_filled;
 use crate::pointer::word_at;
 use crate::writing::put_u32;
 use crate::{BLOCK_BYTES, BLOCK_POINTERS, Pointer};
@@ -109,6 +110,13 @@ pub fn indirect_pointer(bytes: &[u8; BLOCK_BYTES], index: u32) -> Pointer
 /// Whether these bytes are a stored indirect block, in an image of so many blocks, over so many blocks of a file: each
 /// pointer is a hole or stays on the disk, those from `used` on are holes, and one is none.
 pub fn is_indirect_block(bytes: &[u8; BLOCK_BYTES], blocks: u32, used: u32) -> bool
+    ensures { IsTrue result ↔ IsIndirectBlock blocks used bytes.now }
+{
+    is_filled(bytes, blocks, used) || is_spelled(bytes, blocks, used)
+}
+
+// The same, pointer by pointer.
+fn is_spelled(bytes: &[u8; BLOCK_BYTES], blocks: u32, used: u32) -> bool
     ensures { IsTrue result ↔ IsIndirectBlock blocks used bytes.now }
 {
     points_within(bytes, blocks, used) && has_block(bytes)

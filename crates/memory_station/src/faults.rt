@@ -60,8 +60,8 @@ pub(crate) struct Faults {
     kept_bytes: u32,
     failing_call: Option<u32>,
     failing_sync: Option<u32>,
-    calls: u64,
-    writes: u64,
+    pub(crate) calls: u64,
+    pub(crate) writes: u64,
     syncs: u64,
 }
 

@@ -1,6 +1,6 @@
 //! A station in memory whose power can be cut at any write.
 
-ghost use Rattle.std.specs.Prelude.{◌≡◌, ◌⊎◌, ◌+◌, ◌*◌, ◌%◌, ◌<◌, ◌≤◌, ◌↔◌, [], length, All, true, false, Some, IfOk, IsErrOf};
+ghost use Rattle.std.specs.Prelude.{◌≡◌, ◌⊎◌, ◌+◌, ◌-◌, ◌*◌, ◌%◌, ◌^◌, ◌<◌, ◌≤◌, ◌↔◌, [], length, count_by, min, All, true, false, Some, IfOk, IsErrOf};
 ghost use Rattle.station.specs.Moments.{MayLeave};
 ghost use Rattle.std.specs.List.Sorted.{IsStrictlyIncreasing};
 ghost use Rattle.memory_station.specs.Disk.{images_with, HasPast, HasZeros};
@@ -50,7 +50,7 @@ pub struct Sim {
 }
 
 impl Sim {
-    ghost use Rattle.memory_station.specs.FaultPlan.{no_plan, cuts_power};
+    ghost use Rattle.memory_station.specs.FaultPlan.{no_plan, cuts_power, is_write};
     ghost use Rattle.memory_station.specs.Media.{Same};
     ghost use Rattle.memory_station.specs.Sim.{sim_meaning, plan_of, calls_of, was_cut, bad_of, IsLeftByCut, IsLoaded, KnowsSame, SameCounts};
     ghost use Rattle.memory_station.specs.Sim.{FollowsRead, FollowsWrite, FollowsNvWrite, FollowsSync, HasCountedRead, HasCountedWrite};
@@ -151,6 +151,21 @@ impl Sim {
         ensures within { All (λ n. n < (sim_meaning self.now).sectors) result.now }
     {
         &self.media.disk.bad
+    }
+
+    /// How many device calls there were since the load; at `u32::MAX` the count stays. A call that came to nothing isn't
+    /// counted: the power was off, or there was no memory to keep it.
+    pub fn device_calls(&self) -> u32
+        ensures { result ≡ min (length (calls_of self.now)) (2 ^ 32 - 1) }
+    {
+        self.faults.calls.min(u64::from(u32::MAX)) as u32
+    }
+
+    /// How many of them were device writes, to the disk or to the NVRAM.
+    pub fn device_writes(&self) -> u32
+        ensures { result ≡ min (count_by is_write (calls_of self.now)) (2 ^ 32 - 1) }
+    {
+        self.faults.writes.min(u64::from(u32::MAX)) as u32
     }
 
     /// Keeps a read, and tells whether it succeeds.

@@ -277,6 +277,7 @@ module _ {S : Type 0} {G : Ghosts S} (old new : Fs S G) (call : Command) (runs :
     epoch = told.epoch;
     calm = told.calm;
     sure = λ s serves sure. elim (told.sure s (served s serves)) [ inl on ↦ on.still | inr not ↦ absurd (not sure) ];
+    at_once = told.at_once;
     applied = λ s serves.
         called old new s serves runs told.counted.uses.same call reply is_call (elim (told.sure s (served s serves)) [ inl on ↦ inl on.sure | inr not ↦ inr not ]) runs_on
         told.counted.uses.reads told.counted.writes (told.done s (served s serves)) opens;
@@ -300,6 +301,7 @@ module _ {S : Type 0} {G : Ghosts S} (old new : Fs S G) (call : Command) (runs :
         epoch = told.epoch;
         calm = told.calm;
         sure = λ s serves sure. told.sure s (served s serves) sure;
+        at_once = told.at_once;
         applied = λ s serves room full.
             not_answered old new s serves runs call e (told.sure s (served s serves)) room full (λ is. told.own (ap (λ x. Err x) is)) flag counted
             (λ is. told.damaged s (served s serves) (ap (λ x. Err x) is)) (told.stays s (served s serves)) (λ is. told.broken s (served s serves) (ap (λ x. Err x) is));

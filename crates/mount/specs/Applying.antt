@@ -24,7 +24,7 @@ use Rattle.system.specs.Counting.{AgesBy, Counted, LogsNothing, beside_reads, ca
 use Rattle.system.specs.Images.{OpensTo}
 use Rattle.system.specs.Opening.{HasFailed}
 use Rattle.images.specs.Room.{free_under}
-use Rattle.system.specs.Serving.{HasEmptyLog, LacksRoom, ServesState, TellsNoFault}
+use Rattle.system.specs.Serving.{AnswersAtOnce, HasEmptyLog, IsAtOnce, LacksRoom, ServesState, TellsNoFault}
 use Rattle.system.specs.Systems as systems
 use Rattle.system.specs.Systems.{IsCovered}
 use Rattle.system.specs.declared.error.CallError.{CallError}
@@ -163,6 +163,7 @@ pub record Attempts {S : Type 0} {G : Ghosts S} (old new : Fs S G) (call : Comma
   pub calm : HasEmptyLog old.system → new.system.log.epoch ≡ old.system.log.epoch
   pub sure : (s : State) → Serves (mounted old s) → IsSure s call
       → MatchResult result (λ _. new.system.blocks.buffers.station ≡ old.system.blocks.buffers.station) (λ _. ⊥)
+  pub at_once : IsAtOnce old.system.files call → MatchResult result (AnswersAtOnce old.system new.system) (λ _. ⊥)
   pub applied : (s : State) → Serves (mounted old s) → MatchResult result (IsAppliedAt old s new call)
       (λ e. e ≢ NoRoom → e ≢ LogFull → IsAppliedAt old s new call (Refused (errno_of_call e)))
   pub going : IfErr result (λ e. e ≢ NotWritten → IsFalse new.has_failed)

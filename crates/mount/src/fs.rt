@@ -35,9 +35,9 @@ impl<S: Station> Fs<S> {
     ghost use Rattle.model.specs.States.{State};
     ghost use Rattle.system.specs.Counting.{AgesBy};
     ghost use Rattle.system.specs.Opening.{HasFailed};
-    ghost use Rattle.system.specs.Serving.{IsCall, WouldChange};
+    ghost use Rattle.system.specs.Serving.{AnswersAtOnce, IsAtOnce, IsCall, WouldChange};
     ghost use Rattle.system.specs.Systems.{IsCovered, meaning_of};
-    ghost use Rattle.mount.specs.Applying.{AnswersCommand, AnswersAlways, Attempts, IsAppliedAt, MakesRoom, RunsAt, WaitsForPoint};
+    ghost use Rattle.mount.specs.Applying.{AnswersCommand, AnswersAlways, Attempts, IsAppliedAt, MakesRoom, NoWriteFailed, RunsAt, WaitsForPoint};
     ghost use Rattle.mount.specs.Systems.{mounted, Serves, IsYoung, LastsFor, LeavesState};
     ghost use Rattle.mount.specs.declared.fs.Fs.{Fs};
 
@@ -45,9 +45,11 @@ impl<S: Station> Fs<S> {
     /// is not logged. EIO comes only where a device call failed, and where a write or a sync failed nothing else comes; after
     /// that every command answers FAILED, with no device call. ENOMEM comes where there was no memory, ENOSPC where
     /// the disk has no room although its newest root covers all, and then nothing changed; none of these comes to `lseek`, `fsync`, `df`,
-    /// or `close` but of a file that has no name: they call no device.
+    /// or `close` but of a file that has no name: they take no memory and call no device, whatever the images hold.
     pub fn apply(&mut self, command: &Command) -> Reply
         ensures answers { AnswersAlways self.old self.new command.now result }
+        ensures at_once { IsAtOnce self.old.system.files command.now
+            → AnswersAtOnce self.old.system self.new.system result }
         ensures quiet { command.now ≡ Command.Df → self.new ≡ self.old }
         ensures failed { IsTrue self.old.has_failed
             → (result ≡ Reply.Refused Errno.FAILED) × (self.new ≡ self.old) }
@@ -64,6 +66,8 @@ impl<S: Station> Fs<S> {
     /// The same, of one command alone.
     fn answer(&mut self, command: &Command) -> Reply
         ensures answers { AnswersAlways self.old self.new command.now result }
+        ensures at_once { IsAtOnce self.old.system.files command.now
+            → AnswersAtOnce self.old.system self.new.system result }
         ensures quiet { command.now ≡ Command.Df → self.new ≡ self.old }
         ensures failed { IsTrue self.old.has_failed
             → (result ≡ Reply.Refused Errno.FAILED) × (self.new ≡ self.old) }
@@ -81,7 +85,9 @@ impl<S: Station> Fs<S> {
     fn answer_anew(&mut self, command: &Command) -> Reply
         requires going { IsFalse self.old.has_failed }
         requires other { command.now ≢ Command.Df }
-        ensures { AnswersAlways self.old self.new command.now result }
+        ensures answers { AnswersAlways self.old self.new command.now result }
+        ensures at_once { IsAtOnce self.old.system.files command.now
+            → AnswersAtOnce self.old.system self.new.system result }
     {
         served_states_open(&self.system);
         self.system.let_go();
@@ -117,7 +123,9 @@ impl<S: Station> Fs<S> {
     fn call(&mut self, call: &Command) -> Reply
         requires going { IsFalse self.old.has_failed }
         requires is_call { IsCall call.now }
-        ensures { AnswersAlways self.old self.new call.now result }
+        ensures answers { AnswersAlways self.old self.new call.now result }
+        ensures at_once { IsAtOnce self.old.system.files call.now
+            → AnswersAtOnce self.old.system self.new.system result }
     {
         match self.attempt(call) {
             Ok(reply) => reply,
@@ -268,7 +276,7 @@ impl<S: Station> Fs<S> {
     }
 
     /// Applies commands in order and answers each. Room for all replies is taken first: `NoMemory` where there is none,
-    /// and then no command was run.
+    /// and then no command was run. Where no reply is EIO, no write and no sync failed.
     pub fn run(&mut self, commands: &[Command]) -> Result<Vec<Reply>, RunError>
         ensures uses { Uses (meaning_of self.old.system) (meaning_of self.new.system) }
         ensures refused { OnErr result (self.new ≡ self.old) }
@@ -277,6 +285,9 @@ impl<S: Station> Fs<S> {
             self.old.system.log.epoch self.new.system.log.epoch }
         ensures eio { IfOk result (λ replies. Contains replies.items (Reply.Refused Errno.EIO)
             → HasFailed (meaning_of self.old.system) (meaning_of self.new.system)) }
+        ensures written { IfOk result (λ replies.
+            (Contains replies.items (Reply.Refused Errno.EIO) → ⊥)
+            → NoWriteFailed (meaning_of self.old.system) (meaning_of self.new.system)) }
         ensures ran { (s : State) → Serves (mounted self.old s)
             → LastsFor (length commands.now) self.old
             → IfOk result (λ replies. RunsAt self.old s self.new (zip commands.now replies.items)) }

@@ -1,67 +1,96 @@
 -- The blocks that stand at some nodes.
 use Rattle.std.proofs.Common.{◌≡◌, ◌⊎◌, ◌↔◌, inl, inr, ℕ, ◌+◌, ◌<◌, ◌≤◌, List, [], length, Contains, sym, ◌∙◌, ap, arith}
+use Rattle.std.specs.Prelude.{max}
 use Rattle.std.proofs.lemmas.Bool.{cases_eq, cases_lt}
 use Rattle.layout.specs.declared.pointer.Pointer.{Pointer}
 use Rattle.layout.specs.declared.pointer.Pointer.TheVariants.{Hole, Block}
-use Rattle.layout.proofs.PointerLaws.{block_same, hole_block}
+use Rattle.layout.proofs.PointerLaws.{hole_block}
 use Rattle.blocktree.specs.PlaceMaps.{EndBefore, place_at}
 use Rattle.blocktree.specs.declared.place_map.PlaceMap.{PlaceMap}
 use Rattle.placement.specs.declared.nodes.Nodes.{Nodes}
-use Rattle.placement.specs.Nodes.{HasLeft, HasMoved, height_of, node}
+use Rattle.placement.specs.Nodes.{HasLeft, HasLeftIn, HasMoved, height_of, node}
 use Rattle.placement.proofs.PlacedLaws.{node_height}
 
--- a block stands at one of the first nodes of a height, and not at the same of the others
-abbrev pub HasLeftBelow : ℕ → PlaceMap → (ℕ → Pointer) → ℕ → Type 0
-HasLeftBelow n from to b = (k : ℕ) × (k < n) × (place_at from k ≡ Block b) × (to k ≡ Block b → ⊥)
+pub left_none : (start b : ℕ) (from : PlaceMap) (to : ℕ → Pointer) (A : Type 0) → A ↔ (A ⊎ HasLeftIn start start from to b)
+left_none start b from to A = (λ a. inl a, λ either. elim either [ inl a ↦ a | inr left ↦ absurd (omega (arith, left.1, left.2)) ])
 
-pub left_none : (from : PlaceMap) (to : ℕ → Pointer) (b : ℕ) (A : Type 0) → A ↔ (A ⊎ HasLeftBelow 0 from to b)
-left_none from to b A = (λ a. inl a, λ either. elim either [ inl a ↦ a | inr left ↦ absurd (omega (arith, left.1)) ])
-
--- one more, behind some that are holes
-pub left_more : (n i place b : ℕ) (from : PlaceMap) (to : ℕ → Pointer) (A B C : Type 0) → n ≤ i → ((k : ℕ) → n ≤ k → k < i → place_at from k ≡ Hole) → place_at from i ≡ Block place
-    → B ↔ (A ⊎ HasLeftBelow n from to b) → C ↔ (B ⊎ ((place ≡ b) × (to i ≡ Block b → ⊥))) → C ↔ (A ⊎ HasLeftBelow (i + 1) from to b)
-left_more n i place b from to A B C le gap there first second = (forth, back)
+-- one more, behind some of which none has left
+pub left_more : (start n i b : ℕ) (p : Pointer) (from : PlaceMap) (to : ℕ → Pointer) (A B C : Type 0) → start ≤ n → n ≤ i
+    → ((k : ℕ) → n ≤ k → k < i → place_at from k ≡ Block b → to k ≡ Block b) → place_at from i ≡ p
+    → B ↔ (A ⊎ HasLeftIn start n from to b) → C ↔ (B ⊎ ((p ≡ Block b) × (to i ≡ Block b → ⊥))) → C ↔ (A ⊎ HasLeftIn start (i + 1) from to b)
+left_more start n i b p from to A B C low le gap there first second = (forth, back)
   where
-    one : B → A ⊎ HasLeftBelow (i + 1) from to b
-    one has = elim (first.0 has) [ inl a ↦ inl a | inr left ↦ inr (left.0, omega (arith, left.1, le), left.2, left.3) ]
+    one : B → A ⊎ HasLeftIn start (i + 1) from to b
+    one has = elim (first.0 has) [ inl a ↦ inl a | inr left ↦ inr (left.0, left.1, omega (arith, left.2, le), left.3, left.4) ]
 
-    forth : C → A ⊎ HasLeftBelow (i + 1) from to b
+    forth : C → A ⊎ HasLeftIn start (i + 1) from to b
     forth has = elim (second.0 has) [
       | inl was ↦ one was
-      | inr left ↦ inr (i, omega arith, there ∙ ap Block left.0, left.1)
+      | inr left ↦ inr (i, omega (arith, low, le), omega arith, there ∙ left.0, left.1)
     ]
 
-    late : HasLeftBelow (i + 1) from to b → C
+    late : HasLeftIn start (i + 1) from to b → C
     late left = elim (cases_lt left.0 n) [
-      | inl below ↦ second.1 (inl (first.1 (inr (left.0, below, left.2, left.3))))
+      | inl below ↦ second.1 (inl (first.1 (inr (left.0, left.1, below, left.3, left.4))))
       | inr more ↦ elim (cases_eq left.0 i) [
-        | inl e ↦ second.1 (inr (block_same place b (sym there ∙ ap (place_at from) (sym e) ∙ left.2), λ is. left.3 (ap to e ∙ is)))
-        | inr other ↦ hole_block (sym (gap left.0 more (omega (arith, left.1, other))) ∙ left.2)
+        | inl e ↦ second.1 (inr (sym there ∙ ap (place_at from) (sym e) ∙ left.3, λ is. left.4 (ap to e ∙ is)))
+        | inr other ↦ absurd (left.4 (gap left.0 more (omega (arith, left.2, other)) left.3))
       ]
     ]
 
-    back : A ⊎ HasLeftBelow (i + 1) from to b → C
+    back : A ⊎ HasLeftIn start (i + 1) from to b → C
     back (inl a) = second.1 (inl (first.1 (inl a)))
     back (inr left) = late left
 
-pub left_all : (n end b : ℕ) (from : PlaceMap) (to : ℕ → Pointer) (A B : Type 0) → ((k : ℕ) → n ≤ k → k < end → place_at from k ≡ Hole) → EndBefore end from → B ↔ (A ⊎ HasLeftBelow n from to b) → B ↔ (A ⊎ HasLeft from to b)
-left_all n end b from to A B gap past first = (forth, back)
+-- none has left behind these
+pub left_all : (start n end b : ℕ) (from : PlaceMap) (to : ℕ → Pointer) (A B : Type 0) → n ≤ max start end
+    → ((k : ℕ) → n ≤ k → k < end → place_at from k ≡ Block b → to k ≡ Block b) → B ↔ (A ⊎ HasLeftIn start n from to b) → B ↔ (A ⊎ HasLeftIn start end from to b)
+left_all start n end b from to A B high gap first = (forth, back)
   where
-    forth : B → A ⊎ HasLeft from to b
-    forth has = elim (first.0 has) [ inl a ↦ inl a | inr left ↦ inr (left.0, left.2, left.3) ]
+    forth : B → A ⊎ HasLeftIn start end from to b
+    forth has = elim (first.0 has) [ inl a ↦ inl a | inr left ↦ inr (left.0, left.1, omega (arith, left.1, left.2, high), left.3, left.4) ]
 
-    late : HasLeft from to b → B
+    late : HasLeftIn start end from to b → B
     late left = elim (cases_lt left.0 n) [
-      | inl below ↦ first.1 (inr (left.0, below, left.1, left.2))
-      | inr more ↦ elim (cases_lt left.0 end) [
-        | inl low ↦ hole_block (sym (gap left.0 more low) ∙ left.1)
-        | inr high ↦ hole_block (sym (past left.0 high) ∙ left.1)
-      ]
+      | inl below ↦ first.1 (inr (left.0, left.1, below, left.3, left.4))
+      | inr more ↦ absurd (left.4 (gap left.0 more left.2 left.3))
     ]
 
-    back : A ⊎ HasLeft from to b → B
+    back : A ⊎ HasLeftIn start end from to b → B
     back (inl a) = first.1 (inl a)
     back (inr left) = late left
+
+-- of a height that ends there
+pub left_whole : (count b : ℕ) (from : PlaceMap) (to : ℕ → Pointer) (A B : Type 0) → EndBefore count from → B ↔ (A ⊎ HasLeftIn 0 count from to b) → B ↔ (A ⊎ HasLeft from to b)
+left_whole count b from to A B past is = (forth, back)
+  where
+    forth : B → A ⊎ HasLeft from to b
+    forth has = elim (is.0 has) [ inl a ↦ inl a | inr left ↦ inr (left.0, left.3, left.4) ]
+
+    back : A ⊎ HasLeft from to b → B
+    back (inl a) = is.1 (inl a)
+    back (inr left) = elim (cases_lt left.0 count) [
+      | inl below ↦ is.1 (inr (left.0, omega arith, below, left.1, left.2))
+      | inr more ↦ hole_block (sym (past left.0 more) ∙ left.1)
+    ]
+
+-- two ranges, one behind the other
+pub left_join : (mid end past b : ℕ) (from : PlaceMap) (to : ℕ → Pointer) (A B C : Type 0) → past ≡ max mid end → B ↔ (A ⊎ HasLeftIn 0 mid from to b) → C ↔ (B ⊎ HasLeftIn mid end from to b)
+    → C ↔ (A ⊎ HasLeftIn 0 past from to b)
+left_join mid end past b from to A B C is first second = (forth, back)
+  where
+    forth : C → A ⊎ HasLeftIn 0 past from to b
+    forth has = elim (second.0 has) [
+      | inl was ↦ elim (first.0 was) [ inl a ↦ inl a | inr left ↦ inr (left.0, left.1, omega (arith, left.2, is), left.3, left.4) ]
+      | inr left ↦ inr (left.0, omega arith, omega (arith, left.2, is), left.3, left.4)
+    ]
+
+    back : A ⊎ HasLeftIn 0 past from to b → C
+    back (inl a) = second.1 (inl (first.1 (inl a)))
+    back (inr left) = elim (cases_lt left.0 mid) [
+      | inl low ↦ second.1 (inl (first.1 (inr (left.0, left.1, low, left.3, left.4))))
+      | inr more ↦ second.1 (inr (left.0, more, omega (arith, left.2, is, more), left.3, left.4))
+    ]
 
 -- a block stands at a node of one of the first heights, and not at the same of the others
 abbrev pub HasMovedBelow : ℕ → Nodes → Nodes → ℕ → Type 0

@@ -8,6 +8,7 @@ use Rattle.layout.specs.declared.pointer.Pointer.TheVariants.{Hole, Block}
 use Rattle.images.specs.Nodes.{Held}
 use Rattle.blocktree.specs.Names.{nodes_at}
 use Rattle.blocktree.specs.PlaceMaps.{AreBelow, place_at}
+use Rattle.blocktree.specs.Trees.{IsChanged}
 use Rattle.blocktree.specs.declared.place_map.PlaceMap.{PlaceMap}
 use Rattle.blocktree.specs.declared.tree.BlockTree.{BlockTree}
 use Rattle.conspoint.specs.declared.draft.Draft.{Draft}
@@ -47,6 +48,10 @@ AreShort count n = (m i : ℕ) → count ≤ i → node n m i ≡ Hole
 abbrev pub HasLeft : PlaceMap → (ℕ → Pointer) → ℕ → Type 0
 HasLeft from to b = (i : ℕ) × (place_at from i ≡ Block b) × (to i ≡ Block b → ⊥)
 
+-- the same among the nodes from one on and before another
+abbrev pub HasLeftIn : ℕ → ℕ → PlaceMap → (ℕ → Pointer) → ℕ → Type 0
+HasLeftIn start end from to b = (i : ℕ) × (start ≤ i) × (i < end) × (place_at from i ≡ Block b) × (to i ≡ Block b → ⊥)
+
 -- a block stands at one of these nodes, and not at the same of those
 abbrev pub HasMoved : Nodes → Nodes → ℕ → Type 0
 HasMoved from to b = (m : ℕ) × (i : ℕ) × (node from m i ≡ Block b) × (node to m i ≡ Block b → ⊥)
@@ -77,3 +82,7 @@ pub record ArePlacedOver (old new : Draft) (settled placed : Nodes) : Type 0 whe
 pub record AreCounted (t : BlockTree) (n : Nodes) : Type 0 where
   pub heights : height_of n ≡ suc t.depth
   pub end : (m i : ℕ) → nodes_at t.count m ≤ i → node n m i ≡ Hole
+
+-- of a file's blocks behind the first and before one, those that aren't changed lie where the settled ones do
+abbrev pub AreKept : ℕ → BlockTree → Nodes → Nodes → Type 0
+AreKept past t settled placed = (i : ℕ) → 1 ≤ i → i < past → (IsChanged t i → ⊥) → node placed 0 i ≡ node settled 0 i

@@ -17,13 +17,13 @@ ghost use Rattle.conspoint.specs.Drafts.{OnEach, IsReserved};
 ghost use Rattle.conspoint.specs.Space.{changed_blocks};
 ghost use Rattle.placement.specs.Files.{IsChangeOf, IsPlaced, content_with, is_one, object_block, with_first};
 ghost use Rattle.placement.specs.Layouts.{AreSettledNodes, IsLaidOut, inode_with};
-ghost use Rattle.placement.specs.Nodes.{AreCounted, ArePlacedAt, ArePlacedOver, AreShort, AreWithin, height_of, node};
+ghost use Rattle.placement.specs.Nodes.{AreCounted, AreKept, ArePlacedAt, ArePlacedOver, AreShort, AreWithin, height_of, node};
 ghost use Rattle.placement.specs.Space.{first_stores};
 ghost use Rattle.conspoint.specs.Steps.{Places};
 ghost use Rattle.placement.specs.Steps.{PlacesFile, file_in};
 
 use crate::blocks::place_lowest;
-use crate::file::{Laid, PlacedFile, block_count, lay_over, placed_file};
+use crate::file::{Laid, PlacedFile, block_count, kept_of, lay_over, placed_file};
 use crate::nodes::Nodes;
 use crate::settled::settled_nodes;
 use blocktree::{BlockTree, PlaceMap};
@@ -78,6 +78,8 @@ fn lay_but_first(
     ensures reserved { IfOk result (λ r. IsReserved draft.new r.1) }
     ensures placed { IfOk result (λ r. ArePlacedOver draft.old draft.new settled.now r.0.nodes) }
     ensures short { IfOk result (λ r. AreShort (block_count object.now.file.size) r.0.nodes) }
+    ensures kept { IfOk result (λ r.
+        AreKept r.0.kept object.now.file.tree settled.now r.0.nodes) }
     ensures first { IfOk result (λ r. node r.0.nodes 0 0 ≡ Block r.1) }
     ensures whole { OnOk result
         (AreWholeOver object.now.file.tree 1 (block_count object.now.file.size)) }
@@ -91,7 +93,8 @@ fn lay_but_first(
     let count = block_count(object);
     let placed = place_but_first(alloc, draft, object.file.tree(), settled, count)?;
     let (blocks, first) = placed;
-    let laid = lay_over(alloc, draft, object, settled, blocks)?;
+    let kept = kept_of(object, count);
+    let laid = lay_over(alloc, draft, object, settled, blocks, kept)?;
     Ok((laid, first))
 }
 

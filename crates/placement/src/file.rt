@@ -1,6 +1,6 @@
 //! A changed file, placed.
 
-ghost use Rattle.std.specs.Prelude.{◌≡◌, ◌≢◌, ℕ, ◌<◌, ◌≤◌, List, [], length, All, Contains, ◌↔◌, IfOk, OnOk, IsErrOf, nat_lt, if◌then◌else◌};
+ghost use Rattle.std.specs.Prelude.{◌≡◌, ◌≢◌, ℕ, ◌<◌, ◌≤◌, List, [], length, All, Contains, ◌↔◌, IfOk, OnOk, IsErrOf, min, nat_lt, if◌then◌else◌};
 ghost use Rattle.layout.specs.Limits.{Sizes};
 ghost use Rattle.layout.specs.Version.{level_of};
 ghost use Rattle.layout.specs.declared.inode.Inode.{Inode};
@@ -18,7 +18,7 @@ ghost use Rattle.conspoint.specs.Drafts.{OnEach};
 ghost use Rattle.conspoint.specs.Groups.{group};
 ghost use Rattle.placement.specs.Files.{AreAllChanged, IsChangeOf, IsPlaced, IsWholeOver, is_one, object_block, object_content};
 ghost use Rattle.placement.specs.Layouts.{AreSettledNodes, Carries, IsLaidOut, StandsIn, inode_with};
-ghost use Rattle.placement.specs.Nodes.{AreCounted, ArePlacedIn, ArePlacedOver, AreShort, AreWithin, HasMoved, height_of, node, under};
+ghost use Rattle.placement.specs.Nodes.{AreCounted, AreKept, ArePlacedIn, ArePlacedOver, AreShort, AreWithin, HasMoved, height_of, node, under};
 ghost use Rattle.placement.specs.Space.{file_stores};
 ghost use Rattle.conspoint.specs.Steps.{Places};
 ghost use Rattle.placement.specs.Steps.{PlacesFile, PlacesHeights, ReadsAndPlaces};
@@ -53,6 +53,8 @@ pub struct PlacedFile {
 pub(crate) struct Laid {
     pub(crate) nodes: Nodes,
     pub(crate) body: Body,
+    /// Of the blocks behind the first and before this one, those that aren't changed lie where the settled ones do.
+    pub(crate) kept: u32,
 }
 
 /// How many blocks an object has.
@@ -62,6 +64,13 @@ pub(crate) fn block_count(object: &Object) -> u32
     object.file.size().div_ceil(4096) as u32
 }
 
+/// How many of an object's first `count` blocks may be as settled.
+pub(crate) fn kept_of(object: &Object, count: u32) -> u32
+    ensures { result ≡ min object.now.file.tree.kept count }
+{
+    object.file.tree().kept().min(count)
+}
+
 /// A file with these blocks, at the level that its size has, which isn't 0.
 pub(crate) fn lay_over(
     alloc: Global,
@@ -69,12 +78,14 @@ pub(crate) fn lay_over(
     object: &Object,
     settled: &Nodes,
     blocks: PlaceMap,
+    kept: u32,
 ) -> Result<Laid, PlanError>
     requires level { 1 ≤ level_of object.now.file.size }
     requires end { EndBefore (block_count object.now.file.size) blocks }
     requires blocks { AreBelow draft.old.map.count blocks }
     requires settled { AreWithin draft.old.map.count settled.now }
     ensures step { PlacesHeights (block_count object.now.file.size) (level_of object.now.file.size) (under settled.now 0) (group blocks) draft.old draft.new result }
+    ensures kept { IfOk result (λ l. l.kept ≡ kept) }
     ensures blocks { IfOk result (λ l. (i : ℕ) → node l.nodes 0 i ≡ place_at blocks i) }
     ensures end { IfOk result (λ l. (m i : ℕ)
         → nodes_at (block_count object.now.file.size) m ≤ i → node l.nodes m i ≡ Hole) }
@@ -91,7 +102,7 @@ pub(crate) fn lay_over(
     let nodes = raise_all(alloc, draft, settled, blocks, block_count(object), level)?;
     let highest = nodes.height(level - 1);
     let body = Body::Pointers(body_of(highest));
-    Ok(Laid { nodes, body })
+    Ok(Laid { nodes, body, kept })
 }
 
 /// An object that isn't of level 0, over the nodes of its settled inode.
@@ -115,6 +126,8 @@ fn lay_blocks(
         (AreWholeOver object.now.file.tree 0 (block_count object.now.file.size)) }
     ensures placed { IfOk result (λ l. ArePlacedOver draft.old draft.new settled.now l.nodes) }
     ensures short { IfOk result (λ l. AreShort (block_count object.now.file.size) l.nodes) }
+    ensures kept { IfOk result (λ l.
+        AreKept l.kept object.now.file.tree settled.now l.nodes) }
     ensures stands { (s : Sizes) (disk : ℕ → List ℕ) (base : Inode)
         → IsChangeOf s draft.old disk base object.now
         → AreSettledNodes disk base object.now.file.tree settled.now
@@ -123,7 +136,8 @@ fn lay_blocks(
 {
     let count = block_count(object);
     let blocks = place_lowest(alloc, draft, object.file.tree(), 0, settled, count)?;
-    let laid = lay_over(alloc, draft, object, settled, blocks)?;
+    let kept = kept_of(object, count);
+    let laid = lay_over(alloc, draft, object, settled, blocks, kept)?;
     Ok(laid)
 }
 
@@ -132,6 +146,7 @@ fn lay_inline<B: Blocks>(alloc: Global, blocks: &mut B, object: &Object) -> Resu
     requires level { level_of object.now.file.size ≡ 0 }
     ensures reads { ReadsBlocks B.Blocks IsReadFault blocks.old blocks.new result }
     ensures none { IfOk result (λ l. l.nodes.heights.items ≡ []) }
+    ensures kept { IfOk result (λ l. l.kept ≡ 0) }
     ensures stands { (s : Sizes) (disk : ℕ → List ℕ) (e : ℕ → List ℕ) → B.Shows blocks.old disk
         → IsFile disk object.now.file → IfOk result (λ l.
         IsLaidOut s e (object_block disk object.now) (inode_with object.now l.body) l.nodes) }
@@ -144,7 +159,11 @@ fn lay_inline<B: Blocks>(alloc: Global, blocks: &mut B, object: &Object) -> Resu
     let nodes = Nodes {
         heights: Vec::new(alloc),
     };
-    Ok(Laid { nodes, body })
+    Ok(Laid {
+        nodes,
+        body,
+        kept: 0,
+    })
 }
 
 /// An object at the level that its size has, over the nodes of its settled inode.
@@ -170,6 +189,8 @@ fn lay<B: Blocks>(
         → AreWholeOver object.now.file.tree 0 (block_count object.now.file.size)) }
     ensures placed { IfOk result (λ l. ArePlacedOver draft.old draft.new settled.now l.nodes) }
     ensures short { IfOk result (λ l. AreShort (block_count object.now.file.size) l.nodes) }
+    ensures kept { IfOk result (λ l.
+        AreKept l.kept object.now.file.tree settled.now l.nodes) }
     ensures stands { (s : Sizes) (disk : ℕ → List ℕ) (base : Inode) → B.Shows blocks.old disk
         → IsChangeOf s draft.old disk base object.now
         → AreSettledNodes disk base object.now.file.tree settled.now
@@ -197,6 +218,7 @@ pub(crate) fn placed_file(
 ) -> Result<PlacedFile, AllocError>
     requires laid { AreShort (block_count object.now.file.size) laid.nodes }
     requires counted { AreCounted object.now.file.tree settled.now }
+    requires kept { AreKept laid.kept object.now.file.tree settled.now laid.nodes }
     ensures inode { IfOk result (λ p. p.inode ≡ inode_with object.now laid.body) }
     ensures taken { IfOk result (λ p. (b : ℕ)
         → Contains p.taken.items b ↔ HasMoved laid.nodes settled.now b) }
@@ -207,9 +229,10 @@ pub(crate) fn placed_file(
     ensures freed_within { (count : ℕ) → AreWithin count settled.now
         → IfOk result (λ p. All (λ b. b < count) p.freed.items) }
 {
-    let Laid { nodes, body } = laid;
-    let taken = moved(alloc, &nodes, settled, block_count(object))?;
-    let freed = moved(alloc, settled, &nodes, object.file.tree().count())?;
+    let Laid { nodes, body, kept } = laid;
+    let tree = object.file.tree();
+    let taken = moved(alloc, &nodes, settled, tree, kept, block_count(object))?;
+    let freed = moved(alloc, settled, &nodes, tree, kept, tree.count())?;
     let inode = Inode {
         kind: object.attributes.kind,
         mode: object.attributes.mode,

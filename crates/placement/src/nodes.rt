@@ -5,11 +5,12 @@ ghost use Rattle.layout.specs.Pointer.{PointsBelow};
 ghost use Rattle.layout.specs.declared.TheConstants.{BODY_POINTERS};
 ghost use Rattle.layout.specs.declared.pointer.Pointer.TheVariants.{Hole, Block};
 ghost use Rattle.blocktree.specs.PlaceMaps.{AreBelow, EndBefore, place_at};
+ghost use Rattle.blocktree.specs.Trees.{IsChanged};
 ghost use Rattle.conspoint.specs.Groups.{pointer_at};
 ghost use Rattle.conspoint.specs.MapFiles.{map_nodes};
-ghost use Rattle.placement.specs.Nodes.{AreShort, AreWithin, HasLeft, HasMoved, height_of, node};
+ghost use Rattle.placement.specs.Nodes.{AreKept, AreShort, AreWithin, HasLeft, HasLeftIn, HasMoved, height_of, node};
 
-use blocktree::PlaceMap;
+use blocktree::{BlockTree, PlaceMap};
 use layout::{BODY_POINTERS, BlockNumber, Pointer};
 use std::alloc::{AllocError, Global};
 
@@ -104,53 +105,114 @@ fn leads_to(pointer: Pointer, block: BlockNumber) -> bool
     }
 }
 
-/// Adds a block, if this pointer doesn't lead to it.
-fn add_moved(
-    block: BlockNumber,
-    to: Pointer,
-    blocks: &mut Vec<BlockNumber>,
-) -> Result<(), AllocError>
+/// Adds the block that a pointer leads to, if there is one and another doesn't lead to it.
+fn add_moved(from: Pointer, to: Pointer, blocks: &mut Vec<BlockNumber>) -> Result<(), AllocError>
     ensures left { OnOk result ((b : ℕ) → Contains blocks.new.items b
-        ↔ (Contains blocks.old.items b ⊎ ((block ≡ b) × (to ≡ Block b → ⊥)))) }
-    ensures within { (count : ℕ) → block < count
+        ↔ (Contains blocks.old.items b ⊎ ((from ≡ Block b) × (to ≡ Block b → ⊥)))) }
+    ensures within { (count : ℕ) → PointsBelow count from
         → All (λ b. b < count) blocks.old.items → All (λ b. b < count) blocks.new.items }
 {
-    if !leads_to(to, block) {
-        blocks.push(block)?;
+    if let Pointer::Block(block) = from {
+        if !leads_to(to, block) {
+            blocks.push(block)?;
+        }
     }
     Ok(())
 }
 
-/// Adds the blocks at the first `count` nodes of one height of a file that don't stand at the same of the other.
+/// Adds the blocks at nodes of one height of a file that don't stand at the same of the other: of the nodes from one on and before
+/// another.
 fn add_left(
     from: &PlaceMap,
     to: &Nodes,
     height: usize,
-    count: u32,
+    start: u32,
+    end: u32,
     blocks: &mut Vec<BlockNumber>,
 ) -> Result<(), AllocError>
-    requires { EndBefore count from.now }
     ensures left { OnOk result ((b : ℕ) → Contains blocks.new.items b
-        ↔ (Contains blocks.old.items b ⊎ HasLeft from.now (node to.now height) b)) }
+        ↔ (Contains blocks.old.items b ⊎ HasLeftIn start end from.now (node to.now height) b)) }
     ensures within { (disk : ℕ) → AreBelow disk from.now
         → All (λ b. b < disk) blocks.old.items → All (λ b. b < disk) blocks.new.items }
 {
-    let mut next = 0;
-    while let Some(node) = from.next(next, count) {
-        add_moved(node.place, to.at(height, node.index), blocks)?;
+    let mut next = start;
+    while let Some(node) = from.next(next, end) {
+        add_moved(
+            Pointer::Block(node.place),
+            to.at(height, node.index),
+            blocks,
+        )?;
         next = node.index + 1;
     }
     Ok(())
 }
 
-/// The blocks at nodes of one file, of which each height has `count` at the most, that don't stand at the same of the other.
+/// As `add_left`, where only changed blocks of a file may have left.
+fn add_changed(
+    from: &PlaceMap,
+    to: &Nodes,
+    height: usize,
+    tree: &BlockTree,
+    start: u32,
+    end: u32,
+    blocks: &mut Vec<BlockNumber>,
+) -> Result<(), AllocError>
+    requires kept { (i : ℕ) → start ≤ i → i < end → (IsChanged tree.now i → ⊥)
+        → place_at from.now i ≡ node to.now height i }
+    ensures left { OnOk result ((b : ℕ) → Contains blocks.new.items b
+        ↔ (Contains blocks.old.items b ⊎ HasLeftIn start end from.now (node to.now height) b)) }
+    ensures within { (disk : ℕ) → AreBelow disk from.now
+        → All (λ b. b < disk) blocks.old.items → All (λ b. b < disk) blocks.new.items }
+{
+    let mut next = start;
+    while let Some((i, _)) = tree.next_changed(next, end) {
+        add_moved(from.at(i), to.at(height, i), blocks)?;
+        next = i + 1;
+    }
+    Ok(())
+}
+
+/// Adds the blocks at the first `count` nodes of one height of a file that don't stand at the same of the other. Of its blocks behind
+/// the first and before `kept` only the changed ones are looked at.
+fn add_height(
+    from: &PlaceMap,
+    to: &Nodes,
+    height: usize,
+    tree: &BlockTree,
+    kept: u32,
+    count: u32,
+    blocks: &mut Vec<BlockNumber>,
+) -> Result<(), AllocError>
+    requires short { EndBefore count from.now }
+    requires kept { height ≡ 0 → (i : ℕ) → 1 ≤ i → i < kept → (IsChanged tree.now i → ⊥)
+        → place_at from.now i ≡ node to.now height i }
+    ensures left { OnOk result ((b : ℕ) → Contains blocks.new.items b
+        ↔ (Contains blocks.old.items b ⊎ HasLeft from.now (node to.now height) b)) }
+    ensures within { (disk : ℕ) → AreBelow disk from.now
+        → All (λ b. b < disk) blocks.old.items → All (λ b. b < disk) blocks.new.items }
+{
+    if height > 0 {
+        add_left(from, to, height, 0, count, blocks)?;
+        return Ok(());
+    }
+    add_left(from, to, height, 0, 1, blocks)?;
+    add_changed(from, to, height, tree, 1, kept, blocks)?;
+    add_left(from, to, height, kept.max(1), count, blocks)?;
+    Ok(())
+}
+
+/// The blocks at nodes of one file, of which each height has `count` at the most, that don't stand at the same of the other. Of the
+/// file's blocks behind the first and before `kept` only the changed ones may.
 pub(crate) fn moved(
     alloc: Global,
     from: &Nodes,
     to: &Nodes,
+    tree: &BlockTree,
+    kept: u32,
     count: u32,
 ) -> Result<Vec<BlockNumber>, AllocError>
-    requires { AreShort count from.now }
+    requires short { AreShort count from.now }
+    requires kept { AreKept kept tree.now to.now from.now }
     ensures moved { IfOk result (λ blocks. (b : ℕ)
         → Contains blocks.items b ↔ HasMoved from.now to.now b) }
     ensures within { (disk : ℕ) → AreWithin disk from.now
@@ -158,7 +220,8 @@ pub(crate) fn moved(
 {
     let mut blocks = Vec::new(alloc);
     for height in 0..from.heights.len() {
-        add_left(from.height(height), to, height, count, &mut blocks)?;
+        let places = from.height(height);
+        add_height(places, to, height, tree, kept, count, &mut blocks)?;
     }
     Ok(blocks)
 }

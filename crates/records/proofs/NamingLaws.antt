@@ -7,6 +7,7 @@ use Rattle.std.proofs.lemmas.Slice.Eq.{bytes_eq-Decides}
 use Rattle.layout.specs.DirectoryNames.{NameMap}
 use Rattle.model.specs.Paths.{Name}
 use Rattle.dirs.specs.Directory.{with_name}
+use Rattle.dirs.specs.Edits.{HasEditedNames}
 use Rattle.dirs.specs.Room.{piece_count}
 use Rattle.dirs.specs.declared.edit.Edit.{Edit}
 use Rattle.buffers.specs.Reads.{ReadsBlocks}
@@ -122,8 +123,8 @@ pub moved_names : (inodes : ℕ) (disk : ℕ → List ℕ) (file : File) (old en
 moved_names inodes disk file old entry names (Some edit) is = (subst HasPlace (names_gone old.name.now entry.name.now names) is.0, is.1)
 moved_names inodes disk file old entry names None never = λ place. never (subst HasPlace (sym (names_gone old.name.now entry.name.now names)) place)
 
--- a name that isn't there yet, and so stands for something, is one more
-pub added_names : (inodes : ℕ) (disk : ℕ → List ℕ) (file : File) (entry : Entry) (names : NameMap) → names entry.name.now ≡ None → (o : Option Edit)
-    → EditsNames inodes disk file (edits.Replace entry) names o → EditsNames inodes disk file (edits.Add entry) names o
-added_names inodes disk file entry names missing (Some edit) is = (record { missing = missing; place = subst HasPlace (none_gone entry.name.now names missing) is.0 }, is.1)
-added_names inodes disk file entry names missing None never = λ takes. never (subst HasPlace (sym (none_gone entry.name.now names missing)) takes.place)
+-- a name that goes, and is one more then, is replaced
+pub replaced_names : (inodes : ℕ) (disk : ℕ → List ℕ) (file : File) (entry : Entry) (names : NameMap) (o : Option Edit)
+    → EditsNames inodes disk file (edits.Add entry) (with_name entry.name.now None names) o → EditsNames inodes disk file (edits.Replace entry) names o
+replaced_names inodes disk file entry names (Some edit) is = (is.0.place, subst (HasEditedNames inodes disk file edit) (name_replaced entry.name.now (Some entry.number) names) is.1)
+replaced_names inodes disk file entry names None never = λ place. never (record { missing = name_gone entry.name.now names; place = place })

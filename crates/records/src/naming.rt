@@ -73,11 +73,15 @@ fn add_new<B: Blocks>(
     ensures { EditsFile (λ disk. HasEditedNames inodes disk file.old edit) (piece_count edit + 1) B.Blocks blocks.old blocks.new
         inodes file.old file.new (NameEdit.Add entry.now) result }
 {
-    let found = edit.find(file, known, blocks, inodes, entry.name)?;
-    if found.is_some() {
-        return Ok(None);
+    let mut edit = edit;
+    match edit.prepare_add(alloc, file, known, blocks, inodes, entry) {
+        Ok(true) => Ok(Some(edit)),
+        Ok(false) => Ok(None),
+        Err(AddError::DirFull) => Ok(None),
+        Err(AddError::NoMemory) => Err(ReadError::NoMemory),
+        Err(AddError::Device) => Err(ReadError::Device),
+        Err(AddError::Damaged) => Err(ReadError::Damaged),
     }
-    add_in(alloc, file, known, blocks, inodes, edit, entry)
 }
 
 // A name is gone; never None.
@@ -114,7 +118,33 @@ fn replace_in<B: Blocks>(
         inodes file.old file.new (NameEdit.Replace entry.now) result }
 {
     let edit = remove_in(alloc, file, known, blocks, inodes, edit, entry.name)?;
-    add_in(alloc, file, known, blocks, inodes, edit, entry)
+    add_new(alloc, file, known, blocks, inodes, edit, entry)
+}
+
+// The same, where it is likely that nothing has the name: the directory is looked through once then.
+fn place_in<B: Blocks>(
+    alloc: Global,
+    file: &mut File,
+    known: &mut Known,
+    blocks: &mut B,
+    inodes: u32,
+    edit: Edit,
+    entry: &Entry<'_>,
+) -> Result<Option<Edit>, ReadError>
+    requires entry { IsEntry inodes (named_of entry.now) }
+    requires fits { FitsIn file.old edit }
+    ensures { EditsFile (λ disk. HasEditedNames inodes disk file.old edit) (piece_count edit + 2) B.Blocks blocks.old blocks.new
+        inodes file.old file.new (NameEdit.Replace entry.now) result }
+{
+    let mut edit = edit;
+    match edit.prepare_add(alloc, file, known, blocks, inodes, entry) {
+        Ok(true) => Ok(Some(edit)),
+        Ok(false) => replace_in(alloc, file, known, blocks, inodes, edit, entry),
+        Err(AddError::DirFull) => Ok(None),
+        Err(AddError::NoMemory) => Err(ReadError::NoMemory),
+        Err(AddError::Device) => Err(ReadError::Device),
+        Err(AddError::Damaged) => Err(ReadError::Damaged),
+    }
 }
 
 // A name is gone, and the entry stands in place of the one with its name; None where there is no place for one more.
@@ -134,34 +164,7 @@ fn move_in<B: Blocks>(
         inodes file.old file.new (edits.Move old.entry entry.now) result }
 {
     let edit = remove_in(alloc, file, known, blocks, inodes, edit, old)?;
-    let edit = remove_in(alloc, file, known, blocks, inodes, edit, entry.name)?;
-    add_in(alloc, file, known, blocks, inodes, edit, entry)
-}
-
-// One more name in an edit of names without it; None where there is no place for it.
-fn add_in<B: Blocks>(
-    alloc: Global,
-    file: &mut File,
-    known: &mut Known,
-    blocks: &mut B,
-    inodes: u32,
-    edit: Edit,
-    entry: &Entry<'_>,
-) -> Result<Option<Edit>, ReadError>
-    requires entry { IsEntry inodes (named_of entry.now) }
-    requires fits { FitsIn file.old edit }
-    ensures { EditsFile (λ disk names. HasEditedNames inodes disk file.old edit
-        (with_name entry.now.name.now None names)) (piece_count edit + 1) B.Blocks blocks.old blocks.new
-        inodes file.old file.new (NameEdit.Replace entry.now) result }
-{
-    let mut edit = edit;
-    match edit.prepare_add(alloc, file, known, blocks, inodes, entry) {
-        Ok(()) => Ok(Some(edit)),
-        Err(AddError::DirFull) => Ok(None),
-        Err(AddError::NoMemory) => Err(ReadError::NoMemory),
-        Err(AddError::Device) => Err(ReadError::Device),
-        Err(AddError::Damaged) => Err(ReadError::Damaged),
-    }
+    place_in(alloc, file, known, blocks, inodes, edit, entry)
 }
 
 // A name is gone.

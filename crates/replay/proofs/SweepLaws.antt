@@ -1,14 +1,25 @@
 -- A volume whose files without names are dropped, number after number.
-use Rattle.std.proofs.Common.{◌≡◌, inl, inr, ℕ, suc, ◌+◌, ◌<◌, ◌≤◌, Bool, true, false, refl, sym, ap, subst, ◌∙◌, arith, add-one}
-use Rattle.std.specs.Prelude.{Option, Some, None, IsSome, IsTrue, nat_lt, if◌then◌else◌, ◌==◌}
+use Rattle.std.proofs.Common.{◌≡◌, inl, inr, ℕ, List, zero, suc, true≢false, ◌+◌, ◌<◌, ◌≤◌, Bool, true, false, refl, sym, ap, subst, ◌∙◌, arith, add-one}
+use Rattle.std.specs.Prelude.{Option, Some, None, nat_eq, IsSome, IsTrue, nat_lt, if◌then◌else◌, ◌==◌}
 use Rattle.std.specs.Int.{from_bool}
+use Rattle.std.proofs.Math.Dec.{eqb-suc-zero}
 use Rattle.std.proofs.Math.Path.{fun_ext}
 use Rattle.std.proofs.lemmas.Bool.{cases_lt, cases_eq, cond_below, cond_above}
 use Rattle.std.proofs.lemmas.Bool.Decides.{nat_tests}
 use Rattle.model.specs.Records.{count_nameless, without_nameless}
-use Rattle.model.specs.Volumes.{Node, directory_node, file_node, link_node, Volume, is_directory_node, is_nameless, swept_node, with_node}
+use Rattle.model.specs.Volumes.{Node, directory_node, file_node, link_node, Volume, is_directory_node, is_file_node, is_nameless, swept_node, with_node}
 use Rattle.records.specs.Preparing.{HasGraph}
-use Rattle.inofile.specs.Volumes.{HasNoOwn}
+use Rattle.inofile.specs.Inodes.{IsKnownSlot}
+use Rattle.inofile.specs.Settled.{held_content}
+use Rattle.inofile.specs.Volumes.{HasNoOwn, SlotStandsFor}
+use Rattle.inofile.specs.declared.inode_file.ObjectSlot.{ObjectSlot}
+use Rattle.inofile.specs.declared.inode_file.ObjectSlot.TheVariants.{AsSettled, Loaded, Changed}
+use Rattle.images.specs.Nodes.{held}
+use Rattle.images.specs.Sizes.{StandsForIn}
+use Rattle.images.specs.Soundness.{Detail}
+use Rattle.layout.specs.declared.inode.Inode.{Inode}
+use Rattle.layout.specs.declared.kind.Kind.TheVariants as kinds
+use Rattle.records.proofs.KindLaws.{not_file, sized_file}
 
 -- the files without names below a number are dropped
 abbrev pub dropped_below : ℕ → Volume → Volume
@@ -108,3 +119,33 @@ pub one_counted : (m count k : ℕ) (v : Volume) (one : Bool) → count ≡ coun
 one_counted m count k v one so_far is here =
     ap (λ (n : ℕ). n + k) so_far ∙ ap (λ (n : ℕ). count_nameless m v + n) (here ∙ of_bool one ∙ ap (λ (b : Bool). if b then 1 else 0) is)
     ∙ ap (λ (n : ℕ). count_nameless n v) (sym (add-one m))
+
+-- ---- what a settled inode tells
+
+nameless_links : (mode links : ℕ) (bytes : List ℕ) → nat_eq links 0 ≡ is_nameless (Some (file_node mode links bytes))
+nameless_links mode zero bytes = refl
+nameless_links mode (suc links) bytes = eqb-suc-zero links
+
+other_named : (o : Option Node) → is_file_node o ≡ false → false ≡ is_nameless o
+other_named None is = refl
+other_named (Some (directory_node mode names)) is = refl
+other_named (Some (link_node text)) is = refl
+other_named (Some (file_node mode links bytes)) is = absurd (true≢false is)
+
+pub file_named : (detail : Detail) (disk : ℕ → List ℕ) (inodes : ℕ) (i : Inode) (found : Option Node) → i.kind ≡ kinds.File → StandsForIn detail inodes (held_content disk i) found → nat_eq i.links 0 ≡ is_nameless found
+unfolding held
+file_named detail disk inodes i found is stands =
+    let file = sized_file detail i.kind inodes (held_content disk i) found stands is in
+    nameless_links i.mode i.links file.0 ∙ sym (ap is_nameless file.2)
+
+pub none_named : (detail : Detail) (disk : ℕ → List ℕ) (inodes : ℕ) (i : Inode) (found : Option Node) → (i.kind ≡ kinds.File → ⊥) → StandsForIn detail inodes (held_content disk i) found → false ≡ is_nameless found
+unfolding held
+none_named detail disk inodes i found other stands = other_named found (not_file detail i.kind inodes (held_content disk i) found stands other)
+
+-- what isn't known in memory stands as it is settled
+pub unknown_stands : (detail : Detail) (disk : ℕ → List ℕ) (inodes : ℕ) (settled : Inode) (slot : Option ObjectSlot) (found : Option Node) → (IsKnownSlot slot → ⊥)
+    → SlotStandsFor detail disk inodes settled slot found → StandsForIn detail inodes (held_content disk settled) found
+unknown_stands detail disk inodes settled (Some AsSettled) found not stands = stands
+unknown_stands detail disk inodes settled (Some (Loaded object)) found not stands = absurd (not tt)
+unknown_stands detail disk inodes settled (Some (Changed object)) found not stands = absurd (not tt)
+unknown_stands detail disk inodes settled None found not stands = stands

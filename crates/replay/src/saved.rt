@@ -65,7 +65,7 @@ pub fn replay<B: Blocks>(
     ensures holds { (nvram : List ℕ) → TellsLog nvram saved → IfOk result
         (λ r. (bodies : List (List ℕ)) × StandsBehind r.log saved.generation nvram bodies) }
 {
-    let nameless = count_nameless(alloc, inodes, blocks)?;
+    let nameless = count_nameless(inodes, blocks)?;
     let ReplayedLog { log, cost } = replay_records(alloc, inodes, blocks, saved)?;
     Ok(Replayed {
         log,

@@ -1,45 +1,43 @@
 //! Files without names.
 
-ghost use Rattle.std.specs.Prelude.{◌≡◌, ◌<◌, ◌≤◌, List, ℕ, IfOk, false};
+ghost use Rattle.std.specs.Prelude.{◌≡◌, ◌<◌, ◌≤◌, List, ℕ, Option, IfOk, false};
 ghost use Rattle.layout.specs.declared.inode.Inode.{Inode};
 ghost use Rattle.layout.specs.declared.geometry.TheConstants.{MOST_INODES};
 ghost use Rattle.model.specs.declared.limits.TheConstants.{FIRST_NUMBER};
 ghost use Rattle.model.specs.Records.{count_nameless, without_nameless};
-ghost use Rattle.model.specs.Volumes.{Volume, is_nameless, swept_node, with_node};
+ghost use Rattle.model.specs.Volumes.{Node, Volume, is_nameless, swept_node, with_node};
 ghost use Rattle.buffers.specs.Reads.{ReadsBlocks};
 ghost use Rattle.blocktree.specs.Errors.{IsFault};
 ghost use Rattle.images.specs.Soundness.{Detail};
-ghost use Rattle.inofile.specs.Room.{NeedsNoMore, memory_room};
+ghost use Rattle.images.specs.Sizes.{StandsForIn};
+ghost use Rattle.inofile.specs.Room.{memory_room};
+ghost use Rattle.inofile.specs.Settled.{held_content};
 ghost use Rattle.inofile.specs.Volumes.{IsVolumeIn};
 ghost use Rattle.replay.specs.Volumes.{ComesTo, HasVolumeIn};
 
 use blocktree::ReadError;
 use buffers::Blocks;
 use inofile::InodeFile;
-use layout::{FIRST_NUMBER, InodeNumber};
+use layout::{FIRST_NUMBER, Inode, InodeNumber, Kind};
 use model::mounts_find_volumes;
 use records::is_nameless;
 use std::alloc::Global;
 
-/// How many files have no name. `Damaged` where an inode isn't in its grammar. What memory stands for stays.
+/// How many files have no name. `Damaged` where an inode isn't in its grammar. No inode comes into memory by it.
 pub(crate) fn count_nameless<B: Blocks>(
-    alloc: Global,
-    inodes: &mut InodeFile,
+    inodes: &InodeFile,
     blocks: &mut B,
 ) -> Result<u32, ReadError>
     ensures reads { ReadsBlocks B.Blocks IsFault blocks.old blocks.new result }
-    ensures geometry { inodes.new.geometry ≡ inodes.old.geometry }
-    ensures needs { NeedsNoMore inodes.old inodes.new }
     ensures few { IfOk result (λ count. count ≤ MOST_INODES) }
     ensures counts { (detail : Detail) (disk : ℕ → List ℕ) (settled : ℕ → Inode) (v : Volume)
         → B.Shows blocks.old disk
-        → HasVolumeIn detail (B.count blocks.old) disk settled inodes.old v
-        → ComesTo result (λ count. (count ≡ count_nameless inodes.old.geometry.inodes v)
-        × HasVolumeIn detail (B.count blocks.old) disk settled inodes.new v) }
+        → HasVolumeIn detail (B.count blocks.old) disk settled inodes.now v
+        → ComesTo result (λ count. count ≡ count_nameless inodes.now.geometry.inodes v) }
 {
     let mut count = 0;
     for number in FIRST_NUMBER..inodes.geometry().inodes() {
-        let is_one = has_nameless(alloc, inodes, blocks, number)?;
+        let is_one = has_nameless(inodes, blocks, number)?;
         count += u32::from(is_one);
     }
     Ok(count)
@@ -72,7 +70,7 @@ pub(crate) fn drop_nameless<B: Blocks>(
     Ok(())
 }
 
-/// Drops the file with this number, where it has no name. Where nothing has the number, no block is read.
+/// Drops the file with this number, where it has no name. Nothing else comes into memory by it.
 fn drop_if_nameless<B: Blocks>(
     alloc: Global,
     inodes: &mut InodeFile,
@@ -94,7 +92,8 @@ fn drop_if_nameless<B: Blocks>(
         → IfOk result (λ _. memory_room base inodes.new
         (with_node number (swept_node false (v number)) v) ≤ memory_room base inodes.old v) }
 {
-    if !inodes.is_taken(number) {
+    let is_one = has_nameless(inodes, blocks, number)?;
+    if !is_one {
         return Ok(());
     }
     inodes.load(alloc, blocks, number)?;
@@ -103,27 +102,37 @@ fn drop_if_nameless<B: Blocks>(
     Ok(())
 }
 
-/// Whether a file without a name has this number. What has the number is then in memory; where nothing has it, no block is read.
+/// Whether a file without a name has this number. What isn't in memory stays out of it; where nothing has the number, no block is read.
 fn has_nameless<B: Blocks>(
-    alloc: Global,
-    inodes: &mut InodeFile,
+    inodes: &InodeFile,
     blocks: &mut B,
     number: u32,
 ) -> Result<bool, ReadError>
     requires low { FIRST_NUMBER ≤ number }
-    requires high { number < inodes.old.geometry.inodes }
+    requires high { number < inodes.now.geometry.inodes }
     ensures reads { ReadsBlocks B.Blocks IsFault blocks.old blocks.new result }
-    ensures geometry { inodes.new.geometry ≡ inodes.old.geometry }
-    ensures needs { NeedsNoMore inodes.old inodes.new }
     ensures tells { (detail : Detail) (disk : ℕ → List ℕ) (settled : ℕ → Inode) (v : Volume)
         → B.Shows blocks.old disk
-        → IsVolumeIn detail (B.count blocks.old) disk settled inodes.old v
-        → ComesTo result (λ is_one. (is_one ≡ is_nameless (v number))
-        × IsVolumeIn detail (B.count blocks.old) disk settled inodes.new v) }
+        → IsVolumeIn detail (B.count blocks.old) disk settled inodes.now v
+        → ComesTo result (λ is_one. is_one ≡ is_nameless (v number)) }
 {
     if !inodes.is_taken(number) {
         return Ok(false);
     }
-    inodes.load(alloc, blocks, number)?;
-    Ok(is_nameless(inodes, InodeNumber::new(number)))
+    if inodes.is_known(number) {
+        return Ok(is_nameless(inodes, InodeNumber::new(number)));
+    }
+    let inode = inodes.settled_inode(blocks, number)?;
+    Ok(is_nameless_inode(&inode))
+}
+
+/// Whether a settled inode is that of a file without a name.
+fn is_nameless_inode(inode: &Inode) -> bool
+    ensures { (detail : Detail) (disk : ℕ → List ℕ) (inodes : ℕ) (found : Option Node)
+        → StandsForIn detail inodes (held_content disk inode.now) found → result ≡ is_nameless found }
+{
+    match inode.kind {
+        Kind::File => inode.links == 0,
+        _ => false,
+    }
 }

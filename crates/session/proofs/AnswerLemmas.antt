@@ -13,7 +13,7 @@ use Rattle.mount.specs.Systems.{mounted, Serves}
 use Rattle.mount.specs.declared.fs.Fs.{Fs}
 use Rattle.mount.specs.declared.fs.TheConstants.{POINTS}
 use Rattle.std.specs.Prelude.{Err}
-use Rattle.session.specs.Answers.{cut_line, lines_of_steps, shown, EndsAnswer, EndsCut, EndsReply, HasDone, IsAnsweredBy}
+use Rattle.session.specs.Answers.{cut_line, lines_of_steps, shown, EndsAnswer, EndsCut, EndsReply, AreAnswered, HasDone, IsAnsweredBy}
 use Rattle.session.specs.declared.status.Status.{Status}
 use Rattle.session.specs.declared.status.Status.TheVariants.{Done, NotUnderstood, FileFault, Cut, NotMounted, NotACommand, NoMemory, Refused, Faulty}
 
@@ -74,13 +74,18 @@ reply_ends reply was_cut o o' Faulty ends = absurd ends
 module _ {S : Type 0} {G : Ghosts S} where
   -- no command so far
   pub done_none : (fs : Fs S G) → ((s : State) → Serves (mounted fs s) → RunsAt fs s fs []) → HasDone fs fs []
-  done_none fs begins = record { lasts = omega arith; ran = λ s serves lasts. begins s serves }
+  done_none fs begins = record { each = refl; lasts = omega arith; ran = λ s serves lasts. begins s serves }
+
+  answered_push : (first fs next : Fs S G) (steps : List (Command × Reply)) (command : Command) (reply : Reply) → AreAnswered first steps fs → IsAnsweredBy fs next command reply → AreAnswered first (steps ++ (command, reply) ∷ []) next
+  answered_push first fs next [] command reply so_far answered = (next, subst (λ (f : Fs S G). IsAnsweredBy f next command reply) so_far answered, refl)
+  answered_push first fs next (step ∷ steps) command reply (mid, one, rest) answered = (mid, one, answered_push mid fs next steps command reply rest answered)
 
   -- one more
   pub done_more : (first fs next : Fs S G) (steps : List (Command × Reply)) (command : Command) (reply : Reply) → HasDone first fs steps → IsAnsweredBy fs next command reply → HasDone first next (steps ++ (command, reply) ∷ [])
   done_more first fs next steps command reply done answered =
       let count : length (steps ++ (command, reply) ∷ []) ≡ length steps + 1 = length-append steps ((command, reply) ∷ []) in
       record {
+        each = answered_push first fs next steps command reply done.each answered;
         lasts = omega (arith, done.lasts, answered.lasts, count);
         ran = λ s serves lasts.
             let all : first.system.log.epoch + POINTS * (length steps + 1) < 2 ^ 62 = subst (λ n. first.system.log.epoch + POINTS * n < 2 ^ 62) count lasts in

@@ -1,14 +1,16 @@
 -- Commands done one after the other on a mounted file system, each one's reply shown before the next begins.
-use Rattle.std.specs.Prelude.{ℕ, ◌≡◌, ◌≤◌, ◌+◌, ◌*◌, ◌∷◌, ◌++◌, ◌⊎◌, Bool, true, false, List, [], Option, Result, Ok, Err, codes, length, take}
+use Rattle.std.specs.Prelude.{ℕ, ◌≡◌, ◌≤◌, ◌+◌, ◌*◌, ◌∷◌, ◌++◌, ◌⊎◌, Bool, true, false, IsTrue, List, [], Option, Result, Ok, Err, codes, length, take}
 use Rattle.std.specs.List.{flat_map}
 use Rattle.std.specs.Io.KnownBytes.{Appends}
 use Rattle.model.specs.declared.command.Command.{Command}
+use Rattle.model.specs.declared.errno.Errno.TheVariants.{FAILED}
 use Rattle.model.specs.declared.reply.Reply.{Reply}
 use Rattle.model.specs.declared.reply.Reply.TheVariants.{Refused as refused}
 use Rattle.model.specs.States.{State}
 use Rattle.script.specs.Replies.{reply_line}
 use Rattle.station.specs.declared.station.Station.{Ghosts}
-use Rattle.mount.specs.Applying.{RunsAt}
+use Rattle.system.specs.Serving.{AnswersAtOnce, IsAtOnce}
+use Rattle.mount.specs.Applying.{AnswersAlways, RunsAt}
 use Rattle.mount.specs.Systems.{mounted, Serves, IsYoung, LastsFor}
 use Rattle.mount.specs.declared.fs.Fs.{Fs}
 use Rattle.mount.specs.declared.fs.TheConstants.{POINTS}
@@ -32,16 +34,26 @@ cut_line = codes "cut\n"
 abbrev pub lines_of_steps : List (Command × Reply) → List ℕ
 lines_of_steps steps = flat_map (λ step. shown step.1) steps
 
--- A command was answered so: whatever run led to the file system goes on by it, and its log's epoch rises by no more than one command's points.
+-- A command was answered so, over any bytes as `Fs::apply` promises: whatever run led to the file system goes on by it, and its log's epoch
+-- rises by no more than one command's points.
 pub record IsAnsweredBy {S : Type 0} {G : Ghosts S} (old new : Fs S G) (command : Command) (reply : Reply) : Type 0 where
+  pub answers : AnswersAlways old new command reply
+  pub at_once : IsAtOnce old.system.files command → AnswersAtOnce old.system new.system reply
+  pub failed : IsTrue old.has_failed → (reply ≡ refused FAILED) × (new ≡ old)
   pub lasts : new.system.log.epoch ≤ old.system.log.epoch + POINTS
   pub goes_on : (first : Fs S G) (s : State) (steps : List (Command × Reply)) → RunsAt first s old steps → IsYoung old
       → RunsAt first s new (steps ++ (command, reply) ∷ [])
+
+-- commands led from one file system to another, each answered so
+abbrev pub AreAnswered : {S : Type 0} {G : Ghosts S} → Fs S G → List (Command × Reply) → Fs S G → Type 0
+AreAnswered {S} {G} first [] last = last ≡ first
+AreAnswered {S} {G} first (step ∷ steps) last = (next : Fs S G) × IsAnsweredBy first next step.0 step.1 × AreAnswered next steps last
 
 -- Commands with these replies led from one file system to another. Whatever state the first one serves, the other serves what they come
 -- to, and a cut at any moment leaves what the commands up to then come to. The premise is on the first file system alone: that its
 -- log's epoch leaves a generation to each point that so many commands may make.
 pub record HasDone {S : Type 0} {G : Ghosts S} (first fs : Fs S G) (steps : List (Command × Reply)) : Type 0 where
+  pub each : AreAnswered first steps fs
   pub lasts : fs.system.log.epoch ≤ first.system.log.epoch + POINTS * length steps
   pub ran : (s : State) → Serves (mounted first s) → LastsFor (length steps) first → RunsAt first s fs steps
 

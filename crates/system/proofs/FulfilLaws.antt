@@ -100,6 +100,7 @@ module _ {S : Type 0} {G : Ghosts S} {old new : System S G} {call : Command} (op
         done = λ s served. IfOk-weaker q _ _ (λ reply done. record { between = old; served = served; done = done; leaves = done.leaves }) (told.done s served);
         broken = told.broken;
         sure = told.sure;
+        at_once = told.at_once;
         full = told.full;
         short = told.short;
         damaged = told.damaged;
@@ -216,6 +217,7 @@ module _ {S : Type 0} {G : Ghosts S} {old mid : System S G} {call : Command} (as
               leaves = weaker m n (OpensTo m s) (λ c. OpensTo m s c ⊎ OpensTo m would.after c) (leaves_it new (Err e) stepped s served) (λ c here. inl here);
             };
         sure = asked.sure;
+        at_once = λ is. asked.at_once is;
         full = λ s served is. cc;
         short = λ s served is. cc;
         damaged = λ s served is. cc;
@@ -264,6 +266,7 @@ module _ {S : Type 0} {G : Ghosts S} {old mid : System S G} {call : Command} (as
                 leaves = leaves_either between (Ok u) stepped new s broken.after served broken.leaves;
               };
           sure = λ s served. unsure q s (asked.sure s served);
+          at_once = λ is. absurd (asked.at_once is);
           full = λ s served is.
               let full = told.full s (there s served) is in
               (full.0, λ empty. full.1 (empty_there empty), full.2);

@@ -7,7 +7,6 @@ use Rattle.station.specs.Moments.{Meaning, EachCut}
 use Rattle.station.specs.declared.station.Station.{Ghosts}
 use Rattle.station.proofs.Moments.{joined, leaves_unchanged, weaker}
 use Rattle.layout.specs.Record.{Change}
-use Rattle.model.specs.Circumstances.{IsSure}
 use Rattle.model.specs.Records.{work_of}
 use Rattle.model.specs.Room.{Work, logs}
 use Rattle.model.specs.States.{State}
@@ -31,7 +30,7 @@ use Rattle.system.specs.declared.error.CallError.TheVariants as call_errors
 use Rattle.system.specs.declared.system.System.{System}
 use Rattle.system.proofs.CountingLaws.{all_read, all_written, counted_after, not_written_yet, perhaps_read}
 use Rattle.system.proofs.LookedLaws.{ServesOver}
-use Rattle.system.proofs.ServingLaws.{AllOpen}
+use Rattle.system.proofs.ServingLaws.{AllOpen, NotSure}
 
 -- what opens to a state does so for a station of the same size
 pub opens_same : (m n : Meaning) (s : State) (c : Images) → n.sectors ≡ m.sectors → OpensTo n s c → OpensTo m s c
@@ -100,7 +99,7 @@ error_is x y r q first second is = cc
 
 module _ {S : Type 0} {G : Ghosts S} (old new : System S G) (mid : Meaning) (call : Command) (reply : Reply) (reads : ReadsOn (meaning_of old) mid) (laid : new.blocks.laid ≡ old.blocks.laid)
     (counted : mid.failed_reads ≡ (meaning_of old).failed_reads) (epoch : new.log.epoch ≡ old.log.epoch) (opens : AllOpen old)
-    (not_sure : (s : State) → ServesState old s → ¬ IsSure s call) (leads : (s : State) → ServesState old s → LeadsOn old new mid s call reply) where
+    (not_sure : NotSure old call) (leads : (s : State) → ServesState old s → LeadsOn old new mid s call reply) where
   leaves_either : (s : State) (served : ServesState old s) → LeavesEither (meaning_of old) (meaning_of new) s (leads s served).after
   leaves_either s served =
       let led = leads s served in
@@ -146,7 +145,8 @@ module _ {S : Type 0} {G : Ghosts S} (old new : System S G) (mid : Meaning) (cal
           leaves = leaves_either s served;
         };
         broken = λ s served is. cc;
-        sure = λ s served. inr (not_sure s served);
+        sure = λ s served. inr (not_sure.0 s served);
+        at_once = λ is. absurd (not_sure.1 is);
         full = λ s served is. cc;
         short = λ s served is. cc;
         damaged = λ s served is. cc;
@@ -182,7 +182,8 @@ module _ {S : Type 0} {G : Ghosts S} (old new : System S G) (mid : Meaning) (cal
       serves = λ s served _. (keeps s served).0;
       done = λ s served. tt;
       broken = λ s served is. absurd (other (error_is e call_errors.NotWritten (Err e) (Err call_errors.NotWritten) refl refl is));
-      sure = not_sure;
+      sure = not_sure.0;
+      at_once = not_sure.1;
       full = λ s served is.
           let full = error_is e call_errors.LogFull (Err e) (Err call_errors.LogFull) refl refl is in
           (would_change s served, fits full, λ empty. fits full (was_empty old new log root empty));
@@ -223,7 +224,8 @@ module _ {S : Type 0} {G : Ghosts S} (old new : System S G) (mid : Meaning) (cal
       step = (leads s served).step;
       leaves = leaves_either s served;
     };
-    sure = not_sure;
+    sure = not_sure.0;
+    at_once = not_sure.1;
     full = λ s served is. cc;
     short = λ s served is. cc;
     damaged = λ s served is. cc;

@@ -33,7 +33,7 @@ use Rattle.system.specs.declared.file_change.FileChange.{FileChange}
 use Rattle.system.specs.declared.system.System.{System}
 use Rattle.system.specs.declared.table_move.TableMove.{TableMove}
 use Rattle.system.proofs.MovedLaws.{moved}
-use Rattle.system.proofs.ServingLaws.{LeadsTo}
+use Rattle.system.proofs.ServingLaws.{LeadsTo, NotSure}
 
 -- ---- which calls are always answered
 
@@ -42,18 +42,18 @@ table_sure s (command.Lseek fd whence offset) is = tt
 table_sure s (command.Fsync fd) is = tt
 table_sure s _ is = cc
 
-pub looking_not_sure : (s : State) (call : Command) → IsTrue (is_looking_call call) → ¬ IsSure s call
-looking_not_sure s (command.Read fd count) is sure = sure
-looking_not_sure s (command.Pread fd offset count) is sure = sure
-looking_not_sure s (command.Fstat fd) is sure = sure
-looking_not_sure s _ is sure = cc
+pub looking_not_sure : {S : Type 0} {G : Ghosts S} (f : System S G) (call : Command) → IsTrue (is_looking_call call) → NotSure f call
+looking_not_sure f (command.Read fd count) is = (λ s served sure. sure, λ once. once)
+looking_not_sure f (command.Pread fd offset count) is = (λ s served sure. sure, λ once. once)
+looking_not_sure f (command.Fstat fd) is = (λ s served sure. sure, λ once. once)
+looking_not_sure f _ is = cc
 
-pub logging_not_sure : (s : State) (call : Command) → IsTrue (is_logging_call call) → ¬ IsSure s call
-logging_not_sure s (command.Open path flags mode) is sure = sure
-logging_not_sure s (command.Write fd given) is sure = sure
-logging_not_sure s (command.Pwrite fd offset given) is sure = sure
-logging_not_sure s (command.Ftruncate fd size) is sure = sure
-logging_not_sure s _ is sure = cc
+pub logging_not_sure : {S : Type 0} {G : Ghosts S} (f : System S G) (call : Command) → IsTrue (is_logging_call call) → NotSure f call
+logging_not_sure f (command.Open path flags mode) is = (λ s served sure. sure, λ once. once)
+logging_not_sure f (command.Write fd given) is = (λ s served sure. sure, λ once. once)
+logging_not_sure f (command.Pwrite fd offset given) is = (λ s served sure. sure, λ once. once)
+logging_not_sure f (command.Ftruncate fd size) is = (λ s served sure. sure, λ once. once)
+logging_not_sure f _ is = cc
 
 -- ---- calls that log nothing
 

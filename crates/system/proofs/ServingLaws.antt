@@ -16,7 +16,7 @@ use Rattle.model.specs.declared.command.Command.{Command}
 use Rattle.model.specs.declared.command.Command.TheVariants as command
 use Rattle.model.specs.declared.command.PathCall.{PathCall}
 use Rattle.model.specs.declared.errno.Errno.{Errno}
-use Rattle.model.specs.declared.errno.Errno.TheVariants.{EIO}
+use Rattle.model.specs.declared.errno.Errno.TheVariants.{EIO, ENOMEM}
 use Rattle.model.specs.declared.reply.Reply.{Reply}
 use Rattle.model.specs.declared.reply.Reply.TheVariants.{Done, Refused}
 use Rattle.calls.specs.Refusals.{is_path_refusal}
@@ -31,7 +31,7 @@ use Rattle.system.specs.Answering.{answer_to, answered_reply}
 use Rattle.system.specs.Counting.{Counted, call_error_failed}
 use Rattle.system.specs.Errors.{call_error}
 use Rattle.system.specs.Images.{OpensTo}
-use Rattle.system.specs.Serving.{Handles, IsAccepted, IsSureOn, TellsNoFault, ServesState, WouldCall}
+use Rattle.system.specs.Serving.{AnswersAtOnce, Handles, IsAccepted, IsAtOnce, IsSureOn, TellsNoFault, TellsNoWant, ServesState, WouldCall}
 use Rattle.system.specs.Systems.{meaning_of}
 use Rattle.system.specs.declared.error.CallError.{CallError}
 use Rattle.system.specs.declared.error.CallError.TheVariants as call_errors
@@ -56,8 +56,18 @@ own_refusal {T} r errno is own same =
     not_true : IsTrue false → ⊥
     not_true is = cc
 
+pub own_want : {T : Type 0} (r : Result T Errno) (errno : Errno) → r ≡ Err errno → IfErr r (λ e. IsTrue (is_path_refusal e)) → TellsNoWant (Refused errno)
+own_want {T} r errno is own same =
+    let here : IsTrue (is_path_refusal errno) = subst (λ (x : Result T Errno). IfErr x (λ e. IsTrue (is_path_refusal e))) is own in
+    let it : errno ≡ ENOMEM = cc in
+    let not_true : IsTrue false = subst (λ (e : Errno). IsTrue (is_path_refusal e)) it here in
+    cc
+
 pub done_is_no_fault : TellsNoFault Done
 done_is_no_fault is = cc
+
+pub done_is_no_want : TellsNoWant Done
+done_is_no_want is = cc
 
 pub done_is_accepted : IsAccepted Done
 done_is_accepted errno is = cc
@@ -73,9 +83,17 @@ pub record LeadsTo {S : Type 0} {G : Ghosts S} (new : System S G) (s : State) (c
 abbrev pub ServesOn : {S : Type 0} {G : Ghosts S} → System S G → System S G → Type 0
 ServesOn old new = (s : State) → (served : ServesState old s) → (serves : ServesState new s) × (serves.lasts.replayed.changes ≡ served.lasts.replayed.changes)
 
--- a call is sure, and then no device is called, or it isn't
-abbrev pub SureOrNot : {S : Type 0} {G : Ghosts S} → System S G → System S G → Command → Type 0
-SureOrNot old new call = (s : State) → ServesState old s → IsSureOn old new s call ⊎ ¬ IsSure s call
+-- a call is sure, and then no device is called, or it isn't; and so over any images
+abbrev pub SureOrNot : {S : Type 0} {G : Ghosts S} → System S G → System S G → Command → Reply → Type 0
+SureOrNot old new call reply =
+    ((s : State) → ServesState old s → IsSureOn old new s call ⊎ ¬ IsSure s call) × (IsAtOnce old.files call → AnswersAtOnce old new reply)
+
+-- it isn't
+abbrev pub NotSure : {S : Type 0} {G : Ghosts S} → System S G → Command → Type 0
+NotSure f call = ((s : State) → ServesState f s → ¬ IsSure s call) × ¬ IsAtOnce f.files call
+
+pub by_no : {S : Type 0} {G : Ghosts S} (old new : System S G) (call : Command) (reply : Reply) → NotSure old call → SureOrNot old new call reply
+by_no old new call reply not_sure = (λ s served. inr (not_sure.0 s served), λ is. absurd (not_sure.1 is))
 
 -- whatever a cut leaves of a system opens to the state that it serves
 abbrev pub AllOpen : {S : Type 0} {G : Ghosts S} → System S G → Type 0
@@ -84,9 +102,9 @@ AllOpen f = (s : State) → ServesState f s → EachCut (meaning_of f) (OpensTo 
 module _ {S : Type 0} {G : Ghosts S} {steps : Bool} (old new : System S G) (call : Command) (reads : ReadsBlocksOn G old.blocks new.blocks)
     (log : new.log ≡ old.log) where
   -- a call that logs nothing was answered
-  pub answered_leading : SureOrNot old new call → (reply : Reply) → (meaning_of new).failed_reads ≡ (meaning_of old).failed_reads → TellsNoFault reply
+  pub answered_leading : (reply : Reply) → SureOrNot old new call reply → (meaning_of new).failed_reads ≡ (meaning_of old).failed_reads → TellsNoFault reply
       → AllOpen old → ((s : State) → (served : ServesState old s) → LeadsTo new s call reply served.lasts.replayed.changes) → Handles steps old new call (Ok reply)
-  answered_leading sure reply same own opens leads =
+  answered_leading reply sure same own opens leads =
       let m = meaning_of old in
       let n = meaning_of new in
       record {
@@ -111,20 +129,21 @@ module _ {S : Type 0} {G : Ghosts S} {steps : Bool} (old new : System S G) (call
           leaves = weaker m n (OpensTo m s) (λ c. OpensTo m s c ⊎ OpensTo m (leads s served).after c) (leaves_unchanged m n (OpensTo m s) (opens s served) reads.below.goes) (λ c here. inl here);
         };
         broken = λ s served is. cc;
-        sure = sure;
+        sure = sure.0;
+        at_once = sure.1;
         full = λ s served is. cc;
         short = λ s served is. cc;
         damaged = λ s served is. cc;
       }
 
   -- a call that only reads was answered
-  pub answered : ServesOn old new → SureOrNot old new call → (reply : Reply) → (meaning_of new).failed_reads ≡ (meaning_of old).failed_reads → TellsNoFault reply
+  pub answered : ServesOn old new → (reply : Reply) → SureOrNot old new call reply → (meaning_of new).failed_reads ≡ (meaning_of old).failed_reads → TellsNoFault reply
       → AllOpen old → ((s : State) → ServesState old s → WouldCall s call reply s nothing) → Handles steps old new call (Ok reply)
-  answered stays sure reply same own opens told =
-      answered_leading sure reply same own opens (λ s served. record { after = s; step = told s served; serves = (stays s served).0; records = (stays s served).1 })
+  answered stays reply sure same own opens told =
+      answered_leading reply sure same own opens (λ s served. record { after = s; step = told s served; serves = (stays s served).0; records = (stays s served).1 })
 
   -- a call wasn't answered, because a read was refused
-  pub unanswered_read : ServesOn old new → ((s : State) → ServesState old s → ¬ IsSure s call) → (error : ReadError) (e : CallError) → e ≡ call_error error
+  pub unanswered_read : ServesOn old new → NotSure old call → (error : ReadError) (e : CallError) → e ≡ call_error error
       → (error ≡ read_errors.Device → HasGrown (meaning_of old).failed_reads (meaning_of new).failed_reads)
       → ((s : State) → ServesState old s → error ≡ read_errors.Damaged → ⊥) → Handles steps old new call (Err e)
   unanswered_read stays not_sure error e is fault damaged = subst (λ (x : CallError). Handles steps old new call (Err x)) (sym is) (record {
@@ -141,7 +160,8 @@ module _ {S : Type 0} {G : Ghosts S} {steps : Bool} (old new : System S G) (call
     serves = λ s served _. (stays s served).0;
     done = λ s served. tt;
     broken = λ s served bad. absurd ((told_by error).0 bad);
-    sure = not_sure;
+    sure = not_sure.0;
+    at_once = not_sure.1;
     full = λ s served bad. absurd ((told_by error).1 bad);
     short = λ s served bad. absurd ((told_by error).2 bad);
     damaged = λ s served bad. damaged s served ((told_by error).3 bad);
@@ -165,7 +185,7 @@ module _ {S : Type 0} {G : Ghosts S} {steps : Bool} (old new : System S G) (call
       told_by read_errors.Damaged = (λ is. cc, λ is. cc, λ is. cc, λ is. refl)
 
   -- a call failed: it is refused, or a block wasn't read
-  pub failed_by : {T : Type 0} (f : Failure) (q : Result Reply CallError) → q ≡ answer_to (Err f) → ((s : State) → ServesState old s → ¬ IsSure s call) → AllOpen old
+  pub failed_by : {T : Type 0} (f : Failure) (q : Result Reply CallError) → q ≡ answer_to (Err f) → NotSure old call → AllOpen old
       → OnOk (told {T = T} (Err f)) ((meaning_of new).failed_reads ≡ (meaning_of old).failed_reads)
       → IfErr (told {T = T} (Err f)) (λ e. IsFault e → HasGrown (meaning_of old).failed_reads (meaning_of new).failed_reads)
       → IfOk (told {T = T} (Err f)) (λ r. IfErr r (λ e. IsTrue (is_path_refusal e))) → ServesOn old new
@@ -174,28 +194,28 @@ module _ {S : Type 0} {G : Ghosts S} {steps : Bool} (old new : System S G) (call
       → ((s : State) → ServesState old s → IsErrOf (told {T = T} (Err f)) read_errors.Damaged → ⊥) → Handles steps old new call q
   failed_by {T} (failures.Refused errno) q is not_sure opens counted device own stays Answer answers refused damaged =
       subst (Handles steps old new call) (sym is)
-      (answered stays (λ s served. inr (not_sure s served)) (Refused errno) counted (own_refusal {T = T} (Err errno) errno refl own) opens
+      (answered stays (Refused errno) (by_no old new call (Refused errno) not_sure) counted (own_refusal {T = T} (Err errno) errno refl own) opens
       (λ s served. refused s served errno (answers s served)))
   failed_by (failures.Read e) q is not_sure opens counted device own stays Answer answers refused damaged =
       subst (Handles steps old new call) (sym is) (unanswered_read stays not_sure e (call_error e) refl device (λ s served bad. damaged s served (ap (λ x. Err x) bad)))
 
   -- a call that logs nothing came to this
-  pub came_to : (r : Result Reply Failure) (q : Result Reply CallError) → q ≡ answer_to r → ((s : State) → ServesState old s → ¬ IsSure s call) → AllOpen old
+  pub came_to : (r : Result Reply Failure) (q : Result Reply CallError) → q ≡ answer_to r → NotSure old call → AllOpen old
       → OnOk (told r) ((meaning_of new).failed_reads ≡ (meaning_of old).failed_reads)
       → IfErr (told r) (λ e. IsFault e → HasGrown (meaning_of old).failed_reads (meaning_of new).failed_reads)
       → IfOk (told r) (λ x. IfErr x (λ e. IsTrue (is_path_refusal e))) → IfOk r TellsNoFault → OnErr r (ServesOn old new)
       → ((s : State) → (served : ServesState old s) → IfOk (told r) (λ x. LeadsTo new s call (answered_reply x) served.lasts.replayed.changes))
       → ((s : State) → ServesState old s → IsErrOf (told r) read_errors.Damaged → ⊥) → Handles steps old new call q
   came_to (Ok reply) q is not_sure opens counted device own no_fault stays leads damaged =
-      subst (Handles steps old new call) (sym is) (answered_leading (λ s served. inr (not_sure s served)) reply counted no_fault opens leads)
+      subst (Handles steps old new call) (sym is) (answered_leading reply (by_no old new call reply not_sure) counted no_fault opens leads)
   came_to (Err (failures.Refused errno)) q is not_sure opens counted device own no_fault stays leads damaged =
       subst (Handles steps old new call) (sym is)
-      (answered_leading (λ s served. inr (not_sure s served)) (Refused errno) counted (own_refusal {T = Reply} (Err errno) errno refl own) opens leads)
+      (answered_leading (Refused errno) (by_no old new call (Refused errno) not_sure) counted (own_refusal {T = Reply} (Err errno) errno refl own) opens leads)
   came_to (Err (failures.Read e)) q is not_sure opens counted device own no_fault stays leads damaged =
       failed_by {T = Reply} (failures.Read e) q is not_sure opens counted device own stays (λ s served r. ⊥) (λ s served. tt) (λ s served errno is. absurd is) damaged
 
   -- a call that only looks came to this
-  pub looked_up : (r : Result Reply Failure) (q : Result Reply CallError) → q ≡ answer_to r → ((s : State) → ServesState old s → ¬ IsSure s call) → AllOpen old
+  pub looked_up : (r : Result Reply Failure) (q : Result Reply CallError) → q ≡ answer_to r → NotSure old call → AllOpen old
       → OnOk (told r) ((meaning_of new).failed_reads ≡ (meaning_of old).failed_reads)
       → IfErr (told r) (λ e. IsFault e → HasGrown (meaning_of old).failed_reads (meaning_of new).failed_reads)
       → IfOk (told r) (λ x. IfErr x (λ e. IsTrue (is_path_refusal e))) → IfOk r TellsNoFault → ServesOn old new

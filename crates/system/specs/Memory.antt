@@ -11,10 +11,6 @@ use Rattle.images.specs.BlockMap.{entry}
 use Rattle.images.specs.Roots.{HeldTree, whole}
 use Rattle.loading.specs.Images.{inodes_of}
 
--- no entry of the map is changed since the root
-abbrev pub IsClean : BlockMap → Type 0
-IsClean map = (b : ℕ) → entry_at map.parts.items b ≡ settled_at map.parts.items b
-
 -- the map's settled entries are those of a tree's map
 abbrev pub HasEntries : HeldTree → BlockMap → Type 0
 HasEntries t map = (b : ℕ) → settled_at map.parts.items b ≡ entry t b

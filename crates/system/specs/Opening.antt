@@ -17,7 +17,7 @@ use Rattle.oplog.specs.LogEnd.{LogEnd}
 use Rattle.oplog.specs.SavedLog.{StandsBehind, TellsLog}
 use Rattle.loading.specs.Slots.{FitsStation, IsNewestAt}
 use Rattle.replay.specs.Volumes.{bodies_of}
-use Rattle.system.specs.Memory.{HasEntries, IsClean, IsInMemory}
+use Rattle.system.specs.Memory.{HasEntries, IsInMemory}
 use Rattle.system.specs.declared.opening.FoundImages.{FoundImages}
 use Rattle.system.specs.declared.opening.Mounted.{Mounted}
 

@@ -7,7 +7,7 @@ use Rattle.layout.specs.declared.log.TheConstants.{FIRST_GATE}
 use Rattle.model.specs.declared.command.Command.{Command}
 use Rattle.model.specs.declared.command.Command.TheVariants as command
 use Rattle.model.specs.declared.errno.Errno.{Errno}
-use Rattle.model.specs.declared.errno.Errno.TheVariants.{EIO}
+use Rattle.model.specs.declared.errno.Errno.TheVariants.{EIO, ENOMEM}
 use Rattle.model.specs.declared.reply.Reply.{Reply}
 use Rattle.model.specs.declared.reply.Reply.TheVariants.{Refused}
 use Rattle.model.specs.Circumstances.{IsSure}
@@ -17,6 +17,8 @@ use Rattle.model.specs.States.{State}
 use Rattle.model.specs.Steps.{WouldStep}
 use Rattle.model.specs.Volumes.{Volume}
 use Rattle.inofile.specs.Inodes.{HasNoChange}
+use Rattle.descriptors.specs.declared.table.Descriptors.{Descriptors}
+use Rattle.files.specs.Closing.{IsLinked}
 use Rattle.oplog.specs.LogEnd.{next_of}
 use Rattle.system.specs.Counting.{Counted, call_failed}
 use Rattle.system.specs.Images.{OpensTo}
@@ -45,6 +47,15 @@ IsOpenFileCall command.SnapList = ⊥
 IsOpenFileCall (command.Within name call) = ⊥
 IsOpenFileCall call = IsCall call
 
+-- The command takes no memory and calls no device, whatever the images hold: `lseek`, `fsync`, `df`, and `close` but of a file that has no
+-- link.
+abbrev pub IsAtOnce : Descriptors → Command → Type 0
+IsAtOnce files (command.Lseek fd whence offset) = Unit {0}
+IsAtOnce files (command.Fsync fd) = Unit {0}
+IsAtOnce files command.Df = Unit {0}
+IsAtOnce files (command.Close fd) = IsLinked files fd
+IsAtOnce files call = ⊥
+
 -- what a call on a state would be answered and would leave, where nothing comes in its way, whatever room there is
 abbrev pub WouldCall : State → Command → Reply → State → Need → Type 0
 WouldCall s call reply after need = (room : Room) → WouldStep room s call reply after need
@@ -64,6 +75,10 @@ IsAccepted reply = (errno : Errno) → reply ≢ Refused errno
 -- the reply doesn't tell of a device call that failed
 abbrev pub TellsNoFault : Reply → Type 0
 TellsNoFault reply = reply ≢ Refused EIO
+
+-- nor of want of memory
+abbrev pub TellsNoWant : Reply → Type 0
+TellsNoWant reply = reply ≢ Refused ENOMEM
 
 -- From one meaning to another a cut at any moment leaves the one state or the other.
 abbrev pub LeavesEither : Meaning → Meaning → State → State → Type 0
@@ -121,6 +136,10 @@ pub record IsSureOn {S : Type 0} {G : Ghosts S} (old new : System S G) (s : Stat
   pub sure : IsSure s call
   pub still : new.blocks.buffers.station ≡ old.blocks.buffers.station
 
+-- no device was called, and no want of memory is told
+abbrev pub AnswersAtOnce : {S : Type 0} {G : Ghosts S} → System S G → System S G → Reply → Type 0
+AnswersAtOnce old new reply = (new.blocks.buffers.station ≡ old.blocks.buffers.station) × TellsNoWant reply
+
 -- a point is to be planned: none is under way, the log is in the first epoch over the root, and less than a sixteenth of its half is left
 pub record IsPlanDue {S : Type 0} {G : Ghosts S} (f : System S G) : Type 0 where
   pub none : f.blocks.laid ≡ None
@@ -139,8 +158,8 @@ pub record AsksForStep {S : Type 0} {G : Ghosts S} (steps : Bool) (old new : Sys
   pub root : new.root ≡ old.root
   pub changes : (s : State) → ServesState old s → WouldChange s call
 
--- What a call does to a system with no step of a consistency point, where it may ask for one or not. A sure one is answered,
--- and a refused one logs nothing; it moves the log's end by no step that is due, and stops the log where a write fails.
+-- What a call does to a system with no step of a consistency point, where it may ask for one or not. A sure one is answered, as is one that
+-- takes nothing, whatever the images hold; and a refused one logs nothing; it moves the log's end by no step that is due, and stops the log where a write fails.
 pub record Handles {S : Type 0} {G : Ghosts S} (steps : Bool) (old new : System S G) (call : Command)
     (result : Result Reply CallError) : Type 0 where
   pub counted : Counted (meaning_of old) (meaning_of new) (call_failed old.log.is_stopped result)
@@ -163,6 +182,7 @@ pub record Handles {S : Type 0} {G : Ghosts S} (steps : Bool) (old new : System 
       → IsBrokenOff old new s call
   pub sure : (s : State) → ServesState old s → MatchResult result
       (λ _. IsSureOn old new s call ⊎ ¬ IsSure s call) (λ _. ¬ IsSure s call)
+  pub at_once : IsAtOnce old.files call → MatchResult result (AnswersAtOnce old new) (λ _. ⊥)
   pub full : (s : State) → ServesState old s → IsErrOf result LogFull
       → WouldChange s call × (HasEmptyLog old → ⊥) × (HasEmptyLog new → ⊥)
   pub short : (s : State) → ServesState old s → IsErrOf result NoRoom

@@ -34,7 +34,7 @@ use Rattle.system.specs.Images.{IsUnder, OpensTo}
 use Rattle.system.specs.Memory.{HasEntries, HasEntriesToCome, IsInMemory}
 use Rattle.system.specs.Plans.{IsPlannedOver}
 use Rattle.system.specs.Points.{HasRoomToStep, IsStepFor}
-use Rattle.system.specs.Serving.{HasEmptyLog, IsBrokenOff, IsCalled, IsSureOn, LacksRoom, LeavesEither, ServesState, TellsNoFault, WouldChange}
+use Rattle.system.specs.Serving.{AnswersAtOnce, HasEmptyLog, IsAtOnce, IsBrokenOff, IsCalled, IsSureOn, LacksRoom, LeavesEither, ServesState, TellsNoFault, WouldChange}
 use Rattle.system.specs.Systems.{HasState, IsCovered, disk_of, meaning_of, system_parts}
 use Rattle.system.specs.declared.error.CallError.{CallError}
 use Rattle.system.specs.declared.error.CallError.TheVariants as calls
@@ -161,8 +161,8 @@ pub record IsFulfilled {S : Type 0} {G : Ghosts S} (old new : System S G) (s : S
   pub leaves : LeavesEither (meaning_of old) (meaning_of new) s done.after
 
 -- What a call does to a system: all that is promised of it. A step of a consistency point may come before its record, and comes where
--- one is under way; what the system serves stays by that. A sure call is answered, and a refused one logs nothing, nor does one whose
--- step failed: after that the log hasn't stopped.
+-- one is under way; what the system serves stays by that. A sure call is answered, as is one that takes nothing, whatever the
+-- images hold; and a refused one logs nothing, nor does one whose step failed: after that the log hasn't stopped.
 pub record Fulfils {S : Type 0} {G : Ghosts S} (old new : System S G) (call : Command) (result : Result Reply CallError) : Type 0 where
   pub counted : Counted (meaning_of old) (meaning_of new) (beside_reads (call_failed old.log.is_stopped result))
   pub no_fault : IfOk result TellsNoFault
@@ -183,6 +183,7 @@ pub record Fulfils {S : Type 0} {G : Ghosts S} (old new : System S G) (call : Co
   pub broken : (s : State) → ServesState old s → IsErrOf result NotWritten → IsBrokenOff old new s call
   pub sure : (s : State) → ServesState old s → MatchResult result
       (λ _. IsSureOn old new s call ⊎ ¬ IsSure s call) (λ _. ¬ IsSure s call)
+  pub at_once : IsAtOnce old.files call → MatchResult result (AnswersAtOnce old new) (λ _. ⊥)
   pub full : (s : State) → ServesState old s → IsErrOf result LogFull
       → WouldChange s call × (HasEmptyLog old → ⊥) × (HasEmptyLog new → ⊥)
   pub short : (s : State) → ServesState old s → IsErrOf result NoRoom

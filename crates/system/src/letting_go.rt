@@ -11,6 +11,7 @@ impl<S: Station> System<S> {
     pub fn let_go(&mut self)
         ensures glances { Glances {T = Unit {0}} self.old self.new (Ok tt) }
         ensures station { self.new.blocks.buffers.station ≡ self.old.blocks.buffers.station }
+        ensures files { self.new.files ≡ self.old.files }
     {
         self.blocks.let_go();
     }

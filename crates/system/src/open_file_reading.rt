@@ -9,7 +9,7 @@ ghost use Rattle.descriptors.specs.Tables.{table_of};
 ghost use Rattle.files.specs.Reading.{AnswersMoving};
 ghost use Rattle.system.specs.Answering.{answered_reply};
 ghost use Rattle.system.specs.OpenFiles.{WouldLead, is_looking_call, is_table_call};
-ghost use Rattle.system.specs.Serving.{TellsNoFault};
+ghost use Rattle.system.specs.Serving.{TellsNoFault, TellsNoWant};
 
 use buffers::Blocks;
 use descriptors::Descriptors;
@@ -23,6 +23,7 @@ use std::alloc::Global;
 pub(crate) fn answer_from_table(files: &mut Descriptors, call: &Command) -> Reply
     requires { IsTrue (is_table_call call.now) }
     ensures no_fault { TellsNoFault result }
+    ensures no_want { TellsNoWant result }
     ensures answers { (inodes : ℕ) (v : Volume) → FitsVolume files.old v
         → WouldLead inodes v (table_of files.old) call.now result v (table_of files.new) nothing }
     ensures fits { (v : Volume) → FitsVolume files.old v → FitsVolume files.new v }

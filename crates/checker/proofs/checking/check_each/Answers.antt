@@ -30,7 +30,7 @@ loop-k-preserved g c =
     let forgot : HasLooked g.B.Blocks c.check_tree.new.blocks c.forget.new.self = record { count = c.forget.ensures.count; grown = inl c.forget.ensures.counted; reads = c.forget.ensures.reads; same = c.forget.ensures.same } in
     let ended : IsEnded g.B.Blocks.Shows c.args.blocks.now c.args.geometry c.args.shared.now.of k x y = record {
       same = c.check_tree.ensures.same;
-      seen = λ disk r marks shows root same seen. c.in_ok-check_tree.ensures.checked disk r marks (inv.look.same disk shows) root same seen;
+      seen = λ disk r marks shows root same seen. c.in_ok-check_tree.ensures.checked disk r marks (inv.look.same disk shows) (inv.knows disk shows) root same seen;
     } in
     let items : c.match-tree.trees.items ≡ set xs k y = elim c.match-tree.branch [
       | in-Some+then-are_apart w ↦ ap (λ (v : Vec Tree Global). v.items) w.trees-is
@@ -44,6 +44,7 @@ loop-k-preserved g c =
     ] in
     record {
       look = looked_more inv.look (looked_more looks forgot);
+      knows = λ disk shows. c.check_tree.ensures.known disk (inv.look.same disk shows) (inv.knows disk shows);
       each = subst (Each (IsEnded g.B.Blocks.Shows c.args.blocks.now c.args.geometry c.args.shared.now.of) (k + 1) old) (sym items)
           (each_set (IsEnded g.B.Blocks.Shows c.args.blocks.now c.args.geometry c.args.shared.now.of) k old xs x y inv.each lt here ended);
       found = λ disk r marks nvram shows root same are found.

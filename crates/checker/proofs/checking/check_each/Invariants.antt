@@ -6,6 +6,7 @@ use Rattle.layout.specs.declared.root.Root.{Root}
 use Rattle.images.specs.Roots.{whole}
 use Rattle.checker.specs.Checks.{AreFindings}
 use Rattle.checker.specs.Rows.{AreSeenTo}
+use Rattle.checker.specs.Tables.{IsKnown}
 use Rattle.checker.specs.Trees.{IsApart}
 use Rattle.checker.specs.declared.tree.Tree.{Tree}
 use Rattle.checker.proofs.EachLaws.{Each}
@@ -16,6 +17,7 @@ use Rattle.checker.proofs.checking.check_each.Given as goal
 abbrev pub invariant-loop-k : goal.invariant-loop-k
 invariant-loop-k g l = record {
   look : HasLooked g.B.Blocks l.fn.blocks l.blocks;
+  knows : (disk : ℕ → List ℕ) → g.B.Blocks.Shows l.fn.blocks disk → IsKnown disk l.known;
   each : Each (IsEnded g.B.Blocks.Shows l.fn.blocks l.geometry l.shared.of) l.k l.fn.trees.items l.trees.items;
   found : (disk : ℕ → List ℕ) (r : Root) (marks nvram : List ℕ) → g.B.Blocks.Shows l.fn.blocks disk → IsRoot r → r.geometry ≡ l.geometry
       → AreSeenTo disk r (div_ceil l.geometry.inodes 21) marks l.shared.of l.fn.trees.items

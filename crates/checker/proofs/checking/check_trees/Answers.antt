@@ -20,6 +20,10 @@ pub returns-in_err-marks-clause-reads : goal.returns-in_err-marks-clause-reads
 returns-in_err-marks-clause-reads g c =
     looks_passed {G = g.B.Blocks} {e = c.in_err-marks.field-0.0} c.from_residual.result (λ (x : AllocError). NoMemory) (λ x is. is) c.from_residual.ensures.1 (looked_none c.args.blocks.now) (looked_none c.args.blocks.now) (λ is. absurd (cc))
 
+pub returns-in_err-shared-clause-reads : goal.returns-in_err-shared-clause-reads
+returns-in_err-shared-clause-reads g c =
+    looks_passed {G = g.B.Blocks} {e = c.in_err-shared.field-0.0} c.from_residual-in_err-shared.result (λ (x : AllocError). NoMemory) (λ x is. is) c.from_residual-in_err-shared.ensures.1 (looked_none c.args.blocks.now) (looked_none c.args.blocks.now) (λ is. absurd (cc))
+
 pub returns-in_err-trees-clause-reads : goal.returns-in_err-trees-clause-reads
 returns-in_err-trees-clause-reads g c =
     looks_passed {G = g.B.Blocks} c.from_residual-in_err-trees.result (λ e. e) (λ x is. is) c.from_residual-in_err-trees.ensures.1 (looked_none c.args.blocks.now) (looked c.open_trees.ensures.reads) c.in_err-trees.ensures.reads.device
@@ -44,7 +48,7 @@ returns-then-not-are_apart-clause-found g c disk nvram shows snapshots are =
     let one = looked c.open_trees.ensures.reads in
     let two = looked_more one (looked c.check_numbers.ensures.reads) in
     let r = c.args.root.now in
-    let opened = c.in_ok-trees.ensures.trees disk shows snapshots c.in_ok-marks.ensures.none c.none-shared.ensures in
+    let opened = c.in_ok-trees.ensures.trees disk shows snapshots c.in_ok-marks.ensures.none c.in_ok-shared.ensures in
     let numbered = c.in_ok-check_numbers.ensures.seen disk r (one.same disk shows) c.requires.root refl opened in
     c.in_ok-are_apart.ensures.found disk r c.check_numbers.new.marks nvram (two.same disk shows) c.requires.root refl numbered are
 
@@ -53,7 +57,7 @@ returns-then-not-are_apart-clause-newest g c disk shows snapshots sure =
     let one = looked c.open_trees.ensures.reads in
     let two = looked_more one (looked c.check_numbers.ensures.reads) in
     let r = c.args.root.now in
-    let opened = c.in_ok-trees.ensures.trees disk shows snapshots c.in_ok-marks.ensures.none c.none-shared.ensures in
+    let opened = c.in_ok-trees.ensures.trees disk shows snapshots c.in_ok-marks.ensures.none c.in_ok-shared.ensures in
     let numbered = c.in_ok-check_numbers.ensures.seen disk r (one.same disk shows) c.requires.root refl opened in
     let ended = c.in_ok-are_apart.ensures.seen disk r c.check_numbers.new.marks (two.same disk shows) c.requires.root refl numbered in
     let some : 0 < length c.check_each.new.trees.items = search rules in
@@ -82,7 +86,7 @@ returns-in-Ok-clause-newest g c disk shows snapshots sure =
     let one = looked c.open_trees.ensures.reads in
     let two = looked_more one (looked c.check_numbers.ensures.reads) in
     let r = c.args.root.now in
-    let opened = c.in_ok-trees.ensures.trees disk shows snapshots c.in_ok-marks.ensures.none c.none-shared.ensures in
+    let opened = c.in_ok-trees.ensures.trees disk shows snapshots c.in_ok-marks.ensures.none c.in_ok-shared.ensures in
     let numbered = c.in_ok-check_numbers.ensures.seen disk r (one.same disk shows) c.requires.root refl opened in
     let ended = c.in_ok-are_apart.ensures.seen disk r c.check_numbers.new.marks (two.same disk shows) c.requires.root refl numbered in
     let some : 0 < length c.check_each.new.trees.items = search rules in
@@ -100,7 +104,7 @@ returns-in-Err-Fault-clause-newest g c disk shows snapshots sure =
     let one = looked c.open_trees.ensures.reads in
     let two = looked_more one (looked c.check_numbers.ensures.reads) in
     let r = c.args.root.now in
-    let opened = c.in_ok-trees.ensures.trees disk shows snapshots c.in_ok-marks.ensures.none c.none-shared.ensures in
+    let opened = c.in_ok-trees.ensures.trees disk shows snapshots c.in_ok-marks.ensures.none c.in_ok-shared.ensures in
     let numbered = c.in_ok-check_numbers.ensures.seen disk r (one.same disk shows) c.requires.root refl opened in
     let ended = c.in_ok-are_apart.ensures.seen disk r c.check_numbers.new.marks (two.same disk shows) c.requires.root refl numbered in
     let some : 0 < length c.check_each.new.trees.items = search rules in
@@ -111,7 +115,7 @@ returns-in-Ok-clause-found g c disk nvram shows snapshots are =
     let one = looked c.open_trees.ensures.reads in
     let two = looked_more one (looked c.check_numbers.ensures.reads) in
     let r = c.args.root.now in
-    let opened = c.in_ok-trees.ensures.trees disk shows snapshots c.in_ok-marks.ensures.none c.none-shared.ensures in
+    let opened = c.in_ok-trees.ensures.trees disk shows snapshots c.in_ok-marks.ensures.none c.in_ok-shared.ensures in
     let numbered = c.in_ok-check_numbers.ensures.seen disk r (one.same disk shows) c.requires.root refl opened in
     c.in_ok-are_apart.ensures.found disk r c.check_numbers.new.marks nvram (two.same disk shows) c.requires.root refl numbered are
 
@@ -129,7 +133,7 @@ returns-in-Ok-clause-faultless g c disk shows snapshots none =
     let three = looked_more two (looked c.check_each.ensures.reads) in
     let r = c.args.root.now in
     let w = whole disk r in
-    let opened = c.in_ok-trees.ensures.trees disk shows snapshots c.in_ok-marks.ensures.none c.none-shared.ensures in
+    let opened = c.in_ok-trees.ensures.trees disk shows snapshots c.in_ok-marks.ensures.none c.in_ok-shared.ensures in
     let numbered = c.in_ok-check_numbers.ensures.seen disk r (one.same disk shows) c.requires.root refl opened in
     let ended = c.in_ok-are_apart.ensures.seen disk r c.check_numbers.new.marks (two.same disk shows) c.requires.root refl numbered in
     let some : 0 < length c.check_each.new.trees.items = search rules in
@@ -153,7 +157,7 @@ returns-in-Err-Fault-clause-found g c disk nvram shows snapshots are =
     let three = looked_more two (looked c.check_each.ensures.reads) in
     let r = c.args.root.now in
     let w = whole disk r in
-    let opened = c.in_ok-trees.ensures.trees disk shows snapshots c.in_ok-marks.ensures.none c.none-shared.ensures in
+    let opened = c.in_ok-trees.ensures.trees disk shows snapshots c.in_ok-marks.ensures.none c.in_ok-shared.ensures in
     let numbered = c.in_ok-check_numbers.ensures.seen disk r (one.same disk shows) c.requires.root refl opened in
     let ended = c.in_ok-are_apart.ensures.seen disk r c.check_numbers.new.marks (two.same disk shows) c.requires.root refl numbered in
     let some : 0 < length c.check_each.new.trees.items = search rules in

@@ -36,21 +36,21 @@ known disk r marks t root seen none volumes =
     }
 
 pub returns-in_err-check_reached-clause-passes : goal.returns-in_err-check_reached-clause-passes
-returns-in_err-check_reached-clause-passes g c = λ disk r marks shows root same count seen none.
+returns-in_err-check_reached-clause-passes g c = λ disk r marks shows knows root same count seen none.
     let t = tree_in (whole disk r) c.args.tree.now.plane in
     let is = known disk r marks c.args.tree.now root seen none c.files_hold_one_volume.ensures in
     let table = c.walk.new.table.items in
-    let read = c.in_ok-table.ensures.table disk r shows root same count seen.tree is.grammar in
+    let read = c.in_ok-table.ensures.table disk r shows knows (record { root = root; geometry = same; count = count; tree = seen.tree; grammar = is.grammar }) in
     let walked = c.in_ok-walk.ensures.walked disk r (c.in_ok-table.ensures.reads.same disk shows) root same (c.in_ok-table.ensures.reads.count ∙ count) seen.tree is.grammar read.0 read.1 in
     passes_residual (λ (_ : Unit {0}). AreReached table) (λ (_ : Unit {0}). HoldsGraph r.geometry.inodes t) (IsTreeFinding r t) c.from_residual-in_err-check_reached.result _ c.from_residual-in_err-check_reached.ensures.1
     (passes_by (λ (_ : Unit {0}). AreReached table) (λ (_ : Unit {0}). AreReached table) (IsUnreached table) (IsTreeFinding r t) (Err _) (λ x so. so) (unreached_finding r t is table walked) c.in_err-check_reached.ensures.rows)
 
 pub returns-clause-passes : goal.returns-clause-passes
-returns-clause-passes g c = λ disk r marks shows root same count seen none.
+returns-clause-passes g c = λ disk r marks shows knows root same count seen none.
     let t = tree_in (whole disk r) c.args.tree.now.plane in
     let is = known disk r marks c.args.tree.now root seen none c.files_hold_one_volume.ensures in
     let table = c.walk.new.table.items in
-    let read = c.in_ok-table.ensures.table disk r shows root same count seen.tree is.grammar in
+    let read = c.in_ok-table.ensures.table disk r shows knows (record { root = root; geometry = same; count = count; tree = seen.tree; grammar = is.grammar }) in
     let walked = c.in_ok-walk.ensures.walked disk r (c.in_ok-table.ensures.reads.same disk shows) root same (c.in_ok-table.ensures.reads.count ∙ count) seen.tree is.grammar read.0 read.1 in
     let are = c.in_ok-check_reached.ensures.rows in
     passes_by _ _ _ _ c.check_links.result (λ x linked. holds_graph r t is table walked are linked) (unlinked_finding r t is table walked are) c.check_links.ensures.rows

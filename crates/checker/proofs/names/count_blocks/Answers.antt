@@ -15,7 +15,6 @@ use Rattle.checker.proofs.FoundLaws.{goes_more, goes_none}
 use Rattle.checker.proofs.HaltLaws.{if_ok, on_ok, looks_failed, looks_more, looks_of, looks_or_fault, looks_residual, passes_or_fault, passes_residual}
 use Rattle.checker.proofs.NameLaws.{awaited_block, rows_more, rows_none, with_row}
 use Rattle.checker.proofs.ReadLaws.{looked_more, looked_none, looked_of, looks_ok}
-use Rattle.checker.proofs.StepLaws.{knows_none}
 use Rattle.checker.proofs.names.count_blocks.Goals as goal
 
 pub loop-i-init : goal.loop-i-init
@@ -24,7 +23,7 @@ loop-i-init g c = record {
   goes = goes_none _ _;
   counted = λ disk r t e count shows same file start. (
     record { names = e; rows = λ i. []; has = rows_none r.geometry.inodes (file_block (t c.args.directory)) c.args.directory e start.none; way = start.way },
-    knows_none (λ n. n.0.items) c.new-names.result (e c.args.directory) c.new-names.ensures.empty start.none,
+    c.none-names.ensures (e c.args.directory) start.none,
   );
   sound = λ disk shows i low. absurd (omega (arith, low));
 }

@@ -23,7 +23,7 @@ loop-i-preserved g c =
       read = only_then so_far.read look.reads;
       most = omega (arith, so_far.most, more.names, look.likely.names);
       bounded = subst (IsBounded (c.loop-i.i + 1) c.with_block-survey.result) (sym more.room) (bounded_more c.loop-i.i c.args.bytes c.loop-i.survey c.with_block-survey.result c.in_ok-look.look c.requires look.likely more.names c.loop-i.survey.room so_far.bounded);
-      finds = λ disk shows. finds_more c.args.inodes (edited_block disk c.args.file.now c.args.edit.now) c.loop-i.i c.args.bytes _ c.loop-i.survey c.with_block-survey.result c.in_ok-look.look (so_far.finds disk shows) (look.tells disk (so_far.read.same disk shows)) more.names more.room;
+      finds = λ disk shows. finds_more c.args.inodes (edited_block disk c.args.file.now c.args.edit.now) c.loop-i.i c.args.bytes _ c.loop-i.survey c.with_block-survey.result c.in_ok-look.look (so_far.finds disk shows) (look.tells disk (so_far.read.same disk shows)) more.place more.names more.room;
     }
 
 pub returns-in_err-look-clause-reads : goal.returns-in_err-look-clause-reads

@@ -9,5 +9,5 @@ invariant-loop-i g l = record {
   read : HasOnlyRead g.B.Blocks l.initial.blocks l.blocks;
   most : l.survey.names ≤ 4096 * l.i;
   bounded : IsBounded l.i l.survey l.survey.room;
-  finds : (disk : ℕ → List ℕ) → g.B.Blocks.Shows l.initial.blocks disk → SurveysBlocks l.inodes (edited_block disk l.file l.edit) l.i l.bytes l.survey;
+  finds : (disk : ℕ → List ℕ) → g.B.Blocks.Shows l.initial.blocks disk → SurveysBlocks l.inodes (edited_block disk l.file l.edit) l.i l.name l.bytes l.survey;
 }

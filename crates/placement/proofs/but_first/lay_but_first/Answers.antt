@@ -1,5 +1,7 @@
-use Rattle.std.proofs.Common.{◌≤◌, ◌+◌, ℕ, Ok, Result, sym, subst, ◌∙◌, arith, rules}
+use Rattle.std.proofs.Common.{◌<◌, ◌≤◌, ◌+◌, ℕ, Ok, Result, sym, subst, ◌∙◌, arith, rules}
+use Rattle.std.proofs.lemmas.Bool.{cond_below}
 use Rattle.layout.specs.Version.{level_of}
+use Rattle.layout.specs.declared.pointer.Pointer.TheVariants.{Hole}
 use Rattle.blocktree.specs.PlaceMaps.{AreBelow, place_at}
 use Rattle.blocktree.specs.Places.{block_count}
 use Rattle.conspoint.specs.Groups.{group}
@@ -9,7 +11,7 @@ use Rattle.conspoint.specs.declared.draft.Draft.{Draft}
 use Rattle.conspoint.specs.declared.error.PlanError.{PlanError}
 use Rattle.conspoint.proofs.StepLemmas.{places_err, places_ok, places_rise}
 use Rattle.placement.specs.Files.{object_block, with_first}
-use Rattle.placement.specs.Nodes.{AreWithin, under}
+use Rattle.placement.specs.Nodes.{AreWithin, node, under}
 use Rattle.placement.specs.Space.{first_stores, more_over}
 use Rattle.placement.specs.Steps.{PlacesHeights}
 use Rattle.placement.proofs.CostLaws.{changed_most, not_changed, one_added, placed_most, some_index, some_stored, with_one}
@@ -52,6 +54,13 @@ returns-clause-first c = c.in_ok-laid.ensures.blocks 0 ∙ c.in_ok-placed.ensure
 
 pub returns-clause-short : goal.returns-clause-short
 returns-clause-short c = λ m i past. c.in_ok-laid.ensures.end m i (omega (arith, past, nodes_fall (block_count c.args.object.now.file.size) m))
+
+pub returns-clause-kept : goal.returns-clause-kept
+returns-clause-kept c = λ i some lt not.
+    let low : i < c.args.object.now.file.tree.kept = omega (arith, lt, c.in_ok-laid.ensures.kept, c.kept_of-kept.ensures) in
+    let within : i < c.block_count-count.result = omega (arith, lt, c.in_ok-laid.ensures.kept, c.kept_of-kept.ensures) in
+    c.in_ok-laid.ensures.blocks i ∙ (rw c.tree.ensures at (c.in_ok-placed.ensures.unchanged i within some (rw c.tree.ensures not)))
+    ∙ sym (cond_below i c.args.object.now.file.tree.kept (node c.args.settled.now 0 i) Hole low)
 
 pub returns-clause-whole : goal.returns-clause-whole
 returns-clause-whole c = rw (c.tree.ensures, c.block_count-count.ensures) at c.in_ok-placed.ensures.whole

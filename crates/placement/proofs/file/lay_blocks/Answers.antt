@@ -1,5 +1,7 @@
-use Rattle.std.proofs.Common.{ℕ, Ok, Result, sym, subst, ◌∙◌, arith}
+use Rattle.std.proofs.Common.{◌<◌, ℕ, Ok, Result, sym, subst, ◌∙◌, arith}
+use Rattle.std.proofs.lemmas.Bool.{cond_below}
 use Rattle.layout.specs.Version.{level_of}
+use Rattle.layout.specs.declared.pointer.Pointer.TheVariants.{Hole}
 use Rattle.blocktree.specs.PlaceMaps.{AreBelow, place_at}
 use Rattle.blocktree.specs.Places.{block_count}
 use Rattle.blocktree.specs.Trees.{IsChanged}
@@ -11,7 +13,7 @@ use Rattle.conspoint.specs.declared.draft.Draft.{Draft}
 use Rattle.conspoint.specs.declared.error.PlanError.{PlanError}
 use Rattle.conspoint.proofs.StepLemmas.{places_err, places_ok, places_rise}
 use Rattle.placement.specs.Files.{object_block}
-use Rattle.placement.specs.Nodes.{AreWithin, under}
+use Rattle.placement.specs.Nodes.{AreWithin, node, under}
 use Rattle.placement.specs.Space.{file_stores, more_over}
 use Rattle.placement.specs.Steps.{PlacesHeights}
 use Rattle.placement.proofs.CostLaws.{changed_most, not_changed, placed_most}
@@ -46,6 +48,13 @@ returns-clause-placed c =
 
 pub returns-clause-short : goal.returns-clause-short
 returns-clause-short c = λ m i past. c.in_ok-laid.ensures.end m i (omega (arith, past, nodes_fall (block_count c.args.object.now.file.size) m))
+
+pub returns-clause-kept : goal.returns-clause-kept
+returns-clause-kept c = λ i some lt not.
+    let low : i < c.args.object.now.file.tree.kept = omega (arith, lt, c.in_ok-laid.ensures.kept, c.kept_of-kept.ensures) in
+    let within : i < c.block_count-count.result = omega (arith, lt, c.in_ok-laid.ensures.kept, c.kept_of-kept.ensures) in
+    c.in_ok-laid.ensures.blocks i ∙ (rw c.tree.ensures at (c.in_ok-blocks.ensures.unchanged i within (rw c.tree.ensures not)))
+    ∙ sym (cond_below i c.args.object.now.file.tree.kept (node c.args.settled.now 0 i) Hole low)
 
 pub returns-clause-holes : goal.returns-clause-holes
 returns-clause-holes c = λ i lt hole. (rw c.tree.ensures at (c.in_ok-blocks.ensures.holes i (omega (arith, lt)))) (sym (c.in_ok-laid.ensures.blocks i) ∙ hole)

@@ -1,33 +1,48 @@
-use Rattle.std.proofs.Common.{◌≡◌, None, is_some, ap, sym, subst, ◌∙◌, arith}
+use Rattle.std.proofs.Common.{rules, ◌≡◌, sym, ap, is_some, ◌∙◌}
 use Rattle.std.proofs.lemmas.Bool.{false≢true}
-use Rattle.dirs.specs.Edits.{HasEditedNames}
-use Rattle.records.proofs.EnterLaws.{not_some}
-use Rattle.records.proofs.NamingLaws.{added_names, edit_follows, edit_stops, none_gone}
-use Rattle.inode.proofs.BaseLaws.{same_itself}
-use Rattle.records.proofs.StandLaws.{reads_ok}
+use Rattle.records.proofs.EnterLaws.{full_has_no_place}
 use Rattle.records.proofs.naming.add_new.Goals as goal
 
-pub returns-in_err-found : goal.returns-in_err-found
-returns-in_err-found g c = edit_stops c.from_residual.result c.from_residual.ensures.1 c.in_err-found.ensures.reads (same_itself c.args.file.now) (λ disk names shows is had sound.
-    c.in_err-found.ensures.damaged disk shows is (λ i below. sound i) (λ i below. (had.entries i, had.holds i below)))
+pub returns-in-Ok-true : goal.returns-in-Ok-true
+returns-in-Ok-true g c = record {
+  reads = search rules;
+  same = search rules;
+  fits = search rules;
+  pieces = c.prepare_add.ensures.pieces;
+  edited = λ disk names shows had.
+      let room = c.in-Ok-true.ensures.room disk names shows had (search rules) in
+      (record { missing = c.in-Ok-true.ensures.missing disk names shows had (search rules); place = record { count = room.0; counts = room.1; room = room.2 } }, c.in-Ok-true.ensures.added disk names shows had (search rules));
+  damaged = search rules;
+}
 
-pub returns-then-is_some : goal.returns-then-is_some
-returns-then-is_some g c = record {
-  reads = reads_ok c.in_ok-found.ensures.reads;
-  same = same_itself c.args.file.now;
-  fits = tt;
+pub returns-in-Ok-false : goal.returns-in-Ok-false
+returns-in-Ok-false g c = record {
+  reads = search rules;
+  same = search rules;
+  fits = search rules;
+  pieces = tt;
+  edited = λ disk names shows had takes. false≢true (sym (ap is_some takes.missing) ∙ c.in-Ok-false.ensures.there disk names shows had (search rules));
+  damaged = search rules;
+}
+
+pub returns-in-Err-DirFull : goal.returns-in-Err-DirFull
+returns-in-Err-DirFull g c = record {
+  reads = search rules;
+  same = search rules;
+  fits = search rules;
   pieces = tt;
   edited = λ disk names shows had takes.
-      let none : c.in_ok-found.found ≡ None = c.in_ok-found.ensures.found disk names shows had ∙ takes.missing in
-      false≢true (sym (ap is_some none) ∙ sym c.is_some.ensures ∙ c.if-is_some.true);
-  damaged = λ disk names shows is had sound. cc;
+      let full = c.in-Err-DirFull.ensures.full disk names shows had (search rules) in
+      full_has_no_place names full.1 full.2 full.3 takes.place;
+  damaged = search rules;
 }
 
 pub returns : goal.returns
-returns g c =
-    let y = c.args.entry.now.name.now in
-    let file = c.args.file.now in
-    let none = not_some c.in_ok-found.found (sym c.is_some.ensures ∙ c.if-is_some.false) in
-    edit_follows c.in_ok-found.ensures.reads (same_itself file) c.add_in.ensures (omega arith) (λ names. names)
-    (λ disk names shows had. subst (HasEditedNames c.args.inodes disk file c.args.edit) (sym (none_gone y names (sym (c.in_ok-found.ensures.found disk names shows had) ∙ none))) had)
-    (λ disk names shows had o is. added_names c.args.inodes disk c.add_in.new.file c.args.entry.now names (sym (c.in_ok-found.ensures.found disk names shows had) ∙ none) o is)
+returns g c = record {
+  reads = search rules;
+  same = search rules;
+  fits = search rules;
+  pieces = tt;
+  edited = search rules;
+  damaged = λ disk names shows is had sound. c.in-Err-Damaged.ensures.damaged disk shows (search rules) (λ i below. sound i) (λ i below. (had.entries i, had.holds i below));
+}

@@ -1,8 +1,7 @@
 use Rattle.std.proofs.Common.{ℕ, rules, sym, subst, arith}
-use Rattle.layout.specs.Limits.{Sizes}
 use Rattle.model.specs.Records.{without_nameless}
-use Rattle.inofile.proofs.RoomLaws.{clean_room, needs_room}
-use Rattle.replay.specs.Volumes.{HasVolumeIn, SavesRecordsIn}
+use Rattle.inofile.proofs.RoomLaws.{clean_room}
+use Rattle.replay.specs.Volumes.{HasVolumeIn}
 use Rattle.replay.proofs.Errors.{passed}
 use Rattle.replay.proofs.saved.replay.Goals as goal
 
@@ -12,19 +11,16 @@ returns-in_err-nameless-clause-replays g c detail disk settled v w changes nvram
 
 pub returns-in_err-log-clause-replays : goal.returns-in_err-log-clause-replays
 returns-in_err-log-clause-replays g c detail disk settled v w changes nvram shows has tells saves =
-    let told = c.in_ok-nameless.ensures in
-    let before = told.counts detail disk settled v shows has in
+    let read = c.in_ok-nameless.ensures.reads in
     passed _ c.from_residual-in_err-log.result c.in_err-log.field-0.0 (search rules)
-    (c.in_err-log.ensures.replays detail disk settled v w changes nvram (told.reads.same disk shows) (subst (λ (k : ℕ). HasVolumeIn detail k disk settled c.count_nameless.new.inodes v) (sym told.reads.count) before.1) tells
-    (subst (λ (s : Sizes). SavesRecordsIn detail s.inodes nvram c.args.saved changes v w) (sym told.geometry) saves))
+    (c.in_err-log.ensures.replays detail disk settled v w changes nvram (read.same disk shows) (subst (λ (k : ℕ). HasVolumeIn detail k disk settled c.args.inodes.now v) (sym read.count) has) tells saves)
 
 pub returns-clause-replays : goal.returns-clause-replays
 returns-clause-replays g c detail disk settled v w changes nvram shows has tells saves =
     let told = c.in_ok-nameless.ensures in
-    let before = told.counts detail disk settled v shows has in
-    let end = c.in_ok-log.ensures.replays detail disk settled v w changes nvram (told.reads.same disk shows) (subst (λ (k : ℕ). HasVolumeIn detail k disk settled c.count_nameless.new.inodes v) (sym told.reads.count) before.1) tells
-    (subst (λ (s : Sizes). SavesRecordsIn detail s.inodes nvram c.args.saved changes v w) (sym told.geometry) saves) in
-    (end.0, subst (λ (k : ℕ). HasVolumeIn detail k disk settled c.replay_records.new.inodes (without_nameless w)) told.reads.count end.1, omega (arith, before.0, end.2, c.from.ensures))
+    let read = told.reads in
+    let end = c.in_ok-log.ensures.replays detail disk settled v w changes nvram (read.same disk shows) (subst (λ (k : ℕ). HasVolumeIn detail k disk settled c.args.inodes.now v) (sym read.count) has) tells saves in
+    (end.0, subst (λ (k : ℕ). HasVolumeIn detail k disk settled c.replay_records.new.inodes (without_nameless w)) read.count end.1, omega (arith, told.counts detail disk settled v shows has, end.2, c.from.ensures))
 
 pub returns-clause-holds : goal.returns-clause-holds
 returns-clause-holds g c nvram tells = c.in_ok-log.ensures.holds nvram tells
@@ -32,9 +28,7 @@ returns-clause-holds g c nvram tells = c.in_ok-log.ensures.holds nvram tells
 pub returns-clause-room : goal.returns-clause-room
 returns-clause-room g c detail disk settled v w changes nvram shows has tells saves none =
     let told = c.in_ok-nameless.ensures in
+    let read = told.reads in
     let s = c.args.inodes.now in
-    let before = told.counts detail disk settled v shows has in
-    let stands = subst (λ (k : ℕ). HasVolumeIn detail k disk settled c.count_nameless.new.inodes v) (sym told.reads.count) before.1 in
-    let leads = subst (λ (s : Sizes). SavesRecordsIn detail s.inodes nvram c.args.saved changes v w) (sym told.geometry) saves in
-    let end = c.in_ok-log.ensures.replays detail disk settled v w changes nvram (told.reads.same disk shows) stands tells leads in
-    omega (arith, end.3 v, before.0, end.2, c.from.ensures, needs_room v v s c.count_nameless.new.inodes told.geometry told.needs, clean_room s v none s.geometry.inodes)
+    let end = c.in_ok-log.ensures.replays detail disk settled v w changes nvram (read.same disk shows) (subst (λ (k : ℕ). HasVolumeIn detail k disk settled s v) (sym read.count) has) tells saves in
+    omega (arith, end.3 v, told.counts detail disk settled v shows has, end.2, c.from.ensures, clean_room s v none s.geometry.inodes)

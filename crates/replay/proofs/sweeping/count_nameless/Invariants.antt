@@ -4,18 +4,13 @@ use Rattle.model.specs.Records.{count_nameless}
 use Rattle.model.specs.Volumes.{Volume}
 use Rattle.buffers.specs.Reads.{HasOnlyRead}
 use Rattle.images.specs.Soundness.{Detail}
-use Rattle.inofile.specs.Room.{NeedsNoMore}
-use Rattle.inofile.specs.Volumes.{IsVolumeIn}
 use Rattle.replay.specs.Volumes.{HasVolumeIn}
 use Rattle.replay.proofs.sweeping.count_nameless.Given as goal
 
 abbrev pub invariant-loop-number : goal.invariant-loop-number
 invariant-loop-number g l = record {
   read : HasOnlyRead g.B.Blocks l.fn.blocks l.blocks;
-  geometry : l.inodes.geometry ≡ l.fn.inodes.geometry;
-  needs : NeedsNoMore l.fn.inodes l.inodes;
   few : l.count ≤ l.number;
   counts : (detail : Detail) (disk : ℕ → List ℕ) (settled : ℕ → Inode) (v : Volume) → g.B.Blocks.Shows l.fn.blocks disk
-      → HasVolumeIn detail (g.B.Blocks.count l.fn.blocks) disk settled l.fn.inodes v
-      → (l.count ≡ count_nameless l.number v) × IsVolumeIn detail (g.B.Blocks.count l.fn.blocks) disk settled l.inodes v;
+      → HasVolumeIn detail (g.B.Blocks.count l.fn.blocks) disk settled l.fn.inodes v → l.count ≡ count_nameless l.number v;
 }

@@ -1,21 +1,29 @@
-use Rattle.std.proofs.Common.{rules, ℕ, ◌∙◌, sym, ap}
+use Rattle.std.proofs.Common.{rules, ℕ, ◌∙◌, sym, ap, subst}
+use Rattle.std.proofs.lemmas.Bool.{false≢true}
+use Rattle.layout.specs.declared.inode.Inode.{Inode}
+use Rattle.images.specs.Sizes.{StandsForIn}
 use Rattle.model.specs.Volumes.{is_nameless}
+use Rattle.inofile.specs.Settled.{held_content}
+use Rattle.replay.proofs.SweepLaws.{unknown_stands}
 use Rattle.replay.proofs.Errors.{undamaged}
 use Rattle.replay.proofs.sweeping.has_nameless.Goals as goal
 
 pub returns-then-not-is_taken-clause-tells : goal.returns-then-not-is_taken-clause-tells
 returns-then-not-is_taken-clause-tells g c detail disk settled v shows stands =
-    let none = c.is_taken.ensures.free detail (g.B.Blocks.count c.args.blocks.now) disk settled v stands (search rules) in
-    (sym (ap is_nameless none), stands)
+    sym (ap is_nameless (c.is_taken.ensures.free detail (g.B.Blocks.count c.args.blocks.now) disk settled v stands (search rules)))
 
-pub returns-in_err-load-clause-tells : goal.returns-in_err-load-clause-tells
-returns-in_err-load-clause-tells g c detail disk settled v shows stands =
-    undamaged _ c.from_residual.result (search rules) (λ is. c.in_err-load.ensures.damaged detail disk settled shows (search rules) stands.inodes)
+pub returns-then-is_known-clause-tells : goal.returns-then-is_known-clause-tells
+returns-then-is_known-clause-tells g c detail disk settled v shows stands =
+    c.is_nameless.ensures _ (g.B.Blocks.count c.args.blocks.now) disk settled v stands ∙ ap (λ (k : ℕ). is_nameless (v k)) c.new.ensures
+
+pub returns-in_err-inode-clause-tells : goal.returns-in_err-inode-clause-tells
+returns-in_err-inode-clause-tells g c detail disk settled v shows stands =
+    undamaged _ c.from_residual.result (search rules) (λ is. c.in_err-inode.ensures.damaged detail disk settled shows (search rules) stands.inodes)
 
 pub returns-clause-tells : goal.returns-clause-tells
 returns-clause-tells g c detail disk settled v shows stands =
-    let loaded = c.in_ok-load.ensures.volume detail disk settled v shows stands in
-    (c.is_nameless.ensures _ (g.B.Blocks.count c.args.blocks.now) disk settled v loaded ∙ ap (λ (k : ℕ). is_nameless (v k)) c.new.ensures, loaded)
-
-pub returns-then-not-is_taken-clause-needs : goal.returns-then-not-is_taken-clause-needs
-returns-then-not-is_taken-clause-needs g c = λ n k le. le
+    let s = c.args.inodes.now in
+    let n = c.args.number in
+    c.is_nameless_inode.ensures detail disk s.geometry.inodes (v n)
+    (subst (λ (i : Inode). StandsForIn detail s.geometry.inodes (held_content disk i) (v n)) (sym (c.in_ok-inode.ensures.read detail disk settled shows stands.inodes))
+    (unknown_stands detail disk s.geometry.inodes (settled n) _ (v n) (λ known. false≢true (sym c.if-is_known.false ∙ c.is_known.ensures.1 known)) (stands.objects n)))

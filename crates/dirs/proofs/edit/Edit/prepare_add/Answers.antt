@@ -1,4 +1,4 @@
-use Rattle.std.proofs.Common.{rules, ◌≡◌, ◌+◌, ◌≤◌, ◌∷◌, ◌++◌, [], length, arith, ap, subst, sym, List, Some}
+use Rattle.std.proofs.Common.{rules, ◌≡◌, ◌∙◌, ◌+◌, ◌≤◌, ◌∷◌, ◌++◌, [], length, arith, ap, subst, sym, List, Some}
 use Rattle.layout.specs.Directory.{Named, HoldsEntries, named_of, entry_bytes}
 use Rattle.layout.proofs.EntryLaws.{length-entry_bytes}
 use Rattle.blocktree.specs.Trees.{IsSoundAt}
@@ -8,10 +8,11 @@ use Rattle.dirs.specs.Directory.{with_name}
 use Rattle.dirs.specs.Edits.{edited_block}
 use Rattle.dirs.specs.Surveys.{IsBounded, IsFirstRoom}
 use Rattle.dirs.proofs.HoldLaws.{hold_added, has_count, damaged_below}
+use Rattle.dirs.proofs.SurveyLaws.{free_name, taken_name}
 use Rattle.dirs.proofs.edit.Edit.prepare_add.Goals as goal
 
 pub survey_of-requires : goal.survey_of-requires
-survey_of-requires g c = omega (arith, c.encoded_len.ensures, length-entry_bytes (named_of c.args.entry.now), c.requires.name.short)
+survey_of-requires g c = omega (arith, c.encoded_len-bytes.ensures, length-entry_bytes (named_of c.args.entry.now), c.requires.name.short)
 
 pub returns-in_err-survey-clause-damaged : goal.returns-in_err-survey-clause-damaged
 returns-in_err-survey-clause-damaged g c = λ disk shows is reached sound. c.in_err-survey.ensures.damaged disk shows (search (rules, damaged_below)) reached sound
@@ -26,25 +27,27 @@ returns-in_err-add_to-in-Some-clause-damaged g c = λ disk shows is reached soun
 
 pub returns-then-is_full-clause-full : goal.returns-then-is_full-clause-full
 returns-then-is_full-clause-full g c = λ disk names shows has is.
-    (c.in_ok-survey.survey.names, has_count c.args.inodes c.args.self.now.count (edited_block disk c.args.file.now c.args.self.now) names c.in_ok-survey.survey.names has ((c.in_ok-survey.ensures.finds disk shows).names has.entries has.holds), omega arith)
+    let free = free_name c.args.inodes c.args.self.now.count (edited_block disk c.args.file.now c.args.self.now) names c.args.entry.now.name.now c.encoded_len-bytes.result c.in_ok-survey.survey has (c.in_ok-survey.ensures.finds disk shows) (sym c.is_some.ensures ∙ c.if-is_some.false) in
+    (free, c.in_ok-survey.survey.names, has_count c.args.inodes c.args.self.now.count (edited_block disk c.args.file.now c.args.self.now) names c.in_ok-survey.survey.names has ((c.in_ok-survey.ensures.finds disk shows).names has.entries has.holds), omega arith)
 
 pub returns-in_ok-add_to-in-Some-clause-room : goal.returns-in_ok-add_to-in-Some-clause-room
-returns-in_ok-add_to-in-Some-clause-room g c = λ disk names shows has.
+returns-in_ok-add_to-in-Some-clause-room g c = λ disk names shows has is.
     (c.in_ok-survey.survey.names, has_count c.args.inodes c.args.self.now.count (edited_block disk c.args.file.now c.args.self.now) names c.in_ok-survey.survey.names has ((c.in_ok-survey.ensures.finds disk shows).names has.entries has.holds), omega arith)
 
 pub returns-in_ok-add_behind-in-None-clause-room : goal.returns-in_ok-add_behind-in-None-clause-room
-returns-in_ok-add_behind-in-None-clause-room g c = λ disk names shows has.
+returns-in_ok-add_behind-in-None-clause-room g c = λ disk names shows has is.
     (c.in_ok-survey.survey.names, has_count c.args.inodes c.args.self.now.count (edited_block disk c.args.file.now c.args.self.now) names c.in_ok-survey.survey.names has ((c.in_ok-survey.ensures.finds disk shows).names has.entries has.holds), omega arith)
 
 pub returns-in_ok-add_to-in-Some-clause-added : goal.returns-in_ok-add_to-in-Some-clause-added
-returns-in_ok-add_to-in-Some-clause-added g c = λ disk names shows has free.
+returns-in_ok-add_to-in-Some-clause-added g c = λ disk names shows has is.
+    let free = free_name c.args.inodes c.args.self.now.count (edited_block disk c.args.file.now c.args.self.now) names c.args.entry.now.name.now c.encoded_len-bytes.result c.in_ok-survey.survey has (c.in_ok-survey.ensures.finds disk shows) (sym c.is_some.ensures ∙ c.if-is_some.false) in
     let e = named_of c.args.entry.now in
     let old = edited_block disk c.args.file.now c.args.self.now in
     let new = edited_block disk c.add_to.new.file c.add_to.new.self in
     let i = c.in-Some.i in
     let add = c.in_ok-add_to-in-Some.ensures in
-    let room = subst (IsFirstRoom has.entries c.args.self.now.count c.encoded_len.result) c.in-Some.is ((c.in_ok-survey.ensures.finds disk shows).room has.entries has.holds) in
-    let within : used_by (has.entries i) + length (entry_bytes e) ≤ 4096 = omega (arith, room.1, c.encoded_len.ensures) in
+    let room = subst (IsFirstRoom has.entries c.args.self.now.count c.encoded_len-bytes.result) c.in-Some.is ((c.in_ok-survey.ensures.finds disk shows).room has.entries has.holds) in
+    let within : used_by (has.entries i) + length (entry_bytes e) ≤ 4096 = omega (arith, room.1, c.encoded_len-bytes.ensures) in
     subst (λ n. HoldNames c.args.inodes n new (with_name e.name (Some e.number) names)) (sym add.many)
     (hold_added c.args.inodes c.args.self.now.count old new names i c.args.self.now.count e has free (record {
       others = λ j below else. (below, add.others disk j else);
@@ -54,7 +57,8 @@ returns-in_ok-add_to-in-Some-clause-added g c = λ disk names shows has free.
     }))
 
 pub returns-in_ok-add_behind-in-None-clause-added : goal.returns-in_ok-add_behind-in-None-clause-added
-returns-in_ok-add_behind-in-None-clause-added g c = λ disk names shows has free.
+returns-in_ok-add_behind-in-None-clause-added g c = λ disk names shows has is.
+    let free = free_name c.args.inodes c.args.self.now.count (edited_block disk c.args.file.now c.args.self.now) names c.args.entry.now.name.now c.encoded_len-bytes.result c.in_ok-survey.survey has (c.in_ok-survey.ensures.finds disk shows) (sym c.is_some.ensures ∙ c.if-is_some.false) in
     let e = named_of c.args.entry.now in
     let count = c.args.self.now.count in
     let old = edited_block disk c.args.file.now c.args.self.now in
@@ -70,15 +74,15 @@ returns-in_ok-add_behind-in-None-clause-added g c = λ disk names shows has free
     }))
 
 pub returns-in_ok-add_to-in-Some-clause-first : goal.returns-in_ok-add_to-in-Some-clause-first
-returns-in_ok-add_to-in-Some-clause-first g c = λ disk names shows has.
+returns-in_ok-add_to-in-Some-clause-first g c = λ disk names shows has is.
     let e = named_of c.args.entry.now in
     let i = c.in-Some.i in
     let add = c.in_ok-add_to-in-Some.ensures in
-    let room = subst (IsFirstRoom has.entries c.args.self.now.count c.encoded_len.result) c.in-Some.is ((c.in_ok-survey.ensures.finds disk shows).room has.entries has.holds) in
-    let within : used_by (has.entries i) + length (entry_bytes e) ≤ 4096 = omega (arith, room.1, c.encoded_len.ensures) in
+    let room = subst (IsFirstRoom has.entries c.args.self.now.count c.encoded_len-bytes.result) c.in-Some.is ((c.in_ok-survey.ensures.finds disk shows).room has.entries has.holds) in
+    let within : used_by (has.entries i) + length (entry_bytes e) ≤ 4096 = omega (arith, room.1, c.encoded_len-bytes.ensures) in
     record {
       at = i;
-      full = λ j before. omega (arith, room.2 j before, c.encoded_len.ensures);
+      full = λ j before. omega (arith, room.2 j before, c.encoded_len-bytes.ensures);
       room = within;
       here = add.here disk (has.entries i) (c.in_ok-survey.ensures.reads.same disk shows) (has.holds i room.0) within;
       others = λ j else. add.others disk j else;
@@ -86,17 +90,32 @@ returns-in_ok-add_to-in-Some-clause-first g c = λ disk names shows has.
     }
 
 pub returns-in_ok-add_behind-in-None-clause-first : goal.returns-in_ok-add_behind-in-None-clause-first
-returns-in_ok-add_behind-in-None-clause-first g c = λ disk names shows has.
+returns-in_ok-add_behind-in-None-clause-first g c = λ disk names shows has is.
     let e = named_of c.args.entry.now in
     let count = c.args.self.now.count in
     let add = c.in_ok-add_behind-in-None.ensures in
-    let full = subst (IsFirstRoom has.entries count c.encoded_len.result) c.in-None.is ((c.in_ok-survey.ensures.finds disk shows).room has.entries has.holds) in
+    let full = subst (IsFirstRoom has.entries count c.encoded_len-bytes.result) c.in-None.is ((c.in_ok-survey.ensures.finds disk shows).room has.entries has.holds) in
     let none : has.entries count ≡ [] = has.past count (omega arith) in
     record {
       at = count;
-      full = λ j before. omega (arith, full j before, c.encoded_len.ensures);
+      full = λ j before. omega (arith, full j before, c.encoded_len-bytes.ensures);
       room = subst (λ es. used_by es + length (entry_bytes e) ≤ 4096) (sym none) (omega (arith, length-entry_bytes e, c.requires.name.short));
       here = subst (λ es. HoldsEntries c.args.inodes (edited_block disk c.add_behind.new.file c.add_behind.new.self count) (es ++ e ∷ [])) (sym none) (add.here disk);
       others = λ j else. add.others disk j else;
       many = omega (arith, add.many);
     }
+
+pub returns-in_ok-add_to-in-Some-clause-missing : goal.returns-in_ok-add_to-in-Some-clause-missing
+returns-in_ok-add_to-in-Some-clause-missing g c = λ disk names shows has is.
+    let free = free_name c.args.inodes c.args.self.now.count (edited_block disk c.args.file.now c.args.self.now) names c.args.entry.now.name.now c.encoded_len-bytes.result c.in_ok-survey.survey has (c.in_ok-survey.ensures.finds disk shows) (sym c.is_some.ensures ∙ c.if-is_some.false) in
+    free
+
+pub returns-in_ok-add_behind-in-None-clause-missing : goal.returns-in_ok-add_behind-in-None-clause-missing
+returns-in_ok-add_behind-in-None-clause-missing g c = λ disk names shows has is.
+    let free = free_name c.args.inodes c.args.self.now.count (edited_block disk c.args.file.now c.args.self.now) names c.args.entry.now.name.now c.encoded_len-bytes.result c.in_ok-survey.survey has (c.in_ok-survey.ensures.finds disk shows) (sym c.is_some.ensures ∙ c.if-is_some.false) in
+    free
+
+pub returns-then-is_some-clause-there : goal.returns-then-is_some-clause-there
+returns-then-is_some-clause-there g c = λ disk names shows has is.
+    taken_name c.args.inodes c.args.self.now.count (edited_block disk c.args.file.now c.args.self.now) names c.args.entry.now.name.now c.encoded_len-bytes.result c.in_ok-survey.survey has (c.in_ok-survey.ensures.finds disk shows)
+    (sym c.is_some.ensures ∙ c.if-is_some.true)

@@ -1,6 +1,6 @@
 use Rattle.std.proofs.Common.{◌≡◌, refl}
 use Rattle.model.specs.declared.command.Command.TheVariants.{Df}
-use Rattle.model.specs.declared.errno.Errno.TheVariants.{EIO, FAILED}
+use Rattle.model.specs.declared.errno.Errno.TheVariants.{EIO, ENOMEM, FAILED}
 use Rattle.model.specs.declared.reply.Reply.TheVariants.{Refused}
 use Rattle.mount.proofs.AnswerLemmas.{answers_so, at_once}
 use Rattle.mount.proofs.ApplyLemmas.{failed_applied}
@@ -18,3 +18,9 @@ returns-in-Df-clause-answers g c =
     let is : c.args.command.now ≡ Df = cc in
     answers_so 2 _ fs fs Df c.args.command.now c.space.result is
     (at_once 2 _ fs fs Df c.space.result (c.space.ensures.answers EIO) refl refl refl (λ s serves young _. c.space.ensures.applied s serves c.if-self.false))
+
+pub returns-then-self-clause-at_once : goal.returns-then-self-clause-at_once
+returns-then-self-clause-at_once g c once = (refl, λ is. cc)
+
+pub returns-in-Df-clause-at_once : goal.returns-in-Df-clause-at_once
+returns-in-Df-clause-at_once g c once = (refl, c.space.ensures.answers ENOMEM)

@@ -1,28 +1,55 @@
-use Rattle.std.proofs.Common.{◌≡◌}
+use Rattle.std.proofs.Common.{◌≡◌, ◌∙◌, subst, sym}
+use Rattle.model.specs.declared.command.Command.{Command}
 use Rattle.model.specs.declared.command.Command.TheVariants.{SnapDelete, SnapTake, Sync}
+use Rattle.descriptors.specs.declared.table.Descriptors.{Descriptors}
+use Rattle.system.specs.Serving.{IsAtOnce}
 use Rattle.mount.proofs.AnswerLemmas.{answers_so}
 use Rattle.mount.proofs.PointLemmas.{behind_letting_go}
 use Rattle.mount.proofs.fs.Fs.answer_anew.Goals as goal
 
-pub returns-in-Sync : goal.returns-in-Sync
-returns-in-Sync g c =
+pub returns-in-Sync-clause-answers : goal.returns-in-Sync-clause-answers
+returns-in-Sync-clause-answers g c =
     let is : c.args.command.now ≡ Sync = cc in
     behind_letting_go {G = g.S.Station} c.args.self.now _ _ c.args.command.now c.sync.result c.requires.going c.requires.going (λ t here. c.served_states_open.ensures t.tree.descriptors t here)
     c.let_go.ensures.glances c.let_go.ensures.station (answers_so 2 _ _ _ Sync c.args.command.now c.sync.result is c.sync.ensures)
 
-pub returns-in-SnapTake : goal.returns-in-SnapTake
-returns-in-SnapTake g c =
+pub returns-in-SnapTake-clause-answers : goal.returns-in-SnapTake-clause-answers
+returns-in-SnapTake-clause-answers g c =
     let is : c.args.command.now ≡ SnapTake c.in-SnapTake.name = cc in
     behind_letting_go {G = g.S.Station} c.args.self.now _ _ c.args.command.now c.take.result c.requires.going c.requires.going (λ t here. c.served_states_open.ensures t.tree.descriptors t here)
     c.let_go.ensures.glances c.let_go.ensures.station (answers_so 2 _ _ _ (SnapTake c.in-SnapTake.name) c.args.command.now c.take.result is c.take.ensures)
 
-pub returns-in-SnapDelete : goal.returns-in-SnapDelete
-returns-in-SnapDelete g c =
+pub returns-in-SnapDelete-clause-answers : goal.returns-in-SnapDelete-clause-answers
+returns-in-SnapDelete-clause-answers g c =
     let is : c.args.command.now ≡ SnapDelete c.in-SnapDelete.name = cc in
     behind_letting_go {G = g.S.Station} c.args.self.now _ _ c.args.command.now c.delete.result c.requires.going c.requires.going (λ t here. c.served_states_open.ensures t.tree.descriptors t here)
     c.let_go.ensures.glances c.let_go.ensures.station (answers_so 2 _ _ _ (SnapDelete c.in-SnapDelete.name) c.args.command.now c.delete.result is c.delete.ensures)
 
-pub returns-in_default : goal.returns-in_default
-returns-in_default g c =
+pub returns-in_default-clause-answers : goal.returns-in_default-clause-answers
+returns-in_default-clause-answers g c =
     behind_letting_go {G = g.S.Station} c.args.self.now _ _ c.args.command.now c.call.result c.requires.going c.requires.going (λ t here. c.served_states_open.ensures t.tree.descriptors t here)
-    c.let_go.ensures.glances c.let_go.ensures.station c.call.ensures
+    c.let_go.ensures.glances c.let_go.ensures.station c.call.ensures.answers
+
+-- a command that makes a point isn't answered at once
+not_once : (files : Descriptors) (command x : Command) → command ≡ x → (IsAtOnce files x → ⊥) → IsAtOnce files command → ⊥
+not_once files command x is not once = not (subst (IsAtOnce files) is once)
+
+pub returns-in-Sync-clause-at_once : goal.returns-in-Sync-clause-at_once
+returns-in-Sync-clause-at_once g c once =
+    let is : c.args.command.now ≡ Sync = cc in
+    absurd (not_once c.args.self.now.system.files c.args.command.now Sync is (λ no. no) once)
+
+pub returns-in-SnapTake-clause-at_once : goal.returns-in-SnapTake-clause-at_once
+returns-in-SnapTake-clause-at_once g c once =
+    let is : c.args.command.now ≡ SnapTake c.in-SnapTake.name = cc in
+    absurd (not_once c.args.self.now.system.files c.args.command.now (SnapTake c.in-SnapTake.name) is (λ no. no) once)
+
+pub returns-in-SnapDelete-clause-at_once : goal.returns-in-SnapDelete-clause-at_once
+returns-in-SnapDelete-clause-at_once g c once =
+    let is : c.args.command.now ≡ SnapDelete c.in-SnapDelete.name = cc in
+    absurd (not_once c.args.self.now.system.files c.args.command.now (SnapDelete c.in-SnapDelete.name) is (λ no. no) once)
+
+pub returns-in_default-clause-at_once : goal.returns-in_default-clause-at_once
+returns-in_default-clause-at_once g c once =
+    let told = c.call.ensures.at_once (subst (λ (files : Descriptors). IsAtOnce files c.args.command.now) (sym c.let_go.ensures.files) once) in
+    (told.0 ∙ c.let_go.ensures.station, told.1)

@@ -1,7 +1,7 @@
-use Rattle.std.proofs.Common.{◌≡◌, ◌+◌, List, [], ◌∷◌, ◌++◌, rules, true, length, take, sym, ap, ◌∙◌, subst, arith, inl, inr}
+use Rattle.std.proofs.Common.{◌≡◌, ◌+◌, List, [], ◌∷◌, ◌++◌, rules, true, length, take, refl, sym, ap, ◌∙◌, subst, arith, inl, inr}
 use Rattle.std.specs.Prelude.{vec_len, is_ok}
 use Rattle.std.specs.List.{Contains, zip}
-use Rattle.std.proofs.lemmas.List.Elements.{Contains-push_cases}
+use Rattle.std.proofs.lemmas.List.Elements.{Contains-append_left, Contains-push, Contains-push_cases}
 use Rattle.std.proofs.lemmas.Bool.{cond-true}
 use Rattle.station.proofs.Calls.{uses_none, uses_twice}
 use Rattle.model.specs.declared.errno.Errno.TheVariants.{EIO}
@@ -25,6 +25,7 @@ loop-command-init g c = record {
       let none : length c.in_ok-replies.replies.items ≡ 0 = search (rules, empty) in
       let lt = has.1 in
       absurd (omega (arith, lt, none));
+  written = λ _. refl;
   ran = λ s serves lasts. c.begins.ensures s serves;
 }
 
@@ -48,6 +49,11 @@ loop-command-preserved g c =
         | inl before ↦ failed_before began mid new (so_far.eio before) told.uses
         | inr now ↦ failed_after began mid new so_far.uses (told.eio now)
       ];
+      written = λ none.
+          let xs = c.loop-command.replies.items in
+          let has : Contains (xs ++ c.apply-reply.result ∷ []) (Refused EIO) → ⊥ = λ is. none (subst (λ (l : List Reply). Contains l (Refused EIO)) (sym items) is) in
+          told.written (inl (λ is. has (subst (λ (r : Reply). Contains (xs ++ c.apply-reply.result ∷ []) r) is (Contains-push xs c.apply-reply.result))))
+          ∙ so_far.written (λ before. has (Contains-append_left xs (c.apply-reply.result ∷ []) (Refused EIO) before));
       ran = λ s serves lasts.
           let before = so_far.ran s serves lasts in
           let young = young_at c.args.self.now.system.log.epoch c.loop-command.self.system.log.epoch c.loop-command.command-index (length c.args.commands.now) so_far.epoch.lasts c.loop-command-test.true lasts in

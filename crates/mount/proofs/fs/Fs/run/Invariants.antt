@@ -8,7 +8,7 @@ use Rattle.model.specs.States.{State}
 use Rattle.system.specs.Counting.{AgesBy}
 use Rattle.system.specs.Opening.{HasFailed}
 use Rattle.system.specs.Systems.{meaning_of}
-use Rattle.mount.specs.Applying.{RunsAt}
+use Rattle.mount.specs.Applying.{NoWriteFailed, RunsAt}
 use Rattle.mount.specs.Systems.{mounted, Serves, LastsFor}
 use Rattle.mount.specs.declared.fs.TheConstants.{POINTS}
 use Rattle.mount.proofs.fs.Fs.run.Given as goal
@@ -20,6 +20,7 @@ invariant-loop-command g l = record {
   uses : Uses (meaning_of {G = g.S.Station} l.fn.self.system) (meaning_of {G = g.S.Station} l.self.system);
   epoch : AgesBy (POINTS * l.command-index) l.fn.self.system.log.epoch l.self.system.log.epoch;
   eio : Contains l.replies.items (Refused EIO) → HasFailed (meaning_of {G = g.S.Station} l.fn.self.system) (meaning_of {G = g.S.Station} l.self.system);
+  written : (Contains l.replies.items (Refused EIO) → ⊥) → NoWriteFailed (meaning_of {G = g.S.Station} l.fn.self.system) (meaning_of {G = g.S.Station} l.self.system);
   ran : (s : State) → Serves (mounted {G = g.S.Station} l.fn.self s) → LastsFor {G = g.S.Station} (length l.commands) l.fn.self
       → RunsAt {G = g.S.Station} l.fn.self s l.self (zip (take l.command-index l.commands) l.replies.items);
 }

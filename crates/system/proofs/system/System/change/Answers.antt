@@ -30,7 +30,7 @@ returns g c =
     let fs = c.args.self.now in
     let told = c.in-Err.ensures in
     let looks = told.looks in
-    failed_by fs _ (command.Path c.args.call.now) (reads_on {G = g.S.Station} fs c.prepare.new.blocks c.prepare.new.inodes looks) refl c.in-Err.failure _ c.answer.ensures (λ s served x. x)
+    failed_by fs _ (command.Path c.args.call.now) (reads_on {G = g.S.Station} fs c.prepare.new.blocks c.prepare.new.inodes looks) refl c.in-Err.failure _ c.answer.ensures (λ s served x. x, λ x. x)
     (λ s served. c.served_states_open.ensures s.tree.descriptors s served) looks.reads.counted looks.reads.device told.own
     (λ s served. (looked_on {G = g.S.Station} fs c.prepare.new.blocks c.prepare.new.inodes looks s served, refl))
     (λ s served. CallComes c.args.call.now fs.inodes.geometry.inodes served.running s.tree.descriptors) (on_mounted {G = g.S.Station} fs told.answers)
@@ -43,7 +43,7 @@ returns-in-Ok-None g c =
     let looks = told.looks in
     answered fs _ (command.Path c.args.call.now) (reads_on {G = g.S.Station} fs c.prepare.new.blocks c.prepare.new.inodes looks) refl
     (λ s served. (looked_on {G = g.S.Station} fs c.prepare.new.blocks c.prepare.new.inodes looks s served, refl))
-    (λ s served. inr (λ x. x)) _ looks.reads.counted done_is_no_fault (λ s served. c.served_states_open.ensures s.tree.descriptors s served)
+    _ (λ s served. inr (λ x. x), λ is. absurd is) looks.reads.counted done_is_no_fault (λ s served. c.served_states_open.ensures s.tree.descriptors s served)
     (λ s served. stays {G = g.S.Station} fs s served c.args.call.now Done (on_mounted {G = g.S.Station} fs told.answers s served))
 
 -- the record is logged, and its change is in force
@@ -59,7 +59,7 @@ in_force : {S : Type 0} {G : Ghosts S} {steps : Bool} (f new : System S G) (mid 
     ServesWith new s.tree.descriptors (state_with f.root.geometry.inodes after s.tree.descriptors served.snapshots) after (served.lasts.replayed.changes ++ change ∷ []))
     → Handles steps f new (command.Path call) (Ok Done)
 in_force f new mid call change reads laid counted log opens made leaves u writes waits room serves =
-    logged f new mid (command.Path call) Done reads laid counted log.0 opens (λ s served x. x) (λ s served. record {
+    logged f new mid (command.Path call) Done reads laid counted log.0 opens (λ s served x. x, λ x. x) (λ s served. record {
       after = state_with f.root.geometry.inodes (swept s.tree.descriptors (applied change served.running)) s.tree.descriptors served.snapshots;
       work = work_of served.running change;
       step = (made s served).step;
@@ -100,7 +100,7 @@ returns-in-Ok-Some g c =
     let reads = reads_on {G = g.S.Station} fs blocks c.prepare.new.inodes looks in
     let failed = c.in-Err-log.ensures in
     not_logged {G = g.S.Station} fs c.log.new.self (g.S.Station.meaning blocks.buffers.station) (command.Path c.args.call.now) Done reads.below (c.log.ensures.laid ∙ reads.laid) looks.reads.counted
-    c.log.ensures.log.0 (λ s served. c.served_states_open.ensures s.tree.descriptors s served) (λ s served x. x)
+    c.log.ensures.log.0 (λ s served. c.served_states_open.ensures s.tree.descriptors s served) (λ s served x. x, λ x. x)
     (λ s served. record {
       after = _;
       work = work_of served.running change;

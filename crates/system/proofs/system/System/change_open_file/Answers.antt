@@ -18,7 +18,7 @@ use Rattle.system.proofs.HandlingLaws.{logged, not_logged, serves_same}
 use Rattle.system.proofs.LookedLaws.{looked_on, never_damaged, on_open, on_volumes, reads_on, same_disk}
 use Rattle.system.proofs.MovedLaws.{leaves_moved}
 use Rattle.system.proofs.OpenFileLaws.{logging_not_sure, record_fits, refused_by, table_leads, told_beside, told_logged}
-use Rattle.system.proofs.ServingLaws.{answered_leading, failed_by}
+use Rattle.system.proofs.ServingLaws.{answered_leading, by_no, failed_by}
 use Rattle.system.proofs.system.System.change_open_file.Goals as goal
 
 pub returns-in-Err : goal.returns-in-Err
@@ -28,7 +28,7 @@ returns-in-Err g c =
     let told = c.in-Err.ensures in
     let looks = told.looks in
     failed_by fs _ call (reads_on {G = g.S.Station} fs c.prepare_open_file.new.blocks c.prepare_open_file.new.inodes looks) refl c.in-Err.failure _ c.answer.ensures
-    (λ s served. logging_not_sure s call c.requires) (λ s served. c.served_states_open.ensures s.tree.descriptors s served) looks.reads.counted looks.reads.device told.own
+    (logging_not_sure {G = g.S.Station} fs call c.requires) (λ s served. c.served_states_open.ensures s.tree.descriptors s served) looks.reads.counted looks.reads.device told.own
     (λ s served. (looked_on {G = g.S.Station} fs c.prepare_open_file.new.blocks c.prepare_open_file.new.inodes looks s served, refl))
     (λ s served. DoesCall fs.inodes.geometry.inodes served.running (table_of fs.files) call) (on_open {G = g.S.Station} fs told.answers)
     (λ s served errno is. refused_by {G = g.S.Station} fs s served call errno is) (never_damaged {G = g.S.Station} fs told.damaged)
@@ -41,8 +41,8 @@ returns-in-None g c =
     let looks = told.looks in
     let doing = c.in-Ok.doing in
     let put = c.put_into-in-None.ensures in
-    answered_leading fs _ call (reads_on {G = g.S.Station} fs c.prepare_open_file.new.blocks c.prepare_open_file.new.inodes looks) refl (λ s served. inr (logging_not_sure s call c.requires))
-    doing.reply looks.reads.counted (told.within.accepted EIO) (λ s served. c.served_states_open.ensures s.tree.descriptors s served)
+    answered_leading fs _ call (reads_on {G = g.S.Station} fs c.prepare_open_file.new.blocks c.prepare_open_file.new.inodes looks) refl doing.reply
+    (by_no {G = g.S.Station} fs _ call doing.reply (logging_not_sure {G = g.S.Station} fs call c.requires)) looks.reads.counted (told.within.accepted EIO) (λ s served. c.served_states_open.ensures s.tree.descriptors s served)
     (λ s served.
     let v = served.running in
     let beside = told_beside {G = g.S.Station} fs s served call doing c.in-None.is (on_open {G = g.S.Station} fs told.answers s served) in
@@ -76,7 +76,7 @@ returns-in-Ok-log g c =
       mounted = put.mounted;
     } in
     logged {G = g.S.Station} fs _ mid call doing.reply reads.below (c.log.ensures.laid ∙ reads.laid) looks.reads.counted c.log.ensures.log.0
-    (λ s served. c.served_states_open.ensures s.tree.descriptors s served) (λ s served. logging_not_sure s call c.requires)
+    (λ s served. c.served_states_open.ensures s.tree.descriptors s served) (logging_not_sure {G = g.S.Station} fs call c.requires)
     (λ s served. record { after = _; work = work_of served.running change; step = (made s served).step; leaves = leads s served })
     c.in-Ok-log.field-0 change (λ s served. refl) (told.within.accepted EIO) told.within.accepted c.in-Ok-log.ensures.writes c.in-Ok-log.ensures.log.1
     (λ steps laid. c.log.ensures.waits steps (λ is. laid (sym reads.laid ∙ is)))
@@ -112,7 +112,7 @@ returns-in-Err-log g c =
     let reads = reads_on {G = g.S.Station} fs blocks inodes looks in
     let failed = c.in-Err-log.ensures in
     not_logged {G = g.S.Station} fs c.log.new.self mid call doing.reply reads.below (c.log.ensures.laid ∙ reads.laid) looks.reads.counted c.log.ensures.log.0
-    (λ s served. c.served_states_open.ensures s.tree.descriptors s served) (λ s served. logging_not_sure s call c.requires)
+    (λ s served. c.served_states_open.ensures s.tree.descriptors s served) (logging_not_sure {G = g.S.Station} fs call c.requires)
     (λ s served. record { after = _; work = work_of served.running change; step = (made s served).step; leaves = leads s served })
     c.in-Err-log.error failed.own failed.stops (λ steps laid. c.log.ensures.waits steps (λ is. laid (sym reads.laid ∙ is))) failed.writes
     (λ is.

@@ -3,9 +3,10 @@ use Rattle.model.specs.Trees.{Description}
 use Rattle.model.specs.Volumes.{IsMounted}
 use Rattle.model.specs.declared.command.Command.TheVariants as command
 use Rattle.model.specs.declared.reply.Reply.TheVariants.{Done, Refused}
+use Rattle.overlay.specs.declared.overlay.Overlay.{Overlay}
 use Rattle.system.proofs.CloseLaws.{close_leads, close_sure, nameless_not_sure}
 use Rattle.system.proofs.LookedLaws.{looked_on, never_damaged, on_open, reads_on}
-use Rattle.system.proofs.ServingLaws.{answered_leading, done_is_no_fault, own_refusal, unanswered_read}
+use Rattle.system.proofs.ServingLaws.{answered_leading, done_is_no_fault, done_is_no_want, own_refusal, own_want, unanswered_read}
 use Rattle.system.proofs.system.System.close_file.Goals as goal
 
 pub returns-in-Ok-close : goal.returns-in-Ok-close
@@ -14,7 +15,10 @@ returns-in-Ok-close g c =
     let fd = c.args.fd in
     let looks = c.in-Ok.ensures.looks in
     λ steps. answered_leading fs _ (command.Close fd) (reads_on {G = g.S.Station} fs c.prepare_close.new.blocks c.prepare_close.new.inodes looks) refl
-    (λ s served. close_sure {G = g.S.Station} c.named_files_have_paths.ensures fs s served fd _ (on_open {G = g.S.Station} fs c.in-Ok.ensures.still s served)) Done looks.reads.counted done_is_no_fault
+    Done (
+      λ s served. close_sure {G = g.S.Station} c.named_files_have_paths.ensures fs s served fd _ (on_open {G = g.S.Station} fs c.in-Ok.ensures.still s served),
+      λ is. (ap (λ (b : Overlay g.row.S.Denot g.S.Station). b.buffers.station) (c.in-Ok.ensures.linked is).0, done_is_no_want),
+    ) looks.reads.counted done_is_no_fault
     (λ s served. c.served_states_open.ensures s.tree.descriptors s served)
     (λ s served.
     let now = looked_on {G = g.S.Station} fs c.prepare_close.new.blocks c.prepare_close.new.inodes looks s served in
@@ -31,7 +35,10 @@ returns-in-Err-close g c =
     let errno = c.in-Err-close.errno in
     let looks = c.in-Ok.ensures.looks in
     λ steps. answered_leading fs _ (command.Close fd) (reads_on {G = g.S.Station} fs c.prepare_close.new.blocks c.prepare_close.new.inodes looks) refl
-    (λ s served. close_sure {G = g.S.Station} c.named_files_have_paths.ensures fs s served fd _ (on_open {G = g.S.Station} fs c.in-Ok.ensures.still s served)) (Refused errno) looks.reads.counted
+    (Refused errno) (
+      λ s served. close_sure {G = g.S.Station} c.named_files_have_paths.ensures fs s served fd _ (on_open {G = g.S.Station} fs c.in-Ok.ensures.still s served),
+      λ is. (ap (λ (b : Overlay g.row.S.Denot g.S.Station). b.buffers.station) (c.in-Ok.ensures.linked is).0, own_want {T = Unit {0}} (Err errno) errno refl c.in-Err-close.ensures.own),
+    ) looks.reads.counted
     (own_refusal {T = Unit {0}} (Err errno) errno refl c.in-Err-close.ensures.own) (λ s served. c.served_states_open.ensures s.tree.descriptors s served)
     (λ s served.
     let now = looked_on {G = g.S.Station} fs c.prepare_close.new.blocks c.prepare_close.new.inodes looks s served in
@@ -48,5 +55,5 @@ returns-in-Err g c =
     let looks = told.looks in
     λ steps. unanswered_read fs _ (command.Close c.args.fd) (reads_on {G = g.S.Station} fs c.prepare_close.new.blocks c.prepare_close.new.inodes looks) refl
     (λ s served. (looked_on {G = g.S.Station} fs c.prepare_close.new.blocks c.prepare_close.new.inodes looks s served, refl))
-    (λ s served. nameless_not_sure {G = g.S.Station} c.named_files_have_paths.ensures fs s served c.args.fd (on_open {G = g.S.Station} fs told.sure s served)) c.in-Err.error _ c.call_error.ensures looks.reads.device
+    (λ s served. nameless_not_sure {G = g.S.Station} c.named_files_have_paths.ensures fs s served c.args.fd (on_open {G = g.S.Station} fs told.sure s served), λ is. (told.linked is).1) c.in-Err.error _ c.call_error.ensures looks.reads.device
     (λ s served is. never_damaged {G = g.S.Station} fs told.damaged s served (ap (λ e. Err e) is))
