@@ -196,7 +196,7 @@ probe in z lstat /z -> err NOSNAP
 tail mkdir /z -> ok
 tail sync -> ok
 tail snap take z -> ok
-again 3
+again 1
 failing
 
 start

@@ -263,7 +263,7 @@ def forty():
     probes += ['in %s %s' % (name, line) for name in ('s1', 's2') for line in reading(PATHS)]
     teller.probe(probes + ['in z ' + line for line in of_tail])
     teller.tail()
-    teller.second_cuts(3)
+    teller.second_cuts(1)
     teller.lines += ['failing', '']
     first_state(teller)
     for place, (line, reply) in enumerate(of_forty()):
