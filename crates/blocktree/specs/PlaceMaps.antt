@@ -1,5 +1,5 @@
 -- Where the nodes at one height of a file lie.
-use Rattle.std.specs.Prelude.{ℕ, ◌≡◌, ◌<◌, ◌≤◌, Option, Some, None}
+use Rattle.std.specs.Prelude.{ℕ, ◌≡◌, ◌/◌, ◌%◌, ◌<◌, ◌≤◌, List, Option, Some, None, slice_index_or}
 use Rattle.std.specs.Ordering.{nat_cmp}
 use Rattle.std.specs.BTreeMap as tree
 use Rattle.layout.specs.Pointer.{PointsBelow}
@@ -7,14 +7,14 @@ use Rattle.layout.specs.declared.pointer.Pointer.{Pointer}
 use Rattle.layout.specs.declared.pointer.Pointer.TheVariants.{Hole, Block}
 use Rattle.blocktree.specs.declared.place_map.PlaceMap.{PlaceMap}
 
--- a pointer to a place, where there is one
-abbrev pub place_or_hole : Option ℕ → Pointer
-place_or_hole (Some place) = Block place
-place_or_hole None = Hole
+-- pointer r of a group, where there is one: else a hole
+abbrev pub pointer_in : Option (List Pointer) → ℕ → Pointer
+pointer_in (Some group) r = slice_index_or group r Hole
+pointer_in None r = Hole
 
 -- the pointer to node i: a hole where none is stored
 unfoldable pub place_at : PlaceMap → ℕ → Pointer
-place_at p i = place_or_hole (tree.get nat_cmp p.blocks i)
+place_at p i = pointer_in (tree.get nat_cmp p.groups (i / 1024)) (i % 1024)
 
 -- no pointer leads past a disk of so many blocks
 abbrev pub AreBelow : ℕ → PlaceMap → Type 0

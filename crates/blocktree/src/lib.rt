@@ -4,6 +4,7 @@
 #![tactic(auto)]
 
 mod error;
+mod group;
 mod names;
 mod nodes;
 mod place;

@@ -11,6 +11,7 @@ ghost use Rattle.layout.specs.Pointer.{PointsBelow};
 ghost use Rattle.layout.specs.declared.pointer.Pointer.TheVariants.{Hole};
 
 use crate::ReadError;
+use crate::group::GROUP;
 use crate::place::own_pointer;
 use crate::place_map::PlaceMap;
 use buffers::Blocks;
@@ -18,9 +19,6 @@ use layout::{
     BLOCK_BYTES, BODY_POINTERS, BlockNumber, Pointer, indirect_pointer, is_indirect_block,
 };
 use std::alloc::{AllocError, Global};
-
-/// Nodes under one indirect block.
-const GROUP: u32 = 1024;
 
 /// The first `count` of an inode's pointers, on a disk of so many blocks.
 fn own_places(

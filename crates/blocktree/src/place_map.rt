@@ -1,20 +1,23 @@
 //! Where the nodes at one height of a file lie.
 
-ghost use Rattle.std.specs.Prelude.{◌≡◌, ◌≢◌, ℕ, ◌<◌, ◌≤◌, IfNone, IfSome, None, OnOk, Some};
+ghost use Rattle.std.specs.Prelude.{◌≡◌, ◌≢◌, ℕ, ◌+◌, ◌*◌, ◌/◌, ◌<◌, ◌≤◌, IfNone, IfOk, IfSome, None, OnOk, Some, length, slice_index_or, nat_lt, if◌then◌else◌};
 ghost use Rattle.std.specs.BTreeMap as tree;
 ghost use Rattle.std.specs.Ordering.{nat_cmp};
+ghost use Rattle.layout.specs.declared.TheConstants.{BLOCK_POINTERS};
 ghost use Rattle.layout.specs.declared.pointer.Pointer.TheVariants.{Hole, Block};
 ghost use Rattle.blocktree.specs.PlaceMaps.{place_at};
 
-use layout::{BlockNumber, Pointer};
+use crate::group::{GROUP, Group};
+use layout::{BLOCK_POINTERS, BlockNumber, Pointer};
 use std::alloc::{AllocError, Global};
 use std::collections::BTreeMap;
 
-/// The places of those nodes at one height of a file that are stored, by index. So it is as large as what is stored, however
-/// large the file is.
+/// The places of those nodes at one height of a file that are stored, by index. They are held by groups of 1,024 nodes, those under one
+/// indirect block, of which one is stored. So it is as large as what is stored, however large the file is.
 #[derive(Debug, Drop)]
 pub struct PlaceMap {
-    blocks: BTreeMap<u32, BlockNumber>,
+    alloc: Global,
+    groups: BTreeMap<u32, Group>,
 }
 
 /// A node that is stored: its index and its place.
@@ -42,23 +45,26 @@ pub(crate) fn next_entry<V>(map: &BTreeMap<u32, V>, from: u32, to: u32) -> Optio
     }
 }
 
-#[tactic(auto, unfolding(crate::specs::PlaceMaps::place_at))]
 impl PlaceMap {
     /// No node is stored.
+    #[tactic(auto, unfolding(crate::specs::PlaceMaps::place_at))]
     pub fn new(alloc: Global) -> PlaceMap
         ensures { (i : ℕ) → place_at result i ≡ Hole }
     {
         PlaceMap {
-            blocks: BTreeMap::new(alloc),
+            alloc,
+            groups: BTreeMap::new(alloc),
         }
     }
 
     /// The pointer to node `i`: a hole where none is stored.
+    #[tactic(auto, unfolding(crate::specs::PlaceMaps::place_at))]
     pub fn at(&self, i: u32) -> Pointer
         ensures { result ≡ place_at self.now i }
     {
-        match self.blocks.get(&i) {
-            Some(place) => Pointer::Block(*place),
+        let j = i / GROUP;
+        match self.groups.get(&j) {
+            Some(group) => group.at(i % GROUP),
             None => Pointer::Hole,
         }
     }
@@ -69,16 +75,70 @@ impl PlaceMap {
         ensures others { OnOk result ((j : ℕ) → j ≢ i
             → place_at self.new j ≡ place_at self.old j) }
     {
-        match pointer {
-            Pointer::Hole => {
-                let _ = self.blocks.remove(&i);
+        let j = i / GROUP;
+        match self.groups.get_mut(&j) {
+            Some(group) => {
+                group.set(i % GROUP, pointer);
                 Ok(())
             }
-            Pointer::Block(place) => match self.blocks.insert(i, place) {
-                Ok(_) => Ok(()),
-                Err(_) => Err(AllocError),
-            },
+            None => self.add(i, pointer),
         }
+    }
+
+    /// The same of a node of whose group none is held.
+    fn add(&mut self, i: u32, pointer: Pointer) -> Result<(), AllocError>
+        requires { tree.get nat_cmp self.old.groups (i / 1024) ≡ None }
+        ensures there { OnOk result (place_at self.new i ≡ pointer) }
+        ensures others { OnOk result ((j : ℕ) → j ≢ i
+            → place_at self.new j ≡ place_at self.old j) }
+    {
+        match pointer {
+            Pointer::Hole => Ok(()),
+            Pointer::Block(place) => {
+                let group = Group::with(self.alloc, i % GROUP, Pointer::Block(place))?;
+                self.put(i / GROUP, group)?;
+                Ok(())
+            }
+        }
+    }
+
+    /// Holds these pointers as those of group `j`.
+    fn put(&mut self, j: u32, group: Group) -> Result<(), AllocError>
+        ensures { OnOk result
+            (tree.Updates nat_cmp self.old.groups self.new.groups j (Some group)) }
+    {
+        match self.groups.insert(j, group) {
+            Ok(_) => Ok(()),
+            Err(_) => Err(AllocError),
+        }
+    }
+
+    /// The pointers to the nodes of group `j`.
+    #[tactic(auto, unfolding(crate::specs::PlaceMaps::place_at))]
+    pub fn group(&self, j: u32) -> [Pointer; BLOCK_POINTERS]
+        ensures count { length result ≡ BLOCK_POINTERS }
+        ensures nodes { (r : ℕ) → r < BLOCK_POINTERS
+            → slice_index_or result r Hole ≡ place_at self.now (BLOCK_POINTERS * j + r) }
+    {
+        match self.groups.get(&j) {
+            Some(group) => group.copy(),
+            None => [Pointer::Hole; BLOCK_POINTERS],
+        }
+    }
+
+    /// The places of the first `count` nodes.
+    pub fn first(&self, alloc: Global, count: u32) -> Result<PlaceMap, AllocError>
+        ensures { IfOk result (λ first. (i : ℕ)
+            → place_at first i ≡ (if nat_lt i count then place_at self.now i else Hole)) }
+    {
+        let mut first = PlaceMap::new(alloc);
+        let mut from = 0;
+        while let Some((j, group)) = next_entry(&self.groups, from, count.div_ceil(GROUP)) {
+            let part = group.first(alloc, count - GROUP * j)?;
+            first.put(j, part)?;
+            from = j + 1;
+        }
+        Ok(first)
     }
 
     /// The first node that is stored from one index on and before another.
@@ -90,12 +150,21 @@ impl PlaceMap {
         ensures none { IfNone result ((i : ℕ) → from ≤ i → i < to
             → place_at self.now i ≡ Hole) }
     {
-        match next_entry(&self.blocks, from, to) {
-            Some((index, place)) => Some(StoredNode {
-                index,
-                place: *place,
-            }),
-            None => None,
+        let mut from = from;
+        while let Some((j, group)) = next_entry(&self.groups, from / GROUP, to.div_ceil(GROUP)) {
+            let first = GROUP * j;
+            let end = to - first;
+            if let Some((r, place)) = group.next(from.saturating_sub(first), end.min(GROUP)) {
+                return Some(StoredNode {
+                    index: first + r,
+                    place,
+                });
+            }
+            if end <= GROUP {
+                return None;
+            }
+            from = first + GROUP;
         }
+        None
     }
 }

@@ -9,16 +9,23 @@ use Rattle.layout.specs.Inode.{IsInode, inode_bytes}
 use Rattle.layout.specs.Limits.{AreSizes, Sizes}
 use Rattle.layout.specs.Maps.{map_entry}
 use Rattle.layout.specs.Root.{IsRoot}
-use Rattle.layout.specs.Places.{Blocks}
+use Rattle.layout.specs.Places.{Blocks, pointed}
+use Rattle.layout.specs.declared.pointer.Pointer.{Pointer}
+use Rattle.layout.specs.declared.pointer.Pointer.TheVariants.{Block, Hole}
 use Rattle.layout.specs.declared.inode.Inode.{Inode}
 use Rattle.layout.specs.declared.root.Root.{Root}
 use Rattle.layout.specs.declared.version.TheConstants.{VERSION}
 use Rattle.layout.proofs.SizeLaws.{map_size}
+use Rattle.buffers.specs.Disks.{IsWhole}
+use Rattle.blocktree.specs.PlaceMaps.{place_at}
+use Rattle.blocktree.specs.Trees.{AreSound}
+use Rattle.blocktree.specs.declared.place_map.PlaceMap.{PlaceMap}
 use Rattle.inode.specs.Files as memory
 use Rattle.inode.specs.declared.file.File.{File}
+use Rattle.inode.proofs.HeldLaws.{node_past, some_level}
 use Rattle.images.specs.BlockMap.{IsExact, entry}
 use Rattle.images.specs.Faults.{IsTreeGrammar}
-use Rattle.images.specs.Soundness.{IsFileGrammar}
+use Rattle.images.specs.Soundness.{HasNoHole, IsFileGrammar, IsReadable, nodes_of_size}
 use Rattle.images.specs.Nodes.{Held, file_block, held}
 use Rattle.images.specs.Room.{free_at, free_under}
 use Rattle.images.specs.Roots.{HeldTree, Whole, inode_bytes_at, whole}
@@ -28,11 +35,14 @@ use Rattle.loading.specs.Images.{IsFileOfInode}
 use Rattle.loading.specs.Laws.{ReadAsHeld, SpellTrees}
 use Rattle.checker.specs.Findings.{IsFindingUnder, ShouldHave, tree_in}
 use Rattle.checker.specs.Maps.{HasEntries, IsMapFault, entries_in}
+use Rattle.checker.specs.Tables.{ArePlaces}
 use Rattle.checker.specs.Trees.{IsTreeOf}
 use Rattle.checker.specs.declared.fault.Fault.{Fault}
 use Rattle.checker.specs.declared.fault.TreeName.TheVariants.{Image}
 use Rattle.checker.specs.declared.tree.Tree.{Tree}
-use Rattle.checker.proofs.HeldLaws.{block_is, own_is, top_grammar}
+use Rattle.checker.proofs.HeldLaws.{own_is, top_grammar}
+use Rattle.checker.proofs.OwnerLaws.{AreAllSound, file_sound}
+use Rattle.checker.proofs.PlaceLaws.{places_are, stored_at, whole_at}
 
 -- the first so many entries are those that they should be, and so many of them are free
 pub record IsCompared (t : HeldTree) (marks : List ℕ) (n free : ℕ) : Type 0 where
@@ -139,30 +149,56 @@ map_inode reads spells s disk r t i same are is plane grammar fits spelled =
     sym (ap (λ (k : ℕ). tree_in (whole disk r) k 2) plane)
     ∙ own_is reads spells s disk r t 2 i same are is (top_grammar disk r s t is grammar) (omega arith) (omega (arith, are.least_inodes)) fits spelled
 
-pub map_block : (reads : ReadAsHeld) (s : Sizes) (disk : Blocks) (h : Held) (i : Inode) (file : File) (j : ℕ) (bytes : List ℕ) → h ≡ held disk i → IsFileGrammar s h → IsFileOfInode i file
-    → bytes ≡ memory.file_block disk file j → bytes ≡ file_block h j
-map_block reads s disk h i file j bytes is grammar of read =
-    read ∙ block_is reads s disk i file j (subst (IsFileGrammar s) is grammar) of ∙ sym (ap (λ (x : Held). file_block x j) is)
-
 pub map_known : (disk : Blocks) (r : Root) (s : Sizes) → r.geometry ≡ s → IsTreeGrammar r.geometry (whole disk r).active → IsFileGrammar s ((whole disk r).active 2)
 map_known disk r s same grammar = subst (λ (x : Sizes). IsFileGrammar x ((whole disk r).active 2)) same (grammar.files 2)
 
--- the map's file in memory, in a tree in its grammar
-pub record IsMapRead (s : Sizes) (disk : Blocks) (r : Root) (i : Inode) (file : File) : Type 0 where
+-- where the blocks of the map's file are, in a tree in its grammar
+pub record IsMapRead (s : Sizes) (disk : Blocks) (r : Root) (i : Inode) (places : PlaceMap) : Type 0 where
   pub is : (whole disk r).active 2 ≡ held disk i
   pub grammar : IsFileGrammar s (held disk i)
   pub size : i.size ≡ 4 * s.blocks
-  pub block : (j : ℕ) (bytes : List ℕ) → bytes ≡ memory.file_block disk file j → bytes ≡ file_block ((whole disk r).active 2) j
+  pub large : 128 < i.size
+  pub stored : HasNoHole (held disk i)
+  pub place : (j : ℕ) → place_at places j ≡ (held disk i).place 0 j
 
-pub map_read : (reads : ReadAsHeld) (spells : SpellTrees) (s : Sizes) (disk : Blocks) (r : Root) (t : Tree) (i : Inode) (file : File) → IsRoot r → r.geometry ≡ s → IsTreeOf disk r t → t.plane ≡ 0
-    → IsTreeGrammar r.geometry (whole disk r).active → IsInode VERSION s i → inode_bytes_at (memory.file_block disk t.file) 2 ≡ inode_bytes i → IsFileOfInode i file → IsMapRead s disk r i file
+pub map_read : (reads : ReadAsHeld) (spells : SpellTrees) (all : AreAllSound) (s : Sizes) (disk : Blocks) (r : Root) (t : Tree) (i : Inode) (file : File) (places : PlaceMap) (blocks : ℕ) → IsRoot r → r.geometry ≡ s
+    → IsTreeOf disk r t → t.plane ≡ 0 → IsTreeGrammar r.geometry (whole disk r).active → IsInode VERSION s i → inode_bytes_at (memory.file_block disk t.file) 2 ≡ inode_bytes i → IsFileOfInode i file
+    → blocks ≡ s.blocks → (AreSound blocks disk file.tree → ArePlaces disk file.tree places) → IsMapRead s disk r i places
 unfolding held
-map_read reads spells s disk r t i file root same is plane grammar fits spelled of =
+map_read reads spells all s disk r t i file places blocks root same is plane grammar fits spelled of count are =
+    let sizes = subst AreSizes same root.head.sizes in
     let two : (whole disk r).active 2 ≡ held disk i =
-    map_inode reads spells s disk r t i same (subst AreSizes same root.head.sizes) is plane (known_tree disk r s t same plane grammar) fits spelled in
-    let known = map_known disk r s same grammar in record {
+    map_inode reads spells s disk r t i same sizes is plane (known_tree disk r s t same plane grammar) fits spelled in
+    let known : IsFileGrammar s (held disk i) = subst (IsFileGrammar s) two (map_known disk r s same grammar) in
+    let size : i.size ≡ 4 * s.blocks = map_size i.kind s i.mode i.links i.size (sym (ap (λ (h : Held). h.inode.kind) two) ∙ grammar.kinds 2) fits.kind in
+    let large : 128 < i.size = omega (arith, size, sizes.least_blocks) in record {
       is = two;
-      grammar = subst (IsFileGrammar s) two known;
-      size = map_size i.kind s i.mode i.links i.size (sym (ap (λ (h : Held). h.inode.kind) two) ∙ grammar.kinds 2) fits.kind;
-      block = λ j bytes read. map_block reads s disk ((whole disk r).active 2) i file j bytes two known of read;
+      grammar = known;
+      size = size;
+      large = large;
+      stored = subst HasNoHole two grammar.block_map.stored;
+      place = λ j. places_are s disk i file.tree places j large known of.starts (are (file_sound all s disk i file blocks known of count));
     }
+
+module _ (s : Sizes) (disk : Blocks) (r : Root) (i : Inode) (places : PlaceMap) (map : IsMapRead s disk r i places) where
+  -- block j of the map
+  pub map_block : (j b : ℕ) (bytes : List ℕ) → place_at places j ≡ Block b → bytes ≡ disk b → bytes ≡ file_block ((whole disk r).active 2) j
+  map_block j b bytes at read =
+      read ∙ ap (pointed disk) (sym at ∙ map.place j) ∙ sym (stored_at s disk i j map.large map.grammar) ∙ sym (ap (λ (h : Held). file_block h j) map.is)
+
+  -- one that can't be read
+  pub map_damaged : (j b : ℕ) → place_at places j ≡ Block b → (IsWhole (disk b) → ⊥) → IsReadable ((whole disk r).active 2) → ⊥
+  map_damaged j b at damaged readable = damaged (whole_at disk i j (Block b) (subst IsReadable map.is readable) (sym (map.place j) ∙ at))
+
+  -- each is stored
+  pub map_stored : (j : ℕ) → 1024 * j < s.blocks → place_at places j ≡ Hole → ⊥
+  unfolding held nodes_of_size
+  map_stored j low hole = map.stored j (omega (arith, some_level i.size map.large)) (omega (arith, map.size, low)) (sym (map.place j) ∙ hole)
+
+  -- all of them can be read
+  pub map_readable : (n : ℕ) → s.blocks ≤ 1024 * n → ((j : ℕ) → j < n → IsWhole (pointed disk (place_at places j))) → IsReadable ((whole disk r).active 2)
+  unfolding held nodes_of_size
+  map_readable n all good = subst IsReadable (sym map.is) (λ j b there. elim (cases_lt j n) [
+    | inl low ↦ ap (λ (p : Pointer). length (pointed disk p)) (sym (map.place j)) ∙ good j low
+    | inr high ↦ (let hole = node_past s disk i 0 j map.grammar (omega (arith, map.size, all, high)) in cc)
+  ])

@@ -100,11 +100,6 @@ pub bytes_at : (reads : ReadAsHeld) (s : Sizes) (disk : Blocks) (r : Root) (t : 
 bytes_at reads s disk r t n is grammar =
     ap (λ (bytes : List ℕ). inode_part bytes (n % 21)) (block_is reads s disk t.top t.file (n / 21) grammar is.file ∙ sym (ap (λ (h : Held). file_block h (n / 21)) (top_is disk r t is)))
 
-pub row_bytes : (reads : ReadAsHeld) (s : Sizes) (disk : Blocks) (r : Root) (t : Tree) (n : ℕ) (block : List ℕ) → IsTreeOf disk r t → IsTreeGrammar s (tree_in (whole disk r) t.plane)
-    → block ≡ memory.file_block disk t.file (n / 21) → 1 ≤ n → n < s.inodes → inode_part block (n % 21) ≡ inode_bytes (tree_in (whole disk r) t.plane n).inode
-row_bytes reads s disk r t n block is grammar same some lt =
-    ap (λ (bytes : List ℕ). inode_part bytes (n % 21)) same ∙ bytes_at reads s disk r t n is (top_grammar disk r s t is grammar) ∙ grammar.inodes.each n some lt
-
 -- a number whose inode was read
 pub own_is : (reads : ReadAsHeld) (spells : SpellTrees) (s : Sizes) (disk : Blocks) (r : Root) (t : Tree) (n : ℕ) (i : Inode) → r.geometry ≡ s → AreSizes s → IsTreeOf disk r t
     → IsFileGrammar s (held disk t.top) → 1 ≤ n → n < s.inodes → IsInode VERSION s i → inode_bytes_at (memory.file_block disk t.file) n ≡ inode_bytes i

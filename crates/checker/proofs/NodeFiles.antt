@@ -24,11 +24,11 @@ use Rattle.images.specs.Soundness.{IsFileGrammar, nodes_of_size}
 use Rattle.images.proofs.EmptyLaws.{held_inode}
 use Rattle.images.proofs.OverlayLaws.{held_up}
 use Rattle.images.proofs.ReadingLaws.{highest}
-use Rattle.checker.specs.Nodes.{AreIndirect, HasNodes, IsAny, MarksFile, MarksFor, MarksThese}
+use Rattle.checker.specs.Nodes.{AreIndirect, HasNodes, IsAmong, IsAny, MarksFile, MarksFor, MarksThese}
 use Rattle.checker.specs.declared.error.Halt.{Halt}
 use Rattle.checker.specs.declared.error.Halt.TheVariants as halts
 use Rattle.checker.specs.declared.nodes.Shared.{Shared}
-use Rattle.checker.proofs.NodeLaws.{IsAmong, hole_under, looks_none}
+use Rattle.checker.proofs.NodeLaws.{hole_under, looks_none}
 use Rattle.checker.proofs.NodeSteps.{looks_same}
 
 -- as many nodes by the size of a file as by its blocks

@@ -183,10 +183,6 @@ module _ (h : Held) (S1 S2 S : ℕ → ℕ → Type 0)
 
 -- NODES UNDER NODES
 
--- the nodes at a height from one to another, and those under them
-abbrev pub IsAmong : ℕ → ℕ → ℕ → ℕ → ℕ → Type 0
-IsAmong height low high m i = (m ≤ height) × (low ≤ i / 1024 ^ (height - m)) × (i / 1024 ^ (height - m) < high)
-
 -- the node over one, at the next height
 pub one_up : (height m i : ℕ) → m ≤ height → i / 1024 ^ (suc height - m) ≡ i / 1024 ^ (height - m) / 1024
 one_up height m i le =

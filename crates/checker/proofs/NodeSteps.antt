@@ -1,5 +1,5 @@
 -- One node is marked, and then those under it.
-use Rattle.std.proofs.Common.{◌≡◌, ◌≢◌, ◌⊎◌, inl, inr, ℕ, suc, ◌+◌, ◌-◌, ◌*◌, ◌/◌, ◌%◌, ◌^◌, ◌<◌, ◌≤◌, List, length, refl, sym, ap, subst, ◌∙◌, arith}
+use Rattle.std.proofs.Common.{◌≡◌, ◌≢◌, ◌⊎◌, inl, inr, ℕ, suc, ◌+◌, ◌-◌, ◌*◌, ◌/◌, ◌%◌, ◌^◌, ◌<◌, ◌≤◌, List, [], length, refl, sym, ap, subst, ◌∙◌, arith}
 use Rattle.std.specs.Prelude.{◌↔◌, min, slice_index, slice_index_or, Option, Some, None, Result, Ok, Err}
 use Rattle.std.specs.Result.{IsErrAnd}
 use Rattle.std.specs.Int.{bit_at}
@@ -13,12 +13,12 @@ use Rattle.layout.proofs.PointerLaws.{block_same, no_block}
 use Rattle.blocktree.specs.Names.{nodes_at}
 use Rattle.images.specs.BlockMap.{HasBit}
 use Rattle.images.specs.Nodes.{Held}
-use Rattle.checker.specs.Nodes.{AreIndirect, HasNodes, IsAt, IsUnder, KeepsMarks, KeepsShared, LooksUnder, MarksFor, MarksThese, SharesNone}
+use Rattle.checker.specs.Nodes.{AreIndirect, HasNodes, IsAmong, IsAt, IsUnder, KeepsMarks, KeepsShared, LooksUnder, MarksFor, MarksThese, SharesNone}
 use Rattle.checker.specs.declared.error.Halt.{Halt}
 use Rattle.checker.specs.declared.error.Halt.TheVariants as halts
 use Rattle.checker.specs.declared.fault.FileNode.{FileNode}
 use Rattle.checker.specs.declared.nodes.Shared.{Shared}
-use Rattle.checker.proofs.NodeLaws.{IsAmong, hole_under, itself, looks_more, looks_none, none_before, one_up, some_none, some_same, these_more}
+use Rattle.checker.proofs.NodeLaws.{hole_under, itself, looks_more, looks_none, none_before, one_up, some_none, some_same, these_more}
 
 -- A block was marked, and where it was marked before, that is told.
 module _ (old new : List ℕ) (before after : List (Option Shared)) (place bits twice : ℕ) (s : Shared)
@@ -107,6 +107,13 @@ among_more blocks now number count bits disk h height low high index next old mi
     omega (arith, there, among.2, under.1, here))
     blocks number count bits disk old mid new before middle after kept one
     (two.0, λ m i b under is. subst (λ (n : ℕ). IsIndirectBlock n (nodes_at count m - 1024 * i) (disk b)) same (two.1 m i b under is))
+
+-- the blocks of a file up to one, and then that one
+pub leaf_more : (number bits low high next : ℕ) (h : Held) (old mid new : List ℕ) (before middle after : List (Option Shared)) → low ≤ high → next ≡ high + 1 → KeepsShared middle after
+    → MarksFor h (IsAmong 0 low high) number bits old mid before middle → MarksFor h (IsUnder 0 high) number bits mid new middle after → MarksFor h (IsAmong 0 low next) number bits old new before after
+leaf_more number bits low high next h old mid new before middle after le more kept one two =
+    (among_more 0 0 number 0 bits (λ _. []) h 0 low high high next old mid new before middle after refl le refl more kept
+    (one, λ m i b among is. absurd (omega (arith, among.0))) (two, λ m i b under is. absurd (omega (arith, under.0)))).0
 
 -- the same was done for all nodes of a set, where those that it has more are holes
 pub looks_same : (h : Held) (S1 S : ℕ → ℕ → Type 0) (k number : ℕ) (old new : List ℕ) (before after : List (Option Shared))
@@ -259,14 +266,17 @@ module _ (blocks : ℕ) (disk : Blocks) (h : Held) (node : FileNode) (height use
 
 -- NUMBERS
 
-pub indirect_same : (a b used : ℕ) (x y : List ℕ) → a ≡ b → x ≡ y → IsIndirectBlock a used x → IsIndirectBlock b used y
-indirect_same a b used x y blocks bytes good = subst (λ (n : ℕ). IsIndirectBlock n used y) blocks (subst (IsIndirectBlock a used) bytes good)
-
 -- an indirect block in its grammar stands before the file's end
 pub first_exact : (blocks used first i : ℕ) (bytes : List ℕ) → IsIndirectBlock blocks used bytes → first ≡ min (1024 * i) (2 ^ 32 - 1) → (1 ≤ used → 1024 * i + used < 2 ^ 32) → first ≡ 1024 * i
 first_exact blocks used first i bytes good is low = elim (cases_lt good.some.0 used) [
   | inl lt ↦ omega (arith, is, low (omega (arith, lt)))
   | inr ge ↦ absurd (good.some.2 ((good.within good.some.0 good.some.1).1 ge))
+]
+
+pub first_fits : (used first i end : ℕ) → first ≡ 1024 * i → (1 ≤ used → 1024 * i + used < 2 ^ 32) → end ≡ min 1024 used → first ≡ min (1024 * i) (2 ^ 32 - 1) → first + end < 2 ^ 32
+first_fits used first i end is low few most = elim (cases_lt 0 used) [
+  | inl some ↦ omega (arith, is, few, low (omega (arith, some)))
+  | inr none ↦ omega (arith, few, none, most)
 ]
 
 pub pointer_below : (a b used r : ℕ) (bytes : List ℕ) (p : Pointer) → IsIndirectBlock a used bytes → r < 1024 → a ≡ b → p ≡ indirect_pointer bytes r → PointsBelow b p

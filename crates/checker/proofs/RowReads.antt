@@ -1,9 +1,11 @@
 -- Blocks of the trees' inode files that are read.
-use Rattle.std.proofs.Common.{◌≡◌, ◌∙◌, ℕ, ◌≢◌, ◌+◌, ◌*◌, ◌<◌, ◌≤◌, List, ◌++◌, ◌∷◌, [], length, set, refl, ap, arith, sym, subst, inl, inr}
+use Rattle.std.proofs.Common.{◌≡◌, ◌∙◌, ℕ, ◌≢◌, ◌+◌, ◌*◌, ◌/◌, ◌%◌, ◌<◌, ◌≤◌, List, ◌++◌, ◌∷◌, [], length, set, refl, ap, arith, sym, subst, inl, inr}
 use Rattle.std.specs.Prelude.{Option, Some, slice_get, slice_index_or}
 use Rattle.std.proofs.Math.Nat.{eq-or-lt_of_le}
 use Rattle.std.proofs.lemmas.List.{get_or_append_left, get_or_push}
 use Rattle.std.proofs.lemmas.Option.{slice_get_within}
+use Rattle.layout.specs.Inode.{inode_bytes}
+use Rattle.layout.specs.Limits.{Sizes}
 use Rattle.layout.specs.Places.{Blocks, pointed}
 use Rattle.layout.specs.declared.pointer.Pointer.{Pointer}
 use Rattle.layout.specs.declared.root.Root.{Root}
@@ -15,11 +17,11 @@ use Rattle.inode.specs.declared.file.File.{File}
 use Rattle.images.specs.Faults.{IsTreeGrammar}
 use Rattle.images.specs.Soundness.{IsFileGrammar}
 use Rattle.images.specs.Nodes.{Held, file_block, held}
-use Rattle.images.specs.Roots.{whole}
+use Rattle.images.specs.Roots.{inode_part, whole}
 use Rattle.checker.specs.Findings.{tree_in}
 use Rattle.checker.specs.Rows.{AreAllBelow, ArePlacesOfTrees, AreRows, KeepsTrees, LeadsToRow}
 use Rattle.checker.specs.Tables.{ArePlaces}
-use Rattle.checker.specs.Trees.{AreTrees, IsOut, IsSeenTo}
+use Rattle.checker.specs.Trees.{AreTrees, IsOut, IsSeenTo, IsTreeOf}
 use Rattle.checker.specs.declared.nodes.Shared.{Shared}
 use Rattle.checker.specs.declared.tree.Tree.{Tree}
 use Rattle.checker.proofs.HeldLaws.{top_is, top_readable}
@@ -30,32 +32,40 @@ use Rattle.checker.proofs.EachLaws.{Each, get_others, get_set, some_at}
 use Rattle.checker.proofs.FoundLaws.{get_pushed}
 use Rattle.checker.proofs.RowLaws.{IsRowOf, IsSame, known_at, trees_again}
 
-module _ (disk : Blocks) (r : Root) (count places i : ℕ) (marks : List ℕ) (shared : List (Option Shared)) (t : Tree) (known : IsSeenTo disk r count places marks shared t) where
+module _ (disk : Blocks) (r : Root) (i : ℕ) (t : Tree) (is : IsTreeOf disk r t) where
   top_file : IsFileGrammar r.geometry (tree_in (whole disk r) t.plane 0) → IsFileGrammar r.geometry (held disk t.top)
-  top_file grammar = subst (IsFileGrammar r.geometry) (top_is disk r t known.tree) grammar
+  top_file grammar = subst (IsFileGrammar r.geometry) (top_is disk r t is) grammar
 
   top_place : (tree_in (whole disk r) t.plane 0).place 0 i ≡ (held disk t.top).place 0 i
-  top_place = ap (λ (h : Held). h.place 0 i) (top_is disk r t known.tree)
+  top_place = ap (λ (h : Held). h.place 0 i) (top_is disk r t is)
 
   -- where a block is
   pub leads_to_row : (all : AreAllSound) (blocks : ℕ) (p : PlaceMap) (pointer : Pointer) → blocks ≡ r.geometry.blocks → 1 ≤ r.geometry.inodes → pointer ≡ place_at p i
       → (AreSound blocks disk t.file.tree → ArePlaces disk t.file.tree p) → LeadsToRow disk r i t pointer
-  leads_to_row all blocks p pointer same some is are grammar =
+  leads_to_row all blocks p pointer same some at are grammar =
       let top = top_file grammar in
-      is ∙ places_are r.geometry disk t.top t.file.tree p i (top_large disk r t known.tree some) top known.tree.file.starts (are (file_sound all r.geometry disk t.top t.file blocks top known.tree.file same))
+      at ∙ places_are r.geometry disk t.top t.file.tree p i (top_large disk r t is some) top is.file.starts (are (file_sound all r.geometry disk t.top t.file blocks top is.file same))
       ∙ sym top_place
 
   -- one that was read
-  pub row_read : (row : List ℕ) (pointer : Pointer) → 1 ≤ r.geometry.inodes → row ≡ pointed disk pointer → LeadsToRow disk r i t pointer → (IsOut t.fault → ⊥) → row ≡ file_block (tree_in (whole disk r) t.plane 0) i
-  row_read row pointer some is leads inside =
-      let grammar = (known.inodes inside).files 0 (inl refl) in
-      is ∙ ap (pointed disk) (leads grammar ∙ top_place) ∙ sym (stored_at r.geometry disk t.top i (top_large disk r t known.tree some) (top_file grammar))
-      ∙ sym (ap (λ (h : Held). file_block h i) (top_is disk r t known.tree))
+  pub row_read : (row : List ℕ) (pointer : Pointer) → 1 ≤ r.geometry.inodes → row ≡ pointed disk pointer → LeadsToRow disk r i t pointer → IsFileGrammar r.geometry (tree_in (whole disk r) t.plane 0)
+      → row ≡ file_block (tree_in (whole disk r) t.plane 0) i
+  row_read row pointer some read leads grammar =
+      read ∙ ap (pointed disk) (leads grammar ∙ top_place) ∙ sym (stored_at r.geometry disk t.top i (top_large disk r t is some) (top_file grammar))
+      ∙ sym (ap (λ (h : Held). file_block h i) (top_is disk r t is))
 
   -- one that can't be read
   pub row_damaged : (pointer : Pointer) → (IsWhole (pointed disk pointer) → ⊥) → LeadsToRow disk r i t pointer → IsTreeGrammar r.geometry (tree_in (whole disk r) t.plane) → ⊥
   row_damaged pointer damaged leads grammar =
-      damaged (whole_at disk t.top i pointer (top_readable disk r r.geometry t known.tree grammar) (sym (leads (grammar.files 0) ∙ top_place)))
+      damaged (whole_at disk t.top i pointer (top_readable disk r r.geometry t is grammar) (sym (leads (grammar.files 0) ∙ top_place)))
+
+-- the bytes of a number, in a block that was read
+pub part_read : (disk : Blocks) (r : Root) (s : Sizes) (n : ℕ) (t : Tree) (row : List ℕ) (pointer : Pointer) → r.geometry ≡ s → IsTreeOf disk r t → IsTreeGrammar s (tree_in (whole disk r) t.plane)
+    → row ≡ pointed disk pointer → LeadsToRow disk r (n / 21) t pointer → 1 ≤ n → n < s.inodes → inode_part row (n % 21) ≡ inode_bytes (tree_in (whole disk r) t.plane n).inode
+part_read disk r s n t row pointer same is grammar read leads some low =
+    let known = subst (λ (x : Sizes). IsTreeGrammar x (tree_in (whole disk r) t.plane)) (sym same) grammar in
+    let inodes : r.geometry.inodes ≡ s.inodes = ap (λ (x : Sizes). x.inodes) same in
+    ap (λ (bytes : List ℕ). inode_part bytes (n % 21)) (row_read disk r (n / 21) t is row pointer (omega (arith, low, inodes)) read leads (known.files 0)) ∙ grammar.inodes.each n some low
 
 -- ---- the blocks of all trees
 

@@ -20,6 +20,10 @@ use Rattle.checker.specs.declared.nodes.Shared.{Shared}
 abbrev pub IsUnder : ℕ → ℕ → ℕ → ℕ → Type 0
 IsUnder height index m i = (m ≤ height) × (i / 1024 ^ (height - m) ≡ index)
 
+-- node i at height m is one of those at a height from one to another, or stands under them
+abbrev pub IsAmong : ℕ → ℕ → ℕ → ℕ → ℕ → Type 0
+IsAmong height low high m i = (m ≤ height) × (low ≤ i / 1024 ^ (height - m)) × (i / 1024 ^ (height - m) < high)
+
 -- it is this node
 abbrev pub IsAt : FileNode → ℕ → ℕ → Type 0
 IsAt node m i = (m ≡ node.height) × (i ≡ node.index)

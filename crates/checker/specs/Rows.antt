@@ -8,7 +8,7 @@ use Rattle.layout.specs.declared.kind.Kind.TheVariants.{Free}
 use Rattle.layout.specs.declared.pointer.Pointer.{Pointer}
 use Rattle.layout.specs.declared.root.Root.{Root}
 use Rattle.model.specs.declared.limits.TheConstants.{FIRST_NUMBER}
-use Rattle.blocktree.specs.PlaceMaps.{AreBelow}
+use Rattle.blocktree.specs.PlaceMaps.{AreBelow, place_at}
 use Rattle.blocktree.specs.Trees.{AreSound}
 use Rattle.blocktree.specs.declared.place_map.PlaceMap.{PlaceMap}
 use Rattle.images.specs.BlockMap.{HasBit}
@@ -60,6 +60,10 @@ abbrev pub LeadsToRow : Blocks → Root → ℕ → Tree → Pointer → Type 0
 LeadsToRow disk r i t pointer =
     IsFileGrammar r.geometry (tree_in (whole disk r) t.plane 0)
     → pointer ≡ (tree_in (whole disk r) t.plane 0).place 0 i
+
+-- so are all of its blocks
+abbrev pub LeadsToRows : Blocks → Root → Tree → PlaceMap → Type 0
+LeadsToRows disk r t places = (i : ℕ) → LeadsToRow disk r i t (place_at places i)
 
 -- the bytes of one of the blocks that were read
 abbrev pub block_in : List Row → ℕ → List ℕ

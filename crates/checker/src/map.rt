@@ -4,6 +4,7 @@ ghost use Rattle.std.specs.Prelude.{◌≡◌, ◌≢◌, ◌↔◌, ◌⊎◌, 
 ghost use Rattle.layout.specs.Maps.{map_entry};
 ghost use Rattle.layout.specs.Root.{IsRoot};
 ghost use Rattle.layout.specs.declared.root.Root.{Root};
+ghost use Rattle.buffers.specs.Disks.{IsWhole};
 ghost use Rattle.images.specs.BlockMap.{HasBit, IsExact, IsSystem, entry};
 ghost use Rattle.images.specs.Faults.{IsTreeGrammar};
 ghost use Rattle.images.specs.Room.{free_under};
@@ -18,9 +19,12 @@ ghost use Rattle.checker.specs.Trees.{IsTreeOf};
 ghost use Rattle.checker.specs.declared.fault.TreeName.TheVariants.{Image};
 
 use crate::error::{Halt, or_fault};
+use crate::letting_go::read_into;
 use crate::marks::Marks;
+use crate::table::find_places;
 use crate::tree::Tree;
 use crate::{Fault, LetsGo, TreeFault};
+use buffers::Block;
 use images::inodes_are_what_their_bytes_spell;
 use inode::{File, based_trees_are_sound};
 use layout::{
@@ -32,9 +36,6 @@ use std::alloc::Global;
 
 /// The bit of a block that is the system's own.
 const SYSTEM: u32 = 1 << 31;
-
-/// Blocks of the map that are kept at once.
-const KEPT: u32 = 64;
 
 /// Marks the blocks of the system's own: the two that hold roots, and the snapshots' root blocks.
 pub(crate) fn mark_system(root: &Root, marks: &mut Marks)
@@ -83,14 +84,17 @@ pub(crate) fn compare_map<B: LetsGo>(
         fault,
     )?;
     let file = File::load(alloc, inode)?;
+    let places = find_places(alloc, blocks, &file)?;
+    let mut block = Block::zeroed(alloc)?;
     let mut free = 0;
     for j in 0..geometry.blocks().div_ceil(BLOCK_POINTERS as u32) {
-        let location = or_fault(file.locate(blocks, j), fault)?;
-        let bytes = file.bytes(blocks, j, location);
-        free += compare_block(bytes, geometry.blocks(), j, marks)?;
-        if j % KEPT == KEPT - 1 {
-            blocks.forget();
+        let Pointer::Block(place) = places.at(j) else {
+            return Err(Halt::Fault(fault));
+        };
+        if !read_into(blocks, place, &mut block)? {
+            return Err(Halt::Fault(fault));
         }
+        free += compare_block(block.bytes(), geometry.blocks(), j, marks)?;
     }
     Ok(free)
 }
@@ -102,6 +106,7 @@ fn compare_block(bytes: &[u8; BLOCK_BYTES], blocks: u32, j: u32, marks: &Marks) 
     requires low { blocks < 2 ^ 31 }
     ensures passes { Passes (HasEntries bytes.now blocks j marks.now) (IsMapFault bytes.now blocks j marks.now) result }
     ensures found { IfErr result IsFound }
+    ensures whole { IsWhole bytes.now }
 {
     let first = BLOCK_POINTERS as u32 * j;
     let mut free = 0;

@@ -15,12 +15,15 @@ ghost use Rattle.std.specs.Prelude.{◌+◌, ◌/◌, IsFalse, OnOk, Some, slice
 ghost use Rattle.blocktree.specs.Trees.{IsSoundAt};
 ghost use Rattle.layout.specs.declared.kind.Kind.TheVariants as kinds;
 ghost use Rattle.layout.specs.Directory.{IsEntry, named_of};
-ghost use Rattle.layout.specs.declared.TheConstants.{BLOCK_BYTES};
+ghost use Rattle.layout.specs.Pointer.{PointsBelow};
+ghost use Rattle.layout.specs.declared.TheConstants.{BLOCK_BYTES, INODES_PER_BLOCK};
+ghost use Rattle.blocktree.specs.PlaceMaps.{AreBelow};
 ghost use Rattle.model.specs.Paths.{Name};
 ghost use Rattle.model.specs.Volumes.{Entries, entries, with_edge};
 ghost use Rattle.images.specs.Nodes.{file_block};
 ghost use Rattle.images.specs.Roots.{HeldTree};
 ghost use Rattle.checker.specs.Links.{AreLinked, AreReached, IsUnlinked, IsUnreached};
+ghost use Rattle.checker.specs.Rows.{LeadsToRow, LeadsToRows};
 ghost use Rattle.checker.specs.Seen.{KnowsSeen};
 ghost use Rattle.checker.specs.Tables.{IsKnown};
 ghost use Rattle.checker.specs.Names.{IsAllWalked, IsFirst, IsNamedKind, IsTable, IsUnnamed};
@@ -32,10 +35,12 @@ use crate::seen::Seen;
 use crate::table::{KEPT, Known, forget_over, read_table};
 use crate::tree::Tree;
 use crate::{DirectoryFault, Fault, LetsGo, TreeFault};
+use blocktree::PlaceMap;
 use images::files_hold_one_volume;
 use inode::{File, based_trees_are_sound};
 use layout::{
-    BLOCK_BYTES, Entry, FIRST_NUMBER, Geometry, Kind, NextEntry, ROOT_NUMBER, next_entry,
+    BLOCK_BYTES, Entry, FIRST_NUMBER, Geometry, INODES_PER_BLOCK, Kind, NextEntry, Pointer,
+    ROOT_NUMBER, next_entry,
 };
 use std::alloc::Global;
 
@@ -66,10 +71,13 @@ pub(crate) fn check_names<B: LetsGo>(
         (IsTreeFinding r (tree_in (whole disk r) tree.now.plane)) result }
 {
     files_hold_one_volume();
-    let mut table = read_table(alloc, blocks, geometry, tree, known)?;
-    walk(alloc, blocks, geometry, tree, &mut table)?;
+    let now = read_table(alloc, blocks, geometry, tree, known)?;
+    let mut table = Vec::from_slice(alloc, &now.rows)?;
+    walk(alloc, blocks, geometry, tree, &now.places, &mut table)?;
     check_reached(&table)?;
-    check_links(&table)
+    check_links(&table)?;
+    *known = Some(now);
+    Ok(())
 }
 
 /// Looks into each directory that is reached from the root.
@@ -78,14 +86,16 @@ fn walk<B: LetsGo>(
     blocks: &mut B,
     geometry: Geometry,
     tree: &Tree,
+    places: &PlaceMap,
     table: &mut Vec<NumberRow>,
 ) -> Result<(), Halt>
-    requires { vec_len table.old ≡ geometry.inodes }
+    requires table { vec_len table.old ≡ geometry.inodes }
+    requires below { AreBelow (B.count blocks.old) places.now }
     ensures reads { Looks B.Blocks IsHaltFault blocks.old blocks.new result }
     ensures table { vec_len table.new ≡ vec_len table.old }
     ensures walked { (disk : ℕ → List ℕ) (r : Root) → B.Shows blocks.old disk → IsRoot r
         → r.geometry ≡ geometry → B.count blocks.old ≡ r.geometry.blocks
-        → IsTreeOf disk r tree.now
+        → IsTreeOf disk r tree.now → LeadsToRows disk r tree.now places.now
         → IsTreeGrammar r.geometry (tree_in (whole disk r) tree.now.plane)
         → IsTable r.geometry (tree_in (whole disk r) tree.now.plane) table.old.items
         → IsUnnamed table.old.items
@@ -100,7 +110,10 @@ fn walk<B: LetsGo>(
     let mut kept = 0;
     while next < found.len() {
         let directory = found[next];
-        let size = look_into(alloc, blocks, geometry, tree, directory, table, &mut found)?;
+        let place = places.at(directory / INODES_PER_BLOCK);
+        let size = look_into(
+            alloc, blocks, geometry, tree, place, directory, table, &mut found,
+        )?;
         next += 1;
         kept = forget_over(blocks, kept + size / 4096 + 2, KEPT);
     }
@@ -113,12 +126,14 @@ fn look_into<B: LetsGo>(
     blocks: &mut B,
     geometry: Geometry,
     tree: &Tree,
+    place: Pointer,
     directory: u32,
     table: &mut Vec<NumberRow>,
     found: &mut Vec<u32>,
 ) -> Result<u64, Halt>
     requires low { 1 ≤ directory }
     requires high { directory < geometry.inodes }
+    requires below { PointsBelow (B.count blocks.old) place }
     requires table { vec_len table.old ≡ geometry.inodes }
     ensures reads { Looks B.Blocks IsHaltFault blocks.old blocks.new result }
     ensures goes { GoesOn table.old.items found.old.items table.new.items found.new.items }
@@ -127,12 +142,13 @@ fn look_into<B: LetsGo>(
         → B.Shows blocks.old disk → IsTreeAt disk r geometry (B.count blocks.old) tree.now
         → LooksInto r.geometry (tree_in (whole disk r) tree.now.plane) e count found.old.items table.old.items
         → slice_get found.old.items count ≡ Some directory
+        → LeadsToRow disk r (directory / INODES_PER_BLOCK) tree.now place
         → Passes (λ _. (f : Entries) × LooksInto r.geometry (tree_in (whole disk r) tree.now.plane)
         f (count + 1) found.new.items table.new.items)
         (IsTreeFinding r (tree_in (whole disk r) tree.now.plane)) result }
 {
     based_trees_are_sound();
-    let Some(inode) = read_inode(blocks, geometry, &tree.file, directory)? else {
+    let Some(inode) = read_inode(blocks, geometry, place, directory)? else {
         return Err(Halt::Fault(Fault::Tree(TreeFault::Inode(directory))));
     };
     let file = File::load(alloc, inode)?;

@@ -1,27 +1,28 @@
 //! The nodes of a file: each is marked, and each indirect block tested.
 
-ghost use Rattle.std.specs.Prelude.{◌≡◌, ◌⊎◌, IfOk, IsTrue, ◌+◌, ◌-◌, ◌*◌, ◌^◌, ◌<◌, ◌≤◌, ℕ, List, None, Some, length, slice_index_or};
+ghost use Rattle.std.specs.Prelude.{◌≡◌, IfOk, IsFalse, IsTrue, ◌+◌, ◌-◌, ◌*◌, ◌^◌, ◌<◌, ◌≤◌, ℕ, List, None, Some, length, slice_index_or};
 ghost use Rattle.std.specs.Int.{div_ceil};
 ghost use Rattle.layout.specs.Inode.{IsInode};
 ghost use Rattle.layout.specs.Limits.{Sizes};
+ghost use Rattle.layout.specs.Maps.{IsIndirectBlock, indirect_pointer};
 ghost use Rattle.layout.specs.Pointer.{PointsBelow};
 ghost use Rattle.layout.specs.Version.{greatest_size, level_of};
 ghost use Rattle.layout.specs.declared.pointer.Pointer.TheVariants.{Hole};
 ghost use Rattle.layout.specs.declared.version.TheConstants.{VERSION};
 ghost use Rattle.blocktree.specs.Names.{nodes_at};
-ghost use Rattle.checker.specs.Errors.{IsHaltFault, Looks};
+ghost use Rattle.checker.specs.Errors.{IsFault, IsHaltFault, Looks};
 ghost use Rattle.images.specs.BlockMap.{HasBit};
 ghost use Rattle.images.specs.Nodes.{Held};
-ghost use Rattle.checker.specs.Nodes.{AreIndirect, HasNodes, IsAt, IsUnder, KeepsMarks, KeepsShared, MarksFile, MarksFor, MarksThese, SharesNone};
+ghost use Rattle.checker.specs.Nodes.{AreIndirect, HasNodes, IsAmong, IsAt, IsUnder, KeepsMarks, KeepsShared, MarksFile, MarksFor, MarksThese, SharesNone};
 
 use crate::error::Halt;
 use crate::letting_go::read_into;
 use crate::marks::Marks;
-use crate::{Fault, FileNode, LetsGo, TreeFault};
+use crate::{CheckError, Fault, FileNode, LetsGo, TreeFault};
 use buffers::Block;
 use layout::{
-    BLOCK_POINTERS, BODY_POINTERS, BlockNumber, Body, Inode, Pointer, indirect_pointer,
-    is_indirect_block, level_of,
+    BLOCK_BYTES, BLOCK_POINTERS, BODY_POINTERS, BlockNumber, Body, Inode, Pointer,
+    indirect_pointer, is_indirect_block, level_of,
 };
 use std::alloc::{AllocError, Global};
 
@@ -55,25 +56,25 @@ impl SharedBlocks {
             block,
         })
     }
+}
 
-    /// The trees of these bits name a block that they named before.
-    fn add(&mut self, bits: u32, shared: Shared)
-        ensures kept { KeepsShared self.old.of self.new.of }
-        ensures these { (k : ℕ) → k < PLANES → HasBit k bits → SharesNone self.old.of k
-            → slice_index_or self.new.of k None ≡ Some shared }
-        ensures others { (k : ℕ) → (HasBit k bits → ⊥)
-            → slice_index_or self.new.of k None ≡ slice_index_or self.old.of k None }
-    {
-        if bits == 0 {
-            return;
-        }
-        for k in 0..PLANES {
-            if (bits >> k) % 2 == 1 {
-                self.of[k] = match self.of[k] {
-                    Some(first) => Some(first),
-                    None => Some(shared),
-                };
-            }
+/// The trees of these bits name a block that they named before.
+fn add_shared(of: &mut [Option<Shared>; PLANES], bits: u32, shared: Shared)
+    ensures kept { KeepsShared of.old of.new }
+    ensures these { (k : ℕ) → k < PLANES → HasBit k bits → SharesNone of.old k
+        → slice_index_or of.new k None ≡ Some shared }
+    ensures others { (k : ℕ) → (HasBit k bits → ⊥)
+        → slice_index_or of.new k None ≡ slice_index_or of.old k None }
+{
+    if bits == 0 {
+        return;
+    }
+    for k in 0..PLANES {
+        if (bits >> k) % 2 == 1 {
+            of[k] = match of[k] {
+                Some(first) => Some(first),
+                None => Some(shared),
+            };
         }
     }
 }
@@ -152,7 +153,7 @@ fn mark_top<B: LetsGo>(
         return Ok(());
     };
     if node.height == 0 {
-        let _ = mark_block(place, node, bits, marks, shared);
+        let _ = mark_block(place, node, bits, marks, &mut shared.of);
         return Ok(());
     }
     let pointer = Pointer::Block(place);
@@ -183,73 +184,94 @@ fn mark_node<B: LetsGo>(
     let Pointer::Block(place) = pointer else {
         return Ok(());
     };
-    let before = mark_block(place, node, bits, marks, shared);
+    let before = mark_block(place, node, bits, marks, &mut shared.of);
     if node.height == 0 {
         return Ok(());
     }
     let height = node.height - 1;
     let first = GROUP.saturating_mul(node.index);
     let used = used_below(count, height, node.index);
-    let outside = Halt::Fault(Fault::Tree(TreeFault::Indirect {
-        number: node.number,
-        block: place.get(),
-    }));
-    if !read_into(blocks, place, &mut shared.block)? {
-        return Err(outside);
+    if !read_indirect(blocks, place, used, &mut shared.block)? {
+        return Err(Halt::Fault(Fault::Tree(TreeFault::Indirect {
+            number: node.number,
+            block: place.get(),
+        })));
     }
-    let stored = shared.block.bytes();
-    let bytes = *stored;
-    if !is_indirect_block(&bytes, blocks.count(), used) {
-        return Err(outside);
-    }
+    let end = GROUP.min(used);
     if height == 0 && before == bits {
         return Ok(());
     }
-    for r in 0..GROUP.min(used) {
+    if height == 0 {
+        let bytes = shared.block.bytes();
+        mark_leaves(bytes, node.number, first, end, bits, marks, &mut shared.of);
+        return Ok(());
+    }
+    let bytes = *shared.block.bytes();
+    for r in 0..end {
         let below = indirect_pointer(&bytes, r);
         let node = FileNode {
             number: node.number,
             height,
-            index: first.saturating_add(r),
+            index: first + r,
         };
-        if is_leaf(height, below) {
-            mark_leaf(below, node, bits, marks, shared);
-            continue;
-        }
         mark_node(blocks, below, node, count, bits, marks, shared)?;
     }
     Ok(())
 }
 
-/// Whether no nodes stand below the one of this height at a pointer.
-fn is_leaf(height: u32, pointer: Pointer) -> bool
-    ensures { IsTrue result → (height ≡ 0) ⊎ (pointer ≡ Hole) }
+/// Reads the block at a place into this one, and tells whether it is an indirect block over so many nodes.
+fn read_indirect<B: LetsGo>(
+    blocks: &mut B,
+    place: BlockNumber,
+    used: u32,
+    block: &mut Block,
+) -> Result<bool, CheckError>
+    requires { PointsBelow (B.count blocks.old) (Pointer.Block place) }
+    ensures reads { Looks B.Blocks IsFault blocks.old blocks.new result }
+    ensures good { IfOk result (λ good. IsTrue good
+        → IsIndirectBlock (B.count blocks.old) used block.new) }
+    ensures block { (disk : ℕ → List ℕ) → B.Shows blocks.old disk
+        → IfOk result (λ good. IsTrue good → block.new ≡ disk place) }
+    ensures bad { (disk : ℕ → List ℕ) → B.Shows blocks.old disk → IfOk result (λ good. IsFalse good
+        → IsIndirectBlock (B.count blocks.old) used (disk place) → ⊥) }
 {
-    height == 0 || pointer.is_hole()
+    if !read_into(blocks, place, block)? {
+        return Ok(false);
+    }
+    Ok(is_indirect_block(block.bytes(), blocks.count(), used))
 }
 
-/// Marks the node at a pointer, below which no nodes stand. It has no memory of a block of its own, as `mark_node` has.
-fn mark_leaf(
-    pointer: Pointer,
-    node: FileNode,
+/// Marks the file's blocks from one on, to which the first so many pointers of an indirect block lead.
+fn mark_leaves(
+    bytes: &[u8; BLOCK_BYTES],
+    number: u32,
+    first: u32,
+    end: u32,
     bits: u32,
     marks: &mut Marks,
-    shared: &mut SharedBlocks,
+    of: &mut [Option<Shared>; PLANES],
 )
-    requires leaf { (node.height ≡ 0) ⊎ (pointer ≡ Hole) }
-    requires pointer { PointsBelow (length marks.old) pointer }
+    requires end { end ≤ 1024 }
+    requires fits { first + end < 2 ^ 32 }
+    requires pointers { (r : ℕ) → r < end
+        → PointsBelow (length marks.old) (indirect_pointer bytes.now r) }
     requires planes { (k : ℕ) → HasBit k bits → k < PLANES }
-    ensures keeps { KeepsMarks bits marks.old marks.new shared.old.of shared.new.of }
-    ensures marked { (blocks count : ℕ) (disk : ℕ → List ℕ) (h : Held)
-        → h.place node.height node.index ≡ pointer → HasNodes disk h node.height
-        → MarksFor h (IsUnder node.height node.index) node.number bits
-        marks.old marks.new shared.old.of shared.new.of
-        × AreIndirect blocks disk h count (IsUnder node.height node.index) }
+    ensures keeps { KeepsMarks bits marks.old marks.new of.old of.new }
+    ensures marked { (h : Held)
+        → ((r : ℕ) → r < end → h.place 0 (first + r) ≡ indirect_pointer bytes.now r)
+        → MarksFor h (IsAmong 0 first (first + end)) number bits marks.old marks.new of.old of.new }
 {
-    let Pointer::Block(place) = pointer else {
-        return;
-    };
-    let _ = mark_block(place, node, bits, marks, shared);
+    for r in 0..end {
+        let Pointer::Block(place) = indirect_pointer(bytes, r) else {
+            continue;
+        };
+        let node = FileNode {
+            number,
+            height: 0,
+            index: first + r,
+        };
+        let _ = mark_block(place, node, bits, marks, of);
+    }
 }
 
 /// Marks the block of a node for the trees of these bits, and tells which of them named it before.
@@ -258,23 +280,19 @@ fn mark_block(
     node: FileNode,
     bits: u32,
     marks: &mut Marks,
-    shared: &mut SharedBlocks,
+    of: &mut [Option<Shared>; PLANES],
 ) -> u32
     requires table { place < length marks.old }
     requires planes { (k : ℕ) → HasBit k bits → k < PLANES }
-    ensures keeps { KeepsMarks bits marks.old marks.new shared.old.of shared.new.of }
+    ensures keeps { KeepsMarks bits marks.old marks.new of.old of.new }
     ensures marked { (h : Held) → h.place node.height node.index ≡ Pointer.Block place
-        → MarksFor h (IsAt node) node.number bits marks.old marks.new shared.old.of shared.new.of }
-    ensures again { result ≡ bits → (k : ℕ) → HasBit k bits → SharesNone shared.new.of k → ⊥ }
+        → MarksFor h (IsAt node) node.number bits marks.old marks.new of.old of.new }
+    ensures again { result ≡ bits → (k : ℕ) → HasBit k bits → SharesNone of.new k → ⊥ }
 {
     let before = marks.mark(place, bits);
-    shared.add(
-        before,
-        Shared {
-            block: place.get(),
-            second: node,
-        },
-    );
+    let block = place.get();
+    let second = node;
+    add_shared(of, before, Shared { block, second });
     before
 }
 

@@ -1,9 +1,11 @@
 //! Which node of a tree stands in a block.
 
-ghost use Rattle.std.specs.Prelude.{◌≡◌, ◌≢◌, ◌<◌, ◌≤◌, ℕ, List, IfNone, IfOk, IfSome, IsFalse, IsTrue, Some};
-ghost use Rattle.layout.specs.Inode.{IsInode};
+ghost use Rattle.std.specs.Prelude.{◌≡◌, ◌≢◌, ◌<◌, ◌≤◌, ◌/◌, ◌%◌, ℕ, List, IfNone, IfOk, IfSome, IsFalse, IsTrue, Some};
+ghost use Rattle.layout.specs.Inode.{IsInode, inode_bytes};
 ghost use Rattle.layout.specs.Limits.{Sizes};
+ghost use Rattle.layout.specs.Pointer.{PointsBelow};
 ghost use Rattle.layout.specs.Root.{IsRoot};
+ghost use Rattle.layout.specs.declared.TheConstants.{INODES_PER_BLOCK};
 ghost use Rattle.layout.specs.declared.inode.Inode.{Inode};
 ghost use Rattle.layout.specs.declared.pointer.Pointer.TheVariants as pointers;
 ghost use Rattle.layout.specs.declared.root.Root.{Root};
@@ -12,21 +14,25 @@ ghost use Rattle.blocktree.specs.PlaceMaps.{place_at};
 ghost use Rattle.images.specs.Faults.{IsTreeGrammar};
 ghost use Rattle.images.specs.Soundness.{IsFileGrammar};
 ghost use Rattle.images.specs.Nodes.{held};
-ghost use Rattle.images.specs.Roots.{whole};
+ghost use Rattle.images.specs.Roots.{inode_part, whole};
 ghost use Rattle.loading.specs.Images.{IsFileOfInode};
+ghost use Rattle.loading.specs.InodeBlocks.{HasKindOfPlace};
 ghost use Rattle.checker.specs.Errors.{IsFault, Looks};
 ghost use Rattle.checker.specs.Findings.{StandsIn, tree_in};
+ghost use Rattle.checker.specs.Rows.{LeadsToRow};
 ghost use Rattle.checker.specs.Trees.{IsAloneAt, IsNode, IsOwner, IsTreeOf, SharesBlock};
 ghost use Rattle.checker.specs.declared.tree.Tree.{Tree};
 
+use crate::letting_go::read_block;
 use crate::nodes::Shared;
+use crate::table::find_places;
 use crate::tree::Tree;
 use crate::{CheckError, FileNode, LetsGo};
 use blocktree::{PlaceMap, ReadError};
 use images::inodes_are_what_their_bytes_spell;
 use inode::{File, based_trees_are_sound, nodes_are_where_pointers_lead};
-use layout::{BlockNumber, Geometry, INODE_BYTES, INODES_PER_BLOCK, Inode};
-use loading::{inode_at, sound_files_read_as_held};
+use layout::{BLOCK_BYTES, BlockNumber, Geometry, INODE_BYTES, INODES_PER_BLOCK, Inode, Pointer};
+use loading::inode_at;
 use std::alloc::Global;
 
 /// The first node of a tree, by number and then by height, that stands in a block which the tree names twice, but for the node that is told
@@ -48,11 +54,14 @@ pub(crate) fn first_owner<B: LetsGo>(
 {
     inodes_are_what_their_bytes_spell();
     nodes_are_where_pointers_lead();
+    based_trees_are_sound();
     if let Some(node) = node_in(alloc, blocks, &tree.file, 0, shared)? {
         return Ok(node);
     }
+    let places = find_places(alloc, blocks, &tree.file)?;
     for number in 1..geometry.inodes() {
-        let Some(inode) = read_inode(blocks, geometry, &tree.file, number)? else {
+        let place = places.at(number / INODES_PER_BLOCK);
+        let Some(inode) = read_inode(blocks, geometry, place, number)? else {
             continue;
         };
         let file = File::load(alloc, inode)?;
@@ -64,35 +73,44 @@ pub(crate) fn first_owner<B: LetsGo>(
     Ok(shared.second)
 }
 
-/// The inode of a number; None where its bytes spell none.
+/// The inode of a number, whose block in the inode file is at this place; None where its bytes spell none.
 pub(crate) fn read_inode<B: LetsGo>(
     blocks: &mut B,
     geometry: Geometry,
-    file: &File,
+    place: Pointer,
     number: u32,
 ) -> Result<Option<Inode>, CheckError>
     requires low { 1 ≤ number }
     requires high { number < geometry.inodes }
+    requires below { PointsBelow (B.count blocks.old) place }
     ensures reads { Looks B.Blocks IsFault blocks.old blocks.new result }
     ensures fits { IfOk result (λ found. IfSome found (IsInode VERSION geometry)) }
     ensures is { (disk : ℕ → List ℕ) (r : Root) (tree : Tree) → B.Shows blocks.old disk → IsRoot r
-        → r.geometry ≡ geometry → B.count blocks.old ≡ geometry.blocks
-        → IsTreeOf disk r tree → file.now ≡ tree.file
+        → r.geometry ≡ geometry → IsTreeOf disk r tree
+        → LeadsToRow disk r (number / INODES_PER_BLOCK) tree place
         → IsTreeGrammar geometry (tree_in (whole disk r) tree.plane)
         → IfOk result (λ found. found ≡ Some (tree_in (whole disk r) tree.plane number).inode) }
 {
-    sound_files_read_as_held();
-    based_trees_are_sound();
-    let i = number / INODES_PER_BLOCK;
-    let location = match file.locate(blocks, i) {
-        Ok(location) => location,
-        Err(ReadError::NoMemory) => return Err(CheckError::NoMemory),
-        Err(ReadError::Device) => return Err(CheckError::Device),
-        Err(ReadError::Damaged) => return Ok(None),
+    let Pointer::Block(at) = place else {
+        return Ok(inode_in(&[0; BLOCK_BYTES], number, geometry));
     };
+    if !read_block(blocks, at)? {
+        return Ok(None);
+    }
+    Ok(inode_in(blocks.bytes(at), number, geometry))
+}
+
+/// The inode of a number, of whose block in the inode file these are the bytes; None where they spell none.
+fn inode_in(bytes: &[u8; BLOCK_BYTES], number: u32, geometry: Geometry) -> Option<Inode>
+    requires low { 1 ≤ number }
+    requires high { number < geometry.inodes }
+    ensures fits { IfSome result (IsInode VERSION geometry) }
+    ensures only { (i : Inode) → IsInode VERSION geometry i
+        → inode_part bytes.now (number % INODES_PER_BLOCK) ≡ inode_bytes i
+        → HasKindOfPlace geometry.inodes number i.kind → result ≡ Some i }
+{
     let at = INODE_BYTES * (number % INODES_PER_BLOCK) as usize;
-    let bytes = file.bytes(blocks, i, location);
-    Ok(inode_at(&bytes[at..at + INODE_BYTES], number, geometry))
+    inode_at(&bytes[at..at + INODE_BYTES], number, geometry)
 }
 
 /// The first node of a file that stands in a block which is named twice, but for the one that is told of it.

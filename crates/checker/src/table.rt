@@ -17,6 +17,7 @@ ghost use Rattle.images.specs.Roots.{whole};
 ghost use Rattle.checker.specs.Errors.{IsFault, Looks};
 ghost use Rattle.checker.specs.Findings.{tree_in};
 ghost use Rattle.checker.specs.Names.{IsTable, IsUnnamed};
+ghost use Rattle.checker.specs.Rows.{LeadsToRows};
 ghost use Rattle.checker.specs.Tables.{ArePlaces, AreRowsAt, IsKnown};
 ghost use Rattle.checker.specs.Walks.{IsTreeAt};
 ghost use Rattle.checker.specs.declared.error.CheckError.TheVariants as check;
@@ -59,23 +60,25 @@ pub(crate) fn read_table<B: LetsGo>(
     blocks: &mut B,
     geometry: Geometry,
     tree: &Tree,
-    known: &mut Option<Known>,
-) -> Result<Vec<NumberRow>, CheckError>
+    known: &Option<Known>,
+) -> Result<Known, CheckError>
     ensures reads { Looks B.Blocks IsFault blocks.old blocks.new result }
-    ensures length { IfOk result (λ table. vec_len table ≡ geometry.inodes) }
-    ensures known { (disk : ℕ → List ℕ) → B.Shows blocks.old disk
-        → IsKnown disk known.old → IsKnown disk known.new }
+    ensures length { IfOk result (λ now. vec_len now.rows ≡ geometry.inodes) }
+    ensures below { IfOk result (λ now. AreBelow (B.count blocks.old) now.places) }
+    ensures known { (disk : ℕ → List ℕ) → B.Shows blocks.old disk → IsKnown disk known.now
+        → IfOk result (λ now. AreRowsAt disk now.places now.rows.items) }
+    ensures places { (disk : ℕ → List ℕ) (r : Root) → B.Shows blocks.old disk
+        → IsTreeAt disk r geometry (B.count blocks.old) tree.now
+        → IfOk result (λ now. LeadsToRows disk r tree.now now.places) }
     ensures table { (disk : ℕ → List ℕ) (r : Root) → B.Shows blocks.old disk
-        → IsKnown disk known.old → IsTreeAt disk r geometry (B.count blocks.old) tree.now
-        → IfOk result (λ table. IsTable r.geometry (tree_in (whole disk r) tree.now.plane) table.items
-        × IsUnnamed table.items) }
+        → IsKnown disk known.now → IsTreeAt disk r geometry (B.count blocks.old) tree.now
+        → IfOk result (λ now. IsTable r.geometry (tree_in (whole disk r) tree.now.plane) now.rows.items
+        × IsUnnamed now.rows.items) }
 {
     based_trees_are_sound();
     let places = find_places(alloc, blocks, &tree.file)?;
     let rows = rows_at(alloc, blocks, geometry, &places, known)?;
-    let table = Vec::from_slice(alloc, &rows)?;
-    *known = Some(Known { places, rows });
-    Ok(table)
+    Ok(Known { places, rows })
 }
 
 /// The rows of all numbers, of the blocks of inodes at these places.

@@ -1,8 +1,6 @@
 -- One node more is placed.
-use Rattle.std.proofs.Common.{◌≡◌, ◌≢◌, ◌⊎◌, inl, inr, ℕ, ◌+◌, ◌-◌, ◌<◌, ◌≤◌, List, length, set, get_or-set_other, refl, ap, sym, subst, ◌∙◌, arith}
+use Rattle.std.proofs.Common.{◌≡◌, ◌≢◌, ◌⊎◌, inl, inr, ℕ, ◌+◌, ◌<◌, ◌≤◌, refl, ap, sym, subst, ◌∙◌, arith}
 use Rattle.std.proofs.lemmas.Bool.{cases_lt, cases_eq}
-use Rattle.std.proofs.lemmas.Grind.{get_or-set_at}
-use Rattle.std.proofs.lemmas.List.{length-set}
 use Rattle.layout.specs.Pointer.{PointsBelow}
 use Rattle.layout.specs.Places.{Blocks}
 use Rattle.layout.specs.declared.geometry.TheConstants.{MOST_BLOCKS}
@@ -14,7 +12,7 @@ use Rattle.blocktree.specs.declared.place_map.PlaceMap.{PlaceMap}
 use Rattle.conspoint.specs.declared.draft.Draft.{Draft}
 use Rattle.conspoint.specs.Drafts.{Grows, WasTaken}
 use Rattle.conspoint.specs.Space.{StoresNone}
-use Rattle.conspoint.specs.Groups.{pointer_at, IsGroup, ComesFrom, ArePlaced}
+use Rattle.conspoint.specs.Groups.{IsGroup, ComesFrom, ArePlaced}
 use Rattle.conspoint.proofs.DraftLemmas.{taken_later, taken_earlier}
 
 module _ (a b c : Draft) (settled old new : PlaceMap) (j : ℕ) (p : Pointer) (before : Grows a b) (now : Grows b c) (so_far : ArePlaced a b settled old) (there : place_at new j ≡ p)
@@ -101,37 +99,4 @@ groups_more P old new from j p there others so_far between last i lt = elim (cas
     | inl done ↦ so_far i done
     | inr more ↦ between i more (omega (arith, lt, n))
   ])
-]
-
--- ---- the nodes of a group as a list
-
--- of a group that starts at a node, these are the pointers to those before another, and holes behind them
-pub record AreBefore (nodes : PlaceMap) (first from : ℕ) (xs : List Pointer) : Type 0 where
-  pub count : length xs ≡ 1024
-  pub nodes_are : (i : ℕ) → first + i < from → pointer_at xs i ≡ place_at nodes (first + i)
-  pub holes : (i : ℕ) → from ≤ first + i → pointer_at xs i ≡ Hole
-
-pub before_more : (nodes : PlaceMap) (first from k b : ℕ) (xs : List Pointer) → first ≤ from → from ≤ k → k < first + 1024 → ((i : ℕ) → from ≤ i → i < k → place_at nodes i ≡ Hole)
-    → place_at nodes k ≡ Block b → AreBefore nodes first from xs → AreBefore nodes first (k + 1) (set xs (k - first) (Block b))
-before_more nodes first from k b xs low le high gap there so_far = record {
-  count = length-set xs (k - first) (Block b) ∙ so_far.count;
-  nodes_are = λ i lt. elim (cases_eq i (k - first)) [
-    | inl e ↦
-        let at : k ≡ first + i = omega (arith, e, le, low) in
-        get_or-set_at xs (k - first) i (Block b) Hole e (omega (arith, so_far.count, high, le, low)) ∙ sym there ∙ ap (place_at nodes) at
-    | inr n ↦ get_or-set_other xs (k - first) i (Block b) Hole n ∙ elim (cases_lt (first + i) from) [
-      | inl done ↦ so_far.nodes_are i done
-      | inr more ↦ so_far.holes i more ∙ sym (gap (first + i) more (omega (arith, lt, n, le, low)))
-    ]
-  ];
-  holes = λ i past.
-      let n : i ≢ k - first = λ e. omega (arith, e, past, le, low) in
-      get_or-set_other xs (k - first) i (Block b) Hole n ∙ so_far.holes i (omega (arith, past, le));
-}
-
-pub before_all : (nodes : PlaceMap) (first from : ℕ) (xs : List Pointer) → AreBefore nodes first from xs → ((i : ℕ) → from ≤ i → i < first + 1024 → place_at nodes i ≡ Hole)
-    → (i : ℕ) → i < 1024 → pointer_at xs i ≡ place_at nodes (first + i)
-before_all nodes first from xs so_far gap i small = elim (cases_lt (first + i) from) [
-  | inl done ↦ so_far.nodes_are i done
-  | inr more ↦ so_far.holes i more ∙ sym (gap (first + i) more (omega (arith, small)))
 ]

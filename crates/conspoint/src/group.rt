@@ -110,22 +110,6 @@ pub fn place_group(
     Ok(Pointer::Block(place))
 }
 
-/// The nodes of group `j`.
-fn nodes_of(nodes: &PlaceMap, j: u32) -> [Pointer; BLOCK_POINTERS]
-    requires { j < 4194303 }
-    ensures count { length result ≡ BLOCK_POINTERS }
-    ensures nodes { (i : ℕ) → i < BLOCK_POINTERS → pointer_at result i ≡ group nodes.now j i }
-{
-    let first = GROUP * j;
-    let mut all = [Pointer::Hole; BLOCK_POINTERS];
-    let mut from = first;
-    while let Some(node) = nodes.next(from, first + GROUP) {
-        all[(node.index - first) as usize] = Pointer::Block(node.place);
-        from = node.index + 1;
-    }
-    all
-}
-
 /// The first group from one on and before another that has a node which is stored.
 fn next_group(nodes: &PlaceMap, from: u32, to: u32) -> Option<u32>
     requires { to < 4194304 }
@@ -167,8 +151,8 @@ pub fn place_over(
     let mut over = PlaceMap::new(alloc);
     let mut from = 0;
     while let Some(j) = next_group(new, from, groups) {
-        let before = nodes_of(old, j);
-        let after = nodes_of(new, j);
+        let before = old.group(j);
+        let after = new.group(j);
         let pointer = place_group(alloc, draft, settled.at(j), &before, &after)?;
         over.set(j, pointer)?;
         from = j + 1;

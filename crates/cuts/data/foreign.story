@@ -7,7 +7,7 @@
 #   tail COMMAND -> REPLY           commands that run on what a cut left, and are cut in their turn
 #   probe COMMAND -> REPLY          a reading command, and its reply on the image before the first command
 #   start                           lines about what is shown before the first command follow
-#   again N                         a second cut comes behind each N-th cut only
+#   again N                         of all second cuts, which come within each write of the tail behind each cut, each N-th is tried only
 #   failing                         each device call fails in turn
 #   quiet N                         those behind the first N commands make no device call
 #   sweep disk A..B, sweep nvram A..B    each byte from A to B becomes 00 and ff in turn: a mount, the commands and a check come to an end
@@ -29,9 +29,9 @@
 
 image 64 32 131072
 before mkdir /a -> ok
-sweep disk 0..511
-sweep disk 8192..9092
-sweep disk 12288..12575
+sweep disk 0..4095
+sweep disk 8192..12287
+sweep disk 12288..16383
 sweep nvram 0..63
 sweep nvram 131072..131135
 command mkdir /a -> err EEXIST

@@ -80,7 +80,8 @@ impl Edit {
             IsSoundAt (B.count blocks.old) disk file.now.tree i → (entries : List Named) →
             HoldsEntries inodes (edited_block disk file.now self.now i) entries → ⊥ }
     {
-        // Of block 0 nothing is kept: so nothing of a directory of one block, nor of bytes that the edit may change again.
+        // What is known is kept by key i + 1, and under key 0 nothing: nothing of bytes that the edit may change again, nor of a
+        // directory of one block.
         if let Some(block) = self.changed.get(&i) {
             return known.look_at(0, block.bytes(), inodes, name);
         }

@@ -11,7 +11,7 @@ ghost use Rattle.conspoint.specs.Space.{changed_blocks};
 ghost use Rattle.conspoint.specs.Steps.{Places};
 ghost use Rattle.placement.specs.Nodes.{ArePlacedAt, AreWithin, height_of, node};
 
-use crate::nodes::{Nodes, first_places};
+use crate::nodes::Nodes;
 use blocktree::{BlockTree, PlaceMap};
 use conspoint::{Draft, PlanError, place_blocks};
 use std::alloc::Global;
@@ -44,7 +44,7 @@ pub(crate) fn place_lowest(
     ensures placed { IfOk result (ArePlacedAt draft.old draft.new (node settled.now 0)) }
 {
     let kept = tree.kept().min(count);
-    let below = first_places(alloc, settled.height(0), kept)?;
+    let below = settled.height(0).first(alloc, kept)?;
     let nodes = place_blocks(alloc, draft, tree, first, below, count)?;
     Ok(nodes)
 }

@@ -155,7 +155,7 @@ fn lay_inline<B: Blocks>(alloc: Global, blocks: &mut B, object: &Object) -> Resu
         → IsSoundAt (B.count blocks.old) disk object.now.file.tree 0 → ⊥ }
     ensures why { IsErrOf result PlanError.NoSpace → ⊥ }
 {
-    let body = Body::Inline(inline_bytes(alloc, blocks, &object.file)?);
+    let body = Body::Inline(inline_bytes(blocks, &object.file)?);
     let nodes = Nodes {
         heights: Vec::new(alloc),
     };

@@ -12,11 +12,11 @@ use buffers::Blocks;
 use conspoint::PlanError;
 use inode::File;
 use layout::{BLOCK_BYTES, INLINE_BYTES};
-use std::alloc::Global;
 
 /// So many bytes of a block, and zeros behind them.
 fn head_of(block: &[u8; BLOCK_BYTES], size: usize) -> [u8; INLINE_BYTES]
     requires { size ≤ INLINE_BYTES }
+    ensures whole { length block.now ≡ BLOCK_BYTES }
     ensures count { length result ≡ INLINE_BYTES }
     ensures each { (k : ℕ)
         → slice_index result k ≡ (if nat_lt k size then slice_index block.now k else 0) }
@@ -30,7 +30,6 @@ fn head_of(block: &[u8; BLOCK_BYTES], size: usize) -> [u8; INLINE_BYTES]
 
 /// The bytes of a small file, and zeros behind them.
 pub(crate) fn inline_bytes<B: Blocks>(
-    alloc: Global,
     blocks: &mut B,
     file: &File,
 ) -> Result<[u8; INLINE_BYTES], PlanError>
@@ -46,6 +45,6 @@ pub(crate) fn inline_bytes<B: Blocks>(
         → IsSoundAt (B.count blocks.old) disk file.now.tree 0 → ⊥ }
     ensures why { IsErrOf result PlanError.NoSpace → ⊥ }
 {
-    let first = file.copy(alloc, blocks, 0)?;
-    Ok(head_of(first.bytes(), file.size() as usize))
+    let location = file.locate(blocks, 0)?;
+    Ok(head_of(file.bytes(blocks, 0, location), file.size() as usize))
 }

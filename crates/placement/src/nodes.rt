@@ -1,6 +1,6 @@
 //! The places of a file's nodes, by height.
 
-ghost use Rattle.std.specs.Prelude.{◌≡◌, ℕ, ◌+◌, ◌<◌, ◌≤◌, ◌⊎◌, ◌^◌, All, Contains, IfOk, OnOk, IsTrue, ◌↔◌, length, nat_lt, if◌then◌else◌};
+ghost use Rattle.std.specs.Prelude.{◌≡◌, ℕ, ◌+◌, ◌<◌, ◌≤◌, ◌⊎◌, ◌^◌, All, Contains, IfOk, OnOk, IsTrue, ◌↔◌, length};
 ghost use Rattle.layout.specs.Pointer.{PointsBelow};
 ghost use Rattle.layout.specs.declared.TheConstants.{BODY_POINTERS};
 ghost use Rattle.layout.specs.declared.pointer.Pointer.TheVariants.{Hole, Block};
@@ -62,24 +62,6 @@ impl Nodes {
         all.push(self.at(1, 0))?;
         Ok(all)
     }
-}
-
-/// Those of the first nodes that are kept, as far as these go.
-pub(crate) fn first_places(
-    alloc: Global,
-    places: &PlaceMap,
-    kept: u32,
-) -> Result<PlaceMap, AllocError>
-    ensures each { IfOk result (λ all. (i : ℕ)
-        → place_at all i ≡ (if nat_lt i kept then place_at places.now i else Hole)) }
-{
-    let mut first = PlaceMap::new(alloc);
-    let mut from = 0;
-    while let Some(node) = places.next(from, kept) {
-        first.set(node.index, Pointer::Block(node.place))?;
-        from = node.index + 1;
-    }
-    Ok(first)
 }
 
 /// An inode's pointers: these, which end where it has room for no more.

@@ -1,5 +1,5 @@
 -- One number's file, over its settled inode.
-use Rattle.std.proofs.Common.{◌≡◌, inl, inr, ℕ, suc, ◌-◌, ◌/◌, ◌%◌, ◌<◌, ◌≤◌, Bool, true, false, List, refl, ap, sym, subst, ◌∙◌, arith}
+use Rattle.std.proofs.Common.{◌≡◌, ◌⊎◌, inl, inr, ℕ, suc, ◌-◌, ◌/◌, ◌%◌, ◌<◌, ◌≤◌, Bool, true, false, List, refl, ap, sym, subst, ◌∙◌, arith}
 use Rattle.std.proofs.lemmas.Bool.{cond-false}
 use Rattle.std.proofs.lemmas.Bool.Decides.{nat_tests}
 use Rattle.std.specs.Prelude.{nat_lt, slice_index, if◌then◌else◌, Option, Some, None}
@@ -52,10 +52,11 @@ over_pointers s f t pointers fits body has =
     let large : 128 < f.size = (subst (λ b. FitsBody b s.blocks f.size) body fits).0 in
     settled (body ∙ ap Pointers (sym has.pointers_are)) (level_up f.size large ∙ ap suc (sym has.depth)) has.count
 
--- a tree that has settled blocks lies over them
-pub based_over : (s : Sizes) (d : Blocks) (f : Inode) (t : BlockTree) → IsSoundFile s (held d f) → IsBased f t → 0 < t.count → IsBasedOn f t
-based_over s d f t sound (anew empty) some = absurd (omega arith)
-based_over s d f t sound (over pointers body has) some = over_pointers s f t pointers (body_fits s d f sound) body has
+-- a tree that has settled blocks lies over them, and one over an inode that names none over none
+pub based_over : (s : Sizes) (d : Blocks) (f : Inode) (t : BlockTree) → IsSoundFile s (held d f) → IsBased f t → (0 < t.count) ⊎ (level_of f.size ≡ 0) → IsBasedOn f t
+based_over s d f t sound (anew empty) (inl some) = absurd (omega arith)
+based_over s d f t sound (anew empty) (inr small) = none small empty
+based_over s d f t sound (over pointers body has) all = over_pointers s f t pointers (body_fits s d f sound) body has
 
 -- one that has none may lie over a free inode
 pub based_free : (t : BlockTree) → t.count ≡ 0 → IsBasedOn free_inode t
@@ -137,10 +138,10 @@ module _ (s : Sizes) (draft : Draft) (d : Blocks) (f : Inode) (o : Object) (file
     }
 
   -- over its settled blocks
-  pub change_over : IsObjectOver s d f o → 0 < o.file.tree.count → IsChangeOf s draft d f o
-  change_over object some = record {
+  pub change_over : IsObjectOver s d f o → (0 < o.file.tree.count) ⊎ (level_of f.size ≡ 0) → IsChangeOf s draft d f o
+  change_over object all = record {
     blocks = file.blocks;
-    based = based_over s d f o.file.tree file.sound object.based some;
+    based = based_over s d f o.file.tree file.sound object.based all;
     sound = file.sound;
     once = file.once;
     used = file.used;

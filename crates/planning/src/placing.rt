@@ -1,8 +1,8 @@
 //! The new inode of a number that is changed.
 
-ghost use Rattle.std.specs.Prelude.{ℕ, ◌≡◌, ◌≤◌, ◌<◌, List, IfOk, IsErrOf};
+ghost use Rattle.std.specs.Prelude.{ℕ, ◌≡◌, ◌⊎◌, ◌≤◌, ◌<◌, ◌↔◌, List, IfOk, IsErrOf, IsTrue};
 ghost use Rattle.layout.specs.Limits.{Sizes};
-ghost use Rattle.layout.specs.Version.{greatest_size};
+ghost use Rattle.layout.specs.Version.{greatest_size, level_of};
 ghost use Rattle.layout.specs.declared.inode.Inode.{Inode};
 ghost use Rattle.model.specs.declared.limits.TheConstants.{ROOT_NUMBER};
 ghost use Rattle.layout.specs.declared.version.TheConstants.{VERSION};
@@ -22,7 +22,7 @@ use conspoint::{Draft, PlanError};
 use entries::Known;
 use inode::{Attributes, File, Object};
 use inofile::InodeFile;
-use layout::{Inode, Kind};
+use layout::{Inode, Kind, level_of};
 use model::Mode;
 use placement::{PlacedFile, place_file};
 use std::alloc::Global;
@@ -62,6 +62,14 @@ fn clear<B: Blocks>(
     Ok(placed)
 }
 
+/// Whether an object lies over all that its settled inode names.
+fn lies_over(object: &Object, settled: &Inode) -> bool
+    ensures { IsTrue result
+        ↔ ((0 < object.now.file.tree.count) ⊎ (level_of settled.now.size ≡ 0)) }
+{
+    object.file.tree().count() > 0 || level_of(settled.size) == 0
+}
+
 /// Places an object over its settled inode. One that is made anew leaves all blocks that the settled file has.
 fn place_object<B: Blocks>(
     alloc: Global,
@@ -88,7 +96,7 @@ fn place_object<B: Blocks>(
         → IsErrOf result PlanError.Damaged → ⊥ }
 {
     let placed = place_file(alloc, draft, blocks, object)?;
-    if object.file.tree().count() > 0 {
+    if lies_over(object, &settled) {
         return Ok(placed);
     }
     let cleared = clear(alloc, draft, blocks, settled)?;

@@ -19,7 +19,7 @@ pub(crate) fn push_reply(alloc: Global, line: &mut Vec<u8>, reply: &Reply) -> Re
         Reply::Fd(fd) => push_number(alloc, line, b"fd ", u64::from(*fd)),
         Reply::Data(data) => {
             line.extend_from_slice(b"data ")?;
-            push_data(alloc, line, data.as_bytes())
+            push_data(line, data.as_bytes())
         }
         Reply::Wrote(count) => push_number(alloc, line, b"wrote ", u64::from(*count)),
         Reply::At(offset) => push_number(alloc, line, b"at ", *offset),

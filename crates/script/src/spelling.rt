@@ -106,8 +106,8 @@ impl Spelled for DataOf<'_> {
 
     ghost value = { λ bytes. bytes.0.now };
 
-    fn push(&self, alloc: Global, line: &mut Vec<u8>) -> Result<(), AllocError> {
-        push_data(alloc, line, self.0.as_bytes())
+    fn push(&self, _alloc: Global, line: &mut Vec<u8>) -> Result<(), AllocError> {
+        push_data(line, self.0.as_bytes())
     }
 }
 

@@ -1,7 +1,9 @@
 //! The words of a line: texts and modes, each with one spelling.
 
-ghost use Rattle.std.specs.Prelude.{◌≡◌, ◌≢◌, ℕ, List, ◌++◌, ◌<◌, ◌≤◌, ◌+◌, ◌==◌, All, IfOk, OnOk, IfSome, IfNone, IsErrOf, MatchResult, true, false, map};
-ghost use Rattle.hex.specs.Hex.{encode_lower};
+ghost use Rattle.std.specs.Prelude.{◌≡◌, ◌≢◌, ℕ, List, ◌++◌, ◌<◌, ◌≤◌, ◌+◌, ◌==◌, All, IfOk, OnOk, IfSome, IfNone, IsErrOf, Ok, true, false, map};
+ghost use Rattle.std.specs.Char.{is_ascii_uppercase};
+ghost use Rattle.std.specs.List.{list_any};
+ghost use Rattle.hex.specs.Hex.{decode_of, encode_lower};
 ghost use Rattle.script.specs.Forms.{bytes, mode};
 ghost use Rattle.script.specs.Readings.{ReadsWord};
 ghost use Rattle.script.specs.Words.{data_word, is_plain, hex_digit, byte_word, text_word, mode_word, words_of, AddsText, AreByteValues, IsSplit};
@@ -175,27 +177,23 @@ pub(crate) fn read_data(alloc: Global, word: &[u8]) -> Result<Text, ScriptError>
     if word == b"-".as_slice() {
         return Ok(Text::new(Vec::new(alloc)));
     }
-    let decoded = decode(alloc, word)?;
-    if is_data_word(alloc, word, decoded.as_slice())? {
-        return Ok(Text::new(decoded));
+    if word.is_empty() || has_capital(word) {
+        return Err(ScriptError::NotACommand);
     }
-    Err(ScriptError::NotACommand)
+    Ok(Text::new(decode(alloc, word)?))
 }
 
-/// Whether a word is the one of these bytes.
-fn is_data_word(alloc: Global, word: &[u8], bytes: &[u8]) -> Result<bool, AllocError>
-    ensures bytes { AreByteValues bytes.now }
-    ensures spelled { IfOk result (λ is. is ≡ true → word.now ≡ data_word bytes.now) }
-    ensures other { IfOk result (λ is. is ≡ false → word.now ≢ data_word bytes.now) }
+/// Whether one of these bytes is a capital letter.
+fn has_capital(word: &[u8]) -> bool
+    ensures { result ≡ list_any is_ascii_uppercase word.now }
 {
-    let mut spelled = Vec::new(alloc);
-    push_data(alloc, &mut spelled, bytes)?;
-    Ok(spelled.as_slice() == word)
+    word.iter().any(|byte| byte.is_ascii_uppercase())
 }
 
 fn decode(alloc: Global, word: &[u8]) -> Result<Vec<u8>, ScriptError>
-    ensures { (bs : List ℕ) → AreByteValues bs → word.now ≡ encode_lower bs
-        → MatchResult result (λ decoded. decoded.items ≡ bs) (λ e. e ≡ ScriptError.NoMemory) }
+    ensures value { IfOk result (λ decoded. decode_of word.now ≡ Ok decoded.items) }
+    ensures refused { IsErrOf result ScriptError.NotACommand
+        → (bs : List ℕ) → AreByteValues bs → word.now ≢ encode_lower bs }
 {
     match hex::decode(alloc, word) {
         Ok(decoded) => Ok(decoded),
@@ -207,12 +205,18 @@ fn decode(alloc: Global, word: &[u8]) -> Result<Vec<u8>, ScriptError>
 }
 
 /// Adds the word of data to a line.
-pub(crate) fn push_data(alloc: Global, line: &mut Vec<u8>, bytes: &[u8]) -> Result<(), AllocError>
+pub(crate) fn push_data(line: &mut Vec<u8>, bytes: &[u8]) -> Result<(), AllocError>
     ensures { OnOk result (AddsText line.old line.new (data_word bytes.now)) }
 {
     if bytes.is_empty() {
         return line.extend_from_slice(b"-");
     }
-    let text = hex::encode(alloc, bytes)?;
-    line.extend_from_slice(text.as_bytes())
+    let at = line.len();
+    let digits = bytes.len().checked_mul(2).ok_or(AllocError)?;
+    let end = at.checked_add(digits).ok_or(AllocError)?;
+    line.resize(end, 0)?;
+    match hex::encode_to_slice(bytes, &mut line[at..]) {
+        Ok(()) => Ok(()),
+        Err(_) => Err(AllocError),
+    }
 }

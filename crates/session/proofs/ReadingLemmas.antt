@@ -1,8 +1,9 @@
 -- Lines taken from the beginning of known bytes.
-use Rattle.std.proofs.Common.{◌≡◌, ◌≢◌, inl, inr, ℕ, zero, suc, ◌+◌, ◌<◌, ◌≤◌, ◌==◌, Bool, false, List, [], ◌∷◌, ◌++◌, length, get_or, take, drop, Option, Some, None, arith, refl, sym, ◌∙◌, ap, subst, append_assoc}
+use Rattle.std.proofs.Common.{◌≡◌, ◌≢◌, inl, inr, ℕ, ◌+◌, ◌-◌, ◌<◌, ◌==◌, Bool, false, List, [], ◌∷◌, ◌++◌, length, take, drop, Option, Some, None, arith, refl, sym, ◌∙◌, ap, subst, append_assoc}
 use Rattle.std.specs.Io.KnownBytes.{prepend_known, Consumes, IsAtEnd, Keeps}
-use Rattle.std.proofs.lemmas.List.{append-nil, length-append, take-append-drop}
-use Rattle.std.proofs.lemmas.List.Elements.{All-append, All-cons, All-nil}
+use Rattle.std.proofs.Math.Seq.{take-add}
+use Rattle.std.proofs.lemmas.List.{append-nil, drop-drop, length-append, length-drop, take_all, take-append-drop}
+use Rattle.std.proofs.lemmas.List.Elements.{All-append}
 use Rattle.std.specs.Prelude.{Ok, MatchOption}
 use Rattle.session.specs.Reading.{EndsReading, IsHeardAs, IsPlain, Loses, TakesLine}
 use Rattle.session.specs.declared.reading.Heard.{Heard}
@@ -10,13 +11,26 @@ use Rattle.session.specs.Scripts.{is_skipped}
 use Rattle.session.specs.declared.reading.Heard.TheVariants.{TooLong}
 use Rattle.session.specs.declared.reading.TheConstants.{LINE_BYTES}
 
--- the bytes before a place are plain where each of them is
-pub plain_front : (xs : List ℕ) (i : ℕ) → ((k : ℕ) → k < i → (get_or xs k 0 == 10) ≡ false) → i ≤ length xs → IsPlain (take i xs)
-plain_front [] zero each within = All-nil (λ b. (b == 10) ≡ false)
-plain_front [] (suc i) each within = absurd (omega (arith, within))
-plain_front (x ∷ xs) zero each within = All-nil (λ b. (b == 10) ≡ false)
-plain_front (x ∷ xs) (suc i) each within =
-    All-cons (λ b. (b == 10) ≡ false) x (take i xs) (each 0 (omega arith)) (plain_front xs i (λ k below. each (suc k) (omega (arith, below))) (omega (arith, within)))
+-- the first line ends here
+abbrev pub EndsLine : List ℕ → ℕ → Type 0
+EndsLine xs end = (end < length xs) × IsPlain (take end xs) × (drop end xs ≡ 10 ∷ drop (end + 1) xs)
+
+-- no line ends in the first bytes
+module _ (xs : List ℕ) (plain : ℕ) (front : IsPlain (take plain xs)) where
+  behind : take (length xs - plain) (drop plain xs) ≡ drop plain xs
+  behind = take_all (length xs - plain) (drop plain xs) (omega (arith, length-drop plain xs))
+
+  pub ends_behind : (end : ℕ) → EndsLine (take (length xs - plain) (drop plain xs)) end → EndsLine xs (plain + end)
+  ends_behind end found =
+      let ends : EndsLine (drop plain xs) end = subst (λ (l : List ℕ). EndsLine l end) behind found in
+      let next : plain + (end + 1) ≡ plain + end + 1 = omega arith in (
+        omega (arith, ends.0, length-drop plain xs),
+        rw (take-add plain end xs) (All-append (λ b. (b == 10) ≡ false) (take plain xs) (take end (drop plain xs)) front ends.1),
+        sym (drop-drop end plain xs) ∙ ends.2 ∙ ap (λ l. 10 ∷ l) (drop-drop (end + 1) plain xs ∙ ap (λ (n : ℕ). drop n xs) next),
+      )
+
+  pub plain_behind : IsPlain (take (length xs - plain) (drop plain xs)) → IsPlain xs
+  plain_behind rest = subst IsPlain (take-append-drop plain xs) (All-append (λ b. (b == 10) ≡ false) (take plain xs) (drop plain xs) front (subst IsPlain behind rest))
 
 pub keeps_twice : (a b c : Option (List ℕ)) → Keeps a b → Keeps b c → Keeps a c
 keeps_twice None b c first second = tt

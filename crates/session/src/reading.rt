@@ -1,6 +1,6 @@
 //! Lines of input, read one by one in bounded memory.
 
-ghost use Rattle.std.specs.Prelude.{◌≡◌, ◌≢◌, ◌+◌, ◌<◌, ◌∷◌, ◌++◌, [], List, ℕ, Bool, true, false, IfOk, IfErr, IfSome, IsNone, OnOk, MatchOption, drop, length, take};
+ghost use Rattle.std.specs.Prelude.{◌≡◌, ◌≢◌, ◌+◌, ◌<◌, ◌≤◌, ◌∷◌, ◌++◌, [], List, ℕ, Bool, true, false, IfOk, IfErr, IfSome, IsNone, OnOk, MatchOption, drop, length, take};
 ghost use Rattle.std.specs.Io.KnownBytes.{prepend_known, Keeps, IsAtEnd};
 ghost use Rattle.session.specs.Reading.{EndsReading, IsHeardAs, IsPlain, IsInputFault, TakesLine};
 
@@ -32,8 +32,10 @@ pub(crate) fn next_line<R: Read>(
     ensures { EndsReading (prepend_known pending.old.items (R.remaining input.old))
         (prepend_known pending.new.items (R.remaining input.new)) result }
 {
+    // No line ends in so many of the pending bytes: they were looked through before.
+    let mut plain = 0;
     for _ in 0..u64::MAX {
-        if let Some(end) = line_end(pending) {
+        if let Some(end) = line_end_from(pending, plain) {
             return match take_line(pending, end) {
                 Ok(line) => Ok(Some(read_as(line))),
                 Err(status) => Err(status),
@@ -45,6 +47,7 @@ pub(crate) fn next_line<R: Read>(
                 Err(status) => Err(status),
             };
         }
+        plain = pending.len();
         match read_more(input, pending) {
             Ok(true) => continue,
             Ok(false) => return Ok(take_rest(pending)),
@@ -71,6 +74,20 @@ fn line_end(bytes: &[u8]) -> Option<usize>
     ensures none { IsNone result → IsPlain bytes.now }
 {
     bytes.iter().position(|byte| *byte == b'\n')
+}
+
+/// Where the first line ends, which doesn't in the first bytes.
+fn line_end_from(bytes: &[u8], plain: usize) -> Option<usize>
+    requires within { plain ≤ length bytes.now }
+    requires plain { IsPlain (take plain bytes.now) }
+    ensures found { IfSome result (λ end. (end < length bytes.now) × IsPlain (take end bytes.now)
+        × (drop end bytes.now ≡ 10 ∷ drop (end + 1) bytes.now)) }
+    ensures none { IsNone result → IsPlain bytes.now }
+{
+    match line_end(&bytes[plain..]) {
+        Some(end) => Some(plain + end),
+        None => None,
+    }
 }
 
 /// Takes the line that ends here, and its end.

@@ -1,7 +1,9 @@
 use Rattle.std.proofs.Common.{◌≡◌, ◌*◌, ◌<◌, ◌≤◌, ℕ, List}
+use Rattle.layout.specs.Places.{pointed}
 use Rattle.layout.specs.Root.{IsRoot}
 use Rattle.layout.specs.declared.root.Root.{Root}
-use Rattle.blocktree.specs.Trees.{IsSoundAt}
+use Rattle.buffers.specs.Disks.{IsWhole}
+use Rattle.blocktree.specs.PlaceMaps.{place_at}
 use Rattle.images.specs.Faults.{IsTreeGrammar}
 use Rattle.images.specs.Roots.{whole}
 use Rattle.checker.specs.Trees.{IsTreeOf}
@@ -13,7 +15,7 @@ abbrev pub invariant-loop-j : goal.invariant-loop-j
 invariant-loop-j g l = record {
   read : HasLooked g.B.Blocks l.fn.blocks l.blocks;
   few : l.free ≤ 1024 * l.j;
-  sound : (disk : ℕ → List ℕ) → g.B.Blocks.Shows l.fn.blocks disk → (i : ℕ) → i < l.j → IsSoundAt (g.B.Blocks.count l.fn.blocks) disk l.file.tree i;
+  good : (disk : ℕ → List ℕ) → g.B.Blocks.Shows l.fn.blocks disk → (i : ℕ) → i < l.j → IsWhole (pointed disk (place_at l.places i));
   compared : (disk : ℕ → List ℕ) (r : Root) → g.B.Blocks.Shows l.fn.blocks disk → IsRoot r → r.geometry ≡ l.geometry → IsTreeOf disk r l.tree → l.tree.plane ≡ 0
       → IsTreeGrammar r.geometry (whole disk r).active → IsCompared (whole disk r).active l.marks (before_block r.geometry.blocks l.j) l.free;
 }

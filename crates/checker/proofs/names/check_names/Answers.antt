@@ -1,4 +1,4 @@
-use Rattle.std.proofs.Common.{◌≡◌, ◌∙◌, ℕ, ◌≤◌, ◌^◌, List, Result, Ok, Err, None, subst, arith}
+use Rattle.std.proofs.Common.{◌≡◌, ◌∙◌, ℕ, ◌≤◌, ◌^◌, List, Result, Ok, Err, None, subst, sym, arith}
 use Rattle.layout.specs.Places.{Blocks}
 use Rattle.layout.specs.Root.{IsRoot}
 use Rattle.layout.specs.declared.root.Root.{Root}
@@ -8,11 +8,14 @@ use Rattle.images.specs.Faults.{HoldsGraph}
 use Rattle.images.specs.Roots.{whole}
 use Rattle.checker.specs.Checks.{Passes}
 use Rattle.checker.specs.Findings.{IsTreeFinding, tree_in}
-use Rattle.checker.specs.Links.{AreReached, IsUnreached}
+use Rattle.checker.specs.Links.{AreLinked, AreReached, IsUnlinked, IsUnreached}
+use Rattle.checker.specs.Names.{IsTable, IsUnnamed}
 use Rattle.checker.specs.Trees.{IsOut, IsSeen}
+use Rattle.checker.specs.Walks.{IsTreeAt}
 use Rattle.checker.specs.declared.error.Halt.{Halt}
 use Rattle.checker.specs.declared.error.Halt.TheVariants as halts
 use Rattle.checker.specs.declared.fault.Fault.{Fault}
+use Rattle.checker.specs.declared.names.NumberRow.{NumberRow}
 use Rattle.checker.specs.declared.tree.Tree.{Tree}
 use Rattle.checker.proofs.GraphLaws.{IsKnown, holds_graph, tree_ends, unlinked_finding, unreached_finding}
 use Rattle.checker.proofs.HaltLaws.{passes_residual}
@@ -35,22 +38,49 @@ known disk r marks t root seen none volumes =
       ends = λ n past. tree_ends disk r t.plane n (omega (arith, sizes.least_inodes)) past;
     }
 
+-- what is told of rows is told of a copy of them
+copied : (P : List NumberRow → Type 0) {old new : List NumberRow} → new ≡ old → P old → P new
+copied P same told = subst P (sym same) told
+
+pub returns-in_err-walk-clause-passes : goal.returns-in_err-walk-clause-passes
+returns-in_err-walk-clause-passes g c = λ disk r marks shows knows root same count seen none.
+    let t = tree_in (whole disk r) c.args.tree.now.plane in
+    let is = known disk r marks c.args.tree.now root seen none c.files_hold_one_volume.ensures in
+    let at : IsTreeAt disk r c.args.geometry (g.B.Blocks.count c.args.blocks.now) c.args.tree.now = record { root = root; geometry = same; count = count; tree = seen.tree; grammar = is.grammar } in
+    let read = copied (λ rows. IsTable r.geometry t rows × IsUnnamed rows) (c.in_ok-table.ensures.items ∙ c.deref.ensures.value) (c.in_ok-now.ensures.table disk r shows knows at) in
+    passes_residual (λ (_ : Unit {0}). Unit {0}) (λ (_ : Unit {0}). HoldsGraph r.geometry.inodes t) (IsTreeFinding r t) c.from_residual-in_err-walk.result _ c.from_residual-in_err-walk.ensures.1
+    (c.in_err-walk.ensures.walked disk r (c.in_ok-now.ensures.reads.same disk shows) root same (c.in_ok-now.ensures.reads.count ∙ count) seen.tree (c.in_ok-now.ensures.places disk r shows at) is.grammar read.0 read.1)
+
 pub returns-in_err-check_reached-clause-passes : goal.returns-in_err-check_reached-clause-passes
 returns-in_err-check_reached-clause-passes g c = λ disk r marks shows knows root same count seen none.
     let t = tree_in (whole disk r) c.args.tree.now.plane in
     let is = known disk r marks c.args.tree.now root seen none c.files_hold_one_volume.ensures in
     let table = c.walk.new.table.items in
-    let read = c.in_ok-table.ensures.table disk r shows knows (record { root = root; geometry = same; count = count; tree = seen.tree; grammar = is.grammar }) in
-    let walked = c.in_ok-walk.ensures.walked disk r (c.in_ok-table.ensures.reads.same disk shows) root same (c.in_ok-table.ensures.reads.count ∙ count) seen.tree is.grammar read.0 read.1 in
+    let at : IsTreeAt disk r c.args.geometry (g.B.Blocks.count c.args.blocks.now) c.args.tree.now = record { root = root; geometry = same; count = count; tree = seen.tree; grammar = is.grammar } in
+    let read = copied (λ rows. IsTable r.geometry t rows × IsUnnamed rows) (c.in_ok-table.ensures.items ∙ c.deref.ensures.value) (c.in_ok-now.ensures.table disk r shows knows at) in
+    let walked = c.in_ok-walk.ensures.walked disk r (c.in_ok-now.ensures.reads.same disk shows) root same (c.in_ok-now.ensures.reads.count ∙ count) seen.tree (c.in_ok-now.ensures.places disk r shows at) is.grammar read.0 read.1 in
     passes_residual (λ (_ : Unit {0}). AreReached table) (λ (_ : Unit {0}). HoldsGraph r.geometry.inodes t) (IsTreeFinding r t) c.from_residual-in_err-check_reached.result _ c.from_residual-in_err-check_reached.ensures.1
     (passes_by (λ (_ : Unit {0}). AreReached table) (λ (_ : Unit {0}). AreReached table) (IsUnreached table) (IsTreeFinding r t) (Err _) (λ x so. so) (unreached_finding r t is table walked) c.in_err-check_reached.ensures.rows)
+
+pub returns-in_err-check_links-clause-passes : goal.returns-in_err-check_links-clause-passes
+returns-in_err-check_links-clause-passes g c = λ disk r marks shows knows root same count seen none.
+    let t = tree_in (whole disk r) c.args.tree.now.plane in
+    let is = known disk r marks c.args.tree.now root seen none c.files_hold_one_volume.ensures in
+    let table = c.walk.new.table.items in
+    let at : IsTreeAt disk r c.args.geometry (g.B.Blocks.count c.args.blocks.now) c.args.tree.now = record { root = root; geometry = same; count = count; tree = seen.tree; grammar = is.grammar } in
+    let read = copied (λ rows. IsTable r.geometry t rows × IsUnnamed rows) (c.in_ok-table.ensures.items ∙ c.deref.ensures.value) (c.in_ok-now.ensures.table disk r shows knows at) in
+    let walked = c.in_ok-walk.ensures.walked disk r (c.in_ok-now.ensures.reads.same disk shows) root same (c.in_ok-now.ensures.reads.count ∙ count) seen.tree (c.in_ok-now.ensures.places disk r shows at) is.grammar read.0 read.1 in
+    passes_residual (λ (_ : Unit {0}). AreLinked table) (λ (_ : Unit {0}). HoldsGraph r.geometry.inodes t) (IsTreeFinding r t) c.from_residual-in_err-check_links.result _ c.from_residual-in_err-check_links.ensures.1
+    (passes_by (λ (_ : Unit {0}). AreLinked table) (λ (_ : Unit {0}). AreLinked table) (IsUnlinked table) (IsTreeFinding r t) (Err _) (λ x so. so) (unlinked_finding r t is table walked c.in_ok-check_reached.ensures.rows) c.in_err-check_links.ensures.rows)
 
 pub returns-clause-passes : goal.returns-clause-passes
 returns-clause-passes g c = λ disk r marks shows knows root same count seen none.
     let t = tree_in (whole disk r) c.args.tree.now.plane in
     let is = known disk r marks c.args.tree.now root seen none c.files_hold_one_volume.ensures in
-    let table = c.walk.new.table.items in
-    let read = c.in_ok-table.ensures.table disk r shows knows (record { root = root; geometry = same; count = count; tree = seen.tree; grammar = is.grammar }) in
-    let walked = c.in_ok-walk.ensures.walked disk r (c.in_ok-table.ensures.reads.same disk shows) root same (c.in_ok-table.ensures.reads.count ∙ count) seen.tree is.grammar read.0 read.1 in
-    let are = c.in_ok-check_reached.ensures.rows in
-    passes_by _ _ _ _ c.check_links.result (λ x linked. holds_graph r t is table walked are linked) (unlinked_finding r t is table walked are) c.check_links.ensures.rows
+    let at : IsTreeAt disk r c.args.geometry (g.B.Blocks.count c.args.blocks.now) c.args.tree.now = record { root = root; geometry = same; count = count; tree = seen.tree; grammar = is.grammar } in
+    let read = copied (λ rows. IsTable r.geometry t rows × IsUnnamed rows) (c.in_ok-table.ensures.items ∙ c.deref.ensures.value) (c.in_ok-now.ensures.table disk r shows knows at) in
+    let walked = c.in_ok-walk.ensures.walked disk r (c.in_ok-now.ensures.reads.same disk shows) root same (c.in_ok-now.ensures.reads.count ∙ count) seen.tree (c.in_ok-now.ensures.places disk r shows at) is.grammar read.0 read.1 in
+    holds_graph r t is c.walk.new.table.items walked c.in_ok-check_reached.ensures.rows c.in_ok-check_links.ensures.rows
+
+pub returns-clause-known : goal.returns-clause-known
+returns-clause-known g c = λ disk shows knows. c.in_ok-now.ensures.known disk shows knows

@@ -31,7 +31,7 @@ pub returns-in_err-inode-clause-goes : goal.returns-in_err-inode-clause-goes
 returns-in_err-inode-clause-goes g c = goes_none _ _
 
 pub returns-in_err-inode-clause-looked : goal.returns-in_err-inode-clause-looked
-returns-in_err-inode-clause-looked g c = λ disk r e count shows at before next. passes_halt _ _ c.from_residual.result _ c.from_residual.ensures.1
+returns-in_err-inode-clause-looked g c = λ disk r e count shows at before next leads. passes_halt _ _ c.from_residual.result _ c.from_residual.ensures.1
 
 pub returns-in_default-clause-reads : goal.returns-in_default-clause-reads
 returns-in_default-clause-reads g c = looks_failed (looked c.in_ok-inode.ensures.reads) (λ is. cc)
@@ -40,9 +40,9 @@ pub returns-in_default-clause-goes : goal.returns-in_default-clause-goes
 returns-in_default-clause-goes g c = goes_none _ _
 
 pub returns-in_default-clause-looked : goal.returns-in_default-clause-looked
-returns-in_default-clause-looked g c = λ disk r e count shows at before next.
+returns-in_default-clause-looked g c = λ disk r e count shows at before next leads.
     let known = subst (λ (s : Sizes). IsTreeGrammar s (tree_in (whole disk r) c.args.tree.now.plane)) at.geometry at.grammar in
-    let told = c.in_ok-inode.ensures.is disk r c.args.tree.now shows at.root at.geometry (at.count ∙ ap (λ (s : Sizes). s.blocks) at.geometry) at.tree (search rules) known in
+    let told = c.in_ok-inode.ensures.is disk r c.args.tree.now shows at.root at.geometry at.tree leads known in
     none_some (sym c.in_default.is ∙ told)
 
 pub returns-in_err-file-clause-reads : goal.returns-in_err-file-clause-reads
@@ -53,20 +53,20 @@ pub returns-in_err-file-clause-goes : goal.returns-in_err-file-clause-goes
 returns-in_err-file-clause-goes g c = goes_none _ _
 
 pub returns-in_err-file-clause-looked : goal.returns-in_err-file-clause-looked
-returns-in_err-file-clause-looked g c = λ disk r e count shows at before next. passes_halt _ _ c.from_residual-in_err-file.result check.NoMemory c.from_residual-in_err-file.ensures.1
+returns-in_err-file-clause-looked g c = λ disk r e count shows at before next leads. passes_halt _ _ c.from_residual-in_err-file.result check.NoMemory c.from_residual-in_err-file.ensures.1
 
 pub returns-in_err-count_blocks-clause-reads : goal.returns-in_err-count_blocks-clause-reads
 returns-in_err-count_blocks-clause-reads g c =
     looks_more _ (looked c.in_ok-inode.ensures.reads) (looks_residual c.from_residual-in_err-count_blocks.result c.from_residual-in_err-count_blocks.ensures.1 c.in_err-count_blocks.ensures.reads)
 
 pub returns-in_err-count_blocks-clause-looked : goal.returns-in_err-count_blocks-clause-looked
-returns-in_err-count_blocks-clause-looked g c = λ disk r e count shows at before next.
+returns-in_err-count_blocks-clause-looked g c = λ disk r e count shows at before next leads.
     let t = tree_in (whole disk r) c.args.tree.now.plane in
     let d = c.args.directory in
     let i = c.in-Some.inode in
     let f = c.in_ok-file.file in
     let known : IsTreeGrammar c.args.geometry t = subst (λ (s : Sizes). IsTreeGrammar s t) at.geometry at.grammar in
-    let told = c.in_ok-inode.ensures.is disk r c.args.tree.now shows at.root at.geometry (at.count ∙ ap (λ (s : Sizes). s.blocks) at.geometry) at.tree (search rules) known in
+    let told = c.in_ok-inode.ensures.is disk r c.args.tree.now shows at.root at.geometry at.tree leads known in
     let is : i ≡ (t d).inode = some_same (sym c.in-Some.is ∙ told) in
     let file = has_file disk r c.args.tree.now d (g.B.Blocks.count c.read_inode.new.blocks) i f at.tree at.grammar is (c.in_ok-inode.ensures.reads.count ∙ at.count) c.in_ok-file.ensures.size
     (c.in_ok-file.ensures.held by_sizes r.geometry disk) (λ k held readable. c.based_trees_are_sound.ensures.at by_sizes r.geometry disk i f.tree k held readable c.in_ok-file.ensures.base) in
@@ -78,13 +78,13 @@ pub returns-clause-reads : goal.returns-clause-reads
 returns-clause-reads g c = looks_ok (looked_more (looked c.in_ok-inode.ensures.reads) (looked c.in_ok-count_blocks.ensures.reads))
 
 pub returns-clause-looked : goal.returns-clause-looked
-returns-clause-looked g c = λ disk r e count shows at before next.
+returns-clause-looked g c = λ disk r e count shows at before next leads.
     let t = tree_in (whole disk r) c.args.tree.now.plane in
     let d = c.args.directory in
     let i = c.in-Some.inode in
     let f = c.in_ok-file.file in
     let known : IsTreeGrammar c.args.geometry t = subst (λ (s : Sizes). IsTreeGrammar s t) at.geometry at.grammar in
-    let told = c.in_ok-inode.ensures.is disk r c.args.tree.now shows at.root at.geometry (at.count ∙ ap (λ (s : Sizes). s.blocks) at.geometry) at.tree (search rules) known in
+    let told = c.in_ok-inode.ensures.is disk r c.args.tree.now shows at.root at.geometry at.tree leads known in
     let is : i ≡ (t d).inode = some_same (sym c.in-Some.is ∙ told) in
     let file = has_file disk r c.args.tree.now d (g.B.Blocks.count c.read_inode.new.blocks) i f at.tree at.grammar is (c.in_ok-inode.ensures.reads.count ∙ at.count) c.in_ok-file.ensures.size
     (c.in_ok-file.ensures.held by_sizes r.geometry disk) (λ k held readable. c.based_trees_are_sound.ensures.at by_sizes r.geometry disk i f.tree k held readable c.in_ok-file.ensures.base) in

@@ -1,10 +1,18 @@
-use Rattle.std.proofs.Common.{◌≡◌, ◌∙◌, ℕ, List, [], ◌∷◌, ◌++◌, length, None, Some, refl, sym, ap, subst, arith}
+use Rattle.std.proofs.Common.{◌≡◌, ◌∙◌, ◌/◌, ℕ, List, [], ◌∷◌, ◌++◌, length, None, Some, refl, sym, ap, subst, arith}
 use Rattle.std.specs.Prelude.{slice_get}
 use Rattle.std.proofs.lemmas.Option.{slice_get_read, slice_get_within}
+use Rattle.layout.specs.Places.{Blocks}
+use Rattle.layout.specs.Pointer.{PointsBelow}
+use Rattle.layout.specs.declared.pointer.Pointer.{Pointer}
+use Rattle.layout.specs.declared.root.Root.{Root}
+use Rattle.blocktree.specs.PlaceMaps.{place_at}
+use Rattle.blocktree.specs.declared.place_map.PlaceMap.{PlaceMap}
 use Rattle.images.specs.Roots.{whole}
 use Rattle.checker.specs.Findings.{IsTreeFinding, tree_in}
 use Rattle.checker.specs.Names.{AreWithin, IsWalked}
+use Rattle.checker.specs.Rows.{LeadsToRow, LeadsToRows}
 use Rattle.checker.specs.Walks.{IsTreeAt, LooksInto}
+use Rattle.checker.specs.declared.tree.Tree.{Tree}
 use Rattle.checker.specs.declared.error.CheckError.TheVariants as check
 use Rattle.checker.proofs.HaltLaws.{looks_failed, looks_more, looks_residual, passes_residual}
 use Rattle.checker.proofs.ReadLaws.{looked, looked_more, looked_none, looks_ok}
@@ -15,7 +23,10 @@ pub returns-in_err-push-clause-reads : goal.returns-in_err-push-clause-reads
 returns-in_err-push-clause-reads g c = looks_residual {T = Unit {0}} c.from_residual.result c.from_residual.ensures.1 (looks_failed (looked_none _) (λ is. cc))
 
 pub returns-in_err-push-clause-walked : goal.returns-in_err-push-clause-walked
-returns-in_err-push-clause-walked g c = λ disk r shows root same count is grammar table unnamed. passes_halt _ _ c.from_residual.result check.NoMemory c.from_residual.ensures.1
+returns-in_err-push-clause-walked g c = λ disk r shows root same count is leads grammar table unnamed. passes_halt _ _ c.from_residual.result check.NoMemory c.from_residual.ensures.1
+
+leads_at : (disk : Blocks) (r : Root) (t : Tree) (places : PlaceMap) (n : ℕ) (p : Pointer) → p ≡ place_at places (n / 21) → LeadsToRows disk r t places → LeadsToRow disk r (n / 21) t p
+leads_at disk r t places n p is leads grammar = is ∙ leads (n / 21) grammar
 
 pub loop-next-init : goal.loop-next-init
 loop-next-init g c =
@@ -26,7 +37,7 @@ loop-next-init g c =
       within = subst (AreWithin c.args.geometry.inodes) (sym found) (root_within c.args.geometry.inodes (omega (arith, c.inodes.ensures.within.least_inodes)));
       below = omega arith;
       few = omega arith;
-      walked = λ disk r shows at table unnamed.
+      walked = λ disk r shows at leads table unnamed.
           let t = tree_in (whole disk r) c.args.tree.now.plane in (
             (λ d x. None),
             subst (λ (xs : List ℕ). LooksInto r.geometry t (λ d x. None) 0 xs c.args.table.now.items) (sym found)
@@ -39,7 +50,12 @@ look_into-requires g c =
     let next = c.loop-next.next in
     let at : slice_get c.loop-next.found.items next ≡ Some c.index-directory.result.now = slice_get_read c.loop-next.found.items (length c.loop-next.found.items) next c.index-directory.result.now refl (omega arith) c.index-directory.ensures in
     let within = c.loop-next.invariant.within next c.index-directory.result.now at in
-    record { low = within.0; high = within.1; table = omega arith }
+    record {
+      low = within.0;
+      high = within.1;
+      below = subst (λ (n : ℕ). PointsBelow n c.at-place.result) (sym c.loop-next.invariant.looked.count) (subst (PointsBelow _) (sym c.at-place.ensures) (c.requires.below (c.index-directory.result.now / 21)));
+      table = omega arith;
+    }
 
 pub loop-next-preserved : goal.loop-next-preserved
 loop-next-preserved g c =
@@ -54,10 +70,10 @@ loop-next-preserved g c =
       within = subst (λ (k : ℕ). AreWithin k c.look_into.new.found.items) so_far.length_is (goes.within (subst (λ (k : ℕ). AreWithin k c.loop-next.found.items) (sym so_far.length_is) so_far.within));
       below = omega (arith, low);
       few = c.forget_over-kept.ensures.few;
-      walked = λ disk r shows at table unnamed.
-          let before = so_far.walked disk r shows at table unnamed in
+      walked = λ disk r shows at leads table unnamed.
+          let before = so_far.walked disk r shows at leads table unnamed in
           let now : IsTreeAt disk r c.args.geometry (g.B.Blocks.count c.loop-next.blocks) c.args.tree.now = record { root = at.root; geometry = at.geometry; count = so_far.looked.count ∙ at.count; tree = at.tree; grammar = at.grammar } in
-          c.in_ok-size.ensures.looked disk r before.0 next (so_far.looked.same disk shows) now before.1 there;
+          c.in_ok-size.ensures.looked disk r before.0 next (so_far.looked.same disk shows) now before.1 there (leads_at disk r c.args.tree.now c.args.places.now c.index-directory.result.now c.at-place.result c.at-place.ensures leads);
     }
 
 pub returns-in_err-size-clause-reads : goal.returns-in_err-size-clause-reads
@@ -65,26 +81,26 @@ returns-in_err-size-clause-reads g c =
     looks_more _ c.loop-next.invariant.looked (looks_residual c.from_residual-in_err-size.result c.from_residual-in_err-size.ensures.1 c.in_err-size.ensures.reads)
 
 pub returns-in_err-size-clause-walked : goal.returns-in_err-size-clause-walked
-returns-in_err-size-clause-walked g c = λ disk r shows root same count is grammar table unnamed.
+returns-in_err-size-clause-walked g c = λ disk r shows root same count is leads grammar table unnamed.
     let t = tree_in (whole disk r) c.args.tree.now.plane in
     let so_far = c.loop-next.invariant in
     let next = c.loop-next.next in
     let at : IsTreeAt disk r c.args.geometry (g.B.Blocks.count c.args.blocks.now) c.args.tree.now = record { root = root; geometry = same; count = count; tree = is; grammar = grammar } in
     let now : IsTreeAt disk r c.args.geometry (g.B.Blocks.count c.loop-next.blocks) c.args.tree.now = record { root = root; geometry = same; count = so_far.looked.count ∙ count; tree = is; grammar = grammar } in
-    let before = so_far.walked disk r shows at table unnamed in
+    let before = so_far.walked disk r shows at leads table unnamed in
     let there : slice_get c.loop-next.found.items next ≡ Some c.index-directory.result.now = slice_get_read c.loop-next.found.items (length c.loop-next.found.items) next c.index-directory.result.now refl (omega arith) c.index-directory.ensures in
     passes_residual (λ (_ : ℕ). Unit {0}) _ (IsTreeFinding r t) c.from_residual-in_err-size.result _ c.from_residual-in_err-size.ensures.1
-    (c.in_err-size.ensures.looked disk r before.0 next (so_far.looked.same disk shows) now before.1 there)
+    (c.in_err-size.ensures.looked disk r before.0 next (so_far.looked.same disk shows) now before.1 there (leads_at disk r c.args.tree.now c.args.places.now c.index-directory.result.now c.at-place.result c.at-place.ensures leads))
 
 pub returns-clause-reads : goal.returns-clause-reads
 returns-clause-reads g c = looks_ok c.loop-next.invariant.looked
 
 pub returns-clause-walked : goal.returns-clause-walked
-returns-clause-walked g c = λ disk r shows root same count is grammar table unnamed.
+returns-clause-walked g c = λ disk r shows root same count is leads grammar table unnamed.
     let t = tree_in (whole disk r) c.args.tree.now.plane in
     let so_far = c.loop-next.invariant in
     let at : IsTreeAt disk r c.args.geometry (g.B.Blocks.count c.args.blocks.now) c.args.tree.now = record { root = root; geometry = same; count = count; tree = is; grammar = grammar } in
-    let done = so_far.walked disk r shows at table unnamed in
+    let done = so_far.walked disk r shows at leads table unnamed in
     let all : c.loop-next.next ≡ length c.loop-next.found.items = omega (arith, so_far.below) in (
       done.0,
       c.loop-next.found.items,

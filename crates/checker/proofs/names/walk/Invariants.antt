@@ -4,6 +4,7 @@ use Rattle.model.specs.Volumes.{Entries}
 use Rattle.images.specs.Roots.{whole}
 use Rattle.checker.specs.Findings.{tree_in}
 use Rattle.checker.specs.Names.{AreWithin, IsTable, IsUnnamed}
+use Rattle.checker.specs.Rows.{LeadsToRows}
 use Rattle.checker.specs.Walks.{IsTreeAt, LooksInto, nameless}
 use Rattle.checker.proofs.ReadLaws.{HasLooked}
 use Rattle.checker.proofs.names.walk.Given as goal
@@ -16,7 +17,7 @@ invariant-loop-next g l = record {
   below : l.next ≤ length l.found.items;
   few : l.kept ≤ 256;
   walked : (disk : ℕ → List ℕ) (r : Root) → g.B.Blocks.Shows l.fn.blocks disk → IsTreeAt disk r l.geometry (g.B.Blocks.count l.fn.blocks) l.tree
-      → IsTable r.geometry (tree_in (whole disk r) l.tree.plane) l.fn.table.items → IsUnnamed l.fn.table.items
+      → LeadsToRows disk r l.tree l.places → IsTable r.geometry (tree_in (whole disk r) l.tree.plane) l.fn.table.items → IsUnnamed l.fn.table.items
       → (e : Entries) × LooksInto r.geometry (tree_in (whole disk r) l.tree.plane) e l.next l.found.items l.table.items;
 }
 

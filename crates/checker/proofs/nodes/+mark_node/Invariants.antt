@@ -1,7 +1,6 @@
 use Rattle.std.proofs.Common.{◌≡◌, ℕ, List, ◌+◌}
 use Rattle.images.specs.Nodes.{Held}
-use Rattle.checker.specs.Nodes.{AreIndirect, HasNodes, KeepsMarks, MarksFor}
-use Rattle.checker.proofs.NodeLaws.{IsAmong}
+use Rattle.checker.specs.Nodes.{AreIndirect, HasNodes, IsAmong, KeepsMarks, MarksFor}
 use Rattle.checker.proofs.ReadLaws.{HasLooked}
 use Rattle.checker.proofs.nodes.+mark_node.Given as goal
 

@@ -4,9 +4,9 @@ use Rattle.std.proofs.lemmas.List.{get_or_default}
 use Rattle.layout.specs.declared.inode.Body.TheVariants.{Pointers}
 use Rattle.layout.specs.declared.pointer.Pointer.TheVariants.{Hole}
 use Rattle.images.specs.Nodes.{held}
-use Rattle.checker.specs.Nodes.{AreIndirect, IsUnder, MarksFor}
+use Rattle.checker.specs.Nodes.{AreIndirect, IsAmong, IsUnder, MarksFor}
 use Rattle.checker.proofs.NodeFiles.{all_marked, file_passed, grammar_of, held_nodes, held_top, inline_level, none_marked, top_level, with_pointers}
-use Rattle.checker.proofs.NodeLaws.{IsAmong, keeps_more}
+use Rattle.checker.proofs.NodeLaws.{keeps_more}
 use Rattle.checker.proofs.NodeSteps.{among_more}
 use Rattle.checker.proofs.ReadLaws.{looked, looked_more}
 use Rattle.checker.proofs.nodes.mark_file.Goals as goal

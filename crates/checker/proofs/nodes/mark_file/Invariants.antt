@@ -3,8 +3,7 @@ use Rattle.layout.specs.Limits.{Sizes}
 use Rattle.layout.specs.Inode.{IsInode}
 use Rattle.layout.specs.declared.version.TheConstants.{VERSION}
 use Rattle.images.specs.Nodes.{held}
-use Rattle.checker.specs.Nodes.{AreIndirect, KeepsMarks, MarksFor}
-use Rattle.checker.proofs.NodeLaws.{IsAmong}
+use Rattle.checker.specs.Nodes.{AreIndirect, IsAmong, KeepsMarks, MarksFor}
 use Rattle.checker.proofs.ReadLaws.{HasLooked}
 use Rattle.checker.proofs.nodes.mark_file.Given as goal
 

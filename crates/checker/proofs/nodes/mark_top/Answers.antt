@@ -10,7 +10,7 @@ returns-in_default-clause-marked g c disk h shows at nodes =
 
 pub returns-then-node-eq0-clause-marked : goal.returns-then-node-eq0-clause-marked
 returns-then-node-eq0-clause-marked g c disk h shows at nodes =
-    leaf_marked (g.B.Blocks.count c.args.blocks.now) disk h c.args.node c.args.count c.args.bits c.args.marks.now c.mark_block.new.marks c.args.shared.now.of c.mark_block.new.shared.of
+    leaf_marked (g.B.Blocks.count c.args.blocks.now) disk h c.args.node c.args.count c.args.bits c.args.marks.now c.mark_block.new.marks c.args.shared.now.of c.mark_block.new.of
     c.if-node-eq0.true (c.mark_block.ensures.marked h (at ∙ c.in-Block.is))
 
 pub returns-clause-marked : goal.returns-clause-marked

@@ -31,7 +31,7 @@ loop-k-preserved g c =
           (λ known.
           let start : slice_get c.args.trees.now.items c.loop-k.k ≡ Some c.index_mut.result.now = sym (c.loop-k.invariant.each.rest c.loop-k.k (omega arith)) ∙ here in
           c.in_ok-read_row.ensures.row disk r c.args.i (21 * c.args.i) marks shared (c.loop-k.invariant.looked.same disk shows) root (c.loop-k.invariant.read disk shows)
-          (leads_to_row disk r c.args.i (21 * c.args.i) c.args.i marks shared c.index_mut.result.now known c.based_trees_are_sound.ensures.all (g.B.Blocks.count c.args.blocks.now)
+          (leads_to_row disk r c.args.i c.index_mut.result.now known.tree c.based_trees_are_sound.ensures.all (g.B.Blocks.count c.args.blocks.now)
           c.index.result.now c.at-place.result same (omega (arith, root.head.sizes.least_inodes)) c.at-place.ensures (are c.loop-k.k c.index_mut.result.now c.index.result.now start
           (get_at c.args.places.now.items c.loop-k.k c.index.result.now (omega (arith, c.loop-k-test.true, c.len-k-end.ensures, c.requires.places)) c.index.ensures)))
           known);

@@ -1,4 +1,4 @@
-use Rattle.std.proofs.Common.{◌≡◌, ◌∙◌, ◌≤◌, ℕ, ap, inl, inr, refl, sym, subst, arith}
+use Rattle.std.proofs.Common.{◌≡◌, ◌∙◌, ◌≤◌, ◌/◌, ℕ, ap, inl, inr, refl, sym, subst, arith}
 use Rattle.std.proofs.lemmas.Bool.{cases_lt}
 use Rattle.layout.specs.Inode.{IsInode}
 use Rattle.layout.specs.Limits.{AreSizes, Sizes}
@@ -9,10 +9,12 @@ use Rattle.images.specs.Roots.{HeldTree, free_inode, whole}
 use Rattle.loading.specs.Images.{IsFileOfInode}
 use Rattle.checker.specs.Findings.{tree_in}
 use Rattle.checker.specs.Trees.{IsAloneAt, IsOwner}
+use Rattle.model.proofs.OptionLaws.{none_some}
 use Rattle.checker.proofs.HaltLaws.{if_none, if_some}
 use Rattle.checker.proofs.HeldLaws.{number_is, top_grammar, top_is, tree_is}
 use Rattle.checker.proofs.OwnerLaws.{free_alone, one_found, owner_stands}
 use Rattle.checker.proofs.ReadLaws.{looked, looked_more}
+use Rattle.checker.proofs.RowReads.{leads_to_row}
 use Rattle.checker.proofs.owners.first_owner.Goals as goal
 
 pub returns-in-Some-clause-stands : goal.returns-in-Some-clause-stands
@@ -24,7 +26,7 @@ returns-in-Some-clause-stands g c = λ disk r shows root same count is grammar s
 
 pub loop-number-init : goal.loop-number-init
 loop-number-init g c = record {
-  read = looked c.in_ok-node.ensures.reads;
+  read = looked_more (looked c.in_ok-node.ensures.reads) (looked c.in_ok-places.ensures.reads);
   alone = λ disk r shows root same count is grammar n m lt.
       let t = tree_in (whole disk r) c.args.tree.now.plane in
       let top = c.args.tree.now.top in
@@ -32,6 +34,20 @@ loop-number-init g c = record {
       let none = if_none ((m : ℕ) → IsAloneAt c.args.shared.now 0 (held disk top) m) c.in_ok-node.field-0 c.in_default.not-Some
       (c.in_ok-node.ensures.alone disk c.args.geometry top shows (sym count) (top_grammar disk r c.args.geometry c.args.tree.now is grammar) is.file) in
       subst (λ (k : ℕ). IsAloneAt c.args.shared.now k (t k) m) at (subst (λ (h : Held). IsAloneAt c.args.shared.now 0 h m) (sym (top_is disk r c.args.tree.now is)) (none m));
+}
+
+pub loop-number-preserved-in_default-2 : goal.loop-number-preserved-in_default-2
+loop-number-preserved-in_default-2 g c = record {
+  read = looked_more c.loop-number.invariant.read (looked c.in_ok-inode.ensures.reads);
+  alone = λ disk r shows root same count is grammar n m lt. elim (cases_lt n c.loop-number.number) [
+    | inl low ↦ c.loop-number.invariant.alone disk r shows root same count is grammar n m low
+    | inr high ↦
+        let leads = leads_to_row disk r (c.loop-number.number / 21) c.args.tree.now is c.based_trees_are_sound.ensures.all (g.B.Blocks.count c.node_in.new.blocks) c.in_ok-places.places c.at-place.result
+        (c.in_ok-node.ensures.reads.count ∙ count ∙ sym (ap (λ (s : Sizes). s.blocks) same)) (omega (arith, root.head.sizes.least_inodes)) c.at-place.ensures
+        (c.in_ok-places.ensures.places disk (c.in_ok-node.ensures.reads.same disk shows)) in
+        let told = c.in_ok-inode.ensures.is disk r c.args.tree.now (c.loop-number.invariant.read.same disk shows) root same is leads grammar in
+        none_some (sym c.in_default-2.is ∙ told)
+  ];
 }
 
 pub loop-number-preserved : goal.loop-number-preserved
@@ -51,7 +67,10 @@ loop-number-preserved g c = record {
         let at : c.loop-number.number ≡ n = omega (arith, lt, high) in
         let shows1 = c.loop-number.invariant.read.same disk shows in
         let count1 : g.B.Blocks.count c.loop-number.blocks ≡ c.args.geometry.blocks = c.loop-number.invariant.read.count ∙ count in
-        let found = c.in_ok-inode.ensures.is disk r c.args.tree.now shows1 root same count1 is refl grammar in
+        let leads = leads_to_row disk r (k / 21) c.args.tree.now is c.based_trees_are_sound.ensures.all (g.B.Blocks.count c.node_in.new.blocks) c.in_ok-places.places c.at-place.result
+        (c.in_ok-node.ensures.reads.count ∙ count ∙ sym (ap (λ (s : Sizes). s.blocks) same)) (omega (arith, root.head.sizes.least_inodes)) c.at-place.ensures
+        (c.in_ok-places.ensures.places disk (c.in_ok-node.ensures.reads.same disk shows)) in
+        let found = c.in_ok-inode.ensures.is disk r c.args.tree.now shows1 root same is leads grammar in
         let own : (t c.loop-number.number).inode ≡ inode = (let some = c.in-Some-2.is in cc) in
         let here : t c.loop-number.number ≡ held disk inode = number_is disk r c.args.tree.now c.loop-number.number is ∙ ap (held disk) own in
         let known : IsFileGrammar c.args.geometry (held disk inode) = subst (IsFileGrammar c.args.geometry) here (grammar.files c.loop-number.number) in
@@ -68,7 +87,10 @@ returns-in-Some-3-clause-stands g c = λ disk r shows root same count is grammar
     let inode = c.in-Some-2.inode in
     let shows1 = c.loop-number.invariant.read.same disk shows in
     let count1 : g.B.Blocks.count c.loop-number.blocks ≡ c.args.geometry.blocks = c.loop-number.invariant.read.count ∙ count in
-    let found = c.in_ok-inode.ensures.is disk r c.args.tree.now shows1 root same count1 is refl grammar in
+    let leads = leads_to_row disk r (c.loop-number.number / 21) c.args.tree.now is c.based_trees_are_sound.ensures.all (g.B.Blocks.count c.node_in.new.blocks) c.in_ok-places.places c.at-place.result
+    (c.in_ok-node.ensures.reads.count ∙ count ∙ sym (ap (λ (s : Sizes). s.blocks) same)) (omega (arith, root.head.sizes.least_inodes)) c.at-place.ensures
+    (c.in_ok-places.ensures.places disk (c.in_ok-node.ensures.reads.same disk shows)) in
+    let found = c.in_ok-inode.ensures.is disk r c.args.tree.now shows1 root same is leads grammar in
     let own : (t c.loop-number.number).inode ≡ inode = (let some = c.in-Some-2.is in cc) in
     let here : t c.loop-number.number ≡ held disk inode = number_is disk r c.args.tree.now c.loop-number.number is ∙ ap (held disk) own in
     let fits : IsInode VERSION c.args.geometry inode = subst (IsInode VERSION c.args.geometry) own ((grammar.files c.loop-number.number).inode) in

@@ -15,10 +15,10 @@ use Rattle.conspoint.proofs.group.place_over.Goals as goal
 
 pub place_group-requires : goal.place_group-requires
 place_group-requires c = record {
-  old = c.nodes_of-before.ensures.count;
-  new = c.nodes_of-after.ensures.count;
-  within = All-from_get_or (PointsBelow MOST_BLOCKS) c.nodes_of-after.result Hole
-      (λ i lt. subst (PointsBelow MOST_BLOCKS) (sym (c.nodes_of-after.ensures.nodes i (omega (arith, lt, c.nodes_of-after.ensures.count)))) (c.requires.within _));
+  old = c.group-before.ensures.count;
+  new = c.group-after.ensures.count;
+  within = All-from_get_or (PointsBelow MOST_BLOCKS) c.group-after.result Hole
+      (λ i lt. subst (PointsBelow MOST_BLOCKS) (sym (c.group-after.ensures.nodes i (omega (arith, lt, c.group-after.ensures.count)))) (c.requires.within _));
   settled = subst (PointsBelow MOST_BLOCKS) (sym c.at.ensures) (c.requires.settled c.in-Some.j);
 }
 
@@ -42,8 +42,8 @@ loop-j-preserved c =
     let p = c.in_ok-pointer.pointer in
     let placed = c.in_ok-pointer.ensures in
     let put = c.in_ok-set.ensures in
-    let before = c.nodes_of-before in
-    let after = c.nodes_of-after in
+    let before = c.group-before in
+    let after = c.group-after in
     record {
       low = omega (arith, found.1);
       step = λ w counts. places_ok (group_more w j (places_rise (so_far.step w counts) (sums_rise w c.loop-j.from j found.0)) placed.step
@@ -66,7 +66,7 @@ returns-in_err-pointer-clause-step c = over_of (λ w counts.
     let found = c.in-Some.ensures.found in
     places_rise (places_err c.from_residual.result c.from_residual.ensures.1
     (group_more w j (places_rise (so_far.step w counts) (sums_rise w c.loop-j.from j found.0)) c.in_err-pointer.ensures.step
-    (λ none. c.in_err-pointer.ensures.none (same_none (group c.args.old.now j) (pointer_at c.nodes_of-before.result) (group c.args.new.now j) (pointer_at c.nodes_of-after.result) c.nodes_of-before.ensures.nodes c.nodes_of-after.ensures.nodes (counts j found.1 none)))))
+    (λ none. c.in_err-pointer.ensures.none (same_none (group c.args.old.now j) (pointer_at c.group-before.result) (group c.args.new.now j) (pointer_at c.group-after.result) c.group-before.ensures.nodes c.group-after.ensures.nodes (counts j found.1 none)))))
     (sums_rise w (j + 1) c.args.groups (omega (arith, found.1))))
 
 pub returns-in_err-set-clause-step : goal.returns-in_err-set-clause-step
@@ -76,7 +76,7 @@ returns-in_err-set-clause-step c = over_of (λ w counts.
     let found = c.in-Some.ensures.found in
     places_out c.from_residual-in_err-set.result c.from_residual-in_err-set.ensures.1
     (places_rise (group_more w j (places_rise (so_far.step w counts) (sums_rise w c.loop-j.from j found.0)) c.in_ok-pointer.ensures.step
-    (λ none. c.in_ok-pointer.ensures.none (same_none (group c.args.old.now j) (pointer_at c.nodes_of-before.result) (group c.args.new.now j) (pointer_at c.nodes_of-after.result) c.nodes_of-before.ensures.nodes c.nodes_of-after.ensures.nodes (counts j found.1 none))))
+    (λ none. c.in_ok-pointer.ensures.none (same_none (group c.args.old.now j) (pointer_at c.group-before.result) (group c.args.new.now j) (pointer_at c.group-after.result) c.group-before.ensures.nodes c.group-after.ensures.nodes (counts j found.1 none))))
     (sums_rise w (j + 1) c.args.groups (omega (arith, found.1)))))
 
 pub returns-clause-step : goal.returns-clause-step

@@ -14,7 +14,7 @@ use Rattle.placement.proofs.blocks.place_lowest.Goals.{In_ok-below}
 below_is : (c : In_ok-below) → (i : ℕ) → place_at c.in_ok-below.below i ≡ (if nat_lt i (min c.args.tree.now.kept c.args.count) then node c.args.settled.now 0 i else Hole)
 below_is c =
     kept_as (place_at c.height.result.now) (node c.args.settled.now 0) c.in_ok-below.below c.min-kept.result (min c.args.tree.now.kept c.args.count)
-    (c.min-kept.ensures ∙ ap (λ (k : ℕ). min k c.args.count) c.kept.ensures.value) c.height.ensures c.in_ok-below.ensures.each
+    (c.min-kept.ensures ∙ ap (λ (k : ℕ). min k c.args.count) c.kept.ensures.value) c.height.ensures c.in_ok-below.ensures
 
 pub place_blocks-requires : goal.place_blocks-requires
 place_blocks-requires c =

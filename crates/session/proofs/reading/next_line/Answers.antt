@@ -17,7 +17,7 @@ returns-in-Ok g c =
       record {
         plain = subst (λ (l : List ℕ). IsPlain (take end l)) value found.1;
         loses = subst (λ (l : List ℕ). Loses known (prepend_known l r) (take end p)) (sym c.in-Ok.ensures.rest)
-            (loses_kept known (prepend_known p r) _ (take end p) c.loop.invariant (line_taken p r end ends));
+            (loses_kept known (prepend_known p r) _ (take end p) c.loop.invariant.kept (line_taken p r end ends));
       },
       subst (λ (l : List ℕ). IsHeardAs l c.read_as.result) c.in-Ok.ensures.line c.read_as.ensures,
     )
@@ -29,5 +29,5 @@ returns-in-Ok-false g c =
     let r = g.R.Read.remaining c.read_more.new.input in
     let p = c.read_more.new.pending.items in
     let end = c.in-Ok-false.ensures.end c.in-Ok-false.field-0-test in
-    ends_rest known p c.take_rest.new.pending.items r c.take_rest.result (keeps_twice known before (prepend_known p r) c.loop.invariant c.in-Ok-false.ensures.kept) end.1
+    ends_rest known p c.take_rest.new.pending.items r c.take_rest.result (keeps_twice known before (prepend_known p r) c.loop.invariant.kept c.in-Ok-false.ensures.kept) end.1
     (subst IsPlain (sym end.0) (subst IsPlain c.deref.ensures.value (c.in_default.ensures.none search))) c.take_rest.ensures.emptied c.take_rest.ensures.rest

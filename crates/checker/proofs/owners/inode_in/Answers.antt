@@ -1,0 +1,8 @@
+use Rattle.std.proofs.Common.{◌≡◌, ◌∙◌, ℕ, ◌+◌, ◌-◌, ◌*◌, ◌%◌, take, drop, ap, arith}
+use Rattle.checker.proofs.owners.inode_in.Goals as goal
+
+pub returns-clause-only : goal.returns-clause-only
+returns-clause-only c = λ i fits part kind.
+    let at = 192 * (c.args.number % 21) in
+    let long : at + 192 - at ≡ 192 = omega arith in
+    c.inode_at.ensures.only i fits (ap (λ (n : ℕ). take n (drop at c.args.bytes.now)) long ∙ part) kind
