@@ -217,6 +217,22 @@ impl BlockMap {
         Ok(())
     }
 
+    /// Makes set 0 the settled set `set`: the active tree is that of a snapshot then. Each block of the map is stored for it. Where
+    /// there is no memory no entry changes.
+    pub fn load_plane(&mut self, set: u32) -> Result<(), AllocError>
+        requires { set < 32 }
+        ensures put { PutsPlane 0 (λ b. bit_at (settled_at self.old.parts.items b) set)
+            self.old self.new result }
+        ensures touched { OnOk result ((j : ℕ) → j < length self.old.parts.items
+            → IsTouched self.new.parts.items j) }
+    {
+        self.touch_all()?;
+        for j in 0..self.parts.len() {
+            self.parts[j].load_set(set);
+        }
+        Ok(())
+    }
+
     /// Makes room for changes of all blocks of the map with an entry in set `set`. No entry changes by it.
     fn touch_set(&mut self, set: u32) -> Result<(), AllocError>
         requires { set < 32 }

@@ -6,7 +6,7 @@ ghost use Rattle.blockmap.specs.Bits.{SetsPlane};
 ghost use Rattle.blockmap.specs.Parts.{HasSet, Spells, free_entries};
 ghost use Rattle.layout.specs.declared.TheConstants.{BLOCK_POINTERS};
 
-use crate::bits::has_bit;
+use crate::bits::{has_bit, with_bit};
 use crate::lanes::{and_all, are_words, count_zero, first_zero, take_all};
 use layout::{BLOCK_BYTES, BLOCK_POINTERS, map_entry, set_map_entry};
 use std::alloc::{AllocError, Global};
@@ -124,6 +124,21 @@ impl MapPart {
         if let Some(entries) = &mut self.changed {
             are_words(entries);
             take_all(entries, &self.settled, !(1 << set), 1 << set);
+        }
+    }
+
+    /// Makes set 0 the settled set `set`. There is room for changes.
+    pub fn load_set(&mut self, set: u32)
+        requires set { set < 32 }
+        requires room { self.old.is_touched ≡ true }
+        ensures part { self.new ≡ record self.old { entries = self.new.entries } }
+        ensures entries { SetsPlane BLOCK_POINTERS 0
+            (λ i. bit_at (slice_index self.old.settled i) set)
+            (slice_index self.old.entries) (slice_index self.new.entries) }
+    {
+        for i in 0..BLOCK_POINTERS as u32 {
+            let is_in = has_bit(self.settled(i), set);
+            self.set(i, with_bit(self.entry(i), 0, is_in));
         }
     }
 

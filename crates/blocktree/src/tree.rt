@@ -208,6 +208,8 @@ impl BlockTree {
         ensures resident { IfOk result (λ l. OnDisk l (B.IsResident blocks.new)) }
         ensures found { (disk : ℕ → List ℕ) → B.Shows blocks.old disk
             → IfOk result (IsAtLocation disk self.now i) }
+        ensures stands { IfOk result (λ l. (l ≡ Location.Hole) ⊎ (i < self.now.kept)
+            ⊎ IsChanged self.now i) }
         ensures sound { (disk : ℕ → List ℕ) → B.Shows blocks.old disk
             → OnOk result (IsSoundAt (B.count blocks.old) disk self.now i) }
         ensures damaged { (disk : ℕ → List ℕ) → B.Shows blocks.old disk

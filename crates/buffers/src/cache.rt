@@ -1,6 +1,6 @@
 //! A station's disk with blocks of it kept in memory.
 
-ghost use Rattle.std.specs.Prelude.{◌≡◌, ℕ, ◌+◌, ◌*◌, ◌/◌, ◌%◌, ◌<◌, ◌≤◌, ◌^◌, List, length, slice_index, OnOk, IfOk, IfErr, IsErrOf};
+ghost use Rattle.std.specs.Prelude.{◌≡◌, ◌≢◌, ℕ, ◌+◌, ◌*◌, ◌/◌, ◌%◌, ◌<◌, ◌≤◌, ◌^◌, List, length, slice_index, OnOk, IfOk, IfErr, IsErrOf};
 ghost use Rattle.std.specs.Ordering.{nat_cmp};
 ghost use Rattle.std.specs.BTreeMap as tree;
 ghost use Rattle.station.specs.Images.{SomeSectorsWritten, SectorsWritten, Unchanged};
@@ -27,6 +27,39 @@ pub struct Buffers<S> {
     alloc: Global,
 }
 
+/// Reads a block into this one, past all that is kept. `Damaged` where a sector of it can't be read.
+pub fn read_sectors<S: Station>(
+    station: &mut S,
+    place: u32,
+    block: &mut Block,
+) -> Result<(), BufferError>
+    requires within { 8 * place + 8 ≤ (S.meaning station.old).sectors }
+    requires fits { 8 * place + 8 < 2 ^ 32 }
+    ensures reads { ReadsOn (S.meaning station.old) (S.meaning station.new) }
+    ensures counted { OnOk result
+        ((S.meaning station.new).failed_reads ≡ (S.meaning station.old).failed_reads) }
+    ensures device { IfErr result (λ e. e ≡ BufferError.Device
+        → HasGrown (S.meaning station.old).failed_reads (S.meaning station.new).failed_reads) }
+    ensures block { (S.meaning station.old).is_honest
+        → OnOk result (IsBlock (S.meaning station.old).seen.disk place block.new) }
+    ensures damaged { IsErrOf result BufferError.Damaged
+        → Shows (S.meaning station.old) (λ c. IsWhole (blocks_of c.disk place) → ⊥) }
+    ensures memory { IfErr result (λ e. e ≢ BufferError.NoMemory) }
+{
+    block.is_whole();
+    let mut sector = [0u8; SECTOR_BYTES];
+    for i in 0..8u32 {
+        let Ok(is_readable) = station.read_sector(8 * place + i, &mut sector) else {
+            return Err(BufferError::Device);
+        };
+        if !is_readable {
+            return Err(BufferError::Damaged);
+        }
+        block.put(512 * i as usize, &sector);
+    }
+    Ok(())
+}
+
 /// Reads a block. `Damaged` where a sector of it can't be read.
 fn read_block<S: Station>(alloc: Global, station: &mut S, place: u32) -> Result<Block, BufferError>
     requires within { 8 * place + 8 ≤ (S.meaning station.old).sectors }
@@ -42,16 +75,7 @@ fn read_block<S: Station>(alloc: Global, station: &mut S, place: u32) -> Result<
         → Shows (S.meaning station.old) (λ c. IsWhole (blocks_of c.disk place) → ⊥) }
 {
     let mut block = Block::zeroed(alloc)?;
-    let mut sector = [0u8; SECTOR_BYTES];
-    for i in 0..8u32 {
-        let Ok(is_readable) = station.read_sector(8 * place + i, &mut sector) else {
-            return Err(BufferError::Device);
-        };
-        if !is_readable {
-            return Err(BufferError::Damaged);
-        }
-        block.put(512 * i as usize, &sector);
-    }
+    read_sectors(station, place, &mut block)?;
     Ok(block)
 }
 

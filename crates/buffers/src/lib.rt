@@ -11,6 +11,6 @@ mod kept;
 
 pub use block::Block;
 pub use blocks::Blocks;
-pub use cache::Buffers;
+pub use cache::{Buffers, read_sectors};
 pub use error::BufferError;
 pub use kept::{CACHED_BLOCKS, Kept};

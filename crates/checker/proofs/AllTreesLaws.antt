@@ -1,5 +1,5 @@
 -- All trees of a root, looked at to their ends.
-use Rattle.std.proofs.Common.{◌≡◌, ◌⊎◌, ◌∙◌, ◌≤◌, ℕ, zero, suc, List, [], ◌∷◌, Some, None, length, refl, sym, ap, subst, inl, inr, arith}
+use Rattle.std.proofs.Common.{◌≡◌, ◌⊎◌, ◌∙◌, ◌<◌, ◌≤◌, ℕ, zero, suc, List, [], ◌∷◌, Some, None, length, refl, sym, ap, subst, inl, inr, arith}
 use Rattle.std.specs.Prelude.{◌≢◌, ◌↔◌, slice_get, slice_index}
 use Rattle.std.proofs.lemmas.List.{get_or_past}
 use Rattle.std.proofs.lemmas.Option.{slice_get_within}
@@ -7,13 +7,15 @@ use Rattle.layout.specs.Places.{Blocks}
 use Rattle.layout.specs.declared.pointer.Pointer.{Pointer}
 use Rattle.layout.specs.declared.pointer.Pointer.TheVariants.{Block, Hole}
 use Rattle.layout.specs.declared.root.Root.{Root}
+use Rattle.layout.specs.declared.version.TheConstants.{SNAPSHOT_SLOTS}
 use Rattle.images.specs.BlockMap.{HasBit, IsSystem}
 use Rattle.images.specs.Faults.{IsFaultless, IsTreeGrammar}
 use Rattle.images.specs.Roots.{Reach, frozen_at, slot, whole}
+use Rattle.images.specs.Soundness.{IsWithin}
 use Rattle.images.proofs.EmptyLaws.{free_named}
 use Rattle.checker.specs.Findings.{HasTree, ShouldHave, tree_in}
 use Rattle.checker.specs.Rows.{KeepsTrees, PlaneAt}
-use Rattle.checker.specs.Trees.{AreTrees, IsApart, IsSeen, IsTreeOf}
+use Rattle.checker.specs.Trees.{AreTrees, IsApart, IsOut, IsSeen, IsTreeOf}
 use Rattle.checker.specs.declared.tree.Tree.{Tree}
 use Rattle.checker.proofs.EachLaws.{contained, contains, some_at}
 use Rattle.checker.proofs.WholeLaws.{out_number}
@@ -37,7 +39,7 @@ no_tree : (r : Root) (k : ℕ) → slot r k ≡ Hole → 1 ≤ k → HasTree r k
 no_tree r zero hole some has = omega (arith, some)
 no_tree r (suc k) hole some has = let none : Hole ≡ Block has.0 = sym hole ∙ has.1 in cc
 
-no_tree_past : (r : Root) (k : ℕ) → length r.snapshots ≡ 20 → 21 ≤ k → HasTree r k → ⊥
+no_tree_past : (r : Root) (k : ℕ) → length r.snapshots ≡ SNAPSHOT_SLOTS → SNAPSHOT_SLOTS < k → HasTree r k → ⊥
 no_tree_past r zero count past has = omega (arith, past)
 no_tree_past r (suc k) count past has = let none : Hole ≡ Block has.0 = sym (get_or_past r.snapshots k Hole (omega (arith, count, past))) ∙ has.1 in cc
 
@@ -84,13 +86,21 @@ module _ (disk : Blocks) (r : Root) (marks : List ℕ) (old new : List Tree) (Kn
         grammar = subst (λ (n : ℕ). IsTreeGrammar r.geometry (tree_in (whole disk r) n)) (first_plane q is) (known.grammar (λ out. out_number q.fault out (apart 0 q is)));
       }
 
+  pub first_within : (q : Tree) → slice_get new 0 ≡ Some q → q.fault ≡ None → IsWithin r.version (whole disk r).active
+  first_within q is none = subst (λ (n : ℕ). IsWithin r.version (tree_in (whole disk r) n)) (first_plane q is) ((seen 0 q is).0.within (subst IsOut none))
+
+  pub all_within : ((i : ℕ) (t : Tree) → slice_get new i ≡ Some t → t.fault ≡ None) → (k : ℕ) → HasTree r k → IsWithin r.version (tree_in (whole disk r) k)
+  all_within told k has =
+      let there = at k has in
+      subst (λ (n : ℕ). IsWithin r.version (tree_in (whole disk r) n)) there.3 ((seen there.0 there.1 there.2).0.within (subst IsOut (told there.0 there.1 there.2)))
+
   pub all_faultless : ((i : ℕ) (t : Tree) → slice_get new i ≡ Some t → t.fault ≡ None) → (k : ℕ) → HasTree r k → IsFaultless r.geometry (tree_in (whole disk r) k)
   all_faultless told k has =
       let there = at k has in
       subst (λ (n : ℕ). IsFaultless r.geometry (tree_in (whole disk r) n)) there.3 ((seen there.0 there.1 there.2).1 (told there.0 there.1 there.2))
 
   -- what is marked, with the system's own blocks, is what entries should have
-  module _ (all : List ℕ) (apart : (i : ℕ) (t : Tree) → slice_get new i ≡ Some t → IsApart t.fault) (count : length r.snapshots ≡ 20)
+  module _ (all : List ℕ) (apart : (i : ℕ) (t : Tree) → slice_get new i ≡ Some t → IsApart t.fault) (count : length r.snapshots ≡ SNAPSHOT_SLOTS)
       (clean : (k b : ℕ) → (HasTree r k → ⊥) → HasBit k (slice_index marks b) → ⊥)
       (system : (b : ℕ) → HasBit 31 (slice_index all b) ↔ (HasBit 31 (slice_index marks b) ⊎ IsSystem r b))
       (others : (k b : ℕ) → k ≢ 31 → HasBit k (slice_index all b) ↔ HasBit k (slice_index marks b)) where

@@ -11,6 +11,7 @@ use Rattle.layout.specs.declared.root.Root.{Root}
 use Rattle.images.specs.Faults.{HasLog, HasRoots, IsFaultless}
 use Rattle.images.specs.Roots.{Whole, slot, whole}
 use Rattle.images.specs.Snapshots.{AreSnapshots}
+use Rattle.images.specs.Soundness.{IsWithin}
 use Rattle.loading.specs.Slots.{FitsStation}
 use Rattle.checker.specs.Checks.{AreFaultless, IsFaultlessBy, Reports, is_block, report_of}
 use Rattle.checker.specs.Findings.{IsFaultIn, IsFinding, IsFindingUnder}
@@ -27,13 +28,17 @@ pub faultless_by : (r : Root) (w : Whole) (nvram : List ℕ) (s : Summary) (free
     → s.generation ≡ r.generation → s.snapshots ≡ count_by is_block r.snapshots → s.records ≡ count → s.free ≡ free → IsFaultlessBy r w nvram s
 faultless_by r w nvram s free count changes snapshots trees log counted generation slots records left = record {
   changes = changes;
-  under = record { snapshots = snapshots; active = trees.trees 0 tt; frozen = frozen; readable = trees.readable; exact = trees.exact; log = log };
+  under = record { snapshots = snapshots; active = trees.trees 0 tt; frozen = frozen; within = trees.within 0 tt; frozen_within = frozen_within; readable = trees.readable; exact = trees.exact; log = log };
   figures = record { generation_is = generation; snapshots_are = slots; records_are = records ∙ counted; free_is = left ∙ trees.free_is };
 }
   where
     frozen : (k block : ℕ) → slot r k ≡ Block block → IsFaultless r.geometry (w.frozen k)
     frozen zero block there = let none : Hole ≡ Block block = there in absurd (cc)
     frozen (suc k) block there = trees.trees (suc k) (block, there)
+
+    frozen_within : (k block : ℕ) → slot r k ≡ Block block → IsWithin r.version (w.frozen k)
+    frozen_within zero block there = let none : Hole ≡ Block block = there in absurd (cc)
+    frozen_within (suc k) block there = trees.within (suc k) (block, there)
 
 -- ---- in images
 

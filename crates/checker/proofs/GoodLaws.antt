@@ -21,7 +21,7 @@ use Rattle.images.specs.BlockMap.{HasBit, IsExact, entry}
 use Rattle.images.specs.Contents.{content_bytes, content_of}
 use Rattle.images.specs.Faults.{HasRoots, IsFaultless, IsFaultlessUnder}
 use Rattle.images.specs.Roots.{HeldTree, Whole, whole}
-use Rattle.images.specs.Soundness.{FitsNumber}
+use Rattle.images.specs.Soundness.{FitsNumber, IsWithin}
 use Rattle.checker.specs.Checks.{IsGood, Reports}
 use Rattle.checker.specs.Findings.{HasTree, IsFaultIn, IsFindingUnder, IsNamedTree, IsTreeFinding, ShouldHave, StandsIn, tree_in}
 use Rattle.checker.specs.declared.fault.Fault.{Fault}
@@ -40,7 +40,7 @@ own_used (suc zero) kind low is free = cc
 own_used (suc (suc zero)) kind low is free = cc
 own_used (suc (suc (suc n))) kind low is free = absurd (omega (arith, low))
 
-module _ (r : Root) (t : HeldTree) (is : IsFaultless r.geometry t) where
+module _ (r : Root) (t : HeldTree) (is : IsFaultless r.geometry t) (within : IsWithin r.version t) where
   used_below : (n : ℕ) → n < 4 → (t n).inode.kind ≢ Free
   used_below n low free = elim (cases_eq n 3) [
     | inl root ↦ (let kind : (t n).inode.kind ≡ Directory = ap (λ (m : ℕ). (t m).inode.kind) root ∙ is.grammar.root in cc)
@@ -73,7 +73,7 @@ module _ (r : Root) (t : HeldTree) (is : IsFaultless r.geometry t) where
   ]
 
   pub no_tree_finding : (fault : Fault) → IsTreeFinding r t fault → ⊥
-  no_tree_finding (faults.Tree found) not = not is.grammar
+  no_tree_finding (faults.Tree found) not = not is.grammar within
   no_tree_finding (faults.Shared block first second) (one, other, differ) = differ (one_node block first second one other)
   no_tree_finding (faults.InodeMap number is_taken) (taken, free) = map_told number is_taken taken free
   no_tree_finding (faults.Directory found) not = not is.names.names
@@ -117,13 +117,18 @@ module _ (r : Root) (w : Whole) (nvram : List ℕ) (changes : List Change) (unde
   faultless_tree zero has = under.active
   faultless_tree (suc k) has = under.frozen (suc k) has.0 has.1
 
+  within_tree : (k : ℕ) → HasTree r k → IsWithin r.version (tree_in w k)
+  within_tree zero has = under.within
+  within_tree (suc k) has = under.frozen_within (suc k) has.0 has.1
+
   named_tree : (tree : TreeName) (k : ℕ) → IsNamedTree r tree k → HasTree r k
   named_tree trees.Image k named = absurd named
   named_tree trees.Newest k named = subst (HasTree r) (sym named) tt
   named_tree (trees.Snapshot slot name) k named = named.1
 
   in_tree : (tree : TreeName) (fault : Fault) → (k : ℕ) × IsNamedTree r tree k × IsTreeFinding r (tree_in w k) fault → ⊥
-  in_tree tree fault (k, named, told) = no_tree_finding r (tree_in w k) (faultless_tree k (named_tree tree k named)) fault told
+  in_tree tree fault (k, named, told) =
+      let has = named_tree tree k named in no_tree_finding r (tree_in w k) (faultless_tree k has) (within_tree k has) fault told
 
   pub no_finding_under : (tree : TreeName) (fault : Fault) → IsFindingUnder r w nvram tree fault → ⊥
   no_finding_under tree (faults.Roots found) not = not

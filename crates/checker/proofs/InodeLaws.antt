@@ -5,12 +5,13 @@ use Rattle.layout.specs.Inode.{IsInode, inode_bytes}
 use Rattle.layout.specs.Limits.{AreSizes}
 use Rattle.layout.specs.Maps.{IsTaken}
 use Rattle.layout.specs.Places.{Blocks}
+use Rattle.layout.specs.Version.{greatest_size}
 use Rattle.layout.specs.declared.inode.Inode.{Inode}
 use Rattle.layout.specs.declared.root.Root.{Root}
 use Rattle.layout.specs.declared.version.TheConstants.{VERSION}
 use Rattle.images.specs.BlockMap.{HasBit}
 use Rattle.images.specs.Faults.{IsTreeGrammar}
-use Rattle.images.specs.Soundness.{IsFileGrammar}
+use Rattle.images.specs.Soundness.{IsFileGrammar, IsWithin}
 use Rattle.images.specs.Nodes.{file_block, held}
 use Rattle.images.specs.Roots.{inode_bytes_at, whole}
 use Rattle.loading.specs.InodeBlocks.{HasKindOfPlace, IsInodeAt}
@@ -54,7 +55,7 @@ told_none m (Some x) other told = absurd (other x refl)
 module _ (disk : Blocks) (r : Root) (i n bits : ℕ) (bytes marks new : List ℕ) (shared after : List (Option Shared)) (old next : List Tree) (kept : KeepsTrees old next) where
   -- it isn't in its grammar, or what hangs from it
   pub sees_broken : (found : TreeFault) → AddsToEach bits (faults.Tree found) old next
-      → ((t : Tree) → IsTreeOf disk r t → bytes ≡ inode_bytes_at (file_block (tree_in (whole disk r) t.plane 0)) n → IsTreeGrammar r.geometry (tree_in (whole disk r) t.plane) → ⊥)
+      → ((t : Tree) → IsTreeOf disk r t → bytes ≡ inode_bytes_at (file_block (tree_in (whole disk r) t.plane 0)) n → IsTreeGrammar r.geometry (tree_in (whole disk r) t.plane) → IsWithin r.version (tree_in (whole disk r) t.plane) → ⊥)
       → SeesInode disk r bits bytes n (IsSeenTo disk r i n marks shared) (IsSeenTo disk r i (n + 1) new after) old next
   sees_broken found adds broken = λ l t q was is bit inside same known.
       subst (IsSeenTo disk r i (n + 1) new after) (sym (again t q (Some (first_fault t.fault (faults.Tree found))) (kept.same l t q was is) ((adds l t q was is).0 bit)))
@@ -65,8 +66,8 @@ module _ (disk : Blocks) (r : Root) (i n bits : ℕ) (bytes marks new : List ℕ
     own t tree same = numbers_of spells ends disk r t n inode are tree fits kind (sym same ∙ spelled)
 
     pub broken_file : (IsFileGrammar r.geometry (held disk inode) → ⊥) → (t : Tree) → IsTreeOf disk r t → bytes ≡ inode_bytes_at (file_block (tree_in (whole disk r) t.plane 0)) n
-        → IsTreeGrammar r.geometry (tree_in (whole disk r) t.plane) → ⊥
-    broken_file bad t tree same grammar = bad (number_grammar disk r.geometry (tree_in (whole disk r) t.plane) n inode (own t tree same) fits grammar)
+        → IsTreeGrammar r.geometry (tree_in (whole disk r) t.plane) → IsWithin r.version (tree_in (whole disk r) t.plane) → ⊥
+    broken_file bad t tree same grammar within = bad (number_grammar disk r.geometry (tree_in (whole disk r) t.plane) n inode (own t tree same) fits grammar)
 
     -- what is told of the inode map
     abbrev pub IsTold : Tree → Tree → Type 0
@@ -76,23 +77,23 @@ module _ (disk : Blocks) (r : Root) (i n bits : ℕ) (bytes marks new : List ℕ
         × (IsTrue taken ↔ IsTaken t.numbers.items n) × (q.fault ≡ Some (first_fault t.fault (faults.InodeMap n taken)))))
 
     -- it is, and what hangs from it is marked
-    pub sees_marked : MarksFor (held disk inode) IsAny n bits marks new shared after → KeepsMarks bits marks new shared after → IsFileGrammar r.geometry (held disk inode)
+    pub sees_marked : inode.size ≤ greatest_size r.version → MarksFor (held disk inode) IsAny n bits marks new shared after → KeepsMarks bits marks new shared after → IsFileGrammar r.geometry (held disk inode)
         → ((l : ℕ) (t q : Tree) → slice_get old l ≡ Some t → slice_get next l ≡ Some q → HasBit t.plane bits → (IsOut t.fault → ⊥) → IsSeenTo disk r i n marks shared t → IsTold t q)
         → SeesInode disk r bits bytes n (IsSeenTo disk r i n marks shared) (IsSeenTo disk r i (n + 1) new after) old next
-    sees_marked looks keeps grammar told = λ l t q was is bit inside same known.
+    sees_marked small looks keeps grammar told = λ l t q was is bit inside same known.
         let is_own = own t known.tree same in
-        let at : IsInodeAt r.geometry n (inode_bytes_at (file_block (tree_in (whole disk r) t.plane 0)) n) = record { inode = inode; is = fits; spelled = sym same ∙ spelled; kind = kind } in
+        let at : IsInodeAt VERSION r.geometry n (inode_bytes_at (file_block (tree_in (whole disk r) t.plane 0)) n) = record { inode = inode; is = fits; spelled = sym same ∙ spelled; kind = kind } in
         elim (told l t q was is bit inside known) [
           | inl right ↦
               subst (IsSeenTo disk r i (n + 1) new after) (sym right.0)
-              (seen_more disk r i n marks new shared after t inode known inside is_own (looks t.plane bit) keeps.kept t.fault at grammar known.fault (λ none. (none, right.1)))
+              (seen_more disk r i n marks new shared after t inode known inside is_own (looks t.plane bit) keeps.kept t.fault at small grammar known.fault (λ none. (none, right.1)))
           | inr wrong ↦
               let finding : IsTreeFinding r (tree_in (whole disk r) t.plane) (first_fault t.fault (faults.InodeMap n wrong.1.0)) =
               first_found r (tree_in (whole disk r) t.plane) t.fault (faults.InodeMap n wrong.1.0) known.fault
               (map_finding disk r (tree_in (whole disk r) t.plane) n inode t.numbers.items wrong.1.0 is_own (known.maps inside).within (known.maps inside).bytes_are
               (λ some. (known.inodes inside).files 1 (inr some)) wrong.1.1 wrong.0) in
               subst (IsSeenTo disk r i (n + 1) new after) (sym (again t q (Some (first_fault t.fault (faults.InodeMap n wrong.1.0))) (kept.same l t q was is) wrong.1.2))
-              (seen_more disk r i n marks new shared after t inode known inside is_own (looks t.plane bit) keeps.kept (Some (first_fault t.fault (faults.InodeMap n wrong.1.0))) at grammar
+              (seen_more disk r i n marks new shared after t inode known inside is_own (looks t.plane bit) keeps.kept (Some (first_fault t.fault (faults.InodeMap n wrong.1.0))) at small grammar
               (λ f one. subst (IsTreeFinding r (tree_in (whole disk r) t.plane)) (some_same one) finding)
               (λ none. absurd (none_is none)))
         ]
@@ -116,6 +117,6 @@ module _ (disk : Blocks) (r : Root) (i n bits : ℕ) (bytes marks new : List ℕ
 
 -- the bytes aren't an inode of their place
 pub not_spelled : (disk : Blocks) (r : Root) (n : ℕ) (bytes : List ℕ) → AreSizes r.geometry
-    → ((i : Inode) → IsInode VERSION r.geometry i → bytes ≡ inode_bytes i → HasKindOfPlace r.geometry.inodes n i.kind → ⊥)
-    → (t : Tree) → IsTreeOf disk r t → bytes ≡ inode_bytes_at (file_block (tree_in (whole disk r) t.plane 0)) n → IsTreeGrammar r.geometry (tree_in (whole disk r) t.plane) → ⊥
-not_spelled disk r n bytes are none t tree same grammar = spelled_in r.geometry (tree_in (whole disk r) t.plane) n bytes (omega (arith, are.least_inodes)) grammar same none
+    → ((i : Inode) → IsInode r.version r.geometry i → bytes ≡ inode_bytes i → HasKindOfPlace r.geometry.inodes n i.kind → ⊥)
+    → (t : Tree) → IsTreeOf disk r t → bytes ≡ inode_bytes_at (file_block (tree_in (whole disk r) t.plane 0)) n → IsTreeGrammar r.geometry (tree_in (whole disk r) t.plane) → IsWithin r.version (tree_in (whole disk r) t.plane) → ⊥
+not_spelled disk r n bytes are none t tree same grammar within = spelled_in r.version r.geometry (tree_in (whole disk r) t.plane) n bytes (omega (arith, are.least_inodes)) grammar within same none

@@ -131,7 +131,7 @@ load_device fault (Err errors.Device) h is told failed = told refl
 load_device fault (Err errors.Damaged) h is told failed = absurd (cc (is, failed))
 
 -- memory that was loaded under a root stands for the volume of its tree
-pub has_volume : (disk : Blocks) (r : Root) (count : ℕ) (inodes : InodeFile) (v : Volume) → count ≡ r.geometry.blocks → AreInodesIn by_sizes disk r.geometry (whole disk r).active inodes
+pub has_volume : (disk : Blocks) (r : Root) (count : ℕ) (inodes : InodeFile) (v : Volume) → count ≡ r.geometry.blocks → AreInodesIn by_sizes disk r.version r.geometry (whole disk r).active inodes
     → HoldsVolumeIn by_sizes r.geometry.inodes (tree_contents (whole disk r).active) v → IsGraph v
     → ((n : ℕ) → IsSome (v n) → (n ≡ ROOT_NUMBER) ⊎ ((FIRST_NUMBER ≤ n) × (n < r.geometry.inodes))) → HasVolumeIn by_sizes count disk (inodes_of (whole disk r).active) inodes v
 has_volume disk r count inodes v is are holds graph numbers = record {

@@ -1,14 +1,14 @@
 -- The nodes of a file, from its inode's pointers on.
-use Rattle.std.proofs.Common.{◌≡◌, inl, inr, ℕ, zero, suc, ◌-◌, ◌*◌, ◌/◌, ◌^◌, ◌<◌, ◌≤◌, List, length, get_or, refl, sym, ap, subst, ◌∙◌, arith}
+use Rattle.std.proofs.Common.{◌≡◌, inl, inr, ℕ, zero, suc, ◌-◌, ◌*◌, ◌/◌, ◌^◌, ◌<◌, List, length, get_or, refl, sym, ap, subst, ◌∙◌, arith}
 use Rattle.std.specs.Prelude.{Option, Result, Ok, Err}
 use Rattle.std.specs.Result.{IsErrAnd}
 use Rattle.std.specs.Int.{div_ceil}
-use Rattle.std.proofs.lemmas.Bool.{cases_lt, cond_above}
+use Rattle.std.proofs.lemmas.Bool.{cases_lt}
 use Rattle.std.proofs.lemmas.List.{get_or_past}
 use Rattle.layout.specs.Inode.{FitsBody, FitsPointers, IsInode}
 use Rattle.layout.specs.Limits.{Sizes}
 use Rattle.layout.specs.Maps.{IsIndirectBlock}
-use Rattle.layout.specs.Places.{Blocks, place, pointed}
+use Rattle.layout.specs.Places.{Blocks, pointed}
 use Rattle.layout.specs.Version.{level_of}
 use Rattle.layout.specs.declared.inode.Body.{Body}
 use Rattle.layout.specs.declared.inode.Body.TheVariants.{Inline, Pointers}
@@ -17,13 +17,13 @@ use Rattle.layout.specs.declared.pointer.Pointer.{Pointer}
 use Rattle.layout.specs.declared.pointer.Pointer.TheVariants.{Block, Hole}
 use Rattle.layout.specs.declared.version.TheConstants.{VERSION}
 use Rattle.layout.proofs.PointerLaws.{no_block}
-use Rattle.layout.proofs.SizeLaws.{level_none, level_one, level_two}
+use Rattle.layout.proofs.SizeLaws.{level_none, level_some}
 use Rattle.blocktree.specs.Names.{nodes_at}
 use Rattle.images.specs.Nodes.{held, pointers_of}
 use Rattle.images.specs.Soundness.{IsFileGrammar, nodes_of_size}
 use Rattle.images.proofs.EmptyLaws.{held_inode}
 use Rattle.images.proofs.OverlayLaws.{held_up}
-use Rattle.images.proofs.ReadingLaws.{highest}
+use Rattle.images.proofs.ReadingLaws.{highest, none_above}
 use Rattle.checker.specs.Nodes.{AreIndirect, HasNodes, IsAmong, IsAny, MarksFile, MarksFor, MarksThese}
 use Rattle.checker.specs.declared.error.Halt.{Halt}
 use Rattle.checker.specs.declared.error.Halt.TheVariants as halts
@@ -42,20 +42,12 @@ node_bytes : (d : Blocks) (f : Inode) (m i b : ℕ) → (held d f).place m i ≡
 unfolding held
 node_bytes d f m i b is = ap (pointed d) is
 
--- no node stands above the highest
-none_above : (d : Blocks) (f : Inode) (m i : ℕ) → level_of f.size ≤ m → (held d f).place m i ≡ Hole
-unfolding held
-none_above d f m i ge = sym (cond_above m (level_of f.size) (place d (pointers_of f.body) (level_of f.size - suc m) i) Hole Hole ge refl)
-
 -- what an inode with pointers has
 pub with_pointers : (s : Sizes) (f : Inode) (pointers : List Pointer) → IsInode VERSION s f → f.body ≡ Pointers pointers → FitsPointers pointers s.blocks f.size
 with_pointers s f pointers fits body = subst (λ (b : Body). FitsBody b s.blocks f.size) body fits.body
 
 pub top_level : (size height : ℕ) → 128 < size → height ≡ level_of size - 1 → level_of size ≡ suc height
-top_level size height some is = elim (cases_lt 65536 size) [
-  | inl large ↦ omega (arith, is, level_two size large)
-  | inr low ↦ omega (arith, is, level_one size some low)
-]
+top_level size height some is = omega (arith, is, level_some size some)
 
 -- one without has no level
 pub inline_level : (s : Sizes) (f : Inode) (bytes : List ℕ) → IsInode VERSION s f → f.body ≡ Inline bytes → level_of f.size ≡ 0

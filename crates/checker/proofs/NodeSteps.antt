@@ -18,6 +18,7 @@ use Rattle.checker.specs.declared.error.Halt.{Halt}
 use Rattle.checker.specs.declared.error.Halt.TheVariants as halts
 use Rattle.checker.specs.declared.fault.FileNode.{FileNode}
 use Rattle.checker.specs.declared.nodes.Shared.{Shared}
+use Rattle.checker.specs.declared.nodes.TheConstants.{PLANES}
 use Rattle.checker.proofs.NodeLaws.{hole_under, itself, looks_more, looks_none, none_before, one_up, some_none, some_same, these_more}
 
 -- A block was marked, and where it was marked before, that is told.
@@ -26,9 +27,9 @@ module _ (old new : List ℕ) (before after : List (Option Shared)) (place bits 
     (here : (k : ℕ) → HasBit k (slice_index new place) ↔ (HasBit k (slice_index old place) ⊎ HasBit k bits))
     (there : (b : ℕ) → b ≢ place → slice_index new b ≡ slice_index old b)
     (kept : KeepsShared before after)
-    (these : (k : ℕ) → k < 21 → HasBit k twice → SharesNone before k → slice_index_or after k None ≡ Some s)
+    (these : (k : ℕ) → k < PLANES → HasBit k twice → SharesNone before k → slice_index_or after k None ≡ Some s)
     (others : (k : ℕ) → (HasBit k twice → ⊥) → slice_index_or after k None ≡ slice_index_or before k None)
-    (planes : (k : ℕ) → HasBit k bits → k < 21) where
+    (planes : (k : ℕ) → HasBit k bits → k < PLANES) where
   twice_told : (k : ℕ) → HasBit k twice → SharesNone after k → ⊥
   twice_told k bit none = some_none (slice_index_or after k None) s none (these k (planes k ((was k).0 bit).1) bit (none_before before after k kept none))
 

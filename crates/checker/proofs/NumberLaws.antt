@@ -8,6 +8,7 @@ use Rattle.layout.specs.Inode.{FitsBody, FitsKind, IsInode, inode_bytes}
 use Rattle.layout.specs.Limits.{AreSizes, Sizes}
 use Rattle.layout.specs.Maps.{IsTaken}
 use Rattle.layout.specs.Places.{Blocks}
+use Rattle.layout.specs.Version.{greatest_size}
 use Rattle.layout.specs.declared.inode.Body.{Body}
 use Rattle.layout.specs.declared.inode.Body.TheVariants.{Inline, Pointers}
 use Rattle.layout.specs.declared.inode.Inode.{Inode}
@@ -18,12 +19,13 @@ use Rattle.layout.specs.declared.version.TheConstants.{VERSION}
 use Rattle.images.specs.BlockMap.{HasBit}
 use Rattle.images.specs.Contents.{content_bytes, content_of}
 use Rattle.images.specs.Faults.{IsTreeGrammar, MapsWithin}
-use Rattle.images.specs.Soundness.{IsFileGrammar}
+use Rattle.images.specs.Soundness.{IsFileGrammar, IsWithin}
 use Rattle.images.specs.Nodes.{Held, IsOnce, Names, file_block, held}
 use Rattle.images.specs.Roots.{HeldTree, free_inode, inode_bytes_at, whole}
 use Rattle.images.proofs.EmptyLaws.{free_bytes, free_fits, free_named}
 use Rattle.loading.specs.InodeBlocks.{HasKindOfPlace, IsInodeAt}
 use Rattle.loading.specs.Laws.{EndTrees, SpellTrees}
+use Rattle.inofile.proofs.VersionLaws.{in_version}
 use Rattle.model.proofs.OptionLaws.{some_same}
 use Rattle.checker.specs.Findings.{IsTreeFinding, StandsIn, tree_in}
 use Rattle.checker.specs.Nodes.{IsAny, KeepsShared, LooksUnder, MarksNodes, SharesNone}
@@ -54,16 +56,16 @@ free_kind inodes n many (inl first) = record { number = λ some lt. absurd (omeg
 free_kind inodes n many (inr past) = record { number = λ some lt. absurd (omega (arith, past, lt)); root = λ is. absurd (omega (arith, past, is, many)); none = λ is. refl; past = λ ge. refl }
 
 -- bytes that an inode file in its grammar has at a number are an inode of that place
-pub spelled_in : (s : Sizes) (t : HeldTree) (n : ℕ) (bytes : List ℕ) → 3 < s.inodes → IsTreeGrammar s t → bytes ≡ inode_bytes_at (file_block (t 0)) n
-    → ((i : Inode) → IsInode VERSION s i → bytes ≡ inode_bytes i → HasKindOfPlace s.inodes n i.kind → ⊥) → ⊥
-spelled_in s t zero bytes many grammar is none =
-    none free_inode (free_fits s) (is ∙ grammar.inodes.first ∙ sym free_bytes) (free_kind s.inodes zero many (inl refl))
-spelled_in s t (suc n) bytes many grammar is none = elim (cases_lt (suc n) s.inodes) [
+pub spelled_in : (version : ℕ) (s : Sizes) (t : HeldTree) (n : ℕ) (bytes : List ℕ) → 3 < s.inodes → IsTreeGrammar s t → IsWithin version t → bytes ≡ inode_bytes_at (file_block (t 0)) n
+    → ((i : Inode) → IsInode version s i → bytes ≡ inode_bytes i → HasKindOfPlace s.inodes n i.kind → ⊥) → ⊥
+spelled_in version s t zero bytes many grammar within is none =
+    none free_inode (in_version version s free_inode (free_fits s) (omega arith)) (is ∙ grammar.inodes.first ∙ sym free_bytes) (free_kind s.inodes zero many (inl refl))
+spelled_in version s t (suc n) bytes many grammar within is none = elim (cases_lt (suc n) s.inodes) [
   | inl lt ↦
-      none (t (suc n)).inode (grammar.files (suc n)).inode (is ∙ grammar.inodes.each (suc n) (omega arith) lt)
+      none (t (suc n)).inode (in_version version s (t (suc n)).inode (grammar.files (suc n)).inode (within (suc n))) (is ∙ grammar.inodes.each (suc n) (omega arith) lt)
       (kind_of_place s t (suc n) grammar (omega arith) lt)
   | inr past ↦
-      none free_inode (free_fits s) (is ∙ grammar.inodes.past (suc n) past ∙ sym free_bytes) (free_kind s.inodes (suc n) many (inr past))
+      none free_inode (in_version version s free_inode (free_fits s) (omega arith)) (is ∙ grammar.inodes.past (suc n) past ∙ sym free_bytes) (free_kind s.inodes (suc n) many (inr past))
 ]
 
 -- what hangs from an inode at a number: it is the number's own, or the number is 0 and nothing hangs from it
@@ -301,10 +303,10 @@ module _ (disk : Blocks) (r : Root) (i n : ℕ) (old new : List ℕ) (before aft
     | inr one ↦ absurd (no_some (sym (kept t.plane one.0 one.1) ∙ none))
   ]
 
-  pub seen_more : (f : Option Fault) → IsInodeAt r.geometry n (inode_bytes_at (file_block (tree_in (whole disk r) t.plane 0)) n) → IsFileGrammar r.geometry (held disk inode)
-      → ((fault : Fault) → f ≡ Some fault → IsTreeFinding r (tree_in (whole disk r) t.plane) fault) → (f ≡ None → (t.fault ≡ None) × IsMappedAs n inode.kind t.numbers.items)
+  pub seen_more : (f : Option Fault) → IsInodeAt VERSION r.geometry n (inode_bytes_at (file_block (tree_in (whole disk r) t.plane 0)) n) → inode.size ≤ greatest_size r.version
+      → IsFileGrammar r.geometry (held disk inode) → ((fault : Fault) → f ≡ Some fault → IsTreeFinding r (tree_in (whole disk r) t.plane) fault) → (f ≡ None → (t.fault ≡ None) × IsMappedAs n inode.kind t.numbers.items)
       → IsSeenTo disk r i (n + 1) new after (record t { fault = f })
-  seen_more f spelled grammar finds mapped =
+  seen_more f spelled small grammar finds mapped =
       let inodes = was.inodes inside in
       record {
         tree = tree_again disk r t f was.tree;
@@ -315,8 +317,13 @@ module _ (disk : Blocks) (r : Root) (i n : ℕ) (old new : List ℕ) (before aft
             | inl less ↦ inodes.files m less
             | inr here ↦ subst (IsFileGrammar r.geometry) (sym (at disk (tree_in (whole disk r) t.plane) n t.plane inode is m here)) grammar
           ];
+          within = λ m low. elim (split n m low) [
+            | inl less ↦ inodes.within m less
+            | inr here ↦ subst (λ (h : Held). h.inode.size ≤ greatest_size r.version) (sym (at disk (tree_in (whole disk r) t.plane) n t.plane inode is m here))
+                (subst (λ (i : Inode). i.size ≤ greatest_size r.version) (sym (held_inode disk inode)) small)
+          ];
           spelled = λ m lt. let most : m ≤ n = omega (arith, lt) in elim (eq-or-lt_of_le most) [
-            | inl same ↦ subst (λ (l : ℕ). IsInodeAt r.geometry l (inode_bytes_at (file_block (tree_in (whole disk r) t.plane 0)) l)) (sym same) spelled
+            | inl same ↦ subst (λ (l : ℕ). IsInodeAt VERSION r.geometry l (inode_bytes_at (file_block (tree_in (whole disk r) t.plane 0)) l)) (sym same) spelled
             | inr less ↦ inodes.spelled m less
           ];
           behind = inodes.behind;

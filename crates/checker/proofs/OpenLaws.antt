@@ -1,20 +1,24 @@
 -- A tree as it is opened: the blocks of its inode file are marked, and its maps are read.
-use Rattle.std.proofs.Common.{◌≡◌, ◌∙◌, ℕ, ◌*◌, ◌/◌, ◌%◌, ◌^◌, ◌≤◌, List, length, slice_index, refl, ap, sym, subst, arith, inl, inr, Err}
+use Rattle.std.proofs.Common.{Bool, true, false, if◌then◌else◌, ◌==◌, ◌≡◌, ◌∙◌, ℕ, ◌*◌, ◌/◌, ◌%◌, ◌^◌, ◌≤◌, List, length, slice_index, refl, ap, sym, subst, arith, inl, inr, Err}
 use Rattle.std.specs.Prelude.{Option, Some, None, slice_index_or}
 use Rattle.std.specs.Int.{div_ceil}
 use Rattle.std.proofs.Math.Nat.{zero-div}
 use Rattle.std.proofs.lemmas.Bool.{cases_lt}
 use Rattle.std.proofs.lemmas.List.{get_or_past}
 use Rattle.layout.specs.FileBytes.{EndsAt, byte_in, first_bytes}
-use Rattle.layout.specs.Inode.{FitsBody}
+use Rattle.layout.specs.Inode.{FitsBody, FitsKind, IsInode}
 use Rattle.layout.specs.Limits.{AreSizes, Sizes}
 use Rattle.layout.specs.Maps.{IsInodeMap, IsTaken}
 use Rattle.layout.specs.Places.{Blocks}
+use Rattle.layout.specs.Version.{greatest_size}
 use Rattle.layout.proofs.SizeLaws.{level_none}
 use Rattle.layout.specs.declared.inode.Body.{Body}
 use Rattle.layout.specs.declared.inode.Body.TheVariants.{Inline, Pointers}
 use Rattle.layout.specs.declared.inode.Inode.{Inode}
+use Rattle.layout.specs.declared.kind.Kind.{Kind}
+use Rattle.layout.specs.declared.kind.Kind.TheVariants.{InodeFile}
 use Rattle.layout.specs.declared.root.Root.{Root}
+use Rattle.layout.specs.declared.version.TheConstants.{VERSION}
 use Rattle.images.specs.BlockMap.{HasBit}
 use Rattle.images.specs.Contents.{content_bytes, content_of}
 use Rattle.images.specs.Faults.{IsMapGrammar, IsTreeGrammar, MapsWithin}
@@ -49,7 +53,7 @@ pub mark_failed : {T : Type 0} (Is : T → Type 0) (r : Root) (t : HeldTree) (di
 mark_failed Is r t disk s top bits old new before after halts.NoMemory told grammar = tt
 mark_failed Is r t disk s top bits old new before after halts.Device told grammar = tt
 mark_failed Is r t disk s top bits old new before after (halts.Fault fault) told grammar =
-    subst (TellsOut r t) (sym told.2) (tt, (λ is. told.0 (grammar is)))
+    subst (TellsOut r t) (sym told.2) (tt, (λ is within. told.0 (grammar is)))
 
 first_alone : (m : ℕ) → IsBefore 0 m → m ≡ 0
 first_alone m (inl is) = is
@@ -87,9 +91,25 @@ module _ (t : HeldTree) (h : Held) (k : ℕ) (old new : List ℕ) (before after 
         }
       ]
 
-pub top_inodes : (s : Sizes) (t : HeldTree) (h : Held) → t 0 ≡ h → IsFileGrammar s h → HasInodes s t 0 0
-top_inodes s t h is grammar = record {
+least_of : (first : Bool) → 67108864 ≤ (if first then 67108864 else 68719476736)
+least_of true = omega arith
+least_of false = omega arith
+
+-- what each version allows at the least
+least : (version : ℕ) → 67108864 ≤ greatest_size version
+least version = least_of (version == 1)
+
+-- an inode file is small in each version
+pub top_small : (version : ℕ) (s : Sizes) (d : Blocks) (top : Inode) → AreSizes s → IsInode VERSION s top → top.kind ≡ InodeFile → (held d top).inode.size ≤ greatest_size version
+unfolding held
+top_small version s d top are fits kind =
+    let size : top.size ≡ 4096 * div_ceil s.inodes 21 = (subst (λ (k : Kind). FitsKind k s top.mode top.links top.size) kind fits.kind).2 in
+    omega (arith, size, are.most_inodes, least version)
+
+pub top_inodes : (version : ℕ) (s : Sizes) (t : HeldTree) (h : Held) → t 0 ≡ h → IsFileGrammar s h → h.inode.size ≤ greatest_size version → HasInodes version s t 0 0
+top_inodes version s t h is grammar small = record {
   files = λ m first. subst (IsFileGrammar s) (sym (ap t (first_alone m first) ∙ is)) grammar;
+  within = λ m first. subst (λ (x : Held). x.inode.size ≤ greatest_size version) (sym (ap t (first_alone m first) ∙ is)) small;
   spelled = λ m lt. absurd (omega (arith, lt));
   behind = λ i lt. absurd (omega (arith, lt));
 }

@@ -4,6 +4,7 @@ use Rattle.std.specs.Prelude.{◌⊎◌, nat_le, if◌then◌else◌, Option, So
 use Rattle.layout.specs.Places.{Blocks}
 use Rattle.layout.specs.declared.root.Root.{Root}
 use Rattle.images.specs.Faults.{IsTreeGrammar}
+use Rattle.images.specs.Soundness.{IsWithin}
 use Rattle.images.specs.Roots.{HeldTree, whole}
 use Rattle.checker.specs.Findings.{IsTreeFinding, fault_number, first_fault, tree_in}
 use Rattle.checker.specs.Trees.{IsOut, IsSeenTo, IsTreeOf}
@@ -88,7 +89,7 @@ module _ (disk : Blocks) (r : Root) (i n j m : ℕ) (old new : List ℕ) (before
   }
 
   -- a tree whose grammar isn't kept
-  pub seen_added : (found : TreeFault) → (IsTreeGrammar r.geometry (tree_in (whole disk r) t.plane) → ⊥)
+  pub seen_added : (found : TreeFault) → (IsTreeGrammar r.geometry (tree_in (whole disk r) t.plane) → IsWithin r.version (tree_in (whole disk r) t.plane) → ⊥)
       → IsSeenTo disk r j m new after (record t { fault = Some (first_fault t.fault (faults.Tree found)) })
   seen_added found broken =
       let out : IsOut (Some (first_fault t.fault (faults.Tree found))) = added_out r (tree_in (whole disk r) t.plane) t.fault found is.fault in

@@ -8,6 +8,7 @@ use Rattle.layout.specs.SnapRoot.{Snapshot, IsSnapshot, snapshot_bytes, snapshot
 use Rattle.layout.specs.declared.pointer.Pointer.{Pointer}
 use Rattle.layout.specs.declared.pointer.Pointer.TheVariants.{Hole, Block}
 use Rattle.layout.specs.declared.root.Root.{Root}
+use Rattle.layout.specs.declared.version.TheConstants.{SNAPSHOT_SLOTS}
 use Rattle.buffers.specs.Disks.{IsWhole}
 use Rattle.images.specs.Roots.{frozen_inode_file, slot, whole}
 use Rattle.images.specs.Snapshots.{AreSnapshots, FitsRoot, HasSnapshot}
@@ -38,11 +39,11 @@ apart_unread disk (Block a) (Block b) broken = λ s q one two first second.
     absurd (broken (ap length first ∙ length-snapshot s one) (ap length second ∙ length-snapshot q two))
 
 -- all slots are told to be without a fault
-module _ (disk : Blocks) (r : Root) (count : length r.snapshots ≡ 20)
+module _ (disk : Blocks) (r : Root) (count : length r.snapshots ≡ SNAPSHOT_SLOTS)
     (spells : (v : Snapshot) → IsSnapshot v → (snapshot_in (snapshot_bytes v) ≡ Some v) × (frozen_inode_file (snapshot_bytes v) ≡ v.inode_file))
-    (told : (j : ℕ) → j < 20 → TellsSlot disk r j None) where
-  within : (k b : ℕ) → slice_index_or r.snapshots k Hole ≡ Block b → k < 20
-  within k b is = elim (cases_lt k 20) [
+    (told : (j : ℕ) → j < SNAPSHOT_SLOTS → TellsSlot disk r j None) where
+  within : (k b : ℕ) → slice_index_or r.snapshots k Hole ≡ Block b → k < SNAPSHOT_SLOTS
+  within k b is = elim (cases_lt k SNAPSHOT_SLOTS) [
     | inl low ↦ low
     | inr past ↦ (let none : Hole ≡ Block b = sym (get_or_past r.snapshots k Hole (omega (arith, past, count))) ∙ is in absurd (cc))
   ]

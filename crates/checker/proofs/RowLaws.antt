@@ -240,6 +240,7 @@ ends_seen disk r i marks shared old new rows kept ends are seen =
       maps = known.maps;
       inodes = λ _. record {
         files = (known.inodes inside).files;
+        within = (known.inodes inside).within;
         spelled = (known.inodes inside).spelled;
         behind = λ j lt. let most : j ≤ i = omega (arith, lt) in elim (eq-or-lt_of_le most) [
           | inl same ↦ subst (λ (n : ℕ). drop 4032 (file_block (tree_in (whole disk r) t.plane 0) n) ≡ zeros 64) (sym same) zero
@@ -272,4 +273,4 @@ ends_seen disk r i marks shared old new rows kept ends are seen =
     end l t q was known same (inr more) (inr inside) =
         subst (IsSeenTo disk r (i + 1) (21 * (i + 1)) marks shared) (sym (again t q (Some (first_fault t.fault (faults.Tree (InodeBlock i)))) same more.1))
         (seen_added disk r i (21 * i + 21) (i + 1) (21 * (i + 1)) marks marks shared shared t known (InodeBlock i)
-        (λ grammar. more.0 (ap (drop 4032) (row_is l t was inside) ∙ grammar.inodes.behind i)))
+        (λ grammar within. more.0 (ap (drop 4032) (row_is l t was inside) ∙ grammar.inodes.behind i)))

@@ -1,5 +1,5 @@
 -- The names of a directory that were seen.
-use Rattle.std.proofs.Common.{Equal, Less, ◌≡◌, ◌≢◌, ◌∙◌, ◌⊎◌, inl, inr, ℕ, ◌+◌, ◌-◌, ◌<◌, ◌≤◌, List, ◌++◌, ◌∷◌, [], Bool, true, false, if◌then◌else◌, not, Option, Some, None, Result, Ok, Err, is_some, bytes_eq, get_or, length, take, drop, refl, sym, ap, subst, arith, length-append, length-drop, take_all}
+use Rattle.std.proofs.Common.{Equal, Less, ◌≡◌, ◌≢◌, ◌∙◌, ◌⊎◌, inl, inr, ℕ, ◌+◌, ◌-◌, List, ◌++◌, ◌∷◌, [], Bool, true, false, if◌then◌else◌, not, Option, Some, None, Result, Ok, Err, is_some, bytes_eq, length, take, drop, refl, sym, ap, subst, arith, length-append, length-drop, take_all}
 use Rattle.std.specs.Prelude.{◌↔◌, All, IfOk, slice_get}
 use Rattle.std.specs.BTreeMap.{is_at}
 use Rattle.std.specs.BTreeSet.{BTreeSet, contains}

@@ -1,28 +1,19 @@
 -- The steps of a walk through directories.
-use Rattle.std.proofs.Common.{◌≡◌, ◌≢◌, ◌∙◌, inl, inr, ℕ, zero, suc, ◌+◌, ◌/◌, ◌<◌, ◌≤◌, if◌then◌else◌, get_or, List, [], ◌∷◌, length, Bool, not, true, false, Option, Some, None, is_some, Result, Ok, Err, bytes_eq, refl, sym, ap, subst, arith}
+use Rattle.std.proofs.Common.{◌≡◌, ◌≢◌, ◌∙◌, inl, inr, ℕ, zero, suc, ◌+◌, ◌/◌, ◌<◌, ◌≤◌, get_or, List, [], ◌∷◌, length, true, Option, Some, None, is_some, Result, Ok, Err, refl, sym, ap, subst, arith}
 use Rattle.std.specs.Prelude.{◌%◌, slice_get}
 use Rattle.std.specs.Int.{div_ceil}
-use Rattle.std.specs.List.{list_any}
-use Rattle.std.specs.BTreeMap.{is_at}
-use Rattle.std.specs.BTreeSet.{BTreeSet, contains}
-use Rattle.std.specs.Cmp.Lexicographic.{slice_cmp}
-use Rattle.std.specs.Ordering.{nat_cmp}
 use Rattle.std.specs.Result.{IsErrAnd}
-use Rattle.std.proofs.lemmas.Bool.{cases_eq, cond-true, cond-false, false_from_ne_true, false≢true}
-use Rattle.std.proofs.lemmas.Map.Text.{is_eq-slice_cmp}
+use Rattle.std.proofs.lemmas.Bool.{cases_eq, false≢true}
 use Rattle.std.proofs.lemmas.Option.{slice_get-get_or, slice_get_read, slice_get_within}
-use Rattle.std.proofs.lemmas.Slice.Eq.{bytes_eq-Decides}
 use Rattle.layout.specs.Inode.{FitsKind}
 use Rattle.layout.specs.Limits.{Sizes}
 use Rattle.layout.specs.declared.TheConstants.{BLOCK_BYTES}
 use Rattle.layout.specs.declared.kind.Kind.{Kind}
 use Rattle.layout.specs.declared.kind.Kind.TheVariants as kinds
 use Rattle.model.specs.Paths.{Name, Path}
-use Rattle.model.specs.Volumes.{Entries, HasNames, number_at, with_edge}
+use Rattle.model.specs.Volumes.{Entries, HasNames, number_at}
 use Rattle.model.specs.declared.limits.TheConstants.{ROOT_NUMBER}
-use Rattle.model.proofs.ListingLemmas.{names_apart}
 use Rattle.model.proofs.OptionLaws.{none_some, some_same}
-use Rattle.model.proofs.WalkLemmas.{edge_here, edge_other}
 use Rattle.images.specs.Contents.{IsDirectoryOf, content_of}
 use Rattle.layout.specs.Places.{Blocks}
 use Rattle.layout.specs.declared.inode.Inode.{Inode}

@@ -6,8 +6,6 @@ use Rattle.std.proofs.lemmas.List.{get_or-drop, get_or-take, get_or_append_left}
 use Rattle.std.proofs.Math.Seq.{get_or-append_right}
 use Rattle.std.proofs.lemmas.Option.{get_or_from_slice_get, slice_get-get_or, slice_get_within}
 use Rattle.layout.specs.Bytes.{zeros}
-use Rattle.layout.specs.Inode.{inode_bytes}
-use Rattle.layout.specs.Limits.{Sizes}
 use Rattle.layout.specs.Places.{Blocks, pointed}
 use Rattle.layout.specs.declared.pointer.Pointer.{Pointer}
 use Rattle.layout.specs.declared.pointer.Pointer.TheVariants.{Hole}

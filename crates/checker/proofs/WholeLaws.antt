@@ -10,7 +10,7 @@ use Rattle.layout.specs.Limits.{AreSizes, Sizes}
 use Rattle.layout.specs.Maps.{IsTaken}
 use Rattle.layout.specs.Places.{Blocks, place, pointed}
 use Rattle.layout.specs.Root.{IsRoot}
-use Rattle.layout.specs.Version.{level_of}
+use Rattle.layout.specs.Version.{greatest_size, level_of}
 use Rattle.layout.specs.declared.inode.Body.{Body}
 use Rattle.layout.specs.declared.inode.Body.TheVariants.{Inline, Pointers}
 use Rattle.layout.specs.declared.inode.Inode.{Inode}
@@ -24,7 +24,7 @@ use Rattle.images.specs.BlockMap.{HasBit, NamesOnce}
 use Rattle.images.specs.Faults.{IsTreeGrammar, MapsWithin}
 use Rattle.images.specs.Nodes.{Held, Names, file_block, held}
 use Rattle.images.specs.Roots.{HeldTree, Reach, free_inode, frozen_at, frozen_inode_file, inode_bytes_at, inode_part, inode_under, tree, whole}
-use Rattle.images.specs.Soundness.{Detail, FitsNumber, IsFileGrammar, IsHeldFile, MapsNumbers, by_sizes}
+use Rattle.images.specs.Soundness.{Detail, FitsNumber, IsFileGrammar, IsHeldFile, IsWithin, MapsNumbers, by_sizes}
 use Rattle.images.proofs.EmptyLaws.{behind_zeros, free_bytes, free_fits, free_named, part_zeros}
 use Rattle.loading.specs.InodeBlocks.{IsInodeAt}
 use Rattle.loading.specs.Laws.{EndTrees, SpellTrees}
@@ -135,7 +135,7 @@ module _ (disk : Blocks) (s : Sizes) (are : AreSizes s) (top : Inode) (t : HeldT
     bytes = tt;
   }
 
-  module _ (numbers : List ℕ) (maps : HasMaps s t numbers) (inodes : HasInodes s t (div_ceil s.inodes 21) (21 * div_ceil s.inodes 21)) where
+  module _ (version : ℕ) (numbers : List ℕ) (maps : HasMaps s t numbers) (inodes : HasInodes version s t (div_ceil s.inodes 21) (21 * div_ceil s.inodes 21)) where
     most : s.inodes ≤ 21 * div_ceil s.inodes 21
     most = omega arith
 
@@ -145,7 +145,7 @@ module _ (disk : Blocks) (s : Sizes) (are : AreSizes s) (top : Inode) (t : HeldT
       | inr le ↦ subst (IsFileGrammar s) (sym (past n le)) free_grammar
     ]
 
-    at : (n : ℕ) → n < s.inodes → IsInodeAt s n (inode_bytes_at (file_block (t 0)) n)
+    at : (n : ℕ) → n < s.inodes → IsInodeAt VERSION s n (inode_bytes_at (file_block (t 0)) n)
     at n low = inodes.spelled n (omega (arith, most, low))
 
     own : (n : ℕ) (some : 1 ≤ n) (low : n < s.inodes) → (t n).inode ≡ (at n low).inode
@@ -196,6 +196,12 @@ module _ (disk : Blocks) (s : Sizes) (are : AreSizes s) (top : Inode) (t : HeldT
       readable = maps.readable (files 1);
       numbers = subst (MapsWithin s.inodes) (maps.bytes_are (files 1)) maps.within;
     }
+
+    pub within_all : IsWithin version t
+    within_all n = elim (cases_lt n s.inodes) [
+      | inl low ↦ inodes.within n (before n (21 * div_ceil s.inodes 21) most low)
+      | inr le ↦ subst (λ (i : Inode). i.size ≤ greatest_size version) (sym (ap (λ (h : Held). h.inode) (past n le) ∙ inode_is free_inode)) (omega arith)
+    ]
 
     pub mapped_all : AreMapped t numbers (21 * div_ceil s.inodes 21) → MapsNumbers t
     mapped_all mapped n =
@@ -257,7 +263,12 @@ module _ (disk : Blocks) (r : Root) (is_root : IsRoot r) (spells : SpellTrees) (
   pub grammar_seen : (IsOut t.fault → ⊥) → IsTreeGrammar r.geometry (tree_in (whole disk r) t.plane)
   grammar_seen whole_tree =
       grammar_all disk r.geometry is_root.head.sizes top_of (tree_in (whole disk r) t.plane) is_under spells ends led inline (subst (IsInode VERSION r.geometry) top_is seen.tree.fits)
-      (ap (λ (i : Inode). i.kind) (sym top_is) ∙ seen.tree.kind) t.numbers.items (seen.maps whole_tree) (seen.inodes whole_tree)
+      (ap (λ (i : Inode). i.kind) (sym top_is) ∙ seen.tree.kind) r.version t.numbers.items (seen.maps whole_tree) (seen.inodes whole_tree)
+
+  pub within_seen : (IsOut t.fault → ⊥) → IsWithin r.version (tree_in (whole disk r) t.plane)
+  within_seen whole_tree =
+      within_all disk r.geometry is_root.head.sizes top_of (tree_in (whole disk r) t.plane) is_under spells ends led inline (subst (IsInode VERSION r.geometry) top_is seen.tree.fits)
+      (ap (λ (i : Inode). i.kind) (sym top_is) ∙ seen.tree.kind) r.version t.numbers.items (seen.maps whole_tree) (seen.inodes whole_tree)
 
   -- it is seen, with this fault
   pub seen_with : (f : Option Fault) → HasFaultOrNone disk r (record t { fault = f }) → ((IsOut f → ⊥) → IsOut t.fault → ⊥) → (IsApart f → SharesNone shared t.plane) → (f ≡ None → t.fault ≡ None)
@@ -272,9 +283,10 @@ module _ (disk : Blocks) (r : Root) (is_root : IsRoot r) (spells : SpellTrees) (
         tree = record { has = seen.tree.has; named = seen.tree.named; top = seen.tree.top; fits = seen.tree.fits; kind = seen.tree.kind; file = seen.tree.file };
         fault = found;
         grammar = λ is. grammar_seen (out is);
+        within = λ is. within_seen (out is);
         once = λ is. once_all disk r.geometry sizes top_of under is_under spells ends led inline fits kind (21 * div_ceil r.geometry.inodes 21) t.plane marks few (marked is);
         marked = λ is. reach_all disk r.geometry sizes top_of under is_under spells ends led inline fits kind (21 * div_ceil r.geometry.inodes 21) t.plane marks few (marked is);
         mapped = λ is.
             let whole_tree = λ (is_out : IsOut t.fault). subst IsOut (none is) is_out in
-            mapped_all disk r.geometry sizes top_of under is_under spells ends led inline fits kind t.numbers.items (seen.maps whole_tree) (seen.inodes whole_tree) (seen.mapped (none is));
+            mapped_all disk r.geometry sizes top_of under is_under spells ends led inline fits kind r.version t.numbers.items (seen.maps whole_tree) (seen.inodes whole_tree) (seen.mapped (none is));
       }

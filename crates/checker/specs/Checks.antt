@@ -10,7 +10,7 @@ use Rattle.images.specs.BlockMap.{IsExact}
 use Rattle.images.specs.Faults.{HasRoots, IsFaultless, IsFaultlessUnder}
 use Rattle.images.specs.Room.{free_under}
 use Rattle.images.specs.Roots.{Whole, whole}
-use Rattle.images.specs.Soundness.{IsReadable}
+use Rattle.images.specs.Soundness.{IsReadable, IsWithin}
 use Rattle.checker.specs.Findings.{HasTree, IsFinding, IsFindingUnder, tree_in}
 use Rattle.checker.specs.declared.error.Halt.{Halt}
 use Rattle.checker.specs.declared.error.Halt.TheVariants as halts
@@ -77,9 +77,11 @@ pub record IsFaultlessBy (r : Root) (w : Whole) (nvram : List ℕ) (s : Summary)
   pub under : IsFaultlessUnder r w nvram changes
   pub figures : TellsSummary r w changes s
 
--- no fault stands in the trees of a root and in its block map, which can be read and has so many free blocks
+-- no fault stands in the trees of a root, whose files are no larger than its version allows, and in its block map, which can be read and
+-- has so many free blocks
 pub record AreFaultless (r : Root) (w : Whole) (free : ℕ) : Type 0 where
   pub trees : (k : ℕ) → HasTree r k → IsFaultless r.geometry (tree_in w k)
+  pub within : (k : ℕ) → HasTree r k → IsWithin r.version (tree_in w k)
   pub readable : IsReadable (w.active 2)
   pub exact : IsExact r w
   pub free_is : free ≡ free_under w.active r.geometry.blocks

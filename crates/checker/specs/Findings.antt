@@ -12,7 +12,7 @@ use Rattle.images.specs.Contents.{HoldsVolume, content_bytes, content_of, tree_c
 use Rattle.images.specs.Faults.{HasLog, HasRoots, HoldsNames, IsTreeGrammar}
 use Rattle.images.specs.Roots.{HeldTree, Reach, Whole, slot, whole}
 use Rattle.images.specs.Snapshots.{AreSnapshots}
-use Rattle.images.specs.Soundness.{IsReadable}
+use Rattle.images.specs.Soundness.{IsReadable, IsWithin}
 use Rattle.checker.specs.declared.fault.Fault.{Fault}
 use Rattle.checker.specs.declared.fault.Fault.TheVariants as faults
 use Rattle.checker.specs.declared.fault.FileNode.{FileNode}
@@ -70,7 +70,7 @@ pub record ShouldHave (r : Root) (w : Whole) (block bits : ℕ) : Type 0 where
 
 -- a fault that stands in one tree
 abbrev pub IsTreeFinding : Root → HeldTree → Fault → Type 0
-IsTreeFinding r t (faults.Tree found) = IsTreeGrammar r.geometry t → ⊥
+IsTreeFinding r t (faults.Tree found) = IsTreeGrammar r.geometry t → IsWithin r.version t → ⊥
 IsTreeFinding r t (faults.Shared block first second) = StandsIn t first block × StandsIn t second block × (first ≢ second)
 IsTreeFinding r t (faults.InodeMap number is_taken) =
     (IsTaken (content_bytes (content_of (t 1))) number ↔ IsTrue is_taken)

@@ -5,6 +5,7 @@ use Rattle.layout.specs.Inode.{IsInode}
 use Rattle.layout.specs.Maps.{IsTaken}
 use Rattle.layout.specs.Places.{Blocks}
 use Rattle.layout.specs.Limits.{Sizes}
+use Rattle.layout.specs.Version.{greatest_size}
 use Rattle.layout.specs.declared.TheConstants.{BLOCK_BYTES, INODE_BYTES, INODES_PER_BLOCK}
 use Rattle.layout.specs.declared.kind.Kind.TheVariants.{Free, InodeFile}
 use Rattle.layout.specs.SnapRoot.{IsSnapshot, Snapshot, snapshot_bytes}
@@ -19,7 +20,7 @@ use Rattle.images.specs.Contents.{content_bytes, content_of}
 use Rattle.images.specs.Faults.{IsMapGrammar, IsTreeGrammar, MapsWithin}
 use Rattle.images.specs.Nodes.{Held, IsOnce, Names, file_block}
 use Rattle.images.specs.Roots.{HeldTree, Reach, frozen_inode_file, inode_bytes_at, whole}
-use Rattle.images.specs.Soundness.{IsFileGrammar, IsReadable, MapsNumbers}
+use Rattle.images.specs.Soundness.{IsFileGrammar, IsReadable, IsWithin, MapsNumbers}
 use Rattle.loading.specs.Images.{IsFileOfInode}
 use Rattle.loading.specs.InodeBlocks.{IsInodeAt}
 use Rattle.loading.specs.Snapshots.{AreApartAt, IsSnapshotAt}
@@ -82,11 +83,12 @@ pub record HasMaps (s : Sizes) (t : HeldTree) (numbers : List ℕ) : Type 0 wher
 abbrev pub IsBefore : ℕ → ℕ → Type 0
 IsBefore places m = (m ≡ 0) ⊎ (m < places)
 
--- the first so many places of a tree's inode file are inodes in their grammar, with the indirect blocks over their files; behind those
--- of the first so many of its blocks zeros stand
-pub record HasInodes (s : Sizes) (t : HeldTree) (blocks places : ℕ) : Type 0 where
+-- the first so many places of a tree's inode file are inodes in their grammar, with the indirect blocks over their files, and these are
+-- no larger than a version allows; behind those of the first so many of its blocks zeros stand
+pub record HasInodes (version : ℕ) (s : Sizes) (t : HeldTree) (blocks places : ℕ) : Type 0 where
   pub files : (m : ℕ) → IsBefore places m → IsFileGrammar s (t m)
-  pub spelled : (m : ℕ) → m < places → IsInodeAt s m (inode_bytes_at (file_block (t 0)) m)
+  pub within : (m : ℕ) → IsBefore places m → (t m).inode.size ≤ greatest_size version
+  pub spelled : (m : ℕ) → m < places → IsInodeAt VERSION s m (inode_bytes_at (file_block (t 0)) m)
   pub behind : (i : ℕ) → i < blocks
       → drop (INODE_BYTES * INODES_PER_BLOCK) (file_block (t 0) i)
       ≡ zeros (BLOCK_BYTES - INODE_BYTES * INODES_PER_BLOCK)
@@ -108,7 +110,7 @@ pub record IsSeenTo (disk : Blocks) (r : Root) (blocks places : ℕ) (marks : Li
   pub tree : IsTreeOf disk r t
   pub fault : HasFaultOrNone disk r t
   pub maps : (IsOut t.fault → ⊥) → HasMaps r.geometry (tree_in (whole disk r) t.plane) t.numbers.items
-  pub inodes : (IsOut t.fault → ⊥) → HasInodes r.geometry (tree_in (whole disk r) t.plane) blocks places
+  pub inodes : (IsOut t.fault → ⊥) → HasInodes r.version r.geometry (tree_in (whole disk r) t.plane) blocks places
   pub marked : (IsOut t.fault → ⊥) → SharesNone shared t.plane
       → HasMarked (tree_in (whole disk r) t.plane) places t.plane marks
   pub shared_is : (IsOut t.fault → ⊥) → (s : Shared) → slice_index_or shared t.plane None ≡ Some s
@@ -135,6 +137,7 @@ pub record IsSeen (disk : Blocks) (r : Root) (marks : List ℕ) (t : Tree) : Typ
   pub tree : IsTreeOf disk r t
   pub fault : HasFaultOrNone disk r t
   pub grammar : (IsOut t.fault → ⊥) → IsTreeGrammar r.geometry (tree_in (whole disk r) t.plane)
+  pub within : (IsOut t.fault → ⊥) → IsWithin r.version (tree_in (whole disk r) t.plane)
   pub once : IsApart t.fault → NamesOnce (tree_in (whole disk r) t.plane)
   pub marked : IsApart t.fault → (b : ℕ) → HasBit t.plane (slice_index marks b) ↔ Reach (tree_in (whole disk r) t.plane) b
   pub mapped : t.fault ≡ None → MapsNumbers (tree_in (whole disk r) t.plane)
@@ -155,7 +158,7 @@ TellsSnapshot disk (Block b) (Some inode) = frozen_inode_file (disk b) ≡ inode
 -- a tree's inode file and maps were read
 pub record IsOpened (disk : Blocks) (r : Root) (marks : List ℕ) (shared : List (Option Shared)) (t : Tree) : Type 0 where
   pub maps : HasMaps r.geometry (tree_in (whole disk r) t.plane) t.numbers.items
-  pub inodes : HasInodes r.geometry (tree_in (whole disk r) t.plane) 0 0
+  pub inodes : HasInodes r.version r.geometry (tree_in (whole disk r) t.plane) 0 0
   pub marked : SharesNone shared t.plane → HasMarked (tree_in (whole disk r) t.plane) 0 t.plane marks
   pub shared_is : (s : Shared) → slice_index_or shared t.plane None ≡ Some s
       → SharesBlock (tree_in (whole disk r) t.plane) s

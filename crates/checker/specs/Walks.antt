@@ -1,7 +1,7 @@
 -- Directories as they are looked into, entry by entry.
-use Rattle.std.specs.Prelude.{ℕ, ◌≡◌, ◌≢◌, ◌+◌, ◌≤◌, ◌==◌, if◌then◌else◌, List, [], length, slice_get, sum_by, Some, None, is_some}
+use Rattle.std.specs.Prelude.{ℕ, ◌≡◌, ◌≢◌, ◌+◌, ◌≤◌, ◌==◌, if◌then◌else◌, List, [], length, slice_get, sum_by, Some, None}
 use Rattle.layout.specs.Directory.{HoldsEntries, Named}
-use Rattle.layout.specs.DirectoryNames.{AllHold, AreNames, HasEachOnce, NameMap, number_of}
+use Rattle.layout.specs.DirectoryNames.{AllHold, AreNames, HasEachOnce, number_of}
 use Rattle.layout.specs.Limits.{Sizes}
 use Rattle.layout.specs.Places.{Blocks}
 use Rattle.layout.specs.Root.{IsRoot}

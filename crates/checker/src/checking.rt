@@ -11,6 +11,7 @@ ghost use Rattle.layout.specs.declared.root.Root.{Root};
 ghost use Rattle.model.specs.States.{State};
 ghost use Rattle.buffers.specs.Disks.{ReadsOn, ShowsDisk};
 ghost use Rattle.images.specs.Faults.{IsFaultless};
+ghost use Rattle.images.specs.Soundness.{IsWithin};
 ghost use Rattle.images.specs.Roots.{whole};
 ghost use Rattle.images.specs.Snapshots.{AreSnapshots};
 ghost use Rattle.images.specs.States.{Opens};
@@ -222,7 +223,8 @@ fn check_trees<B: LetsGo, W: Watch>(
         → OnOk result (AreFindings root.now (whole disk root.now) nvram findings.new.first) }
     ensures newest { (disk : ℕ → List ℕ) → B.Shows blocks.old disk
         → AreSnapshots root.now (whole disk root.now) → IfOk result (λ t. IsTrue t.0
-        → IsFaultless root.now.geometry (whole disk root.now).active) }
+        → IsFaultless root.now.geometry (whole disk root.now).active
+        × IsWithin root.now.version (whole disk root.now).active) }
     ensures told { IfOk result (λ t. findings.new.first ≡ None → IsTrue t.0) }
     ensures faultless { (disk : ℕ → List ℕ) → B.Shows blocks.old disk
         → AreSnapshots root.now (whole disk root.now)
@@ -233,7 +235,7 @@ fn check_trees<B: LetsGo, W: Watch>(
     let mut marks = Marks::new(alloc, geometry.blocks())?;
     let mut shared = SharedBlocks::none(alloc)?;
     let mut trees = open_trees(alloc, blocks, root, &mut marks, &mut shared)?;
-    check_numbers(alloc, blocks, geometry, &mut trees, &mut marks, &mut shared)?;
+    check_numbers(alloc, blocks, root, &mut trees, &mut marks, &mut shared)?;
     let are_apart = check_each(alloc, blocks, geometry, &mut trees, &shared, findings)?;
     mark_system(root, &mut marks);
     let is_faultless = trees[0].fault.is_none();

@@ -1,16 +1,14 @@
 //! Blocks that may be let go of.
 
-ghost use Rattle.std.specs.Prelude.{◌≡◌, ◌+◌, ◌*◌, ◌^◌, ◌<◌, ◌≤◌, ℕ, List, IfErr, IfOk, IsErrOf, IsFalse, IsTrue, OnOk, length};
-ghost use Rattle.layout.specs.Places.{blocks_of};
-ghost use Rattle.layout.specs.declared.TheConstants.{BLOCK_BYTES};
+ghost use Rattle.std.specs.Prelude.{◌≡◌, ◌<◌, ◌≤◌, ℕ, List, IfOk, IsErrOf, IsFalse, IsTrue, OnOk};
 ghost use Rattle.layout.specs.Pointer.{PointsBelow};
-ghost use Rattle.station.specs.Moments.{HasGrown, MayGrow, Shows};
-ghost use Rattle.buffers.specs.Disks.{IsBlock, IsWhole, ReadsOn};
+ghost use Rattle.station.specs.Moments.{HasGrown, MayGrow};
+ghost use Rattle.buffers.specs.Disks.{IsWhole};
 ghost use Rattle.checker.specs.Errors.{IsFault, Looks};
 
 use crate::CheckError;
-use buffers::{Block, Blocks, BufferError, Buffers};
-use layout::{BLOCK_BYTES, BlockNumber, Pointer, SECTOR_BYTES};
+use buffers::{Block, Blocks, BufferError, Buffers, read_sectors};
+use layout::{BlockNumber, Pointer};
 use station::Station;
 
 /// Blocks of a disk that are let go of, so that no more are kept than are needed at once.
@@ -52,45 +50,6 @@ impl<S: Station> LetsGo for Buffers<S> {
     }
 
     ghost grows = { λ s t reads. reads.reads };
-}
-
-/// Reads a block. `Damaged` where a sector of it can't be read.
-fn read_sectors<S: Station>(
-    station: &mut S,
-    place: u32,
-    block: &mut Block,
-) -> Result<(), BufferError>
-    requires within { 8 * place + 8 ≤ (S.meaning station.old).sectors }
-    requires fits { 8 * place + 8 < 2 ^ 32 }
-    ensures reads { ReadsOn (S.meaning station.old) (S.meaning station.new) }
-    ensures counted { OnOk result
-        ((S.meaning station.new).failed_reads ≡ (S.meaning station.old).failed_reads) }
-    ensures device { IfErr result (λ e. e ≡ BufferError.Device
-        → HasGrown (S.meaning station.old).failed_reads (S.meaning station.new).failed_reads) }
-    ensures block { (S.meaning station.old).is_honest
-        → OnOk result (IsBlock (S.meaning station.old).seen.disk place block.new) }
-    ensures damaged { IsErrOf result BufferError.Damaged
-        → Shows (S.meaning station.old) (λ c. IsWhole (blocks_of c.disk place) → ⊥) }
-{
-    is_whole(block.bytes());
-    let mut sector = [0u8; SECTOR_BYTES];
-    for i in 0..8u32 {
-        let Ok(is_readable) = station.read_sector(8 * place + i, &mut sector) else {
-            return Err(BufferError::Device);
-        };
-        if !is_readable {
-            return Err(BufferError::Damaged);
-        }
-        block.put(512 * i as usize, &sector);
-    }
-    Ok(())
-}
-
-// A block in memory has all its bytes. It does nothing.
-fn is_whole(bytes: &[u8; BLOCK_BYTES])
-    ensures { length bytes.now ≡ BLOCK_BYTES }
-{
-    let _ = bytes;
 }
 
 /// Reads the block at a place into memory, and tells whether all of it can be read.

@@ -10,7 +10,7 @@ ghost use Rattle.model.specs.Volumes.{Volume};
 ghost use Rattle.buffers.specs.Disks.{ReadsOn, ShowsDisk};
 ghost use Rattle.images.specs.Faults.{IsFaultless};
 ghost use Rattle.images.specs.Roots.{whole};
-ghost use Rattle.images.specs.Soundness.{by_sizes};
+ghost use Rattle.images.specs.Soundness.{IsWithin, by_sizes};
 ghost use Rattle.loading.specs.Slots.{FitsStation};
 ghost use Rattle.oplog.specs.SavedLog.{TellsLog};
 ghost use Rattle.replay.specs.Volumes.{HasVolumeIn, LeadTo};
@@ -46,6 +46,7 @@ pub(crate) fn check_log<S: Station>(
     ensures passes { (disk : ℕ → List ℕ)
         → ShowsDisk (S.meaning blocks.old.station) blocks.old.kept disk
         → IsFaultless root.now.geometry (whole disk root.now).active
+        → IsWithin root.now.version (whole disk root.now).active
         → TellsRecords root.now (whole disk root.now)
         (S.meaning blocks.old.station).seen.nvram result }
 {
@@ -72,11 +73,12 @@ fn replay_saved<B: LetsGo>(
     ensures reads { Looks B.Blocks IsHaltFault blocks.old blocks.new result }
     ensures passes { (disk : ℕ → List ℕ) (nvram : List ℕ) → B.Shows blocks.old disk
         → TellsLog nvram saved.now → IsFaultless root.now.geometry (whole disk root.now).active
+        → IsWithin root.now.version (whole disk root.now).active
         → TellsRecords root.now (whole disk root.now) nvram result }
 {
     faultless_trees_hold_graphs();
     let fault = Fault::Tree(TreeFault::InodeMap);
-    let loaded = load_inodes(alloc, blocks, root.geometry, root.inode_file);
+    let loaded = load_inodes(alloc, blocks, root.version, root.geometry, root.inode_file);
     let mut inodes = or_fault(loaded, fault)?;
     let half = (root.generation.epoch_after(1).get() % 2) as u32;
     let first = replay_half(alloc, &mut inodes, blocks, saved.first_records(), half)?;

@@ -21,13 +21,13 @@ use crate::marks::Marks;
 use crate::{CheckError, Fault, FileNode, LetsGo, TreeFault};
 use buffers::Block;
 use layout::{
-    BLOCK_BYTES, BLOCK_POINTERS, BODY_POINTERS, BlockNumber, Body, Inode, Pointer,
+    BLOCK_BYTES, BLOCK_POINTERS, BODY_POINTERS, BlockNumber, Body, Inode, Pointer, SNAPSHOT_SLOTS,
     indirect_pointer, is_indirect_block, level_of,
 };
 use std::alloc::{AllocError, Global};
 
 /// Trees that are marked at once, each with a bit of a block's entry: the newest root's, and those of snapshots.
-pub(crate) const PLANES: usize = 21;
+pub(crate) const PLANES: usize = SNAPSHOT_SLOTS + 1;
 
 /// Nodes under one indirect block.
 const GROUP: u32 = BLOCK_POINTERS as u32;

@@ -30,8 +30,7 @@ use blocktree::PlaceMap;
 use images::inodes_are_what_their_bytes_spell;
 use inode::based_trees_are_sound;
 use layout::{
-    BLOCK_BYTES, FIRST_NUMBER, Geometry, INODE_BYTES, INODES_PER_BLOCK, Inode, Kind, Pointer,
-    is_taken,
+    BLOCK_BYTES, FIRST_NUMBER, INODE_BYTES, INODES_PER_BLOCK, Inode, Kind, Pointer, Root, is_taken,
 };
 use loading::{inode_at, is_zero_from};
 use std::alloc::Global;
@@ -41,26 +40,27 @@ use std::alloc::Global;
 pub(crate) fn check_numbers<B: LetsGo>(
     alloc: Global,
     blocks: &mut B,
-    geometry: Geometry,
+    root: &Root,
     trees: &mut Vec<Tree>,
     marks: &mut Marks,
     shared: &mut SharedBlocks,
 ) -> Result<(), CheckError>
-    requires size { B.count blocks.old ≡ geometry.blocks }
-    requires table { length marks.old ≡ geometry.blocks }
+    requires root { IsRoot root.now }
+    requires size { B.count blocks.old ≡ root.now.geometry.blocks }
+    requires table { length marks.old ≡ root.now.geometry.blocks }
     ensures reads { Looks B.Blocks IsFault blocks.old blocks.new result }
     ensures length { length marks.new ≡ length marks.old }
     ensures trees { KeepsTrees trees.old.items trees.new.items }
     ensures others { (k : ℕ) → ((i : ℕ) → PlaneAt trees.old.items i k → ⊥)
         → StaysFor k marks.old marks.new shared.old.of shared.new.of }
-    ensures seen { (disk : ℕ → List ℕ) (r : Root) → B.Shows blocks.old disk → IsRoot r
-        → r.geometry ≡ geometry → AreSeenTo disk r 0 marks.old shared.old.of trees.old.items
-        → OnOk result (AreSeenTo disk r (div_ceil geometry.inodes INODES_PER_BLOCK)
+    ensures seen { (disk : ℕ → List ℕ) → B.Shows blocks.old disk
+        → AreSeenTo disk root.now 0 marks.old shared.old.of trees.old.items
+        → OnOk result (AreSeenTo disk root.now (div_ceil root.now.geometry.inodes INODES_PER_BLOCK)
         marks.new shared.new.of trees.new.items) }
 {
     let places = places_of_trees(alloc, blocks, trees)?;
-    for i in 0..geometry.inodes().div_ceil(INODES_PER_BLOCK) {
-        check_block(alloc, blocks, geometry, trees, &places, i, marks, shared)?;
+    for i in 0..root.geometry.inodes().div_ceil(INODES_PER_BLOCK) {
+        check_block(alloc, blocks, root, trees, &places, i, marks, shared)?;
         blocks.forget();
     }
     Ok(())
@@ -90,7 +90,7 @@ fn places_of_trees<B: LetsGo>(
 fn check_block<B: LetsGo>(
     alloc: Global,
     blocks: &mut B,
-    geometry: Geometry,
+    root: &Root,
     trees: &mut Vec<Tree>,
     places: &Vec<PlaceMap>,
     i: u32,
@@ -100,23 +100,23 @@ fn check_block<B: LetsGo>(
     requires within { i < 2 ^ 16 }
     requires places { vec_len places.now ≡ vec_len trees.old }
     requires below { AreAllBelow (B.count blocks.old) places.now.items }
-    requires size { B.count blocks.old ≡ geometry.blocks }
-    requires table { length marks.old ≡ geometry.blocks }
+    requires root { IsRoot root.now }
+    requires size { B.count blocks.old ≡ root.now.geometry.blocks }
+    requires table { length marks.old ≡ root.now.geometry.blocks }
     ensures reads { Looks B.Blocks IsFault blocks.old blocks.new result }
     ensures length { length marks.new ≡ length marks.old }
     ensures trees { KeepsTrees trees.old.items trees.new.items }
     ensures others { (k : ℕ) → ((j : ℕ) → PlaneAt trees.old.items j k → ⊥)
         → StaysFor k marks.old marks.new shared.old.of shared.new.of }
-    ensures seen { (disk : ℕ → List ℕ) (r : Root) → B.Shows blocks.old disk → IsRoot r
-        → r.geometry ≡ geometry
+    ensures seen { (disk : ℕ → List ℕ) → B.Shows blocks.old disk
         → ArePlacesOfTrees (B.count blocks.old) disk trees.old.items places.now.items
-        → AreSeenTo disk r i marks.old shared.old.of trees.old.items
-        → OnOk result (AreSeenTo disk r (i + 1) marks.new shared.new.of trees.new.items) }
+        → AreSeenTo disk root.now i marks.old shared.old.of trees.old.items
+        → OnOk result (AreSeenTo disk root.now (i + 1) marks.new shared.new.of trees.new.items) }
 {
     let rows = read_rows(alloc, blocks, trees, places, i)?;
     for place in 0..INODES_PER_BLOCK {
         let number = INODES_PER_BLOCK * i + place;
-        check_number(blocks, geometry, trees, &rows, place, number, marks, shared)?;
+        check_number(blocks, root, trees, &rows, place, number, marks, shared)?;
     }
     check_ends(trees, &rows, i);
     Ok(())
@@ -210,7 +210,7 @@ fn is_ended(bytes: &[u8; BLOCK_BYTES]) -> bool
 /// Looks at the inode of a number in each tree, once for all trees that have the same there.
 fn check_number<B: LetsGo>(
     blocks: &mut B,
-    geometry: Geometry,
+    root: &Root,
     trees: &mut Vec<Tree>,
     rows: &Rows,
     place: u32,
@@ -221,19 +221,20 @@ fn check_number<B: LetsGo>(
     requires place { place < INODES_PER_BLOCK }
     requires number { number < 2 ^ 32 }
     requires rows { length (rows_of rows.now) ≡ vec_len trees.old }
-    requires size { B.count blocks.old ≡ geometry.blocks }
-    requires table { length marks.old ≡ geometry.blocks }
+    requires root { IsRoot root.now }
+    requires size { B.count blocks.old ≡ root.now.geometry.blocks }
+    requires table { length marks.old ≡ root.now.geometry.blocks }
     ensures reads { Looks B.Blocks IsFault blocks.old blocks.new result }
     ensures length { length marks.new ≡ length marks.old }
     ensures trees { KeepsTrees trees.old.items trees.new.items }
     ensures others { (k : ℕ) → ((i : ℕ) → PlaneAt trees.old.items i k → ⊥)
         → StaysFor k marks.old marks.new shared.old.of shared.new.of }
-    ensures seen { (disk : ℕ → List ℕ) (r : Root) (i : ℕ) → B.Shows blocks.old disk → IsRoot r
-        → r.geometry ≡ geometry → number ≡ INODES_PER_BLOCK * i + place
-        → AreRows disk r i trees.old.items (rows_of rows.now)
-        → AreSeenInBlock disk r i place marks.old shared.old.of trees.old.items
-        → OnOk result (AreRows disk r i trees.new.items (rows_of rows.now)
-        × AreSeenInBlock disk r i (place + 1) marks.new shared.new.of trees.new.items) }
+    ensures seen { (disk : ℕ → List ℕ) (i : ℕ) → B.Shows blocks.old disk
+        → number ≡ INODES_PER_BLOCK * i + place
+        → AreRows disk root.now i trees.old.items (rows_of rows.now)
+        → AreSeenInBlock disk root.now i place marks.old shared.old.of trees.old.items
+        → OnOk result (AreRows disk root.now i trees.new.items (rows_of rows.now)
+        × AreSeenInBlock disk root.now i (place + 1) marks.new shared.new.of trees.new.items) }
 {
     let mut done = 0;
     for k in 0..trees.len() {
@@ -243,7 +244,7 @@ fn check_number<B: LetsGo>(
         let bits = twins(trees, rows, k, place);
         done |= bits;
         let bytes = part_of(rows, k, place);
-        check_inode(blocks, geometry, trees, bits, bytes, number, marks, shared)?;
+        check_inode(blocks, root, trees, bits, bytes, number, marks, shared)?;
     }
     Ok(())
 }
@@ -251,7 +252,7 @@ fn check_number<B: LetsGo>(
 /// Looks at the inode that these bytes are at a number, for the trees of these bits.
 fn check_inode<B: LetsGo>(
     blocks: &mut B,
-    geometry: Geometry,
+    root: &Root,
     trees: &mut Vec<Tree>,
     bits: u32,
     bytes: &[u8],
@@ -260,20 +261,21 @@ fn check_inode<B: LetsGo>(
     shared: &mut SharedBlocks,
 ) -> Result<(), CheckError>
     requires planes { (k : ℕ) → HasBit k bits → k < PLANES }
-    requires size { B.count blocks.old ≡ geometry.blocks }
-    requires table { length marks.old ≡ geometry.blocks }
+    requires root { IsRoot root.now }
+    requires size { B.count blocks.old ≡ root.now.geometry.blocks }
+    requires table { length marks.old ≡ root.now.geometry.blocks }
     ensures reads { Looks B.Blocks IsFault blocks.old blocks.new result }
     ensures keeps { KeepsMarks bits marks.old marks.new shared.old.of shared.new.of }
     ensures trees { KeepsTrees trees.old.items trees.new.items }
     ensures others { (l : ℕ) (t q : Tree) → slice_get trees.old.items l ≡ Some t
         → slice_get trees.new.items l ≡ Some q → (HasBit t.plane bits → ⊥) → q ≡ t }
-    ensures seen { (disk : ℕ → List ℕ) (r : Root) (i : ℕ) → B.Shows blocks.old disk → IsRoot r
-        → r.geometry ≡ geometry → OnOk result (SeesInode disk r bits bytes.now number
-        (IsSeenTo disk r i number marks.old shared.old.of)
-        (IsSeenTo disk r i (number + 1) marks.new shared.new.of) trees.old.items trees.new.items) }
+    ensures seen { (disk : ℕ → List ℕ) (i : ℕ) → B.Shows blocks.old disk
+        → OnOk result (SeesInode disk root.now bits bytes.now number
+        (IsSeenTo disk root.now i number marks.old shared.old.of)
+        (IsSeenTo disk root.now i (number + 1) marks.new shared.new.of) trees.old.items trees.new.items) }
 {
     inodes_are_what_their_bytes_spell();
-    let Some(inode) = inode_at(bytes, number, geometry) else {
+    let Some(inode) = inode_at(bytes, number, root.version, root.geometry) else {
         add_to_each(trees, bits, Fault::Tree(TreeFault::Inode(number)));
         return Ok(());
     };
@@ -282,7 +284,7 @@ fn check_inode<B: LetsGo>(
         add_to_each(trees, bits, fault);
         return Ok(());
     }
-    if number < geometry.inodes() {
+    if number < root.geometry.inodes() {
         check_bits(trees, bits, number, &inode);
     }
     Ok(())

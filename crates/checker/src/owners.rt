@@ -31,7 +31,9 @@ use crate::{CheckError, FileNode, LetsGo};
 use blocktree::{PlaceMap, ReadError};
 use images::inodes_are_what_their_bytes_spell;
 use inode::{File, based_trees_are_sound, nodes_are_where_pointers_lead};
-use layout::{BLOCK_BYTES, BlockNumber, Geometry, INODE_BYTES, INODES_PER_BLOCK, Inode, Pointer};
+use layout::{
+    BLOCK_BYTES, BlockNumber, Geometry, INODE_BYTES, INODES_PER_BLOCK, Inode, Pointer, VERSION,
+};
 use loading::inode_at;
 use std::alloc::Global;
 
@@ -110,7 +112,7 @@ fn inode_in(bytes: &[u8; BLOCK_BYTES], number: u32, geometry: Geometry) -> Optio
         → HasKindOfPlace geometry.inodes number i.kind → result ≡ Some i }
 {
     let at = INODE_BYTES * (number % INODES_PER_BLOCK) as usize;
-    inode_at(&bytes[at..at + INODE_BYTES], number, geometry)
+    inode_at(&bytes[at..at + INODE_BYTES], number, VERSION, geometry)
 }
 
 /// The first node of a file that stands in a block which is named twice, but for the one that is told of it.

@@ -1,6 +1,7 @@
 //! A tree that a check looks at.
 
 ghost use Rattle.std.specs.Prelude.{◌≤◌};
+ghost use Rattle.layout.specs.declared.version.TheConstants.{SNAPSHOT_SLOTS};
 
 use crate::findings::earlier_fault;
 use crate::{Fault, TreeName};
@@ -18,7 +19,7 @@ pub(crate) struct Tree {
     pub(crate) numbers: Vec<u8>,
     /// Its first fault so far.
     pub(crate) fault: Option<Fault>,
-    ghost known: { plane ≤ 20 },
+    ghost known: { plane ≤ SNAPSHOT_SLOTS },
 }
 
 impl Tree {

@@ -54,6 +54,7 @@ const COMMAND_NOTES: &str = "Commands, one a line, with an example of each:
   snap take NAME          keeps the tree as it stands under this name: snap take monday
   snap list               names the snapshots, oldest first: snap list
   snap delete NAME        takes a snapshot away: snap delete monday
+  snap restore NAME       makes the tree what it was under this name: snap restore monday
   in NAME ..              list, stat, lstat, readlink or get in a snapshot: in monday get /f 0 9
 
 FLAGS is r, w or rw, then some of: c makes a file where none is, x refuses one that is,
@@ -284,7 +285,7 @@ fn put_command<'a>(alloc: Global) -> Growing<'a>
         alloc,
         "put",
         "Store a file of the host's in a file of the image, whole or not at all",
-        "A file that PATH leads to loses its bytes and gets these in their place; where nothing is there, one is made, of mode 0644. Where a call is refused that file stays as it was, and standard error tells the path, the refusal and the byte at which it came. On a terminal it tells how many MiB were written.\n\nExamples:\n  wafl put disk nvram notes.txt /notes\n  wafl put disk nvram - /notes < notes.txt",
+        "A file that PATH leads to loses its bytes and gets these in their place; where nothing is there, one is made, of mode 0644. Whole blocks of zeros become holes. Where a call is refused that file stays as it was, and standard error tells the path, the refusal and the byte at which it came. On a terminal it tells how many MiB were written.\n\nExamples:\n  wafl put disk nvram notes.txt /notes\n  wafl put disk nvram - /notes < notes.txt",
     )
     .arg(place(
         alloc,
@@ -308,7 +309,7 @@ fn get_command<'a>(alloc: Global) -> Growing<'a>
         alloc,
         "get",
         "Bring a file of the image back, whole or not at all",
-        "A file FILE that is there is replaced once the new one is whole; where a call is refused it stays as it was, or none is made, and standard error tells the path, the refusal and the byte at which it came. The image stays as it is. On a terminal it tells how many MiB were read.\n\nExamples:\n  wafl get disk nvram /notes notes.txt\n  wafl get disk nvram /notes - --in monday | wc -c",
+        "A file FILE that is there is replaced once the new one is whole, in which whole blocks of zeros are holes; where a call is refused it stays as it was, or none is made, and standard error tells the path, the refusal and the byte at which it came. The image stays as it is. On a terminal it tells how many MiB were read.\n\nExamples:\n  wafl get disk nvram /notes notes.txt\n  wafl get disk nvram /notes - --in monday | wc -c",
     )
     .arg(place(
         alloc,

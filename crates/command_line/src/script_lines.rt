@@ -22,7 +22,7 @@ const CALLS: [&str; 13] = [
 ];
 
 /// The other commands, but `in`, which stands before a call.
-const OTHERS: [&str; 15] = [
+const OTHERS: [&str; 16] = [
     "open PATH FLAGS [MODE]",
     "close FD",
     "read FD COUNT",
@@ -38,6 +38,7 @@ const OTHERS: [&str; 15] = [
     "snap take NAME",
     "snap list",
     "snap delete NAME",
+    "snap restore NAME",
 ];
 
 /// Tells the text of a script's line of this number, counted from 1, and why it is no command. Where there is no memory for

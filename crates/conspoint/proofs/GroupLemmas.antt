@@ -12,7 +12,7 @@ use Rattle.blocktree.specs.declared.place_map.PlaceMap.{PlaceMap}
 use Rattle.conspoint.specs.declared.draft.Draft.{Draft}
 use Rattle.conspoint.specs.Drafts.{Grows, WasTaken}
 use Rattle.conspoint.specs.Space.{StoresNone}
-use Rattle.conspoint.specs.Groups.{IsGroup, ComesFrom, ArePlaced}
+use Rattle.conspoint.specs.Groups.{IsGroup, Follows, ComesFrom, ArePlaced}
 use Rattle.conspoint.proofs.DraftLemmas.{taken_later, taken_earlier}
 
 module _ (a b c : Draft) (settled old new : PlaceMap) (j : ℕ) (p : Pointer) (before : Grows a b) (now : Grows b c) (so_far : ArePlaced a b settled old) (there : place_at new j ≡ p)
@@ -82,6 +82,23 @@ same_group e settled over old old2 new new2 olds news (IsGroup.keeps is same) = 
 same_group e settled over old old2 new new2 olds news (IsGroup.spells block is size under (i, low, there)) =
     IsGroup.spells block is size (λ i lt. under i lt ∙ news i lt) (i, low, λ none. there (news i low ∙ none))
 same_group e settled over old old2 new new2 olds news (IsGroup.none is under) = IsGroup.none is (λ i lt. sym (news i lt) ∙ under i lt)
+
+-- over holes there is none
+pub follows_none : (settled over : Pointer) (old new : ℕ → Pointer) → over ≡ Hole → ((i : ℕ) → i < 1024 → new i ≡ Hole) → Follows settled old new over
+follows_none settled over old new is holes = record { none = λ all. is; same = λ all. inr holes }
+
+-- a node moved, and a node is no hole
+pub follows_moved : (settled over : Pointer) (old new : ℕ → Pointer) → (((i : ℕ) → i < 1024 → new i ≡ Hole) → ⊥) → (((i : ℕ) → i < 1024 → new i ≡ old i) → (over ≡ settled)) → Follows settled old new over
+follows_moved settled over old new some same = record { none = λ all. absurd (some all); same = λ all. inl (same all) }
+
+pub same_follows : (settled over : Pointer) (old old2 new new2 : ℕ → Pointer) → ((i : ℕ) → i < 1024 → old2 i ≡ old i) → ((i : ℕ) → i < 1024 → new2 i ≡ new i) → Follows settled old2 new2 over → Follows settled old new over
+same_follows settled over old old2 new new2 olds news follows = record {
+  none = λ all. follows.none (λ i lt. news i lt ∙ all i lt);
+  same = λ all. elim (follows.same (λ i lt. news i lt ∙ all i lt ∙ sym (olds i lt))) [
+    | inl is ↦ inl is
+    | inr holes ↦ inr (λ i lt. sym (news i lt) ∙ holes i lt)
+  ];
+}
 
 -- where nothing is stored over a group, nothing is over the same nodes read otherwise
 pub same_none : (old old2 new new2 : ℕ → Pointer) → ((i : ℕ) → i < 1024 → old2 i ≡ old i) → ((i : ℕ) → i < 1024 → new2 i ≡ new i) → StoresNone old new → StoresNone old2 new2

@@ -3,7 +3,7 @@ use Rattle.std.proofs.Common.{◌≡◌, ◌⊎◌, inl, inr, ℕ, zero, suc, �
 use Rattle.std.specs.Prelude.{nat_lt, if◌then◌else◌}
 use Rattle.std.specs.Int.{div_ceil}
 use Rattle.std.proofs.lemmas.Bool.{cases_lt, cond_above}
-use Rattle.layout.specs.Inode.{FitsBody, pointers_used}
+use Rattle.layout.specs.Inode.{FitsBody, nodes_of_size, pointers_used}
 use Rattle.layout.specs.Limits.{Sizes}
 use Rattle.layout.specs.Maps.{indirect_pointer}
 use Rattle.layout.specs.Places.{Blocks, place, follow}
@@ -17,9 +17,18 @@ use Rattle.layout.specs.declared.pointer.Pointer.TheVariants.{Hole, Block}
 use Rattle.images.specs.Nodes.{Held, held, Names, pointers_of}
 use Rattle.images.specs.Soundness.{IsSoundFile}
 use Rattle.images.proofs.OverlayLaws.{held_up}
-use Rattle.images.proofs.ReadingLaws.{highest, hole_past, level_one, level_two, used_two, hole_behind, fits}
+use Rattle.images.proofs.ReadingLaws.{highest, hole_past, level_one, level_two, used_is, hole_behind, fits}
 use Rattle.layout.proofs.PointerLaws.{no_block}
 use Rattle.layout.proofs.SizeLaws.{map_size}
+
+-- the pointers that an inode of one level or of two levels uses
+pub used_one : (size : ℕ) → 128 < size → size ≤ 65536 → pointers_used size ≡ div_ceil size 4096
+unfolding nodes_of_size
+used_one size some low = used_is size 0 (level_one size some low)
+
+pub used_two : (size : ℕ) → 65536 < size → size ≤ 67108864 → pointers_used size ≡ div_ceil (div_ceil size 4096) 1024
+unfolding nodes_of_size
+used_two size large low = used_is size 1 (level_two size large low)
 
 -- n blocks of a file stand where g says, and the indirect block over them, where there is one, where it says behind them
 pub record Stands (n : ℕ) (g : ℕ → Pointer) (h : Held) : Type 0 where
@@ -137,12 +146,13 @@ sound_stands s d f n nodes sound kind large most count low over end =
             above = λ m i. above_level d f (suc (suc m)) i 1 level (omega arith);
           }
       | inl big ↦
-          let level = level_two f.size big in
+          let within : f.size ≤ 67108864 = omega (arith, size, most) in
+          let level = level_two f.size big within in
           record {
             low = λ i lt. sym (low i lt);
             past = behind;
             top = sym (over level);
-            beside = λ i. top_is d f body.0 body.1 1 (suc i) level ∙ hole_past body.0 (pointers_used f.size) (suc i) fit.3 (omega (arith, used_two f.size big, size, most));
+            beside = λ i. top_is d f body.0 body.1 1 (suc i) level ∙ hole_past body.0 (pointers_used f.size) (suc i) fit.3 (omega (arith, used_two f.size big within, size, most));
             above = λ m i. above_level d f (suc (suc m)) i 2 level (omega arith);
           }
     ]

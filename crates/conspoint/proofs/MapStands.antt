@@ -17,13 +17,12 @@ use Rattle.layout.specs.declared.pointer.Pointer.TheVariants.{Hole, Block}
 use Rattle.layout.specs.declared.version.TheConstants.{VERSION}
 use Rattle.images.specs.Nodes.{held, Names, Agrees, IsOnce, body_block, file_block, place_at_height}
 use Rattle.images.specs.Soundness.{IsSoundFile, IsReadable, HasNoHole, nodes_of_size}
-use Rattle.images.proofs.ReadingLaws.{used_one, used_two}
 use Rattle.blockmap.specs.Parts.{Part}
 use Rattle.blockmap.specs.Maps.{IsTouched, no_part, entry_at, settled_at}
 use Rattle.conspoint.specs.declared.draft.Draft.{Draft}
 use Rattle.conspoint.specs.Groups.{pointer_at}
 use Rattle.conspoint.specs.MapFiles.{AreTouched, node_at, IsSettledMap, IsMapOn}
-use Rattle.conspoint.proofs.MapNodes.{IsSpot, at_spot, spot_once, spot_of, named_at, spot_named, body_of}
+use Rattle.conspoint.proofs.MapNodes.{IsSpot, at_spot, spot_once, spot_of, named_at, spot_named, body_of, used_one, used_two}
 use Rattle.conspoint.proofs.MapBytes.{word_zero, zero_bytes}
 use Rattle.layout.proofs.PointerLaws.{no_block}
 use Rattle.layout.proofs.ZeroLaws.{zero_byte}
@@ -116,11 +115,11 @@ module _ {s : Sizes} {d e : Blocks} {old : Inode} {before after : Draft} {settle
     | inr less ↦
         let t : leb n 16 ≡ true = le-leb _ _ less in
         w.tops_are k ∙ ap (λ b. node_at settled places ((if b then 0 else n) + k)) t
-        ∙ node_past w is agrees (0 + k) (omega (arith, ends w is agrees less, used_one (4 * before.map.count) (omega (arith, w.count)), w.count))
+        ∙ node_past w is agrees (0 + k) (omega (arith, ends w is agrees less, used_one (4 * before.map.count) (omega (arith, is.sizes.least_blocks, is.blocks)) (omega (arith, w.count)), w.count))
     | inl many ↦
         let t : leb n 16 ≡ false = lt-leb _ _ many in
         w.tops_are k ∙ ap (λ b. node_at settled places ((if b then 0 else n) + k)) t
-        ∙ node_past w is agrees (n + k) (omega (arith, goes_on w is agrees many, used_two (4 * before.map.count) (omega (arith, w.count)), w.count))
+        ∙ node_past w is agrees (n + k) (omega (arith, goes_on w is agrees many, used_two (4 * before.map.count) (omega (arith, w.count)) (omega (arith, is.sizes.most_blocks, is.blocks)), w.count))
   ]
 
   inode_is : IsInode VERSION s (own_inode tops before.map.count)

@@ -202,7 +202,7 @@ module _ {s : Sizes} {d e : Blocks} {old : Inode} {before after : Draft} {settle
   ]
 
   two_levels : 16 < n → level_of old.size ≡ 2
-  two_levels lt = level_two old.size (omega (arith, old_size, w.count))
+  two_levels lt = level_two old.size (omega (arith, old_size, w.count)) (omega (arith, old_size, is.blocks, is.sizes.most_blocks))
 
   -- under the settled indirect block
   old_under : (x i : ℕ) → 16 < n → pointer_at settled n ≡ Block x → i < 1024 → (held d old).place 0 i ≡ indirect_pointer (d x) i
@@ -257,7 +257,7 @@ module _ {s : Sizes} {d e : Blocks} {old : Inode} {before after : Draft} {settle
         let t : leb n 16 ≡ false = lt-leb _ _ many in
         let over = is_block (node_at settled places n) (over_there many) in
         stands_under e (own_inode tops before.map.count) tops refl n over.0 (node_at settled places)
-        (level_two (4 * before.map.count) (omega (arith, w.count)))
+        (level_two (4 * before.map.count) (omega (arith, w.count)) (omega (arith, is.blocks, is.sizes.most_blocks)))
         (λ i. w.tops_are i ∙ ap (λ b. node_at settled places ((if b then 0 else n) + i)) t)
         (λ k gt. node_past k (omega (arith, goes_on many))) few over.1
         (λ i lt. spelled over.0 i many over.1 (omega (arith, few)) ∙ sym (cond_below i n (node_at settled places i) Hole lt))

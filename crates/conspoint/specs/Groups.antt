@@ -28,6 +28,11 @@ pub data IsGroup (e : Blocks) (settled : Pointer) (old new : ℕ → Pointer) (o
   none : (is : over ≡ Hole) → (under : (i : ℕ) → i < BLOCK_POINTERS → new i ≡ Hole)
       → IsGroup e settled old new over
 
+-- The pointer over 1,024 nodes is a hole where all of them are, and where none moved it is as it was.
+pub record Follows (settled : Pointer) (old new : ℕ → Pointer) (over : Pointer) : Type 0 where
+  pub none : ((i : ℕ) → i < BLOCK_POINTERS → new i ≡ Hole) → over ≡ Hole
+  pub same : ((i : ℕ) → i < BLOCK_POINTERS → new i ≡ old i) → (over ≡ settled) ⊎ ((i : ℕ) → i < BLOCK_POINTERS → new i ≡ Hole)
+
 -- the nodes of group j
 abbrev pub group : PlaceMap → ℕ → ℕ → Pointer
 group nodes j i = place_at nodes (BLOCK_POINTERS * j + i)

@@ -145,6 +145,20 @@ impl Draft {
         Ok(())
     }
 
+    /// Makes the active tree's set of the map that of a snapshot under the settled root. Each block of the map is stored for it.
+    pub fn load_plane(&mut self, set: u32) -> Result<(), PlanError>
+        requires { set < 32 }
+        ensures step { Marks self.old self.new result }
+        ensures plane { OnOk result ((count : ℕ) → SetsPlane count 0
+            (λ b. bit_at (settled_at self.old.map.parts.items b) set)
+            (entry_at self.old.map.parts.items) (entry_at self.new.map.parts.items)) }
+        ensures touched { OnOk result ((j : ℕ) → j < length self.old.map.parts.items
+            → IsTouched self.new.map.parts.items j) }
+    {
+        self.map.load_plane(set)?;
+        Ok(())
+    }
+
     /// Makes a set of the map empty. Of the map's blocks only those are stored for it in which an entry changes.
     pub fn clear_plane(&mut self, set: u32) -> Result<(), PlanError>
         requires { set < 32 }

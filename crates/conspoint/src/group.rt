@@ -8,7 +8,7 @@ ghost use Rattle.layout.specs.declared.geometry.TheConstants.{MOST_BLOCKS};
 ghost use Rattle.layout.specs.declared.pointer.Pointer.TheVariants.{Hole};
 ghost use Rattle.blocktree.specs.PlaceMaps.{AreBelow, EndBefore, place_at};
 ghost use Rattle.conspoint.specs.Drafts.{OnEach};
-ghost use Rattle.conspoint.specs.Groups.{pointer_at, group, IsGroup, ComesFrom, ArePlaced};
+ghost use Rattle.conspoint.specs.Groups.{pointer_at, group, IsGroup, Follows, ComesFrom, ArePlaced};
 ghost use Rattle.conspoint.specs.Space.{StoresNone};
 ghost use Rattle.conspoint.specs.Steps.{Places, PlacesOver};
 
@@ -93,6 +93,7 @@ pub fn place_group(
     ensures step { Places 1 draft.old draft.new result }
     ensures group { IfOk result (λ over. OnEach draft.new
         (λ e. IsGroup e settled (pointer_at old.now) (pointer_at new.now) over)) }
+    ensures follows { IfOk result (Follows settled (pointer_at old.now) (pointer_at new.now)) }
     ensures from { IfOk result (ComesFrom draft.old draft.new settled) }
     ensures within { IfOk result (PointsBelow MOST_BLOCKS) }
     ensures none { StoresNone (pointer_at old.now) (pointer_at new.now)
@@ -146,6 +147,8 @@ pub fn place_over(
     ensures groups { IfOk result (λ over. OnEach draft.new (λ e. (j : ℕ) → j < groups
         → IsGroup e (place_at settled.now j) (group old.now j) (group new.now j)
         (place_at over j))) }
+    ensures follows { IfOk result (λ over. (j : ℕ) → j < groups → Follows
+        (place_at settled.now j) (group old.now j) (group new.now j) (place_at over j)) }
     ensures placed { IfOk result (λ over. ArePlaced draft.old draft.new settled.now over) }
 {
     let mut over = PlaceMap::new(alloc);

@@ -2,6 +2,8 @@
 # How a story is written. A line that is empty or begins with `#` says nothing.
 #
 #   image BLOCKS INODES HALF        a new image of these sizes
+#   disk AT DIGITS, nvram AT DIGITS    bytes of it, two hexadecimal digits each: where there are such lines no image is made, and these
+#                                   stand over zeros
 #   before COMMAND -> REPLY         what is run on it before anything is tried
 #   command COMMAND -> REPLY        the story's commands; they run on what that left. Each is spelled as it is written again
 #   tail COMMAND -> REPLY           commands that run on what a cut left, and are cut in their turn
@@ -74,3 +76,6 @@ command ftruncate 0 2 -> ok
 command lseek 0 end 1 -> at 3
 command write 0 07 -> wrote 1
 command get /h 0 9 -> data 00000007
+command close 0 -> ok
+command close 1 -> ok
+command snap restore s2 -> ok

@@ -1,7 +1,10 @@
-# Forty commands, cut within each write, with a second cut behind each; and each device call fails in turn.
+# Forty commands, and three that go back to a snapshot: cut within each write, with a second cut behind each; and each device call
+# fails in turn.
 # How a story is written. A line that is empty or begins with `#` says nothing.
 #
 #   image BLOCKS INODES HALF        a new image of these sizes
+#   disk AT DIGITS, nvram AT DIGITS    bytes of it, two hexadecimal digits each: where there are such lines no image is made, and these
+#                                   stand over zeros
 #   before COMMAND -> REPLY         what is run on it before anything is tried
 #   command COMMAND -> REPLY        the story's commands; they run on what that left. Each is spelled as it is written again
 #   tail COMMAND -> REPLY           commands that run on what a cut left, and are cut in their turn
@@ -261,6 +264,7 @@ command mkdir /a -> ok
   without 30 in s1 stat /a/f -> err ENOENT
   without 33 rename /l /b/e -> err ENOENT
   without 34 rename /b /b/e/x -> err ENOENT
+  without 42 close 1 -> err EBADF
 command mkdir /a/b 0700 -> ok
   cut 6 none 0..19
   cut 7 none 0..1
@@ -325,6 +329,7 @@ command open /a/f rwc -> fd 0
   without 20 pwrite 0 8192 01 -> err EBADF
   without 21 open /h wcx 0600 -> fd 0
   without 30 in s1 stat /a/f -> err ENOENT
+  without 42 close 1 -> err EBADF
 command write 0 616263 -> wrote 3
   cut 10 none 0..25
   cut 11 none 0..1
@@ -799,6 +804,8 @@ command open /h wcx 0600 -> fd 1
   without 38 lseek 0 end 1 -> err EBADF
   without 39 write 0 07 -> err EBADF
   without 40 get /h 0 9 -> err ENOENT
+  without 41 close 0 -> err EBADF
+  without 42 close 1 -> err EBADF
 command close 0 -> ok
   + list / -> names b c h l z
   + lstat /z -> stat number 6 kind dir mode 0755 links 1 size 0
@@ -816,6 +823,7 @@ command close 0 -> ok
   +++ in z lstat /z -> stat number 6 kind dir mode 0755 links 1 size 0
   without 35 open /h rw -> fd 2
   without 40 get /h 0 9 -> data {30*18}
+  without 43 snap restore s2 -> err EBUSY
 command mkdir /b/e -> ok
   cut 56 none 0..19
   cut 57 none 0..1
@@ -949,6 +957,7 @@ command snap take s2 -> ok
   +++ in z lstat /z -> stat number 9 kind dir mode 0755 links 1 size 0
   without 28 in s2 list / -> err NOSNAP
   without 32 snap list -> snaps
+  without 43 snap restore s2 -> err NOSNAP
 command rmdir /c -> ok
   cut 71 none 0..1
   cut 72 none 0..9
@@ -1155,6 +1164,7 @@ command open /h rw -> fd 0
   without 38 lseek 0 end 1 -> err EBADF
   without 39 write 0 07 -> err EBADF
   without 40 get /h 0 9 -> data {30*18}
+  without 41 close 0 -> err EBADF
 command read 0 3 -> data 000000
   + list / -> names b h l z
   + lstat /z -> stat number 4 kind dir mode 0755 links 1 size 0
@@ -1244,3 +1254,58 @@ command get /h 0 9 -> data 00000007
   +++ in z get /g 0 300 -> err ENOENT
   +++ in z get /h 0 300 -> data 00000007
   +++ in z lstat /z -> stat number 4 kind dir mode 0755 links 1 size 0
+command close 0 -> ok
+  + list / -> names b h l z
+  + lstat /z -> stat number 4 kind dir mode 0755 links 1 size 0
+  + list /z -> names
+  + readlink /z -> err EINVAL
+  + get /z 0 300 -> err EISDIR
+  +++ snap list -> snaps s2 z
+  +++ in z list / -> names b h l z
+  +++ in z list /a -> err ENOENT
+  +++ in z list /b -> names e
+  +++ in z list /c -> err ENOENT
+  +++ in z readlink /l -> text a/f
+  +++ in z get /g 0 300 -> err ENOENT
+  +++ in z get /h 0 300 -> data 00000007
+  +++ in z lstat /z -> stat number 4 kind dir mode 0755 links 1 size 0
+  without 43 snap restore s2 -> err EBUSY
+command close 1 -> ok
+  + list / -> names b h l z
+  + lstat /z -> stat number 4 kind dir mode 0755 links 1 size 0
+  + list /z -> names
+  + readlink /z -> err EINVAL
+  + get /z 0 300 -> err EISDIR
+  +++ snap list -> snaps s2 z
+  +++ in z list / -> names b h l z
+  +++ in z list /a -> err ENOENT
+  +++ in z list /b -> names e
+  +++ in z list /c -> err ENOENT
+  +++ in z readlink /l -> text a/f
+  +++ in z get /g 0 300 -> err ENOENT
+  +++ in z get /h 0 300 -> data 00000007
+  +++ in z lstat /z -> stat number 4 kind dir mode 0755 links 1 size 0
+  without 43 snap restore s2 -> err EBUSY
+command snap restore s2 -> ok
+  cut 87..92 none,all,10,2,021 0
+  list / -> names b c h l
+  lstat /c -> stat number 4 kind dir mode 0755 links 1 size 0
+  list /c -> names
+  readlink /c -> err EINVAL
+  get /c 0 300 -> err EISDIR
+  lstat /h -> stat number 8 kind file mode 0640 links 1 size 200
+  get /h 0 300 -> data {30*400}
+  + list / -> names b c h l z
+  + lstat /z -> stat number 9 kind dir mode 0755 links 1 size 0
+  + list /z -> names
+  + readlink /z -> err EINVAL
+  + get /z 0 300 -> err EISDIR
+  +++ snap list -> snaps s2 z
+  +++ in z list / -> names b c h l z
+  +++ in z list /a -> err ENOENT
+  +++ in z list /b -> names e
+  +++ in z list /c -> names
+  +++ in z readlink /l -> text a/f
+  +++ in z get /g 0 300 -> err ENOENT
+  +++ in z get /h 0 300 -> data {30*400}
+  +++ in z lstat /z -> stat number 9 kind dir mode 0755 links 1 size 0

@@ -1,9 +1,11 @@
 //! The table of open files.
 
-ghost use Rattle.std.specs.Prelude.{ℕ, ◌≡◌, ◌≤◌, ◌<◌, Some, None, IfSome, IsSome, length, slice_index_or};
+ghost use Rattle.std.specs.Prelude.{ℕ, ◌≡◌, ◌≤◌, ◌<◌, Some, None, IfSome, IsFalse, IsSome, length, slice_index_or};
 ghost use Rattle.std.specs.Option.{ForSome, option_map};
 ghost use Rattle.model.specs.Outcomes.{lowest_free};
 ghost use Rattle.model.specs.Records.{count_nameless};
+ghost use Rattle.model.specs.Steps.{has_open_below};
+ghost use Rattle.model.specs.Trees.{Tree};
 ghost use Rattle.model.specs.Volumes.{IsMounted, IsVolume, Volume, is_numbered, is_open};
 ghost use Rattle.model.specs.declared.limits.TheConstants.{GREATEST_FILE, GREATEST_OFFSET, OPEN_FILES};
 ghost use Rattle.descriptors.specs.Files.{KeepsBounds, description_of, relinked_file, resized_file, with_figure_links, with_size};
@@ -62,6 +64,19 @@ impl Descriptors {
         let mut found = false;
         for fd in 0..count {
             found = self.is_numbered(fd, number) || found;
+        }
+        found
+    }
+
+    /// Whether any file is open.
+    pub fn has_open(&self) -> bool
+        ensures tells { (t : Tree) → t.descriptors ≡ table_of self.now
+            → result ≡ has_open_below t OPEN_FILES }
+        ensures closed { IsFalse result → (fd : ℕ) → open_at self.now fd ≡ None }
+    {
+        let mut found = false;
+        for fd in 0..OPEN_FILES {
+            found = found || self.files[fd as usize].is_some();
         }
         found
     }

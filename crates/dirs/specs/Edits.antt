@@ -1,5 +1,5 @@
 -- A directory as a prepared edit has it.
-use Rattle.std.specs.Prelude.{ℕ, ◌≡◌, ◌/◌, ◌<◌, List, Option, Some, None, unwrap_or}
+use Rattle.std.specs.Prelude.{ℕ, ◌≡◌, ◌⊎◌, ◌/◌, ◌<◌, ◌≤◌, List, Option, Some, None, unwrap_or}
 use Rattle.std.specs.Ordering.{nat_cmp}
 use Rattle.std.specs.BTreeMap as tree
 use Rattle.layout.specs.Directory.{Named, HoldsEntries}
@@ -9,7 +9,9 @@ use Rattle.inode.specs.declared.file.File.{File}
 use Rattle.inode.specs.Files.{file_block}
 use Rattle.layout.specs.DirectoryNames.{NameMap, HoldNames, number_of}
 use Rattle.model.specs.Paths.{Name}
+use Rattle.layout.specs.declared.TheConstants.{BLOCK_BYTES}
 use Rattle.dirs.specs.Directory.{AreDirectoryBlocks}
+use Rattle.dirs.specs.declared.TheConstants.{GROWN_BLOCKS}
 use Rattle.dirs.specs.declared.edit.Edit.{Edit}
 use Rattle.dirs.specs.declared.edit.Place.{Place}
 
@@ -29,9 +31,10 @@ HasEditedNames inodes disk f e names = HoldNames inodes e.count (edited_block di
 abbrev pub IsDirectory : ℕ → (ℕ → List ℕ) → File → NameMap → Type 0
 IsDirectory inodes disk f names = HoldNames inodes (f.size / 4096) (file_block disk f) names
 
--- the file has room for what an edit changes
-abbrev pub FitsIn : File → Edit → Type 0
-FitsIn f e = (i : ℕ) → tree.ContainsKey nat_cmp e.changed i → HasRoom f.tree i
+-- The file has room for what an edit changes, and the directory gets no more blocks than it had, or few.
+pub record FitsIn (f : File) (e : Edit) : Type 0 where
+  pub room : (i : ℕ) → tree.ContainsKey nat_cmp e.changed i → HasRoom f.tree i
+  pub grown : (e.count ≤ f.size / BLOCK_BYTES) ⊎ (e.count ≤ GROWN_BLOCKS)
 
 -- with an edit, each block of a directory holds entries
 abbrev pub IsSoundEdit : ℕ → (ℕ → List ℕ) → File → Edit → Type 0

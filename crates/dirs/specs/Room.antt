@@ -1,7 +1,7 @@
 -- How many blocks an edit of a directory changes.
-use Rattle.std.specs.Prelude.{ℕ, ◌+◌, ◌*◌, ◌≤◌}
+use Rattle.std.specs.Prelude.{ℕ, ◌+◌, ◌≤◌}
 use Rattle.std.specs.BTreeMap.{btree_map_len}
-use Rattle.inode.specs.Room.{changed_below, file_room}
+use Rattle.inode.specs.Room.{changed_below, edit_room, file_room}
 use Rattle.inode.specs.declared.file.File.{File}
 use Rattle.dirs.specs.declared.edit.Edit.{Edit}
 
@@ -13,8 +13,7 @@ piece_count e = btree_map_len e.changed
 abbrev pub AddsPiece : Edit → Edit → Type 0
 AddsPiece old new = piece_count new ≤ piece_count old + 1
 
--- So many blocks at the most are changed that weren't, so that a consistency point may store twice as many more, and three: where the
--- file leaves its inode, two for the block that it had there, and one for an indirect block over blocks that stay.
+-- So many blocks at the most are changed that weren't, and a consistency point may store no more for them than an edit's room.
 pub record ChangesFew (k : ℕ) (old new : File) : Type 0 where
   pub changed : (n : ℕ) → changed_below new.tree n ≤ changed_below old.tree n + k
-  pub room : file_room new ≤ file_room old + (2 * k + 3)
+  pub room : file_room new ≤ file_room old + edit_room k

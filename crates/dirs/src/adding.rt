@@ -6,10 +6,10 @@ ghost use Rattle.buffers.specs.Reads.{ReadsBlocks};
 ghost use Rattle.blocktree.specs.Errors.{IsFault};
 ghost use Rattle.dirs.specs.Errors.{IsAddFault};
 ghost use Rattle.model.specs.declared.limits.TheConstants.{DIRECTORY_NAMES};
-ghost use Rattle.dirs.specs.declared.TheConstants.{FILE_BLOCKS};
+ghost use Rattle.dirs.specs.declared.TheConstants.{GROWN_BLOCKS};
 
 use crate::survey::survey_of;
-use crate::{AddError, Edit, FILE_BLOCKS};
+use crate::{AddError, Edit};
 use blocktree::ReadError;
 use buffers::Blocks;
 use entries::{Known, add};
@@ -86,7 +86,7 @@ impl Edit {
         if survey.place.is_some() {
             return Ok(false);
         }
-        let is_full = survey.names as usize >= DIRECTORY_NAMES;
+        let is_full = survey.names >= DIRECTORY_NAMES as u64;
         if is_full {
             return Err(AddError::DirFull);
         }
@@ -145,7 +145,7 @@ impl Edit {
         entry: &Entry<'_>,
     ) -> Result<(), AllocError>
         requires entry { IsEntry inodes (named_of entry.now) }
-        requires room { self.old.count < FILE_BLOCKS }
+        requires room { self.old.count < GROWN_BLOCKS }
         ensures file { IsSameFile file.old file.new }
         ensures keeps { KeepsRoom file.old.tree file.new.tree }
         ensures fits { FitsIn file.old self.old → FitsIn file.new self.new }

@@ -20,7 +20,7 @@ pub(crate) struct Survey {
     /// Where the name stands that is looked for.
     pub(crate) place: Option<Place>,
     /// Names of the directory.
-    pub(crate) names: u32,
+    pub(crate) names: u64,
     /// The first block with room.
     pub(crate) room: Option<u32>,
 }
@@ -60,7 +60,7 @@ pub(crate) fn survey_of<B: Blocks>(
 
 // What is told with one more block.
 fn with_block(before: Survey, i: u32, look: Look, bytes: usize) -> Survey
-    requires names { before.names + look.names < 2 ^ 32 }
+    requires names { before.names + look.names < 2 ^ 64 }
     requires bytes { bytes ≤ 260 }
     ensures place { result.place ≡ next_place i look.number before.place }
     ensures names { result.names ≡ before.names + look.names }
@@ -77,7 +77,7 @@ fn with_block(before: Survey, i: u32, look: Look, bytes: usize) -> Survey
     };
     Survey {
         place,
-        names: before.names + look.names,
+        names: before.names + u64::from(look.names),
         room,
     }
 }

@@ -1,13 +1,12 @@
 -- Bytes hold one row of entries at most, in one way.
-use Rattle.std.proofs.Common.{◌≡◌, ◌≢◌, ℕ, ◌≤◌, ◌^◌, List, [], ◌∷◌, ◌++◌, Option, Some, None, refl, sym, ap, ◌∙◌}
-use Rattle.std.specs.List.{slice_index}
+use Rattle.std.proofs.Common.{◌≡◌, ℕ, ◌≤◌, ◌^◌, List, [], ◌∷◌, ◌++◌, Option, Some, None, refl, sym, ap, ◌∙◌}
 use Rattle.std.proofs.Props.{props}
 use Rattle.std.proofs.lemmas.List.{append_cancel_left}
 use mathlib.Core.HLevel.{Σ_prop_path}
 use Rattle.layout.specs.Directory.{Named, IsEntry, entry_bytes, HoldsEntries}
 use Rattle.layout.specs.DirectoryNames.{number_of}
 use Rattle.model.specs.Paths.{Name}
-use Rattle.entries.specs.Marks.{AreMarked, IsBlock, mark_of}
+use Rattle.entries.specs.Marks.{AreMarked, HasMarks, IsBlock}
 use Rattle.entries.proofs.EntryLists.{none_left, one_first}
 
 entries_once : (inodes : ℕ) (bytes : List ℕ) (es fs : List Named) → inodes ≤ 2 ^ 32 → HoldsEntries inodes bytes es → HoldsEntries inodes bytes fs → es ≡ fs
@@ -31,6 +30,6 @@ nothing : (o : Option ℕ) → ((n : ℕ) → o ≡ Some n → ⊥) → o ≡ No
 nothing None never = refl
 nothing (Some n) never = absurd (never n refl)
 
--- a name without its mark isn't there
-pub unmarked : (marks : List ℕ) (name : Name) (es : List Named) → AreMarked marks es → slice_index marks (mark_of name) ≢ 1 → number_of name es ≡ None
+-- a name without its marks isn't there
+pub unmarked : (marks : List ℕ) (name : Name) (es : List Named) → AreMarked marks es → (HasMarks marks name → ⊥) → number_of name es ≡ None
 unmarked marks name es marked apart = nothing (number_of name es) (λ n is. apart (marked name n is))

@@ -1,18 +1,23 @@
--- Where the name of an entry has its mark, and what a block's bytes tell that are known.
-use Rattle.std.specs.Prelude.{ℕ, zero, ◌≡◌, ◌+◌, ◌*◌, ◌%◌, List, [], ◌∷◌, Some, length, slice_index}
+-- Where the name of an entry has its marks, and what a block's bytes tell that are known.
+use Rattle.std.specs.Prelude.{ℕ, zero, ◌≡◌, ◌+◌, ◌*◌, ◌/◌, ◌%◌, List, [], ◌∷◌, Some, length, slice_index}
 use Rattle.layout.specs.Directory.{Named, HoldsEntries}
 use Rattle.layout.specs.DirectoryNames.{number_of}
 use Rattle.model.specs.Paths.{Name}
 use Rattle.entries.specs.Entries.{used_by}
+use Rattle.entries.specs.declared.TheConstants.{HASHES, MARKS}
 
--- where a name has its mark, of 8,192 places
-abbrev pub mark_of : Name → ℕ
-mark_of [] = zero
-mark_of (byte ∷ name) = (31 * mark_of name + byte) % 8192
+-- the hash of a name
+abbrev pub hash_of : Name → ℕ
+hash_of [] = zero
+hash_of (byte ∷ name) = (31 * hash_of name + byte) % HASHES
 
--- each name of these entries has its mark
+-- a name has both of its marks
+abbrev pub HasMarks : List ℕ → Name → Type 0
+HasMarks marks name = (slice_index marks (hash_of name % MARKS) ≡ 1) × (slice_index marks (hash_of name / MARKS) ≡ 1)
+
+-- each name of these entries has its marks
 abbrev pub AreMarked : List ℕ → List Named → Type 0
-AreMarked marks entries = (name : Name) (n : ℕ) → number_of name entries ≡ Some n → slice_index marks (mark_of name) ≡ 1
+AreMarked marks entries = (name : Name) (n : ℕ) → number_of name entries ≡ Some n → HasMarks marks name
 
 -- no mark is taken away
 abbrev pub KeepsMarks : List ℕ → List ℕ → Type 0

@@ -14,5 +14,8 @@ pub use look::Look;
 
 /// Places for the marks of a block's names.
 const MARKS: usize = 8192;
+
+/// Hashes of names are below this number: the places of two marks.
+const HASHES: usize = MARKS * MARKS;
 /// Blocks of one directory of which a summary is kept.
 const MOST_KNOWN: usize = 256;

@@ -1,21 +1,29 @@
-//! Marks of the names in a block.
+//! Marks of the names in a block: two for each name, by a hash of it.
 
-ghost use Rattle.std.specs.Prelude.{◌≡◌, ◌<◌, List, length};
+ghost use Rattle.std.specs.Prelude.{◌≡◌, ◌↔◌, ◌<◌, List, IsTrue, length};
 ghost use Rattle.layout.specs.Directory.{Named, HoldsEntries};
-ghost use Rattle.entries.specs.Marks.{AreMarked, KeepsMarks, mark_of};
+ghost use Rattle.entries.specs.Marks.{AreMarked, HasMarks, KeepsMarks, hash_of};
 
-use crate::MARKS;
+use crate::{HASHES, MARKS};
 use layout::{NextEntry, next_entry};
 
-/// Where a name has its mark.
-pub(crate) fn mark_of(name: &[u8]) -> usize
-    ensures value { result ≡ mark_of name.now }
-    ensures within { result < 8192 }
+/// A name's hash: its two marks stand at the parts of this number.
+fn hash_of(name: &[u8]) -> usize
+    ensures value { result ≡ hash_of name.now }
+    ensures within { result < HASHES }
 {
     match name.split_first() {
         None => 0,
-        Some((first, rest)) => (31 * mark_of(rest) + *first as usize) % MARKS,
+        Some((first, rest)) => (31 * hash_of(rest) + *first as usize) % HASHES,
     }
+}
+
+/// Whether both marks of a name are there.
+pub(crate) fn has_marks(marks: &[u8; MARKS], name: &[u8]) -> bool
+    ensures { IsTrue result ↔ HasMarks marks.now name.now }
+{
+    let hash = hash_of(name);
+    marks[hash % MARKS] == 1 && marks[hash / MARKS] == 1
 }
 
 /// Marks the names of a block's entries.
@@ -28,7 +36,9 @@ pub(crate) fn mark_each(bytes: &[u8], inodes: u32, marks: &mut [u8; MARKS])
         NextEntry::End => {}
         NextEntry::Malformed => {}
         NextEntry::Entry { entry, rest } => {
-            marks[mark_of(entry.name)] = 1;
+            let hash = hash_of(entry.name);
+            marks[hash % MARKS] = 1;
+            marks[hash / MARKS] = 1;
             mark_each(rest, inodes, marks);
         }
     }

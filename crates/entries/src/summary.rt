@@ -14,7 +14,7 @@ pub(crate) struct Summary {
     names: u32,
     /// Bytes of its entries.
     used: u32,
-    /// At the place of each name's mark a 1.
+    /// At the places of each name's marks a 1.
     marks: Box<[u8; MARKS]>,
     ghost is_block: { ∥ IsBlock inodes block ∥₁ },
     ghost tally: { IsTally inodes block marks.value names used },
@@ -29,7 +29,7 @@ ghost use Rattle.entries.specs.Marks.{IsBlock, IsTally};
 
 use crate::entries::find;
 use crate::look::{Look, look_at};
-use crate::marks::{mark_each, mark_of};
+use crate::marks::{has_marks, mark_each};
 use crate::same::are_same;
 use layout::BLOCK_BYTES;
 use std::alloc::{AllocError, Global};
@@ -69,7 +69,7 @@ impl Summary {
         if self.inodes != inodes || !are_same(self.block.bytes(), bytes) {
             return None;
         }
-        let number = if self.marks[mark_of(name)] == 1 {
+        let number = if has_marks(&self.marks, name) {
             find(bytes, inodes, name)
         } else {
             None

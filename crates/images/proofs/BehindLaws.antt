@@ -24,8 +24,7 @@ use Rattle.images.specs.Cuts.{IsOfDisk}
 use Rattle.images.proofs.Frames.{frozen_none}
 use Rattle.images.proofs.PointLaws.{active_base, frozen_read}
 use Rattle.images.proofs.OverlayLaws.{held_up}
-use Rattle.images.proofs.ReadingLaws.{highest}
-use Rattle.images.proofs.SpanLaws.{none_above}
+use Rattle.images.proofs.ReadingLaws.{highest, none_above}
 
 pointer_behind : (blocks b : ℕ) (p : Pointer) → PointsBelow blocks p → p ≡ Block b → IsOfDisk blocks b
 pointer_behind blocks b p below is = subst (PointsBelow blocks) is below

@@ -1,9 +1,6 @@
 -- What a cut may leave of a consistency point.
-use Rattle.model.specs.Records.{Change, Replays, pledged_for, without_nameless}
+use Rattle.model.specs.Records.{Change, Replays, pledged_for}
 use Rattle.model.specs.Room.{fixed_of}
-use Rattle.model.specs.States.{Forgets, going}
-use Rattle.model.specs.Volumes.{tree_of}
-use Rattle.images.specs.States.{LogHoldsChanges}
 use Rattle.std.specs.Prelude.{slice_index}
 use Rattle.std.proofs.Common.{None, [], ◌≡◌, ◌≢◌, ◌⊎◌, inl, inr, ℕ, ◌+◌, ◌*◌, ◌/◌, ◌<◌, ◌≤◌, List, All, refl, ap, sym, subst, ◌∙◌, arith}
 use Rattle.layout.specs.Limits.{Sizes}
@@ -12,21 +9,20 @@ use Rattle.layout.specs.Places.{blocks_of}
 use Rattle.layout.specs.Root.{IsRoot, root_bytes, head_bytes}
 use Rattle.layout.specs.declared.TheConstants.{SLOT_A, SLOT_B}
 use Rattle.layout.specs.declared.root.Root.{Root}
-use Rattle.model.specs.Paths.{Name}
-use Rattle.model.specs.States.{State, with_snapshots}
-use Rattle.model.specs.Trees.{Tree}
+use Rattle.model.specs.States.{Forgets, State}
 use Rattle.model.specs.Volumes.{Volume}
 use Rattle.images.specs.Nodes.{Agrees}
 use Rattle.images.specs.Roots.{whole, Needs}
 use Rattle.images.specs.BlockMap.{entry, roots}
-use Rattle.images.specs.SnapshotSteps.{SnapshotStep, kept_after}
-use Rattle.images.specs.States.{Holds, Opens, OpensBy, HasReserve}
+use Rattle.images.specs.SnapshotSteps.{SnapshotStep, base_plane, base_tree, kept_after}
+use Rattle.images.specs.States.{Holds, LogHoldsChanges, Opens, OpensBy, HasReserve, state_of}
 use Rattle.images.specs.Cuts.{Write, IsOutsideWrites, StaysOutsideWrites, AreFree, HasRootWritten, IsOtherSlot, IsPointWith, LeavesFree, LosesSlot}
 use Rattle.images.specs.Room.{free_under}
 use Rattle.images.proofs.PointLaws.{free_is_free}
 use Rattle.images.proofs.StateLaws.{newest_is_root}
 use Rattle.images.proofs.FreeLaws.{open_alike}
 use Rattle.images.proofs.Frames.{whole_same}
+use Rattle.images.proofs.BaseLaws.{step_base, step_plane, step_sound}
 use Rattle.images.proofs.StepLaws.{step_holds}
 use Rattle.images.proofs.BehindLaws.{needed_behind}
 use Rattle.images.proofs.RoomLaws.{keeps_own}
@@ -45,10 +41,6 @@ open_as_before sectors d e nvram s writes o free stays =
     open_alike sectors d e nvram s o (λ n some. stays n (outside_free o.root d writes n free some))
 
 -- ---- with the root
-
--- what a mount finds of a state has its snapshots, whatever these are
-forgets_with : (pairs : List (Name × Tree)) (s t : State) → Forgets s t → Forgets (with_snapshots pairs s) (with_snapshots pairs t)
-forgets_with pairs s t forgets = record { tree = forgets.tree; rest = ap (with_snapshots pairs) forgets.rest }
 
 low_slot : (r : Root) (d : ℕ → List ℕ) (sector : ℕ) → (sector ≡ SLOT_B) × HoldsRoot (d SLOT_A) r ⊎ (sector ≡ SLOT_A) × HoldsRoot (d SLOT_B) r → sector < 16
 low_slot r d sector (inl b) = omega (arith, b.0)
@@ -125,9 +117,13 @@ module _ (sectors : ℕ) (d e : ℕ → List ℕ) (nvram : List ℕ) (s : State)
   pub new_holds : Holds new (whole (blocks_of e) new) v (kept_after step o.first o.snapshots)
   new_holds =
       let plans = point.plans (blocks_of e) written needs_stay in
-      step_holds (blocks_of d) (blocks_of e) o.root new point.files o.first v o.snapshots (old_root sectors d e nvram s writes sector o point.free point.slot has.others) o.holds needs_stay plans.plan plans.sound
-      (keeps_own (blocks_of d) (blocks_of e) o.root new point.files (old_root sectors d e nvram s writes sector o point.free point.slot has.others) point.root o.holds.sound needs_stay plans.plan plans.sound plans.own)
-      point.later point.objects point.volume step point.possible point.snapshots (point.head (blocks_of e) written)
+      let is_root = old_root sectors d e nvram s writes sector o point.free point.slot has.others in
+      let base = step_base (blocks_of d) o.root step o.holds.sound point.possible in
+      let old = step_sound (blocks_of d) o.root step o.holds.sound point.possible in
+      step_holds (blocks_of d) (blocks_of e) o.root new point.files o.first v o.snapshots is_root o.holds needs_stay step plans.plan plans.sound
+      (keeps_own (blocks_of d) (blocks_of e) o.root new (base_tree step (whole (blocks_of d) o.root)) (base_plane step) point.files is_root point.root o.holds.sound base needs_stay
+      plans.plan old (step_plane step o.root (whole (blocks_of d) o.root) point.possible) plans.sound plans.own)
+      point.later point.version point.objects point.volume point.possible point.snapshots (point.head (blocks_of e) written)
 
   pub new_newest : IsNewest new (e SLOT_A) (e SLOT_B)
   new_newest = elim point.slot [
@@ -144,10 +140,10 @@ module _ (sectors : ℕ) (d e : ℕ → List ℕ) (nvram : List ℕ) (s : State)
   ]
 
   pub new_opens : (rest : List Change) (last : Volume) → LogHoldsChanges new nvram rest → Replays o.root.geometry.inodes v rest last
-      → without_nameless last ≡ without_nameless o.last → (spent : ℕ) → LeavesFree spent o.root (blocks_of d) writes new
+      → (t : State) → Forgets t (state_of o.root.geometry.inodes last (kept_after step o.first o.snapshots)) → (spent : ℕ) → LeavesFree spent o.root (blocks_of d) writes new
       → pledged_for o.root.geometry.inodes v rest + fixed_of o.root.geometry.blocks + spent ≤ free_under (whole (blocks_of d) o.root).active o.root.geometry.blocks
-      → OpensBy sectors e nvram (with_snapshots (kept_after step o.first o.snapshots) s) rest
-  new_opens rest last log replays ends spent leaves enough = record {
+      → OpensBy sectors e nvram t rest
+  new_opens rest last log replays t forgets spent leaves enough = record {
     opens = record {
       root = new;
       newest = new_newest;
@@ -162,12 +158,7 @@ module _ (sectors : ℕ) (d e : ℕ → List ℕ) (nvram : List ℕ) (s : State)
           subst (λ (g : Sizes). pledged_for g.inodes v rest + fixed_of g.blocks ≤ free_under (whole (blocks_of e) new).active g.blocks) (sym point.geometry) (omega (arith, left, enough));
       last = last;
       replays = subst (λ (g : Sizes). Replays g.inodes v rest last) (sym point.geometry) replays;
-      state = forgets_with (kept_after step o.first o.snapshots) s _ (subst (Forgets s) (λ i. record {
-        inodes = (sym point.geometry i).inodes;
-        tree = tree_of (sym ends i) (λ d. None);
-        snapshots = o.snapshots;
-        mark = going;
-      }) o.state);
+      state = subst (λ (g : Sizes). Forgets t (state_of g.inodes last (kept_after step o.first o.snapshots))) (sym point.geometry) forgets;
     };
     these = refl;
   }

@@ -206,6 +206,8 @@ opens_faultless sectors disk nvram s o =
             let snapshot = o.holds.sound.snapshots.each k block there in
             let kept = kept_tree r w 0 o.snapshots o.holds.sound.snapshots o.holds.kept k snapshot.0 snapshot.1 snapshot.2.is.first in
             faultless r.geometry (w.frozen k) kept.1.0 many (frozen_ends (blocks_of disk) r k block some there) (o.holds.sound.frozen k block there) kept.1.1 kept.1.2;
+        within = o.holds.sound.within;
+        frozen_within = o.holds.sound.frozen_within;
         readable = (o.holds.sound.active.files 2).bytes.readable;
         exact = o.holds.sound.exact;
         log = record {

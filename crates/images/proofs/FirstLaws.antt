@@ -21,9 +21,10 @@ use Rattle.images.specs.Roots.{HeldTree, Reach, free_inode, frozen_at, inode_und
 use Rattle.images.specs.BlockMap.{HasBit, IsExact, IsSystem, NamesOnce, entry, roots, head}
 use Rattle.images.specs.Contents.{Content, HoldsVolume, StandsAs, tree_contents}
 use Rattle.images.specs.FirstRoots.{IsFirst, empty_directory, first_inodes, first_tree, root_alone_volume}
-use Rattle.images.specs.Soundness.{FitsNumber, IsSoundFile, IsSoundTree, MapsNumbers}
+use Rattle.images.specs.Soundness.{FitsNumber, IsSoundFile, IsSoundTree, IsWithin, MapsNumbers}
 use Rattle.images.specs.States.{Holds, OpensBy, HasReserve}
 use Rattle.images.proofs.Frames.{frozen_none}
+use Rattle.images.proofs.WithinLaws.{newest_within}
 use Rattle.images.proofs.SlotLaws.{no_snapshots, none_kept}
 use Rattle.images.proofs.AloneLaws.{alone_forgets, alone_volume, no_names}
 use Rattle.images.proofs.ReadingLaws.{read_past, read_spelled}
@@ -161,6 +162,8 @@ module _ (r : Root) (e : Blocks) (numbers map : Inode) (is : IsFirst r e numbers
     sound = record {
       active = subst (IsSoundTree r.geometry) (sym active_is) tree_sound;
       frozen = λ k block there. absurd (no_block (slot r k) block (is.slots k) there);
+      within = subst (λ (u : HeldTree). IsWithin r.version u) (sym active_is) (newest_within r.geometry r.version t is.version tree_sound);
+      frozen_within = λ k block there. absurd (no_block (slot r k) block (is.slots k) there);
       snapshots = no_snapshots r (whole e r) is.slots;
       exact = exact;
       own = record {

@@ -21,8 +21,9 @@ use Rattle.images.specs.Soundness.{IsSoundFile, IsSoundTree, FitsNumber}
 use Rattle.images.specs.Snapshots.{HasSnapshot, AreSnapshots, IsFrozenTree, AreKept, AreKeptAbove}
 use Rattle.images.specs.States.{IsSound, Holds}
 use Rattle.images.specs.Room.{KeepsOwn}
-use Rattle.images.specs.Points.{IsPlannedOn, IsSoundPlan, HoldObjects}
-use Rattle.images.proofs.PointLaws.{point_stands, active_base, frozen_stays, tree_is, stays_held}
+use Rattle.images.specs.Points.{IsBase, IsPlannedOn, IsSoundPlan, HoldObjects}
+use Rattle.images.proofs.PointLaws.{point_stands, frozen_stays, tree_is, stays_held}
+use Rattle.images.proofs.WithinLaws.{newest_within}
 use Rattle.model.proofs.OptionLaws.{some_or_none}
 
 -- ---- the tree
@@ -32,23 +33,23 @@ pub active_tree : (e : Blocks) (r : Root) (inode : ℕ → Inode) → ((n : ℕ)
 unfolding whole
 active_tree e r inode is = tree_is e r inode is
 
-pub sound_tree : (d e : Blocks) (r new : Root) (files : ℕ → Content) → IsRoot r → IsSound r (whole d r)
-    → Agrees (Needs r (whole d r)) d e → (plan : IsPlannedOn (whole d r) (whole d r).active 0 r e new files)
+pub sound_tree : (d e : Blocks) (r new : Root) (t : HeldTree) (plane : ℕ) (files : ℕ → Content) → IsRoot r → IsSound r (whole d r)
+    → IsBase d r t plane → IsSoundTree r.geometry t
+    → Agrees (Needs r (whole d r)) d e → (plan : IsPlannedOn (whole d r) t plane r e new files)
     → IsSoundPlan r.geometry e plan.inode plan.changed → IsSoundTree r.geometry (λ n. held e (plan.inode n))
 unfolding held
-sound_tree d e r new files root sound same plan good =
-    let base = active_base d r sound.exact sound.active.once in
-    let stays : (n : ℕ) → plan.changed n ≡ false → held e (plan.inode n) ≡ (whole d r).active n = λ n no_it.
-    stays_held d e r (whole d r).active 0 n (plan.inode n) base same (plan.stays n no_it) in
-    let settled = point_stands d e r new (whole d r).active 0 files root sound.exact base same plan in
+sound_tree d e r new t plane files root sound base old same plan good =
+    let stays : (n : ℕ) → plan.changed n ≡ false → held e (plan.inode n) ≡ t n = λ n no_it.
+    stays_held d e r t plane n (plan.inode n) base same (plan.stays n no_it) in
+    let settled = point_stands d e r new t plane files root sound.exact base same plan in
     record {
       files = λ n. elim (cases_Bool (plan.changed n)) [
         | inl yes_it ↦ good.files n yes_it
-        | inr no_it ↦ subst (IsSoundFile r.geometry) (sym (stays n no_it)) (sound.active.files n)
+        | inr no_it ↦ subst (IsSoundFile r.geometry) (sym (stays n no_it)) (old.files n)
       ];
       kinds = λ n. elim (cases_Bool (plan.changed n)) [
         | inl yes_it ↦ good.kinds n yes_it
-        | inr no_it ↦ subst (λ (h : Held). FitsNumber n h.inode.kind) (sym (stays n no_it)) (sound.active.kinds n)
+        | inr no_it ↦ subst (λ (h : Held). FitsNumber n h.inode.kind) (sym (stays n no_it)) (old.kinds n)
       ];
       inodes = good.inodes;
       numbers = good.numbers;
@@ -126,44 +127,39 @@ objects_held s t files v sound content objects volume n = elim (cases_lt n 3) [
 -- ---- all of it
 
 -- whatever became of the snapshots
-pub point_with : (d e : Blocks) (r new : Root) (files : ℕ → Content) (first v : Volume) (snapshots : List (Name × Tree))
-    → IsRoot r → Holds r (whole d r) first snapshots
-    → Agrees (Needs r (whole d r)) d e → (plan : IsPlannedOn (whole d r) (whole d r).active 0 r e new files)
-    → IsSoundPlan r.geometry e plan.inode plan.changed → KeepsOwn new (whole e new)
-    → HoldObjects r.geometry.inodes files v → IsVolume r.geometry.inodes v
-    → ((k block : ℕ) → slot new k ≡ Block block → IsSoundTree r.geometry ((whole e new).frozen k))
-    → AreSnapshots new (whole e new) → (pairs : List (Name × Tree)) → AreKept new (whole e new) pairs → Holds new (whole e new) v pairs
-point_with d e r new files first v snapshots root holds same plan good own objects volume frozen are pairs kept =
-    let sound = holds.sound in
-    let base = active_base d r sound.exact sound.active.once in
-    let settled = point_stands d e r new (whole d r).active 0 files root sound.exact base same plan in
-    let tree : IsSoundTree r.geometry (whole e new).active = subst (IsSoundTree r.geometry) (sym (active_tree e new plan.inode plan.inodes)) (sound_tree d e r new files root sound same plan good) in
-    record {
-      sound = record {
-        active = subst (λ (g : Sizes). IsSoundTree g (whole e new).active) (sym plan.geometry) tree;
-        frozen = λ k block there. subst (λ (g : Sizes). IsSoundTree g ((whole e new).frozen k)) (sym plan.geometry) (frozen k block there);
-        snapshots = are;
-        exact = settled.exact;
-        own = own;
-      };
-      holds = subst (λ (g : Sizes). HoldsVolume g.inodes (tree_contents (whole e new).active) v) (sym plan.geometry)
-          (objects_held r.geometry (whole e new).active files v tree settled.content objects volume);
-      volume = subst (λ (g : Sizes). IsVolume g.inodes v) (sym plan.geometry) volume;
-      kept = kept;
-    }
+module _ (d e : Blocks) (r new : Root) (t : HeldTree) (plane : ℕ) (files : ℕ → Content) (first v : Volume) (snapshots : List (Name × Tree))
+    (root : IsRoot r) (holds : Holds r (whole d r) first snapshots) (base : IsBase d r t plane) (old : IsSoundTree r.geometry t)
+    (same : Agrees (Needs r (whole d r)) d e) (plan : IsPlannedOn (whole d r) t plane r e new files)
+    (good : IsSoundPlan r.geometry e plan.inode plan.changed) (own : KeepsOwn new (whole e new)) (newest : new.version ≡ VERSION)
+    (objects : HoldObjects r.geometry.inodes files v) (volume : IsVolume r.geometry.inodes v) where
+  pub point_with : ((k block : ℕ) → slot new k ≡ Block block → IsSoundTree r.geometry ((whole e new).frozen k))
+      → AreSnapshots new (whole e new) → (pairs : List (Name × Tree)) → AreKept new (whole e new) pairs → Holds new (whole e new) v pairs
+  point_with frozen are pairs kept =
+      let settled = point_stands d e r new t plane files root holds.sound.exact base same plan in
+      let tree : IsSoundTree r.geometry (whole e new).active = subst (IsSoundTree r.geometry) (sym (active_tree e new plan.inode plan.inodes)) (sound_tree d e r new t plane files root holds.sound base old same plan good) in
+      record {
+        sound = record {
+          active = subst (λ (g : Sizes). IsSoundTree g (whole e new).active) (sym plan.geometry) tree;
+          frozen = λ k block there. subst (λ (g : Sizes). IsSoundTree g ((whole e new).frozen k)) (sym plan.geometry) (frozen k block there);
+          within = newest_within r.geometry new.version (whole e new).active newest tree;
+          frozen_within = λ k block there. newest_within r.geometry new.version ((whole e new).frozen k) newest (frozen k block there);
+          snapshots = are;
+          exact = settled.exact;
+          own = own;
+        };
+        holds = subst (λ (g : Sizes). HoldsVolume g.inodes (tree_contents (whole e new).active) v) (sym plan.geometry)
+            (objects_held r.geometry (whole e new).active files v tree settled.content objects volume);
+        volume = subst (λ (g : Sizes). IsVolume g.inodes v) (sym plan.geometry) volume;
+        kept = kept;
+      }
 
-pub point_holds : (d e : Blocks) (r new : Root) (files : ℕ → Content) (first v : Volume) (snapshots : List (Name × Tree))
-    → IsRoot r → Holds r (whole d r) first snapshots
-    → Agrees (Needs r (whole d r)) d e → (plan : IsPlannedOn (whole d r) (whole d r).active 0 r e new files)
-    → IsSoundPlan r.geometry e plan.inode plan.changed → KeepsOwn new (whole e new) → r.generation < new.generation → new.snapshots ≡ r.snapshots
-    → HoldObjects r.geometry.inodes files v → IsVolume r.geometry.inodes v
-    → Holds new (whole e new) v snapshots
-point_holds d e r new files first v snapshots root holds same plan good own later slots_stay objects volume =
-    let sound = holds.sound in
-    let slots = slot_same r new slots_stay in
-    let heads : (k : ℕ) → (whole e new).head k ≡ (whole d r).head k = λ k. (frozen_stays d e r new k same plan.geometry (slots k)).1 in
-    let trees : (k : ℕ) → (whole e new).frozen k ≡ (whole d r).frozen k = λ k. (frozen_stays d e r new k same plan.geometry (slots k)).0 in
-    point_with d e r new files first v snapshots root holds same plan good own objects volume
-    (λ k block there. subst (IsSoundTree r.geometry) (sym (trees k)) (sound.frozen k block (sym (slots k) ∙ there)))
-    (snapshots_stay r new (whole d r) (whole e new) slots heads plan.geometry (omega (arith, later)) sound.snapshots)
-    snapshots (kept_stay r new (whole d r) (whole e new) slots heads plan.geometry trees 0 snapshots holds.kept)
+  -- and where all stay
+  pub point_holds : r.generation < new.generation → new.snapshots ≡ r.snapshots → Holds new (whole e new) v snapshots
+  point_holds later slots_stay =
+      let sound = holds.sound in
+      let slots = slot_same r new slots_stay in
+      let heads : (k : ℕ) → (whole e new).head k ≡ (whole d r).head k = λ k. (frozen_stays d e r new k same plan.geometry (slots k)).1 in
+      let trees : (k : ℕ) → (whole e new).frozen k ≡ (whole d r).frozen k = λ k. (frozen_stays d e r new k same plan.geometry (slots k)).0 in
+      point_with (λ k block there. subst (IsSoundTree r.geometry) (sym (trees k)) (sound.frozen k block (sym (slots k) ∙ there)))
+      (snapshots_stay r new (whole d r) (whole e new) slots heads plan.geometry (omega (arith, later)) sound.snapshots)
+      snapshots (kept_stay r new (whole d r) (whole e new) slots heads plan.geometry trees 0 snapshots holds.kept)

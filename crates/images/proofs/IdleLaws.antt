@@ -10,6 +10,8 @@ use Rattle.images.specs.Points as point
 use Rattle.images.specs.Points.{MarksPlane}
 use Rattle.images.specs.States.{IsSound}
 use Rattle.images.specs.Cuts.{PlansOn}
+use Rattle.images.specs.Room.{SharesBase, restores, takes}
+use Rattle.images.specs.SnapshotSteps.{unchanged}
 
 bad : {A : Type 0} → false ≡ true → A
 bad e = absurd (cc)
@@ -29,7 +31,11 @@ was_system r g b (head k is) = head k (sym (slot_is r g k) ∙ is)
 no_marks : (t : HeldTree) → MarksPlane (λ n. false) t 0 t (entry t) (entry t)
 no_marks t b = (λ has. inl (has, λ n e. bad e), λ marked. elim marked [ inl kept ↦ kept.0 | inr comes ↦ bad comes.1 ])
 
-pub idle_plan : (d : Blocks) (r : Root) (g : ℕ) → IsSound r (whole d r) → PlansOn d r d (record r { generation = g }) (tree_contents (whole d r).active)
+shares_none : (r : Root) (g : ℕ) → SharesBase r (record r { generation = g }) 0 → ⊥
+shares_none r g (takes k block new) = new.1 (sym (slot_is r g k) ∙ new.0)
+shares_none r g (restores other) = other refl
+
+pub idle_plan : (d : Blocks) (r : Root) (g : ℕ) → IsSound r (whole d r) → PlansOn unchanged d r d (record r { generation = g }) (tree_contents (whole d r).active)
 unfolding whole tree held
 idle_plan d r g sound = record {
   plan = record {
@@ -59,7 +65,7 @@ idle_plan d r g sound = record {
   };
   own = record {
     heads = λ n k b new e. bad e;
-    map = λ k block b new names. absurd (new.1 (sym (slot_is r g k) ∙ new.0));
-    first = λ k block new. absurd (new.1 (sym (slot_is r g k) ∙ new.0));
+    map = λ b shares names. absurd (shares_none r g shares);
+    first = λ shares. absurd (shares_none r g shares);
   };
 }

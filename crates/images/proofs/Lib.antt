@@ -12,6 +12,8 @@ mod FaultLaws
 pub mod ReadableLaws
 mod FreeLaws
 mod InodeFileLaws
+mod BaseLaws
+mod WithinLaws
 mod HoldLaws
 mod StepLaws
 mod AloneLaws

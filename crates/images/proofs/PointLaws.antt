@@ -10,6 +10,7 @@ use Rattle.layout.specs.declared.inode.Inode.{Inode}
 use Rattle.layout.specs.declared.pointer.Pointer.{Pointer}
 use Rattle.layout.specs.declared.pointer.Pointer.TheVariants.{Hole, Block}
 use Rattle.layout.specs.declared.root.Root.{Root}
+use Rattle.layout.specs.declared.version.TheConstants.{SNAPSHOT_SLOTS}
 use Rattle.images.specs.Nodes.{Held, held, Names, IsOnce, Agrees}
 use Rattle.images.specs.Roots.{HeldTree, tree, inode_under, Reach, whole, Needs, active, frozen, head, slot, frozen_inode_file, frozen_at}
 use Rattle.images.specs.BlockMap.{HasBit, entry, IsExact, HasFilesApart, NamesOnce, IsSystem, head as system_head}
@@ -137,7 +138,7 @@ slot_plane d e r new before after k same geometry zero_is k_is (point.Slot.drops
     (λ has. absurd (plane b has), λ names. absurd (frozen_drops e new k b none names))
 
 -- a slot past the last one is free
-pub no_slot : (r : Root) (k : ℕ) → IsRoot r → 20 < k → slot r k ≡ Hole
+pub no_slot : (r : Root) (k : ℕ) → IsRoot r → SNAPSHOT_SLOTS < k → slot r k ≡ Hole
 no_slot r zero root past = absurd (omega arith)
 no_slot r (suc k) root past = get_or_past r.snapshots k Hole (omega (arith, root.slots))
 

@@ -3,7 +3,7 @@ use Rattle.std.proofs.lemmas.List.{replicate-append-replicate, take-append-drop}
 use Rattle.std.proofs.Common.{◌++◌, take, replicate, append_assoc, ◌≡◌, inl, inr, ℕ, zero, suc, ◌+◌, ◌-◌, ◌/◌, ◌%◌, ◌<◌, ◌≤◌, List, length, drop, get_or, refl, ap, sym, subst, ◌∙◌, arith}
 use Rattle.std.specs.Prelude.{nat_lt, if◌then◌else◌, Some, All}
 use Rattle.std.specs.Int.{div_ceil}
-use Rattle.std.proofs.lemmas.Bool.{cases_lt, cond_below, cond_above}
+use Rattle.std.proofs.lemmas.Bool.{cases_lt, cases_eq, cond_below, cond_above}
 use Rattle.std.proofs.lemmas.List.{get_or-drop, get_or_past}
 use Rattle.layout.specs.Bytes.{zeros}
 use Rattle.layout.specs.Inode.{IsInode, FitsBody, FitsPointers, pointers_used, inode_bytes}
@@ -24,7 +24,8 @@ use Rattle.images.specs.Nodes.{held, body_block, file_block, place_at_height, po
 use Rattle.images.specs.Roots.{free_inode, or_free, inode_from, inode_bytes_at, inode_under, tree, frozen_inode_file, inode_file_or_free}
 use Rattle.images.specs.Soundness.{Detail, IsHeldFile, nodes_of_size}
 use Rattle.images.proofs.OverlayLaws.{held_up}
-pub use Rattle.layout.proofs.SizeLaws.{level_one, level_two, used_one, used_two}
+use Rattle.layout.proofs.SizeLaws.{level_some}
+pub use Rattle.layout.proofs.SizeLaws.{level_one, level_two, used_is}
 
 -- ---- inodes and snapshots
 
@@ -67,6 +68,11 @@ highest d f level i is =
     none : suc level - suc level ≡ 0
     none = omega arith
 
+-- no node stands above the highest
+pub none_above : (d : Blocks) (f : Inode) (m i : ℕ) → level_of f.size ≤ m → (held d f).place m i ≡ Hole
+unfolding held
+none_above d f m i ge = sym (cond_above m (level_of f.size) (place d (pointers_of f.body) (level_of f.size - suc m) i) Hole Hole ge refl)
+
 module _ {detail : Detail} (s : Sizes) (d : Blocks) (f : Inode) (pointers : List Pointer) (sound : IsHeldFile detail s (held d f)) (body : f.body ≡ Pointers pointers) where
   pub fits : FitsPointers pointers s.blocks f.size
   unfolding held
@@ -76,31 +82,32 @@ module _ {detail : Detail} (s : Sizes) (d : Blocks) (f : Inode) (pointers : List
   top_is level i is = highest d f level i is ∙ ap (λ b. get_or (pointers_of b) i Hole) body
 
   -- under an indirect block in its grammar
-  under : (i : ℕ) (p : Pointer) → (held d f).place 1 (i / 1024) ≡ p → div_ceil f.size 4096 ≤ i → follow d p (i % 1024) ≡ Hole
-  unfolding held nodes_of_size
-  under i Hole is past = refl
-  under i (Block b) is past =
-      let block = sound.indirect 0 (i / 1024) b is in
-      let at : pointed d (place_at_height d f 1 (i / 1024)) ≡ d b = ap (pointed d) is in
+  under : (m i : ℕ) (p : Pointer) → (held d f).place (suc m) (i / 1024) ≡ p → nodes_of_size f.size m ≤ i → follow d p (i % 1024) ≡ Hole
+  unfolding held
+  under m i Hole is past = refl
+  under m i (Block b) is past =
+      let block = sound.indirect m (i / 1024) b is in
+      let at : pointed d (place_at_height d f (suc m) (i / 1024)) ≡ d b = ap (pointed d) is in
       subst (λ bytes. indirect_pointer bytes (i % 1024) ≡ Hole) at ((block.within (i % 1024) (omega arith)).1 (omega arith))
 
-  pub hole_behind : (i : ℕ) → div_ceil f.size 4096 ≤ i → (held d f).place 0 i ≡ Hole
-  hole_behind i past = elim (cases_lt 65536 f.size) [
-    | inr low ↦
-        let level = level_one f.size fits.0 low in
-        top_is 0 i level ∙ hole_past pointers (pointers_used f.size) i fits.3 (omega (arith, used_one f.size low))
-    | inl large ↦
-        let level = level_two f.size large in
-        held_up d f 0 i (omega (arith, level)) ∙ under i ((held d f).place 1 (i / 1024)) refl past
+  -- past the nodes at a height all are holes
+  pub node_behind : (m i : ℕ) → nodes_of_size f.size m ≤ i → (held d f).place m i ≡ Hole
+  node_behind m i past = elim (cases_lt (suc m) (level_of f.size)) [
+    | inl below ↦ held_up d f m i below ∙ under m i ((held d f).place (suc m) (i / 1024)) refl past
+    | inr ge ↦ elim (cases_eq (suc m) (level_of f.size)) [
+      | inl top ↦ top_is m i (sym top) ∙ hole_past pointers (pointers_used f.size) i fits.3 (subst (λ n. n ≤ i) (sym (used_is f.size m (sym top))) past)
+      | inr other ↦ none_above d f m i (omega (arith, ge, other))
+    ]
   ]
+
+  pub hole_behind : (i : ℕ) → div_ceil f.size 4096 ≤ i → (held d f).place 0 i ≡ Hole
+  unfolding nodes_of_size
+  hole_behind i past = node_behind 0 i past
 
   before : (i : ℕ) → (held d f).place 0 i ≡ place d pointers (level_of f.size - 1) i
   unfolding held
   before i =
-      let some : 0 < level_of f.size = elim (cases_lt 65536 f.size) [
-        | inr low ↦ omega (arith, level_one f.size fits.0 low)
-        | inl large ↦ omega (arith, level_two f.size large)
-      ] in
+      let some = level_some f.size fits.0 in
       sym (cond_below 0 (level_of f.size) (place d (pointers_of f.body) (level_of f.size - suc 0) i) Hole some)
       ∙ ap (λ b. place d (pointers_of b) (level_of f.size - 1) i) body
 

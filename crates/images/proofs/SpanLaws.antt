@@ -1,9 +1,9 @@
 -- Which nodes a file in its grammar has.
-use Rattle.std.proofs.Common.{◌≡◌, ◌≢◌, inl, inr, ℕ, zero, suc, ◌*◌, ◌/◌, ◌%◌, ◌<◌, ◌≤◌, List, drop, All, refl, ap, sym, subst, ◌∙◌, ◌-◌, arith}
-use Rattle.std.proofs.lemmas.Bool.{cases_lt, cond_above}
-use Rattle.layout.specs.Inode.{FitsBody, pointers_used}
+use Rattle.std.proofs.Common.{◌≡◌, ◌≢◌, inl, inr, ℕ, zero, suc, ◌*◌, ◌/◌, ◌%◌, ◌<◌, ◌≤◌, List, ap, ◌∙◌, arith, refl}
+use Rattle.std.proofs.lemmas.Bool.{cases_lt}
+use Rattle.layout.specs.Inode.{FitsBody}
 use Rattle.layout.specs.Limits.{Sizes}
-use Rattle.layout.specs.Places.{Blocks, follow, place}
+use Rattle.layout.specs.Places.{Blocks, follow}
 use Rattle.layout.specs.Version.{level_of}
 use Rattle.layout.specs.declared.inode.Body.{Body}
 use Rattle.layout.specs.declared.inode.Body.TheVariants.{Inline, Pointers}
@@ -11,11 +11,11 @@ use Rattle.layout.specs.declared.inode.Inode.{Inode}
 use Rattle.layout.specs.declared.pointer.Pointer.{Pointer}
 use Rattle.layout.specs.declared.pointer.Pointer.TheVariants.{Hole, Block}
 use Rattle.layout.proofs.PointerLaws.{no_block}
-use Rattle.layout.proofs.SizeLaws.{level_none, level_one, level_two, used_two}
-use Rattle.images.specs.Nodes.{held, pointers_of}
+use Rattle.layout.proofs.SizeLaws.{level_none}
+use Rattle.images.specs.Nodes.{held}
 use Rattle.images.specs.Soundness.{HasNoHole, IsSoundFile, nodes_of_size}
 use Rattle.images.proofs.OverlayLaws.{held_up}
-use Rattle.images.proofs.ReadingLaws.{highest, hole_behind, hole_past, fits}
+use Rattle.images.proofs.ReadingLaws.{node_behind, none_above}
 
 pub some_block : (p : Pointer) → p ≢ Hole → (b : ℕ) × (p ≡ Block b)
 some_block Hole some = absurd (some refl)
@@ -24,11 +24,6 @@ some_block (Block b) some = (b, refl)
 pointers_in : (blocks size : ℕ) (body : Body) → FitsBody body blocks size → 1 ≤ level_of size → (pointers : List Pointer) × (body ≡ Pointers pointers)
 pointers_in blocks size (Inline bytes) fits level = absurd (omega (arith, level, level_none size fits.0))
 pointers_in blocks size (Pointers pointers) fits level = (pointers, refl)
-
--- no node stands above the highest
-pub none_above : (d : Blocks) (f : Inode) (m i : ℕ) → level_of f.size ≤ m → (held d f).place m i ≡ Hole
-unfolding held
-none_above d f m i ge = sym (cond_above m (level_of f.size) (place d (pointers_of f.body) (level_of f.size - suc m) i) Hole Hole ge refl)
 
 -- where a node is a hole, so are those under it
 under_hole : (d : Blocks) (f : Inode) (m i : ℕ) → suc m < level_of f.size → (held d f).place (suc m) (i / 1024) ≡ Hole → (held d f).place m i ≡ Hole
@@ -41,28 +36,7 @@ module _ (s : Sizes) (d : Blocks) (f : Inode) (sound : IsSoundFile s (held d f))
 
   -- no node stands past the file's end
   none_past : (m i : ℕ) → m < level_of f.size → nodes_of_size f.size m ≤ i → (held d f).place m i ≡ Hole
-  unfolding nodes_of_size
-  none_past zero i lt past = let body = body_of (omega (arith, lt)) in hole_behind s d f body.0 sound body.1 i past
-  none_past (suc zero) i lt past = elim (cases_lt 65536 f.size) [
-    | inr low ↦ elim (cases_lt 128 f.size) [
-      | inl some ↦ absurd (omega (arith, lt, level_one f.size some low))
-      | inr none ↦ absurd (omega (arith, lt, level_none f.size none))
-    ]
-    | inl large ↦
-        let level = level_two f.size large in
-        let body = body_of (omega (arith, lt)) in
-        highest d f 1 i level
-        ∙ hole_past (pointers_of f.body) (pointers_used f.size) i
-        (subst (λ (b : Body). All (λ p. p ≡ Hole) (drop (pointers_used f.size) (pointers_of b))) (sym body.1) (fits s d f body.0 sound body.1).3)
-        (omega (arith, used_two f.size large, past))
-  ]
-  none_past (suc (suc m)) i lt past = elim (cases_lt 65536 f.size) [
-    | inl large ↦ absurd (omega (arith, lt, level_two f.size large))
-    | inr low ↦ elim (cases_lt 128 f.size) [
-      | inl some ↦ absurd (omega (arith, lt, level_one f.size some low))
-      | inr none ↦ absurd (omega (arith, lt, level_none f.size none))
-    ]
-  ]
+  none_past m i lt past = let body = body_of (omega (arith, lt)) in node_behind s d f body.0 sound body.1 m i past
 
   -- a node of a file stands where its size says
   pub within_span : (m i b : ℕ) → (held d f).place m i ≡ Block b → (m < level_of f.size) × (i < nodes_of_size f.size m)

@@ -1,4 +1,4 @@
--- A point that takes or deletes a snapshot leaves the others as they were.
+-- A point that takes, deletes or restores a snapshot leaves the others as they were.
 use Rattle.std.proofs.Common.{◌≡◌, ◌≢◌, ◌⊎◌, inl, inr, ℕ, None, ◌<◌, ◌≤◌, true, not, List, [], ◌∷◌, ◌++◌, filter, Some, refl, ap, sym, subst, ◌∙◌, arith}
 use Rattle.std.specs.Prelude.{bytes_eq}
 use Rattle.std.proofs.lemmas.Bool.{cases_lt, cases_eq, cond-true, cond-false, cases_Bool}
@@ -19,11 +19,12 @@ use Rattle.images.specs.Contents.{Content, HoldsVolume, tree_contents}
 use Rattle.images.specs.Nodes.{Agrees}
 use Rattle.images.specs.Points.{HoldObjects, IsPlannedOn, IsSoundPlan}
 use Rattle.images.specs.Roots.{HeldTree, Needs, Whole, frozen_inode_file, slot, whole}
-use Rattle.images.specs.Snapshots.{HasSnapshot, FitsRoot, AreSnapshots, IsFrozenTree, AreKeptAbove}
-use Rattle.images.specs.SnapshotSteps.{SnapshotStep, unchanged, taken, deleted, CanStep, CanTake, CanDelete, StepsSlots, SetsSlot, HasHead, kept_after}
+use Rattle.images.specs.Snapshots.{HasSnapshot, FitsRoot, AreSnapshots, IsFrozenTree, AreKept, AreKeptAbove}
+use Rattle.images.specs.SnapshotSteps.{SnapshotStep, unchanged, taken, deleted, restored, CanStep, CanTake, HasNamed, StepsSlots, SetsSlot, HasHead, base_plane, base_tree, kept_after}
 use Rattle.images.specs.Soundness.{IsSoundTree}
 use Rattle.images.specs.Room.{KeepsOwn}
 use Rattle.images.specs.States.{Holds}
+use Rattle.images.proofs.BaseLaws.{step_base, step_sound}
 use Rattle.images.proofs.HoldLaws.{point_holds, point_with}
 use Rattle.images.proofs.PointLaws.{frozen_stays, frozen_takes}
 use Rattle.images.proofs.ReadingLaws.{read_snapshot}
@@ -144,7 +145,7 @@ module _ (r new : Root) (w now : Whole) (k : ℕ) (slots : (l : ℕ) → l ≢ k
 
     -- ---- one is deleted
 
-    module _ (name : Name) (can : CanDelete r w k name) (none : slot new k ≡ Hole) (are : AreSnapshots r w) where
+    module _ (name : Name) (can : HasNamed r w k name) (none : slot new k ≡ Hole) (are : AreSnapshots r w) where
       away : (l : ℕ) (q : Snapshot) → HasSnapshot new now l q → l ≢ k
       away l q there same = no_block (slot new l) there.block (ap (slot new) same ∙ none) there.there
 
@@ -221,9 +222,23 @@ unfolding whole
 head_is e new k bytes is = is
 
 module _ (d e : Blocks) (r new : Root) (files : ℕ → Content) (first v : Volume) (snapshots : List (Name × Tree))
-    (root : IsRoot r) (holds : Holds r (whole d r) first snapshots) (same : Agrees (Needs r (whole d r)) d e)
-    (plan : IsPlannedOn (whole d r) (whole d r).active 0 r e new files) (good : IsSoundPlan r.geometry e plan.inode plan.changed)
-    (own : KeepsOwn new (whole e new)) (later : r.generation < new.generation) (objects : HoldObjects r.geometry.inodes files v) (volume : IsVolume r.geometry.inodes v) where
+    (root : IsRoot r) (holds : Holds r (whole d r) first snapshots) (same : Agrees (Needs r (whole d r)) d e) (step : SnapshotStep)
+    (plan : IsPlannedOn (whole d r) (base_tree step (whole d r)) (base_plane step) r e new files) (good : IsSoundPlan r.geometry e plan.inode plan.changed)
+    (own : KeepsOwn new (whole e new)) (later : r.generation < new.generation) (newest : new.version ≡ VERSION)
+    (objects : HoldObjects r.geometry.inodes files v) (volume : IsVolume r.geometry.inodes v) (may : CanStep step r (whole d r)) where
+  abbrev Keeps : List (Name × Tree) → Type 0
+  Keeps pairs = Holds new (whole e new) v pairs
+
+  -- whatever became of the snapshots
+  planned : ((k block : ℕ) → slot new k ≡ Block block → IsSoundTree r.geometry ((whole e new).frozen k))
+      → AreSnapshots new (whole e new) → (pairs : List (Name × Tree)) → AreKept new (whole e new) pairs → Keeps pairs
+  planned = point_with d e r new (base_tree step (whole d r)) (base_plane step) files first v snapshots root holds
+      (step_base d r step holds.sound may) (step_sound d r step holds.sound may) same plan good own newest objects volume
+
+  stays_holds : new.snapshots ≡ r.snapshots → Keeps snapshots
+  stays_holds = point_holds d e r new (base_tree step (whole d r)) (base_plane step) files first v snapshots root holds
+      (step_base d r step holds.sound may) (step_sound d r step holds.sound may) same plan good own newest objects volume later
+
   module _ (k : ℕ) (slots : (l : ℕ) → l ≢ k → slot new l ≡ slot r l) where
     heads : (l : ℕ) → l ≢ k → (whole e new).head l ≡ (whole d r).head l
     heads l other = (frozen_stays d e r new l same plan.geometry (slots l other)).1
@@ -235,7 +250,7 @@ module _ (d e : Blocks) (r new : Root) (files : ℕ → Content) (first v : Volu
     others_sound l block other there = subst (IsSoundTree r.geometry) (sym (trees l other)) (holds.sound.frozen l block (sym (slots l other) ∙ there))
 
   taken_holds : (k : ℕ) (s : Snapshot) → CanTake r (whole d r) k s → (block : ℕ) → SetsSlot r new k (Block block) → pointed e (slot new k) ≡ snapshot_bytes s
-      → Holds new (whole e new) v (snapshots ++ (s.name, tree_of (without_nameless first) (λ n. None)) ∷ [])
+      → Keeps (snapshots ++ (s.name, tree_of (without_nameless first) (λ n. None)) ∷ [])
   taken_holds k s can block sets head =
       let spelled = read_snapshot s can.is in
       let head_bytes = head_is e new k (snapshot_bytes s) head in
@@ -244,7 +259,7 @@ module _ (d e : Blocks) (r new : Root) (files : ℕ → Content) (first v : Volu
       frozen_takes d e r new k block same plan.geometry sets.there (ap frozen_inode_file bytes ∙ spelled.1 ∙ can.tree) in
       let has : HasSnapshot new (whole e new) k s = record { block = block; there = sets.there; read = ap snapshot_in head_bytes ∙ spelled.0 } in
       let heads_stay = heads k sets.others in
-      point_with d e r new files first v snapshots root holds same plan good own objects volume
+      planned
       (λ l other there. elim (cases_eq l k) [
         | inl is ↦ subst (IsSoundTree r.geometry) (sym (ap (whole e new).frozen is ∙ tree_is)) holds.sound.active
         | inr not_it ↦ others_sound k sets.others l other not_it there
@@ -267,11 +282,11 @@ module _ (d e : Blocks) (r new : Root) (files : ℕ → Content) (first v : Volu
       )
       0 snapshots (omega (arith, can.is.first)) holds.kept)
 
-  deleted_holds : (k : ℕ) (name : Name) → CanDelete r (whole d r) k name → SetsSlot r new k Hole
-      → Holds new (whole e new) v (filter (λ pair. not (bytes_eq pair.0 name)) snapshots)
+  deleted_holds : (k : ℕ) (name : Name) → HasNamed r (whole d r) k name → SetsSlot r new k Hole
+      → Keeps (filter (λ pair. not (bytes_eq pair.0 name)) snapshots)
   deleted_holds k name can sets =
       let heads_stay = heads k sets.others in
-      point_with d e r new files first v snapshots root holds same plan good own objects volume
+      planned
       (λ l block there. elim (cases_eq l k) [
         | inl is ↦ absurd (no_block (slot new l) block (ap (slot new) is ∙ sets.there) there)
         | inr other ↦ others_sound k sets.others l block other there
@@ -280,8 +295,11 @@ module _ (d e : Blocks) (r new : Root) (files : ℕ → Content) (first v : Volu
       (filter (λ pair. not (bytes_eq pair.0 name)) snapshots)
       (deleted_kept r new (whole d r) (whole e new) k sets.others heads_stay plan.geometry later name can sets.there holds.sound.snapshots (trees k sets.others) 0 snapshots holds.kept)
 
-  pub step_holds : (step : SnapshotStep) → CanStep step r (whole d r) → StepsSlots step r new → HasHead step new e → Holds new (whole e new) v (kept_after step first snapshots)
-  step_holds unchanged can slots head =
-      point_holds d e r new files first v snapshots root holds same plan good own later slots objects volume
-  step_holds (taken k s) can slots head = taken_holds k s can slots.0 slots.1 head
-  step_holds (deleted k name) can slots head = deleted_holds k name can slots
+  holds_after : (made : SnapshotStep) → CanStep made r (whole d r) → StepsSlots made r new → HasHead made new e → Keeps (kept_after made first snapshots)
+  holds_after unchanged can slots head = stays_holds slots
+  holds_after (taken k s) can slots head = taken_holds k s can slots.0 slots.1 head
+  holds_after (deleted k name) can slots head = deleted_holds k name can slots
+  holds_after (restored k name) can slots head = stays_holds slots
+
+  pub step_holds : StepsSlots step r new → HasHead step new e → Keeps (kept_after step first snapshots)
+  step_holds = holds_after step may

@@ -5,6 +5,7 @@ use Rattle.layout.specs.Places.{Blocks, blocks_of}
 use Rattle.layout.specs.Root.{IsRoot}
 use Rattle.layout.specs.declared.TheConstants.{BLOCK_BYTES, SLOT_A, SLOT_B}
 use Rattle.layout.specs.declared.root.Root.{Root}
+use Rattle.layout.specs.declared.version.TheConstants.{VERSION}
 use Rattle.model.specs.Volumes.{Volume, IsVolume}
 use Rattle.images.specs.Nodes.{Agrees, held}
 use Rattle.images.specs.Roots.{whole, Needs}
@@ -12,7 +13,7 @@ use Rattle.images.specs.BlockMap.{entry}
 use Rattle.images.specs.Contents.{Content}
 use Rattle.images.specs.Points.{IsPlannedOn, IsSoundPlan, HoldObjects}
 use Rattle.images.specs.Room.{StoresOwn, free_under}
-use Rattle.images.specs.SnapshotSteps.{SnapshotStep, CanStep, StepsSlots, HasHead}
+use Rattle.images.specs.SnapshotSteps.{SnapshotStep, CanStep, StepsSlots, HasHead, base_plane, base_tree}
 
 -- a block of a disk of so many, behind the two that hold the roots
 abbrev pub IsOfDisk : ℕ → ℕ → Type 0
@@ -55,17 +56,17 @@ abbrev pub IsOtherSlot : Root → (ℕ → List ℕ) → ℕ → Type 0
 IsOtherSlot r d sector =
     ((sector ≡ SLOT_B) × HoldsRoot (d SLOT_A) r) ⊎ ((sector ≡ SLOT_A) × HoldsRoot (d SLOT_B) r)
 
--- what is planned, on one disk that has the planned blocks
-pub record PlansOn (d : Blocks) (r : Root) (e : Blocks) (new : Root) (files : ℕ → Content) : Type 0 where
-  pub plan : IsPlannedOn (whole d r) (whole d r).active 0 r e new files
+-- what is planned, on one disk that has the planned blocks, from the tree that the step starts from
+pub record PlansOn (step : SnapshotStep) (d : Blocks) (r : Root) (e : Blocks) (new : Root) (files : ℕ → Content) : Type 0 where
+  pub plan : IsPlannedOn (whole d r) (base_tree step (whole d r)) (base_plane step) r e new files
   pub sound : IsSoundPlan r.geometry e plan.inode plan.changed
-  pub own : StoresOwn (λ n. held e (plan.inode n)) r new plan.taken
+  pub own : StoresOwn (base_plane step) (λ n. held e (plan.inode n)) r new plan.taken
 
 -- and on each that has them
-abbrev pub Plans : Blocks → Root → List Write → Root → (ℕ → Content) → Type 0
-Plans d r writes new files =
+abbrev pub Plans : SnapshotStep → Blocks → Root → List Write → Root → (ℕ → Content) → Type 0
+Plans step d r writes new files =
     (e : Blocks) → All (λ w. e w.place ≡ w.bytes) writes → Agrees (Needs r (whole d r)) d e
-    → PlansOn d r e new files
+    → PlansOn step d r e new files
 
 -- on each disk that has the planned blocks, the new root leaves no fewer free than the old one, but for so many
 abbrev pub LeavesFree : ℕ → Root → Blocks → List Write → Root → Type 0
@@ -83,10 +84,11 @@ pub record IsPointWith (step : SnapshotStep) (r : Root) (d : ℕ → List ℕ) (
   pub root : IsRoot new
   pub later : r.generation < new.generation
   pub geometry : new.geometry ≡ r.geometry
+  pub version : new.version ≡ VERSION
   pub possible : CanStep step r (whole (blocks_of d) r)
   pub snapshots : StepsSlots step r new
   pub head : (e : Blocks) → All (λ w. e w.place ≡ w.bytes) writes → HasHead step new e
   pub files : ℕ → Content
-  pub plans : Plans (blocks_of d) r writes new files
+  pub plans : Plans step (blocks_of d) r writes new files
   pub objects : HoldObjects r.geometry.inodes files v
   pub volume : IsVolume r.geometry.inodes v

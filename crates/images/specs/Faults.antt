@@ -19,7 +19,7 @@ use Rattle.images.specs.Replaying.{ReplaysWithin}
 use Rattle.images.specs.Roots.{HeldTree, Whole, slot, whole}
 use Rattle.images.specs.Snapshots.{AreSnapshots}
 use Rattle.images.specs.Sizes.{HoldsVolumeIn}
-use Rattle.images.specs.Soundness.{FitsNumber, HasNoHole, IsFileGrammar, IsReadable, MapsNumbers, SpellsInodes, by_sizes}
+use Rattle.images.specs.Soundness.{FitsNumber, HasNoHole, IsFileGrammar, IsReadable, IsWithin, MapsNumbers, SpellsInodes, by_sizes}
 use Rattle.images.specs.States.{LogHoldsChanges}
 
 -- ---- 1: the roots
@@ -93,12 +93,14 @@ pub record HasLog (r : Root) (w : Whole) (nvram : List ℕ) (changes : List Chan
 
 -- ---- all
 
--- None of the nine faults stands under a root, beside those of the roots: in its snapshots, in its tree and each of theirs, in its block
--- map, and in the log of these records.
+-- None of the nine faults stands under a root, beside those of the roots: in its snapshots, in its tree and each of theirs, whose files
+-- are no larger than its version allows, in its block map, and in the log of these records.
 pub record IsFaultlessUnder (r : Root) (w : Whole) (nvram : List ℕ) (changes : List Change) : Type 0 where
   pub snapshots : AreSnapshots r w
   pub active : IsFaultless r.geometry w.active
   pub frozen : (k block : ℕ) → slot r k ≡ Block block → IsFaultless r.geometry (w.frozen k)
+  pub within : IsWithin r.version w.active
+  pub frozen_within : (k block : ℕ) → slot r k ≡ Block block → IsWithin r.version (w.frozen k)
   pub readable : IsReadable (w.active 2)
   pub exact : IsExact r w
   pub log : HasLog r w nvram changes

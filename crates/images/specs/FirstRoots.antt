@@ -12,6 +12,7 @@ use Rattle.layout.specs.declared.kind.Kind.TheVariants as kinds
 use Rattle.model.specs.declared.limits.TheConstants.{FIRST_NUMBER, ROOT_NUMBER}
 use Rattle.layout.specs.declared.pointer.Pointer.TheVariants.{Hole}
 use Rattle.layout.specs.declared.root.Root.{Root}
+use Rattle.layout.specs.declared.version.TheConstants.{VERSION}
 use Rattle.model.specs.Volumes.{Volume, directory_node}
 use Rattle.images.specs.Nodes.{held, Names, IsOnce, file_block}
 use Rattle.images.specs.Roots.{HeldTree, Reach, free_inode, slot}
@@ -61,8 +62,9 @@ pub record IsFirstTree (s : Sizes) (e : Blocks) (top numbers map : Inode) : Type
   pub none : (b k : ℕ) → 1 ≤ k → k ≢ 31 → HasBit k (entry (first_tree e top numbers map) b) → ⊥
   pub system : (b : ℕ) → HasBit 31 (entry (first_tree e top numbers map) b) ↔ (b < 2)
 
--- a root without snapshots, under which a disk e has these
+-- a root of the newest version without snapshots, under which a disk e has these
 pub record IsFirst (r : Root) (e : Blocks) (numbers map : Inode) : Type 0 where
   pub root : IsRoot r
+  pub version : r.version ≡ VERSION
   pub slots : (k : ℕ) → slot r k ≡ Hole
   pub tree : IsFirstTree r.geometry e r.inode_file numbers map

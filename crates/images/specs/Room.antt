@@ -34,12 +34,18 @@ IsNewHead r new k b = (slot new k ≡ Block b) × (slot r k ≢ Block b)
 abbrev pub TakesFirst : HeldTree → (ℕ → ℕ → Bool) → Type 0
 TakesFirst now taken = (b : ℕ) → (now 0).place 0 0 ≡ Block b → taken 0 b ≡ true
 
--- A new snapshot's root block is taken for no file, and where there is one, the block map's whole file stands in taken blocks, and so
--- does block 0 of the inode file.
-pub record StoresOwn (now : HeldTree) (r new : Root) (taken : ℕ → ℕ → Bool) : Type 0 where
+-- A snapshot has the tree that a point starts from, which has this plane of the block map: one is taken of it, or it is that of one
+-- that is restored.
+pub data SharesBase (r new : Root) (plane : ℕ) : Type 0 where
+  takes : (k block : ℕ) → (new_head : IsNewHead r new k block) → SharesBase r new plane
+  restores : (frozen : plane ≢ 0) → SharesBase r new plane
+
+-- A new snapshot's root block is taken for no file, and where a snapshot has the tree that the point starts from, the block map's whole
+-- file stands in taken blocks, and so does block 0 of the inode file.
+pub record StoresOwn (plane : ℕ) (now : HeldTree) (r new : Root) (taken : ℕ → ℕ → Bool) : Type 0 where
   pub heads : (n k b : ℕ) → IsNewHead r new k b → taken n b ≡ true → ⊥
-  pub map : (k block b : ℕ) → IsNewHead r new k block → Names (now 2) b → taken 2 b ≡ true
-  pub first : (k block : ℕ) → IsNewHead r new k block → TakesFirst now taken
+  pub map : (b : ℕ) → SharesBase r new plane → Names (now 2) b → taken 2 b ≡ true
+  pub first : SharesBase r new plane → TakesFirst now taken
 
 -- the blocks that are taken for these files come before one, and so do new snapshots' root blocks
 pub record TakesBelow (mid : ℕ) (IsOne : ℕ → Type 0) (r new : Root) (taken : ℕ → ℕ → Bool) : Type 0 where

@@ -54,7 +54,7 @@ pub record Reach (t : HeldTree) (b : ℕ) : Type 0 where
 
 -- ---- a root with its snapshots
 
--- the snapshot root block in a root's slot, of slots 1 to 20
+-- the snapshot root block in a root's slot, of slots 1 to 30
 abbrev pub slot : Root → ℕ → Pointer
 slot r zero = Hole
 slot r (suc k) = slice_index_or r.snapshots k Hole

@@ -1,12 +1,12 @@
 -- The grammars that a tree keeps: its inodes, indirect blocks, maps and the bytes past the ends of its files.
 use Rattle.std.specs.Prelude.{ℕ, zero, suc, ◌≡◌, ◌≢◌, ◌⊎◌, ◌↔◌, ◌-◌, ◌*◌, ◌<◌, ◌≤◌, List, length, drop}
-use Rattle.std.specs.Int.{div_ceil}
 use Rattle.layout.specs.Bytes.{zeros}
 use Rattle.layout.specs.FileBytes.{byte_in, EndsAt}
 use Rattle.layout.specs.Inode.{IsInode, inode_bytes}
+unfoldable pub use Rattle.layout.specs.Inode.{nodes_of_size}
 use Rattle.layout.specs.Limits.{Sizes}
 use Rattle.layout.specs.Maps.{IsTaken, IsIndirectBlock}
-use Rattle.layout.specs.Version.{level_of}
+use Rattle.layout.specs.Version.{greatest_size, level_of}
 use Rattle.layout.specs.declared.TheConstants.{BLOCK_BYTES, BLOCK_POINTERS, INODE_BYTES, INODES_PER_BLOCK}
 use Rattle.layout.specs.declared.kind.Kind.{Kind}
 use Rattle.layout.specs.declared.kind.Kind.TheVariants as kinds
@@ -17,11 +17,6 @@ use Rattle.images.specs.Nodes.{Held, file_block}
 use Rattle.images.specs.Roots.{HeldTree, inode_bytes_at}
 use Rattle.images.specs.BlockMap.{NamesOnce}
 use Rattle.images.specs.Contents.{content_of, content_bytes}
-
--- how many nodes a file of so many bytes has at a height
-unfoldable pub nodes_of_size : ℕ → ℕ → ℕ
-nodes_of_size size zero = div_ceil size BLOCK_BYTES
-nodes_of_size size (suc height) = div_ceil (nodes_of_size size height) BLOCK_POINTERS
 
 -- how much is known of the bytes in files: all of them, or how many there are
 pub data Detail : Type 0 where
@@ -101,3 +96,7 @@ pub record IsSoundTree (s : Sizes) (t : HeldTree) : Type 0 where
   pub inode_map : HasNoHole (t 1)
   pub block_map : HasNoHole (t 2)
   pub once : NamesOnce t
+
+-- the files of a tree are no larger than a version allows
+abbrev pub IsWithin : ℕ → HeldTree → Type 0
+IsWithin version t = (n : ℕ) → (t n).inode.size ≤ greatest_size version

@@ -18,12 +18,14 @@ use Rattle.images.specs.BlockMap.{IsExact, entry}
 use Rattle.images.specs.Contents.{HoldsVolume, tree_contents}
 use Rattle.images.specs.Room.{KeepsOwn, free_under}
 use Rattle.images.specs.Snapshots.{AreSnapshots, AreKept}
-use Rattle.images.specs.Soundness.{IsSoundTree}
+use Rattle.images.specs.Soundness.{IsSoundTree, IsWithin}
 
 -- all that a root holds is in its grammar, and no snapshot shares what every point stores
 pub record IsSound (r : Root) (w : Whole) : Type 0 where
   pub active : IsSoundTree r.geometry w.active
   pub frozen : (k block : ℕ) → slot r k ≡ Block block → IsSoundTree r.geometry (w.frozen k)
+  pub within : IsWithin r.version w.active
+  pub frozen_within : (k block : ℕ) → slot r k ≡ Block block → IsWithin r.version (w.frozen k)
   pub snapshots : AreSnapshots r w
   pub exact : IsExact r w
   pub own : KeepsOwn r w
@@ -47,6 +49,15 @@ HasReserve r w first changes =
     pledged_for r.geometry.inodes first changes + fixed_of r.geometry.blocks
     ≤ free_under w.active r.geometry.blocks
 
+-- the state of these objects, files without names aside, and of these snapshots
+abbrev pub state_of : ℕ → Volume → List (Name × Tree) → State
+state_of inodes v snapshots = record {
+  inodes = inodes;
+  tree = tree_of (without_nameless v) (λ d. None);
+  snapshots = snapshots;
+  mark = going;
+}
+
 -- The disk and the NVRAM stand for this state with its open files forgotten: the objects that the newest root holds, changed
 -- by the records that it doesn't cover, without the files that have no name then.
 pub record Opens (sectors : ℕ) (disk : ℕ → List ℕ) (nvram : List ℕ) (s : State) : Type 0 where
@@ -61,12 +72,7 @@ pub record Opens (sectors : ℕ) (disk : ℕ → List ℕ) (nvram : List ℕ) (s
   pub room : HasReserve root (whole (blocks_of disk) root) first changes
   pub last : Volume
   pub replays : Replays root.geometry.inodes first changes last
-  pub state : Forgets s (record {
-    inodes = root.geometry.inodes;
-    tree = tree_of (without_nameless last) (λ d. None);
-    snapshots = snapshots;
-    mark = going;
-  })
+  pub state : Forgets s (state_of root.geometry.inodes last snapshots)
 
 -- The disk and the NVRAM stand for this state by just these records.
 pub record OpensBy (sectors : ℕ) (disk : ℕ → List ℕ) (nvram : List ℕ) (s : State)

@@ -6,16 +6,16 @@ ghost use Rattle.layout.specs.Places.{Blocks, blocks_of};
 ghost use Rattle.layout.specs.Root.{IsRoot, root_bytes};
 ghost use Rattle.layout.specs.declared.TheConstants.{SLOT_A, SLOT_B};
 ghost use Rattle.layout.specs.declared.root.Root.{Root};
-ghost use Rattle.model.specs.Records.{Change, Replays, pledged_for, without_nameless};
+ghost use Rattle.model.specs.Records.{Change, Replays, pledged_for};
 ghost use Rattle.model.specs.Room.{fixed_of};
-ghost use Rattle.model.specs.States.{State, with_snapshots};
+ghost use Rattle.model.specs.States.{Forgets, State};
 ghost use Rattle.model.specs.Volumes.{Volume};
 ghost use Rattle.images.specs.Cuts.{AreFree, HasRootWritten, IsOfDisk, IsOtherSlot, IsPointWith, LeavesFree, LosesSlot, PlansOn, StaysOutsideWrites, Write};
 ghost use Rattle.images.specs.Contents.{tree_contents};
 ghost use Rattle.images.specs.Room.{free_under};
 ghost use Rattle.images.specs.Roots.{Needs, whole};
-ghost use Rattle.images.specs.SnapshotSteps.{SnapshotStep, kept_after};
-ghost use Rattle.images.specs.States.{Holds, IsSound, LogHoldsChanges, Opens, OpensBy};
+ghost use Rattle.images.specs.SnapshotSteps.{SnapshotStep, kept_after, unchanged};
+ghost use Rattle.images.specs.States.{Holds, IsSound, LogHoldsChanges, Opens, OpensBy, state_of};
 
 /// What a root in its grammar needs are blocks of its disk, none of the two that hold the roots. It does nothing.
 pub fn needed_blocks_are_of_the_disk()
@@ -62,9 +62,8 @@ pub fn finished_points_hold()
         ≤ free_under (whole (blocks_of e) new).active o.root.geometry.blocks + spent }
 {}
 
-/// And where the records that the new root doesn't cover lead from the planned volume to what the old images came to, files
-/// without names aside, and the point leaves room for those, the images open as before by them, but for the snapshot that it
-/// takes or deletes. It does nothing.
+/// And where the point leaves room for the records that the new root doesn't cover, the images open by these, to what they lead
+/// to from the planned volume and to the snapshots as before, but for one that it takes or deletes. It does nothing.
 pub fn finished_points_open()
     ensures { (sectors : ℕ) (d e : ℕ → List ℕ) (nvram : List ℕ) (s : State)
         (writes : List Write) (sector : ℕ) (new : Root) (v : Volume) (step : SnapshotStep)
@@ -72,15 +71,17 @@ pub fn finished_points_open()
         → (o : Opens sectors d nvram s) → IsPointWith step o.root d writes sector new v
         → HasRootWritten writes sector (root_bytes new) d e → LogHoldsChanges new nvram rest
         → Replays o.root.geometry.inodes v rest last
-        → without_nameless last ≡ without_nameless o.last → (spent : ℕ)
+        → (t : State)
+        → Forgets t (state_of o.root.geometry.inodes last (kept_after step o.first o.snapshots))
+        → (spent : ℕ)
         → LeavesFree spent o.root (blocks_of d) writes new
         → pledged_for o.root.geometry.inodes v rest + fixed_of o.root.geometry.blocks + spent
         ≤ free_under (whole (blocks_of d) o.root).active o.root.geometry.blocks
-        → OpensBy sectors e nvram (with_snapshots (kept_after step o.first o.snapshots) s) rest }
+        → OpensBy sectors e nvram t rest }
 {}
 
 /// A point that changes nothing but the generation can be planned: what is asked of a plan can be met. It does nothing.
 pub fn nothing_can_be_planned()
     ensures { (d : Blocks) (r : Root) (generation : ℕ) → IsSound r (whole d r)
-        → PlansOn d r d (record r { generation = generation }) (tree_contents (whole d r).active) }
+        → PlansOn unchanged d r d (record r { generation = generation }) (tree_contents (whole d r).active) }
 {}

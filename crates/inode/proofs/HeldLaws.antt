@@ -30,6 +30,7 @@ use Rattle.inode.specs.Bodies.{body_block, inode_block}
 use Rattle.inode.specs.Edges.{filled}
 use Rattle.inode.proofs.EdgeLaws.{filled_short}
 use Rattle.layout.proofs.PointerLaws.{points_below}
+pub use Rattle.layout.proofs.SizeLaws.{used_is}
 use Rattle.layout.proofs.ZeroLaws.{length-zeros}
 
 -- ---- blocks
@@ -92,13 +93,6 @@ node_place disk f ps depth m i body level =
 pub node_above : (disk : ℕ → List ℕ) (f : Inode) (m i : ℕ) → level_of f.size ≤ m → (held disk f).place m i ≡ Hole
 unfolding held
 node_above disk f m i le = sym (cond_above m (level_of f.size) (place disk (pointers_of f.body) (level_of f.size - suc m) i) Hole Hole le refl)
-
--- the inode's pointers lead to the highest nodes
-pub used_is : (size top : ℕ) → level_of size ≡ suc top → pointers_used size ≡ nodes_of_size size top
-unfolding nodes_of_size
-used_is size zero level = grind (arith, nat_tests, level)
-used_is size (suc zero) level = grind (arith, nat_tests, level)
-used_is size (suc (suc top)) level = absurd (let most : level_of size ≤ 2 = grind (arith, nat_tests) in omega (arith, most, level))
 
 module _ {detail : Detail} (s : Sizes) (disk : ℕ → List ℕ) (f : Inode) (ps : List Pointer) (sound : IsHeldFile detail s (held disk f)) (body : f.body ≡ Pointers ps) where
   pub fits : FitsPointers ps s.blocks f.size

@@ -5,4 +5,5 @@ pub mod ComposingLaws
 pub mod PutLaws
 pub mod BaseLaws
 pub mod HeldLaws
+pub mod GroupLaws
 pub mod RoomLaws

@@ -39,6 +39,8 @@ fn keeps_last_block(old: u64, new: u64) -> bool
 impl File {
     ghost use Rattle.std.specs.Prelude.{if◌then◌else◌, ◌==◌, nat_lt};
     ghost use Rattle.layout.specs.Bytes.{zeros};
+    ghost use Rattle.layout.specs.declared.TheConstants.{INLINE_BYTES};
+    ghost use Rattle.model.specs.declared.limits.TheConstants.{TRANSFER_BYTES};
     ghost use Rattle.blocktree.specs.Trees.{HasRoom, IsChanged, KeepsRoom, IsSoundAt, KeepsSound, SameSettled};
     ghost use Rattle.inode.specs.Bases.{KeepsBase};
     ghost use Rattle.images.specs.Edges.{IsPartlyWritten, IsWritten, EndsIn};
@@ -90,6 +92,7 @@ impl File {
         ensures sound { KeepsSound self.old.tree self.new.tree }
         ensures settled { SameSettled self.old.tree self.new.tree }
         ensures changed { (j : ℕ) → IsChanged self.new.tree j → IsChanged self.old.tree j }
+        ensures past { (j : ℕ) → IsChanged self.new.tree j → j < block_count size }
     {
         self.tree.trim(block_count(size));
         self.size = size;
@@ -127,7 +130,7 @@ impl File {
             → IfOk result
             (λ w. bytes_with disk self.old w
             ≡ written_list (bytes_of_file disk self.old) offset bytes.now) }
-        ensures stores { IfOk result
+        ensures stores { length bytes.now ≤ TRANSFER_BYTES → IfOk result
             (λ w. StoresMore self.new w (write_room self.old.size offset (length bytes.now))) }
     {
         if offset > greatest_size(VERSION) || bytes.len() as u64 > greatest_size(VERSION) - offset {
@@ -226,6 +229,8 @@ impl File {
             → IsSoundAt (B.count blocks.old) disk self.now.tree (size / 4096) → ⊥ }
         ensures hole { (disk : ℕ → List ℕ) → B.Shows blocks.old disk → IfOk result (λ is.
             IsTrue is → file_block disk self.now (size / 4096) ≡ zeros 4096) }
+        ensures stands { IfOk result (λ is. IsFalse is → (size ≤ INLINE_BYTES)
+            ⊎ (size / 4096 < self.now.tree.kept) ⊎ IsChanged self.now.tree (size / 4096)) }
     {
         let location = self.tree.locate(blocks, (size / 4096) as u32)?;
         match location {

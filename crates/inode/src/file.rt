@@ -1,10 +1,11 @@
 //! A file's bytes, as they are read.
 
-ghost use Rattle.std.specs.Prelude.{◌≡◌, ℕ, ◌+◌, ◌<◌, ◌≤◌, ◌/◌, List, length, OnOk, IsErrOf, IfOk};
+ghost use Rattle.std.specs.Prelude.{◌≡◌, ◌⊎◌, ℕ, ◌+◌, ◌<◌, ◌≤◌, ◌/◌, List, length, OnOk, IsErrOf, IfOk};
 ghost use Rattle.layout.specs.Version.{greatest_size};
 ghost use Rattle.layout.specs.declared.version.TheConstants.{VERSION};
 ghost use Rattle.buffers.specs.Reads.{ReadsBlocks};
 ghost use Rattle.blocktree.specs.Errors.{IsFault};
+ghost use Rattle.blocktree.specs.Places.{block_count};
 ghost use Rattle.buffers.specs.Positions.{IsPart};
 
 use crate::laws::settled_files_are_as_held;
@@ -20,6 +21,7 @@ pub struct File {
     pub(crate) tree: BlockTree,
     pub(crate) size: u64,
     ghost within: { size ≤ greatest_size VERSION },
+    ghost kept: { tree.kept ≤ block_count size },
 }
 
 impl File {
@@ -89,6 +91,8 @@ impl File {
         ensures resident { IfOk result (λ l. OnDisk l (B.IsResident blocks.new)) }
         ensures found { (disk : ℕ → List ℕ) → B.Shows blocks.old disk
             → IfOk result (IsAtLocation disk self.now.tree i) }
+        ensures stands { IfOk result (λ l. (l ≡ Location.Hole) ⊎ (i < self.now.tree.kept)
+            ⊎ IsChanged self.now.tree i) }
         ensures sound { (disk : ℕ → List ℕ) → B.Shows blocks.old disk
             → OnOk result (IsSoundAt (B.count blocks.old) disk self.now.tree i) }
         ensures damaged { (disk : ℕ → List ℕ) → B.Shows blocks.old disk

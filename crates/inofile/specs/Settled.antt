@@ -2,6 +2,7 @@
 use Rattle.std.specs.Prelude.{ℕ, ◌≡◌, ◌<◌, ◌≤◌, List, Option, Some, None}
 use Rattle.layout.specs.Inode.{inode_bytes}
 use Rattle.layout.specs.Limits.{Sizes}
+use Rattle.layout.specs.Version.{greatest_size}
 use Rattle.layout.specs.declared.inode.Inode.{Inode}
 use Rattle.layout.specs.declared.kind.Kind.{Kind}
 use Rattle.layout.specs.declared.kind.Kind.TheVariants as kinds
@@ -43,16 +44,17 @@ unless_free kinds.BlockMap content = Some content
 abbrev pub settled_content : (ℕ → List ℕ) → Inode → Option Content
 settled_content disk i = unless_free i.kind (held_content disk i)
 
--- The inode file of an image of these sizes has these inodes, each of a file in its grammar, on a disk of so many blocks. Number
+-- The inode file of an image of this version and these sizes has these inodes, each of a file in its grammar, on a disk of so many blocks. Number
 -- 0 stands for the inode file itself, whose inode stands elsewhere, and past the last number all are free.
-pub record AreSettledIn (detail : Detail) (blocks : ℕ) (disk : ℕ → List ℕ) (sizes : Sizes) (file : File) (settled : ℕ → Inode) : Type 0 where
+pub record AreSettledIn (detail : Detail) (blocks : ℕ) (disk : ℕ → List ℕ) (version : ℕ) (sizes : Sizes) (file : File) (settled : ℕ → Inode) : Type 0 where
   pub count : sizes.blocks ≡ blocks
   pub spelled : (n : ℕ) → 1 ≤ n → n < sizes.inodes
       → inode_bytes_at (file_block disk file) n ≡ inode_bytes (settled n)
   pub sound : (n : ℕ) → IsHeldFile detail sizes (held disk (settled n))
+  pub within : (n : ℕ) → (settled n).size ≤ greatest_size version
   pub fits : (n : ℕ) → FitsNumber n (settled n).kind
   pub past : (n : ℕ) → sizes.inodes ≤ n → settled n ≡ free_inode
   pub reached : (i : ℕ) → IsSoundAt blocks disk file.tree i
 
-abbrev pub AreSettled : ℕ → (ℕ → List ℕ) → Sizes → File → (ℕ → Inode) → Type 0
+abbrev pub AreSettled : ℕ → (ℕ → List ℕ) → ℕ → Sizes → File → (ℕ → Inode) → Type 0
 AreSettled = AreSettledIn by_bytes

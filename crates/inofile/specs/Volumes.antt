@@ -35,7 +35,7 @@ HasNoOwn v = (n : ℕ) → n < ROOT_NUMBER → v n ≡ None
 
 -- Memory stands for this volume, in so much detail, over a disk of so many blocks with these inodes settled.
 pub record IsVolumeIn (detail : Detail) (blocks : ℕ) (disk : ℕ → List ℕ) (settled : ℕ → Inode) (s : InodeFile) (v : Volume) : Type 0 where
-  pub inodes : AreSettledIn detail blocks disk s.geometry s.file settled
+  pub inodes : AreSettledIn detail blocks disk s.version s.geometry s.file settled
   pub mapped : MapsVolume s.numbers.bytes.items v
   pub own : HasNoOwn v
   pub objects : (n : ℕ)
@@ -53,7 +53,7 @@ slot_with object None = None
 
 -- the same with an object, or none, taken out of a number
 pub record IsVolumeWithout (detail : Detail) (out : ℕ) (object : Option Object) (blocks : ℕ) (disk : ℕ → List ℕ) (settled : ℕ → Inode) (s : InodeFile) (v : Volume) : Type 0 where
-  pub inodes : AreSettledIn detail blocks disk s.geometry s.file settled
+  pub inodes : AreSettledIn detail blocks disk s.version s.geometry s.file settled
   pub mapped : MapsVolume s.numbers.bytes.items v
   pub own : HasNoOwn v
   pub taken : SlotStandsFor detail disk s.geometry.inodes (settled out)

@@ -5,6 +5,7 @@ ghost use Rattle.std.specs.Option.{option_map};
 ghost use Rattle.std.specs.Ordering.{nat_cmp};
 ghost use Rattle.std.specs.BTreeMap as tree;
 ghost use Rattle.layout.specs.declared.inode.Inode.{Inode};
+ghost use Rattle.layout.specs.declared.version.TheConstants.{VERSION};
 ghost use Rattle.model.specs.declared.limits.TheConstants.{FIRST_NUMBER, ROOT_NUMBER};
 ghost use Rattle.model.specs.Volumes.{Volume};
 ghost use Rattle.images.specs.Contents.{HoldsVolume};
@@ -15,6 +16,7 @@ ghost use Rattle.inofile.specs.Settled.{AreSettled, content_of_object, held_cont
 
 use crate::{InodeFile, ObjectSlot};
 use inode::{File, Object};
+use layout::VERSION;
 use std::alloc::{AllocError, Global};
 
 impl InodeFile {
@@ -138,8 +140,10 @@ impl InodeFile {
         }
     }
 
-    /// Takes in a consistency point, which settled all that was changed: this is the inode file now, and nothing is in memory.
+    /// Takes in a consistency point, which settled all that was changed: this is the inode file now, in the newest version, and nothing is
+    /// in memory.
     pub fn settle(&mut self, file: File)
+        ensures version { self.new.version ≡ VERSION }
         ensures geometry { self.new.geometry ≡ self.old.geometry }
         ensures file { self.new.file ≡ file }
         ensures map { self.new.numbers ≡ self.old.numbers }
@@ -148,11 +152,12 @@ impl InodeFile {
         ensures settled { (disk : ℕ → List ℕ) (settled : ℕ → Inode) (n : ℕ)
             → content_at disk settled self.new n ≡ settled_content disk (settled n) }
         ensures volume { (count : ℕ) (disk : ℕ → List ℕ) (settled : ℕ → Inode) (v : Volume)
-            → AreSettled count disk self.old.geometry file settled
+            → AreSettled count disk VERSION self.old.geometry file settled
             → MapsVolume self.old.numbers.bytes.items v
             → HoldsVolume self.old.geometry.inodes (λ n. held_content disk (settled n)) v
             → IsVolumeOf count disk settled self.new v }
     {
+        self.version = VERSION;
         self.file = file;
         self.slots.clear();
     }

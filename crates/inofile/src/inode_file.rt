@@ -23,6 +23,8 @@ pub enum ObjectSlot {
 /// The inodes of an image, settled ones and changed ones.
 #[derive(Debug, Drop)]
 pub struct InodeFile {
+    /// The version of the layout that the settled inodes are in.
+    pub(crate) version: u32,
     pub(crate) geometry: Geometry,
     /// The settled inode file.
     pub(crate) file: File,
@@ -61,9 +63,16 @@ impl InodeFile {
     ghost use Rattle.inofile.specs.Volumes.{IsVolumeIn, MapsVolume};
     ghost use Rattle.layout.specs.Maps.{IsTaken};
 
-    /// The inodes of this settled inode file, with the bytes of the inode map.
-    pub fn new(alloc: Global, geometry: Geometry, file: File, map: Vec<u8>) -> InodeFile
+    /// The inodes of this settled inode file, in a version of the layout, with the bytes of the inode map.
+    pub fn new(
+        alloc: Global,
+        version: u32,
+        geometry: Geometry,
+        file: File,
+        map: Vec<u8>,
+    ) -> InodeFile
         requires { vec_len map ≡ div_ceil geometry.inodes 8 }
+        ensures version { result.version ≡ version }
         ensures geometry { result.geometry ≡ geometry }
         ensures file { result.file ≡ file }
         ensures map { result.numbers.bytes.items ≡ map.items }
@@ -71,13 +80,14 @@ impl InodeFile {
             → content_at disk settled result n ≡ settled_content disk (settled n) }
         ensures unchanged { (n : ℕ) → IsChanged result n → ⊥ }
         ensures volume { (detail : Detail) (count : ℕ) (disk : ℕ → List ℕ) (settled : ℕ → Inode)
-            (v : Volume) → AreSettledIn detail count disk geometry file settled
+            (v : Volume) → AreSettledIn detail count disk version geometry file settled
             → MapsVolume map.items v
             → HoldsVolumeIn detail geometry.inodes (λ n. held_content disk (settled n)) v
             → IsVolumeIn detail count disk settled result v }
     {
         let inodes = geometry.inodes();
         InodeFile {
+            version,
             geometry,
             file,
             slots: BTreeMap::new(alloc),
@@ -85,25 +95,27 @@ impl InodeFile {
         }
     }
 
-    /// Reads a settled inode. Number 0 stands for the inode file, whose own inode stands elsewhere.
+    /// Reads a settled inode; Damaged where it isn't one of its version. Number 0 stands for the inode file, whose own inode stands elsewhere.
     pub fn settled_inode<B: Blocks>(&self, blocks: &mut B, number: u32) -> Result<Inode, ReadError>
         requires low { 1 ≤ number }
         requires high { number < self.now.geometry.inodes }
         ensures reads { ReadsBlocks B.Blocks IsFault blocks.old blocks.new result }
         ensures read { (detail : Detail) (disk : ℕ → List ℕ) (settled : ℕ → Inode)
-            → B.Shows blocks.old disk → AreSettledIn detail (B.count blocks.old) disk
+            → B.Shows blocks.old disk → AreSettledIn detail (B.count blocks.old) disk self.now.version
             self.now.geometry self.now.file settled → IfOk result (λ i. i ≡ settled number) }
         ensures fits { IfOk result (IsInode VERSION self.now.geometry) }
+        ensures within { IfOk result (λ i. i.size ≤ greatest_size self.now.version) }
         ensures damaged { (detail : Detail) (disk : ℕ → List ℕ) (settled : ℕ → Inode)
             → B.Shows blocks.old disk → IsErrOf result ReadError.Damaged
-            → AreSettledIn detail (B.count blocks.old) disk self.now.geometry self.now.file settled
-            → ⊥ }
+            → AreSettledIn detail (B.count blocks.old) disk self.now.version self.now.geometry
+            self.now.file settled → ⊥ }
     {
         let block = number / INODES_PER_BLOCK;
         let location = self.file.locate(blocks, block)?;
         read_inode(
             self.file.bytes(blocks, block, location),
             number % INODES_PER_BLOCK,
+            self.version,
             self.geometry,
         )
     }
@@ -132,7 +144,7 @@ impl InodeFile {
             → OnOk result (IfSome (loaded self.new number) IsUntouched) }
         ensures rest { (n : ℕ) → (n ≢ number) → loaded self.new n ≡ loaded self.old n }
         ensures same { (detail : Detail) (disk : ℕ → List ℕ) (settled : ℕ → Inode)
-            → B.Shows blocks.old disk → AreSettledIn detail (B.count blocks.old) disk
+            → B.Shows blocks.old disk → AreSettledIn detail (B.count blocks.old) disk self.old.version
             self.old.geometry self.old.file settled → SameObjects disk settled self.old self.new }
         ensures volume { (detail : Detail) (disk : ℕ → List ℕ) (settled : ℕ → Inode) (v : Volume)
             → B.Shows blocks.old disk
@@ -140,8 +152,8 @@ impl InodeFile {
             → IsVolumeIn detail (B.count blocks.old) disk settled self.new v }
         ensures damaged { (detail : Detail) (disk : ℕ → List ℕ) (settled : ℕ → Inode)
             → B.Shows blocks.old disk → IsErrOf result ReadError.Damaged
-            → AreSettledIn detail (B.count blocks.old) disk self.old.geometry self.old.file settled
-            → ⊥ }
+            → AreSettledIn detail (B.count blocks.old) disk self.old.version self.old.geometry
+            self.old.file settled → ⊥ }
     {
         if self.is_known(number) {
             return Ok(());

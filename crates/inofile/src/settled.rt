@@ -11,25 +11,28 @@ ghost use Rattle.images.specs.Roots.{inode_part};
 use blocktree::ReadError;
 use layout::{BLOCK_BYTES, Geometry, INODE_BYTES, Inode};
 
-/// Reads inode `index` of a block of the inode file; Damaged where its bytes are no inode of an image of this geometry.
+/// Reads inode `index` of a block of the inode file; Damaged where its bytes are no inode of an image of this version and geometry.
 pub(crate) fn read_inode(
     bytes: &[u8; BLOCK_BYTES],
     index: u32,
+    version: u32,
     geometry: Geometry,
 ) -> Result<Inode, ReadError>
     requires { index < 21 }
     ensures read { (i : Inode) → IsInode VERSION geometry i
-        → inode_part bytes.now index ≡ inode_bytes i → IfOk result (λ j. j ≡ i) }
+        → i.size ≤ greatest_size version → inode_part bytes.now index ≡ inode_bytes i
+        → IfOk result (λ j. j ≡ i) }
     ensures fits { IfOk result (IsInode VERSION geometry) }
-    ensures damaged { OnErr result ((i : Inode) → IsInode VERSION geometry i →
-        inode_part bytes.now index ≡ inode_bytes i → ⊥) }
+    ensures within { IfOk result (λ i. i.size ≤ greatest_size version) }
+    ensures damaged { OnErr result ((i : Inode) → IsInode VERSION geometry i
+        → i.size ≤ greatest_size version → inode_part bytes.now index ≡ inode_bytes i → ⊥) }
     ensures only { IfErr result (λ e. e ≡ Damaged) }
 {
     let _ = geometry.inodes();
     let Some(inode) = Inode::read(part(bytes, index)) else {
         return Err(ReadError::Damaged);
     };
-    if inode.fits(geometry) {
+    if inode.fits(version, geometry) {
         Ok(inode)
     } else {
         Err(ReadError::Damaged)

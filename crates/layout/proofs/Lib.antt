@@ -11,6 +11,8 @@ pub mod LogLemmas
 pub mod WordLaws
 pub mod MapLaws
 pub mod IndirectLaws
+pub mod FieldLaws
+pub mod NodeLaws
 pub mod InodeLaws
 pub mod RootLaws
 pub mod EntryLaws

@@ -33,9 +33,9 @@ magic_exact = record {
 
 root_exact : IsExact root_fields
 root_exact =
-    then_exact (then_exact magic_exact (then_exact (ranged_exact 4 1 1 (omega arith)) (then_exact (ranged_exact 8 1 _ (omega arith))
+    then_exact (then_exact magic_exact (then_exact (ranged_exact 4 1 2 (omega arith)) (then_exact (ranged_exact 8 1 _ (omega arith))
     (then_exact (ranged_exact 4 64 1048576 (omega arith)) (then_exact (ranged_exact 4 32 65536 (omega arith)) (ranged_exact 4 131072 8388608 (omega arith)))))))
-    (then_exact (part_exact 192) (then_exact (part_exact 80) (blank_exact 208)))
+    (then_exact (part_exact 192) (then_exact (part_exact 120) (blank_exact 168)))
 
 pub root_takes : (bytes : List ℕ) (r : Root) → IsBytes bytes → root_in bytes ≡ Some r → bytes ≡ root_bytes r
 unfolding root_in head_bytes
@@ -46,24 +46,23 @@ root_takes bytes r fits e =
     let pointers = w.0.1.1.0 in
     let t = whole_takes root_exact bytes w.0 fits w.1 in
     let all = subst (λ (r : List ℕ). (i : ℕ) → get_or r i 0 < 256) t.0 fits in
-    let behind = IsBytes-behind (root_head.text head) (inode ++ (pointers ++ zeros 208)) all in
+    let behind = IsBytes-behind (root_head.text head) (inode ++ (pointers ++ zeros 168)) all in
     let n = bind_some (inode_in inode) _ r w.2 in
-    let inode-is = inode_takes inode n.0 (IsBytes-front inode (pointers ++ zeros 208) behind) n.1 in
-    let none : drop 80 pointers ≡ [] = drop_all 80 pointers (omega (arith, t.1.1.1.0)) in
-    let pointers_fit = IsBytes-front pointers (zeros 208) (IsBytes-behind inode (pointers ++ zeros 208) behind) in
-    let pointers-are : pointers ≡ pointers_bytes (pointers_in 20 pointers) =
-    pointers_spelled 20 pointers (omega (arith, t.1.1.1.0)) pointers_fit ∙ ap (λ (r : List ℕ). pointers_bytes (pointers_in 20 pointers) ++ r) none ∙ append-nil (pointers_bytes (pointers_in 20 pointers)) in
-    let version : head.1.0 ≡ 1 = omega (arith, t.1.0.1.0) in
-    t.0 ∙ (λ j. root_fields.text ((tt, (version j, head.1.1)), (inode-is j, (pointers-are j, tt)))) ∙ ap root_bytes (some_is _ r n.2)
+    let inode-is = inode_takes inode n.0 (IsBytes-front inode (pointers ++ zeros 168) behind) n.1 in
+    let none : drop 120 pointers ≡ [] = drop_all 120 pointers (omega (arith, t.1.1.1.0)) in
+    let pointers_fit = IsBytes-front pointers (zeros 168) (IsBytes-behind inode (pointers ++ zeros 168) behind) in
+    let pointers-are : pointers ≡ pointers_bytes (pointers_in 30 pointers) =
+    pointers_spelled 30 pointers (omega (arith, t.1.1.1.0)) pointers_fit ∙ ap (λ (r : List ℕ). pointers_bytes (pointers_in 30 pointers) ++ r) none ∙ append-nil (pointers_bytes (pointers_in 30 pointers)) in
+    t.0 ∙ (λ j. root_fields.text ((tt, (head.1.0, head.1.1)), (inode-is j, (pointers-are j, tt)))) ∙ ap root_bytes (some_is _ r n.2)
 
 pub root_again : (r : Root) → IsRoot r → root_in (root_bytes r) ≡ Some r
 unfolding root_in head_bytes
 root_again r is =
     let s = is.head.sizes in
     let none : pointers_bytes r.snapshots ≡ pointers_bytes r.snapshots ++ [] = sym (append-nil (pointers_bytes r.snapshots)) in
-    let pointers : pointers_in 20 (pointers_bytes r.snapshots) ≡ r.snapshots = ap (pointers_in 20) none ∙ pointers_again 20 r.geometry.blocks r.snapshots [] is.slots (omega (arith, s.most_blocks)) is.snapshots in
-    let read = whole_again root_exact ((tt, (1, (r.generation, (r.geometry.blocks, (r.geometry.inodes, r.geometry.half))))), (inode_bytes r.inode_file, (pointers_bytes r.snapshots, tt))) (
-      (tt, ((omega arith, omega arith), ((is.head.first, omega (arith, is.head.last)), ((s.least_blocks, s.most_blocks), ((s.least_inodes, s.most_inodes), (s.least_half, s.most_half)))))),
+    let pointers : pointers_in 30 (pointers_bytes r.snapshots) ≡ r.snapshots = ap (pointers_in 30) none ∙ pointers_again 30 r.geometry.blocks r.snapshots [] is.slots (omega (arith, s.most_blocks)) is.snapshots in
+    let read = whole_again root_exact ((tt, (r.version, (r.generation, (r.geometry.blocks, (r.geometry.inodes, r.geometry.half))))), (inode_bytes r.inode_file, (pointers_bytes r.snapshots, tt))) (
+      (tt, ((is.head.known.least, is.head.known.most), ((is.head.first, omega (arith, is.head.last)), ((s.least_blocks, s.most_blocks), ((s.least_inodes, s.most_inodes), (s.least_half, s.most_half)))))),
       (length-inode r.inode_file r.geometry is.inode_file, (omega (arith, length-pointers_bytes r.snapshots, is.slots), tt)),
     ) in
     rw (read, inode_again r.inode_file (record { sizes = r.geometry; are_sizes = s; fits = is.inode_file }), pointers) refl

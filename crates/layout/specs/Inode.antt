@@ -1,5 +1,5 @@
 -- The inode: 192 bytes.
-use Rattle.std.specs.Prelude.{ℕ, ◌≡◌, ◌-◌, ◌*◌, ◌%◌, ◌<◌, ◌≤◌, List, ◌++◌, length, drop, All, nat_le, if◌then◌else◌}
+use Rattle.std.specs.Prelude.{ℕ, zero, suc, ◌≡◌, ◌-◌, ◌*◌, ◌%◌, ◌<◌, ◌≤◌, List, ◌++◌, length, drop, All, nat_le, if◌then◌else◌}
 use Rattle.std.specs.Int.{div_ceil}
 use Rattle.model.specs.declared.limits.TheConstants.{FILE_NAMES, LINK_MODE, MODE_BITS, PATH_BYTES}
 use Rattle.layout.specs.Bytes.{zeros}
@@ -52,12 +52,14 @@ FitsKind kinds.InodeFile s mode links size = (mode ≡ 0) × (links ≡ 1) × (s
 FitsKind kinds.InodeMap s mode links size = (mode ≡ 0) × (links ≡ 1) × (size ≡ div_ceil s.inodes 8)
 FitsKind kinds.BlockMap s mode links size = (mode ≡ 0) × (links ≡ 1) × (size ≡ 4 * s.blocks)
 
+-- how many nodes a file of so many bytes has at a height: its blocks, and over them one for each 1,024 of those below
+unfoldable pub nodes_of_size : ℕ → ℕ → ℕ
+nodes_of_size size zero = div_ceil size BLOCK_BYTES
+nodes_of_size size (suc height) = div_ceil (nodes_of_size size height) BLOCK_POINTERS
+
 -- how many pointers of the body lead to blocks before the end of a file of this size
 abbrev pub pointers_used : ℕ → ℕ
-pointers_used size =
-    if nat_le size DIRECT_BYTES
-    then div_ceil size BLOCK_BYTES
-    else div_ceil (div_ceil size BLOCK_BYTES) BLOCK_POINTERS
+pointers_used size = nodes_of_size size (level_of size - 1)
 
 -- the bytes of a file of this size, which an inode holds itself, and zeros behind them
 abbrev pub FitsInline : List ℕ → ℕ → Type 0

@@ -1,5 +1,5 @@
 -- Reading an inode, before its limits are looked at.
-use Rattle.std.specs.Prelude.{ℕ, ◌*◌, ◌/◌, min, List, drop, Option, Some, None, nat_le, ◌==◌, if◌then◌else◌}
+use Rattle.std.specs.Prelude.{ℕ, ◌+◌, ◌*◌, ◌/◌, min, List, drop, Option, Some, None, nat_le, ◌==◌, if◌then◌else◌}
 use Rattle.layout.specs.Reading.{◌>>=◌, is_zero, all_of}
 use Rattle.layout.specs.Inode.{inode_fields, inode_head}
 use Rattle.layout.specs.Limits.{Sizes}
@@ -48,7 +48,7 @@ kind_and_links_in bytes =
 
 -- the sizes of an image that has an inode of this kind and size, if one has
 abbrev pub likely_blocks : Kind → ℕ → ℕ
-likely_blocks kinds.BlockMap size = size / 4
+likely_blocks kinds.BlockMap size = min (size / 4) (MOST_BLOCKS + 1)
 likely_blocks _ size = MOST_BLOCKS
 
 abbrev pub likely_inodes : Kind → ℕ → ℕ

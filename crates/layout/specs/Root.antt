@@ -1,5 +1,5 @@
 -- The root: 512 bytes.
-use Rattle.std.specs.Prelude.{ℕ, ◌≡◌, ◌<◌, ◌≤◌, ◌^◌, ◌-◌, List, ◌++◌, length, All, codes, Some, None, ◌==◌, if◌then◌else◌}
+use Rattle.std.specs.Prelude.{ℕ, ◌≡◌, ◌<◌, ◌≤◌, ◌^◌, ◌-◌, List, ◌++◌, length, All, codes, drop, Some, None, ◌==◌, if◌then◌else◌}
 use Rattle.layout.specs.Bytes.{zeros}
 use Rattle.layout.specs.Format.{Format, ranged, part, blank, ◌▸◌}
 use Rattle.layout.specs.Reading.{◌>>=◌, number_read}
@@ -7,12 +7,13 @@ use Rattle.layout.specs.Limits.{Sizes, AreSizes}
 use Rattle.layout.specs.Pointer.{PointsBelow, pointers_bytes}
 use Rattle.layout.specs.Inode.{IsInode, inode_bytes}
 use Rattle.layout.specs.declared.kind.Kind.TheVariants.{InodeFile}
-use Rattle.layout.specs.Version.{snapshot_slots}
+use Rattle.layout.specs.Version.{IsVersion, snapshot_slots}
 use Rattle.layout.specs.declared.TheConstants.{INODE_BYTES, ROOT_BYTES}
 use Rattle.layout.specs.declared.geometry.TheConstants.{LEAST_BLOCKS, MOST_BLOCKS, LEAST_INODES, MOST_INODES, LEAST_HALF, MOST_HALF}
 use Rattle.layout.specs.declared.numbers.TheConstants.{FIRST_GENERATION, LAST_GENERATION}
 use Rattle.layout.specs.declared.root.TheConstants.{MAGIC, SNAPSHOTS_BYTES, BEHIND_AT}
-use Rattle.layout.specs.declared.version.TheConstants.{VERSION}
+use Rattle.layout.specs.declared.pointer.Pointer.TheVariants.{Hole}
+use Rattle.layout.specs.declared.version.TheConstants.{FIRST_VERSION, VERSION, SNAPSHOT_SLOTS}
 use Rattle.layout.specs.declared.root.Root.{Root}
 
 -- the first eight bytes of a root
@@ -37,30 +38,33 @@ half_field = ranged 4 LEAST_HALF MOST_HALF
 
 abbrev pub root_head : Format (Unit {0} × (ℕ × (ℕ × (ℕ × (ℕ × ℕ)))))
 root_head =
-    magic ▸ ranged 4 VERSION VERSION ▸ generation_field ▸ blocks_field ▸ inodes_field ▸ half_field
+    magic ▸ ranged 4 FIRST_VERSION VERSION ▸ generation_field ▸ blocks_field ▸ inodes_field ▸ half_field
 
 -- the head, the inode of the inode file, the pointers to snapshots, and zeros
 abbrev pub root_fields : Format ((Unit {0} × (ℕ × (ℕ × (ℕ × (ℕ × ℕ))))) × (List ℕ × (List ℕ × Unit {0})))
 root_fields = root_head ▸ part INODE_BYTES ▸ part SNAPSHOTS_BYTES ▸ blank (ROOT_BYTES - BEHIND_AT)
 
-unfoldable pub head_bytes : ℕ → Sizes → List ℕ
-head_bytes generation s = root_head.text (tt, (VERSION, (generation, (s.blocks, (s.inodes, s.half)))))
+unfoldable pub head_bytes : ℕ → ℕ → Sizes → List ℕ
+head_bytes version generation s = root_head.text (tt, (version, (generation, (s.blocks, (s.inodes, s.half)))))
 
 -- the one spelling of each root
 abbrev pub root_bytes : Root → List ℕ
 root_bytes r =
-    head_bytes r.generation r.geometry
+    head_bytes r.version r.generation r.geometry
     ++ (inode_bytes r.inode_file ++ (pointers_bytes r.snapshots ++ zeros (ROOT_BYTES - BEHIND_AT)))
 
-pub record IsHead (generation : ℕ) (s : Sizes) : Type 0 where
+pub record IsHead (version generation : ℕ) (s : Sizes) : Type 0 where
+  pub known : IsVersion version
   pub first : 1 ≤ generation
   pub last : generation < 2 ^ 62
   pub sizes : AreSizes s
 
--- a root: its inode is that of the inode file of its sizes, and its pointers stay on the disk
+-- a root: its inode is that of the inode file of its sizes, its pointers stay on the disk, and the slots that its version doesn't have
+-- are free
 pub record IsRoot (r : Root) : Type 0 where
-  pub head : IsHead r.generation r.geometry
+  pub head : IsHead r.version r.generation r.geometry
   pub kind : r.inode_file.kind ≡ InodeFile
   pub inode_file : IsInode VERSION r.geometry r.inode_file
-  pub slots : length r.snapshots ≡ snapshot_slots VERSION
+  pub slots : length r.snapshots ≡ SNAPSHOT_SLOTS
   pub snapshots : All (PointsBelow r.geometry.blocks) r.snapshots
+  pub few : All (λ p. p ≡ Hole) (drop (snapshot_slots r.version) r.snapshots)

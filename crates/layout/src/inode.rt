@@ -4,7 +4,7 @@ ghost use Rattle.std.specs.Prelude.{◌≡◌, ◌↔◌, ◌≤◌, ◌+◌, �
 ghost use Rattle.layout.specs.Bytes.{Writes, zeros};
 ghost use Rattle.layout.specs.Pointer.{PointsBelow, pointers_bytes};
 ghost use Rattle.layout.specs.declared.pointer.Pointer.TheVariants.{Hole};
-ghost use Rattle.layout.specs.Inode.{IsInode, IsSomeInode, FitsKind, FitsBody, FitsInline, FitsPointers, body_bytes, inode_bytes, pointers_used};
+ghost use Rattle.layout.specs.Inode.{IsInode, IsSomeInode, FitsKind, FitsBody, FitsInline, FitsPointers, body_bytes, inode_bytes, nodes_of_size, pointers_used};
 ghost use Rattle.layout.specs.Limits.{AreSizes, Sizes};
 ghost use Rattle.layout.specs.Version.{greatest_size};
 ghost use Rattle.layout.specs.InodeReading.{likely_blocks, likely_inodes, likely_sizes, body_in, inode_of, inode_in, kind_and_links_in};
@@ -16,7 +16,7 @@ use crate::pointer::{are_holes, pointers_fit, put_pointers, read_pointers};
 use crate::reading::{mode_at, part_at, u8_at, u16_at, u32_at, u64_at, zeros_at};
 use crate::version::{VERSION, greatest_size, level_of};
 use crate::writing::{put_bytes, put_u8, put_u16, put_u32, put_u64, put_zeros};
-use crate::{BODY_POINTERS, DIRECT_BYTES, Geometry, INLINE_BYTES, INODE_BYTES, Kind, Pointer};
+use crate::{BODY_POINTERS, Geometry, INLINE_BYTES, INODE_BYTES, Kind, Pointer};
 use model::{FILE_NAMES, LINK_MODE, Mode, PATH_BYTES};
 
 /// The bytes of a small object, or where a larger one's blocks are.
@@ -24,7 +24,7 @@ use model::{FILE_NAMES, LINK_MODE, Mode, PATH_BYTES};
 pub enum Body {
     /// Level 0: the bytes, and zeros behind them.
     Inline([u8; INLINE_BYTES]),
-    /// Level 1: pointer i is block i of the file. Level 2: pointer i is an indirect block, of 1,024 pointers.
+    /// Level 1: pointer i is block i of the file. From level 2 on: pointer i is an indirect block, of 1,024 pointers.
     Pointers([Pointer; BODY_POINTERS]),
 }
 
@@ -87,11 +87,11 @@ impl Inode {
     }
 
     /// Whether it is in the grammar of an image of this geometry.
-    pub fn fits(&self, geometry: Geometry) -> bool
-        ensures { IsTrue result ↔ IsInode VERSION geometry self.now }
+    pub fn fits(&self, version: u32, geometry: Geometry) -> bool
+        ensures { IsTrue result ↔ IsInode version geometry self.now }
     {
         let _ = self.mode.bits();
-        self.size <= greatest_size(VERSION)
+        self.size <= greatest_size(version)
             && kind_fits(self, geometry)
             && body_fits(&self.body, geometry.blocks(), self.size)
     }
@@ -101,7 +101,7 @@ impl Inode {
         ensures { IsTrue result ↔ IsSomeInode VERSION self.now }
     {
         match likely_geometry(self.kind, self.size) {
-            Some(geometry) => self.fits(geometry),
+            Some(geometry) => self.fits(VERSION, geometry),
             None => false,
         }
     }
@@ -117,7 +117,6 @@ fn likely_geometry(kind: Kind, size: u64) -> Option<Geometry>
     if size > greatest_size(VERSION) {
         return None;
     }
-    let size = size as u32;
     let geometry = Geometry::new(
         likely_blocks(kind, size),
         likely_inodes(kind, size),
@@ -127,22 +126,22 @@ fn likely_geometry(kind: Kind, size: u64) -> Option<Geometry>
     Some(geometry)
 }
 
-fn likely_blocks(kind: Kind, size: u32) -> u32
+fn likely_blocks(kind: Kind, size: u64) -> u32
     ensures { result ≡ likely_blocks kind size }
 {
     match kind {
-        Kind::BlockMap => size / 4,
+        Kind::BlockMap => (size / 4).min(u64::from(MOST_BLOCKS) + 1) as u32,
         _ => MOST_BLOCKS,
     }
 }
 
-fn likely_inodes(kind: Kind, size: u32) -> u32
+fn likely_inodes(kind: Kind, size: u64) -> u32
     requires { size ≤ greatest_size VERSION }
     ensures { result ≡ likely_inodes kind size }
 {
     match kind {
-        Kind::InodeFile => (21 * (size / 4096)).min(MOST_INODES),
-        Kind::InodeMap => (8 * size).min(MOST_INODES),
+        Kind::InodeFile => (21 * (size / 4096)).min(u64::from(MOST_INODES)) as u32,
+        Kind::InodeMap => (8 * size).min(u64::from(MOST_INODES)) as u32,
         _ => MOST_INODES,
     }
 }
@@ -312,10 +311,15 @@ fn holes_behind(pointers: &[Pointer], used: u64) -> bool
 fn pointers_used(size: u64) -> u64
     ensures { result ≡ pointers_used size }
 {
-    let blocks = size.div_ceil(4096);
-    if size <= DIRECT_BYTES {
-        blocks
-    } else {
-        blocks.div_ceil(1024)
+    nodes_of_size(size, level_of(size).saturating_sub(1))
+}
+
+// How many nodes a file of so many bytes has at a height.
+fn nodes_of_size(size: u64, height: u8) -> u64
+    ensures { result ≡ nodes_of_size size height }
+{
+    if height == 0 {
+        return size.div_ceil(4096);
     }
+    nodes_of_size(size, height - 1).div_ceil(1024)
 }

@@ -46,7 +46,8 @@ pub use record::{NewObject, Record};
 pub use root::Root;
 pub use snap_root::SnapRoot;
 pub use version::{
-    SNAPSHOT_SLOTS, VERSION, greatest_level, greatest_size, level_of, snapshot_slots,
+    FIRST_SLOTS, FIRST_VERSION, SNAPSHOT_SLOTS, VERSION, greatest_level, greatest_size, is_version,
+    level_of, snapshot_slots,
 };
 
 /// Bytes of a sector of the disk.
@@ -71,3 +72,5 @@ pub const BLOCK_POINTERS: usize = 1024;
 pub const INLINE_BYTES: usize = 128;
 /// Greatest number of bytes of a file to whose blocks its inode points: sixteen blocks.
 pub const DIRECT_BYTES: u64 = 65_536;
+/// Greatest number of bytes of a file to whose blocks sixteen indirect blocks point.
+pub const SINGLE_BYTES: u64 = 67_108_864;

@@ -1,11 +1,12 @@
 //! The root: one sector, from which all else of an image is found.
 
-ghost use Rattle.std.specs.Prelude.{◌≡◌, ◌↔◌, ◌≤◌, ◌+◌, All, IsTrue, IfSome, Some, length};
+ghost use Rattle.std.specs.Prelude.{◌≡◌, ◌↔◌, ◌≤◌, ◌+◌, All, IsTrue, IfSome, Some, drop, length};
 ghost use Rattle.std.specs.Option.{option_map};
 ghost use Rattle.layout.specs.Bytes.{Writes};
 ghost use Rattle.layout.specs.Pointer.{PointsBelow, pointers_bytes, pointers_in};
 ghost use Rattle.layout.specs.Root.{IsHead, IsRoot, magic, root_head, head_bytes, root_bytes};
 ghost use Rattle.layout.specs.Version.{snapshot_slots};
+ghost use Rattle.layout.specs.declared.pointer.Pointer.TheVariants.{Hole};
 ghost use Rattle.layout.specs.RootReading.{head_of, root_in, sizes_of};
 ghost use Rattle.layout.specs.declared.root.Root.{Root};
 
@@ -13,9 +14,9 @@ use crate::geometry::{
     LEAST_BLOCKS, LEAST_HALF, LEAST_INODES, MOST_BLOCKS, MOST_HALF, MOST_INODES,
 };
 use crate::numbers::{FIRST_GENERATION, LAST_GENERATION};
-use crate::pointer::{pointers_fit, put_pointers, read_pointers};
+use crate::pointer::{are_holes, pointers_fit, put_pointers, read_pointers};
 use crate::reading::{part_at, u32_within, u64_at, u64_within, zeros_at};
-use crate::version::VERSION;
+use crate::version::{FIRST_VERSION, VERSION, is_version, snapshot_slots};
 use crate::writing::{put_u32, put_u64, put_zeros};
 use crate::{
     Generation, Geometry, INODE_BYTES, Inode, Kind, Pointer, ROOT_BYTES, SNAPSHOT_SLOTS, inode,
@@ -36,11 +37,13 @@ const MAGIC: u64 = 0x544f_4f52_4c46_4157;
 /// A root.
 #[derive(Clone, Copy, Debug)]
 pub struct Root {
+    /// The version of the layout that it is written in.
+    pub version: u32,
     pub generation: Generation,
     pub geometry: Geometry,
     /// The inode of the file of all inodes.
     pub inode_file: Inode,
-    /// The root block of the snapshot in each slot, or a hole where the slot is free.
+    /// The root block of the snapshot in each slot, or a hole where the slot is free or the version doesn't have it.
     pub snapshots: [Pointer; SNAPSHOT_SLOTS],
 }
 
@@ -62,7 +65,7 @@ impl Root {
         ensures length { result ≡ 512 }
         ensures wrote { Writes 0 512 (root_bytes self.now) out.old out.new }
     {
-        put_head(out, self.generation, &self.geometry);
+        put_head(out, self.version, self.generation, &self.geometry);
         self.inode_file.put(out, 32);
         put_snapshots(out, SNAPSHOTS_AT, &self.snapshots);
         put_zeros(out, BEHIND_AT, ROOT_BYTES - BEHIND_AT);
@@ -76,8 +79,10 @@ impl Root {
         let _ = self.generation.get();
         let blocks = self.geometry.blocks();
         self.inode_file.kind == Kind::InodeFile
-            && self.inode_file.fits(self.geometry)
+            && self.inode_file.fits(VERSION, self.geometry)
+            && is_version(self.version)
             && snapshots_fit(&self.snapshots, blocks)
+            && are_free_behind(&self.snapshots, self.version)
     }
 }
 
@@ -95,6 +100,7 @@ fn read_fields(bytes: &[u8]) -> Option<Root>
     }
     let inode_file = inode::read_fields(inode)?;
     Some(Root {
+        version: head.version,
         generation: Generation::new(head.generation).unwrap(),
         geometry: Geometry::new(head.blocks, head.inodes, head.half).unwrap(),
         inode_file,
@@ -114,10 +120,10 @@ struct Head {
 
 fn read_head(bytes: &[u8]) -> Option<(Head, &[u8])>
     ensures value { option_map (λ x. (head_of x.0, x.1.now)) result ≡ root_head.at bytes.now }
-    ensures within { IfSome result (λ x. IsHead x.0.generation (sizes_of x.0)) }
+    ensures within { IfSome result (λ x. IsHead x.0.version x.0.generation (sizes_of x.0)) }
 {
     let bytes = magic_at(bytes)?;
-    let (version, bytes) = u32_within(bytes, VERSION, VERSION)?;
+    let (version, bytes) = u32_within(bytes, FIRST_VERSION, VERSION)?;
     let (generation, bytes) = u64_within(bytes, FIRST_GENERATION, LAST_GENERATION)?;
     let (blocks, bytes) = u32_within(bytes, LEAST_BLOCKS, MOST_BLOCKS)?;
     let (inodes, bytes) = u32_within(bytes, LEAST_INODES, MOST_INODES)?;
@@ -139,12 +145,12 @@ fn magic_at(bytes: &[u8]) -> Option<&[u8]>
     if number == MAGIC { Some(bytes) } else { None }
 }
 
-fn put_head(out: &mut [u8], generation: Generation, geometry: &Geometry)
+fn put_head(out: &mut [u8], version: u32, generation: Generation, geometry: &Geometry)
     requires { 32 ≤ length out.old }
-    ensures { Writes 0 32 (head_bytes generation geometry.now) out.old out.new }
+    ensures { Writes 0 32 (head_bytes version generation geometry.now) out.old out.new }
 {
     put_u64(out, 0, MAGIC);
-    put_u32(out, 8, VERSION);
+    put_u32(out, 8, version);
     put_u64(out, 12, generation.get());
     put_u32(out, 20, geometry.blocks());
     put_u32(out, 24, geometry.inodes());
@@ -169,8 +175,18 @@ fn put_snapshots(out: &mut [u8], at: usize, snapshots: &[Pointer; SNAPSHOT_SLOTS
 
 fn snapshots_fit(snapshots: &[Pointer; SNAPSHOT_SLOTS], blocks: u32) -> bool
     ensures { IsTrue result
-        ↔ ((length snapshots.now ≡ snapshot_slots VERSION)
+        ↔ ((length snapshots.now ≡ SNAPSHOT_SLOTS)
         × All (PointsBelow blocks) snapshots.now) }
 {
     pointers_fit(snapshots, blocks)
+}
+
+// Whether the slots that a version doesn't have are free.
+fn are_free_behind(snapshots: &[Pointer; SNAPSHOT_SLOTS], version: u32) -> bool
+    ensures { IsTrue result
+        ↔ All (λ p. p ≡ Hole) (drop (snapshot_slots version) snapshots.now) }
+{
+    let snapshots: &[Pointer] = snapshots;
+    let (_, behind) = snapshots.split_at(snapshot_slots(version));
+    are_holes(behind)
 }

@@ -30,7 +30,7 @@ use Rattle.images.specs.Contents.{content_bytes, content_of, tree_contents}
 use Rattle.images.specs.Sizes.{HoldsVolumeIn}
 use Rattle.images.specs.Nodes.{held}
 use Rattle.images.specs.Roots.{inode_part, tree, whole}
-use Rattle.images.specs.Soundness.{Detail, IsReadable}
+use Rattle.images.specs.Soundness.{Detail, IsReadable, IsWithin}
 use Rattle.loading.specs.Images.{AreInodesIn, IsLoadedIn, IsReadableIn, inodes_of}
 use Rattle.loading.specs.InodeBlocks.{AreInodeBlocks}
 use Rattle.loading.specs.Laws.{TreesReadAsHeld}
@@ -54,6 +54,11 @@ module _ {detail : Detail} (l : TreesReadAsHeld) (disk : Blocks) (r : Root) (are
   root : (tree disk r.geometry.inodes r.inode_file 3).inode.kind ≡ kinds.Directory
   unfolding whole
   root = ready.root
+
+  -- the newest version allows files as large as these
+  pub newest_within : IsWithin VERSION (whole disk r).active
+  unfolding whole
+  newest_within n = (sound.files n).inode.size
 
   -- the inode at a number, where it has been read
   pub is_own : (n : ℕ) (i : Inode) → IsInode VERSION r.geometry i → 1 ≤ n → n < 21 → inode_part (inode_block disk r.inode_file 0) n ≡ inode_bytes i
@@ -109,13 +114,14 @@ module _ {detail : Detail} (l : TreesReadAsHeld) (disk : Blocks) (r : Root) (are
         (l.based detail r.geometry disk r.inode_file file.tree i (trees.top_sound r.geometry are disk r.inode_file sound root l)
         (trees.top_readable r.geometry are disk r.inode_file sound root l) (starts_based r.inode_file file.tree starts))
 
-    pub are_settled : AreSettledIn detail r.geometry.blocks disk r.geometry file (inodes_of (whole disk r).active)
+    pub are_settled : (version : ℕ) → IsWithin version (whole disk r).active → AreSettledIn detail r.geometry.blocks disk version r.geometry file (inodes_of (whole disk r).active)
     unfolding whole
-    are_settled = trees.settled r.geometry are disk r.inode_file sound root l file same (λ k. reached r.geometry.blocks k refl)
+    are_settled version within = trees.settled r.geometry are disk r.inode_file sound root l file same (λ k. reached r.geometry.blocks k refl) version within
 
-    pub inode_blocks : AreInodeBlocks r.geometry (memory.file_block disk file)
-    inode_blocks = subst (AreInodeBlocks r.geometry) (sym same)
-        (trees.inode_blocks r.geometry are disk r.inode_file sound root l)
+    pub inode_blocks : AreInodeBlocks r.version r.geometry (memory.file_block disk file)
+    unfolding whole
+    inode_blocks = subst (AreInodeBlocks r.version r.geometry) (sym same)
+        (trees.inode_blocks r.geometry are disk r.inode_file sound root l r.version ready.within)
 
     pub memory_own : (n : ℕ) → 1 ≤ n → n < 21 → inode_part (memory.file_block disk file 0) n ≡ inode_bytes (tree disk r.geometry.inodes r.inode_file n).inode
     memory_own n some few = ap (λ b. inode_part b n) (blocks disk 0) ∙ own_there n some few
@@ -139,20 +145,21 @@ module _ {detail : Detail} (l : TreesReadAsHeld) (disk : Blocks) (r : Root) (are
 
     -- the inodes
     pub inodes_loaded : (i : Inode) (bytes : List ℕ) (inodes : InodeFile) → tree disk r.geometry.inodes r.inode_file 1 ≡ held disk i → bytes ≡ inode_bytes_of disk i
-        → inodes.geometry ≡ r.geometry → inodes.file ≡ file → inodes.numbers.bytes.items ≡ bytes → ((n : ℕ) → IsChanged inodes n → ⊥)
-        → ((v : Volume) → AreSettledIn detail r.geometry.blocks disk r.geometry file (inodes_of (tree disk r.geometry.inodes r.inode_file)) → MapsVolume bytes v
+        → inodes.version ≡ r.version → inodes.geometry ≡ r.geometry → inodes.file ≡ file → inodes.numbers.bytes.items ≡ bytes → ((n : ℕ) → IsChanged inodes n → ⊥)
+        → ((v : Volume) → AreSettledIn detail r.geometry.blocks disk r.version r.geometry file (inodes_of (tree disk r.geometry.inodes r.inode_file)) → MapsVolume bytes v
         → HoldsVolumeIn detail r.geometry.inodes (λ n. held_content disk (inodes_of (tree disk r.geometry.inodes r.inode_file) n)) v
         → IsVolumeIn detail r.geometry.blocks disk (inodes_of (tree disk r.geometry.inodes r.inode_file)) inodes v)
-        → AreInodesIn detail disk r.geometry (whole disk r).active inodes
+        → AreInodesIn detail disk r.version r.geometry (whole disk r).active inodes
     unfolding whole
-    inodes_loaded i bytes inodes is_i read geometry file_is numbers unchanged stands =
-        let settled : AreSettledIn detail r.geometry.blocks disk r.geometry file (inodes_of (tree disk r.geometry.inodes r.inode_file)) =
-        trees.settled r.geometry are disk r.inode_file sound root l file same (λ k. reached r.geometry.blocks k refl) in
+    inodes_loaded i bytes inodes is_i read version geometry file_is numbers unchanged stands =
+        let settled : AreSettledIn detail r.geometry.blocks disk r.version r.geometry file (inodes_of (tree disk r.geometry.inodes r.inode_file)) =
+        trees.settled r.geometry are disk r.inode_file sound root l file same (λ k. reached r.geometry.blocks k refl) r.version ready.within in
         let whole_bytes : bytes ≡ content_bytes (content_of (tree disk r.geometry.inodes r.inode_file 1)) =
         read ∙ trees.map_bytes r.geometry are disk r.inode_file sound root l i is_i in
         record {
+          is_version = version;
           geometry = geometry;
-          settled = subst (λ f. AreSettledIn detail r.geometry.blocks disk r.geometry f (inodes_of (tree disk r.geometry.inodes r.inode_file))) (sym file_is) settled;
+          settled = subst (λ f. AreSettledIn detail r.geometry.blocks disk r.version r.geometry f (inodes_of (tree disk r.geometry.inodes r.inode_file))) (sym file_is) settled;
           numbers = numbers ∙ whole_bytes;
           unchanged = unchanged;
           volume = λ v holds. stands v settled
@@ -165,14 +172,14 @@ module _ {detail : Detail} (l : TreesReadAsHeld) (disk : Blocks) (r : Root) (are
         → tree disk r.geometry.inodes r.inode_file 1 ≡ held disk i → tree disk r.geometry.inodes r.inode_file 2 ≡ held disk b
         → b.size ≡ 4 * r.geometry.blocks → bytes ≡ inode_bytes_of disk i → AreParts (inode_block disk b) (div_ceil r.geometry.blocks 1024) parts → AreUnchanged parts
         → map.parts.items ≡ parts → map.count ≡ r.geometry.blocks → map.next ≡ 2
-        → inodes.geometry ≡ r.geometry → inodes.file ≡ file → inodes.numbers.bytes.items ≡ bytes → ((n : ℕ) → IsChanged inodes n → ⊥)
-        → ((v : Volume) → AreSettledIn detail r.geometry.blocks disk r.geometry file (inodes_of (tree disk r.geometry.inodes r.inode_file)) → MapsVolume bytes v
+        → inodes.version ≡ r.version → inodes.geometry ≡ r.geometry → inodes.file ≡ file → inodes.numbers.bytes.items ≡ bytes → ((n : ℕ) → IsChanged inodes n → ⊥)
+        → ((v : Volume) → AreSettledIn detail r.geometry.blocks disk r.version r.geometry file (inodes_of (tree disk r.geometry.inodes r.inode_file)) → MapsVolume bytes v
         → HoldsVolumeIn detail r.geometry.inodes (λ n. held_content disk (inodes_of (tree disk r.geometry.inodes r.inode_file) n)) v
         → IsVolumeIn detail r.geometry.blocks disk (inodes_of (tree disk r.geometry.inodes r.inode_file)) inodes v)
         → IsLoadedIn detail disk r map inodes
     unfolding whole
-    loaded i b bytes parts map inodes is_i is_b size read have clean items count next geometry file_is numbers unchanged stands =
+    loaded i b bytes parts map inodes is_i is_b size read have clean items count next version geometry file_is numbers unchanged stands =
         record {
           map = trees.map_is r.geometry are disk r.inode_file sound root l b map parts is_b size have clean items count next;
-          inodes = inodes_loaded i bytes inodes is_i read geometry file_is numbers unchanged stands;
+          inodes = inodes_loaded i bytes inodes is_i read version geometry file_is numbers unchanged stands;
         }

@@ -26,6 +26,7 @@ not_loaded (Err f) is reads loads = record {
   parts = tt;
   unchanged = tt;
   next = tt;
+  version = tt;
   geometry = tt;
   clean = tt;
   numbers = tt;

@@ -11,7 +11,7 @@ use Rattle.model.specs.Volumes.{Volume}
 use Rattle.images.specs.Contents.{content_of}
 use Rattle.images.specs.Roots.{HeldTree, frozen_at, frozen_inode_file, inode_file_or_free, tree, whole}
 use Rattle.images.specs.Snapshots.{HasSnapshot, IsFrozenTree}
-use Rattle.images.specs.Soundness.{IsSoundTree}
+use Rattle.images.specs.Soundness.{IsSoundTree, IsWithin}
 use Rattle.images.specs.States.{Holds}
 use Rattle.images.proofs.KindLaws.{directory_kind}
 use Rattle.loading.specs.Images.{IsReadable}
@@ -19,6 +19,7 @@ use Rattle.loading.specs.Images.{IsReadable}
 pub readable : (disk : Blocks) (r : Root) (first : Volume) (snapshots : List (Name × Tree)) → Holds r (whole disk r) first snapshots → IsReadable disk r
 readable disk r first snapshots holds = record {
   sound = holds.sound.active;
+  within = holds.sound.within;
   root = directory_kind ((whole disk r).active 3).inode.kind r.geometry.inodes (content_of ((whole disk r).active 3)) (first 3) (holds.holds 3) holds.volume.graph.naming.root;
 }
 
@@ -37,6 +38,7 @@ frozen_readable disk r first snapshots k s kept holds has frozen =
     let t = (whole disk r).frozen k in
     record {
       sound = subst (IsSoundTree r.geometry) (sym same) (holds.sound.frozen k has.block has.there);
+      within = subst (IsWithin r.version) (sym same) (holds.sound.frozen_within k has.block has.there);
       root = subst (λ (x : HeldTree). (x 3).inode.kind ≡ kinds.Directory) (sym same)
           (directory_kind (t 3).inode.kind r.geometry.inodes (content_of (t 3)) (frozen.0 3) (frozen.1 3) frozen.2.graph.naming.root);
     }

@@ -24,12 +24,13 @@ use Rattle.images.specs.Contents.{Content, StandsAs, content_bytes, content_of, 
 use Rattle.images.specs.Nodes.{file_block, held}
 use Rattle.images.specs.Roots.{HeldTree, free_inode, inode_bytes_at, inode_part, inode_under, tree}
 use Rattle.images.specs.Sizes.{HoldsVolumeIn, StandsAsIn, StandsForIn}
-use Rattle.images.specs.Soundness.{Detail, FitsNumber, IsHeldFile, IsOrdinary, IsReadable, MapsNumbers, SpellsInodes, by_bytes, by_sizes}
+use Rattle.images.specs.Soundness.{Detail, FitsNumber, IsHeldFile, IsOrdinary, IsReadable, IsWithin, MapsNumbers, SpellsInodes, by_bytes, by_sizes}
 use Rattle.images.specs.Faults.{IsMapGrammar}
 use Rattle.blockmap.specs.Maps.{settled_at, entry_at, IsTouched}
 use Rattle.blockmap.specs.Parts.{Part}
 use Rattle.blockmap.specs.declared.map.BlockMap.{BlockMap}
 use Rattle.images.specs.BlockMap.{entry}
+use Rattle.inofile.proofs.VersionLaws.{in_version}
 use Rattle.images.proofs.EmptyLaws.{free_bytes, free_fits}
 use Rattle.images.proofs.KindLaws.{ordinary_kind}
 use Rattle.images.proofs.ReadableLaws.{inodes_readable}
@@ -144,44 +145,47 @@ module _ {detail : Detail} (s : Sizes) (are : AreSizes s) (disk : Blocks) (top :
     past = λ ge. absurd (omega arith);
   }
 
-  inode_at : (n : ℕ) → IsInodeAt s n (inode_bytes_at (file_block (tree disk s.inodes top 0)) n)
-  inode_at n = elim (cases_lt n s.inodes) [
+  free_in : (version : ℕ) → IsInode version s free_inode
+  free_in version = in_version version s free_inode (free_fits s) (omega arith)
+
+  inode_at : (version : ℕ) → IsWithin version (tree disk s.inodes top) → (n : ℕ) → IsInodeAt version s n (inode_bytes_at (file_block (tree disk s.inodes top 0)) n)
+  inode_at version within n = elim (cases_lt n s.inodes) [
     | inr past ↦ record {
       inode = free_inode;
-      is = free_fits s;
+      is = free_in version;
       spelled = sound.inodes.past n past ∙ sym free_bytes;
       kind = free_past s.inodes n (omega (arith, are.least_inodes)) past;
     }
     | inl lt ↦ elim (cases_lt 0 n) [
       | inl some ↦ record {
         inode = (tree disk s.inodes top n).inode;
-        is = (sound.files n).inode;
+        is = in_version version s _ (sound.files n).inode (within n);
         spelled = sound.inodes.each n some lt;
         kind = in_use n some lt;
       }
       | inr none ↦
           let at : n ≡ 0 = omega arith in
-          subst (λ k. IsInodeAt s k (inode_bytes_at (file_block (tree disk s.inodes top 0)) k)) (sym at) (record {
+          subst (λ k. IsInodeAt version s k (inode_bytes_at (file_block (tree disk s.inodes top 0)) k)) (sym at) (record {
             inode = free_inode;
-            is = free_fits s;
+            is = free_in version;
             spelled = sound.inodes.first ∙ sym free_bytes;
             kind = free_first s.inodes (omega (arith, are.least_inodes));
           })
     ]
   ]
 
-  inode_block_at : (i : ℕ) → IsInodeBlock s (21 * i) (file_block (tree disk s.inodes top 0) i)
-  inode_block_at i = record {
+  inode_block_at : (version : ℕ) → IsWithin version (tree disk s.inodes top) → (i : ℕ) → IsInodeBlock version s (21 * i) (file_block (tree disk s.inodes top 0) i)
+  inode_block_at version within i = record {
     each = λ k lt.
         let block : (21 * i + k) / 21 ≡ i = omega arith in
         let place : (21 * i + k) % 21 ≡ k = omega arith in
-        subst (λ m. IsInodeAt s (21 * i + k) (inode_part (file_block (tree disk s.inodes top 0) i) m)) place
-        (subst (λ j. IsInodeAt s (21 * i + k) (inode_part (file_block (tree disk s.inodes top 0) j) ((21 * i + k) % 21))) block (inode_at (21 * i + k)));
+        subst (λ m. IsInodeAt version s (21 * i + k) (inode_part (file_block (tree disk s.inodes top 0) i) m)) place
+        (subst (λ j. IsInodeAt version s (21 * i + k) (inode_part (file_block (tree disk s.inodes top 0) j) ((21 * i + k) % 21))) block (inode_at version within (21 * i + k)));
     behind = sound.inodes.behind i;
   }
 
-  pub inode_blocks : AreInodeBlocks s (inode_block disk top)
-  inode_blocks = subst (AreInodeBlocks s) (ap file_block first_is ∙ sym top_reads) (λ i lt. inode_block_at i)
+  pub inode_blocks : (version : ℕ) → IsWithin version (tree disk s.inodes top) → AreInodeBlocks version s (inode_block disk top)
+  inode_blocks version within = subst (AreInodeBlocks version s) (ap file_block first_is ∙ sym top_reads) (λ i lt. inode_block_at version within i)
 
   -- the inodes that stand there
   pub own_spelled : (n : ℕ) → 1 ≤ n → n < s.inodes → inode_bytes_at (inode_block disk top) n ≡ inode_bytes (tree disk s.inodes top n).inode
@@ -203,11 +207,12 @@ module _ {detail : Detail} (s : Sizes) (are : AreSizes s) (disk : Blocks) (top :
   free_behind n past = ap (λ h. h.inode) (l.ends disk s.inodes top n (omega (arith, are.least_inodes)) past)
 
   pub settled : (file : File) → memory.file_block disk file ≡ inode_block disk top → ((i : ℕ) → IsSoundAt s.blocks disk file.tree i)
-      → AreSettledIn detail s.blocks disk s file (inodes_of (tree disk s.inodes top))
-  settled file same reached = record {
+      → (version : ℕ) → IsWithin version (tree disk s.inodes top) → AreSettledIn detail s.blocks disk version s file (inodes_of (tree disk s.inodes top))
+  settled file same reached version within = record {
     count = refl;
     spelled = λ n some lt. ap (λ block. inode_bytes_at block n) same ∙ own_spelled n some lt;
     sound = λ n. subst (IsHeldFile detail s) (sym (held_again n)) (sound.files n);
+    within = within;
     fits = sound.kinds;
     past = free_behind;
     reached = reached;

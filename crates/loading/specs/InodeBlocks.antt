@@ -9,7 +9,6 @@ use Rattle.layout.specs.declared.inode.Inode.{Inode}
 use Rattle.layout.specs.declared.kind.Kind.{Kind}
 use Rattle.layout.specs.declared.kind.Kind.TheVariants.{Free, Directory}
 use Rattle.model.specs.declared.limits.TheConstants.{ROOT_NUMBER}
-use Rattle.layout.specs.declared.version.TheConstants.{VERSION}
 use Rattle.images.specs.Roots.{inode_part}
 use Rattle.images.specs.Soundness.{FitsNumber}
 
@@ -20,19 +19,19 @@ pub record HasKindOfPlace (inodes n : ℕ) (kind : Kind) : Type 0 where
   pub none : n ≡ 0 → kind ≡ Free
   pub past : inodes ≤ n → kind ≡ Free
 
--- these bytes are the inode at place n of an inode file, in an image of these sizes
-pub record IsInodeAt (s : Sizes) (n : ℕ) (bytes : List ℕ) : Type 0 where
+-- these bytes are the inode at place n of an inode file, in an image of this version and these sizes
+pub record IsInodeAt (version : ℕ) (s : Sizes) (n : ℕ) (bytes : List ℕ) : Type 0 where
   pub inode : Inode
-  pub is : IsInode VERSION s inode
+  pub is : IsInode version s inode
   pub spelled : bytes ≡ inode_bytes inode
   pub kind : HasKindOfPlace s.inodes n inode.kind
 
 -- a block of an inode file, its first inode at this place: inodes, and zeros behind them
-pub record IsInodeBlock (s : Sizes) (first : ℕ) (bytes : List ℕ) : Type 0 where
-  pub each : (k : ℕ) → k < INODES_PER_BLOCK → IsInodeAt s (first + k) (inode_part bytes k)
+pub record IsInodeBlock (version : ℕ) (s : Sizes) (first : ℕ) (bytes : List ℕ) : Type 0 where
+  pub each : (k : ℕ) → k < INODES_PER_BLOCK → IsInodeAt version s (first + k) (inode_part bytes k)
   pub behind : drop (INODE_BYTES * INODES_PER_BLOCK) bytes ≡ zeros (BLOCK_BYTES - INODE_BYTES * INODES_PER_BLOCK)
 
 -- all blocks of an inode file are so
-abbrev pub AreInodeBlocks : Sizes → (ℕ → List ℕ) → Type 0
-AreInodeBlocks s block =
-    (i : ℕ) → i < div_ceil s.inodes INODES_PER_BLOCK → IsInodeBlock s (INODES_PER_BLOCK * i) (block i)
+abbrev pub AreInodeBlocks : ℕ → Sizes → (ℕ → List ℕ) → Type 0
+AreInodeBlocks version s block =
+    (i : ℕ) → i < div_ceil s.inodes INODES_PER_BLOCK → IsInodeBlock version s (INODES_PER_BLOCK * i) (block i)

@@ -16,26 +16,29 @@ ghost use Rattle.loading.specs.InodeBlocks.{AreInodeBlocks, HasKindOfPlace, IsIn
 use blocktree::ReadError;
 use buffers::Blocks;
 use inode::File;
-use layout::{BLOCK_BYTES, Geometry, INODE_BYTES, INODES_PER_BLOCK, Inode, Kind, ROOT_NUMBER};
+use layout::{
+    BLOCK_BYTES, Geometry, INODE_BYTES, INODES_PER_BLOCK, Inode, Kind, ROOT_NUMBER, VERSION,
+};
 
 /// Tests all blocks of a settled inode file.
 pub(crate) fn check_inodes<B: Blocks>(
     blocks: &mut B,
     file: &File,
+    version: u32,
     geometry: Geometry,
 ) -> Result<(), ReadError>
     ensures reads { ReadsBlocks B.Blocks IsFault blocks.old blocks.new result }
     ensures are { (disk : ℕ → List ℕ) → B.Shows blocks.old disk
-        → OnOk result (AreInodeBlocks geometry (file_block disk file.now)) }
+        → OnOk result (AreInodeBlocks version geometry (file_block disk file.now)) }
     ensures damaged { (disk : ℕ → List ℕ) → B.Shows blocks.old disk
         → IsErrOf result ReadError.Damaged
         → ((i : ℕ) → IsSoundAt (B.count blocks.old) disk file.now.tree i)
-        → AreInodeBlocks geometry (file_block disk file.now) → ⊥ }
+        → AreInodeBlocks version geometry (file_block disk file.now) → ⊥ }
 {
     for i in 0..geometry.inodes().div_ceil(INODES_PER_BLOCK) {
         let location = file.locate(blocks, i)?;
         let bytes = file.bytes(blocks, i, location);
-        if !is_inode_block(bytes, INODES_PER_BLOCK * i, geometry) {
+        if !is_inode_block(bytes, INODES_PER_BLOCK * i, version, geometry) {
             return Err(ReadError::Damaged);
         }
     }
@@ -64,22 +67,22 @@ pub fn own_inode<B: Blocks>(
 {
     let location = file.locate(blocks, 0)?;
     let bytes = file.bytes(blocks, 0, location);
-    match read_inode(part(bytes, number), geometry) {
+    match read_inode(part(bytes, number), VERSION, geometry) {
         Some(inode) if inode.kind == kind => Ok(inode),
         _ => Err(ReadError::Damaged),
     }
 }
 
-/// The inode that these bytes spell in an image of this geometry.
-fn read_inode(bytes: &[u8], geometry: Geometry) -> Option<Inode>
-    ensures found { IfSome result (λ i. IsInode VERSION geometry i
+/// The inode that these bytes spell in an image of this version and geometry.
+fn read_inode(bytes: &[u8], version: u32, geometry: Geometry) -> Option<Inode>
+    ensures found { IfSome result (λ i. IsInode version geometry i
         × (bytes.now ≡ inode_bytes i)) }
-    ensures only { (i : Inode) → IsInode VERSION geometry i → bytes.now ≡ inode_bytes i
+    ensures only { (i : Inode) → IsInode version geometry i → bytes.now ≡ inode_bytes i
         → result ≡ Some i }
 {
     let _ = geometry.inodes();
     let inode = Inode::read(bytes)?;
-    if inode.fits(geometry) {
+    if inode.fits(version, geometry) {
         Some(inode)
     } else {
         None
@@ -87,12 +90,12 @@ fn read_inode(bytes: &[u8], geometry: Geometry) -> Option<Inode>
 }
 
 /// Whether these bytes are a block of an inode file whose first inode stands at this place.
-fn is_inode_block(bytes: &[u8; BLOCK_BYTES], first: u32, geometry: Geometry) -> bool
+fn is_inode_block(bytes: &[u8; BLOCK_BYTES], first: u32, version: u32, geometry: Geometry) -> bool
     requires { first + INODES_PER_BLOCK < 2 ^ 32 }
-    ensures { IsTrue result ↔ IsInodeBlock geometry first bytes.now }
+    ensures { IsTrue result ↔ IsInodeBlock version geometry first bytes.now }
 {
     for k in 0..INODES_PER_BLOCK {
-        if !is_inode_at(part(bytes, k), first + k, geometry) {
+        if !is_inode_at(part(bytes, k), first + k, version, geometry) {
             return false;
         }
     }
@@ -109,20 +112,20 @@ fn part(bytes: &[u8; BLOCK_BYTES], index: u32) -> &[u8]
 }
 
 /// Whether these bytes are the inode at this place of an inode file.
-fn is_inode_at(bytes: &[u8], place: u32, geometry: Geometry) -> bool
-    ensures { IsTrue result ↔ IsInodeAt geometry place bytes.now }
+fn is_inode_at(bytes: &[u8], place: u32, version: u32, geometry: Geometry) -> bool
+    ensures { IsTrue result ↔ IsInodeAt version geometry place bytes.now }
 {
-    inode_at(bytes, place, geometry).is_some()
+    inode_at(bytes, place, version, geometry).is_some()
 }
 
 /// The inode that these bytes are at a place of an inode file, if they are one.
-pub fn inode_at(bytes: &[u8], place: u32, geometry: Geometry) -> Option<Inode>
-    ensures found { IfSome result (λ i. IsInode VERSION geometry i
+pub fn inode_at(bytes: &[u8], place: u32, version: u32, geometry: Geometry) -> Option<Inode>
+    ensures found { IfSome result (λ i. IsInode version geometry i
         × (bytes.now ≡ inode_bytes i) × HasKindOfPlace geometry.inodes place i.kind) }
-    ensures only { (i : Inode) → IsInode VERSION geometry i → bytes.now ≡ inode_bytes i
+    ensures only { (i : Inode) → IsInode version geometry i → bytes.now ≡ inode_bytes i
         → HasKindOfPlace geometry.inodes place i.kind → result ≡ Some i }
 {
-    let inode = read_inode(bytes, geometry)?;
+    let inode = read_inode(bytes, version, geometry)?;
     if kind_fits(inode.kind, place, geometry.inodes()) {
         Some(inode)
     } else {

@@ -5,6 +5,7 @@ ghost use Rattle.layout.specs.Places.{Blocks};
 ghost use Rattle.layout.specs.Root.{IsRoot};
 ghost use Rattle.layout.specs.SnapRoot.{Snapshot};
 ghost use Rattle.layout.specs.declared.root.Root.{Root};
+ghost use Rattle.layout.specs.declared.version.TheConstants.{VERSION};
 ghost use Rattle.model.specs.Paths.{Name};
 ghost use Rattle.model.specs.Trees.{Tree};
 ghost use Rattle.model.specs.Volumes.{Volume};
@@ -69,12 +70,12 @@ pub fn snapshots_are_readable()
         → IsReadable disk (record r { inode_file = s.inode_file }) }
 {}
 
-/// Under a root whose tree is readable, the inode file has the inodes of the tree, and they hold what the tree holds. It does
+/// Under a root whose tree is readable, the inode file has the inodes of the tree, in the newest version, and they hold what the tree holds. It does
 /// nothing.
 pub fn readable_inodes_are_settled()
     ensures settled { (disk : Blocks) (r : Root) (file : File) → IsRoot r → IsReadable disk r
         → IsFileOfInode r.inode_file file
-        → AreSettled r.geometry.blocks disk r.geometry file (inodes_of (whole disk r).active) }
+        → AreSettled r.geometry.blocks disk VERSION r.geometry file (inodes_of (whole disk r).active) }
     ensures holds { (disk : Blocks) (r : Root) (v : Volume) → IsRoot r → IsReadable disk r
         → HoldsVolume r.geometry.inodes (tree_contents (whole disk r).active) v
         → HoldsVolume r.geometry.inodes

@@ -114,7 +114,7 @@ pub(crate) fn load_parts<B: Blocks>(
 
 /// The file of a map: all of its blocks are stored, and zeros stand past its end. Of its blocks only the last one is read.
 pub fn map_file<B: Blocks>(alloc: Global, blocks: &mut B, inode: Inode) -> Result<File, ReadError>
-    requires { inode.size ≤ greatest_size 1 }
+    requires { inode.size ≤ greatest_size VERSION }
     ensures reads { ReadsBlocks B.Blocks IsFault blocks.old blocks.new result }
     ensures size { IfOk result (λ f. f.size ≡ inode.size) }
     ensures blocks { IfOk result (λ f. (disk : ℕ → List ℕ) (i : ℕ)

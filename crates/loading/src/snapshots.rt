@@ -17,7 +17,7 @@ ghost use Rattle.loading.specs.Snapshots.{AreOfTwoSnapshots, AreApartAt, IsSnaps
 use blocktree::ReadError;
 use buffers::Blocks;
 use images::snapshots_are_what_their_bytes_spell;
-use layout::{BLOCK_BYTES, Pointer, Root, SNAPSHOT_SLOTS, SnapRoot};
+use layout::{BLOCK_BYTES, Pointer, Root, SNAPSHOT_SLOTS, SnapRoot, VERSION};
 
 /// Tests the root block of each snapshot of a root: `Damaged` where one is no snapshot's root in an image of these sizes, or has an
 /// order above the root's generation, and where two have one name or one order.
@@ -110,7 +110,7 @@ fn is_of(snapshot: &SnapRoot<'_>, root: &Root) -> bool
     ensures { IsTrue result ↔ ((snapshot.now.order ≤ root.now.generation)
         × IsInode VERSION root.now.geometry snapshot.now.inode_file) }
 {
-    snapshot.order <= root.generation.get() && snapshot.inode_file.fits(root.geometry)
+    snapshot.order <= root.generation.get() && snapshot.inode_file.fits(VERSION, root.geometry)
 }
 
 /// Tests the root block of the snapshot at a pointer, if there is one.

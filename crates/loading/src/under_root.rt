@@ -41,32 +41,34 @@ pub fn load<B: Blocks>(alloc: Global, blocks: &mut B, root: &Root) -> Result<Loa
     trees_read_as_held();
     let geometry = root.geometry;
     let file = File::load(alloc, root.inode_file)?;
-    check_inodes(blocks, &file, geometry)?;
+    check_inodes(blocks, &file, root.version, geometry)?;
     let inode_map = own_inode(blocks, &file, 1, Kind::InodeMap, geometry)?;
     let block_map = own_inode(blocks, &file, 2, Kind::BlockMap, geometry)?;
     let numbers = load_numbers(alloc, blocks, inode_map, geometry)?;
     let parts = load_parts(alloc, blocks, block_map, geometry)?;
     let map = BlockMap::new(parts, geometry.blocks());
-    let inodes = InodeFile::new(alloc, geometry, file, numbers);
+    let inodes = InodeFile::new(alloc, root.version, geometry, file, numbers);
     Ok(Loaded { map, inodes })
 }
 
-/// Reads the inodes of a tree under the inode of its inode file: a kept tree, of which only what is asked for is read. Where the tree
+/// Reads the inodes of a tree of this version under the inode of its inode file: a kept tree, of which only what is asked for is read. Where the tree
 /// is in its grammar, what is loaded is what it has, and Err comes only for want of memory and where a device call failed. `Damaged`
 /// comes where the inode of the inode map or its bytes aren't in their grammar.
 pub fn load_inodes<B: Blocks>(
     alloc: Global,
     blocks: &mut B,
+    version: u32,
     geometry: Geometry,
     inode_file: Inode,
 ) -> Result<InodeFile, ReadError>
     requires count { B.count blocks.old ≡ geometry.blocks }
     requires size { inode_file.size ≤ greatest_size VERSION }
     ensures reads { ReadsBlocks B.Blocks IsFault blocks.old blocks.new result }
+    ensures version { IfOk result (λ s. s.version ≡ version) }
     ensures geometry { IfOk result (λ s. s.geometry ≡ geometry) }
     ensures loads { (detail : Detail) (disk : ℕ → List ℕ) → B.Shows blocks.old disk → (r : Root)
-        → r.geometry ≡ geometry → r.inode_file ≡ inode_file → IsReadableIn detail disk r
-        → MatchResult result (AreInodesIn detail disk geometry (whole disk r).active)
+        → r.version ≡ version → r.geometry ≡ geometry → r.inode_file ≡ inode_file → IsReadableIn detail disk r
+        → MatchResult result (AreInodesIn detail disk version geometry (whole disk r).active)
         (λ e. (e ≡ ReadError.NoMemory) ⊎ (e ≡ ReadError.Device)) }
 {
     trees_read_as_held();
@@ -74,5 +76,5 @@ pub fn load_inodes<B: Blocks>(
     let file = File::load(alloc, inode_file)?;
     let inode_map = own_inode(blocks, &file, 1, Kind::InodeMap, geometry)?;
     let numbers = load_numbers(alloc, blocks, inode_map, geometry)?;
-    Ok(InodeFile::new(alloc, geometry, file, numbers))
+    Ok(InodeFile::new(alloc, version, geometry, file, numbers))
 }

@@ -1,8 +1,8 @@
 -- The root of a new image.
-use Rattle.std.proofs.Common.{◌≡◌, inl, inr, ℕ, zero, suc, ◌+◌, ◌≤◌, ◌/◌, ◌%◌, false, List, [], length, replicate, refl, ap, sym, subst, ◌∙◌, arith}
+use Rattle.std.proofs.Common.{◌≡◌, inl, inr, ℕ, zero, suc, ◌+◌, ◌≤◌, ◌/◌, ◌%◌, false, List, [], length, drop, replicate, refl, ap, sym, subst, ◌∙◌, arith}
 use Rattle.std.specs.Prelude.{All, slice_index_or}
 use Rattle.std.proofs.lemmas.Bool.{cases_lt}
-use Rattle.std.proofs.lemmas.List.{get_or_default, get_or-replicate, get_or_past, length-replicate}
+use Rattle.std.proofs.lemmas.List.{drop_all, get_or_default, get_or-replicate, get_or_past, length-replicate}
 use Rattle.layout.specs.Inode.{IsInode, inode_bytes}
 use Rattle.layout.specs.Limits.{AreSizes}
 use Rattle.layout.specs.Maps.{map_entry}
@@ -12,7 +12,8 @@ use Rattle.layout.specs.Root.{IsRoot}
 use Rattle.layout.specs.declared.pointer.Pointer.{Pointer}
 use Rattle.layout.specs.declared.pointer.Pointer.TheVariants.{Hole}
 use Rattle.layout.specs.declared.root.Root.{Root}
-use Rattle.layout.specs.declared.version.TheConstants.{VERSION}
+use Rattle.layout.specs.Version.{snapshot_slots}
+use Rattle.layout.specs.declared.version.TheConstants.{SNAPSHOT_SLOTS, VERSION}
 use Rattle.model.specs.Records.{count_nameless}
 use Rattle.model.specs.Room.{fixed_of}
 use Rattle.model.specs.Volumes.{is_nameless}
@@ -30,18 +31,18 @@ use Rattle.making.proofs.RoomLaws.{one_free}
 use Rattle.images.proofs.EmptyLaws.{held_inode}
 use Rattle.images.proofs.ReadingLaws.{read_spelled}
 
-hole_at : (k : ℕ) → slice_index_or (replicate 20 Hole) k Hole ≡ Hole
-hole_at k = elim (cases_lt k 20) [
-  | inl lt ↦ get_or-replicate {A = Pointer} 20 k Hole Hole lt
-  | inr ge ↦ get_or_past (replicate 20 Hole) k Hole (omega (arith, ge, length-replicate {A = Pointer} 20 Hole))
+hole_at : (k : ℕ) → slice_index_or (replicate SNAPSHOT_SLOTS Hole) k Hole ≡ Hole
+hole_at k = elim (cases_lt k SNAPSHOT_SLOTS) [
+  | inl lt ↦ get_or-replicate {A = Pointer} SNAPSHOT_SLOTS k Hole Hole lt
+  | inr ge ↦ get_or_past (replicate SNAPSHOT_SLOTS Hole) k Hole (omega (arith, ge, length-replicate {A = Pointer} SNAPSHOT_SLOTS Hole))
 ]
 
-no_slot : (r : Root) → r.snapshots ≡ replicate 20 Hole → (k : ℕ) → slot r k ≡ Hole
+no_slot : (r : Root) → r.snapshots ≡ replicate SNAPSHOT_SLOTS Hole → (k : ℕ) → slot r k ≡ Hole
 no_slot r none zero = refl
 no_slot r none (suc k) = ap (λ (pointers : List Pointer). slice_index_or pointers k Hole) none ∙ hole_at k
 
-below : (blocks : ℕ) → All (PointsBelow blocks) (replicate 20 Hole)
-below blocks k p lt = subst (PointsBelow blocks) (sym (get_or_default (replicate 20 Hole) k p Hole lt ∙ hole_at k)) tt
+below : (blocks : ℕ) → All (PointsBelow blocks) (replicate SNAPSHOT_SLOTS Hole)
+below blocks k p lt = subst (PointsBelow blocks) (sym (get_or_default (replicate SNAPSHOT_SLOTS Hole) k p Hole lt ∙ hole_at k)) tt
 
 ones_from : (f : ℕ → ℕ) (next n : ℕ) → ((b : ℕ) → next ≤ b → f b ≡ 1) → n ≤ sum_below f n + next
 unfolding sum_below
@@ -63,14 +64,16 @@ none_nameless : (n : ℕ) → count_nameless n root_alone_volume ≡ 0
 none_nameless zero = refl
 none_nameless (suc n) = rw (named n) (omega (arith, none_nameless n))
 
-module _ (r : Root) (d : Draft) (generation : r.generation ≡ 1) (are : AreSizes r.geometry) (none : r.snapshots ≡ replicate 20 Hole) (has : HasTree r.geometry d r.inode_file) where
+module _ (r : Root) (d : Draft) (version : r.version ≡ VERSION) (generation : r.generation ≡ 1) (are : AreSizes r.geometry) (none : r.snapshots ≡ replicate SNAPSHOT_SLOTS Hole) (has : HasTree r.geometry d r.inode_file) where
   pub root_is : (e : Blocks) → HasAll e d.blocks.items → IsRoot r
   root_is e all = record {
-    head = record { first = omega (arith, generation); last = omega (arith, generation); sizes = are };
+    head = record { known = record { least = omega (arith, version); most = omega (arith, version) }; first = omega (arith, generation); last = omega (arith, generation); sizes = are };
     kind = has.kind;
     inode_file = subst (IsInode VERSION r.geometry) (held_inode e r.inode_file) ((has.tree e all).files 0 (omega arith)).inode;
-    slots = ap length none ∙ length-replicate {A = Pointer} 20 Hole;
+    slots = ap length none ∙ length-replicate {A = Pointer} SNAPSHOT_SLOTS Hole;
     snapshots = subst (All (PointsBelow r.geometry.blocks)) (sym none) (below r.geometry.blocks);
+    few = subst (λ (v : ℕ). All (λ p. p ≡ Hole) (drop (snapshot_slots v) r.snapshots)) (sym version)
+        (subst (All (λ p. p ≡ Hole)) (sym (drop_all SNAPSHOT_SLOTS r.snapshots (omega (arith, ap length none, length-replicate {A = Pointer} SNAPSHOT_SLOTS Hole)))) (λ k p lt. absurd (omega (arith, lt))));
   }
 
   -- of the whole disk the block map is the one that was placed
@@ -91,4 +94,4 @@ module _ (r : Root) (d : Draft) (generation : r.generation ≡ 1) (are : AreSize
         omega (arith, few, free, none_nameless r.geometry.inodes)
 
   pub first_is : (e : Blocks) → HasAll e d.blocks.items → IsFirst r e has.numbers has.map
-  first_is e all = record { root = root_is e all; slots = no_slot r none; tree = has.tree e all }
+  first_is e all = record { root = root_is e all; version = version; slots = no_slot r none; tree = has.tree e all }

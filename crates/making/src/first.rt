@@ -7,6 +7,7 @@ ghost use Rattle.layout.specs.Root.{IsRoot, root_bytes};
 ghost use Rattle.layout.specs.declared.TheConstants.{BLOCK_POINTERS, SLOT_A};
 ghost use Rattle.layout.specs.declared.numbers.TheConstants.{FIRST_GENERATION};
 ghost use Rattle.layout.specs.declared.pointer.Pointer.TheVariants.{Hole};
+ghost use Rattle.layout.specs.declared.version.TheConstants.{VERSION};
 ghost use Rattle.buffers.specs.Disks.{IsWhole};
 ghost use Rattle.conspoint.specs.Drafts.{Grows, HasAll, IsReserved, IsShortage, OnEach};
 ghost use Rattle.conspoint.specs.Groups.{pointer_at};
@@ -29,7 +30,7 @@ use conspoint::{Draft, Plan, PlanError, mark_all, store_own_map, written_disks_h
 use images::{first_roots_hold, free_files_hold_nothing, inodes_are_put_one_by_one};
 use layout::{
     BODY_POINTERS, BlockNumber, Generation, Geometry, Inode, Pointer, ROOT_BYTES, Root, SLOT_A,
-    SNAPSHOT_SLOTS,
+    SNAPSHOT_SLOTS, VERSION,
 };
 use placement::{place_file, place_file_but_first};
 use std::alloc::{AllocError, Global};
@@ -159,6 +160,7 @@ pub fn plan_first(alloc: Global, geometry: Geometry) -> Result<FirstPoint, PlanE
     ensures root { IfOk result (λ p. IsRoot p.root) }
     ensures generation { IfOk result (λ p. p.root.generation ≡ FIRST_GENERATION) }
     ensures geometry { IfOk result (λ p. p.root.geometry ≡ geometry) }
+    ensures version { IfOk result (λ p. p.root.version ≡ VERSION) }
     ensures holds { IfOk result (λ p. (e : Blocks) → HasAll e p.plan.blocks
         → Holds p.root (whole e p.root) root_alone_volume []) }
     ensures room { IfOk result (λ p. (e : Blocks) → HasAll e p.plan.blocks
@@ -170,6 +172,7 @@ pub fn plan_first(alloc: Global, geometry: Geometry) -> Result<FirstPoint, PlanE
     let mut draft = Draft::new(alloc, empty_map(alloc, geometry.blocks())?);
     let inode_file = plan_files(alloc, &mut draft, geometry)?;
     let root = Root {
+        version: VERSION,
         generation: Generation::FIRST,
         geometry,
         inode_file,

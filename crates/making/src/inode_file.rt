@@ -1,9 +1,10 @@
 //! The inode file of an image with an empty root directory.
 
-ghost use Rattle.std.specs.Prelude.{◌≡◌, ◌*◌, ℕ, ◌<◌, List, IfOk, OnOk, length};
+ghost use Rattle.std.specs.Prelude.{◌≡◌, ◌*◌, ℕ, ◌<◌, ◌≤◌, List, IfOk, OnOk, length};
 ghost use Rattle.std.specs.Int.{div_ceil};
 ghost use Rattle.layout.specs.Bytes.{zeros};
 ghost use Rattle.layout.specs.Inode.{inode_bytes};
+ghost use Rattle.layout.specs.declared.TheConstants.{SINGLE_BYTES};
 ghost use Rattle.images.specs.FirstRoots.{empty_directory};
 ghost use Rattle.images.specs.InodeFiles.{spliced_at};
 ghost use Rattle.images.specs.Roots.{free_inode};
@@ -25,6 +26,7 @@ pub(crate) fn inode_file(alloc: Global, geometry: Geometry) -> Object
     ensures attributes { result.attributes
         ≡ record { kind = Kind.InodeFile; mode = 0; links = 1 } }
     ensures size { result.file.size ≡ 4096 * div_ceil geometry.inodes 21 }
+    ensures small { result.file.size ≤ SINGLE_BYTES }
     ensures base { IsBased free_inode result.file.tree }
     ensures blocks { (disk : ℕ → List ℕ) (i : ℕ) → file_block disk result.file i ≡ zeros 4096 }
     ensures unchanged { (i : ℕ) → IsChanged result.file.tree i → ⊥ }

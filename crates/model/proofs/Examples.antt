@@ -108,7 +108,7 @@ appends = with_descriptor 0 (Some (record (opened 0) { appends = true })) small
 writes_behind : writes appends 0 (1 ∷ []) (reply.Wrote 1) (with_descriptor 0 (Some (record (opened 4) { appends = true })) (with_bytes 6 (97 ∷ 98 ∷ 99 ∷ 1 ∷ []) appends)) (logs (puts_bytes 3 3 1))
 writes_behind = (refl, refl, refl)
 
-too_far : writes_to small 0 (pos 67108863) (0 ∷ 0 ∷ []) (reply.Refused EFBIG) small nothing
+too_far : writes_to small 0 (pos 68719476735) (0 ∷ 0 ∷ []) (reply.Refused EFBIG) small nothing
 too_far = (refl, refl, refl)
 
 before_the_start : writes_to small 0 (negsuc 0) [] (reply.Refused EINVAL) small nothing

@@ -66,7 +66,7 @@ writes_65463_more = (refl, refl, refl)
 gets_the_last : gets (file_of full 0) (codes "/f") (pos 65535) 9 (reply.Data (0x61 ∷ [])) (file_of full 0) nothing
 gets_the_last = (refl, refl, refl)
 
--- `pwrite 0 67108863 00` makes the greatest file: no list so long is computed, so its size is told of every offset
+-- `pwrite 0 68719476735 00` makes the greatest file: no list so long is computed, so its size is told of every offset
 
 size_after_one_byte : (offset : ℕ) → length (written offset (0 ∷ []) []) ≡ offset + 1
 size_after_one_byte offset = omega (arith, length-written offset (0 ∷ []) [])
@@ -74,7 +74,7 @@ size_after_one_byte offset = omega (arith, length-written offset (0 ∷ []) [])
 stat_of_any_bytes : (bytes : List ℕ) → stats (file_of bytes 0) true (codes "/f") (reply.Stat (record { number = 4; kind = kind.File; mode = 0o644; links = 1; size = length bytes })) (file_of bytes 0) nothing
 stat_of_any_bytes bytes = (1, links_told (file_of_is bytes 0) 4 (at_f ∷ []) refl refl refl, (refl, refl, refl))
 
-past_the_greatest_file : writes_to (file_of [] 0) 0 (pos 67108863) (0 ∷ 0 ∷ []) (reply.Refused EFBIG) (file_of [] 0) nothing
+past_the_greatest_file : writes_to (file_of [] 0) 0 (pos 68719476735) (0 ∷ 0 ∷ []) (reply.Refused EFBIG) (file_of [] 0) nothing
 past_the_greatest_file = (refl, refl, refl)
 
 -- room on a disk of 64 blocks: a file of 65,536 bytes, and a directory that finds none until the file is gone

@@ -3,6 +3,7 @@ mod RowExamples
 mod DirectoryExamples
 mod LargeExamples
 mod SnapshotExamples
+mod RestoreExamples
 pub mod OptionLaws
 pub mod ObjectLaws
 pub mod TestLaws
@@ -24,6 +25,7 @@ pub mod RenameLemmas
 pub mod FindingLemmas
 pub mod ExtendLemmas
 pub mod OnceLemmas
+pub mod OneOutcomeLemmas
 pub mod MountedLemmas
 pub mod AddLemmas
 pub mod LimitLemmas

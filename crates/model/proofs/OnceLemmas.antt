@@ -1,15 +1,14 @@
--- A command has at most one outcome.
+-- A call has at most one outcome.
 use Rattle.std.proofs.Common.{◌≡◌, ◌≢◌, ◌⊎◌, inl, inr, ℕ, List, [], ◌∷◌, ◌++◌, length, Bool, true, false, Option, Some, None, bytes_eq, refl, sym, ap, subst, ◌∙◌, arith}
-use Rattle.std.specs.Prelude.{ℤ, MatchOption, nat_abs, nat_le, not, is_none, ◌&&◌, ◌||◌, if◌then◌else◌, ◌+◌, filter}
+use Rattle.std.specs.Prelude.{ℤ, MatchOption, nat_abs, nat_le, not, ◌&&◌, ◌||◌, if◌then◌else◌, ◌+◌}
 use Rattle.std.proofs.Math.Path.{fun_ext}
 use Rattle.std.proofs.lemmas.Bool.{cases_Bool, cases_order, both_ways}
 use Rattle.std.proofs.lemmas.Slice.Eq.{bytes_eq-Decides}
 use Rattle.model.specs.declared.limits.TheConstants.{DIRECTORY_NAMES, OPEN_FILES}
 use Rattle.model.specs.declared.errno.Errno.{Errno}
-use Rattle.model.specs.declared.errno.Errno.TheVariants.{ENOENT, ENOTDIR, EISDIR, EEXIST, EINVAL, EPERM, EBUSY, EBADF, EMFILE, EFBIG, EMLINK, EOVERFLOW, ENOTEMPTY, EROFS, NOSNAP, DIRFULL, NONUMBER}
+use Rattle.model.specs.declared.errno.Errno.TheVariants.{ENOENT, ENOTDIR, EISDIR, EEXIST, EINVAL, EPERM, EBUSY, EBADF, EMFILE, EFBIG, EMLINK, EOVERFLOW, ENOTEMPTY, DIRFULL, NONUMBER}
 use Rattle.model.specs.declared.reply.Reply.{Reply}
 use Rattle.model.specs.declared.reply.Reply.TheVariants as reply
-use Rattle.model.specs.declared.command.Command.TheVariants as command
 use Rattle.model.specs.declared.command.Flags.{Flags}
 use Rattle.model.specs.declared.command.Whence.{Whence}
 use Rattle.model.specs.declared.command.PathCall.{PathCall}
@@ -18,14 +17,13 @@ use Rattle.model.specs.Paths.{Name, Path, Tests, first_refusal, text_tests_then,
 use Rattle.model.specs.Trees.{Tree, Object, directory, symlink, file, Description, HasPath, IsUsed}
 use Rattle.model.specs.Edits.{contents, with_object, with_directory, IsSwept}
 use Rattle.model.specs.Resolution.{Resolution, named, missing, refused, resolve}
-use Rattle.model.specs.Room.{Need, nothing, a_snapshot}
+use Rattle.model.specs.Room.{Need}
 use Rattle.model.specs.Outcomes.{Outcome, answers, refuses, changes, changes_swept, tested, either, leads, leads_to, with_names, with_place, IsFresh, HasNoFresh, at_number, with_fresh, HasLinks, with_links, lowest_free, described}
 use Rattle.model.specs.Reading as reading
 use Rattle.model.specs.Changing as changing
 use Rattle.model.specs.Descriptors as descriptors
-use Rattle.model.specs.States.{State, with_tree, with_snapshots, ForgetsOpenFiles}
-use Rattle.model.specs.Steps.{Step, says, passing, on_tree, calls, is_reading_call, frozen, take_tests, takes, deletes, views}
-use Rattle.model.specs.Laws.{HasOneOutcome}
+use Rattle.model.specs.States.{ForgetsOpenFiles}
+use Rattle.model.specs.Steps.{calls}
 use Rattle.model.proofs.CountLemmas.{counts_once}
 use Rattle.model.proofs.ListingLemmas.{listing_once}
 use Rattle.model.proofs.WalkLemmas.{same_path, path_eq-same}
@@ -36,7 +34,8 @@ pub record IsOne (a b : Reply) (t u : Tree) (m n : Need) : Type 0 where
   pub tree : t ≡ u
   pub need : m ≡ n
 
-abbrev Once : Outcome → Type 0
+-- what an outcome comes to is one
+abbrev pub Once : Outcome → Type 0
 Once outcome = (a b : Reply) (t u : Tree) (m n : Need) → outcome a t m → outcome b u n → IsOne a b t u m n
 
 once_answers : (t : Tree) (r : Reply) → Once (answers t r)
@@ -270,7 +269,7 @@ once_opens_new : (inodes : ℕ) (t : Tree) (p : Path) (name : Name) (flags : Fla
 once_opens_new inodes t p name flags mode fd =
     once_test t _ ENOENT _ (once_place t p _ (once_fresh inodes t _ (λ n. once_changes _ _ _)))
 
-once_open : (inodes : ℕ) (t : Tree) (path : List ℕ) (flags : Flags) (mode : ℕ) → Once (descriptors.opens inodes t path flags mode)
+pub once_open : (inodes : ℕ) (t : Tree) (path : List ℕ) (flags : Flags) (mode : ℕ) → Once (descriptors.opens inodes t path flags mode)
 once_open inodes t path flags mode =
     once_tested t (text_tests_then (descriptors.open_tests flags) path) _
     (elim (lowest_free t.descriptors OPEN_FILES) as (λ o. Once (elim o as (λ _. Outcome) [
@@ -284,41 +283,41 @@ once_open inodes t path flags mode =
 once_puts : (t : Tree) (n offset : ℕ) (given : List ℕ) (also : Tree → Tree) → Once (descriptors.puts t n offset given also)
 once_puts t n offset given also = once_either _ _ _ (once_answers t _) (once_test t _ EFBIG _ (once_changes _ _ _))
 
-once_close : (t : Tree) (fd : ℕ) → Once (descriptors.closes t fd)
+pub once_close : (t : Tree) (fd : ℕ) → Once (descriptors.closes t fd)
 once_close t fd = once_described t fd _ (λ f. once_swept _ _ _)
 
-once_read : (t : Tree) (fd count : ℕ) → Once (descriptors.reads t fd count)
+pub once_read : (t : Tree) (fd count : ℕ) → Once (descriptors.reads t fd count)
 once_read t fd count = once_described t fd _ (λ f. once_two t _ _ EBADF EINVAL _ (once_changes _ _ _))
 
-once_write : (t : Tree) (fd : ℕ) (given : List ℕ) → Once (descriptors.writes t fd given)
+pub once_write : (t : Tree) (fd : ℕ) (given : List ℕ) → Once (descriptors.writes t fd given)
 once_write t fd given =
     once_described t fd _ (λ f.
     let offset = if f.appends then length (contents t f.number) else f.offset in
     once_two t (not f.writes) (reading.is_too_many (length given)) EBADF EINVAL (descriptors.puts t f.number offset given (descriptors.with_offset fd f (offset + length given)))
     (once_puts t f.number offset given (descriptors.with_offset fd f (offset + length given))))
 
-once_pread : (t : Tree) (fd : ℕ) (offset : ℤ) (count : ℕ) → Once (descriptors.reads_from t fd offset count)
+pub once_pread : (t : Tree) (fd : ℕ) (offset : ℤ) (count : ℕ) → Once (descriptors.reads_from t fd offset count)
 once_pread t fd offset count = once_described t fd _ (λ f. once_two t _ _ EBADF EINVAL _ (once_answers t _))
 
-once_pwrite : (t : Tree) (fd : ℕ) (offset : ℤ) (given : List ℕ) → Once (descriptors.writes_to t fd offset given)
+pub once_pwrite : (t : Tree) (fd : ℕ) (offset : ℤ) (given : List ℕ) → Once (descriptors.writes_to t fd offset given)
 once_pwrite t fd offset given =
     once_described t fd _ (λ f.
     once_two t (not f.writes) (reading.is_negative offset || reading.is_too_many (length given)) EBADF EINVAL (descriptors.puts t f.number (nat_abs offset) given (λ after. after))
     (once_puts t f.number (nat_abs offset) given (λ after. after)))
 
-once_seek : (t : Tree) (fd : ℕ) (from : Whence) (offset : ℤ) → Once (descriptors.seeks t fd from offset)
+pub once_seek : (t : Tree) (fd : ℕ) (from : Whence) (offset : ℤ) → Once (descriptors.seeks t fd from offset)
 once_seek t fd from offset = once_described t fd _ (λ f. once_two t _ _ EINVAL EOVERFLOW _ (once_changes _ _ _))
 
-once_ftruncate : (t : Tree) (fd : ℕ) (size : ℤ) → Once (descriptors.truncates_open t fd size)
+pub once_ftruncate : (t : Tree) (fd : ℕ) (size : ℤ) → Once (descriptors.truncates_open t fd size)
 once_ftruncate t fd size = once_described t fd _ (λ f. once_tested t ((not f.writes, EINVAL) ∷ changing.size_tests size) (changing.cuts t f.number (nat_abs size)) (once_changes _ _ _))
 
-once_fstat : (t : Tree) (fd : ℕ) → Once (descriptors.stats_open t fd)
+pub once_fstat : (t : Tree) (fd : ℕ) → Once (descriptors.stats_open t fd)
 once_fstat t fd = once_described t fd _ (λ f. once_tells t (file f.number))
 
-once_fsync : (t : Tree) (fd : ℕ) → Once (descriptors.syncs_open t fd)
+pub once_fsync : (t : Tree) (fd : ℕ) → Once (descriptors.syncs_open t fd)
 once_fsync t fd = once_described t fd _ (λ f. once_answers t _)
 
-once_path : (inodes : ℕ) (t : Tree) (c : PathCall) → Once (calls inodes t c)
+pub once_path : (inodes : ℕ) (t : Tree) (c : PathCall) → Once (calls inodes t c)
 once_path inodes t (call.List path) = once_list t path
 once_path inodes t (call.Stat path) = once_stat t true path
 once_path inodes t (call.Lstat path) = once_stat t false path
@@ -332,69 +331,3 @@ once_path inodes t (call.Symlink text path) = once_symlink inodes t text path
 once_path inodes t (call.Rename old path) = once_rename t old path
 once_path inodes t (call.Chmod path mode) = once_chmod t path mode
 once_path inodes t (call.Truncate path size) = once_truncate t path size
-
--- the commands
-
-abbrev OnceStep : Step → Type 0
-OnceStep step = (a b : Reply) (t u : State) (m n : Need) → step a t m → step b u n → (a ≡ b) × (t ≡ u) × (m ≡ n)
-
-once_on_tree : (s : State) (outcome : Outcome) → Once outcome → OnceStep (on_tree s outcome)
-once_on_tree s outcome once a b t u m n one other =
-    let same = once a b t.tree u.tree m n one.0 other.0 in
-    (same.reply, one.1 ∙ ap (λ x. with_tree x s) same.tree ∙ sym other.1, same.need)
-
-once_says : (s : State) (r : Reply) → OnceStep (says s r)
-once_says s r a b t u m n one other = (one.0 ∙ sym other.0, one.1 ∙ sym other.1, one.2 ∙ sym other.2)
-
-once_passing : (s : State) (tests : Tests) (rest : Step) → OnceStep rest → OnceStep (passing s tests rest)
-once_passing s tests rest once =
-    elim (first_refusal tests) as (λ o. OnceStep (elim o as (λ _. Step) [ Some errno ↦ says s (reply.Refused errno) | None ↦ rest ])) [
-      | Some errno ↦ once_says s (reply.Refused errno)
-      | None ↦ once
-    ]
-
-once_takes : (s : State) (name : Name) → OnceStep (takes s name)
-once_takes s name =
-    once_passing s (take_tests s name) (λ answer new need.
-    (answer ≡ reply.Done) × ((t : Tree) × ForgetsOpenFiles s.tree t × (new ≡ with_snapshots (s.snapshots ++ (name, t) ∷ []) s)) × (need ≡ a_snapshot)) (λ a b t u m n one other. (
-      one.0 ∙ sym other.0,
-      one.1.2 ∙ ap (λ x. with_snapshots (s.snapshots ++ (name, x) ∷ []) s) (forgets_once s.tree one.1.0 other.1.0 one.1.1 other.1.1) ∙ sym other.1.2,
-      one.2 ∙ sym other.2,
-    ))
-
-once_deletes : (s : State) (name : Name) → OnceStep (deletes s name)
-once_deletes s name =
-    once_passing s ((is_none (frozen s name), NOSNAP) ∷ [])
-    (λ answer new need. (answer ≡ reply.Done) × (new ≡ with_snapshots (filter (λ pair. not (bytes_eq pair.0 name)) s.snapshots) s) × (need ≡ nothing))
-    (λ a b t u m n one other. (one.0 ∙ sym other.0, one.1 ∙ sym other.1, one.2 ∙ sym other.2))
-
-once_views : (s : State) (name : Name) (c : PathCall) → OnceStep (views s name c)
-once_views s name c =
-    elim (frozen s name) as (λ o. OnceStep (elim o as (λ _. Step) [
-      | None ↦ says s (reply.Refused NOSNAP)
-      | Some pair ↦ passing s ((not (is_reading_call c), EROFS) ∷ []) (λ answer new need. calls s.inodes pair.1 c answer pair.1 need × (new ≡ s))
-    ])) [
-      | None ↦ once_says s (reply.Refused NOSNAP)
-      | Some pair ↦ once_passing s ((not (is_reading_call c), EROFS) ∷ []) (λ answer new need. calls s.inodes pair.1 c answer pair.1 need × (new ≡ s)) (λ a b t u m n one other.
-          let same = once_path s.inodes pair.1 c a b pair.1 pair.1 m n one.0 other.0 in
-          (same.reply, one.1 ∙ sym other.1, same.need))
-    ]
-
-pub has_one_outcome : HasOneOutcome
-has_one_outcome room s (command.Path c) = once_on_tree s (calls s.inodes s.tree c) (once_path s.inodes s.tree c)
-has_one_outcome room s (command.Open path flags mode) = once_on_tree s (descriptors.opens s.inodes s.tree path flags mode) (once_open s.inodes s.tree path flags mode)
-has_one_outcome room s (command.Close fd) = once_on_tree s (descriptors.closes s.tree fd) (once_close s.tree fd)
-has_one_outcome room s (command.Read fd count) = once_on_tree s (descriptors.reads s.tree fd count) (once_read s.tree fd count)
-has_one_outcome room s (command.Write fd given) = once_on_tree s (descriptors.writes s.tree fd given) (once_write s.tree fd given)
-has_one_outcome room s (command.Pread fd offset count) = once_on_tree s (descriptors.reads_from s.tree fd offset count) (once_pread s.tree fd offset count)
-has_one_outcome room s (command.Pwrite fd offset given) = once_on_tree s (descriptors.writes_to s.tree fd offset given) (once_pwrite s.tree fd offset given)
-has_one_outcome room s (command.Lseek fd from offset) = once_on_tree s (descriptors.seeks s.tree fd from offset) (once_seek s.tree fd from offset)
-has_one_outcome room s (command.Ftruncate fd size) = once_on_tree s (descriptors.truncates_open s.tree fd size) (once_ftruncate s.tree fd size)
-has_one_outcome room s (command.Fstat fd) = once_on_tree s (descriptors.stats_open s.tree fd) (once_fstat s.tree fd)
-has_one_outcome room s (command.Fsync fd) = once_on_tree s (descriptors.syncs_open s.tree fd) (once_fsync s.tree fd)
-has_one_outcome room s command.Sync = once_says s _
-has_one_outcome room s command.Df = once_says s _
-has_one_outcome room s (command.SnapTake name) = once_takes s name
-has_one_outcome room s (command.SnapDelete name) = once_deletes s name
-has_one_outcome room s command.SnapList = once_says s _
-has_one_outcome room s (command.Within name c) = once_views s name c

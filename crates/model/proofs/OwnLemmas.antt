@@ -23,7 +23,7 @@ use Rattle.model.specs.Reading as reading
 use Rattle.model.specs.Changing as changing
 use Rattle.model.specs.Descriptors as descriptors
 use Rattle.model.specs.States.{State, with_tree}
-use Rattle.model.specs.Steps.{Step, says, passing, on_tree, calls, is_reading_call, frozen, take_tests, views, WouldStep}
+use Rattle.model.specs.Steps.{Step, says, passing, on_tree, calls, is_reading_call, frozen, take_tests, has_open_below, views, WouldStep}
 use Rattle.model.specs.Laws.{is_own, RefusesByItsOwn, RefusalsChangeNothing}
 
 -- a refusal is one of its own, and nothing changes
@@ -385,6 +385,7 @@ own_step room s command.Sync = own_says s _ tt
 own_step room s command.Df = own_says s _ tt
 own_step room s (command.SnapTake name) = own_passing s (take_tests s name) _ (refl, (refl, (refl, tt))) (λ answer new need done errno is. good_own reply.Done tt errno (sym done.0 ∙ is))
 own_step room s (command.SnapDelete name) = own_passing s ((is_none (frozen s name), NOSNAP) ∷ []) _ (refl, tt) (λ answer new need done errno is. good_own reply.Done tt errno (sym done.0 ∙ is))
+own_step room s (command.SnapRestore name) = own_passing s ((is_none (frozen s name), NOSNAP) ∷ (has_open_below s.tree OPEN_FILES, EBUSY) ∷ []) _ (refl, (refl, tt)) (λ answer new need done errno is. good_own reply.Done tt errno (sym done.0 ∙ is))
 own_step room s command.SnapList = own_says s _ tt
 own_step room s (command.Within name c) = own_views s name c
 

@@ -139,7 +139,7 @@ cut_back = (refl, refl, refl)
 reads_the_last : reads_from (file_of (replicate 128 97) 129) 0 (pos 127) 5 (reply.Data (97 ∷ [])) (file_of (replicate 128 97) 129) nothing
 reads_the_last = (refl, refl, refl)
 
-too_large : truncates_open (file_of [] 0) 0 (pos 67108865) (reply.Refused EFBIG) (file_of [] 0) nothing
+too_large : truncates_open (file_of [] 0) 0 (pos 68719476737) (reply.Refused EFBIG) (file_of [] 0) nothing
 too_large = (refl, refl, refl)
 
 too_many_at_once : gets (file_of [] 0) (codes "/f") (pos 0) 65537 (reply.Refused EINVAL) (file_of [] 0) nothing
@@ -158,6 +158,14 @@ costs_of_65463_bytes_behind_them = refl
 
 costs_of_two_bytes_over_an_end : cost (puts_bytes 0 4095 2) ≡ 10
 costs_of_two_bytes_over_an_end = refl
+
+-- a third height over the blocks: the write ends past 67,108,864 bytes, or the file is past them before
+costs_of_a_third_height : (cost (puts_bytes 0 67108864 1) ≡ 10) × (cost (puts_bytes 67108865 0 1) ≡ 10) × (cost (puts_bytes 0 67108863 1) ≡ 8) × (cost (puts_bytes 67108864 0 1) ≡ 8)
+costs_of_a_third_height = (refl, refl, refl, refl)
+
+-- the most that a record costs
+costs_of_17_blocks : cost (puts_bytes 68719476736 4095 65536) ≡ 42
+costs_of_17_blocks = refl
 
 costs_of_sizes : (cost (changes_size 5 9) ≡ 6) × (keep (changes_size 5 9) ≡ 16) × (keep (changes_size 9 5) ≡ 0) × (cost changes_bits ≡ 2)
 costs_of_sizes = (refl, refl, refl, refl)

@@ -61,7 +61,7 @@ one_is_listed = (refl, refl, refl)
 deletes_s1 : WouldStep room after (command.SnapDelete (codes "s1")) reply.Done (with_snapshots [] after) nothing
 deletes_s1 = (refl, refl, refl)
 
--- `snap take n1` to `n20`, `n21`, `n1`; `snap delete n3`, `snap take n21`, `snap list`
+-- `snap take n1` to `n30`, `n31`, `n1`; `snap delete n3`, `snap take n31`, `snap list`
 
 abbrev numbered : ℕ → Name
 numbered n = codes "n" ++ (if nat_lt n 10 then (48 + n) ∷ [] else (48 + n / 10) ∷ (48 + n % 10) ∷ [])
@@ -75,28 +75,28 @@ abbrev names_from : ℕ → ℕ → List Name
 names_from n zero = []
 names_from n (suc k) = numbered n ∷ names_from (n + 1) k
 
-abbrev twenty : State
-twenty = with_snapshots (kept_from 1 20) (empty 32)
+abbrev thirty : State
+thirty = with_snapshots (kept_from 1 30) (empty 32)
 
-one_too_many : WouldStep room twenty (command.SnapTake (codes "n21")) (reply.Refused SNAPFULL) twenty nothing
+one_too_many : WouldStep room thirty (command.SnapTake (codes "n31")) (reply.Refused SNAPFULL) thirty nothing
 one_too_many = (refl, refl, refl)
 
-there_already : WouldStep room twenty (command.SnapTake (codes "n1")) (reply.Refused SNAPEXISTS) twenty nothing
+there_already : WouldStep room thirty (command.SnapTake (codes "n1")) (reply.Refused SNAPEXISTS) thirty nothing
 there_already = (refl, refl, refl)
 
-abbrev nineteen : State
-nineteen = with_snapshots (kept_from 1 2 ++ kept_from 4 17) (empty 32)
+abbrev twenty_nine : State
+twenty_nine = with_snapshots (kept_from 1 2 ++ kept_from 4 27) (empty 32)
 
-deletes_the_third : WouldStep room twenty (command.SnapDelete (codes "n3")) reply.Done nineteen nothing
+deletes_the_third : WouldStep room thirty (command.SnapDelete (codes "n3")) reply.Done twenty_nine nothing
 deletes_the_third = (refl, refl, refl)
 
-abbrev twenty_again : State
-twenty_again = with_snapshots (kept_from 1 2 ++ kept_from 4 18) (empty 32)
+abbrev thirty_again : State
+thirty_again = with_snapshots (kept_from 1 2 ++ kept_from 4 28) (empty 32)
 
-takes_one_more : WouldStep room nineteen (command.SnapTake (codes "n21")) reply.Done twenty_again a_snapshot
+takes_one_more : WouldStep room twenty_nine (command.SnapTake (codes "n31")) reply.Done thirty_again a_snapshot
 takes_one_more = (refl, (root_alone 0o755, forgets_told (told_root 0o755) refl, refl), refl)
 
-lists_all : WouldStep room twenty_again command.SnapList (reply.Snaps (names_from 1 2 ++ names_from 4 18)) twenty_again nothing
+lists_all : WouldStep room thirty_again command.SnapList (reply.Snaps (names_from 1 2 ++ names_from 4 28)) thirty_again nothing
 lists_all = (refl, refl, refl)
 
 -- a file of 65,536 bytes in a snapshot, which the tree doesn't have any more

@@ -1,14 +1,14 @@
 -- Each outcome of a command on a state is a state.
 use Rattle.std.proofs.Common.{◌≡◌, ◌≢◌, ◌⊎◌, inl, inr, ℕ, zero, suc, ◌≤◌, ◌<◌, List, [], ◌∷◌, ◌++◌, length, get_or, map, Bool, true, false, not, ◌||◌, is_none, bytes_eq, Option, Some, None, refl, sym, subst, ◌∙◌, length-append, arith}
-use Rattle.std.specs.Prelude.{◌==◌, nat_lt, find, filter, MatchBool, IsFalse}
+use Rattle.std.specs.Prelude.{◌==◌, nat_lt, find, filter, All, MatchBool, IsFalse}
 use Rattle.std.proofs.lemmas.Bool.{cases_Bool, cond_both, cond-true, cond-false, eqb-false, leb-false, ltb-false, or_parts, false≢true}
-use Rattle.std.proofs.lemmas.List.Elements.{All-push, All-filter}
+use Rattle.std.proofs.lemmas.List.Elements.{All-head, All-tail, All-push, All-filter}
 use Rattle.std.proofs.lemmas.List.Kept.{AllPairs-filter}
 use Rattle.std.proofs.lemmas.List.Quantifiers.{all_pairs_push}
 use Rattle.std.proofs.lemmas.Slice.Eq.{bytes_eq-Decides}
 use Rattle.std.specs.List.{list_any}
-use Rattle.model.specs.declared.limits.TheConstants.{SNAPSHOTS, SNAPSHOT_NAME_BYTES}
-use Rattle.model.specs.declared.errno.Errno.TheVariants.{NOSNAP, EROFS, EIO, FAILED}
+use Rattle.model.specs.declared.limits.TheConstants.{OPEN_FILES, SNAPSHOTS, SNAPSHOT_NAME_BYTES}
+use Rattle.model.specs.declared.errno.Errno.TheVariants.{EBUSY, NOSNAP, EROFS, EIO, FAILED}
 use Rattle.model.specs.declared.reply.Reply.{Reply}
 use Rattle.model.specs.declared.reply.Reply.TheVariants as reply
 use Rattle.model.specs.declared.command.Command.{Command}
@@ -20,7 +20,7 @@ use Rattle.model.specs.Trees.{Tree, IsTree, root_alone}
 use Rattle.model.specs.Room.{Room, Need}
 use Rattle.model.specs.Outcomes.{Outcome}
 use Rattle.model.specs.States.{State, going, failed, IsState, IsFrozen, IsShortName, with_tree, with_snapshots, as_failed, ForgetsOpenFiles}
-use Rattle.model.specs.Steps.{Step, says, passing, on_tree, calls, is_reading_call, frozen, is_name_byte, take_tests, takes, deletes, views, WouldStep}
+use Rattle.model.specs.Steps.{Step, says, passing, on_tree, calls, is_reading_call, frozen, is_name_byte, take_tests, takes, deletes, has_open_below, restores, views, WouldStep}
 use Rattle.model.specs.Circumstances.{Circumstances, IsDone, IsSure, IsExcused, CoversWhereOk, IsAnswered, Allowed}
 use Rattle.model.specs.Laws.{IsCommand, IsPathCall, CommandsLeaveStates, AllowedAreStates, MountsFindStates}
 use Rattle.model.proofs.LeadLemmas.{AllPass, all_passed}
@@ -29,7 +29,7 @@ use Rattle.model.proofs.LooseLemmas.{swept_is_tree, closed_is_loose}
 use Rattle.model.proofs.StayLemmas.{LeavesTree, stays_stat, stays_list, stays_readlink, stays_get, stays_truncate, stays_chmod, stays_close, stays_read, stays_pread, stays_write, stays_pwrite, stays_seek, stays_ftruncate, stays_fstat, stays_fsync}
 use Rattle.model.proofs.CallLemmas.{stays_mkdir, stays_symlink, stays_link, stays_rmdir, stays_unlink, stays_open}
 use Rattle.model.proofs.ReplaceLemmas.{stays_rename}
-use Rattle.model.proofs.OptionLaws.{none_some}
+use Rattle.model.proofs.OptionLaws.{none_some, some_same}
 
 -- the calls by path
 stays_path : (inodes : ℕ) (t : Tree) → IsTree inodes t → (c : PathCall) → IsPathCall c → LeavesTree inodes (calls inodes t c)
@@ -134,6 +134,18 @@ module _ (s : State) (state : IsState s) where
         once = AllPairs-filter (λ a b. a.0 ≢ b.0) keeps s.snapshots state.once;
       }
 
+  found_holds : (P : Name × Tree → Type 0) (test : Name × Tree → Bool) (pairs : List (Name × Tree)) → All P pairs → (pair : Name × Tree) → find test pairs ≡ Some pair → P pair
+  found_holds P test [] all pair e = absurd (none_some e)
+  found_holds P test (first ∷ pairs) all pair e =
+      cond_both (test first) (Some first) (find test pairs) (λ (o : Option (Name × Tree)). o ≡ Some pair → P pair)
+      (λ t is. subst P (some_same is) (All-head P first pairs all)) (λ t is. found_holds P test pairs (All-tail P first pairs all) pair is) e
+
+  leaves_restore : (room : Room) (name : Name) → LeavesState (restores room s name)
+  leaves_restore room name =
+      leaves_passing ((is_none (frozen s name), NOSNAP) ∷ (has_open_below s.tree OPEN_FILES, EBUSY) ∷ []) _ (λ pass answer new need done.
+      let was = found_holds (λ pair. IsFrozen s.inodes pair.1) (λ pair. bytes_eq pair.0 name) s.snapshots state.frozen done.1.0 done.1.1 in
+      subst IsState (sym done.1.2) (tree_changes done.1.0.1 was.tree))
+
   leaves_view : (name : Name) (c : PathCall) → LeavesState (views s name c)
   leaves_view name c =
       elim (frozen s name) as (λ o. LeavesState (elim o as (λ _. Step) [
@@ -160,6 +172,7 @@ module _ (s : State) (state : IsState s) where
   leaves_step room command.Df bound = leaves_same (reply.Space room.blocks room.free room.pledged)
   leaves_step room (command.SnapTake name) bound = leaves_take name
   leaves_step room (command.SnapDelete name) bound = leaves_delete name
+  leaves_step room (command.SnapRestore name) bound = leaves_restore room name
   leaves_step room command.SnapList bound = leaves_same (reply.Snaps (map (λ pair. pair.0) s.snapshots))
   leaves_step room (command.Within name c) bound = leaves_view name c
 

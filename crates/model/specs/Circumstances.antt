@@ -35,11 +35,12 @@ IsSure s command.Df = Unit {0}
 IsSure s (command.Close fd) = elim (s.tree.descriptors fd) [ Some f ↦ HasPath s.tree f.number | None ↦ Unit {0} ]
 IsSure s c = ⊥
 
--- the command is answered behind a consistency point: `sync`, `snap take` and `snap delete`
+-- the command is answered behind a consistency point: `sync`, `snap take`, `snap delete` and `snap restore`
 abbrev pub IsSettling : Command → Type 0
 IsSettling command.Sync = Unit {0}
 IsSettling (command.SnapTake name) = Unit {0}
 IsSettling (command.SnapDelete name) = Unit {0}
+IsSettling (command.SnapRestore name) = Unit {0}
 IsSettling c = ⊥
 
 -- behind an `ok` to such a command the settled root covers all that was done

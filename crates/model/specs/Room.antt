@@ -1,5 +1,6 @@
 -- The room of the disk: what a call asks of the blocks that are left.
-use Rattle.std.specs.Prelude.{ℕ, List, ◌+◌, ◌-◌, ◌*◌, ◌/◌, ◌<◌, nat_lt, if◌then◌else◌, Bool, IsTrue}
+use Rattle.std.specs.Prelude.{ℕ, List, ◌+◌, ◌-◌, ◌*◌, ◌/◌, ◌<◌, max, nat_lt, if◌then◌else◌, Bool, IsTrue}
+use Rattle.model.specs.declared.limits.TheConstants.{SINGLE_FILE}
 
 -- the kind of work that a record of the log makes for a consistency point
 pub data Work : Type 0 where
@@ -13,11 +14,16 @@ pub data Work : Type 0 where
 abbrev pub touched : ℕ → ℕ → ℕ
 touched offset count = (offset + count + 4095) / 4096 - offset / 4096
 
+-- the most blocks that a write stores beside its own and those that lead to them: with a third height over the blocks of a
+-- file that is or becomes as large, two more
+abbrev pub beside : ℕ → ℕ
+beside size = if nat_lt SINGLE_FILE size then 8 else 6
+
 -- the most blocks that a consistency point stores for a record
 abbrev pub cost : Work → ℕ
 cost adds_name = 24
 cost removes_name = 24
-cost (puts_bytes size offset count) = 2 * touched offset count + 6
+cost (puts_bytes size offset count) = 2 * touched offset count + beside (max size (offset + count))
 cost (changes_size size to) = 6
 cost changes_bits = 2
 
@@ -38,6 +44,7 @@ pub data Need : Type 0 where
   nothing : Need  -- it logs no record
   logs : Work → Need
   a_snapshot : Need  -- it takes one
+  a_restore : (nameless : ℕ) → Need  -- it makes the tree that of one, which keeps so many files without names
 
 -- the room of the disk at an answer
 pub record Room : Type 0 where
@@ -52,3 +59,5 @@ abbrev pub IsShort : Room → Need → Type 0
 IsShort room nothing = ⊥
 IsShort room (logs work) = IsTrue room.is_covered × (room.free < room.pledged + cost work + fixed_of room.blocks + keep work)
 IsShort room a_snapshot = IsTrue room.is_covered × (room.free < room.pledged + 2 * fixed_of room.blocks + 1)
+IsShort room (a_restore nameless) =
+    IsTrue room.is_covered × (room.free < room.pledged + 2 * fixed_of room.blocks + 1 + 4 * nameless)

@@ -1,8 +1,8 @@
 -- Which reply and which new state each command gives, where nothing comes in its way.
-use Rattle.std.specs.Prelude.{ℕ, ◌≡◌, nat_le, nat_lt, not, ◌&&◌, ◌||◌, ◌==◌, length, Bool, true, false, List, [], ◌∷◌, ◌++◌, map, find, filter, bytes_eq, Option, Some, None, is_none}
+use Rattle.std.specs.Prelude.{ℕ, zero, suc, ◌≡◌, nat_le, nat_lt, not, ◌&&◌, ◌||◌, ◌==◌, length, Bool, true, false, List, [], ◌∷◌, ◌++◌, map, find, filter, bytes_eq, Option, Some, None, is_none}
 use Rattle.std.specs.List.{list_any}
-use Rattle.model.specs.declared.limits.TheConstants.{SNAPSHOTS, SNAPSHOT_NAME_BYTES}
-use Rattle.model.specs.declared.errno.Errno.TheVariants.{EROFS, BADNAME, SNAPEXISTS, NOSNAP, SNAPFULL}
+use Rattle.model.specs.declared.limits.TheConstants.{OPEN_FILES, SNAPSHOTS, SNAPSHOT_NAME_BYTES}
+use Rattle.model.specs.declared.errno.Errno.TheVariants.{EBUSY, EROFS, BADNAME, SNAPEXISTS, NOSNAP, SNAPFULL}
 use Rattle.model.specs.declared.reply.Reply.{Reply}
 use Rattle.model.specs.declared.reply.Reply.TheVariants.{Done, Snaps, Space, Refused}
 use Rattle.model.specs.declared.command.Command.{Command}
@@ -12,7 +12,7 @@ use Rattle.model.specs.declared.command.PathCall.TheVariants as call
 use Rattle.model.specs.Paths.{Name, Tests, first_refusal}
 use Rattle.model.specs.Trees.{Tree}
 use Rattle.model.specs.States.{State, with_tree, with_snapshots, ForgetsOpenFiles}
-use Rattle.model.specs.Room.{Need, nothing, a_snapshot, Room}
+use Rattle.model.specs.Room.{Need, nothing, a_snapshot, a_restore, Room}
 use Rattle.model.specs.Outcomes.{Outcome}
 use Rattle.model.specs.Reading.{lists, stats, reads_link, gets}
 use Rattle.model.specs.Changing.{makes_directory, makes_symlink, removes_directory, unlinks, links, renames, changes_mode, truncates}
@@ -87,6 +87,17 @@ abbrev pub deletes : State → Name → Step
 deletes s name = passing s ((is_none (frozen s name), NOSNAP) ∷ [])
     (λ reply new need. (reply ≡ Done) × (new ≡ with_snapshots (filter (λ pair. not (bytes_eq pair.0 name)) s.snapshots) s) × (need ≡ nothing))
 
+-- one of the descriptors below a number is open
+abbrev pub has_open_below : Tree → ℕ → Bool
+has_open_below t zero = false
+has_open_below t (suc fd) = has_open_below t fd || not (is_none (t.descriptors fd))
+
+-- `snap restore`: the tree becomes that of the snapshot of this name, which stays; no file may be open
+abbrev pub restores : Room → State → Name → Step
+restores room s name = passing s ((is_none (frozen s name), NOSNAP) ∷ (has_open_below s.tree OPEN_FILES, EBUSY) ∷ [])
+    (λ reply new need. (reply ≡ Done) × ((pair : Name × Tree) × (frozen s name ≡ Some pair) × (new ≡ with_tree pair.1 s))
+    × (need ≡ a_restore (room.nameless_of name)))
+
 -- `in NAME`: a reading call on the snapshot's tree
 abbrev pub views : State → Name → PathCall → Step
 views s name c = elim (frozen s name) [
@@ -112,5 +123,6 @@ WouldStep room s command.Sync = says s Done
 WouldStep room s command.Df = says s (Space room.blocks room.free room.pledged)
 WouldStep room s (command.SnapTake name) = takes s name
 WouldStep room s (command.SnapDelete name) = deletes s name
+WouldStep room s (command.SnapRestore name) = restores room s name
 WouldStep room s command.SnapList = says s (Snaps (map (λ pair. pair.0) s.snapshots))
 WouldStep room s (command.Within name c) = views s name c

@@ -27,14 +27,17 @@ pub const OPEN_FILES: u32 = 32;
 /// Greatest number of bytes that one call reads or writes, and so of those that a record of the log writes.
 pub const TRANSFER_BYTES: usize = 65_536;
 
+/// Greatest length in bytes of a file that two heights of pointers lead to. Room counts a third one for a write past it.
+pub const SINGLE_FILE: u64 = 67_108_864;
+
 /// Greatest length of a file in bytes.
-pub const GREATEST_FILE: u64 = 67_108_864;
+pub const GREATEST_FILE: u64 = 68_719_476_736;
 
 /// Greatest offset of an open file.
 pub const GREATEST_OFFSET: u64 = 9_223_372_036_854_775_807;
 
 /// Greatest number of snapshots.
-pub const SNAPSHOTS: usize = 20;
+pub const SNAPSHOTS: usize = 30;
 
 /// Greatest length of a snapshot's name in bytes.
 pub const SNAPSHOT_NAME_BYTES: usize = 63;

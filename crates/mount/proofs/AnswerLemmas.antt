@@ -1,6 +1,6 @@
 -- What a file system promises of a command, by the way that it is answered.
-use Rattle.std.proofs.Common.{◌≡◌, ◌≢◌, ◌⊎◌, inl, inr, ℕ, ◌+◌, ◌*◌, ◌≤◌, ◌^◌, List, Option, Some, None, Bool, false, Result, Ok, Err, refl, ap, sym, subst, ◌∙◌, arith}
-use Rattle.std.specs.Prelude.{IsFalse, IsTrue}
+use Rattle.std.proofs.Common.{◌≡◌, ◌≢◌, ◌⊎◌, inl, inr, ℕ, ◌+◌, ◌*◌, ◌≤◌, ◌^◌, List, [], ◌∷◌, Option, Some, None, Bool, false, Result, Ok, Err, refl, ap, sym, subst, ◌∙◌, arith}
+use Rattle.std.specs.Prelude.{IsFalse, IsTrue, is_none}
 use Rattle.std.proofs.lemmas.Bool.{cases_lt, false≢true}
 use Rattle.station.specs.Calls.{Uses}
 use Rattle.station.specs.Moments.{EachCut, Meaning}
@@ -9,18 +9,20 @@ use Rattle.station.proofs.Calls.{uses_none, uses_twice}
 use Rattle.station.proofs.Moments.{same_none, unchanged_none}
 use Rattle.model.specs.Circumstances.{IsShortFor, IsSure}
 use Rattle.model.specs.Paths.{Name, first_refusal}
-use Rattle.model.specs.Room.{Need, Room, a_snapshot, cost, fixed_of, keep, logs, nothing}
-use Rattle.model.specs.Steps.{Step, passing, says, take_tests, takes}
+use Rattle.model.specs.Room.{Need, Room, a_restore, a_snapshot, cost, fixed_of, keep, logs, nothing}
+use Rattle.model.specs.Steps.{Step, frozen, has_open_below, passing, restores, says, take_tests, takes}
+use Rattle.model.specs.declared.limits.TheConstants.{OPEN_FILES}
 use Rattle.model.specs.declared.command.Command.TheVariants as commands
 use Rattle.model.specs.States.{State}
 use Rattle.model.specs.declared.command.Command.{Command}
 use Rattle.model.specs.declared.errno.Errno.{Errno}
-use Rattle.model.specs.declared.errno.Errno.TheVariants.{EIO, ENOSPC}
+use Rattle.model.specs.declared.errno.Errno.TheVariants.{EBUSY, EIO, ENOSPC, NOSNAP}
 use Rattle.model.specs.declared.reply.Reply.{Reply}
 use Rattle.model.specs.declared.reply.Reply.TheVariants.{Refused}
 use Rattle.system.specs.Counting.{AgesBy, Counted, Failed, LogsNothing, beside_reads, call_error_failed, perhaps_reads}
 use Rattle.system.specs.Images.{OpensTo}
-use Rattle.system.specs.Room.{HasRoomToTake}
+use Rattle.system.specs.Restoring.{KeepsNameless}
+use Rattle.system.specs.Room.{HasRoomBesides, HasRoomToTake}
 use Rattle.system.specs.Serving.{HasEmptyLog, IsCall, LacksRoom, ServesState, WouldChange}
 use Rattle.system.specs.Slicing.{Fulfils}
 use Rattle.system.specs.Systems as systems
@@ -32,7 +34,7 @@ use Rattle.mount.specs.Applying.{AnswersCommand, Attempts, IsAppliedAt, KeepsSta
 use Rattle.mount.specs.Refusals.{errno_of_call, fails_call}
 use Rattle.mount.specs.Systems.{HasPoints, Serves, mounted}
 use Rattle.mount.specs.declared.fs.Fs.{Fs}
-use Rattle.mount.proofs.AttemptLemmas.{after_stay, answered_as, called, not_answered, short, stays_by, stays_read, still_going}
+use Rattle.mount.proofs.AttemptLemmas.{IsRoomOf, after_stay, answered_as, called, not_answered, short, stays_by, stays_read, still_going}
 use Rattle.mount.proofs.CountLemmas.{call_eio, call_refuses, call_written, failed_after, refused_same}
 
 -- an epoch that stays, and one behind the next
@@ -125,43 +127,62 @@ module _ {S : Type 0} {G : Ghosts S} (n : ℕ) (P : State → Type 0) (old new :
 
 -- what a system has no room for it is short for, where its root covers all
 pub short_by : {S : Type 0} {G : Ghosts S} (f : System S G) (s : State) (command : Command) → LacksRoom f s command
-    → (room : Room) → IsTrue room.is_covered → room.free ≡ f.free → room.blocks ≡ f.root.geometry.blocks → room.pledged ≡ f.pledged → IsShortFor room s command
-short_by f s command lacks room covered free blocks pledged = (
+    → (room : Room) → IsRoomOf f room → IsShortFor room s command
+short_by f s command lacks room is = (
   lacks.reply,
   lacks.after,
   logs lacks.work,
   lacks.step room,
   (
-    covered,
+    is.covered,
     elim (cases_lt f.free (f.pledged + cost lacks.work + fixed_of f.root.geometry.blocks + keep lacks.work)) [
-      | inl few ↦ omega (arith, few, free, pledged, ap fixed_of blocks)
+      | inl few ↦ omega (arith, few, is.free, is.pledged, ap fixed_of is.blocks)
       | inr enough ↦ absurd (lacks.short enough)
     ],
   ),
 )
 
--- `snap take` that isn't refused by its tests takes a snapshot
-takes_one : (s : State) (tests : List (Bool × Errno)) (reply : Reply) (after : State) (need : Need) (done : Step) → ((reply : Reply) (after : State) (need : Need) → done reply after need → need ≡ a_snapshot)
-    → passing s tests done reply after need → need ≢ nothing → need ≡ a_snapshot
-takes_one s tests reply after need done is step needs = by_first (first_refusal tests) step
+-- a command that isn't refused by its tests needs what it does
+needs_it : (s : State) (tests : List (Bool × Errno)) (reply : Reply) (after : State) (need it : Need) (done : Step) → ((reply : Reply) (after : State) (need : Need) → done reply after need → need ≡ it)
+    → passing s tests done reply after need → need ≢ nothing → need ≡ it
+needs_it s tests reply after need it done is step needs = by_first (first_refusal tests) step
   where
-    by_first : (first : Option Errno) → (elim first as (λ _. Step) [ Some errno ↦ says s (Refused errno) | None ↦ done ]) reply after need → need ≡ a_snapshot
+    by_first : (first : Option Errno) → (elim first as (λ _. Step) [ Some errno ↦ says s (Refused errno) | None ↦ done ]) reply after need → need ≡ it
     by_first (Some errno) said = absurd (needs said.2)
     by_first None step = is reply after need step
 
--- and is short for one where the disk has no room
+-- `snap take` is short for a snapshot where the disk has no room
 pub short_to_take : {S : Type 0} {G : Ghosts S} (f : System S G) (s : State) (name : Name) → WouldChange s (commands.SnapTake name) → (HasRoomToTake f → ⊥)
-    → (room : Room) → IsTrue room.is_covered → room.free ≡ f.free → room.blocks ≡ f.root.geometry.blocks → room.pledged ≡ f.pledged → IsShortFor room s (commands.SnapTake name)
-short_to_take f s name would lacks room covered free blocks pledged =
-    let need = takes_one s (take_tests s name) would.reply would.after would.need _ (λ reply after need step. step.2) (would.step room) would.needs in (
+    → (room : Room) → IsRoomOf f room → IsShortFor room s (commands.SnapTake name)
+short_to_take f s name would lacks room is =
+    let need = needs_it s (take_tests s name) would.reply would.after (would.need room) a_snapshot _ (λ reply after need step. step.2) (would.step room) (would.needs room) in (
       would.reply,
       would.after,
       a_snapshot,
       subst (λ (n : Need). takes s name would.reply would.after n) need (would.step room),
       (
-        covered,
+        is.covered,
         elim (cases_lt f.free (f.pledged + 2 * fixed_of f.root.geometry.blocks + 1)) [
-          | inl lt ↦ omega (arith, lt, free, pledged, ap fixed_of blocks)
+          | inl lt ↦ omega (arith, lt, is.free, is.pledged, ap fixed_of is.blocks)
+          | inr ge ↦ absurd (lacks ge)
+        ],
+      ),
+    )
+
+-- and `snap restore` for what the snapshot's files without names ask for, too
+pub short_to_restore : {S : Type 0} {G : Ghosts S} (f : System S G) (s : State) (name : Name) → WouldChange s (commands.SnapRestore name) → (nameless : ℕ) → KeepsNameless f name nameless
+    → (HasRoomBesides f nameless → ⊥) → (room : Room) → IsRoomOf f room → IsShortFor room s (commands.SnapRestore name)
+short_to_restore f s name would nameless kept lacks room is =
+    let need = needs_it s ((is_none (frozen s name), NOSNAP) ∷ (has_open_below s.tree OPEN_FILES, EBUSY) ∷ []) would.reply would.after (would.need room) (a_restore (room.nameless_of name)) _
+    (λ reply after need step. step.2) (would.step room) (would.needs room) in (
+      would.reply,
+      would.after,
+      a_restore (room.nameless_of name),
+      subst (λ (n : Need). restores room s name would.reply would.after n) need (would.step room),
+      (
+        is.covered,
+        elim (cases_lt f.free (f.pledged + 2 * fixed_of f.root.geometry.blocks + 1 + 4 * nameless)) [
+          | inl lt ↦ omega (arith, lt, is.free, is.pledged, ap fixed_of is.blocks, is.nameless name nameless kept)
           | inr ge ↦ absurd (lacks ge)
         ],
       ),
@@ -183,7 +204,7 @@ pub no_room_left : {S : Type 0} {G : Ghosts S} (n : ℕ) (P : State → Type 0) 
     → ((s : State) → Serves (mounted f s) → P s → ¬ IsSure s command)
     → ((s : State) → Serves (mounted f s) → P s → systems.IsCovered f.system s.tree.descriptors s)
     → ((s : State) → Serves (mounted f s) → P s
-    → (room : Room) → IsTrue room.is_covered → room.free ≡ f.system.free → room.blocks ≡ f.system.root.geometry.blocks → room.pledged ≡ f.system.pledged → IsShortFor room s command)
+    → (room : Room) → IsRoomOf f.system room → IsShortFor room s command)
     → AnswersCommand n P f f command (Refused ENOSPC)
 no_room_left n P f command runs opens not_sure covered is_short =
     at_once n P f f command (Refused ENOSPC) (λ is. cc) refl refl refl (λ s serves young p.

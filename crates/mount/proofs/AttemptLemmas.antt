@@ -27,6 +27,8 @@ use Rattle.system.specs.Images.{OpensTo}
 use Rattle.layout.specs.Places.{blocks_of}
 use Rattle.images.specs.Roots.{whole}
 use Rattle.system.specs.Serving.{ServesState, IsCall, WouldCall, IsBrokenOff}
+use Rattle.model.specs.Paths.{Name}
+use Rattle.system.specs.Restoring.{KeepsNameless}
 use Rattle.system.specs.Settling.{IsSettled}
 use Rattle.system.specs.Slicing.{IsFulfilled}
 use Rattle.images.specs.Room.{free_under}
@@ -45,7 +47,7 @@ use Rattle.mount.specs.declared.fs.TheConstants.{POINTS}
 use Rattle.mount.specs.declared.fs.Fs.{Fs}
 use Rattle.mount.proofs.ApplyLemmas.{is_going, not_both, allowed_by, allowed_surely, no_room, done, stayed, broken, applied_after}
 use Rattle.mount.proofs.CallLemmas.{not_settling}
-use Rattle.mount.proofs.NamelessLemmas.{nameless_of, nameless_told}
+use Rattle.mount.proofs.NamelessLemmas.{nameless_kept, nameless_of, nameless_told}
 use Rattle.mount.proofs.StationLemmas.{told}
 
 -- what came in the way
@@ -78,6 +80,14 @@ allowed_call s c read room reply t is is_call (inl sure) done = allowed_surely s
 allowed_call s c read room reply t is is_call (inr not_sure) done =
     allowed_by s c (came read false false room) reply t is not_sure (inl (done, λ settling. absurd (not_settling c is_call settling)))
 
+-- the room of a covered system
+pub record IsRoomOf {S : Type 0} {G : Ghosts S} (f : System S G) (room : Room) : Type 0 where
+  pub covered : IsTrue room.is_covered
+  pub free : room.free ≡ f.free
+  pub blocks : room.blocks ≡ f.root.geometry.blocks
+  pub pledged : room.pledged ≡ f.pledged
+  pub nameless : (name : Name) (nameless : ℕ) → KeepsNameless f name nameless → room.nameless_of name ≡ nameless
+
 -- a system that goes on shows a state that does
 pub still_going : {S : Type 0} {G : Ghosts S} (f : Fs S G) (s : State) → Serves (mounted f s) → IsFalse f.has_failed → s.mark ≡ going
 still_going f s serves runs = serves.mark ∙ is_going f.has_failed runs
@@ -103,7 +113,7 @@ cut_within f g s c is =
     let m = systems.meaning_of f in
     weaker m (systems.meaning_of g) (λ i. OpensTo m s i ⊎ OpensTo m is.after i) (OpensToSome m (IsWithin s c)) is.leaves (λ i one. elim one [
       | inl first ↦ (s, first, inl refl)
-      | inr last ↦ (is.after, last, inr (clear no_room, is.reply, (is.need, is.step no_room)))
+      | inr last ↦ (is.after, last, inr (clear no_room, is.reply, (is.need no_room, is.step no_room)))
     ])
 
 -- behind calls that left the state as it was
@@ -204,7 +214,7 @@ module _ {S : Type 0} {G : Ghosts S} (old new : Fs S G) (s : State) where
 
     -- a command that a covered system has no room for
     pub short : (command : Command) → ¬ IsSure s command → Stays old new s → systems.IsCovered new.system s.tree.descriptors s → MayGrow before.failed_reads behind.failed_reads → behind.failed_writes ≡ before.failed_writes
-        → ((room : Room) → IsTrue room.is_covered → room.free ≡ new.system.free → room.blocks ≡ new.system.root.geometry.blocks → room.pledged ≡ new.system.pledged → IsShortFor room s command)
+        → ((room : Room) → IsRoomOf new.system room → IsShortFor room s command)
         → IsAppliedAt old s new command (Refused ENOSPC)
     short command not_sure stays covered reads writes is_short =
         let room = room_at new.system s covered.serves true in
@@ -214,7 +224,16 @@ module _ {S : Type 0} {G : Ghosts S} (old new : Fs S G) (s : State) where
           stayed old new s command serves is_still stays (Refused ENOSPC) c
               (record { reads = count.1; writes = writes; room = λ _. has_room new.system s covered.serves true (λ _. all_covered new.system s.tree.descriptors s covered) })
               (allowed_by s command c (Refused ENOSPC) s is_still not_sure
-              (inr (is_short room refl (sym (free_is new.system s.tree.descriptors s covered.serves)) refl (sym covered.serves.lasts.pledges), refl))),
+              (inr (
+                is_short room (record {
+                  covered = refl;
+                  free = sym (free_is new.system s.tree.descriptors s covered.serves);
+                  blocks = refl;
+                  pledged = sym covered.serves.lasts.pledges;
+                  nameless = nameless_kept new.system s covered.serves;
+                }),
+                refl,
+              ))),
         )
 
     -- a command whose consistency point wasn't made
@@ -257,7 +276,7 @@ module _ {S : Type 0} {G : Ghosts S} (old new : Fs S G) (s : State) where
           t,
           done old new s t command is_still still same (going_serves t (same.honest.0 serves.honest) still runs_on covered.serves) serves.honest Done c
               (record { reads = reads; writes = writes; room = λ _. has_room new.system t covered.serves true (λ _. all_covered new.system t.tree.descriptors t covered) })
-              (allowed_by s command c Done t is_still not_sure (inl ((is.need, is.step c.room), λ _ _. refl)))
+              (allowed_by s command c Done t is_still not_sure (inl ((is.need c.room, is.step c.room), λ _ _. refl)))
               is.leaves (opens t covered.serves),
         )
 

@@ -21,5 +21,6 @@ not_settling command.Sync is settling = is
 not_settling command.Df is settling = settling
 not_settling (command.SnapTake name) is settling = is
 not_settling (command.SnapDelete name) is settling = is
+not_settling (command.SnapRestore name) is settling = is
 not_settling command.SnapList is settling = settling
 not_settling (command.Within name c) is settling = settling

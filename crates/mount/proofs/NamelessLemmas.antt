@@ -17,6 +17,7 @@ use Rattle.model.specs.Volumes.{Node, Volume, is_nameless}
 use Rattle.images.specs.Contents.{Content, StandsAs, HoldsVolume, tree_contents}
 use Rattle.images.specs.Roots.{Whole, whole}
 use Rattle.images.specs.Snapshots.{AreKeptAbove, AreSnapshots, HasSnapshot}
+use Rattle.system.specs.Restoring.{KeepsNameless}
 use Rattle.system.specs.Serving.{ServesState}
 use Rattle.system.specs.Systems.{disk_of}
 use Rattle.system.specs.declared.system.System.{System}
@@ -88,3 +89,7 @@ module _ {S : Type 0} {G : Ghosts S} (f : System S G) (s : State) (serves : Serv
       let holding = serves.under.holds in
       let are = holding.sound.snapshots in
       told_at f.root held are k head v has holds 0 serves.snapshots holding.kept (is_first f.root held are k head v has holds)
+
+  pub nameless_kept : (name : Name) (nameless : ℕ) → KeepsNameless f name nameless → nameless_of name ≡ nameless
+  nameless_kept name nameless kept =
+      subst (λ (n : Name). nameless_of n ≡ nameless) kept.named (nameless_told kept.slot kept.head kept.volume kept.has kept.holds ∙ sym kept.counted)

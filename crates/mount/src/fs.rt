@@ -9,8 +9,8 @@ use station::Station;
 use std::alloc::Global;
 use system::{CallError, Space, System, served_states_open};
 
-/// The most consistency points that one command begins: a `snap take` settles what isn't under the newest root, and then takes the
-/// snapshot, and a call may plan one ahead before it needs room.
+/// The most consistency points that one command begins: a `snap take` or a `snap restore` settles what isn't under the newest root, and
+/// then does with the snapshot what is asked for, and a call may plan one ahead before it needs room.
 pub const POINTS: u64 = 2;
 
 /// A mounted file system. Over an honest station it *serves* a state, as long as no device write failed: whatever a power
@@ -95,6 +95,7 @@ impl<S: Station> Fs<S> {
             Command::Sync => self.sync(),
             Command::SnapTake { name } => self.take(name),
             Command::SnapDelete { name } => self.delete(name),
+            Command::SnapRestore { name } => self.restore(name),
             _ => self.call(command),
         }
     }
@@ -262,7 +263,7 @@ impl<S: Station> Fs<S> {
     }
 
     /// Ends the consistency point under way, makes one where something is uncovered, and says why all isn't covered then.
-    fn settle(&mut self) -> Result<(), Errno>
+    pub(crate) fn settle(&mut self) -> Result<(), Errno>
         requires { IsFalse self.old.has_failed }
         ensures { MakesRoom self.old self.new result }
     {

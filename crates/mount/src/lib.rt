@@ -9,6 +9,7 @@ mod image;
 mod mounting;
 mod prefix;
 mod refusals;
+mod restoring;
 
 pub use error::{MountError, RunError};
 pub use fs::{Fs, POINTS};

@@ -2,6 +2,8 @@
 -- another level.
 use Rattle.std.proofs.Common.{◌≡◌, ℕ, zero, suc, ◌+◌, ◌-◌, ◌*◌, ◌/◌, ◌^◌, ◌<◌, ◌≤◌, ◌⊎◌, inl, inr, Result, Ok, refl, ap, sym, subst, ◌∙◌, arith, true, false}
 use Rattle.std.specs.Prelude.{min, nat_lt, ◌==◌, if◌then◌else◌}
+use Rattle.std.specs.Ordering.{nat_cmp}
+use Rattle.std.specs.BTreeMap as tree
 use Rattle.std.proofs.lemmas.Bool.{cases_eq, cases_lt, cond_above, cond_below}
 use Rattle.std.proofs.lemmas.Bool.Decides.{nat_tests}
 use Rattle.layout.specs.Version.{level_of}
@@ -12,21 +14,23 @@ use Rattle.blocktree.specs.Names.{nodes_at}
 use Rattle.blocktree.specs.PlaceMaps.{EndBefore, place_at}
 use Rattle.blocktree.specs.Places.{block_count, depth_of}
 use Rattle.blocktree.specs.declared.place_map.PlaceMap.{PlaceMap}
-use Rattle.blocktree.specs.Trees.{IsChanged}
+use Rattle.blocktree.specs.Trees.{IsChanged, slot_stores}
 use Rattle.blocktree.specs.declared.tree.BlockTree.{BlockTree}
-use Rattle.conspoint.specs.Groups.{group}
-use Rattle.conspoint.specs.Space.{CountsGroups, StoresNone, block_stores}
+use Rattle.conspoint.specs.Space.{block_stores}
 use Rattle.conspoint.specs.Steps.{Places}
 use Rattle.conspoint.specs.declared.draft.Draft.{Draft}
 use Rattle.conspoint.specs.declared.error.PlanError.{PlanError}
 use Rattle.conspoint.proofs.StepLemmas.{places_then}
 use Rattle.conspoint.proofs.SumLemmas.{block_counts}
 use Rattle.inode.specs.declared.file.File.{File}
-use Rattle.placement.specs.Nodes.{AreCounted, height_of, node, under}
-use Rattle.placement.specs.Space.{height_stores, level_stores, more_over}
-use Rattle.placement.specs.Steps.{PlacesHeights, raise_stores}
+use Rattle.inode.specs.Room.{top_over}
+use Rattle.inode.proofs.GroupLaws.{at_here, group_changed, mark, tops_all}
+use Rattle.placement.specs.Nodes.{AllUnder, AreCounted, StaysUnder, height_of, node}
+use Rattle.placement.specs.Space.{height_stores, level_stores, more_over, tops_over}
+use Rattle.placement.specs.Steps.{CountsHeights, PlacesHeights, raise_stores}
 use Rattle.placement.specs.declared.nodes.Nodes.{Nodes}
 use Rattle.placement.proofs.HeldLaws.{first_nodes}
+use Rattle.placement.proofs.RaiseLaws.{ones}
 
 -- what is counted of so many blocks in the first groups
 abbrev reach : (ℕ → ℕ) → ℕ → ℕ → ℕ
@@ -104,59 +108,6 @@ abbrev pub LeavesUncounted : (ℕ → ℕ) → ℕ → Nodes → ℕ → PlaceMa
 LeavesUncounted f kept settled count blocks =
     (i : ℕ) → i < count → f i ≡ 0 → place_at blocks i ≡ (if nat_lt i kept then node settled 0 i else Hole)
 
-under_some : (settled : Nodes) (j i : ℕ) → 1 < height_of settled → under settled 0 j i ≡ node settled 0 (1024 * j + i)
-under_some settled j i some = sym (cond_below 1 (height_of settled) (node settled 0 (1024 * j + i)) Hole some)
-
--- a group past the blocks that count, of which none is counted, is all holes
-all_holes : (f : ℕ → ℕ) (kept at more : ℕ) (settled : Nodes) (count : ℕ) (blocks : PlaceMap) (j : ℕ) → min kept count ≤ 1024 * j → EndBefore count blocks → LeavesUncounted f kept settled count blocks
-    → weight f count at more j ≡ 0 → StoresNone (under settled 0 j) (group blocks j)
-all_holes f kept at more settled count blocks j past end unchanged none = inr (λ i small. elim (cases_lt (1024 * j + i) count) [
-  | inl low ↦
-      unchanged (1024 * j + i) low (none_counted f count at more j i none small low)
-      ∙ sym (cond_above (1024 * j + i) kept (node settled 0 (1024 * j + i)) Hole Hole (omega (arith, past, low)) refl)
-  | inr high ↦ end (1024 * j + i) high
-])
-
--- a group that doesn't count stores no indirect block: its blocks are as they were, or holes
-stays : (f : ℕ → ℕ) (kept : ℕ) (settled : Nodes) (count : ℕ) (blocks : PlaceMap) (j : ℕ) → (height_of settled ≤ 1 → kept ≤ 16) → EndBefore count blocks → LeavesUncounted f kept settled count blocks
-    → weight f count (min kept count / 1024) 1 j ≡ 0 → StoresNone (under settled 0 j) (group blocks j)
-stays f kept settled count blocks j few end unchanged none = elim (cases_lt j (min kept count / 1024)) [
-  | inl before ↦
-      let whole : 1024 * (j + 1) ≤ min kept count = omega (arith, before) in
-      let some : 1 < height_of settled = elim (cases_lt 1 (height_of settled)) [ inl lt ↦ lt | inr ge ↦ absurd (omega (arith, few ge, whole)) ] in
-      inl (λ i small.
-      let low : 1024 * j + i < count = omega (arith, whole, small) in
-      let counts : 1024 * j + i < kept = omega (arith, whole, small) in
-      unchanged (1024 * j + i) low (none_counted f count _ 1 j i none small low) ∙ sym (cond_below (1024 * j + i) kept (node settled 0 (1024 * j + i)) Hole counts) ∙ sym (under_some settled j i some))
-  | inr after ↦
-      let past : min kept count < 1024 * j = omega (arith, after, not_at f count (min kept count / 1024) j none) in
-      all_holes f kept (min kept count / 1024) 1 settled count blocks j (omega (arith, past)) end unchanged none
-]
-
--- what settled nodes have past their last block
-under_past : (settled : Nodes) (j i : ℕ) → node settled 0 (1024 * j + i) ≡ Hole → under settled 0 j i ≡ Hole
-under_past settled j i hole = elim (cases_lt 1 (height_of settled)) [
-  | inl some ↦ under_some settled j i some ∙ hole
-  | inr none ↦ sym (cond_above 1 (height_of settled) (node settled 0 (1024 * j + i)) Hole Hole none refl)
-]
-
--- where all settled blocks count, and indirect ones stand over them, the blocks of such a group are as they were
-unmoved : (f : ℕ → ℕ) (kept at : ℕ) (settled : Nodes) (count : ℕ) (blocks : PlaceMap) (j : ℕ) → ((i : ℕ) → kept ≤ i → node settled 0 i ≡ Hole) → kept ≤ count → 1 < height_of settled → EndBefore count blocks
-    → LeavesUncounted f kept settled count blocks → weight f count at 0 j ≡ 0 → StoresNone (under settled 0 j) (group blocks j)
-unmoved f kept at settled count blocks j all long over end unchanged none = inl (λ i small. elim (cases_lt (1024 * j + i) kept) [
-  | inl counts ↦
-      let low : 1024 * j + i < count = omega (arith, counts, long) in
-      unchanged (1024 * j + i) low (none_counted f count at 0 j i none small low) ∙ sym (cond_below (1024 * j + i) kept (node settled 0 (1024 * j + i)) Hole counts) ∙ sym (under_some settled j i over)
-  | inr past ↦
-      let old = under_past settled j i (all (1024 * j + i) past) in
-      elim (cases_lt (1024 * j + i) count) [
-        | inl low ↦
-            unchanged (1024 * j + i) low (none_counted f count at 0 j i none small low)
-            ∙ sym (cond_above (1024 * j + i) kept (node settled 0 (1024 * j + i)) Hole Hole past refl) ∙ sym old
-        | inr high ↦ end (1024 * j + i) high ∙ sym old
-      ]
-])
-
 -- ---- where one indirect block more is stored
 
 -- nothing of a file was cut off, and it has its settled level
@@ -185,65 +136,203 @@ more_cases f = elim (cases_lt (min f.tree.kept (block_count f.size)) f.tree.coun
       ]
 ]
 
--- a file whose blocks have no indirect one over them has few
-few_kept : (t : BlockTree) → t.depth ≡ 0 → t.kept ≤ 16
-few_kept t flat =
-    let fits : (t.count ≤ 16 * 1024 ^ t.depth) × (t.kept ≤ t.count) = t.fits in
-    let one : 1024 ^ t.depth ≡ 1 = ap (λ (k : ℕ). 1024 ^ k) flat in
-    omega (arith, fits.0, fits.1, one)
-
--- These numbers count each group of a file's blocks over which an indirect block is stored, where f counts each block that isn't as it
--- was settled.
-pub counts_groups : (f : ℕ → ℕ) (file : File) (settled : Nodes) (blocks : PlaceMap) → AreCounted file.tree settled → EndBefore (block_count file.size) blocks
-    → LeavesUncounted f file.tree.kept settled (block_count file.size) blocks → 2 ≤ level_of file.size
-    → CountsGroups (weight f (block_count file.size) (min file.tree.kept (block_count file.size) / 1024) (more_over file)) (nodes_at (block_count file.size) 1) (under settled 0) (group blocks)
-counts_groups f file settled blocks counted end unchanged level j low none = elim (more_cases file) [
-  | inl one ↦ stays f file.tree.kept settled (block_count file.size) blocks j (λ flat. few_kept file.tree (omega (arith, flat, counted.heights))) end unchanged
-      (subst (λ (m : ℕ). weight f (block_count file.size) (min file.tree.kept (block_count file.size) / 1024) m j ≡ 0) one none)
-  | inr other ↦ elim other [
-    | inl deep ↦
-        let fits = file.tree.fits in
-        let all : file.tree.kept ≡ file.tree.count = omega (arith, fits.1, deep.kept) in
-        unmoved f file.tree.kept (min file.tree.kept (block_count file.size) / 1024) settled (block_count file.size) blocks j
-        (λ i le. counted.end 0 i (omega (arith, first_nodes file.tree.count, le, all))) (omega (arith, all, deep.long)) (omega (arith, counted.heights, deep.depth, level)) end
-        unchanged (subst (λ (m : ℕ). weight f (block_count file.size) (min file.tree.kept (block_count file.size) / 1024) m j ≡ 0) deep.none none)
-    | inr empty ↦
-        let kept : file.tree.kept ≤ file.tree.count = file.tree.fits.1 in
-        all_holes f file.tree.kept (min file.tree.kept (block_count file.size) / 1024) (more_over file) settled (block_count file.size) blocks j (omega (arith, kept, empty)) end unchanged none
-  ]
+-- a file whose blocks have so many heights has few
+few_kept : (t : BlockTree) (depth : ℕ) → t.depth ≤ depth → depth ≤ 1 → t.kept ≤ 16 * 1024 ^ depth
+few_kept t depth le low = elim (cases_eq t.depth depth) [
+  | inl is ↦
+      let power : 1024 ^ t.depth ≡ 1024 ^ depth = ap (λ (k : ℕ). 1024 ^ k) is in
+      omega (arith, t.fits.0, t.fits.1, power)
+  | inr less ↦
+      let flat : t.depth ≡ 0 = omega (arith, le, low, less) in
+      let deep : depth ≡ 1 = omega (arith, le, low, less) in
+      let one : 1024 ^ t.depth ≡ 1 = ap (λ (k : ℕ). 1024 ^ k) flat in
+      let more : 1024 ^ depth ≡ 1024 = ap (λ (k : ℕ). 1024 ^ k) deep in
+      omega (arith, t.fits.0, t.fits.1, one, more)
 ]
+
+-- no settled block that counts is among these, or all of them count
+abbrev pub IsOnOneSide : ℕ → ℕ → ℕ → Type 0
+IsOnOneSide kept low high = (high ≤ kept) ⊎ (kept ≤ low)
+
+-- Of blocks of which none is counted all are as they were settled, in a file that had as many heights, or holes.
+module _ (f : ℕ → ℕ) (file : File) (settled : Nodes) (blocks : PlaceMap) (counted : AreCounted file.tree settled) (end : EndBefore (block_count file.size) blocks)
+    (unchanged : LeavesUncounted f file.tree.kept settled (block_count file.size) blocks) (h low high : ℕ) (level : h < level_of file.size) (some : height_of settled ≤ h → file.tree.kept < high)
+    (none : (i : ℕ) → low ≤ i → i < high → i < block_count file.size → f i ≡ 0) (side : more_over file ≡ 1 → IsOnOneSide (min file.tree.kept (block_count file.size)) low high) where
+  abbrev count : ℕ
+  count = block_count file.size
+
+  abbrev kept : ℕ
+  kept = file.tree.kept
+
+  abbrev Stays : Type 0
+  Stays = ((h < height_of settled) × ((i : ℕ) → low ≤ i → i < high → place_at blocks i ≡ node settled 0 i)) ⊎ ((i : ℕ) → low ≤ i → i < high → place_at blocks i ≡ Hole)
+
+  -- where all settled ones that count are before
+  all_holes : min kept count ≤ low → Stays
+  all_holes past = inr (λ i le lt. elim (cases_lt i count) [
+    | inl within ↦ unchanged i within (none i le lt within) ∙ sym (cond_above i kept (node settled 0 i) Hole Hole (omega (arith, past, le, within)) refl)
+    | inr over ↦ end i over
+  ])
+
+  -- where all of these count
+  all_kept : high ≤ min kept count → Stays
+  all_kept whole = elim (cases_lt h (height_of settled)) [
+    | inr flat ↦ absurd (omega (arith, some flat, whole))
+    | inl deep ↦ inl (
+      deep,
+      λ i le lt.
+          unchanged i (omega (arith, whole, lt)) (none i le lt (omega (arith, whole, lt))) ∙ sym (cond_below i kept (node settled 0 i) Hole (omega (arith, whole, lt))),
+    )
+  ]
+
+  -- where all settled ones count
+  all_same : IsAsDeep file → Stays
+  all_same deep =
+      let all : kept ≡ file.tree.count = omega (arith, file.tree.fits.1, deep.kept) in
+      inl (
+        omega (arith, counted.heights, deep.depth, level),
+        λ i le lt. elim (cases_lt i kept) [
+          | inl counts ↦
+              let within : i < count = omega (arith, counts, all, deep.long) in
+              unchanged i within (none i le lt within) ∙ sym (cond_below i kept (node settled 0 i) Hole counts)
+          | inr past ↦
+              let old = counted.end 0 i (omega (arith, first_nodes file.tree.count, past, all)) in
+              elim (cases_lt i count) [
+                | inl within ↦ unchanged i within (none i le lt within) ∙ sym (cond_above i kept (node settled 0 i) Hole Hole past refl) ∙ sym old
+                | inr over ↦ end i over ∙ sym old
+              ]
+        ],
+      )
+
+  pub stays : Stays
+  stays = elim (more_cases file) [
+    | inl one ↦ elim (side one) [ inl whole ↦ all_kept whole | inr past ↦ all_holes past ]
+    | inr other ↦ elim other [
+      | inl deep ↦ all_same deep
+      | inr empty ↦ all_holes (omega (arith, file.tree.fits.1, empty))
+    ]
+  ]
+
+-- ---- groups of 1,024 blocks, and of as many of these
+
+under_one : (P : ℕ → Type 0) (j : ℕ) → ((i : ℕ) → 1024 * j ≤ i → i < 1024 * (j + 1) → P i) → AllUnder P 1 j
+unfolding AllUnder
+under_one P j each = λ i lt. each (1024 * j + i) (omega arith) (omega (arith, lt))
+
+under_two : (P : ℕ → Type 0) (j : ℕ) → ((i : ℕ) → 1048576 * j ≤ i → i < 1048576 * (j + 1) → P i) → AllUnder P 2 j
+unfolding AllUnder
+under_two P j each = λ k small i lt. each (1024 * (1024 * j + k) + i) (omega (arith, small)) (omega (arith, small, lt))
+
+-- a block of a group of which none is changed isn't stored
+group_none : (t : BlockTree) (j i : ℕ) → group_changed t j ≡ 0 → 1048576 * j ≤ i → i < 1048576 * (j + 1) → slot_stores (tree.get nat_cmp t.slots i) ≡ 0
+group_none t j i none le lt =
+    let g : ℕ → ℕ = λ k. slot_stores (tree.get nat_cmp t.slots (1048576 * j + k)) in
+    let at : 1048576 * j + (i - 1048576 * j) ≡ i = omega (arith, le) in
+    let here : g (i - 1048576 * j) ≡ slot_stores (tree.get nat_cmp t.slots i) = ap (λ (n : ℕ). slot_stores (tree.get nat_cmp t.slots n)) at in
+    omega (arith, none, here, is_in_sum g (i - 1048576 * j) 1048576 (omega (arith, le, lt)))
+
+module _ (f : ℕ → ℕ) (file : File) (settled : Nodes) (blocks : PlaceMap) (counted : AreCounted file.tree settled) (end : EndBefore (block_count file.size) blocks)
+    (unchanged : LeavesUncounted f file.tree.kept settled (block_count file.size) blocks) where
+  abbrev before : ℕ
+  before = min file.tree.kept (block_count file.size)
+
+  -- over a group that doesn't count none is stored
+  pub one_stays : (j : ℕ) → 2 ≤ level_of file.size → weight f (block_count file.size) (before / 1024) (more_over file) j ≡ 0 → StaysUnder settled blocks 1 j
+  one_stays j level none =
+      let side : more_over file ≡ 1 → IsOnOneSide before (1024 * j) (1024 * (j + 1)) = λ one.
+      let other = not_at f (block_count file.size) (before / 1024) j (subst (λ (m : ℕ). weight f (block_count file.size) (before / 1024) m j ≡ 0) one none) in
+      elim (cases_lt j (before / 1024)) [
+        | inl less ↦ inl (omega (arith, less))
+        | inr more ↦ elim (cases_eq j (before / 1024)) [ inl is ↦ absurd (other is) | inr not ↦ inr (omega (arith, more, not)) ]
+      ] in
+      elim (stays f file settled blocks counted end unchanged 1 (1024 * j) (1024 * (j + 1)) (omega (arith, level))
+      (λ flat. (let few = few_kept file.tree 0 (omega (arith, flat, counted.heights)) (omega arith) in omega (arith, few)))
+      (λ i le lt within. subst (λ (k : ℕ). f k ≡ 0) (omega (arith, le)) (none_counted f (block_count file.size) (before / 1024) (more_over file) j (i - 1024 * j) none (omega (arith, le, lt)) (omega (arith, le, within))))
+      side) [
+        | inl same ↦ inl (same.0, under_one _ j same.1)
+        | inr holes ↦ inr (under_one _ j holes)
+      ]
+
+  -- so at the third height
+  pub two_stays : (j : ℕ) → 3 ≤ level_of file.size → ((i : ℕ) → i < block_count file.size → f i ≡ slot_stores (tree.get nat_cmp file.tree.slots i)) → top_over file j ≡ 0 → StaysUnder settled blocks 2 j
+  two_stays j level is none =
+      let side : more_over file ≡ 1 → IsOnOneSide before (1048576 * j) (1048576 * (j + 1)) = λ one.
+      elim (cases_eq j (mark file)) [
+        | inl at ↦ absurd (omega (arith, none, one, at_here (mark file) (more_over file) j at))
+        | inr not ↦ elim (cases_lt j (mark file)) [
+          | inl less ↦ inl (omega (arith, less))
+          | inr more ↦ inr (omega (arith, more, not))
+        ]
+      ] in
+      let empty : group_changed file.tree j ≡ 0 = omega (arith, none) in
+      elim (stays f file settled blocks counted end unchanged 2 (1048576 * j) (1048576 * (j + 1)) (omega (arith, level))
+      (λ flat. (let few = few_kept file.tree 1 (omega (arith, flat, counted.heights)) (omega arith) in omega (arith, few)))
+      (λ i le lt within. is i within ∙ group_none file.tree j i empty le lt)
+      side) [
+        | inl same ↦ inl (same.0, under_two _ j same.1)
+        | inr holes ↦ inr (under_two _ j holes)
+      ]
+
+-- these numbers at the second height and those at the third
+abbrev pub by_height : (ℕ → ℕ) → (ℕ → ℕ) → ℕ → ℕ → ℕ
+by_height one two zero j = 0
+by_height one two (suc zero) j = one j
+by_height one two (suc (suc zero)) j = two j
+by_height one two (suc (suc (suc h))) j = 1
+
+counts_each : (one two : ℕ → ℕ) (blocks level : ℕ) (settled : Nodes) (lowest : PlaceMap) → ((j : ℕ) → 2 ≤ level → one j ≡ 0 → StaysUnder settled lowest 1 j) → ((j : ℕ) → 3 ≤ level → two j ≡ 0 → StaysUnder settled lowest 2 j)
+    → CountsHeights (by_height one two) blocks level settled lowest
+counts_each one two blocks level settled lowest first second zero j some low lt none = absurd (omega (arith, some))
+counts_each one two blocks level settled lowest first second (suc zero) j some low lt none = first j (omega (arith, low)) none
+counts_each one two blocks level settled lowest first second (suc (suc zero)) j some low lt none = second j (omega (arith, low)) none
+counts_each one two blocks level settled lowest first second (suc (suc (suc h))) j some low lt none = absurd (omega (arith, none))
 
 -- ---- what a file at a level comes to
 
-raise_fits : (blocks changed more : ℕ) (w : ℕ → ℕ) (h : ℕ) → sum_below w (nodes_at blocks 1) ≤ min (nodes_at blocks 1) (changed + more) → raise_stores blocks w (suc h) ≤ height_stores blocks changed more (suc h)
+raise_fits : (blocks changed more tops : ℕ) (one two : ℕ → ℕ) (h : ℕ) → sum_below one (nodes_at blocks 1) ≤ min (nodes_at blocks 1) (changed + more) → sum_below two (nodes_at blocks 2) ≤ tops
+    → raise_stores blocks (by_height one two) (suc h) ≤ height_stores blocks changed more tops (suc h)
 unfolding raise_stores height_stores
-raise_fits blocks changed more w zero le = le
-raise_fits blocks changed more w (suc h) le = omega arith
+raise_fits blocks changed more tops one two zero first second = first
+raise_fits blocks changed more tops one two (suc zero) first second = second
+raise_fits blocks changed more tops one two (suc (suc h)) first second = omega (arith, ones (nodes_at blocks (suc (suc (suc h)))))
 
 -- the blocks that are changed, and what is stored over them
-pub stores_most : (level blocks changed more : ℕ) (w : ℕ → ℕ) → sum_below w (nodes_at blocks 1) ≤ min (nodes_at blocks 1) (changed + more) → 1 ≤ level
-    → changed + sum_below (raise_stores blocks w) level ≤ level_stores level blocks changed more
+pub stores_most : (level blocks changed more tops : ℕ) (one two : ℕ → ℕ) → sum_below one (nodes_at blocks 1) ≤ min (nodes_at blocks 1) (changed + more) → sum_below two (nodes_at blocks 2) ≤ tops → 1 ≤ level
+    → changed + sum_below (raise_stores blocks (by_height one two)) level ≤ level_stores level blocks changed more tops
 unfolding sum_below raise_stores height_stores
-stores_most zero blocks changed more w fits le = absurd (omega (arith, le))
-stores_most (suc zero) blocks changed more w fits le = omega arith
-stores_most (suc (suc level)) blocks changed more w fits le =
-    omega (arith, stores_most (suc level) blocks changed more w fits (omega arith), raise_fits blocks changed more w level fits)
+stores_most zero blocks changed more tops one two first second le = absurd (omega (arith, le))
+stores_most (suc zero) blocks changed more tops one two first second le = omega arith
+stores_most (suc (suc level)) blocks changed more tops one two first second le =
+    omega (arith, stores_most (suc level) blocks changed more tops one two first second (omega arith), raise_fits blocks changed more tops one two level first second)
 
-pub changed_most : (level blocks changed more : ℕ) → 1 ≤ level → changed ≤ level_stores level blocks changed more
+pub changed_most : (level blocks changed more tops : ℕ) → 1 ≤ level → changed ≤ level_stores level blocks changed more tops
 unfolding height_stores
-changed_most level blocks changed more some = omega (arith, is_in_sum (height_stores blocks changed more) 0 level some)
+changed_most level blocks changed more tops some = omega (arith, is_in_sum (height_stores blocks changed more tops) 0 level some)
 
--- the blocks of a file are placed, and the nodes over them, where f counts each block that isn't as it was settled
-pub placed_most : {T U : Type 0} {a b c : Draft} {x : T} {r : Result U PlanError} (f : ℕ → ℕ) (changed : ℕ) (file : File) (settled : Nodes) (blocks : PlaceMap) → AreCounted file.tree settled
+two_few : (count : ℕ) → count ≤ 16777216 → nodes_at count 2 ≤ 16
+unfolding nodes_at
+two_few count low = omega (arith, low)
+
+-- the nodes of the third height of a file are no more than an inode has pointers
+pub tops_few : (file : File) → sum_below (top_over file) (nodes_at (block_count file.size) 2) ≤ tops_over file
+tops_few file =
+    let few : nodes_at (block_count file.size) 2 ≤ 16 = two_few (block_count file.size) (omega (arith, file.within)) in
+    omega (arith, sums_rise (top_over file) (nodes_at (block_count file.size) 2) 16 few, tops_all file)
+
+-- The blocks of a file are placed, and the nodes over them, where f counts each block that isn't as it was settled, and these numbers
+-- each node of the third height that isn't.
+pub placed_most : {T U : Type 0} {a b c : Draft} {x : T} {r : Result U PlanError} (f two : ℕ → ℕ) (changed tops : ℕ) (file : File) (settled : Nodes) (blocks : PlaceMap) → AreCounted file.tree settled
     → EndBefore (block_count file.size) blocks → LeavesUncounted f file.tree.kept settled (block_count file.size) blocks → 1 ≤ level_of file.size → sum_below f (block_count file.size) ≤ changed
-    → Places changed a b (Ok x) → PlacesHeights (block_count file.size) (level_of file.size) (under settled 0) (group blocks) b c r
-    → Places (level_stores (level_of file.size) (block_count file.size) changed (more_over file)) a c r
-placed_most f changed file settled blocks counted end unchanged level fits first over =
+    → sum_below two (nodes_at (block_count file.size) 2) ≤ tops → ((j : ℕ) → 3 ≤ level_of file.size → two j ≡ 0 → StaysUnder settled blocks 2 j)
+    → Places changed a b (Ok x) → PlacesHeights (block_count file.size) (level_of file.size) settled blocks b c r
+    → Places (level_stores (level_of file.size) (block_count file.size) changed (more_over file) tops) a c r
+placed_most f two changed tops file settled blocks counted end unchanged level fits above stay first over =
     let count = block_count file.size in
     let at = min file.tree.kept count / 1024 in
+    let one = weight f count at (more_over file) in
     let most = weights_most f count at (more_over file) (nodes_at count 1) in
-    places_then first (over (weight f count at (more_over file)) (counts_groups f file settled blocks counted end unchanged))
-    (stores_most (level_of file.size) count changed (more_over file) (weight f count at (more_over file)) (omega (arith, most, fits)) level)
+    places_then first (over (by_height one two) (counts_each one two count (level_of file.size) settled blocks (λ j high none. one_stays f file settled blocks counted end unchanged j high none) stay))
+    (stores_most (level_of file.size) count changed (more_over file) tops one two (omega (arith, most, fits)) above level)
 
 -- a block that isn't counted isn't changed
 pub not_changed : (t : BlockTree) (first i : ℕ) → first ≤ i → block_stores t first i ≡ 0 → IsChanged t i → ⊥

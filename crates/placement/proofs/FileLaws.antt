@@ -31,7 +31,7 @@ use Rattle.placement.specs.declared.nodes.Nodes.{Nodes}
 use Rattle.placement.specs.Files.{IsBasedOn, IsChangeOf, IsPlaced, is_one, content_with, object_block, with_first}
 use Rattle.placement.specs.Layouts.{inode_with, AreSettledNodes, IsLaidOut}
 use Rattle.placement.specs.Nodes.{HasMoved, ArePlacedOver}
-use Rattle.placement.proofs.HeldLaws.{leveled}
+use Rattle.layout.proofs.SizeLaws.{level_some}
 use Rattle.placement.proofs.InlineLaws.{zero_byte}
 use Rattle.placement.proofs.MovedLaws.{moves, named, stays, freed_are, once_after}
 use Rattle.placement.proofs.SettledLaws.{blocks_whole}
@@ -99,7 +99,7 @@ module _ (s : Sizes) (old new : Draft) (d e : Blocks) (base : Inode) (o : Object
   readable whole (Inline bytes) is fits i x at = absurd (none_named e (inode_with o body) (level_none o.file.size fits.0) x (record { height = 0; index = i; is = at }))
   readable whole (Pointers ps) is fits i x at =
       let stored = (held e (inode_with o body)).bytes 0 i in
-      ap length (ap (λ b. body_block b stored i) (sym is) ∙ laid.blocks i) ∙ whole (leveled o.file.size fits.0) i
+      ap length (ap (λ b. body_block b stored i) (sym is) ∙ laid.blocks i) ∙ whole (level_some o.file.size fits.0) i
 
   sound_is : (1 ≤ level_of o.file.size → (i : ℕ) → IsWhole (block i)) → IsSoundFile s (held e (inode_with o body))
   unfolding held

@@ -20,9 +20,6 @@ not_inline size top level = grind (arith, nat_tests)
 pub is_inline : (size : ℕ) → level_of size ≡ 0 → size ≤ 128
 is_inline size level = grind (arith, nat_tests)
 
-pub leveled : (size : ℕ) → 128 < size → 1 ≤ level_of size
-leveled size large = grind (arith, nat_tests)
-
 -- the bytes of a node that stands in a block
 pub node_bytes : (d : Blocks) (f : Inode) (m i b : ℕ) → (held d f).place m i ≡ Block b → (held d f).bytes m i ≡ d b
 unfolding held
@@ -55,11 +52,12 @@ nodes_fall count zero = omega arith
 nodes_fall count (suc m) = omega (arith, nodes_fall count m)
 
 -- an inode has room for the pointers to the highest nodes
-pub top_few : (size top : ℕ) → size ≤ 67108864 → level_of size ≡ suc top → nodes_at (block_count size) top ≤ 16
+pub top_few : (size top : ℕ) → size ≤ 68719476736 → level_of size ≡ suc top → nodes_at (block_count size) top ≤ 16
 unfolding nodes_at
 top_few size zero most level = (let low : size ≤ 65536 = grind (arith, nat_tests, level) in omega (arith, low))
-top_few size (suc zero) most level = omega (arith, most)
-top_few size (suc (suc top)) most level = absurd (let few : level_of size ≤ 2 = grind (arith, nat_tests) in omega (arith, few, level))
+top_few size (suc zero) most level = (let low : size ≤ 67108864 = grind (arith, nat_tests, level) in omega (arith, low))
+top_few size (suc (suc zero)) most level = omega (arith, most)
+top_few size (suc (suc (suc top))) most level = absurd (let few : level_of size ≤ 3 = grind (arith, nat_tests) in omega (arith, few, level))
 
 -- a file at a level
 pub top_of : (size : ℕ) → 1 ≤ level_of size → level_of size ≡ suc (level_of size - 1)

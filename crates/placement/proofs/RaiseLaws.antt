@@ -11,16 +11,16 @@ use Rattle.images.specs.Sums.{sum_below}
 use Rattle.blocktree.specs.Names.{nodes_at}
 use Rattle.blocktree.specs.PlaceMaps.{EndBefore, place_at}
 use Rattle.blocktree.specs.declared.place_map.PlaceMap.{PlaceMap}
-use Rattle.conspoint.specs.Groups.{group, ArePlaced, IsGroup}
-use Rattle.conspoint.specs.Space.{CountsGroups}
+use Rattle.conspoint.specs.Groups.{group, ArePlaced, Follows, IsGroup}
+use Rattle.conspoint.specs.Space.{CountsGroups, StoresNone}
 use Rattle.conspoint.specs.Steps.{Places, PlacesOver}
 use Rattle.conspoint.specs.declared.draft.Draft.{Draft}
 use Rattle.conspoint.specs.declared.error.PlanError.{PlanError}
-use Rattle.conspoint.proofs.GroupLemmas.{same_group, same_none}
+use Rattle.conspoint.proofs.GroupLemmas.{follows_none, same_follows, same_group, same_none}
 use Rattle.conspoint.proofs.StepLemmas.{over_each, over_of, places_err}
 use Rattle.placement.specs.declared.nodes.Nodes.{Nodes}
 use Rattle.placement.specs.Layouts.{StandOver}
-use Rattle.placement.specs.Nodes.{ArePlacedAt, AreWithin, height_of, node, under}
+use Rattle.placement.specs.Nodes.{AllUnder, AreFull, ArePlacedAt, AreWithin, StaysUnder, height_of, node, under}
 use Rattle.placement.specs.Steps.{PlacesHeights, raise_stores}
 use Rattle.placement.proofs.PlacedLaws.{node_pushed, node_last, node_over, placed_at}
 
@@ -58,6 +58,11 @@ module _ {settled : Nodes} {m : ℕ} {over old : PlaceMap} (are : AreOver settle
   raised_group e j nodes p is =
       same_group e (node settled (suc m) j) p (under settled m j) (group old j) nodes nodes (λ i lt. are.below j i) (λ i lt. refl)
       (subst (λ (q : Pointer). IsGroup e q (group old j) nodes p) (are.above j) is)
+
+  pub raised_follows : (j : ℕ) (nodes : ℕ → Pointer) (p : Pointer) → Follows (place_at over j) (group old j) nodes p → Follows (node settled (suc m) j) (under settled m j) nodes p
+  raised_follows j nodes p is =
+      same_follows (node settled (suc m) j) p (under settled m j) (group old j) nodes nodes (λ i lt. are.below j i) (λ i lt. refl)
+      (subst (λ (q : Pointer). Follows q (group old j) nodes p) (are.above j) is)
 
   pub raised_placed : (a b : Draft) (nodes : PlaceMap) → AreWithin a.map.count settled → ArePlaced a b over nodes → ArePlacedAt a b (node settled (suc m)) nodes
   raised_placed a b nodes within placed =
@@ -119,6 +124,63 @@ module _ (e : Blocks) (settled old new : Nodes) (p : PlaceMap) (m groups : ℕ) 
         subst (λ (x : ℕ). IsGroup e (node settled (suc x) j) (under settled x j) (λ i. node new x (1024 * j + i)) (node new (suc x) j)) here (last_over j)
   ]
 
+-- ---- nodes over blocks that stay
+
+-- this is the settled node where all blocks under it are, as high up, and none where none of these is stored
+pub record IsStill (settled : Nodes) (lowest : PlaceMap) (h j : ℕ) (p : Pointer) : Type 0 where
+  pub same : h < height_of settled → AllUnder (λ i. place_at lowest i ≡ node settled 0 i) h j → p ≡ node settled h j
+  pub holes : AllUnder (λ i. place_at lowest i ≡ Hole) h j → p ≡ Hole
+
+module _ (settled n : Nodes) (lowest : PlaceMap) where
+  -- the blocks themselves
+  pub still_first : (j : ℕ) → node n 0 j ≡ place_at lowest j → IsStill settled lowest 0 j (node n 0 j)
+  unfolding AllUnder
+  still_first j is = record { same = λ deep all. is ∙ all; holes = λ all. is ∙ all }
+
+  module _ (m j : ℕ) (so_far : (i : ℕ) → i < 1024 → IsStill settled lowest m (1024 * j + i) (node n m (1024 * j + i))) where
+    under_is : suc m < height_of settled → AllUnder (λ i. place_at lowest i ≡ node settled 0 i) (suc m) j → (i : ℕ) → i < 1024 → node n m (1024 * j + i) ≡ node settled m (1024 * j + i)
+    unfolding AllUnder
+    under_is deep all i lt = (so_far i lt).same (omega (arith, deep)) (all i lt)
+
+    under_none : AllUnder (λ i. place_at lowest i ≡ Hole) (suc m) j → (i : ℕ) → i < 1024 → node n m (1024 * j + i) ≡ Hole
+    unfolding AllUnder
+    under_none all i lt = (so_far i lt).holes (all i lt)
+
+    under_as : suc m < height_of settled → (i : ℕ) → under settled m j i ≡ node settled m (1024 * j + i)
+    under_as deep i = sym (cond_below (suc m) (height_of settled) (node settled m (1024 * j + i)) Hole deep)
+
+    -- no block is stored over such nodes
+    pub none_over : StaysUnder settled lowest (suc m) j → StoresNone (under settled m j) (λ i. node n m (1024 * j + i))
+    none_over (inl same) = inl (λ i lt. under_is same.0 same.1 i lt ∙ sym (under_as same.0 i))
+    none_over (inr holes) = inr (under_none holes)
+
+    pub still_over : (over : Pointer) → AreFull settled → Follows (node settled (suc m) j) (under settled m j) (λ i. node n m (1024 * j + i)) over → IsStill settled lowest (suc m) j over
+    still_over over full follows = record {
+      same = λ deep all. elim (follows.same (λ i lt. under_is deep all i lt ∙ sym (under_as deep i))) [
+        | inl is ↦ is
+        | inr holes ↦ follows.none holes ∙ sym (full m j (λ i lt. sym (under_is deep all i lt) ∙ holes i lt))
+      ];
+      holes = λ all. follows.none (under_none all);
+    }
+
+-- one height more
+pub still_pushed : (settled old new : Nodes) (lowest p : PlaceMap) (m h groups : ℕ) → new.heights.items ≡ old.heights.items ++ p ∷ [] → height_of old ≡ h → suc m ≡ h → AreFull settled → EndBefore groups p
+    → ((i : ℕ) → 1024 * groups ≤ i → node old m i ≡ Hole)
+    → ((j : ℕ) → j < groups → Follows (node settled (suc m) j) (under settled m j) (λ i. node old m (1024 * j + i)) (place_at p j))
+    → ((k j : ℕ) → k < h → IsStill settled lowest k j (node old k j)) → (k j : ℕ) → k < h + 1 → IsStill settled lowest k j (node new k j)
+still_pushed settled old new lowest p m h groups is height top full end past follows so_far k j lt = elim (cases_lt k h) [
+  | inl low ↦ subst (IsStill settled lowest k j) (sym (node_pushed old new p k j is (omega (arith, low, height)))) (so_far k j low)
+  | inr high ↦
+      let here : k ≡ suc m = omega (arith, high, lt, top) in
+      let each : Follows (node settled (suc m) j) (under settled m j) (λ i. node old m (1024 * j + i)) (place_at p j) = elim (cases_lt j groups) [
+        | inl some ↦ follows j some
+        | inr none ↦ follows_none (node settled (suc m) j) (place_at p j) (under settled m j) (λ i. node old m (1024 * j + i)) (end j none) (λ i small. past (1024 * j + i) (omega (arith, none)))
+      ] in
+      let last = still_over settled old lowest m j (λ i small. so_far m (1024 * j + i) (omega (arith, top))) (place_at p j) full each in
+      subst (λ (x : ℕ). IsStill settled lowest x j (node new x j)) (sym here)
+      (subst (IsStill settled lowest (suc m) j) (sym (node_last old new p (suc m) j is (omega (arith, height, top)))) last)
+]
+
 -- ---- what is placed
 
 -- one for each
@@ -127,43 +189,32 @@ unfolding sum_below
 ones zero = refl
 ones (suc n) = omega (arith, ones n)
 
--- each group may be one over which a block is stored
-pub placed_heights : {T : Type 0} {a b : Draft} {r : Result T PlanError} (blocks level : ℕ) (settled nodes : ℕ → ℕ → Pointer) → PlacesHeights blocks level settled nodes a b r
-    → Places (sum_below (raise_stores blocks (λ j. 1)) level) a b r
-placed_heights blocks level settled nodes step = step (λ j. 1) (λ le j lt none. absurd (omega (arith, none)))
+-- each node may be one that is stored
+pub placed_heights : {T : Type 0} {a b : Draft} {r : Result T PlanError} (blocks level : ℕ) (settled : Nodes) (lowest : PlaceMap) → PlacesHeights blocks level settled lowest a b r
+    → Places (sum_below (raise_stores blocks (λ h j. 1)) level) a b r
+placed_heights blocks level settled lowest step = step (λ h j. 1) (λ h j some low lt none. absurd (omega (arith, none)))
 
-pub heights_as : {T : Type 0} {a b : Draft} {r : Result T PlanError} (count n level l : ℕ) (settled nodes : ℕ → ℕ → Pointer) → n ≡ count → l ≡ level → PlacesHeights n l settled nodes a b r → PlacesHeights count level settled nodes a b r
-heights_as {a = a} {b = b} {r = r} count n level l settled nodes size is step =
-    subst (λ (k : ℕ). PlacesHeights k level settled nodes a b r) size (subst (λ (k : ℕ). PlacesHeights n k settled nodes a b r) is step)
+pub heights_as : {T : Type 0} {a b : Draft} {r : Result T PlanError} (count n level l : ℕ) (settled : Nodes) (lowest : PlaceMap) → n ≡ count → l ≡ level → PlacesHeights n l settled lowest a b r → PlacesHeights count level settled lowest a b r
+heights_as {a = a} {b = b} {r = r} count n level l settled lowest size is step =
+    subst (λ (k : ℕ). PlacesHeights k level settled lowest a b r) size (subst (λ (k : ℕ). PlacesHeights n k settled lowest a b r) is step)
 
-raise_low : (blocks h : ℕ) (w : ℕ → ℕ) → h ≡ 1 → raise_stores blocks w h ≡ sum_below w (nodes_at blocks 1)
+raise_is : (blocks m : ℕ) (w : ℕ → ℕ → ℕ) → raise_stores blocks w (suc m) ≡ sum_below (w (suc m)) (nodes_at blocks (suc m))
 unfolding raise_stores
-raise_low blocks zero w is = absurd (omega (arith, is))
-raise_low blocks (suc zero) w is = refl
-raise_low blocks (suc (suc h)) w is = absurd (omega (arith, is))
+raise_is blocks m w = refl
 
-raise_high : (blocks h : ℕ) (w : ℕ → ℕ) → 2 ≤ h → raise_stores blocks w h ≡ nodes_at blocks h
-unfolding raise_stores
-raise_high blocks zero w le = absurd (omega (arith, le))
-raise_high blocks (suc zero) w le = absurd (omega (arith, le))
-raise_high blocks (suc (suc h)) w le = refl
-
-pub nodes_next : (count h below : ℕ) → 1 ≤ h → below ≡ nodes_at count (h - 1) → div_ceil below 1024 ≡ nodes_at count h
+pub nodes_next : (count h groups : ℕ) → 1 ≤ h → groups ≡ nodes_at count (h - 1) → div_ceil groups 1024 ≡ nodes_at count h
 unfolding nodes_at
-nodes_next count zero below some is = absurd (omega (arith, some))
-nodes_next count (suc h) below some is = (let one : suc h - 1 ≡ h = omega arith in ap (λ (n : ℕ). div_ceil n 1024) (is ∙ ap (nodes_at count) one))
+nodes_next count zero groups some is = absurd (omega (arith, some))
+nodes_next count (suc h) groups some is =
+    let at : suc h - 1 ≡ h = omega arith in
+    ap (λ (n : ℕ). div_ceil n 1024) (is ∙ ap (nodes_at count) at)
 
-pub raise_step : {T : Type 0} {r : Result T PlanError} (count h groups : ℕ) (w : ℕ → ℕ) (settled : Nodes) (lowest below : PlaceMap) (a b : Draft) → 1 ≤ h → groups ≡ nodes_at count h
-    → (h ≡ 1 → (k : ℕ) → place_at below k ≡ place_at lowest k) → (2 ≤ suc h → CountsGroups w (nodes_at count 1) (under settled 0) (group lowest))
-    → PlacesOver groups (under settled (h - 1)) (group below) a b r → Places (raise_stores count w h) a b r
-raise_step {r = r} count h groups w settled lowest below a b some all same counts step = elim (cases_eq h 1) [
-  | inl e ↦
-      let none : h - 1 ≡ 0 = omega (arith, e) in
-      let first : groups ≡ nodes_at count 1 = all ∙ ap (λ (k : ℕ). nodes_at count k) e in
-      let there = over_as {settled = under settled 0} {nodes = group lowest} (λ j i lt. ap (λ (k : ℕ). under settled k j i) none) (λ j i lt. same e (1024 * j + i)) step in
-      let at : sum_below w groups ≡ raise_stores count w h = ap (sum_below w) first ∙ sym (raise_low count h w e) in
-      subst (λ (n : ℕ). Places n a b r) at (over_each there w (subst (λ (n : ℕ). CountsGroups w n (under settled 0) (group lowest)) (sym first) (counts (omega (arith, some)))))
-  | inr other ↦
-      let at : sum_below (λ j. 1) groups ≡ raise_stores count w h = ones groups ∙ all ∙ sym (raise_high count h w (omega (arith, some, other))) in
-      subst (λ (n : ℕ). Places n a b r) at (over_each step (λ j. 1) (λ j lt none. absurd (omega (arith, none))))
-]
+-- the nodes of one height are placed over those of the height below
+pub raise_step : {T : Type 0} {r : Result T PlanError} (count m groups : ℕ) (w : ℕ → ℕ → ℕ) (settled n : Nodes) (lowest below : PlaceMap) (a b : Draft) → groups ≡ nodes_at count (suc m)
+    → ((i : ℕ) → place_at below i ≡ node n m i) → ((j : ℕ) → IsStill settled lowest m j (node n m j)) → ((j : ℕ) → j < nodes_at count (suc m) → w (suc m) j ≡ 0 → StaysUnder settled lowest (suc m) j)
+    → PlacesOver groups (under settled m) (group below) a b r → Places (raise_stores count w (suc m)) a b r
+raise_step {r = r} count m groups w settled n lowest below a b all same still counts step =
+    let there = over_as {settled = under settled m} {nodes = λ j i. node n m (1024 * j + i)} (λ j i lt. refl) (λ j i lt. same (1024 * j + i)) step in
+    let at : sum_below (w (suc m)) groups ≡ raise_stores count w (suc m) = ap (sum_below (w (suc m))) all ∙ sym (raise_is count m w) in
+    subst (λ (k : ℕ). Places k a b r) at (over_each there (w (suc m)) (λ j lt none.
+    none_over settled n lowest m j (λ i small. still (1024 * j + i)) (counts j (subst (λ (k : ℕ). j < k) all lt) none)))

@@ -1,5 +1,5 @@
 -- Where the nodes of a file are, by height: its blocks, the indirect blocks over each 1,024 of them, and so on.
-use Rattle.std.specs.Prelude.{ℕ, suc, ◌≡◌, ◌+◌, ◌*◌, ◌<◌, ◌≤◌, ◌⊎◌, length, nat_lt, if◌then◌else◌, Option, Some, None}
+use Rattle.std.specs.Prelude.{ℕ, zero, suc, ◌≡◌, ◌<◌, ◌+◌, ◌*◌, ◌≤◌, ◌⊎◌, length, nat_lt, if◌then◌else◌, Option, Some, None}
 use Rattle.std.specs.List.{slice_get}
 use Rattle.layout.specs.Pointer.{PointsBelow}
 use Rattle.layout.specs.declared.TheConstants.{BLOCK_POINTERS}
@@ -31,6 +31,25 @@ height_of n = length n.heights.items
 -- what the indirect block over group j of the nodes at a height spells: where there is no height above, none
 abbrev pub under : Nodes → ℕ → ℕ → ℕ → Pointer
 under n m j i = if nat_lt (suc m) (height_of n) then node n m (BLOCK_POINTERS * j + i) else Hole
+
+-- what holds of each block under node j at a height
+unfoldable pub AllUnder : (ℕ → Type 0) → ℕ → ℕ → Type 0
+AllUnder P zero j = P j
+AllUnder P (suc height) j = (i : ℕ) → i < BLOCK_POINTERS → AllUnder P height (BLOCK_POINTERS * j + i)
+
+-- over node j at a height the blocks of a file are those that were settled, as high up, or there are none
+abbrev pub StaysUnder : Nodes → PlaceMap → ℕ → ℕ → Type 0
+StaysUnder settled lowest height j =
+    ((height < height_of settled) × AllUnder (λ i. place_at lowest i ≡ node settled 0 i) height j)
+    ⊎ AllUnder (λ i. place_at lowest i ≡ Hole) height j
+
+-- a file has fewer nodes at a height
+abbrev pub MOST_NODES : ℕ
+MOST_NODES = 4294967295
+
+-- over 1,024 holes there is no node
+abbrev pub AreFull : Nodes → Type 0
+AreFull n = (m j : ℕ) → ((i : ℕ) → i < BLOCK_POINTERS → node n m (BLOCK_POINTERS * j + i) ≡ Hole) → node n (suc m) j ≡ Hole
 
 -- these are the nodes of what hangs from an inode
 pub record AreNodesOf (n : Nodes) (h : Held) : Type 0 where

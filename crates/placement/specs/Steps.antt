@@ -1,19 +1,21 @@
 -- What the steps that place a file promise.
 use Rattle.std.specs.Prelude.{ℕ, zero, suc, ◌≡◌, ◌<◌, ◌≤◌, All, true, Result, OnOk, IfOk, IsErrOf}
-use Rattle.layout.specs.declared.pointer.Pointer.{Pointer}
 use Rattle.images.specs.Sums.{sum_below}
 use Rattle.blocktree.specs.Names.{nodes_at}
+use Rattle.blocktree.specs.declared.place_map.PlaceMap.{PlaceMap}
 use Rattle.buffers.specs.Reads.{ReadsBlocks}
 use Rattle.buffers.specs.declared.blocks.Blocks.{Ghosts}
 use Rattle.conspoint.specs.Drafts.{Grows, IsReserved, WasTaken}
 use Rattle.conspoint.specs.Errors.{IsReadFault}
-use Rattle.conspoint.specs.Space.{CountsGroups, Lacks, TakesAtMost}
+use Rattle.conspoint.specs.Space.{Lacks, TakesAtMost}
 use Rattle.conspoint.specs.Steps.{Places}
 use Rattle.conspoint.specs.declared.draft.Draft.{Draft}
 use Rattle.conspoint.specs.declared.error.PlanError.{PlanError}
 use Rattle.conspoint.specs.declared.error.PlanError.TheVariants.{NoSpace}
 use Rattle.placement.specs.Files.{is_one}
+use Rattle.placement.specs.Nodes.{StaysUnder}
 use Rattle.placement.specs.declared.file.PlacedFile.{PlacedFile}
+use Rattle.placement.specs.declared.nodes.Nodes.{Nodes}
 
 -- a step that places blocks, so many at the most, and reads settled ones: it may fail as a read does, and for want of space only
 -- where fewer are left
@@ -25,17 +27,20 @@ pub record ReadsAndPlaces {B T : Type 0} (G : Ghosts B) (n : ℕ) (blocks after 
   pub takes : OnOk result (TakesAtMost n old new)
   pub lacks : IsErrOf result NoSpace → Lacks n old
 
--- how many nodes are placed over so many blocks at a height, where these numbers count the groups of blocks over which one is stored, and
--- higher up all count
-unfoldable pub raise_stores : ℕ → (ℕ → ℕ) → ℕ → ℕ
-raise_stores blocks w zero = 0
-raise_stores blocks w (suc zero) = sum_below w (nodes_at blocks 1)
-raise_stores blocks w (suc (suc height)) = nodes_at blocks (suc (suc height))
+-- these numbers count, at each height of a level but the lowest, each node over so many blocks that is stored
+abbrev pub CountsHeights : (ℕ → ℕ → ℕ) → ℕ → ℕ → Nodes → PlaceMap → Type 0
+CountsHeights w blocks level settled lowest =
+    (h j : ℕ) → 1 ≤ h → h < level → j < nodes_at blocks h → w h j ≡ 0 → StaysUnder settled lowest h j
 
--- a step that places the nodes over so many blocks of a file at a level
-abbrev pub PlacesHeights : {T : Type 0} → ℕ → ℕ → (ℕ → ℕ → Pointer) → (ℕ → ℕ → Pointer) → Draft → Draft → Result T PlanError → Type 0
-PlacesHeights blocks level settled nodes old new result =
-    (w : ℕ → ℕ) → (2 ≤ level → CountsGroups w (nodes_at blocks 1) settled nodes) → Places (sum_below (raise_stores blocks w) level) old new result
+-- how many that are at a height
+unfoldable pub raise_stores : ℕ → (ℕ → ℕ → ℕ) → ℕ → ℕ
+raise_stores blocks w zero = 0
+raise_stores blocks w (suc h) = sum_below (w (suc h)) (nodes_at blocks (suc h))
+
+-- a step that places the nodes over so many blocks of a file at a level, which lie there
+abbrev pub PlacesHeights : {T : Type 0} → ℕ → ℕ → Nodes → PlaceMap → Draft → Draft → Result T PlanError → Type 0
+PlacesHeights blocks level settled lowest old new result =
+    (w : ℕ → ℕ → ℕ) → CountsHeights w blocks level settled lowest → Places (sum_below (raise_stores blocks w) level) old new result
 
 -- the file of an answer that has something beside it
 abbrev pub file_in : {T : Type 0} → PlacedFile × T → PlacedFile

@@ -17,7 +17,7 @@ ghost use Rattle.conspoint.specs.Drafts.{OnEach, IsReserved};
 ghost use Rattle.conspoint.specs.Space.{changed_blocks};
 ghost use Rattle.placement.specs.Files.{IsChangeOf, IsPlaced, content_with, is_one, object_block, with_first};
 ghost use Rattle.placement.specs.Layouts.{AreSettledNodes, IsLaidOut, inode_with};
-ghost use Rattle.placement.specs.Nodes.{AreCounted, AreKept, ArePlacedAt, ArePlacedOver, AreShort, AreWithin, height_of, node};
+ghost use Rattle.placement.specs.Nodes.{AreCounted, AreFull, AreKept, ArePlacedAt, ArePlacedOver, AreShort, AreWithin, height_of, node};
 ghost use Rattle.placement.specs.Space.{first_stores};
 ghost use Rattle.conspoint.specs.Steps.{Places};
 ghost use Rattle.placement.specs.Steps.{PlacesFile, file_in};
@@ -73,6 +73,7 @@ fn lay_but_first(
 ) -> Result<(Laid, BlockNumber), PlanError>
     requires some { BLOCK_BYTES ≤ object.now.file.size }
     requires settled { AreWithin draft.old.map.count settled.now }
+    requires full { AreFull settled.now }
     requires counted { AreCounted object.now.file.tree settled.now }
     ensures step { Places (first_stores object.now.file) draft.old draft.new result }
     ensures reserved { IfOk result (λ r. IsReserved draft.new r.1) }

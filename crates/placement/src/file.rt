@@ -15,10 +15,9 @@ ghost use Rattle.blocktree.specs.Trees.{IsChanged, IsSoundAt};
 ghost use Rattle.inode.specs.Files.{IsFile};
 ghost use Rattle.conspoint.specs.Blocks.{AreWholeOver};
 ghost use Rattle.conspoint.specs.Drafts.{OnEach};
-ghost use Rattle.conspoint.specs.Groups.{group};
 ghost use Rattle.placement.specs.Files.{AreAllChanged, IsChangeOf, IsPlaced, IsWholeOver, is_one, object_block, object_content};
 ghost use Rattle.placement.specs.Layouts.{AreSettledNodes, Carries, IsLaidOut, StandsIn, inode_with};
-ghost use Rattle.placement.specs.Nodes.{AreCounted, AreKept, ArePlacedIn, ArePlacedOver, AreShort, AreWithin, HasMoved, height_of, node, under};
+ghost use Rattle.placement.specs.Nodes.{AreCounted, AreFull, AreKept, ArePlacedIn, ArePlacedOver, AreShort, AreWithin, HasMoved, height_of, node};
 ghost use Rattle.placement.specs.Space.{file_stores};
 ghost use Rattle.conspoint.specs.Steps.{Places};
 ghost use Rattle.placement.specs.Steps.{PlacesFile, PlacesHeights, ReadsAndPlaces};
@@ -84,7 +83,8 @@ pub(crate) fn lay_over(
     requires end { EndBefore (block_count object.now.file.size) blocks }
     requires blocks { AreBelow draft.old.map.count blocks }
     requires settled { AreWithin draft.old.map.count settled.now }
-    ensures step { PlacesHeights (block_count object.now.file.size) (level_of object.now.file.size) (under settled.now 0) (group blocks) draft.old draft.new result }
+    requires full { AreFull settled.now }
+    ensures step { PlacesHeights (block_count object.now.file.size) (level_of object.now.file.size) settled.now blocks draft.old draft.new result }
     ensures kept { IfOk result (λ l. l.kept ≡ kept) }
     ensures blocks { IfOk result (λ l. (i : ℕ) → node l.nodes 0 i ≡ place_at blocks i) }
     ensures end { IfOk result (λ l. (m i : ℕ)
@@ -114,6 +114,7 @@ fn lay_blocks(
 ) -> Result<Laid, PlanError>
     requires level { 1 ≤ level_of object.now.file.size }
     requires settled { AreWithin draft.old.map.count settled.now }
+    requires full { AreFull settled.now }
     requires counted { AreCounted object.now.file.tree settled.now }
     ensures step { Places (file_stores object.now.file) draft.old draft.new result }
     ensures holes { IfOk result (λ l. (i : ℕ) → i < block_count object.now.file.size
@@ -175,6 +176,7 @@ fn lay<B: Blocks>(
     settled: &Nodes,
 ) -> Result<Laid, PlanError>
     requires settled { AreWithin draft.old.map.count settled.now }
+    requires full { AreFull settled.now }
     requires counted { AreCounted object.now.file.tree settled.now }
     ensures step { ReadsAndPlaces B.Blocks (file_stores object.now.file) blocks.old blocks.new draft.old draft.new result }
     ensures holes { IfOk result (λ l. (i : ℕ)

@@ -5,10 +5,10 @@ ghost use Rattle.layout.specs.declared.pointer.Pointer.TheVariants.{Hole};
 ghost use Rattle.blocktree.specs.Names.{nodes_at};
 ghost use Rattle.blocktree.specs.PlaceMaps.{AreBelow, EndBefore, place_at};
 ghost use Rattle.conspoint.specs.Drafts.{OnEach};
-ghost use Rattle.conspoint.specs.Groups.{group, IsGroup};
+ghost use Rattle.conspoint.specs.Groups.{group, Follows, IsGroup};
 ghost use Rattle.conspoint.specs.Steps.{PlacesOver};
 ghost use Rattle.placement.specs.Layouts.{StandOver};
-ghost use Rattle.placement.specs.Nodes.{ArePlacedAt, ArePlacedIn, AreWithin, height_of, node, under};
+ghost use Rattle.placement.specs.Nodes.{AreFull, ArePlacedAt, ArePlacedIn, AreWithin, height_of, node, under};
 ghost use Rattle.placement.specs.Steps.{PlacesHeights};
 
 use crate::nodes::Nodes;
@@ -34,6 +34,9 @@ fn raise(
     ensures groups { IfOk result (λ over. OnEach draft.new (λ e. (j : ℕ) → j < groups
         → IsGroup e (node settled.now (suc height) j) (under settled.now height j)
         (group nodes.now j) (place_at over j))) }
+    ensures follows { IfOk result (λ over. (j : ℕ) → j < groups
+        → Follows (node settled.now (suc height) j) (under settled.now height j)
+        (group nodes.now j) (place_at over j)) }
     ensures placed { IfOk result
         (ArePlacedAt draft.old draft.new (node settled.now (suc height))) }
 {
@@ -64,7 +67,8 @@ pub(crate) fn raise_all(
     requires within { AreBelow draft.old.map.count lowest }
     requires end { EndBefore count lowest }
     requires settled { AreWithin draft.old.map.count settled.now }
-    ensures step { PlacesHeights count level (under settled.now 0) (group lowest) draft.old draft.new result }
+    requires full { AreFull settled.now }
+    ensures step { PlacesHeights count level settled.now lowest draft.old draft.new result }
     ensures heights { IfOk result (λ n. height_of n ≡ level) }
     ensures lowest { IfOk result (λ n. (i : ℕ) → node n 0 i ≡ place_at lowest i) }
     ensures end { IfOk result (λ n. (m i : ℕ) → nodes_at count m ≤ i → node n m i ≡ Hole) }

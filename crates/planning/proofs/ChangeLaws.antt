@@ -1,5 +1,5 @@
 -- What a change of the snapshots makes of the slots and of the block map's sets.
-use Rattle.std.proofs.Common.{◌≡◌, ◌≢◌, inl, inr, ◌↔◌, ℕ, zero, suc, ◌+◌, ◌≤◌, Bool, Some, List, length, refl, ap, sym, subst, ◌∙◌, arith}
+use Rattle.std.proofs.Common.{◌≡◌, ◌≢◌, inl, inr, ◌↔◌, ℕ, zero, suc, ◌+◌, ◌≤◌, All, Bool, Some, List, drop, length, length-drop, refl, ap, sym, subst, ◌∙◌, arith}
 use Rattle.std.proofs.Math.Path.{fun_ext}
 use Rattle.std.proofs.lemmas.Bool.{cases_eq, cases_lt}
 use Rattle.std.proofs.lemmas.List.{get_or_past}
@@ -15,7 +15,7 @@ use Rattle.images.specs.Points.{Slot}
 use Rattle.images.specs.Points.Slot.{stays, takes, drops}
 use Rattle.images.specs.Roots.{frozen_inode_file, slot, whole}
 use Rattle.images.specs.Snapshots.{AreSnapshots, HasSnapshot}
-use Rattle.images.specs.SnapshotSteps.{SnapshotStep, unchanged, taken, deleted, CanStep, HasHead, IsSlotNumber, StepsSlots}
+use Rattle.images.specs.SnapshotSteps.{SnapshotStep, unchanged, taken, deleted, restored, CanStep, HasHead, IsSlotNumber, StepsSlots}
 use Rattle.images.specs.States.{IsSound}
 use Rattle.layout.specs.Places.{Blocks, pointed}
 use Rattle.layout.specs.Pointer.{PointsBelow}
@@ -27,8 +27,8 @@ use Rattle.layout.specs.declared.root.Root.{Root}
 use Rattle.conspoint.specs.declared.draft.Draft.{Draft}
 use Rattle.images.specs.Room.{IsNewHead}
 use Rattle.planning.specs.declared.change.SnapshotChange.{SnapshotChange}
-use Rattle.planning.specs.declared.change.SnapshotChange.TheVariants.{Delete, Take, Unchanged}
-use Rattle.planning.specs.Changes.{ChangesPlane, HasHeads, IsStepOf, TakesNone, head_nodes, StepsEntries, StepsSets}
+use Rattle.planning.specs.declared.change.SnapshotChange.TheVariants.{Delete, Restore, Take, Unchanged}
+use Rattle.planning.specs.Changes.{ChangesPlane, HasHeads, IsStepOf, SharesNone, head_nodes, StepsEntries, StepsSets}
 use Rattle.planning.specs.Plans.{IsClean}
 use Rattle.planning.specs.Progress.{KeepsActive}
 use Rattle.layout.proofs.PointerLaws.{no_block, block_same, hole_block}
@@ -111,6 +111,9 @@ module _ (heads : SnapshotsSpelled) (r new : Root) (d e : Blocks) (after : ℕ �
   slots_are unchanged can slots has stepped k low other =
       let bit = λ (b : ℕ). stepped.keeps b k (omega (arith, low)) ∙ ap (λ x. bit_at x k) (stepped.sets b) in
       stays (slot_same r new k slots) (λ b. (λ is. sym (bit b) ∙ is, λ is. bit b ∙ is))
+  slots_are (restored l name) can slots has stepped k low other =
+      let bit = λ (b : ℕ). stepped.keeps b k (omega (arith, low)) ∙ stepped.sets b k (omega (arith, low)) in
+      stays (slot_same r new k slots) (λ b. (λ is. sym (bit b) ∙ is, λ is. bit b ∙ is))
   slots_are (taken l s) can slots has stepped k low other = elim (cases_eq k l) [
     | inl same ↦
         let there : slot new k ≡ Block slots.0 = ap (slot new) same ∙ slots.1.there in
@@ -137,6 +140,11 @@ module _ (heads : SnapshotsSpelled) (r new : Root) (d e : Blocks) (after : ℕ �
   pub system_is : (step : SnapshotStep) → CanStep step r (whole d r) → StepsSlots step r new → StepsEntries step r new before before after → (b : ℕ) → HasBit 31 (after b) ↔ IsSystem new b
   system_is unchanged can slots stepped b =
       let bit : bit_at (after b) 31 ≡ bit_at (before b) 31 = stepped.keeps b 31 (omega arith) ∙ ap (λ x. bit_at x 31) (stepped.sets b) in (
+        λ is. system_same r new b slots ((system_was b).0 (sym bit ∙ is)),
+        λ is. bit ∙ (system_was b).1 (system_same new r b (sym slots) is),
+      )
+  system_is (restored l name) can slots stepped b =
+      let bit : bit_at (after b) 31 ≡ bit_at (before b) 31 = stepped.keeps b 31 (omega arith) ∙ stepped.sets b 31 (omega arith) in (
         λ is. system_same r new b slots ((system_was b).0 (sym bit ∙ is)),
         λ is. bit ∙ (system_was b).1 (system_same new r b (sym slots) is),
       )
@@ -189,10 +197,11 @@ module _ (heads : SnapshotsSpelled) (r new : Root) (d e : Blocks) (after : ℕ �
 pub heads_of : (r a b : Root) (d : Draft) → b.snapshots ≡ a.snapshots → HasHeads r a d → HasHeads r b d
 heads_of r a b d same has k block new = has k block (sym (slot_same a b k same) ∙ new.0, new.1)
 
--- where none is taken, no root block is new, and none is stored
-pub no_head : (step : SnapshotStep) (r new : Root) → TakesNone step → StepsSlots step r new → (k b : ℕ) → IsNewHead r new k b → ⊥
+-- where no snapshot shares the tree, no root block is new, and none is stored
+pub no_head : (step : SnapshotStep) (r new : Root) → SharesNone step → StepsSlots step r new → (k b : ℕ) → IsNewHead r new k b → ⊥
 no_head unchanged r new none slots k b is = is.1 (sym (slot_same r new k slots) ∙ is.0)
 no_head (taken l s) r new none slots k b is = none
+no_head (restored l name) r new none slots k b is = none
 no_head (deleted l name) r new none slots k b is = elim (cases_eq k l) [
   | inl same ↦ hole_block (sym slots.there ∙ sym (ap (slot new) same) ∙ is.0)
   | inr other ↦ is.1 (sym (slots.others k other) ∙ is.0)
@@ -202,14 +211,17 @@ pub one_head : (change : SnapshotChange) → head_nodes change ≤ 1
 one_head Unchanged = omega arith
 one_head (Take k order name) = omega arith
 one_head (Delete k) = omega arith
+one_head (Restore k f) = omega arith
 
-pub none_stored : (change : SnapshotChange) (r : Root) (step : SnapshotStep) → IsStepOf change r step → TakesNone step → head_nodes change ≡ 0
+pub none_stored : (change : SnapshotChange) (r : Root) (step : SnapshotStep) → IsStepOf change r step → SharesNone step → head_nodes change ≡ 0
 none_stored Unchanged r step is none = refl
-none_stored (Take k order name) r step is none = absurd (subst TakesNone is none)
+none_stored (Take k order name) r step is none = absurd (subst SharesNone is none)
 none_stored (Delete k) r step is none = refl
+none_stored (Restore k f) r step is none = refl
 
 pub slots_of : (step : SnapshotStep) (r a b : Root) → b.snapshots ≡ a.snapshots → StepsSlots step r a → StepsSlots step r b
 slots_of unchanged r a b same slots = same ∙ slots
+slots_of (restored k name) r a b same slots = same ∙ slots
 slots_of (taken k s) r a b same slots = (
   slots.0,
   record { there = slot_same a b k same ∙ slots.1.there; others = λ l other. slot_same a b l same ∙ slots.1.others l other },
@@ -220,6 +232,7 @@ pub head_of : (step : SnapshotStep) (a b : Root) (e : Blocks) → b.snapshots �
 head_of unchanged a b e same has = tt
 head_of (taken k s) a b e same has = ap (pointed e) (slot_same a b k same) ∙ has
 head_of (deleted k name) a b e same has = tt
+head_of (restored k name) a b e same has = tt
 
 pub sets_of : (step : SnapshotStep) (r a b : Root) (settled before after : ℕ → ℕ) → b.snapshots ≡ a.snapshots → StepsSets step r a settled before after → StepsSets step r b settled before after
 sets_of unchanged r a b settled before after same sets = sets
@@ -228,6 +241,7 @@ sets_of (taken k s) r a b settled before after same sets = (
   λ x there. sets.1 x (sym (slot_same a b k same) ∙ there),
 )
 sets_of (deleted k name) r a b settled before after same sets = sets
+sets_of (restored k name) r a b settled before after same sets = sets
 
 -- over a map with no change
 pub entries_of : (step : SnapshotStep) (r new : Root) (m x : BlockMap) (after : ℕ → ℕ) → x ≡ m → IsClean m → StepsEntries step r new (settled_at x.parts.items) (entry_at x.parts.items) after
@@ -235,3 +249,7 @@ pub entries_of : (step : SnapshotStep) (r new : Root) (m x : BlockMap) (after : 
 entries_of step r new m x after same clean stepped =
     subst (λ (f : ℕ → ℕ). StepsEntries step r new (settled_at m.parts.items) f after) (fun_ext clean)
     (subst (λ (y : BlockMap). StepsEntries step r new (settled_at y.parts.items) (entry_at y.parts.items) after) same stepped)
+
+-- a root of the newest version has no slots that must be free
+pub no_further : (slots : List Pointer) → length slots ≡ 30 → All (λ p. p ≡ Hole) (drop 30 slots)
+no_further slots is = λ k x lt. absurd (omega (arith, lt, length-drop 30 slots, is))

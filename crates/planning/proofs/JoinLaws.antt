@@ -21,7 +21,7 @@ use Rattle.inode.specs.declared.file.File.{File}
 use Rattle.placement.specs.Files.{IsPlaced}
 use Rattle.planning.specs.Inodes.{AreSpelled, with_inode_at}
 use Rattle.planning.specs.Plans.{HasInodeMap, IsInodeMapOn, IsProgressOf, OnEachOver}
-use Rattle.planning.specs.Progress.{AreTaken, IsExactPlane, IsMarked, PlannedInodes, with_planned_file}
+use Rattle.planning.specs.Progress.{AreTaken, Before, IsExactPlane, IsMarked, PlannedInodes, with_planned_file}
 use Rattle.planning.specs.Steps.{IsPlanUnderWay}
 use Rattle.planning.proofs.ProgressLaws.{more_planned}
 use Rattle.planning.proofs.SpellingLaws.{PutsOneByOne, one_spelled}
@@ -30,8 +30,8 @@ use Rattle.planning.proofs.SpellingLaws.{PutsOneByOne, one_spelled}
 pub marked_over : (taken freed : ℕ → Bool) (old mid new : List Part) → mid ≡ old → IsMarked taken freed (entry_at mid) (entry_at new) → IsMarked taken freed (entry_at old) (entry_at new)
 marked_over taken freed old mid new same marked = subst (λ (ps : List Part). IsMarked taken freed (entry_at ps) (entry_at new)) same marked
 
-module _ (old new : Draft) (before : ℕ → ℕ) (s : Sizes) (t : HeldTree) (p : PlannedInodes) (n : ℕ) (f : Inode) (taken freed : ℕ → Bool)
-    (once : NamesOnce t) (exact : IsExactPlane t before) (settled : (b : ℕ) → settled_at old.map.parts.items b ≡ before b)
+module _ (old new : Draft) (before : Before) (s : Sizes) (t : HeldTree) (p : PlannedInodes) (n : ℕ) (f : Inode) (taken freed : ℕ → Bool)
+    (once : NamesOnce t) (exact : IsExactPlane t before) (settled : (b : ℕ) → settled_at old.map.parts.items b ≡ before.entry b)
     (fresh : p.changed n ≡ false) (grows : Grows old new) (given : (b : ℕ) → taken b ≡ true → WasTaken old new b)
     (marked : IsMarked taken freed (entry_at old.map.parts.items) (entry_at new.map.parts.items)) where
   are_taken : AreTaken old.map.next new.map.next before taken
@@ -45,7 +45,7 @@ module _ (old new : Draft) (before : ℕ → ℕ) (s : Sizes) (t : HeldTree) (p 
   progress_more e placed fits progress =
       more_planned s t e old.map.next new.map.next before (entry_at old.map.parts.items) (entry_at new.map.parts.items) p n f taken freed once exact progress fresh placed fits are_taken grows.next marked
 
-module _ (puts : PutsOneByOne) (old new : Draft) (disk : Blocks) (before : ℕ → ℕ) (s : Sizes) (t : HeldTree) (found : ℕ → Content) (file changed : File) (f : Inode) (bytes : List ℕ) (taken freed : ℕ → Bool)
+module _ (puts : PutsOneByOne) (old new : Draft) (disk : Blocks) (before : Before) (s : Sizes) (t : HeldTree) (found : ℕ → Content) (file changed : File) (f : Inode) (bytes : List ℕ) (taken freed : ℕ → Bool)
     (way : IsPlanUnderWay old disk before s t found file) (once : NamesOnce t) (exact : IsExactPlane t before) (fresh : way.plan.changed 1 ≡ false) (high : 1 < s.inodes)
     (grows : Grows old new) (given : (b : ℕ) → taken b ≡ true → WasTaken old new b)
     (placed : OnEach new (λ e. Agrees (Names (t 1)) disk e → IsPlaced s e (t 1) f taken freed)) (fits : OnEach new (λ e. Agrees (Names (t 1)) disk e → FitsNumber 1 f.kind))
@@ -81,6 +81,6 @@ module _ (puts : PutsOneByOne) (old new : Draft) (disk : Blocks) (before : ℕ �
   }
 
 -- where the settled file is the map already
-pub map_stays : (d : Draft) (disk : Blocks) (before : ℕ → ℕ) (s : Sizes) (t : HeldTree) (found : ℕ → Content) (file : File) (bytes : List ℕ) (way : IsPlanUnderWay d disk before s t found file)
+pub map_stays : (d : Draft) (disk : Blocks) (before : Before) (s : Sizes) (t : HeldTree) (found : ℕ → Content) (file : File) (bytes : List ℕ) (way : IsPlanUnderWay d disk before s t found file)
     → OnEachOver t disk d (λ e. IsInodeMapOn bytes (held e (way.plan.inode 1))) → HasInodeMap bytes way.plan.changed way.plan.from d disk before s t found file
 map_stays d disk before s t found file bytes way map = record { way = way; from_is = refl; others = λ k other. refl; map = map }

@@ -10,6 +10,7 @@ mod ChangeLaws
 mod JoinLaws
 mod OwnLaws
 mod MapFileLaws
+mod BaseLaws
 mod WholeLaws
 mod PlanLaws
 mod RoomLaws

@@ -13,6 +13,7 @@ use Rattle.conspoint.specs.declared.draft.Draft.{Draft}
 use Rattle.inode.specs.declared.file.File.{File}
 use Rattle.inofile.specs.Inodes.{files_of}
 use Rattle.inofile.specs.declared.inode_file.InodeFile.{InodeFile}
+use Rattle.planning.specs.Progress.{Before}
 use Rattle.planning.specs.Numbers.{trimmed}
 use Rattle.planning.specs.Steps.{ArePlanned, GoesOn, IsPlanUnderWay, settled_tree}
 
@@ -25,7 +26,7 @@ not_before xs i n rises within is at =
 pub among_all : (xs : List ℕ) (n : ℕ) → Contains xs n ↔ IsAmong xs (length xs) n
 among_all xs n = (λ at. (at.0, at.1, get_or_default xs at.0 0 n at.1 ∙ at.2), λ at. (at.0, at.1, get_or_default xs at.0 n 0 at.1 ∙ at.2))
 
-module _ (from : ℕ) (draft : Draft) (disk : Blocks) (settled : ℕ → Inode) (before : ℕ → ℕ) (inodes : InodeFile) (file : File) where
+module _ (from : ℕ) (draft : Draft) (disk : Blocks) (settled : ℕ → Inode) (before : Before) (inodes : InodeFile) (file : File) where
   -- before the first
   pub none_before : (xs : List ℕ) → ArePlanned (λ n. ⊥) from draft disk settled before inodes file
       → ArePlanned (IsAmong xs 0) from draft disk settled before inodes file
@@ -73,7 +74,7 @@ more_changed xs i n k was now is more so_far = (there, back)
       | inr other ↦ more ∙ cond-false (k == n) true was (ne_eqb k n other) ∙ so_far.1 (earlier at other)
     ]
 
-module _ (from : ℕ) (old new : Draft) (disk : Blocks) (settled : ℕ → Inode) (before : ℕ → ℕ) (inodes : InodeFile) (file changed : File) (xs : List ℕ) (i n : ℕ)
+module _ (from : ℕ) (old new : Draft) (disk : Blocks) (settled : ℕ → Inode) (before : Before) (inodes : InodeFile) (file changed : File) (xs : List ℕ) (i n : ℕ)
     (rises : IsStrictlyIncreasing xs) (within : i < length xs) (is : n ≡ slice_index xs i)
     (now : ArePlanned (IsAmong xs i) from old disk settled before inodes file) where
   not_yet : now.way.plan.changed n ≡ false

@@ -13,13 +13,14 @@ use Rattle.layout.specs.declared.version.TheConstants.{VERSION}
 use Rattle.model.specs.Records.{count_nameless}
 use Rattle.model.specs.Room.{fixed_of}
 use Rattle.model.specs.Volumes.{KeepsNodeLimits, Node, Volume}
+use Rattle.blocktree.specs.Names.{nodes_at}
 use Rattle.blocktree.specs.Places.{block_count}
 use Rattle.blocktree.specs.declared.tree.BlockTree.{BlockTree}
 use Rattle.blocktree.specs.Trees.{slot_stores}
 use Rattle.images.specs.Sums.{sum_below}
 use Rattle.images.proofs.SumLaws.{gap_counts, groups_most, is_in_sum, sums_rise}
 use Rattle.conspoint.specs.Space.{block_stores, changed_blocks}
-use Rattle.inode.specs.Room.{changed_below, changed_count, file_room, level_room}
+use Rattle.inode.specs.Room.{changed_below, changed_count, far_tops, file_room, level_room, top_over}
 use Rattle.inode.specs.declared.file.File.{File}
 use Rattle.inofile.proofs.RoomLaws.{nameless_four}
 use Rattle.inofile.specs.Inodes.{is_changed_slot}
@@ -42,21 +43,26 @@ same_blocks t (suc n) =
     omega (arith, same_blocks t n, here)
 
 -- level by level
-level_within : (level blocks changed more all : ℕ) → level ≤ 2 → changed ≤ all → level_stores level blocks changed more ≤ level_room level all more
+level_within : (level blocks changed more top far all : ℕ) → level ≤ 3 → changed ≤ all → level_stores level blocks changed more (top + far) ≤ level_room level all more top + far
 unfolding sum_below height_stores
-level_within zero blocks changed more all low few = omega arith
-level_within (suc zero) blocks changed more all low few = omega (arith, few)
-level_within (suc (suc zero)) blocks changed more all low few = omega (arith, few)
-level_within (suc (suc (suc level))) blocks changed more all low few = absurd (omega (arith, low))
+level_within zero blocks changed more top far all low few = omega arith
+level_within (suc zero) blocks changed more top far all low few = omega (arith, few)
+level_within (suc (suc zero)) blocks changed more top far all low few = omega (arith, few)
+level_within (suc (suc (suc zero))) blocks changed more top far all low few = omega (arith, few)
+level_within (suc (suc (suc (suc level)))) blocks changed more top far all low few = absurd (omega (arith, low))
 
-level_low : (size : ℕ) → level_of size ≤ 2
-level_low size = grind (arith, nat_tests)
+level_most : (size : ℕ) → level_of size ≤ 3
+level_most size = grind (arith, nat_tests)
+
+-- an inode file has no third height
+level_low : (size : ℕ) → size ≤ 67108864 → level_of size ≤ 2
+level_low size le = grind (arith, nat_tests, le)
 
 pub stores_room : (f : File) → file_stores f ≤ file_room f
 stores_room f =
     let all = sums_rise (block_stores f.tree 0) (block_count f.size) (block_count (greatest_size VERSION)) (omega (arith, f.within)) in
     let same = same_blocks f.tree (block_count (greatest_size VERSION)) in
-    level_within (level_of f.size) (block_count f.size) (changed_blocks f.tree 0 (block_count f.size)) (more_over f) (changed_count f.tree) (level_low f.size) (omega (arith, all, same))
+    level_within (level_of f.size) (block_count f.size) (changed_blocks f.tree 0 (block_count f.size)) (more_over f) (top_over f 0) (far_tops f) (changed_count f.tree) (level_most f.size) (omega (arith, all, same))
 
 -- ---- a number: its blocks, and twice for the number that is changed
 
@@ -127,18 +133,18 @@ unfolding sum_below
 blocks_few s zero = omega arith
 blocks_few s (suc n) = omega (arith, blocks_few s n, one_block s n)
 
-level_tops : (level blocks changed numbers : ℕ) → level ≤ 2 → changed ≤ numbers + 1 → level_stores level blocks changed 0 ≤ 2 * numbers + level
+level_tops : (level blocks changed tops numbers : ℕ) → level ≤ 2 → changed ≤ numbers + 1 → level_stores level blocks changed 0 tops ≤ 2 * numbers + level
 unfolding sum_below height_stores
-level_tops zero blocks changed numbers low few = omega arith
-level_tops (suc zero) blocks changed numbers low few = omega (arith, few)
-level_tops (suc (suc zero)) blocks changed numbers low few = omega (arith, few)
-level_tops (suc (suc (suc level))) blocks changed numbers low few = absurd (omega (arith, low))
+level_tops zero blocks changed tops numbers low few = omega arith
+level_tops (suc zero) blocks changed tops numbers low few = omega (arith, few)
+level_tops (suc (suc zero)) blocks changed tops numbers low few = omega (arith, few)
+level_tops (suc (suc (suc level))) blocks changed tops numbers low few = absurd (omega (arith, low))
 
-top_needs : (s : InodeFile) (size : ℕ) → top_nodes s size ≤ 2 * sum_below (number_changes s) s.geometry.inodes + level_of size
-top_needs s size =
+top_needs : (s : InodeFile) (size : ℕ) → size ≤ 67108864 → top_nodes s size ≤ 2 * sum_below (number_changes s) s.geometry.inodes + level_of size
+top_needs s size small =
     let count = block_count size in
     let groups : sum_below (has_number s) count ≤ sum_below (number_changes s) s.geometry.inodes = groups_below (number_changes s) 21 count s.geometry.inodes (changes_past s) in
-    level_tops (level_of size) count (sum_below (top_block s) count) (sum_below (number_changes s) s.geometry.inodes) (level_low size)
+    level_tops (level_of size) count (sum_below (top_block s) count) (nodes_at count 2) (sum_below (number_changes s) s.geometry.inodes) (level_low size small)
     (omega (arith, groups, blocks_few s count, first_once count))
 
 -- ---- a point
@@ -156,14 +162,14 @@ unmoved (Some old) b none no_more = absurd (none refl)
 
 -- What a plan takes, and what is kept for the files without a name. Of the inode map those blocks are counted of whose numbers an object
 -- came or went over the base.
-pub point_needs : (r : Root) (s : InodeFile) (base v : Volume) (blocks : ℕ) → KeepsNodeLimits s.geometry.inodes base → KeepsNodeLimits s.geometry.inodes v → 3 < s.geometry.inodes
+pub point_needs : (r : Root) (s : InodeFile) (base v : Volume) (blocks : ℕ) → KeepsNodeLimits s.geometry.inodes base → KeepsNodeLimits s.geometry.inodes v → 3 < s.geometry.inodes → r.inode_file.size ≤ 67108864
     → point_stores (map_moves base v) r s blocks + 4 * count_nameless s.geometry.inodes v ≤ memory_room base s v + level_of r.inode_file.size + map_file_nodes blocks
-point_needs r s base v blocks base_keeps keeps least =
+point_needs r s base v blocks base_keeps keeps least small =
     let inodes = s.geometry.inodes in
     let past : (n : ℕ) → inodes ≤ n → moves base v n ≡ 0 = λ n le. unmoved (base n) (v n) (empty_past inodes base n base_keeps least le) (empty_past inodes v n keeps least le) in
     let numbers = numbers_need s base v inodes in
     let map : map_stores (map_moves base v) s ≤ sum_below (moves base v) inodes = groups_below (moves base v) MAP_NUMBERS (block_count (div_ceil inodes 8)) inodes past in
-    let top = top_needs s r.inode_file.size in
+    let top = top_needs s r.inode_file.size small in
     omega (arith, numbers, map, top)
 
 moved_not : (a b : Option Node) → has_moved a b ≡ 0 → IsSome a ↔ IsSome b
@@ -186,8 +192,8 @@ file_fits blocks level true low = omega (arith, low)
 file_fits blocks level false low = omega (arith, low)
 
 -- what every point stores
-pub fixed_needs : (size blocks : ℕ) → level_of size + map_file_nodes blocks + 1 ≤ fixed_of blocks
-fixed_needs size blocks =
-    let all = file_fits (div_ceil blocks BLOCK_POINTERS) (level_of size) (nat_le (div_ceil blocks BLOCK_POINTERS) BODY_POINTERS) (level_low size) in
+pub fixed_needs : (size blocks : ℕ) → size ≤ 67108864 → level_of size + map_file_nodes blocks + 1 ≤ fixed_of blocks
+fixed_needs size blocks small =
+    let all = file_fits (div_ceil blocks BLOCK_POINTERS) (level_of size) (nat_le (div_ceil blocks BLOCK_POINTERS) BODY_POINTERS) (level_low size small) in
     let same : div_ceil blocks BLOCK_POINTERS ≡ (blocks + 1023) / 1024 = omega arith in
     omega (arith, all, same)

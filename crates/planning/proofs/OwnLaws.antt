@@ -38,7 +38,7 @@ use Rattle.inode.specs.declared.object.Object.{Object}
 use Rattle.inofile.specs.Settled.{AreSettled}
 use Rattle.placement.specs.Files.{IsBasedOn, IsChangeOf, IsWholeOver, object_block, object_content}
 use Rattle.planning.specs.Plans.{IsInodeMapOn}
-use Rattle.planning.specs.Progress.{IsExactPlane}
+use Rattle.planning.specs.Progress.{Before, IsExactPlane}
 use Rattle.planning.specs.Steps.{settled_tree}
 use Rattle.planning.proofs.NumberLaws.{based_start, body_fits}
 use Rattle.images.proofs.EmptyLaws.{no_bit, held_inode}
@@ -46,16 +46,16 @@ use Rattle.layout.proofs.SizeLaws.{level_none}
 use Rattle.layout.proofs.ZeroLaws.{zero_byte}
 
 -- no block of the settled tree is free
-pub used_block : (d : Draft) (disk : Blocks) (settled_of : ℕ → Inode) (before : ℕ → ℕ) → IsExactPlane (settled_tree disk settled_of) before → ((b : ℕ) → settled_at d.map.parts.items b ≡ before b)
+pub used_block : (d : Draft) (disk : Blocks) (settled_of : ℕ → Inode) (before : Before) → IsExactPlane (settled_tree disk settled_of) before → ((b : ℕ) → settled_at d.map.parts.items b ≡ before.entry b)
     → (n b : ℕ) → Names (held disk (settled_of n)) b → IsFree d.map.parts.items b → ⊥
-used_block d disk settled_of before exact same n b names free = no_bit 0 (before b) (sym (same b) ∙ free) ((exact b).1 (record { file = n; names = names }))
+used_block d disk settled_of before exact same n b names free = no_bit before.plane (before.entry b) (sym (same b) ∙ free) ((exact b).1 (record { file = n; names = names }))
 
 pub inode_is : (s : Sizes) (disk : Blocks) (f : Inode) → IsSoundFile s (held disk f) → IsInode VERSION s f
 inode_is s disk f sound = subst (IsInode VERSION s) (held_inode disk f) sound.inode
 
 -- one of the file system's own files with blocks changed in memory, over its settled inode
-pub own_change : (count : ℕ) (draft : Draft) (disk : Blocks) (s : Sizes) (top : File) (settled_of : ℕ → Inode) (before : ℕ → ℕ) (n : ℕ) (f : Inode) (from : BlockTree) (o : Object)
-    → AreSettled count disk s top settled_of → NamesOnce (settled_tree disk settled_of) → IsExactPlane (settled_tree disk settled_of) before → ((b : ℕ) → settled_at draft.map.parts.items b ≡ before b)
+pub own_change : {version : ℕ} (count : ℕ) (draft : Draft) (disk : Blocks) (s : Sizes) (top : File) (settled_of : ℕ → Inode) (before : Before) (n : ℕ) (f : Inode) (from : BlockTree) (o : Object)
+    → AreSettled count disk version s top settled_of → NamesOnce (settled_tree disk settled_of) → IsExactPlane (settled_tree disk settled_of) before → ((b : ℕ) → settled_at draft.map.parts.items b ≡ before.entry b)
     → count ≡ draft.map.count → f ≡ settled_of n → StartsFrom f.body f.size from → SameSettled from o.file.tree
     → o.attributes ≡ record { kind = f.kind; mode = f.mode; links = f.links } → o.file.size ≡ f.size → IsFile disk o.file → IsChangeOf s draft disk (settled_of n) o
 own_change count draft disk s top settled_of before n f from o are once exact same count_is is starts kept attributes size ends =
@@ -145,7 +145,7 @@ pub whole_again : (out items : List ℕ) (len : ℕ) → length out ≡ len → 
 whole_again out items len long = ap (λ n. take n (out ++ drop (length out) items)) (sym long) ∙ take-append_seam out (drop (length out) items)
 
 -- how large the settled inode map is
-pub map_size_is : (count : ℕ) (disk : Blocks) (s : Sizes) (top : File) (settled_of : ℕ → Inode) → AreSettled count disk s top settled_of → (settled_of 1).size ≡ div_ceil s.inodes 8
+pub map_size_is : {version : ℕ} (count : ℕ) (disk : Blocks) (s : Sizes) (top : File) (settled_of : ℕ → Inode) → AreSettled count disk version s top settled_of → (settled_of 1).size ≡ div_ceil s.inodes 8
 map_size_is count disk s top settled_of are =
     (subst (λ (k : Kind). FitsKind k s (settled_of 1).mode (settled_of 1).links (settled_of 1).size) (are.fits 1) (inode_is s disk (settled_of 1) (are.sound 1)).kind).2
 
@@ -161,9 +161,9 @@ pub record IsMapOver (s : Sizes) (draft : Draft) (disk : Blocks) (base : Inode) 
   pub kind : o.attributes.kind ≡ kinds.InodeMap
 
 -- the inode map's file with its first blocks changed to these bytes
-module _ (count : ℕ) (draft : Draft) (disk : Blocks) (s : Sizes) (top : File) (settled_of : ℕ → Inode) (before : ℕ → ℕ) (f : Inode) (old : File) (o : Object) (bytes : List ℕ)
-    (are : AreSettled count disk s top settled_of) (once : NamesOnce (settled_tree disk settled_of)) (exact : IsExactPlane (settled_tree disk settled_of) before)
-    (same : (b : ℕ) → settled_at draft.map.parts.items b ≡ before b) (count_is : count ≡ draft.map.count) (is : f ≡ settled_of 1) (old_size : old.size ≡ f.size) (old_ends : IsFile disk old)
+module _ {version : ℕ} (count : ℕ) (draft : Draft) (disk : Blocks) (s : Sizes) (top : File) (settled_of : ℕ → Inode) (before : Before) (f : Inode) (old : File) (o : Object) (bytes : List ℕ)
+    (are : AreSettled count disk version s top settled_of) (once : NamesOnce (settled_tree disk settled_of)) (exact : IsExactPlane (settled_tree disk settled_of) before)
+    (same : (b : ℕ) → settled_at draft.map.parts.items b ≡ before.entry b) (count_is : count ≡ draft.map.count) (is : f ≡ settled_of 1) (old_size : old.size ≡ f.size) (old_ends : IsFile disk old)
     (starts : StartsFrom f.body f.size old.tree) (attributes : o.attributes ≡ record { kind = f.kind; mode = f.mode; links = f.links }) (stays : SameSettled old.tree o.file.tree)
     (kept : o.file.tree.kept ≡ old.tree.kept) (new_size : o.file.size ≡ old.size) (long : length bytes ≡ div_ceil s.inodes 8)
     (here : (i k : ℕ) → k < 4096 → i < div_ceil (length bytes) 4096 → slice_index (file_block disk o.file i) k ≡ slice_index bytes (4096 * i + k))

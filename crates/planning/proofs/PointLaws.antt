@@ -16,12 +16,12 @@ use Rattle.images.specs.Room.{StoresOwn}
 use Rattle.images.specs.Roots.{HeldTree, free_inode, inode_bytes_at, inode_under, tree, whole}
 use Rattle.images.specs.BlockMap.{HasBit, entry}
 use Rattle.images.specs.Contents.{Content}
-use Rattle.images.specs.Cuts.{PlansOn}
-use Rattle.images.specs.Points.{MarksPlane}
+use Rattle.images.specs.Points.{IsPlannedOn, IsSoundPlan, MarksPlane}
 use Rattle.images.specs.SnapshotSteps.{SnapshotStep, CanStep, HasHead, StepsSlots}
+use Rattle.images.specs.Soundness.{IsSoundTree}
 use Rattle.images.specs.States.{IsSound}
 use Rattle.planning.specs.Changes.{StepsEntries, StepsSets}
-use Rattle.planning.specs.Progress.{IsProgress, PlannedInodes}
+use Rattle.planning.specs.Progress.{Before, IsProgress, PlannedInodes}
 use Rattle.planning.specs.Points.{IsComplete, planned_tree}
 use Rattle.planning.proofs.ChangeLaws.{SnapshotsSpelled, slots_are, system_is}
 use Rattle.images.proofs.EmptyLaws.{held_inode}
@@ -42,10 +42,6 @@ first_inode : (d : Blocks) (inodes : ℕ) (top : Inode) → inode_under (held d 
 unfolding inode_under held
 first_inode d inodes top = refl
 
-active_is : (d : Blocks) (r : Root) → (whole d r).active ≡ tree d r.geometry.inodes r.inode_file
-unfolding whole
-active_is d r = refl
-
 entry_same : (t u : HeldTree) (b : ℕ) → t 2 ≡ u 2 → entry t b ≡ entry u b
 unfolding entry
 entry_same t u b same = ap (λ h. map_entry (file_block h (b / 1024)) (b % 1024)) same
@@ -54,13 +50,19 @@ new_map : (e : Blocks) (new : Root) (i : Inode) → inode_under (held e new.inod
 unfolding whole tree
 new_map e new i is = ap (held e) is
 
-module _ (spelled : ReadsSpelled) (reads_past : ReadsPast) (d e : Blocks) (r new : Root) (next : ℕ) (before after : ℕ → ℕ) (p : PlannedInodes) (files : ℕ → Content)
-    (root : IsRoot r) (sound : IsSound r (whole d r)) (before_is : (b : ℕ) → before b ≡ entry (whole d r).active b)
-    (progress : IsProgress r.geometry (whole d r).active e next before after p) (whole_plan : IsComplete r new (whole d r).active e after p files) where
+-- what is planned over a tree with this plane, on one disk that has the planned blocks
+pub record PlansFrom (d : Blocks) (r : Root) (t : HeldTree) (plane : ℕ) (e : Blocks) (new : Root) (files : ℕ → Content) : Type 0 where
+  pub plan : IsPlannedOn (whole d r) t plane r e new files
+  pub sound : IsSoundPlan r.geometry e plan.inode plan.changed
+  pub own : StoresOwn plane (λ n. held e (plan.inode n)) r new plan.taken
+
+module _ (spelled : ReadsSpelled) (reads_past : ReadsPast) (d e : Blocks) (r new : Root) (t : HeldTree) (next : ℕ) (before : Before) (after : ℕ → ℕ) (p : PlannedInodes) (files : ℕ → Content)
+    (root : IsRoot r) (sound : IsSound r (whole d r)) (tree_sound : IsSoundTree r.geometry t) (past : (n : ℕ) → r.geometry.inodes ≤ n → (t n).inode ≡ free_inode)
+    (before_is : (b : ℕ) → before.entry b ≡ entry (whole d r).active b) (progress : IsProgress r.geometry t e next before after p) (whole_plan : IsComplete r new t e after p files) where
   each_fits : (n : ℕ) → IsInode VERSION r.geometry (p.inode n)
   each_fits n = elim (cases_Bool (p.changed n)) [
     | inl is ↦ subst (IsInode VERSION r.geometry) (held_inode e (p.inode n)) (progress.sound n is).inode
-    | inr isnt ↦ subst (IsInode VERSION r.geometry) (sym (progress.stays n isnt)) (sound.active.files n).inode
+    | inr isnt ↦ subst (IsInode VERSION r.geometry) (sym (progress.stays n isnt)) (tree_sound.files n).inode
   ]
 
   -- under the new root, by the numbers of before
@@ -74,11 +76,10 @@ module _ (spelled : ReadsSpelled) (reads_past : ReadsPast) (d e : Blocks) (r new
         ∙ ap (λ h. h.inode) (spelled r.geometry e (p.inode 0) (p.inode (suc n)) (suc n) root.head.sizes (omega arith) low (each_fits (suc n)) bytes)
         ∙ held_inode e (p.inode (suc n))
     | inr high ↦
-        let free : (whole d r).active (suc n) ≡ held d free_inode = ap (λ t. t (suc n)) (active_is d r) ∙ reads_past d r.geometry.inodes r.inode_file (suc n) (omega arith) high in
         sym (tree_inode e r.geometry.inodes (p.inode 0) (suc n))
         ∙ ap (λ h. h.inode) (reads_past e r.geometry.inodes (p.inode 0) (suc n) (omega arith) high)
         ∙ held_inode e free_inode
-        ∙ sym (progress.stays (suc n) (whole_plan.past (suc n) high) ∙ ap (λ h. h.inode) free ∙ held_inode d free_inode)
+        ∙ sym (progress.stays (suc n) (whole_plan.past (suc n) high) ∙ past (suc n) high)
   ]
 
   pub inodes_are : (n : ℕ) → inode_under (held e new.inode_file) new.geometry.inodes n ≡ p.inode n
@@ -92,7 +93,7 @@ module _ (spelled : ReadsSpelled) (reads_past : ReadsPast) (d e : Blocks) (r new
   abbrev New : ℕ → ℕ
   New = entry (planned_tree e p)
 
-  pub stepped : (step : SnapshotStep) → StepsEntries step r new before before after → StepsEntries step r new Old Old New
+  pub stepped : (step : SnapshotStep) → StepsEntries step r new before.entry before.entry after → StepsEntries step r new Old Old New
   stepped step entries = record {
     between = entries.between;
     sets = subst (λ (f : ℕ → ℕ). StepsSets step r new f f entries.between) (fun_ext before_is) entries.sets;
@@ -100,17 +101,17 @@ module _ (spelled : ReadsSpelled) (reads_past : ReadsPast) (d e : Blocks) (r new
   }
 
   abbrev Was : ℕ → ℕ → Type 0
-  Was b x = (HasBit 0 x × ((n : ℕ) → p.changed n ≡ true → Names ((whole d r).active n) b → ⊥)) ⊎ ((n : ℕ) × (p.changed n ≡ true) × Names (held e (p.inode n)) b)
+  Was b x = (HasBit before.plane x × ((n : ℕ) → p.changed n ≡ true → Names (t n) b → ⊥)) ⊎ ((n : ℕ) × (p.changed n ≡ true) × Names (held e (p.inode n)) b)
 
-  pub marks_are : MarksPlane p.changed (whole d r).active 0 (planned_tree e p) (entry (whole d r).active) (entry (planned_tree e p))
+  pub marks_are : MarksPlane p.changed t before.plane (planned_tree e p) (entry (whole d r).active) (entry (planned_tree e p))
   marks_are b = subst (λ x. HasBit 0 x ↔ Was b (entry (whole d r).active b)) (sym (whole_plan.entries b))
       (subst (λ x. HasBit 0 (after b) ↔ Was b x) (before_is b) (progress.marks b))
 
   pub point_entries : (b : ℕ) → entry (whole e new).active b ≡ after b
   point_entries b = entry_same (whole e new).active (planned_tree e p) b (new_map e new (p.inode 2) (inodes_are 2)) ∙ whole_plan.entries b
 
-  unfoldable pub point_planned : (step : SnapshotStep) → StepsEntries step r new before before after → SnapshotsSpelled → CanStep step r (whole d r) → StepsSlots step r new → HasHead step new e
-      → StoresOwn (planned_tree e p) r new p.taken → PlansOn d r e new files
+  unfoldable pub point_planned : (step : SnapshotStep) → StepsEntries step r new before.entry before.entry after → SnapshotsSpelled → CanStep step r (whole d r) → StepsSlots step r new → HasHead step new e
+      → StoresOwn before.plane (planned_tree e p) r new p.taken → PlansFrom d r t before.plane e new files
   point_planned step entries heads can slots head own = record {
     plan = record {
       inode = p.inode;

@@ -12,10 +12,10 @@ use Rattle.images.specs.Soundness.{IsSoundFile, FitsNumber}
 use Rattle.blockmap.specs.Maps.{entry_at}
 use Rattle.blockmap.specs.Parts.{Part}
 use Rattle.placement.specs.Files.{IsPlaced}
-use Rattle.planning.specs.Progress.{AreTaken, IsExactPlane, IsMarked, IsProgress, KeepsActive, KeepsSets, PlannedInodes, unplanned, with_planned_file}
+use Rattle.planning.specs.Progress.{AreTaken, Before, HasActive, IsExactPlane, IsMarked, IsProgress, KeepsSets, PlannedInodes, unplanned, with_planned_file}
 use Rattle.images.proofs.EmptyLaws.{no_bit}
 
-pub none_planned : (s : Sizes) (t : HeldTree) (e : Blocks) (next : ℕ) (before after : ℕ → ℕ) → KeepsActive before after → IsProgress s t e next before after (unplanned next t)
+pub none_planned : (s : Sizes) (t : HeldTree) (e : Blocks) (next : ℕ) (before : Before) (after : ℕ → ℕ) → HasActive before after → IsProgress s t e next before after (unplanned next t)
 none_planned s t e next before after same = record {
   moves = λ n m i b is. absurd (cc);
   each = λ n is. absurd (cc);
@@ -46,7 +46,7 @@ sets_from old mid new same keeps = subst (λ (ps : List Part). KeepsSets (entry_
 pub true_false : {t : Bool} → t ≡ true → t ≡ false → ⊥
 true_false is isnt = absurd (cc)
 
-module _ (s : Sizes) (t : HeldTree) (e : Blocks) (from to : ℕ) (before after last : ℕ → ℕ) (p : PlannedInodes) (n : ℕ) (f : Inode) (taken freed : ℕ → Bool)
+module _ (s : Sizes) (t : HeldTree) (e : Blocks) (from to : ℕ) (before : Before) (after last : ℕ → ℕ) (p : PlannedInodes) (n : ℕ) (f : Inode) (taken freed : ℕ → Bool)
     (names_once : NamesOnce t) (exact : IsExactPlane t before) (progress : IsProgress s t e from before after p) (new : p.changed n ≡ false)
     (placed : IsPlaced s e (t n) f taken freed) (kind : FitsNumber n f.kind) (are_taken : AreTaken from to before taken) (later : from ≤ to) (marked : IsMarked taken freed after last) where
   abbrev q : PlannedInodes
@@ -75,8 +75,8 @@ module _ (s : Sizes) (t : HeldTree) (e : Blocks) (from to : ℕ) (before after l
   ]
 
   -- a number of the old tree has a block that isn't taken
-  not_taken : (k m b : ℕ) → Names (t m) b → before b ≡ 0 → ⊥
-  not_taken k m b names none = no_bit 0 (before b) none ((exact b).1 (record { file = m; names = names }))
+  not_taken : (k m b : ℕ) → Names (t m) b → before.entry b ≡ 0 → ⊥
+  not_taken k m b names none = no_bit before.plane (before.entry b) none ((exact b).1 (record { file = m; names = names }))
 
   now_moves : (k m i b : ℕ) → q.changed k ≡ true → (held e (q.inode k)).place m i ≡ Block b → ((t k).place m i ≡ Block b) ⊎ (q.taken k b ≡ true)
   now_moves k m i b is at = elim (cases_eq k n) [
@@ -96,7 +96,7 @@ module _ (s : Sizes) (t : HeldTree) (e : Blocks) (from to : ℕ) (before after l
     | inr other ↦ inode_there k other ∙ progress.stays k (sym (changed_there k other) ∙ is)
   ]
 
-  now_free : (k b : ℕ) → q.taken k b ≡ true → before b ≡ 0
+  now_free : (k b : ℕ) → q.taken k b ≡ true → before.entry b ≡ 0
   now_free k b is = elim (cases_eq k n) [
     | inl same ↦ are_taken.free b (sym (taken_here k b same) ∙ is)
     | inr other ↦ progress.free k b (sym (taken_there k b other) ∙ is)
@@ -141,7 +141,7 @@ module _ (s : Sizes) (t : HeldTree) (e : Blocks) (from to : ℕ) (before after l
     | inr came ↦ not_taken k n b mine (progress.free k b came)
   ]
 
-  now_marked : (b : ℕ) → HasBit 0 (last b) → (HasBit 0 (before b) × ((k : ℕ) → q.changed k ≡ true → Names (t k) b → ⊥)) ⊎ ((k : ℕ) × (q.changed k ≡ true) × Names (held e (q.inode k)) b)
+  now_marked : (b : ℕ) → HasBit 0 (last b) → (HasBit before.plane (before.entry b) × ((k : ℕ) → q.changed k ≡ true → Names (t k) b → ⊥)) ⊎ ((k : ℕ) × (q.changed k ≡ true) × Names (held e (q.inode k)) b)
   now_marked b has = elim ((marked.active b).0 has) [
     | inr came ↦ inr (n, here n n true (p.changed n) refl, subst (λ i. Names (held e i) b) (sym (inode_here n refl)) (placed.named b came))
     | inl kept ↦ elim ((progress.marks b).0 kept.0) [
@@ -174,7 +174,7 @@ module _ (s : Sizes) (t : HeldTree) (e : Blocks) (from to : ℕ) (before after l
     ],
   ))
 
-  was_marked : (b : ℕ) → (HasBit 0 (before b) × ((k : ℕ) → q.changed k ≡ true → Names (t k) b → ⊥)) ⊎ ((k : ℕ) × (q.changed k ≡ true) × Names (held e (q.inode k)) b) → HasBit 0 (last b)
+  was_marked : (b : ℕ) → (HasBit before.plane (before.entry b) × ((k : ℕ) → q.changed k ≡ true → Names (t k) b → ⊥)) ⊎ ((k : ℕ) × (q.changed k ≡ true) × Names (held e (q.inode k)) b) → HasBit 0 (last b)
   was_marked b (inl old) =
       stays_marked b ((progress.marks b).1 (inl (
         old.0,

@@ -192,11 +192,16 @@ root_stops (Err f) is reads grows = record {
   root = tt;
   generation = tt;
   geometry = tt;
+  version = tt;
 }
 
 -- what can fail for want of memory or space alone reads nothing
 pub shortage_reads : {B : Type 0} {G : Ghosts B} {x : B} {e : PlanError} → IsShortage e → ReadsBlocks {T = Root} G IsReadFault x x (Err e)
 shortage_reads {e = e} short = unread (Err e) short
+
+-- nor does what finds an inode damaged that it has
+pub damaged_unread : {B : Type 0} {G : Ghosts B} {x : B} {e : PlanError} → e ≡ Damaged → ReadsBlocks {T = Root} G IsReadFault x x (Err e)
+damaged_unread is = record { count = refl; counted = tt; device = λ fault. (let no : ⊥ = cc in absurd no); reads = λ start so. so; same = λ disk shows. shows }
 
 -- ---- the inode file in memory
 

@@ -33,21 +33,23 @@ use Rattle.inode.specs.declared.file.File.{File}
 use Rattle.inofile.specs.Inodes.{IsChanged}
 use Rattle.inofile.specs.declared.inode_file.InodeFile.{InodeFile}
 use Rattle.planning.specs.Inodes.{AreSpelled}
-use Rattle.planning.specs.Plans.{IsAllPlanned, IsPlanStart}
-use Rattle.planning.specs.Progress.{IsExactPlane, IsProgress, unplanned}
+use Rattle.planning.specs.Changes.{starting_file}
+use Rattle.planning.specs.Plans.{IsAllPlanned, IsPlanStart, IsRootStart}
+use Rattle.planning.specs.Progress.{Before, IsExactPlane, IsProgress, unplanned}
 use Rattle.planning.specs.Steps.{ArePlanned, settled_tree}
+use Rattle.planning.specs.declared.change.SnapshotChange.{SnapshotChange}
 use Rattle.planning.proofs.OwnLaws.{inode_is}
 use Rattle.planning.proofs.ProgressLaws.{none_planned}
 use Rattle.images.proofs.EmptyLaws.{no_bit}
 use Rattle.layout.proofs.ZeroLaws.{zero_byte}
 
-module _ {count : ℕ} {d : Draft} {disk : Blocks} {root : Root} {settled : ℕ → Inode} {inodes : InodeFile} {v : Volume} {before : ℕ → ℕ}
-    (start : IsPlanStart count d disk root settled inodes v before) where
-  pub top_sound : IsSoundFile inodes.geometry (held disk root.inode_file)
+module _ {count : ℕ} {d : Draft} {disk : Blocks} {top : Inode} {settled : ℕ → Inode} {inodes : InodeFile} {v : Volume} {before : Before}
+    (start : IsPlanStart count d disk top settled inodes v before) where
+  pub top_sound : IsSoundFile inodes.geometry (held disk top)
   top_sound = subst (λ (x : Inode). IsSoundFile inodes.geometry (held disk x)) start.top (start.memory.volume.inodes.sound 0)
 
   -- nothing is planned, and the inode file is as it is settled
-  pub started : (file : File) → ((i : ℕ) → file_block disk file i ≡ nodes.file_block (held disk root.inode_file) i) → ArePlanned (λ n. ⊥) d.map.next d disk settled before inodes file
+  pub started : (file : File) → ((i : ℕ) → file_block disk file i ≡ nodes.file_block (held disk top) i) → ArePlanned (λ n. ⊥) d.map.next d disk settled before inodes file
   started file as_held = record {
     way = record {
       plan = unplanned d.map.next (settled_tree disk settled);
@@ -106,8 +108,8 @@ pub record WritesAll : Type 0 where
   pub others : (blocks : List PlannedBlock) (disk : Blocks) (n : ℕ) → All (λ b. b.place ≢ n) blocks → disk_with_blocks blocks disk n ≡ disk n
 
 -- the inode of the inode file fits a root
-module _ {start : Draft} (writes : WritesAll) (d : Draft) (disk : Blocks) (before : ℕ → ℕ) (s : Sizes) (t : HeldTree) (found : ℕ → Content) (inodes : InodeFile) (top : Inode)
-    (all : IsAllPlanned start d disk before s t found inodes top) (exact : IsExactPlane t before) (same : (b : ℕ) → settled_at d.map.parts.items b ≡ before b) where
+module _ {start : Draft} (writes : WritesAll) (d : Draft) (disk : Blocks) (before : Before) (s : Sizes) (t : HeldTree) (found : ℕ → Content) (inodes : InodeFile) (top : Inode)
+    (all : IsAllPlanned start d disk before s t found inodes top) (exact : IsExactPlane t before) (same : (b : ℕ) → settled_at d.map.parts.items b ≡ before.entry b) where
   e : Blocks
   e = disk_with_blocks d.blocks.items disk
 
@@ -118,7 +120,7 @@ module _ {start : Draft} (writes : WritesAll) (d : Draft) (disk : Blocks) (befor
   agrees : Agrees (Reach t) disk e
   unfolding e
   agrees b names = writes.others d.blocks.items disk b (λ k x lt is.
-      no_bit 0 (before b) (sym (same b) ∙ sym (ap (settled_at d.map.parts.items) is) ∙ d.drafted.free k x lt) ((exact b).1 names))
+      no_bit before.plane (before.entry b) (sym (same b) ∙ sym (ap (settled_at d.map.parts.items) is) ∙ d.drafted.free k x lt) ((exact b).1 names))
 
   progress : IsProgress s t e d.map.next before (entry_at d.map.parts.items) all.plan
   progress = all.progress e has agrees
@@ -133,3 +135,25 @@ module _ {start : Draft} (writes : WritesAll) (d : Draft) (disk : Blocks) (befor
 pub top_size : (s : Sizes) (r : Root) → IsRoot r → s ≡ r.geometry → r.inode_file.size ≡ 4096 * div_ceil s.inodes 21
 top_size s r root same =
     (subst (λ (k : Kind). FitsKind k r.geometry r.inode_file.mode r.inode_file.links r.inode_file.size) root.kind root.inode_file.kind).2 ∙ ap (λ (z : Sizes). 4096 * div_ceil z.inodes 21) (sym same)
+
+pub top_small : (r : Root) → IsRoot r → r.inode_file.size ≤ 67108864
+top_small r root = omega (arith, top_size r.geometry r root refl, root.head.sizes.most_inodes)
+
+-- and so is that of the tree that a change starts from
+module _ {change : SnapshotChange} {count : ℕ} {d : Draft} {disk : Blocks} {root : Root} {settled : ℕ → Inode} {inodes : InodeFile} {v : Volume} {before : Before}
+    (start : IsRootStart change count d disk root settled inodes v before) where
+  pub start_size : IsRoot root → inodes.geometry ≡ root.geometry → (starting_file change root).size ≡ root.inode_file.size
+  start_size is same =
+      let s = inodes.geometry in
+      let fits = inode_is s disk (settled 0) (start.memory.volume.inodes.sound 0) in
+      ap (λ (i : Inode). i.size) (sym start.top)
+      ∙ (subst (λ (k : Kind). FitsKind k s (settled 0).mode (settled 0).links (settled 0).size) (start.memory.volume.inodes.fits 0) fits.kind).2
+      ∙ sym (top_size s root is same)
+
+  -- and it is one of the root's sizes
+  pub start_kind : (starting_file change root).kind ≡ kinds.InodeFile
+  start_kind = ap (λ (i : Inode). i.kind) (sym start.top) ∙ start.memory.volume.inodes.fits 0
+
+  pub start_fits : inodes.geometry ≡ root.geometry → IsInode VERSION root.geometry (starting_file change root)
+  start_fits same = subst (λ (s : Sizes). IsInode VERSION s (starting_file change root)) same
+      (subst (IsInode VERSION inodes.geometry) start.top (inode_is inodes.geometry disk (settled 0) (start.memory.volume.inodes.sound 0)))

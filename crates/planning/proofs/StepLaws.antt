@@ -21,7 +21,7 @@ use Rattle.inode.specs.Files.{file_block}
 use Rattle.inode.specs.declared.file.File.{File}
 use Rattle.planning.specs.Inodes.{AreSpelled, with_inode_at}
 use Rattle.planning.specs.Numbers.{IsNumberPlaced}
-use Rattle.planning.specs.Progress.{AreTaken, IsExactPlane, IsMarked, IsProgress, PlannedInodes, with_planned_file}
+use Rattle.planning.specs.Progress.{AreTaken, Before, IsExactPlane, IsMarked, IsProgress, PlannedInodes, with_planned_file}
 use Rattle.planning.specs.Steps.{GoesOn, IsPlanUnderWay}
 use Rattle.planning.proofs.ProgressLaws.{more_planned}
 use Rattle.planning.proofs.SpellingLaws.{PutsOneByOne, one_spelled}
@@ -32,7 +32,7 @@ fits_ordinary (suc zero) k low is = absurd (omega arith)
 fits_ordinary (suc (suc zero)) k low is = absurd (omega arith)
 fits_ordinary (suc (suc (suc n))) k low is = is
 
-module _ (puts : PutsOneByOne) (old mid new : Draft) (disk : Blocks) (before : ℕ → ℕ) (s : Sizes) (t : HeldTree) (found : ℕ → Content) (file changed : File) (n : ℕ) (f : Inode) (taken freed : ℕ → Bool)
+module _ (puts : PutsOneByOne) (old mid new : Draft) (disk : Blocks) (before : Before) (s : Sizes) (t : HeldTree) (found : ℕ → Content) (file changed : File) (n : ℕ) (f : Inode) (taken freed : ℕ → Bool)
     (way : IsPlanUnderWay old disk before s t found file) (once : NamesOnce t) (exact : IsExactPlane t before) (fresh : way.plan.changed n ≡ false) (low : 3 ≤ n) (high : n < s.inodes)
     (grows : Grows old mid) (parts : mid.map.parts.items ≡ old.map.parts.items) (given : (b : ℕ) → taken b ≡ true → WasTaken old mid b)
     (placed : OnEach mid (λ e. Agrees (Names (t n)) disk e → IsNumberPlaced s e (t n) (found n) f taken freed))

@@ -5,14 +5,17 @@ use Rattle.std.specs.Ordering.{nat_cmp}
 use Rattle.std.specs.BTreeMap as tree
 use Rattle.std.proofs.lemmas.Bool.{cases_eq}
 use Rattle.std.proofs.lemmas.Bool.Decides.{nat_tests}
-use Rattle.layout.specs.Inode.{FitsBody}
+use Rattle.layout.specs.Inode.{FitsBody, IsInode}
 use Rattle.layout.specs.Root.{IsRoot}
 use Rattle.layout.specs.Version.{level_of}
 use Rattle.layout.specs.declared.inode.Body.{Body}
+use Rattle.layout.specs.declared.inode.Inode.{Inode}
+use Rattle.layout.specs.declared.version.TheConstants.{VERSION}
 use Rattle.layout.specs.declared.root.Root.{Root}
 use Rattle.layout.specs.declared.inode.Body.TheVariants.{Inline, Pointers}
 use Rattle.images.specs.Sums.{sum_below}
 use Rattle.images.proofs.SumLaws.{is_in_sum, one_more, sum_of_none, sums_each}
+use Rattle.blocktree.specs.Names.{nodes_at}
 use Rattle.blocktree.specs.Places.{block_count, depth_of}
 use Rattle.blocktree.specs.Trees.{IsChanged, SameSettled}
 use Rattle.blocktree.specs.declared.tree.BlockTree.{BlockTree}
@@ -108,14 +111,15 @@ top_counts s t (suc n) only =
 
 -- ---- the inode file of a plan
 
-height_rises : (blocks a b more h : ℕ) → a ≤ b → height_stores blocks a more h ≤ height_stores blocks b more h
+height_rises : (blocks a b more tops h : ℕ) → a ≤ b → height_stores blocks a more tops h ≤ height_stores blocks b more tops h
 unfolding height_stores
-height_rises blocks a b more zero le = le
-height_rises blocks a b more (suc zero) le = omega (arith, le)
-height_rises blocks a b more (suc (suc h)) le = omega arith
+height_rises blocks a b more tops zero le = le
+height_rises blocks a b more tops (suc zero) le = omega (arith, le)
+height_rises blocks a b more tops (suc (suc zero)) le = omega arith
+height_rises blocks a b more tops (suc (suc (suc h))) le = omega arith
 
-level_rises : (level blocks a b more : ℕ) → a ≤ b → level_stores level blocks a more ≤ level_stores level blocks b more
-level_rises level blocks a b more le = sums_each (height_stores blocks a more) (height_stores blocks b more) level (λ h. height_rises blocks a b more h le)
+level_rises : (level blocks a b more tops : ℕ) → a ≤ b → level_stores level blocks a more tops ≤ level_stores level blocks b more tops
+level_rises level blocks a b more tops le = sums_each (height_stores blocks a more tops) (height_stores blocks b more tops) level (λ h. height_rises blocks a b more tops h le)
 
 -- all of a settled file of this size counts
 pub record IsWhole (size : ℕ) (t : BlockTree) : Type 0 where
@@ -128,9 +132,9 @@ pub top_within : (s : InodeFile) (size : ℕ) (f : File) → f.size ≡ size →
 top_within s size f is large whole only =
     let some : 1 ≤ block_count f.size = omega (arith, is, large) in
     let counts = top_counts s f.tree (block_count f.size) only in
-    let level = level_rises (level_of f.size) (block_count f.size) (changed_blocks f.tree 1 (block_count f.size) + 1) (sum_below (top_block s) (block_count f.size)) 0 (omega (arith, counts, some)) in
+    let level = level_rises (level_of f.size) (block_count f.size) (changed_blocks f.tree 1 (block_count f.size) + 1) (sum_below (top_block s) (block_count f.size)) 0 (nodes_at (block_count f.size) 2) (omega (arith, counts, some)) in
     subst (λ (n : ℕ). first_stores f ≤ top_nodes s n) is
-    (subst (λ (m : ℕ). level_stores (level_of f.size) (block_count f.size) (changed_blocks f.tree 1 (block_count f.size) + 1) m ≤ top_nodes s f.size) (sym (none_more f whole.kept whole.count whole.depth)) level)
+    (subst (λ (m : ℕ). level_stores (level_of f.size) (block_count f.size) (changed_blocks f.tree 1 (block_count f.size) + 1) m (nodes_at (block_count f.size) 2) ≤ top_nodes s f.size) (sym (none_more f whole.kept whole.count whole.depth)) level)
 
 -- what is loaded of a large inode
 record IsLoaded (size : ℕ) (t : BlockTree) : Type 0 where
@@ -143,16 +147,16 @@ is_loaded (Pointers pointers) blocks size t fits large starts unchanged =
     record { whole = record { kept = starts.1; count = starts.0.count; depth = starts.0.depth }; unchanged = unchanged }
 
 -- the inode file, loaded and changed
-pub top_few : (s : InodeFile) (r : Root) (first last : File) → IsRoot r → StartsFrom r.inode_file.body r.inode_file.size first.tree → StartsUnchanged r.inode_file.body first.tree
-    → first.size ≡ r.inode_file.size → last.size ≡ first.size → SameSettled first.tree last.tree → ChangesOnly (λ i. (i ≡ 0) ⊎ HasChange s i) first.tree last.tree → first_stores last ≤ top_nodes s r.inode_file.size
-top_few s r first last root starts unchanged loaded same settled changes =
-    let size : last.size ≡ r.inode_file.size = same ∙ loaded in
+pub top_few : (s : InodeFile) (r : Root) (f : Inode) (first last : File) → IsRoot r → f.size ≡ r.inode_file.size → IsInode VERSION r.geometry f → StartsFrom f.body f.size first.tree → StartsUnchanged f.body first.tree
+    → first.size ≡ f.size → last.size ≡ first.size → SameSettled first.tree last.tree → ChangesOnly (λ i. (i ≡ 0) ⊎ HasChange s i) first.tree last.tree → first_stores last ≤ top_nodes s r.inode_file.size
+top_few s r f first last root long fits starts unchanged loaded same settled changes =
+    let size : last.size ≡ r.inode_file.size = same ∙ loaded ∙ long in
     let large : 4096 ≤ r.inode_file.size = omega (arith, top_size r.geometry r root refl, root.head.sizes.least_inodes) in
-    let is = is_loaded r.inode_file.body r.geometry.blocks r.inode_file.size first.tree root.inode_file.body large starts unchanged in
+    let is = is_loaded f.body r.geometry.blocks f.size first.tree fits.body (omega (arith, large, long)) starts unchanged in
     top_within s r.inode_file.size last size large (record {
       kept = changes.kept ∙ is.whole.kept ∙ sym settled.count;
-      count = settled.count ∙ is.whole.count ∙ ap block_count (sym size);
-      depth = settled.depth ∙ is.whole.depth ∙ ap depth_of (sym size);
+      count = settled.count ∙ is.whole.count ∙ ap block_count (sym (same ∙ loaded));
+      depth = settled.depth ∙ is.whole.depth ∙ ap depth_of (sym (same ∙ loaded));
     }) (λ i changed. elim (changes.only i changed) [
       | inl one ↦ one
       | inr before ↦ absurd (is.unchanged i before)

@@ -27,7 +27,7 @@ use Rattle.inofile.specs.declared.inode_file.InodeFile.{InodeFile}
 use Rattle.placement.specs.Files.{object_block}
 use Rattle.planning.specs.Inodes.{AreSpelled, with_inode_at, with_number}
 use Rattle.planning.specs.Plans.{HasBlockMap, HasInodeMap, HasTop, IsAllPlanned, IsProgressOf, OnEachOver}
-use Rattle.planning.specs.Progress.{PlannedInodes, with_planned_file}
+use Rattle.planning.specs.Progress.{Before, PlannedInodes, with_planned_file}
 use Rattle.planning.specs.Space.{CountsBlocks, map_stores, nodes_below, top_nodes}
 use Rattle.planning.proofs.SpellingLaws.{PutsOneByOne, one_spelled}
 use Rattle.images.proofs.EmptyLaws.{part_zeros, behind_zeros}
@@ -66,7 +66,7 @@ module _ (inodes count : ℕ) (block : ℕ → List ℕ) (inode : ℕ → Inode)
 
 -- ---- all parts
 
-module _ (puts : PutsOneByOne) (start low mid last : Draft) (disk : Blocks) (before : ℕ → ℕ) (s : Sizes) (t : HeldTree) (found : ℕ → Content) (inodes : InodeFile) (top : Object) (f map : Inode) (first : ℕ) (block : List ℕ)
+module _ (puts : PutsOneByOne) (start low mid last : Draft) (disk : Blocks) (before : Before) (s : Sizes) (t : HeldTree) (found : ℕ → Content) (inodes : InodeFile) (top : Object) (f map : Inode) (first : ℕ) (block : List ℕ)
     (changed : ℕ → Bool) (just : (n : ℕ) → (changed n ≡ true) ↔ IsChanged inodes n) (within : (n : ℕ) → IsChanged inodes n → n < s.inodes) (least : 3 ≤ s.inodes)
     (numbers : HasInodeMap inodes.numbers.bytes.items changed start.map.next low disk before s t found top.file) (has_top : HasTop numbers.way.plan mid disk before s t top f first)
     (has_map : HasBlockMap mid (with_planned_file 0 f has_top.taken numbers.way.plan) last disk before s t map) (size : top.file.size ≡ 4096 * div_ceil s.inodes 21)

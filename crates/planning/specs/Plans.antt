@@ -8,11 +8,9 @@ use Rattle.layout.specs.declared.TheConstants.{BLOCK_BYTES, INODE_BYTES, INODES_
 use Rattle.layout.specs.declared.inode.Inode.{Inode}
 use Rattle.layout.specs.declared.pointer.Pointer.TheVariants.{Block}
 use Rattle.layout.specs.declared.root.Root.{Root}
-use Rattle.model.specs.Paths.{Name}
-use Rattle.model.specs.Trees.{Tree}
 use Rattle.model.specs.Volumes.{IsVolume, Volume}
 use Rattle.buffers.specs.Disks.{IsWhole}
-use Rattle.blockmap.specs.Maps.{entry_at, settled_at}
+use Rattle.blockmap.specs.Maps.{IsTouched, entry_at, settled_at}
 use Rattle.blockmap.specs.declared.map.BlockMap.{BlockMap}
 use Rattle.conspoint.specs.Drafts.{Grows, HasAll, OnEach}
 use Rattle.conspoint.specs.MapFiles.{AreTouched}
@@ -20,14 +18,14 @@ use Rattle.conspoint.specs.Plans as plans
 use Rattle.conspoint.specs.Space.{TakesAtMost}
 use Rattle.conspoint.specs.declared.draft.Draft.{Draft}
 use Rattle.images.specs.BlockMap.{entry}
-use Rattle.images.specs.Contents.{Content, content_bytes, content_of}
+use Rattle.images.specs.Contents.{Content, HoldsVolume, content_bytes, content_of, tree_contents}
 use Rattle.images.specs.Cuts.{IsOtherSlot}
 use Rattle.images.specs.InodeFiles.{spliced_at}
 use Rattle.images.specs.Nodes.{Agrees, Held, Names, file_block, held}
 use Rattle.images.specs.Room.{TakesFirst}
 use Rattle.images.specs.Roots.{HeldTree, Needs, Reach, whole}
 use Rattle.images.specs.Soundness.{HasNoHole, IsSoundTree}
-use Rattle.images.specs.States.{Holds}
+use Rattle.images.specs.States.{IsSound}
 use Rattle.inode.specs.Files.{file_block as changed_block}
 use Rattle.inode.specs.declared.file.File.{File}
 use Rattle.inode.specs.declared.object.Object.{Object}
@@ -35,30 +33,34 @@ use Rattle.inofile.specs.Inodes.{IsChanged, files_of}
 use Rattle.inofile.specs.Volumes.{IsVolumeOf}
 use Rattle.inofile.specs.declared.inode_file.InodeFile.{InodeFile}
 use Rattle.placement.specs.Files.{object_block, with_first}
-use Rattle.planning.specs.Changes.{HasHeads, head_nodes}
+use Rattle.planning.specs.Changes.{HasHeads, HasRestored, TouchesRestored, head_nodes, starting_file, starting_plane, starting_tree}
 use Rattle.planning.specs.Inodes.{AreSpelled}
 use Rattle.planning.specs.Numbers.{trimmed}
-use Rattle.planning.specs.Progress.{IsProgress, KeepsActive, PlannedInodes, with_planned_file}
+use Rattle.planning.specs.Progress.{Before, HasActive, IsProgress, PlannedInodes, with_planned_file}
 use Rattle.planning.specs.Space.{CountsBlocks, map_stores, nodes_below, top_nodes}
 use Rattle.planning.specs.Steps.{IsOverTree, IsPlanUnderWay, settled_tree}
 use Rattle.planning.specs.declared.change.SnapshotChange.{SnapshotChange}
+use Rattle.planning.specs.declared.change.SnapshotChange.TheVariants.{Unchanged, Take, Delete, Restore}
 
 -- no entry of the map is changed since the root
 abbrev pub IsClean : BlockMap → Type 0
 IsClean m = (b : ℕ) → entry_at m.parts.items b ≡ settled_at m.parts.items b
 
--- the inodes that a disk has under a root
-abbrev pub inodes_under : Blocks → Root → ℕ → Inode
-inodes_under disk r n = ((whole disk r).active n).inode
+-- the inodes of a tree by number
+abbrev pub inodes_of : HeldTree → ℕ → Inode
+inodes_of t n = (t n).inode
 
--- A point may be planned: the disk holds a volume under its root, the map has its entries, and memory stands for the volume that is
--- to be settled.
-pub record IsPlannable (root : Root) (d : ℕ → List ℕ) (slot generation : ℕ) (m : BlockMap) (inodes : InodeFile) (first v : Volume) (snapshots : List (Name × Tree)) : Type 0 where
+-- A point may be planned: all that the root holds on the disk is in its grammar, the map has its entries, the tree that the point
+-- starts from holds a volume, and memory stands over it for the volume that is to be settled.
+pub record IsPlannable (change : SnapshotChange) (root : Root) (d : ℕ → List ℕ) (slot generation : ℕ) (m : BlockMap) (inodes : InodeFile) (base v : Volume) : Type 0 where
   pub other : IsOtherSlot root d slot
   pub later : root.generation < generation
-  pub holds : Holds root (whole (blocks_of d) root) first snapshots
+  pub sound : IsSound root (whole (blocks_of d) root)
   pub entries : (b : ℕ) → settled_at m.parts.items b ≡ entry (whole (blocks_of d) root).active b
-  pub memory : IsVolumeOf root.geometry.blocks (blocks_of d) (inodes_under (blocks_of d) root) inodes v
+  pub restored : HasRestored change root (whole (blocks_of d) root)
+  pub holds : HoldsVolume root.geometry.inodes (tree_contents (starting_tree change (whole (blocks_of d) root))) base
+  pub base_volume : IsVolume root.geometry.inodes base
+  pub memory : IsVolumeOf root.geometry.blocks (blocks_of d) (inodes_of (starting_tree change (whole (blocks_of d) root))) inodes v
   pub volume : IsVolume root.geometry.inodes v
 
 -- On each disk that has the blocks of a plan, and those that the old root needs, the new root's map has these entries.
@@ -67,25 +69,47 @@ PlansEntries disk root p new map =
     (e : Blocks) → HasAll e p.blocks → Agrees (Needs root (whole disk root)) disk e
     → (b : ℕ) → entry (whole e new).active b ≡ entry_at map.parts.items b
 
--- What planning starts from: a tree in its grammar under a root, whose map's entries these are, and set 0 of them as it is in the draft;
--- and memory over it.
-pub record IsPlanStart (count : ℕ) (d : Draft) (disk : Blocks) (root : Root) (settled : ℕ → Inode) (inodes : InodeFile) (v : Volume) (before : ℕ → ℕ) : Type 0 where
+-- the settled entries are those of a tree's map, but where the map is stored anew
+abbrev pub HasEntries : Draft → (ℕ → ℕ) → HeldTree → Type 0
+HasEntries d settled t =
+    (b : ℕ) → (b < d.map.count → IsTouched d.map.parts.items (b / 1024) → ⊥) → settled b ≡ entry t b
+
+-- the same where all of the map will be stored to restore a snapshot
+abbrev pub WillHaveEntries : SnapshotChange → ℕ → (ℕ → ℕ) → HeldTree → Type 0
+WillHaveEntries Unchanged count settled t = (b : ℕ) → settled b ≡ entry t b
+WillHaveEntries (Take k order name) count settled t = (b : ℕ) → settled b ≡ entry t b
+WillHaveEntries (Delete k) count settled t = (b : ℕ) → settled b ≡ entry t b
+WillHaveEntries (Restore k f) count settled t = (b : ℕ) → count ≤ b → settled b ≡ entry t b
+
+-- What the planning of files starts from: a tree in its grammar under this inode of its inode file, whose blocks are set 0 in the draft,
+-- and whose map's entries are the settled ones, but where the map is stored anew; and memory over it.
+pub record IsPlanStart (count : ℕ) (d : Draft) (disk : Blocks) (inode_file : Inode) (settled : ℕ → Inode) (inodes : InodeFile) (v : Volume) (before : Before) : Type 0 where
   pub memory : IsOverTree count disk settled inodes v before
   pub sound : IsSoundTree inodes.geometry (settled_tree disk settled)
-  pub top : settled 0 ≡ root.inode_file
-  pub active : KeepsActive before (entry_at d.map.parts.items)
-  pub same : (b : ℕ) → settled_at d.map.parts.items b ≡ before b
-  pub entries : (b : ℕ) → before b ≡ entry (settled_tree disk settled) b
+  pub top : settled 0 ≡ inode_file
+  pub active : HasActive before (entry_at d.map.parts.items)
+  pub same : (b : ℕ) → settled_at d.map.parts.items b ≡ before.entry b
+  pub entries : HasEntries d before.entry (settled_tree disk settled)
+
+-- What a whole plan starts from, over a map with no change: the tree that the change starts from, and memory over it.
+pub record IsRootStart (change : SnapshotChange) (count : ℕ) (d : Draft) (disk : Blocks) (root : Root) (settled : ℕ → Inode) (inodes : InodeFile) (v : Volume) (before : Before) : Type 0 where
+  pub memory : IsOverTree count disk settled inodes v before
+  pub sound : IsSoundTree inodes.geometry (settled_tree disk settled)
+  pub top : settled 0 ≡ starting_file change root
+  pub plane : before.plane ≡ starting_plane change
+  pub clean : IsClean d.map
+  pub same : (b : ℕ) → settled_at d.map.parts.items b ≡ before.entry b
+  pub entries : WillHaveEntries change d.map.count before.entry (settled_tree disk settled)
 
 -- this holds of each disk that has the blocks planned so far, and those of the settled tree
 abbrev pub OnEachOver : HeldTree → Blocks → Draft → (Blocks → Type 0) → Type 0
 OnEachOver t disk d P = OnEach d (λ e. Agrees (Reach t) disk e → P e)
 
 -- what is planned so far holds on a disk, and on each of these
-abbrev pub IsProgressOf : Draft → Sizes → HeldTree → Blocks → (ℕ → ℕ) → PlannedInodes → Type 0
+abbrev pub IsProgressOf : Draft → Sizes → HeldTree → Blocks → Before → PlannedInodes → Type 0
 IsProgressOf d s t e before p = IsProgress s t e d.map.next before (entry_at d.map.parts.items) p
 
-abbrev pub Progresses : Draft → Blocks → (ℕ → ℕ) → Sizes → HeldTree → PlannedInodes → Type 0
+abbrev pub Progresses : Draft → Blocks → Before → Sizes → HeldTree → PlannedInodes → Type 0
 Progresses d disk before s t p = OnEachOver t disk d (λ e. IsProgressOf d s t e before p)
 
 -- a file that is an inode map with these bytes
@@ -94,7 +118,7 @@ pub record IsInodeMapOn (bytes : List ℕ) (h : Held) : Type 0 where
   pub no_hole : HasNoHole h
 
 -- The inode map is planned too, with these bytes; which other numbers are changed stays.
-pub record HasInodeMap (bytes : List ℕ) (changed : ℕ → Bool) (from : ℕ) (d : Draft) (disk : Blocks) (before : ℕ → ℕ) (s : Sizes) (t : HeldTree) (found : ℕ → Content) (file : File) : Type 0 where
+pub record HasInodeMap (bytes : List ℕ) (changed : ℕ → Bool) (from : ℕ) (d : Draft) (disk : Blocks) (before : Before) (s : Sizes) (t : HeldTree) (found : ℕ → Content) (file : File) : Type 0 where
   pub way : IsPlanUnderWay d disk before s t found file
   pub from_is : way.plan.from ≡ from
   pub others : (k : ℕ) → k ≢ 1 → way.plan.changed k ≡ changed k
@@ -102,7 +126,7 @@ pub record HasInodeMap (bytes : List ℕ) (changed : ℕ → Bool) (from : ℕ) 
 
 -- The inode file is planned with this inode, but for the bytes of its first block: its blocks are those in memory, and first the whole
 -- one that is put there.
-pub record HasTop (p : PlannedInodes) (d : Draft) (disk : Blocks) (before : ℕ → ℕ) (s : Sizes) (t : HeldTree) (top : Object) (f : Inode) (first : ℕ) : Type 0 where
+pub record HasTop (p : PlannedInodes) (d : Draft) (disk : Blocks) (before : Before) (s : Sizes) (t : HeldTree) (top : Object) (f : Inode) (first : ℕ) : Type 0 where
   pub taken : ℕ → Bool
   pub progress : OnEachOver t disk d (λ e. IsWhole (e first) → IsProgressOf d s t e before (with_planned_file 0 f taken p))
   pub first_taken : OnEachOver t disk d (λ e. IsWhole (e first) → (b : ℕ) → (held e f).place 0 0 ≡ Block b → taken b ≡ true)
@@ -115,14 +139,14 @@ pub record IsBlockMapOn (entry_of : ℕ → ℕ) (h : Held) : Type 0 where
   pub no_hole : HasNoHole h
 
 -- The block map is planned with this inode, over what was planned so far. Where each of its blocks was to be stored before, its whole file is taken.
-pub record HasBlockMap (start : Draft) (p : PlannedInodes) (d : Draft) (disk : Blocks) (before : ℕ → ℕ) (s : Sizes) (t : HeldTree) (f : Inode) : Type 0 where
+pub record HasBlockMap (start : Draft) (p : PlannedInodes) (d : Draft) (disk : Blocks) (before : Before) (s : Sizes) (t : HeldTree) (f : Inode) : Type 0 where
   pub taken : ℕ → Bool
   pub progress : OnEachOver t disk d (λ e. IsProgressOf start s t e before p → IsProgressOf d s t e before (with_planned_file 2 f taken p))
   pub map : OnEachOver t disk d (λ e. IsBlockMapOn (entry_at d.map.parts.items) (held e f))
   pub anew : AreTouched start.map.parts.items → OnEachOver t disk d (λ e. (b : ℕ) → Names (held e f) b → taken b ≡ true)
 
 -- The block map is planned, and the inode file's first block: that of memory with the map's inode in its place.
-pub record HasLast (start : Draft) (p : PlannedInodes) (d : Draft) (disk : Blocks) (before : ℕ → ℕ) (s : Sizes) (t : HeldTree) (file : File) (first : ℕ) : Type 0 where
+pub record HasLast (start : Draft) (p : PlannedInodes) (d : Draft) (disk : Blocks) (before : Before) (s : Sizes) (t : HeldTree) (file : File) (first : ℕ) : Type 0 where
   pub map : Inode
   pub planned : HasBlockMap start p d disk before s t map
   pub put : OnEach d (λ e. e first ≡ spliced_at (INODE_BYTES * (2 % INODES_PER_BLOCK)) (inode_bytes map) (changed_block disk file (2 / INODES_PER_BLOCK)))
@@ -130,7 +154,7 @@ pub record HasLast (start : Draft) (p : PlannedInodes) (d : Draft) (disk : Block
   pub long : length (inode_bytes map) ≡ INODE_BYTES
 
 -- Just the numbers that are changed in memory are planned, and the inode map.
-pub record PlansNumbers (from : ℕ) (d : Draft) (disk : Blocks) (settled : ℕ → Inode) (before : ℕ → ℕ) (inodes : InodeFile) (file : File) : Type 0 where
+pub record PlansNumbers (from : ℕ) (d : Draft) (disk : Blocks) (settled : ℕ → Inode) (before : Before) (inodes : InodeFile) (file : File) : Type 0 where
   pub changed : ℕ → Bool
   pub just : (n : ℕ) → (changed n ≡ true) ↔ IsChanged inodes n
   pub map : HasInodeMap inodes.numbers.bytes.items changed from d disk before inodes.geometry (settled_tree disk settled)
@@ -138,7 +162,7 @@ pub record PlansNumbers (from : ℕ) (d : Draft) (disk : Blocks) (settled : ℕ 
 
 -- All that changed in memory is planned, with this inode of the inode file. All blocks but the block map's were taken before a draft in
 -- the middle, and so many at the most.
-pub record IsAllPlanned (start d : Draft) (disk : Blocks) (before : ℕ → ℕ) (s : Sizes) (t : HeldTree) (found : ℕ → Content) (inodes : InodeFile) (top : Inode) : Type 0 where
+pub record IsAllPlanned (start d : Draft) (disk : Blocks) (before : Before) (s : Sizes) (t : HeldTree) (found : ℕ → Content) (inodes : InodeFile) (top : Inode) : Type 0 where
   pub plan : PlannedInodes
   pub top_is : plan.inode 0 ≡ top
   pub first : plan.changed 0 ≡ true
@@ -162,10 +186,11 @@ pub record IsAllPlanned (start d : Draft) (disk : Blocks) (before : ℕ → ℕ)
       → OnEachOver t disk d (λ e. (b : ℕ) → Names (held e (plan.inode 2)) b → plan.taken 2 b ≡ true)
 
 -- The whole plan, of which the part of the snapshots comes first: of a new one the root block lies before all that is taken then, and the
--- whole block map is to be stored.
-pub record IsRootPlanned (change : SnapshotChange) (root new : Root) (old d : Draft) (disk : Blocks) (before : ℕ → ℕ) (s : Sizes) (t : HeldTree) (found : ℕ → Content) (inodes : InodeFile) : Type 0 where
+-- whole block map is to be stored, as it is where one is restored.
+pub record IsRootPlanned (change : SnapshotChange) (root new : Root) (old d : Draft) (disk : Blocks) (before : Before) (s : Sizes) (t : HeldTree) (found : ℕ → Content) (inodes : InodeFile) : Type 0 where
   pub start : Draft
   pub grows : Grows old start
   pub takes : TakesAtMost (head_nodes change) old start
   pub heads : HasHeads root new start
+  pub touched : TouchesRestored change start
   pub all : IsAllPlanned start d disk before s t found inodes new.inode_file

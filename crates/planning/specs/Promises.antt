@@ -2,6 +2,7 @@
 use Rattle.std.specs.Prelude.{ℕ, ◌≡◌, Result, OnOk, IfOk, IsErrOf}
 use Rattle.layout.specs.Root.{IsRoot}
 use Rattle.layout.specs.declared.root.Root.{Root}
+use Rattle.layout.specs.declared.version.TheConstants.{VERSION}
 use Rattle.buffers.specs.Reads.{ReadsBlocks}
 use Rattle.buffers.specs.declared.blocks.Blocks.{Ghosts}
 use Rattle.blockmap.specs.Maps.{entry_at}
@@ -29,14 +30,15 @@ pub record PlansParts {B T : Type 0} (G : Ghosts B) (blocks after : B) (old new 
   pub grows : Grows old new
   pub sets : OnOk result (KeepsSets (entry_at old.map.parts.items) (entry_at new.map.parts.items))
 
--- The whole, which changes the snapshots' sets too. The answer is the root that comes into force then: of this generation, and of the
--- sizes of the root before.
+-- The whole, which changes the snapshots' sets too. The answer is the root that comes into force then: of this generation, of the
+-- newest version, and of the sizes of the root before.
 pub record PlansRoot {B : Type 0} (G : Ghosts B) (number : ℕ) (before : Root) (blocks after : B) (old new : Draft) (result : Result Root PlanError) : Type 0 where
   pub reads : ReadsBlocks G IsReadFault blocks after result
   pub grows : Grows old new
   pub root : IfOk result IsRoot
   pub generation : IfOk result (λ r. r.generation ≡ number)
   pub geometry : IfOk result (λ r. r.geometry ≡ before.geometry)
+  pub version : IfOk result (λ r. r.version ≡ VERSION)
 
 -- a root in its grammar; the draft, a disk of so many blocks, and memory are of its sizes
 pub record AreOfSizes (root : Root) (inodes : InodeFile) (count : ℕ) (d : Draft) : Type 0 where

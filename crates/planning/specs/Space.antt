@@ -8,6 +8,7 @@ use Rattle.layout.specs.Maps.{IsTaken}
 use Rattle.layout.specs.Version.{level_of}
 use Rattle.layout.specs.declared.root.Root.{Root}
 use Rattle.images.specs.Sums.{sum_below}
+use Rattle.blocktree.specs.Names.{nodes_at}
 use Rattle.blocktree.specs.Places.{block_count}
 use Rattle.conspoint.specs.MapFiles.{map_nodes}
 use Rattle.inofile.specs.Inodes.{is_changed_slot}
@@ -62,7 +63,8 @@ top_block s i =
 
 -- the blocks of an inode file of so many bytes: those, and the indirect ones over them
 abbrev pub top_nodes : InodeFile → ℕ → ℕ
-top_nodes s size = level_stores (level_of size) (block_count size) (sum_below (top_block s) (block_count size)) 0
+top_nodes s size =
+    level_stores (level_of size) (block_count size) (sum_below (top_block s) (block_count size)) 0 (nodes_at (block_count size) 2)
 
 -- the blocks of a block map, an entry for each block of a disk of so many
 abbrev pub map_file_nodes : ℕ → ℕ

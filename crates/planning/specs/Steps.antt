@@ -18,36 +18,36 @@ use Rattle.inofile.specs.Volumes.{IsVolumeOf}
 use Rattle.inofile.specs.declared.inode_file.InodeFile.{InodeFile}
 use Rattle.planning.specs.Inodes.{AreSpelled}
 use Rattle.planning.specs.Numbers.{trimmed}
-use Rattle.planning.specs.Progress.{IsExactPlane, IsProgress, PlannedInodes}
+use Rattle.planning.specs.Progress.{Before, IsExactPlane, IsProgress, PlannedInodes}
 
 -- the tree of settled inodes
 abbrev pub settled_tree : Blocks → (ℕ → Inode) → HeldTree
 settled_tree disk settled n = held disk (settled n)
 
--- Memory stands for a volume over the inodes that are settled on a disk. Their tree names no block twice, and its blocks are set 0 of
--- these entries.
-pub record IsOverTree (count : ℕ) (disk : Blocks) (settled : ℕ → Inode) (inodes : InodeFile) (v : Volume) (before : ℕ → ℕ) : Type 0 where
+-- Memory stands for a volume over the inodes that are settled on a disk. Their tree names no block twice, and its blocks are its set
+-- of these entries.
+pub record IsOverTree (count : ℕ) (disk : Blocks) (settled : ℕ → Inode) (inodes : InodeFile) (v : Volume) (before : Before) : Type 0 where
   pub volume : IsVolumeOf count disk settled inodes v
   pub once : NamesOnce (settled_tree disk settled)
   pub exact : IsExactPlane (settled_tree disk settled) before
 
 -- On each disk that has the blocks planned so far, and those of the settled tree: what is planned holds, and the changed files are
 -- these. And the changed inode file spells the new inodes.
-pub record IsPlanUnderWay (d : Draft) (disk : Blocks) (before : ℕ → ℕ) (s : Sizes) (t : HeldTree) (found : ℕ → Content) (file : File) : Type 0 where
+pub record IsPlanUnderWay (d : Draft) (disk : Blocks) (before : Before) (s : Sizes) (t : HeldTree) (found : ℕ → Content) (file : File) : Type 0 where
   pub plan : PlannedInodes
-  pub settled : (b : ℕ) → settled_at d.map.parts.items b ≡ before b
+  pub settled : (b : ℕ) → settled_at d.map.parts.items b ≡ before.entry b
   pub progress : OnEach d (λ e. Agrees (Reach t) disk e → IsProgress s t e d.map.next before (entry_at d.map.parts.items) plan)
   pub contents : OnEach d (λ e. Agrees (Reach t) disk e → (n : ℕ) → 3 ≤ n → plan.changed n ≡ true → content_of (held e (plan.inode n)) ≡ found n)
   pub spelled : AreSpelled s.inodes (file_block disk file) plan.inode
 
 -- the same with one number more
-pub record GoesOn (number : ℕ) (changed : ℕ → Bool) (from : ℕ) (d : Draft) (disk : Blocks) (before : ℕ → ℕ) (s : Sizes) (t : HeldTree) (found : ℕ → Content) (file : File) : Type 0 where
+pub record GoesOn (number : ℕ) (changed : ℕ → Bool) (from : ℕ) (d : Draft) (disk : Blocks) (before : Before) (s : Sizes) (t : HeldTree) (found : ℕ → Content) (file : File) : Type 0 where
   pub way : IsPlanUnderWay d disk before s t found file
   pub from_is : way.plan.from ≡ from
   pub more : (k : ℕ) → way.plan.changed k ≡ (if k == number then true else changed k)
 
 -- just these numbers are planned, and no block before this one is taken
-pub record ArePlanned (IsOne : ℕ → Type 0) (from : ℕ) (d : Draft) (disk : Blocks) (settled : ℕ → Inode) (before : ℕ → ℕ) (inodes : InodeFile) (file : File) : Type 0 where
+pub record ArePlanned (IsOne : ℕ → Type 0) (from : ℕ) (d : Draft) (disk : Blocks) (settled : ℕ → Inode) (before : Before) (inodes : InodeFile) (file : File) : Type 0 where
   pub way : IsPlanUnderWay d disk before inodes.geometry (settled_tree disk settled) (λ n. trimmed (files_of disk settled inodes n)) file
   pub from_is : way.plan.from ≡ from
   pub just : (n : ℕ) → (way.plan.changed n ≡ true) ↔ IsOne n

@@ -16,10 +16,9 @@ ghost use Rattle.conspoint.specs.Errors.{IsReadFault};
 ghost use Rattle.conspoint.specs.Groups.{pointer_at};
 ghost use Rattle.conspoint.specs.MapFiles.{map_nodes};
 ghost use Rattle.images.specs.Nodes.{held};
-ghost use Rattle.images.specs.BlockMap.{entry};
 ghost use Rattle.images.specs.Soundness.{IsSoundFile, IsSoundTree};
-ghost use Rattle.planning.specs.Plans.{HasBlockMap, HasLast};
-ghost use Rattle.planning.specs.Progress.{PlannedInodes};
+ghost use Rattle.planning.specs.Plans.{HasBlockMap, HasEntries, HasLast};
+ghost use Rattle.planning.specs.Progress.{Before, PlannedInodes};
 ghost use Rattle.planning.specs.Space.{map_file_nodes};
 ghost use Rattle.planning.specs.Steps.{IsOverTree, settled_tree};
 ghost use Rattle.planning.specs.Promises.{PlansFiles};
@@ -74,16 +73,16 @@ pub(crate) fn plan_block_map<B: Blocks>(
     ensures step { PlansFiles B.Blocks (map_file_nodes draft.old.map.count)
         blocks.old blocks.new draft.old draft.new result }
     ensures others { (p : ℕ) → IsReserved draft.old p → IsReserved draft.new p }
-    ensures planned { (disk : ℕ → List ℕ) (settled : ℕ → Inode) (v : Volume) (before : ℕ → ℕ)
+    ensures planned { (disk : ℕ → List ℕ) (settled : ℕ → Inode) (v : Volume) (before : Before)
         (p : PlannedInodes) → B.Shows blocks.old disk
         → IsOverTree (B.count blocks.old) disk settled inodes.now v before
         → IsSoundTree inodes.now.geometry (settled_tree disk settled)
-        → ((b : ℕ) → settled_at draft.old.map.parts.items b ≡ before b)
-        → ((b : ℕ) → before b ≡ entry (settled_tree disk settled) b)
+        → ((b : ℕ) → settled_at draft.old.map.parts.items b ≡ before.entry b)
+        → HasEntries draft.old before.entry (settled_tree disk settled)
         → p.changed 2 ≡ false
         → IfOk result (λ f. HasBlockMap draft.old p draft.new disk before inodes.now.geometry
         (settled_tree disk settled) f) }
-    ensures damaged { (disk : ℕ → List ℕ) (settled : ℕ → Inode) (v : Volume) (before : ℕ → ℕ)
+    ensures damaged { (disk : ℕ → List ℕ) (settled : ℕ → Inode) (v : Volume) (before : Before)
         → B.Shows blocks.old disk
         → IsOverTree (B.count blocks.old) disk settled inodes.now v before
         → IsErrOf result PlanError.Damaged → ⊥ }
@@ -108,16 +107,16 @@ pub(crate) fn plan_last<B: Blocks>(
     requires reserved { IsReserved draft.old first }
     ensures step { PlansFiles B.Blocks (map_file_nodes draft.old.map.count)
         blocks.old blocks.new draft.old draft.new result }
-    ensures planned { (disk : ℕ → List ℕ) (settled : ℕ → Inode) (v : Volume) (before : ℕ → ℕ)
+    ensures planned { (disk : ℕ → List ℕ) (settled : ℕ → Inode) (v : Volume) (before : Before)
         (p : PlannedInodes) → B.Shows blocks.old disk
         → IsOverTree (B.count blocks.old) disk settled inodes.now v before
         → IsSoundTree inodes.now.geometry (settled_tree disk settled)
-        → ((b : ℕ) → settled_at draft.old.map.parts.items b ≡ before b)
-        → ((b : ℕ) → before b ≡ entry (settled_tree disk settled) b)
+        → ((b : ℕ) → settled_at draft.old.map.parts.items b ≡ before.entry b)
+        → HasEntries draft.old before.entry (settled_tree disk settled)
         → p.changed 2 ≡ false
         → OnOk result (HasLast draft.old p draft.new disk before inodes.now.geometry
         (settled_tree disk settled) file.now first) }
-    ensures damaged { (disk : ℕ → List ℕ) (settled : ℕ → Inode) (v : Volume) (before : ℕ → ℕ)
+    ensures damaged { (disk : ℕ → List ℕ) (settled : ℕ → Inode) (v : Volume) (before : Before)
         → B.Shows blocks.old disk
         → IsOverTree (B.count blocks.old) disk settled inodes.now v before
         → IsSoundAt (B.count blocks.old) disk file.now.tree 0

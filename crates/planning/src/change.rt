@@ -1,24 +1,27 @@
 //! What a consistency point does with the snapshots.
 
-ghost use Rattle.std.specs.Prelude.{ℕ, ◌≡◌, ◌<◌, ◌≤◌, IfOk, OnOk, length};
+ghost use Rattle.std.specs.Prelude.{ℕ, ◌≡◌, ◌<◌, ◌≤◌, IfOk, OnOk, IfErr, IsErrOf, length};
 ghost use Rattle.std.specs.Int.{bit_at};
+ghost use Rattle.layout.specs.Inode.{IsInode};
 ghost use Rattle.layout.specs.Pointer.{PointsBelow};
 ghost use Rattle.layout.specs.Root.{IsRoot};
 ghost use Rattle.layout.specs.SnapRoot.{snapshot_bytes};
+ghost use Rattle.layout.specs.declared.kind.Kind.TheVariants as kinds;
 ghost use Rattle.layout.specs.declared.pointer.Pointer.{Pointer};
+ghost use Rattle.layout.specs.declared.version.TheConstants.{VERSION};
 ghost use Rattle.model.specs.declared.limits.TheConstants.{SNAPSHOT_NAME_BYTES};
 ghost use Rattle.blockmap.specs.Maps.{entry_at, settled_at};
 ghost use Rattle.conspoint.specs.Drafts.{OnEach, WasTaken};
 ghost use Rattle.conspoint.specs.MapFiles.{AreTouched};
 ghost use Rattle.images.specs.Roots.{slot};
 ghost use Rattle.images.specs.SnapshotSteps.{IsSlotNumber, SetsSlot, SnapshotStep};
-ghost use Rattle.planning.specs.Changes.{ChangesPlane, FitsSlots, HasHeads, IsStepOf, head_nodes, MakesStep, StepsSets};
+ghost use Rattle.planning.specs.Changes.{ChangesPlane, FitsSlots, HasHeads, IsStepOf, head_nodes, MakesStep, StartsActive, StepsSets, TouchesRestored, starting_file};
 ghost use Rattle.planning.specs.Progress.{KeepsActive};
 ghost use Rattle.conspoint.specs.Steps.{Places, Takes};
 
 use buffers::Block;
 use conspoint::{Draft, PlanError};
-use layout::{BLOCK_BYTES, BlockNumber, Pointer, Root, SnapRoot};
+use layout::{BLOCK_BYTES, BlockNumber, Inode, Kind, Pointer, Root, SnapRoot, VERSION};
 use std::alloc::Global;
 
 /// What a consistency point does with the snapshots of the root that it is planned over.
@@ -26,15 +29,21 @@ use std::alloc::Global;
 pub enum SnapshotChange<'a> {
     /// They stay.
     Unchanged,
-    /// The tree of the root is taken as a snapshot into a slot from 1 to 20, with an order number and a name of at most 63 bytes.
+    /// The tree of the root is taken as a snapshot into a slot from 1 to 30, with an order number and a name of at most 63 bytes.
     Take {
         slot: u32,
         order: u64,
         name: &'a [u8],
     },
-    /// The snapshot in a slot from 1 to 20 is deleted.
+    /// The snapshot in a slot from 1 to 30 is deleted.
     Delete {
         slot: u32,
+    },
+    /// The tree of the snapshot in a slot from 1 to 30 becomes the active one, and the snapshot stays. This is the inode of its inode
+    /// file, over which memory stands.
+    Restore {
+        slot: u32,
+        inode_file: Inode,
     },
 }
 
@@ -68,16 +77,18 @@ fn place_head(
     Ok(place)
 }
 
-/// The root with this pointer in a slot.
+/// The root with this pointer in a slot, in the newest version: an older one has fewer slots.
 fn with_pointer(root: &Root, slot: u32, pointer: Pointer) -> Root
     requires root { IsRoot root.now }
     requires slot { IsSlotNumber slot }
     requires below { PointsBelow root.now.geometry.blocks pointer }
     ensures root { IsRoot result }
     ensures geometry { result.geometry ≡ root.now.geometry }
+    ensures version { result.version ≡ VERSION }
     ensures sets { SetsSlot root.now result slot pointer }
 {
     let mut next = *root;
+    next.version = VERSION;
     next.snapshots[(slot - 1) as usize] = pointer;
     next
 }
@@ -139,6 +150,27 @@ fn delete(draft: &mut Draft, slot: u32, pointer: Pointer) -> Result<(), PlanErro
     }
 }
 
+/// The inode of the inode file that a point starts from. `Damaged` where that of a snapshot isn't one of the root's sizes.
+pub(crate) fn starting_file(root: &Root, change: &SnapshotChange<'_>) -> Result<Inode, PlanError>
+    requires { IsRoot root.now }
+    ensures is { IfOk result (λ f. f ≡ starting_file change.now root.now) }
+    ensures size { IfOk result (λ f. f.size ≡ root.now.inode_file.size) }
+    ensures fits { IfOk result (IsInode VERSION root.now.geometry) }
+    ensures damaged { IsErrOf result PlanError.Damaged
+        → (starting_file change.now root.now).kind ≡ kinds.InodeFile
+        → IsInode VERSION root.now.geometry (starting_file change.now root.now) → ⊥ }
+    ensures why { IfErr result (λ e. e ≡ PlanError.Damaged) }
+{
+    let SnapshotChange::Restore { inode_file, .. } = *change else {
+        return Ok(root.inode_file);
+    };
+    if inode_file.kind == Kind::InodeFile && inode_file.fits(VERSION, root.geometry) {
+        Ok(inode_file)
+    } else {
+        Err(PlanError::Damaged)
+    }
+}
+
 /// Does with the snapshots what is asked for, before anything else is planned: so the root block of a new one is written first. The
 /// answer is the root with the slots that the new root has.
 pub(crate) fn change_snapshots(
@@ -151,8 +183,9 @@ pub(crate) fn change_snapshots(
     requires fits { FitsSlots change.now }
     requires size { draft.old.map.count ≡ root.now.geometry.blocks }
     ensures step { Takes (head_nodes change.now) draft.old draft.new result }
-    ensures active { OnOk result (KeepsActive (entry_at draft.old.map.parts.items)
-        (entry_at draft.new.map.parts.items)) }
+    ensures active { OnOk result (StartsActive change.now (settled_at draft.old.map.parts.items)
+        (entry_at draft.old.map.parts.items) (entry_at draft.new.map.parts.items)) }
+    ensures touched { OnOk result (TouchesRestored change.now draft.new) }
     ensures root { IfOk result IsRoot }
     ensures geometry { IfOk result (λ r. r.geometry ≡ root.now.geometry) }
     ensures steps { IfOk result (λ r. (step : SnapshotStep) → IsStepOf change.now root.now step
@@ -171,6 +204,10 @@ pub(crate) fn change_snapshots(
         SnapshotChange::Delete { slot } => {
             delete(draft, slot, root.snapshots[(slot - 1) as usize])?;
             Ok(with_pointer(root, slot, Pointer::Hole))
+        }
+        SnapshotChange::Restore { slot, .. } => {
+            draft.load_plane(slot)?;
+            Ok(*root)
         }
     }
 }

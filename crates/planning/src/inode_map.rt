@@ -25,6 +25,7 @@ ghost use Rattle.inode.specs.Files.{byte_at, file_block};
 ghost use Rattle.inofile.specs.Settled.{AreSettled};
 ghost use Rattle.planning.specs.Inodes.{ChangesFile, KeepsFile};
 ghost use Rattle.planning.specs.Plans.{HasInodeMap};
+ghost use Rattle.planning.specs.Progress.{Before};
 ghost use Rattle.planning.specs.Space.{CountsBlocks, TellsSame, map_stores};
 ghost use Rattle.planning.specs.Steps.{IsOverTree, IsPlanUnderWay, settled_tree};
 ghost use Rattle.planning.specs.Promises.{PlansParts};
@@ -149,11 +150,13 @@ fn settled_map<B: Blocks>(blocks: &mut B, inodes: &InodeFile) -> Result<Inode, P
     requires { AreSizes inodes.now.geometry }
     ensures reads { ReadsBlocks B.Blocks IsReadFault blocks.old blocks.new result }
     ensures read { (disk : ℕ → List ℕ) (settled : ℕ → Inode) → B.Shows blocks.old disk
-        → AreSettled (B.count blocks.old) disk inodes.now.geometry inodes.now.file settled
+        → AreSettled (B.count blocks.old) disk inodes.now.version inodes.now.geometry
+        inodes.now.file settled
         → IfOk result (λ i. i ≡ settled 1) }
     ensures size { IfOk result (λ i. i.size ≡ div_ceil inodes.now.geometry.inodes 8) }
     ensures damaged { (disk : ℕ → List ℕ) (settled : ℕ → Inode) → B.Shows blocks.old disk
-        → AreSettled (B.count blocks.old) disk inodes.now.geometry inodes.now.file settled
+        → AreSettled (B.count blocks.old) disk inodes.now.version inodes.now.geometry
+        inodes.now.file settled
         → IsErrOf result PlanError.Damaged → ⊥ }
     ensures why { IsErrOf result PlanError.NoSpace → ⊥ }
 {
@@ -178,7 +181,7 @@ pub(crate) fn plan_inode_map<B: Blocks>(
     ensures step { PlansParts B.Blocks blocks.old blocks.new draft.old draft.new result }
     ensures others { (p : ℕ) → IsReserved draft.old p → IsReserved draft.new p }
     ensures file { ChangesFile (λ i. i ≡ 0) file.old file.new }
-    ensures planned { (disk : ℕ → List ℕ) (settled : ℕ → Inode) (v : Volume) (before : ℕ → ℕ)
+    ensures planned { (disk : ℕ → List ℕ) (settled : ℕ → Inode) (v : Volume) (before : Before)
         (found : ℕ → Content) → B.Shows blocks.old disk
         → IsOverTree (B.count blocks.old) disk settled inodes.now v before
         → HasNoHole (held disk (settled 1))
@@ -187,18 +190,18 @@ pub(crate) fn plan_inode_map<B: Blocks>(
         → way.plan.changed 1 ≡ false
         → OnOk result (HasInodeMap inodes.now.numbers.bytes.items way.plan.changed way.plan.from draft.new disk
         before inodes.now.geometry (settled_tree disk settled) found file.new) }
-    ensures damaged { (disk : ℕ → List ℕ) (settled : ℕ → Inode) (v : Volume) (before : ℕ → ℕ)
+    ensures damaged { (disk : ℕ → List ℕ) (settled : ℕ → Inode) (v : Volume) (before : Before)
         → B.Shows blocks.old disk
         → IsOverTree (B.count blocks.old) disk settled inodes.now v before
-        → ((b : ℕ) → settled_at draft.old.map.parts.items b ≡ before b)
+        → ((b : ℕ) → settled_at draft.old.map.parts.items b ≡ before.entry b)
         → ((i : ℕ) → IsSoundAt (B.count blocks.old) disk file.old.tree i)
         → IsErrOf result PlanError.Damaged → ⊥ }
-    ensures stores { (disk : ℕ → List ℕ) (settled : ℕ → Inode) (v : Volume) (before : ℕ → ℕ)
+    ensures stores { (disk : ℕ → List ℕ) (settled : ℕ → Inode) (v : Volume) (before : Before)
         → B.Shows blocks.old disk
         → IsOverTree (B.count blocks.old) disk settled inodes.now v before → (w : ℕ → ℕ)
         → CountsBlocks w inodes.now.numbers.bytes.items (nodes.file_block (held disk (settled 1)))
         → OnOk result (TakesAtMost (map_stores w inodes.now) draft.old draft.new) }
-    ensures short { (disk : ℕ → List ℕ) (settled : ℕ → Inode) (v : Volume) (before : ℕ → ℕ)
+    ensures short { (disk : ℕ → List ℕ) (settled : ℕ → Inode) (v : Volume) (before : Before)
         → B.Shows blocks.old disk
         → IsOverTree (B.count blocks.old) disk settled inodes.now v before → (w : ℕ → ℕ)
         → CountsBlocks w inodes.now.numbers.bytes.items (nodes.file_block (held disk (settled 1)))

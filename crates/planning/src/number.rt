@@ -14,7 +14,7 @@ ghost use Rattle.placement.specs.Files.{is_one};
 ghost use Rattle.planning.specs.Inodes.{HasChange, ChangesFile};
 ghost use Rattle.planning.specs.Space.{nodes_below, number_nodes};
 ghost use Rattle.planning.specs.Numbers.{trimmed};
-ghost use Rattle.planning.specs.Progress.{IsMarked};
+ghost use Rattle.planning.specs.Progress.{Before, IsMarked};
 ghost use Rattle.planning.specs.Steps.{ArePlanned, GoesOn, IsOverTree, IsPlanUnderWay, settled_tree};
 ghost use Rattle.planning.specs.Promises.{PlansFiles};
 
@@ -60,7 +60,7 @@ pub(crate) fn plan_number<B: Blocks>(
         blocks.old blocks.new draft.old draft.new result }
     ensures others { (p : ℕ) → IsReserved draft.old p → IsReserved draft.new p }
     ensures file { ChangesFile (λ i. i ≡ number / INODES_PER_BLOCK) file.old file.new }
-    ensures planned { (disk : ℕ → List ℕ) (settled : ℕ → Inode) (v : Volume) (before : ℕ → ℕ)
+    ensures planned { (disk : ℕ → List ℕ) (settled : ℕ → Inode) (v : Volume) (before : Before)
         → B.Shows blocks.old disk
         → IsOverTree (B.count blocks.old) disk settled inodes.now v before
         → (way : IsPlanUnderWay draft.old disk before inodes.now.geometry
@@ -68,7 +68,7 @@ pub(crate) fn plan_number<B: Blocks>(
         → way.plan.changed number ≡ false
         → OnOk result (GoesOn number way.plan.changed way.plan.from draft.new disk before inodes.now.geometry
         (settled_tree disk settled) (λ n. trimmed (files_of disk settled inodes.now n)) file.new) }
-    ensures damaged { (disk : ℕ → List ℕ) (settled : ℕ → Inode) (v : Volume) (before : ℕ → ℕ)
+    ensures damaged { (disk : ℕ → List ℕ) (settled : ℕ → Inode) (v : Volume) (before : Before)
         → B.Shows blocks.old disk
         → IsOverTree (B.count blocks.old) disk settled inodes.now v before
         → IsPlanUnderWay draft.old disk before inodes.now.geometry (settled_tree disk settled)
@@ -96,13 +96,13 @@ pub(crate) fn plan_numbers<B: Blocks>(
         blocks.old blocks.new draft.old draft.new result }
     ensures others { (p : ℕ) → IsReserved draft.old p → IsReserved draft.new p }
     ensures file { ChangesFile (HasChange inodes.now) file.old file.new }
-    ensures planned { (disk : ℕ → List ℕ) (settled : ℕ → Inode) (v : Volume) (before : ℕ → ℕ)
+    ensures planned { (disk : ℕ → List ℕ) (settled : ℕ → Inode) (v : Volume) (before : Before)
         → B.Shows blocks.old disk
         → IsOverTree (B.count blocks.old) disk settled inodes.now v before
         → (from : ℕ) → ArePlanned (λ n. ⊥) from draft.old disk settled before inodes.now file.old
         → OnOk result (ArePlanned (IsChanged inodes.now) from draft.new disk settled before inodes.now
         file.new) }
-    ensures damaged { (disk : ℕ → List ℕ) (settled : ℕ → Inode) (v : Volume) (before : ℕ → ℕ)
+    ensures damaged { (disk : ℕ → List ℕ) (settled : ℕ → Inode) (v : Volume) (before : Before)
         → B.Shows blocks.old disk
         → IsOverTree (B.count blocks.old) disk settled inodes.now v before
         → (from : ℕ) → ArePlanned (λ n. ⊥) from draft.old disk settled before inodes.now file.old

@@ -11,7 +11,7 @@ ghost use Rattle.images.specs.BlockMap.{NamesOnce};
 ghost use Rattle.placement.specs.Files.{IsChangeOf};
 ghost use Rattle.placement.specs.Space.{first_stores};
 ghost use Rattle.planning.specs.Plans.{HasTop, Progresses};
-ghost use Rattle.planning.specs.Progress.{IsExactPlane, PlannedInodes};
+ghost use Rattle.planning.specs.Progress.{Before, IsExactPlane, PlannedInodes};
 ghost use Rattle.planning.specs.Steps.{settled_tree};
 ghost use Rattle.planning.specs.Promises.{PlansFiles};
 
@@ -37,13 +37,13 @@ pub(crate) fn place_top<B: Blocks>(
         blocks.old blocks.new draft.old draft.new result }
     ensures others { (p : ℕ) → IsReserved draft.old p → IsReserved draft.new p }
     ensures reserved { IfOk result (λ r. IsReserved draft.new r.1) }
-    ensures planned { (s : Sizes) (disk : ℕ → List ℕ) (settled : ℕ → Inode) (before : ℕ → ℕ)
+    ensures planned { (s : Sizes) (disk : ℕ → List ℕ) (settled : ℕ → Inode) (before : Before)
         (p : PlannedInodes) → B.Shows blocks.old disk
         → IsChangeOf s draft.old disk (settled 0) top.now
         → top.now.attributes.kind ≡ kinds.InodeFile
         → NamesOnce (settled_tree disk settled)
         → IsExactPlane (settled_tree disk settled) before
-        → ((b : ℕ) → settled_at draft.old.map.parts.items b ≡ before b)
+        → ((b : ℕ) → settled_at draft.old.map.parts.items b ≡ before.entry b)
         → Progresses draft.old disk before s (settled_tree disk settled) p
         → p.changed 0 ≡ false
         → IfOk result (λ r. HasTop p draft.new disk before s (settled_tree disk settled)

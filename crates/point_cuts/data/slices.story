@@ -4,6 +4,8 @@
 # How a story is written. A line that is empty or begins with `#` says nothing.
 #
 #   image BLOCKS INODES HALF        a new image of these sizes
+#   disk AT DIGITS, nvram AT DIGITS    bytes of it, two hexadecimal digits each: where there are such lines no image is made, and these
+#                                   stand over zeros
 #   before COMMAND -> REPLY         what is run on it before anything is tried
 #   command COMMAND -> REPLY        the story's commands; they run on what that left. Each is spelled as it is written again
 #   tail COMMAND -> REPLY           commands that run on what a cut left, and are cut in their turn

@@ -1,5 +1,5 @@
 -- Bytes that a file in memory gets.
-use Rattle.std.proofs.Common.{◌≡◌, ◌+◌, ◌-◌, ◌++◌, ◌≤◌, ℕ, List, length, take, drop, Option, Some, None, Result, Ok, Err, IfOk, IsTrue, refl, sym, ap, subst, ◌∙◌, append_assoc, arith}
+use Rattle.std.proofs.Common.{◌≡◌, ◌+◌, ◌-◌, ◌++◌, ◌≤◌, ℕ, List, length, take, drop, Option, Some, None, Result, Ok, Err, IfOk, IfSome, IsTrue, refl, sym, ap, subst, ◌∙◌, append_assoc, arith}
 use Rattle.std.proofs.Math.Path.{fun_ext}
 use Rattle.layout.specs.Bytes.{zeros}
 use Rattle.layout.specs.FileBytes.{byte_in, first_bytes, EndsAt}
@@ -8,7 +8,7 @@ use Rattle.layout.specs.Limits.{Sizes}
 use Rattle.layout.specs.declared.inode.Inode.{Inode}
 use Rattle.layout.specs.declared.kind.Kind.{Kind}
 use Rattle.model.specs.Edits.{resized, written}
-use Rattle.model.specs.Records.{Applies, applied, with_file_bytes, work_of}
+use Rattle.model.specs.Records.{Applies, applied, size_before, with_file_bytes, work_of}
 use Rattle.model.specs.Room.{cost}
 use Rattle.model.specs.Volumes.{Node, Volume, file_node, is_file_node, with_node}
 use Rattle.model.specs.declared.errno.Errno.TheVariants.{EFBIG}
@@ -35,6 +35,7 @@ use Rattle.records.specs.Room.{StoresIn}
 use Rattle.records.specs.declared.contents.Rewrite.{Rewrite}
 use Rattle.records.specs.declared.contents.Rewrite.TheVariants.{Write, Cut}
 use Rattle.records.proofs.KindLaws.{file_stands, is_kind}
+use Rattle.records.proofs.SizeLaws.{write_costs}
 
 -- ---- lists of bytes
 
@@ -180,9 +181,14 @@ bars_rewriting inodes v n (Cut size) never = never
 -- ---- what it may store
 
 -- a change stores so many blocks more at the most, and two are left of what its record costs
-pub rewrite_within : (n : ℕ) (rewrite : Rewrite) (o : Option Object) (change : Change) → RewriteRoom rewrite o change
-    → (more : ℕ) × StoresIn o change more × ((v : Volume) → more + 2 ≤ cost (work_of v (rewriting n rewrite)))
-rewrite_within n (Write offset bytes) None change room = (0, tt, λ v. omega arith)
-rewrite_within n (Write offset bytes) (Some o) change room = (write_room o.file.size offset (length bytes.now), room, λ v. omega arith)
-rewrite_within n (Cut size) None change room = (0, tt, λ v. omega arith)
-rewrite_within n (Cut size) (Some o) change room = (size_room o.file.size size, room, λ v. omega arith)
+pub rewrite_within : (n : ℕ) (rewrite : Rewrite) (o : Option Object) (change : Change) (v : Volume) → IfSome o (λ x. x.file.size ≡ size_before v n) → RewriteRoom rewrite o change
+    → (more : ℕ) × StoresIn o change more × (more + 2 ≤ cost (work_of v (rewriting n rewrite)))
+rewrite_within n (Write offset bytes) None change v same room = (0, tt, omega (arith, write_costs (size_before v n) offset (length bytes.now)))
+rewrite_within n (Write offset bytes) (Some o) change v same room = (
+  write_room o.file.size offset (length bytes.now),
+  room,
+  subst (λ (size : ℕ). write_room size offset (length bytes.now) + 2 ≤ cost (work_of v (rewriting n (Write offset bytes)))) (sym same)
+      (write_costs (size_before v n) offset (length bytes.now)),
+)
+rewrite_within n (Cut size) None change v same room = (0, tt, omega arith)
+rewrite_within n (Cut size) (Some o) change v same room = (size_room o.file.size size, room, omega arith)

@@ -2,6 +2,7 @@ pub mod DetailLaws
 pub mod EnterLaws
 pub mod StandLaws
 pub mod KindLaws
+pub mod SizeLaws
 pub mod Looking
 pub mod ObstacleLaws
 pub mod Failures

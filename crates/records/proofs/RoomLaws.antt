@@ -9,7 +9,7 @@ use Rattle.model.specs.Records.{with_file_bytes, with_node_mode}
 use Rattle.model.specs.Volumes.{Node, Volume, directory_node, file_node, link_node, is_directory_node, is_file_node, is_nameless}
 use Rattle.dirs.specs.Room.{piece_count}
 use Rattle.dirs.specs.declared.edit.Edit.{Edit}
-use Rattle.inode.specs.Room.{file_room}
+use Rattle.inode.specs.Room.{edit_room, file_room}
 use Rattle.inode.specs.declared.change.Change.{Change}
 use Rattle.inode.specs.declared.object.Object.{Object}
 use Rattle.inofile.specs.Inodes.{loaded}
@@ -61,14 +61,14 @@ module _ (detail : Detail) (disk : ℕ → List ℕ) (inodes : ℕ) (settled : I
 
   -- a directory has other names
   pub names_room : (found : Option Node) (was after : Option Object) (edit : Edit) (k : ℕ) (f : NameMap → NameMap) → EditsIn disk inodes f found was edit → CountsObject was slot
-      → RaisesFile was after (2 * piece_count edit + 3) → UpdateRoom was (updates.Names edit) k → room_of (Some (Changed after)) base (with_node_names f found) ≤ room_of slot base found + k
+      → RaisesFile was after (edit_room (piece_count edit)) → UpdateRoom was (updates.Names edit) k → room_of (Some (Changed after)) base (with_node_names f found) ≤ room_of slot base found + k
   names_room found None after edit k f edits had raises room = absurd edits
   names_room found (Some o) after edit k f edits had raises room =
       subst (λ (x : Option Node). room_of (Some (Changed after)) base (with_node_names f x) ≤ room_of slot base x + k) (sym edits.stands)
       (omega (
         arith,
         room,
-        more (directory_node o.attributes.mode edits.names) (directory_node o.attributes.mode (f edits.names)) o after (2 * piece_count edit + 3) had raises (omega arith),
+        more (directory_node o.attributes.mode edits.names) (directory_node o.attributes.mode (f edits.names)) o after (edit_room (piece_count edit)) had raises (omega arith),
       ))
 
   -- a file or directory has another mode

@@ -1,7 +1,7 @@
 -- By how much updates and steps may raise what a consistency point may store.
-use Rattle.std.specs.Prelude.{ℕ, ◌≡◌, ◌+◌, ◌*◌, ◌≤◌, Option, Some, None, IfSome}
+use Rattle.std.specs.Prelude.{ℕ, ◌≡◌, ◌+◌, ◌≤◌, Option, Some, None, IfSome}
 use Rattle.dirs.specs.Room.{piece_count}
-use Rattle.inode.specs.Room.{StoresMore, file_room}
+use Rattle.inode.specs.Room.{StoresMore, edit_room, file_room}
 use Rattle.inode.specs.declared.change.Change.{Change}
 use Rattle.inode.specs.declared.object.Object.{Object}
 use Rattle.inofile.specs.Inodes.{loaded}
@@ -20,7 +20,7 @@ StoresIn o change k = IfSome o (λ x. StoresMore x.file change k)
 abbrev pub UpdateRoom : Option Object → Update → ℕ → Type 0
 UpdateRoom o (updates.Set None) k = 3 ≤ k
 UpdateRoom o (updates.Set (Some object)) k = 7 + file_room object.file ≤ k
-UpdateRoom o (updates.Names edit) k = 2 * piece_count edit + 5 ≤ k
+UpdateRoom o (updates.Names edit) k = edit_room (piece_count edit) + 2 ≤ k
 UpdateRoom o (updates.SetMode mode) k = 2 ≤ k
 UpdateRoom o (updates.Bytes change) k = (more : ℕ) × (more + 2 ≤ k) × StoresIn o change more
 UpdateRoom o (updates.Links links) k = 6 ≤ k

@@ -5,7 +5,7 @@ ghost use Rattle.layout.specs.declared.inode.Inode.{Inode};
 ghost use Rattle.model.specs.Edits.{resized, written};
 ghost use Rattle.model.specs.Records.{with_file_bytes};
 ghost use Rattle.model.specs.Volumes.{Node, is_file_node};
-ghost use Rattle.model.specs.declared.limits.TheConstants.{GREATEST_FILE};
+ghost use Rattle.model.specs.declared.limits.TheConstants.{GREATEST_FILE, TRANSFER_BYTES};
 ghost use Rattle.buffers.specs.Reads.{ReadsBlocks};
 ghost use Rattle.blocktree.specs.Errors.{IsFault};
 ghost use Rattle.images.specs.Edges.{EndsIn as IsEnd, IsPartlyWritten};
@@ -217,6 +217,7 @@ fn plan_write<B: Blocks>(
     bytes: &[u8],
 ) -> Result<Change, ReadError>
     requires some { 1 ≤ length bytes.now }
+    requires few { length bytes.now ≤ TRANSFER_BYTES }
     requires within { offset + length bytes.now ≤ GREATEST_FILE }
     ensures { PlansFile B.Blocks blocks.old blocks.new file.old file.new
         (written offset bytes.now) (write_room file.old.size offset (length bytes.now))

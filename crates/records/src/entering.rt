@@ -10,6 +10,7 @@ ghost use Rattle.blocktree.specs.Errors.{IsFault};
 ghost use Rattle.blocktree.specs.Trees.{IsSoundAt};
 ghost use Rattle.images.specs.Soundness.{Detail};
 ghost use Rattle.dirs.specs.Room.{piece_count};
+ghost use Rattle.inode.specs.Room.{edit_room};
 ghost use Rattle.inode.specs.declared.object.Object.{Object};
 ghost use Rattle.inofile.specs.Inodes.{loaded};
 ghost use Rattle.inofile.specs.Objects.{IsObjectOrNone, IsSameOrNone};
@@ -128,7 +129,7 @@ fn is_directory(object: &Option<Object>) -> bool
 /// Puts an edit of a directory in force.
 pub(crate) fn commit_edit(object: &mut Option<Object>, edit: Edit)
     requires { FitsObject object.old edit }
-    ensures room { RaisesFile object.old object.new (2 * piece_count edit + 3) }
+    ensures room { RaisesFile object.old object.new (edit_room (piece_count edit)) }
     ensures edits { (detail : Detail) (disk : ℕ → List ℕ) (inodes : ℕ) (settled : Inode)
         (found : Option Node) (f : NameMap → NameMap) → IsObjectOrNone detail disk inodes settled object.old found
         → EditsIn disk inodes f found object.old edit

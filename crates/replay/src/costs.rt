@@ -15,17 +15,20 @@ ghost use Rattle.replay.specs.declared.costs.TheConstants.{MOST_COST};
 
 use inofile::InodeFile;
 use layout::{BLOCK_BYTES, Kind, Record};
+use model::SINGLE_FILE;
 
 /// Blocks that a consistency point may store for a record that changes names.
 const NAMES_COST: u64 = 24;
 /// For one that changes a file's size, and for one that writes to a file, beside two for each block that it touches.
 const FILE_COST: u64 = 6;
+/// For one that writes to a file that is or becomes larger than `SINGLE_FILE`, likewise.
+const GREAT_FILE_COST: u64 = 8;
 /// For one that changes a mode.
 const MODE_COST: u64 = 2;
 /// Blocks that stay free behind a record that adds to the tree.
 const KEPT: u64 = 16;
-/// The most that it may store for one record: for 65,536 bytes, which touch 17 blocks of a file.
-pub const MOST_COST: u64 = 40;
+/// The most that it may store for one record: for 65,536 bytes, which touch 17 blocks of such a file.
+pub const MOST_COST: u64 = 42;
 
 /// How many bytes the file has that a record writes to or cuts, before it is put in force: the file is in memory then. Of any other
 /// record 0.
@@ -64,11 +67,10 @@ fn file_size(inodes: &InodeFile, number: u32) -> u64
     }
 }
 
-/// The most blocks that a consistency point stores for a record, over a file of this size. No record costs more over a greater file: the
-/// size stands here because what a record costs is promised of it.
-pub fn cost_of(logged: &Record<'_>, _size: u64) -> u64
+/// The most blocks that a consistency point stores for a record, over a file of this size.
+pub fn cost_of(logged: &Record<'_>, size: u64) -> u64
     requires { KeepsLimits (change_of logged.now) }
-    ensures cost { (v : Volume) → IsSizeBefore v (change_of logged.now) _size
+    ensures cost { (v : Volume) → IsSizeBefore v (change_of logged.now) size
         → result ≡ room.cost (work_of v (change_of logged.now)) }
     ensures few { result ≤ MOST_COST }
 {
@@ -77,9 +79,24 @@ pub fn cost_of(logged: &Record<'_>, _size: u64) -> u64
         | Record::Link { .. }
         | Record::Unname { .. }
         | Record::Rename { .. } => NAMES_COST,
-        Record::Write { offset, bytes, .. } => 2 * touched(*offset, bytes.len()) + FILE_COST,
+        Record::Write { offset, bytes, .. } => {
+            let end = offset.saturating_add(bytes.len() as u64);
+            2 * touched(*offset, bytes.len()) + beside(size.max(end))
+        }
         Record::Cut { .. } => FILE_COST,
         Record::ChangeMode { .. } => MODE_COST,
+    }
+}
+
+/// The most that a write stores beside two for each block that it touches, where the file has so many bytes before it or behind it.
+fn beside(size: u64) -> u64
+    ensures value { result ≡ room.beside size }
+    ensures few { result ≤ 8 }
+{
+    if size > SINGLE_FILE {
+        GREAT_FILE_COST
+    } else {
+        FILE_COST
     }
 }
 

@@ -10,3 +10,4 @@ mod sweeping;
 pub use costs::{MOST_COST, cost_of, keep_of, size_before};
 pub use replaying::replay_record;
 pub use saved::{Replayed, replay};
+pub use sweeping::{count_nameless, drop_nameless};

@@ -24,10 +24,7 @@ use records::is_nameless;
 use std::alloc::Global;
 
 /// How many files have no name. `Damaged` where an inode isn't in its grammar. No inode comes into memory by it.
-pub(crate) fn count_nameless<B: Blocks>(
-    inodes: &InodeFile,
-    blocks: &mut B,
-) -> Result<u32, ReadError>
+pub fn count_nameless<B: Blocks>(inodes: &InodeFile, blocks: &mut B) -> Result<u32, ReadError>
     ensures reads { ReadsBlocks B.Blocks IsFault blocks.old blocks.new result }
     ensures few { IfOk result (λ count. count ≤ MOST_INODES) }
     ensures counts { (detail : Detail) (disk : ℕ → List ℕ) (settled : ℕ → Inode) (v : Volume)
@@ -43,9 +40,9 @@ pub(crate) fn count_nameless<B: Blocks>(
     Ok(count)
 }
 
-/// Drops the files that have no name: no descriptor outlives a mount. `Damaged` where an inode isn't in its grammar. After an
-/// error it isn't known what memory stands for.
-pub(crate) fn drop_nameless<B: Blocks>(
+/// Drops the files that have no name, which no descriptor may be open for: none outlives a mount, and a snapshot has none. `Damaged`
+/// where an inode isn't in its grammar. After an error it isn't known what memory stands for.
+pub fn drop_nameless<B: Blocks>(
     alloc: Global,
     inodes: &mut InodeFile,
     blocks: &mut B,

@@ -10,7 +10,7 @@ from model import refuse
 from objects import Directory, Link
 from paths import find, resolve, test_link_text, test_new_text, test_text
 
-GREATEST_FILE = 67108864
+GREATEST_FILE = 68719476736
 MOST_BYTES = 65536
 MOST_LINKS = 1000
 MOST_NAMES = 65536

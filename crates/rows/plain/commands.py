@@ -10,9 +10,10 @@ NAMES = ['a', 'b', 'c', 'd', 'e']
 ODD_PATHS = ['%', 'a', '/a/', '//', '/', '/.', '/..', '/a/.', '/b/..', '/%00', '/a//b', '//a',
              '/' + 'n' * 256, '/' + 'l' * 255]
 SIZES = [0, 0, 1, 2, 3, 100, 127, 128, 129, 130, 200, 4095, 4096, 4097, 5000, 8191, 8192, 8193,
-         65535, 65536, 65537, 69632, 70000, 4194303, 4194304, 4194305, 67108863, 67108864]
+         65535, 65536, 65537, 69632, 70000, 4194303, 4194304, 4194305, 67108863, 67108864, 67108865,
+         71303168, 4294967295, 4294967296, 4299161600, 68719476735, 68719476736]
 SMALL_SIZES = SIZES[:18]
-ODD_SIZES = [-1, -2 ** 63, 67108865, 2 ** 62, 2 ** 63 - 1, 2 ** 63 - 1]
+ODD_SIZES = [-1, -2 ** 63, 68719476737, 2 ** 62, 2 ** 63 - 1, 2 ** 63 - 1]
 COUNTS = [0, 1, 3, 9, 200, 5000, 65537]
 TEXTS = ['a', '/b', '../c', 'd/e', '.', '..', '/', 'a/../b', '%', './' * 70 + 'b',
          '/' * 200 + 'c', 'x' * 256, 'a']
@@ -35,12 +36,13 @@ class Numbers(random.Random):
 
     Of three seeds one is for all commands alike, one for many names and open files, and one for
     many bytes, so that the log and the disk get full. Where there are to be snapshots, of six
-    commands one is on them.
+    commands one is on them. Before a snapshot is restored all open files are closed; so what is
+    wanted then stands in `wanted` until none is open.
     """
 
     def __init__(self, seed, has_snapshots=False):
         super().__init__(seed)
-        self.has_snapshots = has_snapshots
+        self.has_snapshots, self.wanted = has_snapshots, None
         self.names, self.weights, self.longest_run = NAMES, WEIGHTS, 90
         self.standing_part = 0.45
         self.is_full = seed % 3 == 2
@@ -161,7 +163,7 @@ def on_descriptor(numbers, system, name):
     return chosen
 
 
-SNAPSHOTS = ['s%d' % number for number in range(24)]
+SNAPSHOTS = ['s%d' % number for number in range(34)]
 ODD_NAMES = ['%', 'a/b', '%20', 'n' * 64, '.']
 
 
@@ -184,6 +186,8 @@ def on_snapshots(numbers, system):
         return 'snap delete ' + snapshot_name(numbers, system)
     if chance < 0.42:
         return 'snap list'
+    if chance < 0.52:
+        return restore(numbers, system)
     name = snapshot_name(numbers, system)
     view = system.copy()
     for kept in system.snapshots:
@@ -193,8 +197,28 @@ def on_snapshots(numbers, system):
     return 'in %s %s' % (name, on_path(numbers, view, call))
 
 
+def restore(numbers, system):
+    """The restoring of a snapshot: mostly behind the closing of all files that are open."""
+    line = 'snap restore ' + snapshot_name(numbers, system)
+    if any(system.descriptors) and numbers.random() < 0.8:
+        numbers.wanted = line
+        return towards_wanted(numbers, system)
+    return line
+
+
+def towards_wanted(numbers, system):
+    """The next command towards the one that is wanted."""
+    for number, opened in enumerate(system.descriptors):
+        if opened is not None:
+            return 'close %d' % number
+    line, numbers.wanted = numbers.wanted, None
+    return line
+
+
 def command(numbers, system):
     """Any command."""
+    if numbers.wanted is not None:
+        return towards_wanted(numbers, system)
     if numbers.has_snapshots and numbers.random() < 1 / 6:
         return on_snapshots(numbers, system)
     name = numbers.choices(list(numbers.weights), list(numbers.weights.values()))[0]

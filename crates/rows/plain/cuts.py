@@ -76,7 +76,7 @@ def told_of(left, reading):
 
 def shown_run(lines, replies):
     """The lines of a run with their replies."""
-    return ['  %s -> %s' % (line, shown(reply)) for line, reply in zip(lines, replies)]
+    return ['  %s -> %s' % (shown(bytes_of(line)), shown(reply)) for line, reply in zip(lines, replies)]
 
 
 def some_line(numbers, system):

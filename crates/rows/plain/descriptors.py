@@ -9,6 +9,8 @@ from objects import BLOCK, File
 from paths import resolve, test_text
 
 LAST_OFFSET = 2 ** 63 - 1
+# A file up to this size has one row of indirect blocks at the most.
+SINGLE_FILE = 67108864
 
 
 class Opened:
@@ -116,7 +118,8 @@ def put(system, number, offset, data):
     if end > GREATEST_FILE:
         refuse('EFBIG')
     touched = (end - 1) // BLOCK - offset // BLOCK + 1
-    system.log(17 + len(data), 2 * touched + 6, 16)
+    more = 8 if max(end, system.volume[number].size) > SINGLE_FILE else 6
+    system.log(17 + len(data), 2 * touched + more, 16)
     system.volume[number].write(offset, data)
     system.touch(number)
 

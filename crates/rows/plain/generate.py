@@ -22,7 +22,8 @@ from model import ROOT, System
 from objects import BLOCK
 from calls import word_of
 from scripts import run, step
-from session_rows import bytes_of, difference, is_read, rows_of, shown
+from session_rows import bytes_of, difference, heads, is_read, rows_of, shown
+from version_1 import TITLE, lines_of, stored_of
 
 DATA = Path(__file__).resolve().parent.parent / 'data'
 HALF = 131072
@@ -32,20 +33,33 @@ LOSING_KEEPS = ['2', '021']
 # File, blocks, inodes, whether there are snapshots, what cuts keep, and the seed of each list. The
 # seeds are ones with refusals of many kinds.
 FILES = [
-    ('random_64.rows', 64, 32, False, KEEPS, [24, 87, 106, 152, 160, 164]),
-    ('random_128.rows', 128, 32, False, KEEPS, [53, 87, 106, 160, 207, 236]),
-    ('random_256.rows', 256, 64, False, KEEPS, [43, 87, 119, 160, 186, 260]),
-    ('random_snapshots.rows', 128, 32, True, KEEPS, [5, 20, 53, 65, 68, 77]),
-    ('random_unreadable.rows', 128, 32, True, LOSING_KEEPS, [3, 10, 23, 31, 40, 57]),
+    ('random_64.rows', 64, 32, False, KEEPS, [43, 47, 50, 101, 117, 128]),
+    ('random_128.rows', 128, 32, False, KEEPS, [17, 47, 59, 101, 122, 150]),
+    ('random_256.rows', 256, 64, False, KEEPS, [43, 45, 117, 122, 141, 149]),
+    ('random_snapshots.rows', 128, 32, True, KEEPS, [11, 14, 35, 47, 50, 56]),
+    ('random_unreadable.rows', 128, 32, True, LOSING_KEEPS, [3, 65, 83, 93, 116, 140]),
 ]
-# The seeds of the lists that are cut at each of their writes: in one a snapshot is taken while a point is under way, in the other one a
-# point ends by its slices, another one is planned, and a snapshot is deleted then.
-CUT_SEEDS = [13, 29]
+# The seeds of the lists that are cut at each of their writes: in one a snapshot is restored while a point is under way, in the other a
+# snapshot is deleted then.
+CUT_SEEDS = [83, 104]
+# The images of version 1 that lists go on from, and their seeds.
+VERSION_1_SEEDS = [
+    ('a directory, and a snapshot of it', 9),
+    ('files of each level, links, and a directory of two blocks', 44),
+    ('records in the log', 28),
+    ('snapshots of different trees, and a cut within a third one', 5),
+]
 HEAD = '''\
 # Commands made from fixed numbers, with the replies of a plain model in Python: see the folder
 # `plain`, which writes this file. How a row is written stands in the head of sessions.rows.
 # Each row is one list of commands over a new image, in several runs, half of which end with a
 # cut; the last run reads all that is left. A row's name ends with its seed.
+'''
+VERSION_1_HEAD = '''\
+# Commands made from fixed numbers, with the replies of a plain model in Python: see the folder
+# `plain`, which writes this file. How a row is written stands in the head of sessions.rows.
+# Each row is one list of commands over an image of version 1 (version_1.rows), in several runs, half
+# of which end with a cut; the last run reads all that is left. A row's name ends with its seed.
 '''
 CUT_HEAD = '''\
 # Commands made from fixed numbers, with the replies of a plain model in Python: see the folder
@@ -84,7 +98,7 @@ def some_run(numbers, system, keeps, length):
 
 def shown_lines(pairs, replies):
     """The lines of a run up to the last reply."""
-    return ['  %s -> %s' % (line, shown(reply)) for (line, _), reply in zip(pairs, replies)]
+    return ['  %s -> %s' % (shown(bytes_of(line)), shown(reply)) for (line, _), reply in zip(pairs, replies)]
 
 
 def reading(system):
@@ -117,16 +131,26 @@ def reading_tree(volume):
 
 
 def some_row(blocks, inodes, has_snapshots, keeps, seed):
-    """A row of as many commands as `LENGTH`, and then what reads all that is left."""
-    numbers = Numbers(seed, has_snapshots)
-    system = System(blocks, inodes, HALF)
-    lines = ['', 'row random %d' % seed, 'image %d %d %d' % (blocks, inodes, HALF)]
+    """A row of as many commands as `LENGTH` over a new image, and then what reads all that is left."""
+    made = ['', 'row random %d' % seed, 'image %d %d %d' % (blocks, inodes, HALF)]
+    return going_on(System(blocks, inodes, HALF), made, Numbers(seed, has_snapshots), keeps)
+
+
+def row_of_version_1(name, seed):
+    """The same over an image of version 1."""
+    made = ['', 'row %s%s, random %d' % (TITLE, name, seed)] + lines_of(name)
+    return going_on(stored_of(TITLE + name), made, Numbers(seed, True), LOSING_KEEPS + KEEPS)
+
+
+def going_on(system, made, numbers, keeps):
+    """The lines that make an image, then as many commands as `LENGTH`, and then what reads all that is left."""
+    lines = list(made)
     count = 0
     while count < LENGTH:
         length = min(LENGTH - count, numbers.randrange(5, numbers.longest_run))
         more, system = some_run(numbers, system, keeps, length)
-        lines += more + ['check -> ' + shown(system.checked())]
-        if keeps is LOSING_KEEPS:
+        lines += more + ['check -> ' + shown(system.checked())] + heads(system)
+        if not set(keeps).isdisjoint(LOSING_KEEPS):
             lines.append(' '.join(['slots ->'] + [str(sector) for sector in system.lost_slots()]))
         count += len(more) - 1
     mounted = system.copy()
@@ -144,6 +168,14 @@ def made_file(blocks, inodes, has_snapshots, keeps, seeds):
     return '\n'.join(lines) + '\n'
 
 
+def file_of_version_1():
+    """The text of a file with rows over images of version 1."""
+    lines = VERSION_1_HEAD.splitlines()
+    for name, seed in VERSION_1_SEEDS:
+        lines += row_of_version_1(name, seed)
+    return '\n'.join(lines) + '\n'
+
+
 def cut_file(seeds):
     """The text of a file with the cuts of a list for each seed."""
     lines = CUT_HEAD.splitlines()
@@ -154,7 +186,8 @@ def cut_file(seeds):
 
 def fixed_files():
     """The names and texts of the files that belong to the data."""
-    return [(name, made_file(*rest)) for name, *rest in FILES] + [('random_slices.rows', cut_file(CUT_SEEDS))]
+    others = [('random_version_1.rows', file_of_version_1()), ('random_slices.rows', cut_file(CUT_SEEDS))]
+    return [(name, made_file(*rest)) for name, *rest in FILES] + others
 
 
 def tell(name, text):

@@ -18,11 +18,13 @@ Every command tells how many device writes it makes, and what a cut within each 
 
 A cut may leave a sector that can't be read. Of all sectors only those of the two root slots are
 told apart here: the newest root stands in one, and the other one may be unreadable. A mount takes
-it for a slot without a root, and the next root goes there.
+it for a slot without a root, and the next root goes there. Each root has a version: a system over a
+root of version 1 is as any other, and its next root has the version that is written.
 """
 
 import copy
 
+from kept import Snapshot
 from objects import BLOCK, DIRECT, Directory
 from places import ENTRIES_OF_A_BLOCK, HEAD, is_of_map, places_to_come
 
@@ -32,9 +34,11 @@ DESCRIPTORS = 32
 INODES_OF_A_BLOCK = 21
 LOG_START = 9
 SLOTS = (0, 8)
+VERSION = 2
 SLICE = 8
+NUMBERS_OF_A_BLOCK = 8 * BLOCK
 OF_A_ROOT = ['costs', 'kept_nameless', 'is_changed', 'records', 'log_end', 'is_log_open', 'is_beyond',
-             'inode_blocks', 'changed_inodes', 'places', 'snapshots', 'free']
+             'inode_blocks', 'changed_inodes', 'numbers', 'places', 'snapshots', 'free']
 
 
 class Refusal(Exception):
@@ -61,13 +65,6 @@ class Step:
         self.after = after
 
 
-class Snapshot:
-    """A tree as it was taken, and the places of its blocks and of its root."""
-
-    def __init__(self, name, volume, places):
-        self.name, self.volume, self.places = name, volume, places
-
-
 class System:
     """A mounted file system."""
 
@@ -78,11 +75,13 @@ class System:
         self.log_end, self.is_log_open, self.is_beyond = LOG_START, False, False
         self.costs, self.kept_nameless, self.is_changed = 0, 0, False
         self.generation, self.records = 1, 0
-        self.inode_blocks, self.changed_inodes = {0}, set()
+        self.inode_blocks, self.changed_inodes, self.numbers = {0}, set(), None
         self.snapshots, self.places, self.free = [], {}, blocks - 2
         self.slot, self.is_other_lost = 0, False
+        self.roots = [(VERSION, 1), None]
         self.settled, self.left = None, 0
         self.places, _ = self.stored_places(range(0, blocks, ENTRIES_OF_A_BLOCK))
+        self.numbers = set(self.volume)
         self.free = self.free_blocks()
         self.begin_command()
 
@@ -94,6 +93,7 @@ class System:
         other.inode_blocks = set(self.inode_blocks)
         other.changed_inodes = set(self.changed_inodes)
         other.snapshots, other.places = list(self.snapshots), dict(self.places)
+        other.roots = list(self.roots)
         other.begin_command()
         return other
 
@@ -156,6 +156,13 @@ class System:
         size = rounded_up(self.inode_count, 8)
         return {('inode map', index) for index in range(rounded_up(size, BLOCK) if size > 128 else 0)}
 
+    def changed_map_blocks(self):
+        """Those of them that a point stores: where a number is taken or free that wasn't under the newest root."""
+        if self.numbers is None:
+            return self.inode_map_blocks()
+        changed = {('inode map', number // NUMBERS_OF_A_BLOCK) for number in self.numbers ^ set(self.volume)}
+        return changed & self.inode_map_blocks()
+
     def inode_file_blocks(self, indices):
         """These blocks of the inode file, and the indirect one over them."""
         indirect = rounded_up(self.inode_count, INODES_OF_A_BLOCK) > DIRECT
@@ -175,7 +182,7 @@ class System:
         """Blocks that a point stores, but for those of the block map."""
         inner = [(number, *block) for number, thing in self.volume.items()
                  for block in thing.changed_blocks()]
-        return set(inner) | self.inode_file_blocks(self.changed_inode_blocks()) | self.inode_map_blocks()
+        return set(inner) | self.inode_file_blocks(self.changed_inode_blocks()) | self.changed_map_blocks()
 
     def taken_places(self):
         """The places that the tree under the newest root and the snapshots have."""
@@ -185,12 +192,14 @@ class System:
         """How many places are free."""
         return self.block_count - 2 - len(self.taken_places())
 
-    def stored_places(self, entries, heads=()):
+    def stored_places(self, entries, heads=(), taken=None):
         """The places of all blocks behind a point that also changes these entries of the block map.
 
-        And how many blocks it writes, the root blocks of snapshots (`heads`) among them.
+        And how many blocks it writes, the root blocks of snapshots (`heads`) among them. Of `taken`
+        places none is given out; they are those under the newest root.
         """
-        taken, blocks, changed = self.taken_places(), self.blocks(), self.changed_blocks()
+        taken = self.taken_places() if taken is None else taken
+        blocks, changed = self.blocks(), self.changed_blocks()
         free = [place for place in range(2, self.block_count) if place not in taken]
         gone = [block for block in self.places
                 if not is_of_map(block) and (block not in blocks or block in changed)]
@@ -207,9 +216,7 @@ class System:
 
     def take(self, name):
         """Keeps the tree under the newest root, which holds all, as a snapshot."""
-        volume = {number: thing for number, thing in self.copy().volume.items()
-                  if thing.kind != 'file' or self.links(number) > 0}
-        kept = Snapshot(name, volume, set(self.places.values()))
+        kept = Snapshot(name, self)
         self.plan(range(0, self.block_count, ENTRIES_OF_A_BLOCK), [HEAD])
         kept.places.add(self.places.pop(HEAD))
         self.snapshots = self.snapshots + [kept]
@@ -222,14 +229,28 @@ class System:
         self.snapshots = [kept for kept in self.snapshots if kept is not snapshot]
         self.finish()
 
-    def plan(self, entries=(), heads=()):
+    def restore(self, snapshot):
+        """Goes back to the tree of a snapshot, but for its files without a name, from the newest root, which has all.
+
+        Its blocks stay where they are, and none of the blocks of the tree before is written over.
+        """
+        before, taken = self.copy(), self.taken_places()
+        self.volume = {number: thing.copy() for number, thing in snapshot.whole.items()}
+        self.places, self.inode_blocks, self.numbers = dict(snapshot.tree), set(snapshot.inode_blocks), snapshot.numbers
+        for number in snapshot.nameless:
+            self.drop(number)
+        self.plan(range(0, self.block_count, ENTRIES_OF_A_BLOCK), taken=taken)
+        self.finish()
+        self.steps[-1].before = before
+
+    def plan(self, entries=(), heads=(), taken=None):
         """Plans a point of all that changed, and goes over to the root to come."""
         self.settled = {name: getattr(self, name) for name in OF_A_ROOT}
-        self.places, self.left = self.stored_places(entries, heads)
+        self.places, self.left = self.stored_places(entries, heads, taken)
         assert self.left <= self.free, 'a point has no room'
         self.next_generation = self.generation + (2 if self.is_beyond else 1)
         self.inode_blocks = self.inode_blocks | self.changed_inode_blocks()
-        self.changed_inodes = set()
+        self.changed_inodes, self.numbers = set(), set(self.volume)
         for thing in self.volume.values():
             thing.plan()
         self.kept_nameless = len(self.nameless())
@@ -256,6 +277,7 @@ class System:
         self.free = self.free_blocks()
         self.generation = self.next_generation
         self.slot, self.is_other_lost = 1 - self.slot, False
+        self.roots[self.slot] = (VERSION, self.generation)
         self.steps.append(Step('root', self.writes, before, self.copy()))
 
     def give_up(self):
@@ -265,7 +287,7 @@ class System:
         settled = self.settled
         for name in ('costs', 'records'):
             setattr(self, name, settled[name] + getattr(self, name))
-        for name in ('kept_nameless', 'inode_blocks', 'places', 'snapshots', 'free'):
+        for name in ('kept_nameless', 'inode_blocks', 'numbers', 'places', 'snapshots', 'free'):
             setattr(self, name, settled[name])
         self.changed_inodes |= settled['changed_inodes']
         self.is_changed |= settled['is_changed']
@@ -337,6 +359,13 @@ class System:
         """What a check says of it."""
         figures = (self.generation, len(self.snapshots), self.records, self.free)
         return b'ok generation %d snapshots %d records %d free %d' % figures
+
+    def head_of_root(self, slot):
+        """The first bytes of the root in a slot: its magic, version and generation. None where it has none that can be read."""
+        if self.roots[slot] is None or self.is_other_lost and slot != self.slot:
+            return None
+        version, generation = self.roots[slot]
+        return b'WAFLROOT' + version.to_bytes(4, 'little') + generation.to_bytes(8, 'little')
 
     def lost_slots(self):
         """The sectors of root slots that can't be read."""

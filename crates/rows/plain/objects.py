@@ -15,15 +15,41 @@ INLINE = 128
 
 
 def level(size):
-    """0: bytes in the inode itself; 1: direct pointers; 2: pointers in indirect blocks."""
-    if size <= INLINE:
-        return 0
-    return 1 if size <= DIRECT * BLOCK else 2
+    """How many steps lead from an inode to a block: none where the bytes stand in the inode, and more with each row of indirect blocks."""
+    steps = 0 if size <= INLINE else 1
+    while size > DIRECT * BLOCK * POINTERS ** (steps - 1) and steps > 0:
+        steps += 1
+    return steps
+
+
+def over(indices, height):
+    """The indirect blocks at this height that lead to these blocks, by their indices."""
+    return {index // POINTERS ** height for index in indices}
+
+
+def indirect_blocks(stored, steps):
+    """The indirect blocks that have a pointer, by height and index."""
+    return {(height, index) for height in range(1, steps) for index in over(stored, height)}
 
 
 def blocks_of(data, indirect):
     """Blocks of data and indirect ones, by their indices."""
     return {('data', index) for index in data} | {('indirect', index) for index in indirect}
+
+
+class Stored:
+    """Which blocks of an object the newest root has, or the one to come, and how many steps lead to them."""
+
+    def __init__(self, indices=(), steps=0):
+        self.indices, self.steps = frozenset(indices), steps
+
+    def stores_anew(self, stored, steps, changed):
+        """What a point stores over these of an object that has so much: an indirect block stays where no pointer of it has changed."""
+        changed = stored & changed
+        moved = changed | stored ^ self.indices
+        indirect = {(height, index) for height, index in indirect_blocks(stored, steps)
+                    if height >= self.steps or index in over(moved, height)}
+        return blocks_of(changed, indirect)
 
 
 class File:
@@ -37,8 +63,7 @@ class File:
         self.data = {}
         self.stored = set()
         self.changed = set()
-        self.changed_indirect = set()
-        self.planned = (set(), set())
+        self.base, self.planned = Stored(), None
 
     def copy(self):
         """An object of its own with the same contents."""
@@ -46,7 +71,6 @@ class File:
         other.data = dict(self.data)
         other.stored = set(self.stored)
         other.changed = set(self.changed)
-        other.changed_indirect = set(self.changed_indirect)
         return other
 
     def read(self, offset, count):
@@ -66,8 +90,6 @@ class File:
         if level(size) > 0 and level(self.size) == 0 and self.size > 0:
             self.stored.add(0)
             self.changed.add(0)
-        if level(size) == 2 and level(self.size) < 2 and self.stored:
-            self.changed_indirect.add(0)
         self.size = max(self.size, size)
 
     def write(self, offset, data):
@@ -82,7 +104,6 @@ class File:
             if level(self.size) > 0:
                 self.stored.add(index)
                 self.changed.add(index)
-                self.changed_indirect.add(index // POINTERS)
             data = data[len(part):]
             offset += len(part)
 
@@ -97,7 +118,6 @@ class File:
         self.clear_behind(size)
         gone = {index for index in self.stored if index >= end or level(size) == 0}
         self.stored -= gone
-        self.changed_indirect |= {index // POINTERS for index in gone}
         self.size = size
 
     def clear_behind(self, size):
@@ -107,31 +127,25 @@ class File:
             self.data[last] = self.data[last][:kept] + bytes(BLOCK - kept)
             if last in self.stored:
                 self.changed.add(last)
-                self.changed_indirect.add(last // POINTERS)
-
-    def indirect(self):
-        """The indirect blocks that have a pointer."""
-        if level(self.size) < 2:
-            return set()
-        return {index // POINTERS for index in self.stored}
 
     def blocks(self):
-        return blocks_of(self.stored, self.indirect())
+        return blocks_of(self.stored, indirect_blocks(self.stored, level(self.size)))
 
     def changed_blocks(self):
-        return blocks_of(self.changed & self.stored, self.indirect() & self.changed_indirect)
+        return self.base.stores_anew(self.stored, level(self.size), self.changed)
 
     def plan(self):
-        self.planned = (self.changed, self.changed_indirect)
-        self.changed, self.changed_indirect = set(), set()
+        self.planned = (self.changed, self.base)
+        self.changed, self.base = set(), Stored(self.stored, level(self.size))
 
     def settle(self):
-        self.planned = (set(), set())
+        self.planned = None
 
     def give_up(self):
-        self.changed |= self.planned[0]
-        self.changed_indirect |= self.planned[1]
-        self.settle()
+        if self.planned is not None:
+            changed, self.base = self.planned
+            self.changed |= changed
+            self.settle()
 
 
 class Directory:
@@ -144,7 +158,7 @@ class Directory:
         self.names = {}
         self.records = []
         self.changed = set()
-        self.planned = set()
+        self.base, self.planned = Stored(), None
 
     def copy(self):
         """An object of its own with the same contents."""
@@ -175,22 +189,29 @@ class Directory:
         while self.records and not self.records[-1]:
             self.records.pop()
 
+    def stored(self):
+        """Its blocks, and how many steps lead to them."""
+        return set(range(len(self.records))), level(BLOCK * len(self.records))
+
     def blocks(self):
-        return blocks_of(range(len(self.records)), {0} if len(self.records) > DIRECT else {})
+        stored, steps = self.stored()
+        return blocks_of(stored, indirect_blocks(stored, steps))
 
     def changed_blocks(self):
-        stored = [index for index in self.changed if index < len(self.records)]
-        return blocks_of(stored, {0} if len(self.records) > DIRECT and self.changed else {})
+        return self.base.stores_anew(*self.stored(), self.changed)
 
     def plan(self):
-        self.planned, self.changed = self.changed, set()
+        self.planned = (self.changed, self.base)
+        self.changed, self.base = set(), Stored(*self.stored())
 
     def settle(self):
-        self.planned = set()
+        self.planned = None
 
     def give_up(self):
-        self.changed |= self.planned
-        self.settle()
+        if self.planned is not None:
+            changed, self.base = self.planned
+            self.changed |= changed
+            self.settle()
 
 
 class Link:

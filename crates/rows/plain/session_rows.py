@@ -5,6 +5,7 @@ import re
 
 from model import System
 from scripts import run
+from version_1 import is_put, stored_of
 
 UNREAD = ('fail', 'fail-sync')
 
@@ -58,7 +59,10 @@ def rows_of(text):
 
 def is_read(row):
     """Whether the model can read a row: sessions and checks, and no failures or changed bytes."""
+    stored = stored_of(row[0])
     for line in row[1:]:
+        if stored is not None and is_put(line):
+            continue
         if line.startswith('  ') or line.startswith('image ') or line == 'unchanged':
             continue
         if line.split()[0] == 'run' and not set(UNREAD) & {name for name, _ in words_of_run(line)}:
@@ -67,6 +71,21 @@ def is_read(row):
             continue
         return False
     return True
+
+
+def holds(system, line):
+    """Whether a line that begins a slot agrees with the root that the model has there; one that doesn't says nothing."""
+    found = re.match('disk holds (0|4096) (57[0-9a-f]{14,})', line)
+    if found is None:
+        return True
+    head, told = system.head_of_root(int(found[1]) // 4096), bytes.fromhex(found[2])
+    return head is not None and (head.startswith(told) or told.startswith(head))
+
+
+def heads(system):
+    """Lines of what the slots of the roots begin with, where that can be read."""
+    told = [(4096 * slot, system.head_of_root(slot)) for slot in (0, 1)]
+    return ['disk holds %d %s' % (at, head.hex()) for at, head in told if head is not None]
 
 
 def choices_of(row):
@@ -89,13 +108,15 @@ def difference_of_choice(row, choice):
     system = None
     for index, line in enumerate(row):
         if line.startswith('image '):
-            system = System(*[int(word) for word in line.split()[1:]])
+            system = stored_of(row[0]) or System(*[int(word) for word in line.split()[1:]])
         if line.startswith('check -> ') and index > 0:
             if not is_one_of(system.checked(), line.removeprefix('check -> ')):
                 return 'check: the model answers %s' % shown(system.checked())
         if line.startswith('slots ->') and index > 0:
             if line.split()[2:] != [str(sector) for sector in system.lost_slots()]:
                 return '%s: the model answers %s' % (line, system.lost_slots())
+        if index > 0 and not holds(system, line):
+            return '%s: the model has others' % line
         if line.split()[0] != 'run' or index == 0:
             continue
         options = {name: choice.pop(0) for name, _ in words_of_run(line)}

@@ -5,18 +5,20 @@ import re
 import calls
 from model import DESCRIPTORS, refuse
 
-MOST_SNAPSHOTS = 20
+MOST_SNAPSHOTS = 30
 READING = {b'list': calls.list_names, b'stat': calls.stat, b'lstat': calls.stat,
            b'readlink': calls.readlink, b'get': calls.get}
 
 
 def snap(system, words):
-    """`snap take`, `snap delete` and `snap list`."""
+    """`snap take`, `snap delete`, `snap restore` and `snap list`."""
     if words[1] == b'list':
         return b' '.join([b'snaps'] + [calls.word_of(kept.name) for kept in system.snapshots])
     name = calls.text_of(words[2])
     if words[1] == b'take':
         take(system, name)
+    elif words[1] == b'restore':
+        restore(system, named(system, name))
     else:
         system.delete(named(system, name))
     return b'ok'
@@ -30,12 +32,23 @@ def take(system, name):
         refuse('SNAPEXISTS')
     if len(system.snapshots) >= MOST_SNAPSHOTS:
         refuse('SNAPFULL')
-    if not system.has_room(system.fixed() + 1):
-        system.point()
-        if not system.has_room(system.fixed() + 1):
-            refuse('ENOSPC')
-    system.point()
+    settle_with_room(system, 0)
     system.take(name)
+
+
+def restore(system, kept):
+    """Goes back to the tree of a snapshot, where no file is open."""
+    if system.descriptors != [None] * DESCRIPTORS:
+        refuse('EBUSY')
+    settle_with_room(system, len(kept.nameless))
+    system.restore(kept)
+
+
+def settle_with_room(system, dropped):
+    """Puts all under the newest root, where there is room for the point behind that, which drops so many files."""
+    asked = system.fixed() + 1 + 4 * dropped
+    system.make_room(asked)
+    system.point()
 
 
 def named(system, name):

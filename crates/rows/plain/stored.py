@@ -1,9 +1,9 @@
 """Makes `version_1.rows`: images that a program made which wrote roots of version 1, as rows that put them and say what opens.
 
-    python3 stored.py WAFL > version_1.rows
-
-WAFL has to be a program whose `make` and consistency points write version 1: the last state of the sources before version 2. The file
-is kept as it is, since no later program makes such an image.
+    python3 stored.py WAFL      makes them anew. WAFL has to be a program whose `make` and consistency points write version 1: the
+                                last state of the sources before version 2
+    python3 stored.py           keeps their bytes, which no later program makes, and tells the rest anew: what a mount shows, and what
+                                comes of commands over them, which is the model's answer
 """
 import os
 import re
@@ -11,54 +11,16 @@ import subprocess
 import sys
 import tempfile
 
+from scripts import run as run_model
+from session_rows import heads, shown
+from version_1 import CUTS, DATA, IMAGES, TITLE, image_of, lines_of, stored_of
+
 HEAD = """\
 # Images of version 1: a root with 20 slots for snapshots, trees of at most 64 MiB a file. A program made them that wrote this version;
-# what each has of bytes that aren't zero is put over zeros. The commands that it was made by stand behind its name.
+# what each has of bytes that aren't zero is put over zeros. The commands that it was made by stand behind its name. They are read as
+# they are, and nothing is written to one whose newest root has all; the first consistency point over one writes a root of version 2,
+# and what only that version allows is allowed at once.
 """
-
-# name, sizes, the scripts of the runs that make it (commands, and options of `run`), bytes put afterwards, and what a row looks at.
-IMAGES = [
-    ("a directory, and a snapshot of it", (64, 32, 131072), [(["mkdir /a", "snap take s1"], [])], [],
-     ["list /", "snap list", "in s1 list /", "df"]),
-    ("twenty snapshots", (128, 32, 131072), [([f"snap take n{k}" for k in range(1, 21)], [])], [],
-     ["df", "snap list", "in n20 list /", "snap take n1"]),
-    ("a file of 64 MiB with blocks at both ends of its levels", (128, 32, 131072),
-     [(["open /f rwc", "pwrite 0 0 61", "pwrite 0 4190207 62", "pwrite 0 4194304 63", "pwrite 0 67108863 64", "sync",
-        "snap take s1", "pwrite 0 8388608 65", "sync"], [])], [],
-     ["stat /f", "get /f 0 1", "get /f 4190207 1", "get /f 4194304 1", "get /f 8388608 1", "get /f 67108863 2",
-      "in s1 get /f 8388608 1", "in s1 get /f 67108863 1", "df"]),
-    ("files of each level, links, and a directory of two blocks", (128, 64, 131072),
-     [(["open /inline rwc", "write 0 696e", "close 0", "open /one rwc", "pwrite 0 65535 31", "close 0",
-        "open /over rwc", "pwrite 0 65536 32", "close 0", "open /two rwc", "pwrite 0 4194304 33", "close 0",
-        "symlink /over /s", "link /one /o", "mkdir /d", "mkdir /d/e"]
-       + [f"link /one /d/{'x' * 250}{k:02}" for k in range(16)] + ["chmod /two 0600", "sync"], [])], [],
-     ["list /", "stat /inline", "stat /one", "stat /over", "stat /two", "stat /d", "lstat /s", "get /inline 0 9", "get /o 65534 9",
-      "get /s 65535 9", "get /two 4194303 9", "list /d/e", "df"]),
-    ("both roots, of which the older one has more in it", (64, 32, 131072),
-     [(["mkdir /a", "mkdir /a/b", "open /f rwc", "pwrite 0 65536 66", "sync", "rmdir /a/b", "rmdir /a", "unlink /f", "close 0",
-        "sync"], [])], [],
-     ["list /", "df"]),
-    ("records in the log", (64, 32, 131072),
-     [(["mkdir /a", "sync", "open /f rwc", "pwrite 0 67108863 66", "mkdir /b", "rename /a /b/c", "ftruncate 0 65536"], [])], [],
-     ["list /", "list /b", "stat /f", "df"]),
-    ("a write in the log that ends past 64 MiB, which only a later version allows", (64, 32, 131072),
-     [(["open /f rwc", "pwrite 0 67108863 66"], [])], [("0504000000ffffff03", "050400000000000004")],
-     ["stat /f"]),
-    ("a cut in the log to a size past 64 MiB, which only a later version allows", (64, 32, 131072),
-     [(["open /f rwc", "ftruncate 0 67108863"], [])], [("0604000000ffffff03", "060400000001000004")],
-     ["stat /f"]),
-    ("a file without a name, and records in the log", (64, 32, 131072),
-     [(["open /f rwc", "pwrite 0 65536 66", "unlink /f", "sync", "mkdir /a"], [])], [],
-     ["list /", "df"]),
-    ("a consistency point under way, with records of both epochs", (256, 32, 131072),
-     [(["mkdir /a", "open /f rwc"] + [f"pwrite 0 {65536 * k} {'00' * 61439}66" for k in range(2)]
-       + ["pwrite 0 131072 " + "00" * 2000, "mkdir /b", "mkdir /c"], [])], [],
-     ["list /", "stat /f", "get /f 61438 4", "df"]),
-    ("snapshots of different trees, and a cut within a third one", (128, 32, 131072),
-     [(["mkdir /a", "snap take s1", "open /f rwc", "pwrite 0 4194304 66", "snap take s2", "rmdir /a"], []),
-      (["snap take s3"], ["--cut", "8", "--keep", "none"])], [],
-     ["list /", "snap list", "in s1 list /", "in s2 list /", "in s2 get /f 4194304 1", "df"]),
-]
 
 
 def run(wafl, folder, script, options):
@@ -93,31 +55,64 @@ def put(word, data):
             yield f"{word} at {at + start} {part[start:start + 1024].hex()}"
 
 
-def lines_of(wafl, image):
-    """The row of an image."""
-    name, (blocks, inodes, half), scripts, patches, looks = image
+def made(wafl, image):
+    """The lines that put an image, made by a program."""
     with tempfile.TemporaryDirectory() as folder:
+        blocks, inodes, half = image.sizes
         sizes = ["--blocks", str(blocks), "--inodes", str(inodes), "--half", str(half)]
         subprocess.run([wafl, "make", "disk", "nvram", *sizes], cwd=folder, check=True, capture_output=True)
-        yield f"row an image of version 1: {name}"
-        for script, options in scripts:
+        for script, options in image.scripts:
             replies, status = run(wafl, folder, script, options)
-            assert status in (0, 3) and not any(reply.startswith("err") for reply in replies), (name, replies)
-            yield from comment(script, options)
+            assert status in (0, 3) and not any(reply.startswith("err") for reply in replies), (image.name, replies)
         yield f"image {blocks} {inodes} {half}"
         for word in ("disk", "nvram"):
             with open(os.path.join(folder, word), "rb") as file:
                 yield from put(word, file.read())
-        if patches:
-            yield from patched(folder, patches)
-            yield from ("run", "status 4", "says ~wafl: mount DAMAGED")
-            return
-        checked = subprocess.run([wafl, "check", "disk", "nvram"], cwd=folder, capture_output=True, text=True, check=True)
-        yield f"check -> {checked.stdout.strip()}"
-        replies, _ = run(wafl, folder, looks, [])
-        yield "run"
-        for look, reply in zip(looks, replies, strict=True):
-            yield f"  {look} -> {reply}"
+        yield from patched(folder, image.patches)
+
+
+def row_of(image, lines):
+    """The row of an image: what puts it, what it shows, and what comes of commands over it."""
+    yield f"row {TITLE}{image.name}"
+    for script, options in image.scripts:
+        yield from comment(script, options)
+    yield from lines
+    system = stored_of(TITLE + image.name)
+    yield "check -> " + shown(system.checked())
+    looks, _ = told(system, image.looks)
+    yield from ["run", *looks, "unchanged"]
+    mounted = system.copy()
+    mounted.mount()
+    if mounted.is_covered():
+        yield from ["run", "  sync -> ok", "unchanged"]
+    for script in image.then:
+        lines, system = told(system, script)
+        yield from ["run", *lines, "check -> " + shown(system.checked()), *heads(system)]
+
+
+def rows_of_cuts(lines, name, cuts, script):
+    """The rows of a run over an image that is cut: what opens then, and what comes of a further point."""
+    for words in cuts:
+        yield ""
+        yield f"row {TITLE}{name}, {'; '.join(script)}, {words}"
+        yield from lines
+        options = dict(word.split("=") for word in words.split())
+        cut = int(options["cut"].split("..")[0])
+        keep, kept_bytes = options.get("keep", "none").split(",")[0], int(options.get("bytes", 0))
+        replies, left = run_model(stored_of(TITLE + name), [line.encode() for line in script], cut, keep, kept_bytes)
+        yield f"run {words}"
+        yield from (f"  {line} -> {shown(reply)}" for line, reply in zip(script, replies))
+        yield from ["check -> " + shown(left.checked()), *heads(left)]
+        looks, _ = told(left, image_of(TITLE + name).looks)
+        yield from ["run", *looks, "unchanged"]
+        then, last = told(left, ["mkdir /then", "sync", "snap list", "df"])
+        yield from ["run", *then, "check -> " + shown(last.checked()), *heads(last)]
+
+
+def told(system, script):
+    """The lines of a run with the model's replies, and what it leaves."""
+    replies, left = run_model(system, [line.encode() for line in script])
+    return [f"  {line} -> {shown(reply)}" for line, reply in zip(script, replies)], left
 
 
 def patched(folder, patches):
@@ -153,9 +148,11 @@ def short(line):
 
 
 def main():
-    wafl = os.path.abspath(sys.argv[1])
-    print(HEAD)
-    print("\n\n".join("\n".join(lines_of(wafl, image)) for image in IMAGES))
+    wafl = os.path.abspath(sys.argv[1]) if len(sys.argv) > 1 else None
+    lines = {image.name: list(made(wafl, image)) if wafl else lines_of(image.name) for image in IMAGES}
+    rows = ["\n".join(row_of(image, lines[image.name])) for image in IMAGES]
+    cuts = ["\n".join(rows_of_cuts(lines[name], name, *rest)) for name, *rest in CUTS]
+    (DATA / "version_1.rows").write_text(HEAD + "\n" + "\n\n".join(rows) + "\n" + "\n".join(cuts) + "\n")
 
 
 if __name__ == "__main__":

@@ -156,11 +156,12 @@ is_file verb.Sync a b c d e f = absurd (e refl)
 is_file verb.Df a b c d e f = absurd (f refl)
 is_file v a b c d e f = refl
 
-pub not_snapping : (v : Verb) → v ≢ verb.Take → v ≢ verb.Delete → v ≢ verb.List → Values (snap_form v) → ⊥
-not_snapping verb.Take a b c vs = a refl
-not_snapping verb.Delete a b c vs = b refl
-not_snapping verb.List a b c vs = c refl
-not_snapping v a b c vs = vs
+pub not_snapping : (v : Verb) → v ≢ verb.Take → v ≢ verb.Delete → v ≢ verb.Restore → v ≢ verb.List → Values (snap_form v) → ⊥
+not_snapping verb.Take a b c d vs = a refl
+not_snapping verb.Delete a b c d vs = b refl
+not_snapping verb.Restore a b c d vs = c refl
+not_snapping verb.List a b c d vs = d refl
+not_snapping v a b c d vs = vs
 
 -- what is read by the last case of a form is read by the form
 pub change_read : (v : Verb) (words : List (List ℕ)) (r : Result PathCall ScriptError) → v ≢ verb.List → v ≢ verb.Stat → v ≢ verb.Lstat → v ≢ verb.Readlink → v ≢ verb.Get

@@ -170,6 +170,7 @@ verb_is_word verb.Df = letters_are_word (codes "df") refl
 verb_is_word verb.Snap = letters_are_word (codes "snap") refl
 verb_is_word verb.Take = letters_are_word (codes "take") refl
 verb_is_word verb.Delete = letters_are_word (codes "delete") refl
+verb_is_word verb.Restore = letters_are_word (codes "restore") refl
 verb_is_word verb.In = letters_are_word (codes "in") refl
 
 call_has_words : (c : PathCall) → IsPathCallInForm c → AreWords (call_words c)

@@ -298,6 +298,7 @@ plain_command v vs = absurd vs
 snap_command : (v : Verb) → Values (snap_form v) → Command
 snap_command verb.Take (name, _) = command.SnapTake name
 snap_command verb.Delete (name, _) = command.SnapDelete name
+snap_command verb.Restore (name, _) = command.SnapRestore name
 snap_command verb.List _ = command.SnapList
 snap_command v vs = absurd vs
 
@@ -324,6 +325,7 @@ command_of_spelling command.Sync = refl
 command_of_spelling command.Df = refl
 command_of_spelling (command.SnapTake name) = refl
 command_of_spelling (command.SnapDelete name) = refl
+command_of_spelling (command.SnapRestore name) = refl
 command_of_spelling command.SnapList = refl
 command_of_spelling (command.Within name c) = refl
 

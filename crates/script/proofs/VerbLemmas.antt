@@ -6,7 +6,7 @@ use Rattle.script.specs.declared.verb.Verb.{Verb}
 use Rattle.script.specs.declared.verb.Verb.TheVariants as verb
 
 abbrev pub all_verbs : List Verb
-all_verbs = verb.List ∷ verb.Stat ∷ verb.Lstat ∷ verb.Readlink ∷ verb.Get ∷ verb.Mkdir ∷ verb.Rmdir ∷ verb.Unlink ∷ verb.Link ∷ verb.Symlink ∷ verb.Rename ∷ verb.Chmod ∷ verb.Truncate ∷ verb.Open ∷ verb.Close ∷ verb.Read ∷ verb.Write ∷ verb.Pread ∷ verb.Pwrite ∷ verb.Lseek ∷ verb.Ftruncate ∷ verb.Fstat ∷ verb.Fsync ∷ verb.Sync ∷ verb.Df ∷ verb.Snap ∷ verb.Take ∷ verb.Delete ∷ verb.In ∷ []
+all_verbs = verb.List ∷ verb.Stat ∷ verb.Lstat ∷ verb.Readlink ∷ verb.Get ∷ verb.Mkdir ∷ verb.Rmdir ∷ verb.Unlink ∷ verb.Link ∷ verb.Symlink ∷ verb.Rename ∷ verb.Chmod ∷ verb.Truncate ∷ verb.Open ∷ verb.Close ∷ verb.Read ∷ verb.Write ∷ verb.Pread ∷ verb.Pwrite ∷ verb.Lseek ∷ verb.Ftruncate ∷ verb.Fstat ∷ verb.Fsync ∷ verb.Sync ∷ verb.Df ∷ verb.Snap ∷ verb.Take ∷ verb.Delete ∷ verb.Restore ∷ verb.In ∷ []
 
 -- a word that names none of all verbs names no verb
 pub none_named : (word : List ℕ) → All (λ v. word ≡ verb_name v → ⊥) all_verbs → (v : Verb) → word ≡ verb_name v → ⊥
@@ -38,7 +38,8 @@ none_named word none verb.Df = none 24 verb.Df (lit< tt)
 none_named word none verb.Snap = none 25 verb.Snap (lit< tt)
 none_named word none verb.Take = none 26 verb.Take (lit< tt)
 none_named word none verb.Delete = none 27 verb.Delete (lit< tt)
-none_named word none verb.In = none 28 verb.In (lit< tt)
+none_named word none verb.Restore = none 28 verb.Restore (lit< tt)
+none_named word none verb.In = none 29 verb.In (lit< tt)
 
 pub no_verb : (r : Option Verb) (word : List ℕ) → IfNone r (All (λ v. word ≡ verb_name v → ⊥) all_verbs) → IfNone r ((v : Verb) → word ≡ verb_name v → ⊥)
 no_verb None word none = none_named word none
@@ -77,6 +78,7 @@ named verb.Df = refl
 named verb.Snap = refl
 named verb.Take = refl
 named verb.Delete = refl
+named verb.Restore = refl
 named verb.In = refl
 
 -- a word names one verb at most

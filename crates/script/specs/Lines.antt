@@ -67,6 +67,7 @@ spelling_of command.Sync = plain verb.Sync tt
 spelling_of command.Df = plain verb.Df tt
 spelling_of (command.SnapTake name) = snap verb.Take (name, tt)
 spelling_of (command.SnapDelete name) = snap verb.Delete (name, tt)
+spelling_of (command.SnapRestore name) = snap verb.Restore (name, tt)
 spelling_of command.SnapList = snap verb.List tt
 spelling_of (command.Within name call) = within name call
 

@@ -34,6 +34,7 @@ verb_name verb.Df = codes "df"
 verb_name verb.Snap = codes "snap"
 verb_name verb.Take = codes "take"
 verb_name verb.Delete = codes "delete"
+verb_name verb.Restore = codes "restore"
 verb_name verb.In = codes "in"
 
 -- a call that names a path begins with it
@@ -98,5 +99,6 @@ command_form v = file_form v
 abbrev pub snap_form : Verb → Form
 snap_form verb.Take = field form.text end
 snap_form verb.Delete = field form.text end
+snap_form verb.Restore = field form.text end
 snap_form verb.List = end
 snap_form v = none

@@ -83,6 +83,10 @@ fn read_snapping(alloc: Global, verb: Verb, words: &[&[u8]]) -> Result<Command, 
             let Then(name, End) = Fields::read(alloc, words)?;
             Ok(Command::SnapDelete { name })
         }
+        Verb::Restore => {
+            let Then(name, End) = Fields::read(alloc, words)?;
+            Ok(Command::SnapRestore { name })
+        }
         Verb::List => read_alone(Command::SnapList, words),
         _ => Err(ScriptError::NotACommand),
     }

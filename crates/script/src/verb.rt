@@ -34,11 +34,12 @@ pub(crate) enum Verb {
     Snap,
     Take,
     Delete,
+    Restore,
     In,
 }
 
 impl Verb {
-    const ALL: [Verb; 29] = [
+    const ALL: [Verb; 30] = [
         Verb::List,
         Verb::Stat,
         Verb::Lstat,
@@ -67,6 +68,7 @@ impl Verb {
         Verb::Snap,
         Verb::Take,
         Verb::Delete,
+        Verb::Restore,
         Verb::In,
     ];
 
@@ -144,6 +146,7 @@ impl Verb {
             Verb::Snap => b"snap",
             Verb::Take => b"take",
             Verb::Delete => b"delete",
+            Verb::Restore => b"restore",
             Verb::In => b"in",
         }
     }

@@ -60,6 +60,7 @@ pub(crate) fn push_command(
         Command::Df => push_fields(alloc, line, Verb::Df, &End),
         Command::SnapTake { name } => push_snap(alloc, line, Verb::Take, &Then(name, End)),
         Command::SnapDelete { name } => push_snap(alloc, line, Verb::Delete, &Then(name, End)),
+        Command::SnapRestore { name } => push_snap(alloc, line, Verb::Restore, &Then(name, End)),
         Command::SnapList => push_snap(alloc, line, Verb::List, &End),
         Command::Within { name, call } => push_within(alloc, line, name, call),
     }

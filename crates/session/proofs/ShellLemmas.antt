@@ -1,5 +1,5 @@
 -- Lines answered one after the other, and how that ends.
-use Rattle.std.proofs.Common.{◌≡◌, inl, inr, ℕ, Bool, true, false, List, [], ◌∷◌, ◌++◌, Option, Some, None, Result, Ok, Err, refl, sym, ◌∙◌, ap, subst}
+use Rattle.std.proofs.Common.{◌≡◌, ◌<◌, inl, inr, ℕ, length, Bool, true, false, List, [], ◌∷◌, ◌++◌, Option, Some, None, Result, Ok, Err, refl, sym, ◌∙◌, ap, subst}
 use Rattle.std.specs.Prelude.{if◌then◌else◌}
 use Rattle.std.specs.Io.KnownBytes.{Appends, IsAtEnd, Keeps}
 use Rattle.std.proofs.lemmas.Grind.{flat_map-append}
@@ -11,6 +11,7 @@ use Rattle.station.specs.declared.station.Station.{Ghosts}
 use Rattle.mount.specs.declared.fs.Fs.{Fs}
 use Rattle.session.specs.Answers.{cut_line, AnswersShowing, EndsAnswer, EndsCut, HasDone}
 use Rattle.session.specs.Reading.{IsInputFault, TakesLine}
+use Rattle.session.specs.declared.reading.TheConstants.{LINE_BYTES}
 use Rattle.session.specs.Scripts.{is_skipped, IsBadLine, IsLineOf}
 use Rattle.session.specs.Shells.{bad_line, said, said_of, step_before, steps_of, AnswersLine, LineComesTo, Dialog, DoesStep, EndsBad, EndsListening, EndsUnsaid, HasHeard, IsLast, TakesLines}
 use Rattle.session.specs.declared.status.Status.{Status}
@@ -40,6 +41,14 @@ module _ {S : Type 0} {G : Ghosts S} (fs : Fs S G) (line : List ℕ) (cut : Bool
 
   pub bad_said : (o' : Option (List ℕ)) (result : Result (Unit {0}) Status) → IsBadLine line → EndsBad false o o' result → AnswersLine fs fs line cut cut o o' result
   bad_said o' result bad ends = unsaid o' false result (inr (inl bad)) (flag_says false line (sym bad.kept)) ends
+
+  long_comes : (is_comment : Bool) → LINE_BYTES < length line → is_comment ≡ is_skipped line → LineComesTo line None
+  long_comes true long is = inl (sym is)
+  long_comes false long is = inr (inr (sym is, long))
+
+  pub long_said : (o' : Option (List ℕ)) (is_comment : Bool) (result : Result (Unit {0}) Status) → LINE_BYTES < length line → is_comment ≡ is_skipped line
+      → EndsBad is_comment o o' result → AnswersLine fs fs line cut cut o o' result
+  long_said o' is_comment result long is ends = unsaid o' is_comment result (long_comes is_comment long is) (flag_says is_comment line is) ends
 
   pub not_read : AnswersLine fs fs line cut cut o o (Err NoMemory)
   not_read = ([], refl, appends_none o)

@@ -8,6 +8,7 @@ use Rattle.layout.specs.SnapRoot.{Snapshot, snapshot_in}
 use Rattle.layout.specs.declared.pointer.Pointer.{Pointer}
 use Rattle.layout.specs.declared.pointer.Pointer.TheVariants.{Hole, Block}
 use Rattle.layout.specs.declared.root.Root.{Root}
+use Rattle.layout.specs.declared.version.TheConstants.{SNAPSHOT_SLOTS}
 use Rattle.model.specs.Paths.{Name}
 use Rattle.model.specs.Trees.{Tree}
 use Rattle.images.specs.Roots.{slot, whole}
@@ -140,8 +141,8 @@ module _ (disk : Blocks) (r : Root) (root : IsRoot r) (are : AreSnapshots r (who
   unfolding at
   order_at i s here = order_is disk (at i) s (spells disk r (suc i) s here)
 
-  kept_count : (above : ℕ) (pairs : List (Name × Tree)) → AreKeptAbove r (whole disk r) above pairs → length pairs ≡ sum_to (one_above above) 20
-  kept_count above [] kept = sym (sum_none (one_above above) 20 (λ i lt. not_above above i (elim (cases_lt above (order_in disk (at i))) [
+  kept_count : (above : ℕ) (pairs : List (Name × Tree)) → AreKeptAbove r (whole disk r) above pairs → length pairs ≡ sum_to (one_above above) SNAPSHOT_SLOTS
+  kept_count above [] kept = sym (sum_none (one_above above) SNAPSHOT_SLOTS (λ i lt. not_above above i (elim (cases_lt above (order_in disk (at i))) [
     | inr le ↦ le
     | inl up ↦
         let one = there i (omega (arith, up)) in
@@ -167,29 +168,29 @@ module _ (disk : Blocks) (r : Root) (root : IsRoot r) (are : AreSnapshots r (who
               absurd (other (omega (arith, slots)))
         ]
       ] in
-      let more = sum_one (one_above above) (one_above s.order) 20 j (omega (arith, slot_is.2, root.slots)) one others in
+      let more = sum_one (one_above above) (one_above s.order) SNAPSHOT_SLOTS j (omega (arith, slot_is.2, root.slots)) one others in
       let less = kept_count s.order pairs rest in
       omega (arith, more, less)
 
   -- where a slot is free there is room
-  pub room_left : (pairs : List (Name × Tree)) (k : ℕ) → AreKept r (whole disk r) pairs → 1 ≤ k → k ≤ 20 → slot r k ≡ Hole → length pairs < 20
+  pub room_left : (pairs : List (Name × Tree)) (k : ℕ) → AreKept r (whole disk r) pairs → 1 ≤ k → k ≤ SNAPSHOT_SLOTS → slot r k ≡ Hole → length pairs < SNAPSHOT_SLOTS
   unfolding at order_in
   room_left pairs zero kept low high none = absurd (omega (arith, low))
   room_left pairs (suc j) kept low high none =
       let all = kept_count 0 pairs kept in
       let zero_there : order_in disk (at j) ≡ 0 = ap (order_in disk) none in
-      let fewer = sum_fewer (one_above 0) 20 j (at_most 0) (omega (arith, high)) (not_above 0 j (omega (arith, zero_there))) in
+      let fewer = sum_fewer (one_above 0) SNAPSHOT_SLOTS j (at_most 0) (omega (arith, high)) (not_above 0 j (omega (arith, zero_there))) in
       omega (arith, all, fewer)
 
   -- and where none is there is none
-  pub none_free : (pairs : List (Name × Tree)) → AreKept r (whole disk r) pairs → ((k : ℕ) → 1 ≤ k → k ≤ 20 → slot r k ≡ Hole → ⊥) → 20 ≤ length pairs
+  pub none_free : (pairs : List (Name × Tree)) → AreKept r (whole disk r) pairs → ((k : ℕ) → 1 ≤ k → k ≤ SNAPSHOT_SLOTS → slot r k ≡ Hole → ⊥) → SNAPSHOT_SLOTS ≤ length pairs
   unfolding at
   none_free pairs kept none =
       let all = kept_count 0 pairs kept in
-      let each = sum_all (one_above 0) 20 (λ i lt. is_above 0 i (in_use i (omega (arith, lt)))) in
+      let each = sum_all (one_above 0) SNAPSHOT_SLOTS (λ i lt. is_above 0 i (in_use i (omega (arith, lt)))) in
       omega (arith, all, each)
     where
-      in_use : (i : ℕ) → i < 20 → 0 < order_in disk (at i)
+      in_use : (i : ℕ) → i < SNAPSHOT_SLOTS → 0 < order_in disk (at i)
       in_use i lt = used (slot r (suc i)) refl
         where
           used : (p : Pointer) → slot r (suc i) ≡ p → 0 < order_in disk (at i)

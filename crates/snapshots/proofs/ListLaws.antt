@@ -7,6 +7,7 @@ use Rattle.layout.specs.Root.{IsRoot}
 use Rattle.layout.specs.SnapRoot.{Snapshot}
 use Rattle.layout.specs.declared.pointer.Pointer.TheVariants.{Hole, Block}
 use Rattle.layout.specs.declared.root.Root.{Root}
+use Rattle.layout.specs.declared.version.TheConstants.{SNAPSHOT_SLOTS}
 use Rattle.model.specs.Paths.{Name}
 use Rattle.model.specs.Trees.{Tree}
 use Rattle.images.specs.Roots.{slot, whole}
@@ -80,7 +81,7 @@ same_order disk r n above one over s spelled =
     ap (λ (x : Snapshot). x.order) (one_snapshot disk r (suc n) s over.snapshot second first) ∙ over.order
 
 -- the least one's block is a snapshot's root
-pub next_at : (disk : Blocks) (r : Root) (above : ℕ) (next : Next) → AreSnapshots r (whole disk r) → IsLeastAbove disk r above 20 (Some next) → IsSnapshotAt r.geometry r.generation disk (Block next.place)
+pub next_at : (disk : Blocks) (r : Root) (above : ℕ) (next : Next) → AreSnapshots r (whole disk r) → IsLeastAbove disk r above SNAPSHOT_SLOTS (Some next) → IsSnapshotAt r.geometry r.generation disk (Block next.place)
 next_at disk r above next are ((j, lt, over), least) =
     subst (IsSnapshotAt r.geometry r.generation disk) over.there (at_slot disk r j (slice_index_or r.snapshots j Hole) are refl)
 
@@ -91,7 +92,7 @@ names_of pairs = map (λ (pair : Name × Tree). pair.0) pairs
 
 module _ (disk : Blocks) (r : Root) (root : IsRoot r) (are : AreSnapshots r (whole disk r)) (above : ℕ) where
   -- where nothing is above, nothing is left to list
-  pub none_left : (rest : List (Name × Tree)) → IsLeastAbove disk r above 20 None → AreKeptAbove r (whole disk r) above rest → rest ≡ []
+  pub none_left : (rest : List (Name × Tree)) → IsLeastAbove disk r above SNAPSHOT_SLOTS None → AreKeptAbove r (whole disk r) above rest → rest ≡ []
   none_left [] least kept = refl
   none_left (pair ∷ rest) least (k, s, next, is, frozen, more) =
       let at = in_slot r k next.has.block next.has.there in
@@ -99,7 +100,7 @@ module _ (disk : Blocks) (r : Root) (root : IsRoot r) (are : AreSnapshots r (who
       absurd (omega (arith, low, next.above_it))
 
   -- the next one to list is the least above
-  pub next_listed : (rest : List (Name × Tree)) (next : Next) (name : Name) → IsLeastAbove disk r above 20 (Some next) → AreKeptAbove r (whole disk r) above rest
+  pub next_listed : (rest : List (Name × Tree)) (next : Next) (name : Name) → IsLeastAbove disk r above SNAPSHOT_SLOTS (Some next) → AreKeptAbove r (whole disk r) above rest
       → ((s : Snapshot) → SpellsSnapshot disk (Block next.place) s → name ≡ s.name)
       → (more : List (Name × Tree)) × AreKeptAbove r (whole disk r) next.order more × (names_of rest ≡ name ∷ names_of more)
   next_listed [] next name ((j, lt, over), least) kept named =

@@ -8,6 +8,7 @@ use Rattle.layout.specs.Root.{IsRoot}
 use Rattle.layout.specs.SnapRoot.{Snapshot}
 use Rattle.layout.specs.declared.pointer.Pointer.TheVariants.{Hole}
 use Rattle.layout.specs.declared.root.Root.{Root}
+use Rattle.layout.specs.declared.version.TheConstants.{SNAPSHOT_SLOTS}
 use Rattle.model.specs.Paths.{Name, first_refusal}
 use Rattle.model.specs.States.{State}
 use Rattle.model.specs.Steps.{frozen, is_bad_name, is_name_byte, take_tests}
@@ -26,18 +27,18 @@ use Rattle.snapshots.proofs.CountLaws.{none_free, room_left}
 use Rattle.snapshots.proofs.NamedLaws.{one_named}
 use Rattle.snapshots.proofs.SlotLaws.{has, in_slot, one_snapshot, spells}
 
-pub passes : (s : State) (name : Name) (pairs : List (Name × Tree)) → s.snapshots ≡ pairs → is_bad_name name ≡ false → named name pairs ≡ None → length pairs < 20
+pub passes : (s : State) (name : Name) (pairs : List (Name × Tree)) → s.snapshots ≡ pairs → is_bad_name name ≡ false → named name pairs ≡ None → length pairs < SNAPSHOT_SLOTS
     → first_refusal (take_tests s name) ≡ None
 passes s name pairs same good none few =
     let absent : frozen s name ≡ None = ap (named name) same ∙ none in
-    let room : nat_le 20 (length s.snapshots) ≡ false = ap (λ (ps : List (Name × Tree)). nat_le 20 (length ps)) same ∙ lt-leb _ _ few in
+    let room : nat_le SNAPSHOT_SLOTS (length s.snapshots) ≡ false = ap (λ (ps : List (Name × Tree)). nat_le SNAPSHOT_SLOTS (length ps)) same ∙ lt-leb _ _ few in
     rw (good, absent, room) refl
 
-pub full : (s : State) (name : Name) (pairs : List (Name × Tree)) → s.snapshots ≡ pairs → is_bad_name name ≡ false → named name pairs ≡ None → 20 ≤ length pairs
+pub full : (s : State) (name : Name) (pairs : List (Name × Tree)) → s.snapshots ≡ pairs → is_bad_name name ≡ false → named name pairs ≡ None → SNAPSHOT_SLOTS ≤ length pairs
     → first_refusal (take_tests s name) ≡ Some SNAPFULL
 full s name pairs same good none many =
     let absent : frozen s name ≡ None = ap (named name) same ∙ none in
-    let room : nat_le 20 (length s.snapshots) ≡ true = ap (λ (ps : List (Name × Tree)). nat_le 20 (length ps)) same ∙ le-leb 20 (length pairs) many in
+    let room : nat_le SNAPSHOT_SLOTS (length s.snapshots) ≡ true = ap (λ (ps : List (Name × Tree)). nat_le SNAPSHOT_SLOTS (length ps)) same ∙ le-leb SNAPSHOT_SLOTS (length pairs) many in
     rw (good, absent, room) refl
 
 pub not_found : (disk : Blocks) (r : Root) (name : Name) (pairs : List (Name × Tree)) (found : Option FoundSnapshot) → is_some found ≡ false → FindsSnapshot r disk name pairs found → named name pairs ≡ None
@@ -67,7 +68,7 @@ module _ (disk : Blocks) (r : Root) (root : IsRoot r) (name : Name) (v : Volume)
   are : AreSnapshots r (whole disk r)
   are = holds.sound.snapshots
 
-  low_order : (last : ℕ) → HasNewestOrder disk r 20 last → last ≤ r.generation
+  low_order : (last : ℕ) → HasNewestOrder disk r SNAPSHOT_SLOTS last → last ≤ r.generation
   low_order last newest = elim newest.found [
     | inl none ↦ omega (arith, none)
     | inr (j, s, lt, spelled, is) ↦
@@ -78,7 +79,7 @@ module _ (disk : Blocks) (r : Root) (root : IsRoot r) (name : Name) (v : Volume)
         omega (arith, low, is)
   ]
 
-  pub may_take : (t : Taking) (last : ℕ) → IsSlotNumber t.slot → slot r t.slot ≡ Hole → ((k : ℕ) → 1 ≤ k → k < t.slot → slot r k ≢ Hole) → is_bad_name name ≡ false → named name pairs ≡ None → HasNewestOrder disk r 20 last → t.order ≡ last + 1
+  pub may_take : (t : Taking) (last : ℕ) → IsSlotNumber t.slot → slot r t.slot ≡ Hole → ((k : ℕ) → 1 ≤ k → k < t.slot → slot r k ≢ Hole) → is_bad_name name ≡ false → named name pairs ≡ None → HasNewestOrder disk r SNAPSHOT_SLOTS last → t.order ≡ last + 1
       → MayTake disk r name t
   may_take t last number free least good none newest order =
       let size = good_length name good in
@@ -99,8 +100,8 @@ module _ (disk : Blocks) (r : Root) (root : IsRoot r) (name : Name) (v : Volume)
         order = omega (arith, low, order);
       }
 
-  pub has_room : (k : ℕ) → IsSlotNumber k → slot r k ≡ Hole → length pairs < 20
+  pub has_room : (k : ℕ) → IsSlotNumber k → slot r k ≡ Hole → length pairs < SNAPSHOT_SLOTS
   has_room k number free = room_left disk r root are pairs k holds.kept number.first number.last free
 
-  pub no_room : ((k : ℕ) → 1 ≤ k → k ≤ 20 → slot r k ≡ Hole → ⊥) → 20 ≤ length pairs
+  pub no_room : ((k : ℕ) → 1 ≤ k → k ≤ SNAPSHOT_SLOTS → slot r k ≡ Hole → ⊥) → SNAPSHOT_SLOTS ≤ length pairs
   no_room none = none_free disk r root are pairs holds.kept none

@@ -25,7 +25,7 @@ use layout::{Inode, Pointer, Root, SNAPSHOT_SLOTS, SnapRoot};
 /// A snapshot that has the name that was asked for.
 #[derive(Clone, Copy, Debug)]
 pub struct FoundSnapshot {
-    /// Its slot in the root, and its plane of the block map: 1 to 20.
+    /// Its slot in the root, and its plane of the block map: 1 to 30.
     pub slot: u32,
     /// Its place among the snapshots by age, from 1 on.
     pub order: u64,

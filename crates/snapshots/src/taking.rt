@@ -30,7 +30,7 @@ use model::{Errno, SNAPSHOT_NAME_BYTES};
 /// Where a snapshot that is taken goes.
 #[derive(Clone, Copy, Debug)]
 pub struct Taking {
-    /// The least free slot: 1 to 20.
+    /// The least free slot: 1 to 30.
     pub slot: u32,
     /// 1 where no snapshot is kept, else the greatest order number and 1.
     pub order: u64,

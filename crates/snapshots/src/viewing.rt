@@ -33,14 +33,15 @@ pub fn view<B: Blocks>(
     requires count { B.count blocks.old ≡ root.now.geometry.blocks }
     requires size { found.now.inode_file.size ≤ greatest_size VERSION }
     ensures reads { ReadsBlocks B.Blocks IsFault blocks.old blocks.new result }
+    ensures version { IfOk result (λ inodes. inodes.version ≡ root.now.version) }
     ensures geometry { IfOk result (λ inodes. inodes.geometry ≡ root.now.geometry) }
     ensures views { (disk : ℕ → List ℕ) → B.Shows blocks.old disk → (v : Volume) (name : Name)
         (pairs : List (Name × Tree)) → Holds root.now (whole disk root.now) v pairs
         → FindsSnapshot root.now disk name pairs (Some found.now) → MatchResult result
-        (AreInodesOf disk root.now.geometry ((whole disk root.now).frozen found.now.slot))
+        (AreInodesOf disk root.now.version root.now.geometry ((whole disk root.now).frozen found.now.slot))
         (λ e. (e ≡ ReadError.NoMemory) ⊎ (e ≡ ReadError.Device)) }
 {
     snapshots_are_readable();
-    let inodes = load_inodes(alloc, blocks, root.geometry, found.inode_file)?;
+    let inodes = load_inodes(alloc, blocks, root.version, root.geometry, found.inode_file)?;
     Ok(inodes)
 }

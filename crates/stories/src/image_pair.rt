@@ -27,6 +27,33 @@ impl Images {
         }
     }
 
+    /// Zeros, as many as images of these sizes have.
+    pub fn empty(alloc: Global, blocks: u32, half: u32) -> Result<Images, AllocError> {
+        Ok(Images {
+            disk: vec![in alloc; 0; 4096_usize.saturating_mul(blocks as usize)]?,
+            nvram: vec![in alloc; 0; 2_usize.saturating_mul(half as usize)]?,
+            bad: Vec::new(alloc),
+        })
+    }
+
+    /// Puts bytes in the place of others, two hexadecimal digits each. False where they are none, or the image ends before.
+    pub fn put(
+        &mut self,
+        alloc: Global,
+        is_of_disk: bool,
+        at: u32,
+        digits: &str,
+    ) -> Result<bool, AllocError> {
+        let Ok(bytes) = hex::decode(alloc, digits) else {
+            return Ok(false);
+        };
+        if is_of_disk {
+            Ok(put(&mut self.disk, at, &bytes))
+        } else {
+            Ok(put(&mut self.nvram, at, &bytes))
+        }
+    }
+
     /// What a station holds.
     pub fn of(alloc: Global, sim: &Sim) -> Result<Images, AllocError> {
         let (disk, nvram) = sim.images();
@@ -53,4 +80,17 @@ impl Images {
             && self.nvram.as_slice() == other.nvram.as_slice()
             && self.bad.as_slice() == other.bad.as_slice()
     }
+}
+
+/// Puts bytes in the place of others. False where the image ends before.
+fn put(image: &mut Vec<u8>, at: u32, bytes: &[u8]) -> bool {
+    let start = at as usize;
+    let Some(end) = start.checked_add(bytes.len()) else {
+        return false;
+    };
+    if end > image.len() {
+        return false;
+    }
+    image.as_mut_slice()[start..end].copy_from_slice(bytes);
+    true
 }

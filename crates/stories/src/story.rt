@@ -20,6 +20,15 @@ pub struct Cuts<'a> {
     pub bytes: (u32, u32),
 }
 
+/// Bytes of an image that isn't made.
+#[derive(Clone, Copy, Drop)]
+pub struct Part<'a> {
+    pub is_of_disk: bool,
+    pub at: u32,
+    /// Two hexadecimal digits each.
+    pub digits: &'a str,
+}
+
 /// Bytes of an image that are changed one at a time.
 #[derive(Clone, Copy, Drop)]
 pub struct Sweep {
@@ -40,6 +49,8 @@ pub struct Without<'a> {
 pub struct Story<'a> {
     alloc: Global,
     pub sizes: [u32; 3],
+    /// What the images hold that its commands run on; none where they are made.
+    pub parts: Vec<Part<'a>>,
     pub before: Commands,
     pub commands: Commands,
     pub tail: Commands,
@@ -61,6 +72,7 @@ impl<'a> Story<'a> {
         let mut story = Story {
             alloc,
             sizes: [0; 3],
+            parts: Vec::new(alloc),
             before: Commands::new(alloc)?,
             commands: Commands::new(alloc)?,
             tail: Commands::new(alloc)?,
@@ -84,7 +96,16 @@ impl<'a> Story<'a> {
     /// The images on which its commands run.
     pub fn images(&self) -> Result<Images, Fault> {
         let [blocks, inodes, half] = self.sizes;
-        Images::made(self.alloc, blocks, inodes, half)
+        if self.parts.is_empty() {
+            return Images::made(self.alloc, blocks, inodes, half);
+        }
+        let mut images = Images::empty(self.alloc, blocks, half)?;
+        for part in self.parts.iter() {
+            if !images.put(self.alloc, part.is_of_disk, part.at, part.digits)? {
+                return Err(Fault::misread(self.alloc, part.digits));
+            }
+        }
+        Ok(images)
     }
 
     /// Takes a line. False where it isn't understood.
@@ -107,6 +128,7 @@ impl<'a> Story<'a> {
             }
             "start" => Ok(true),
             "sweep" => self.add_sweep(words),
+            "disk" | "nvram" => self.add_part(verb == "disk", words),
             _ => self.take_command(verb, words),
         }
     }
@@ -183,6 +205,22 @@ impl<'a> Story<'a> {
             left_out: self.commands.count().saturating_sub(1),
             command: number.saturating_sub(1),
             reply,
+        })?;
+        Ok(true)
+    }
+
+    /// `AT DIGITS`: these bytes of an image.
+    fn add_part(&mut self, is_of_disk: bool, words: &'a str) -> Result<bool, Fault> {
+        let Some((at, digits)) = words.split_once(' ') else {
+            return Ok(false);
+        };
+        let Ok(at) = at.parse() else {
+            return Ok(false);
+        };
+        self.parts.push(Part {
+            is_of_disk,
+            at,
+            digits,
         })?;
         Ok(true)
     }

@@ -123,7 +123,7 @@ module _ {S : Type 0} {G : Ghosts S} (old mid : System S G) where
           empty = emptied mid new r made.log made.generation;
           covered = λ s served. made.covered s.tree.descriptors s (stays s served) s refl tt;
           refused = λ s served. made.refused s.tree.descriptors s (stays s served);
-          roomy = λ s served. made.roomy s.tree.descriptors s (stays s served) tt;
-          damaged = λ s served. made.damaged s.tree.descriptors s (stays s served);
+          roomy = λ s served. made.roomy s.tree.descriptors s (stays s served) s refl tt;
+          damaged = λ s served. made.damaged s.tree.descriptors s (stays s served) s refl;
           last = λ s served is. subst (λ (l : LogEnd). 2 ^ 62 ≤ l.epoch) same_log (made.last s.tree.descriptors s (stays s served) is);
         }

@@ -176,7 +176,7 @@ module _ (laws : CutLaws) (ways : WayLaws) {m : Meaning} {k : Parts} {table : �
 -- where the log was in the first epoch over the root, the system serves what it did, with that point under way
 abbrev pub laid_serves : {S : Type 0} {G : Ghosts S} (old new : System S G) (table : ℕ → Option Description) (s : State) (serves : HasState old table s) → old.blocks.laid ≡ None
     → old.log.epoch ≡ old.root.generation + 1 → ReadsOn (meaning_of old) (meaning_of new) → new.log ≡ record old.log { epoch = old.log.epoch + 1; end = Unopened }
-    → new.pledged ≡ old.pledged → new.files ≡ old.files → IsLaid unchanged old new table s serves → HasState new table s
+    → new.pledged ≡ old.pledged → new.files ≡ old.files → IsLaid unchanged old new old.inodes table s serves serves.first serves.running → HasState new table s
 laid_serves old new table s serves none first reads log pledged files laid =
     let m = meaning_of old in
     let now = meaning_of new in
@@ -193,7 +193,7 @@ laid_serves old new table s serves none first reads log pledged files laid =
       each_unchanged m now (IsLeft old.root new.log lasts.bodies m.seen.disk) reads.same (left_older rest.lasts m rest.left new.log (λ nvram stands. laid.newer old.root.generation rest.lasts.bodies nvram first stands)) reads.goes,
       begins rest.lasts now {log = old.log}
           (each_unchanged m now (IsLeft old.root old.log rest.lasts.bodies m.seen.disk) reads.same rest.left reads.goes)
-          new.log old.slot laid.laid.plan new.root new.pledged_then seen first second laid.planned laid.pledges (laid.saves tt),
+          new.log old.slot laid.laid.plan new.root new.pledged_then seen first second laid.planned laid.pledges (laid.saves refl (omega (arith, serves.stored, rest.all))),
     ) in
     record {
       honest = went.honest;

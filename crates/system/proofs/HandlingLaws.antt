@@ -109,9 +109,9 @@ module _ {S : Type 0} {G : Ghosts S} (old new : System S G) (mid : Meaning) (cal
   would_change s served = record {
     reply = reply;
     after = (leads s served).after;
-    need = logs (leads s served).work;
+    need = λ room. logs (leads s served).work;
     step = (leads s served).step;
-    needs = λ is. cc;
+    needs = λ room is. cc;
   }
 
   -- the record is logged, and its change is in force
@@ -220,7 +220,7 @@ module _ {S : Type 0} {G : Ghosts S} (old new : System S G) (mid : Meaning) (cal
     broken = λ s served is. record {
       reply = reply;
       after = (leads s served).after;
-      need = logs (leads s served).work;
+      need = λ room. logs (leads s served).work;
       step = (leads s served).step;
       leaves = leaves_either s served;
     };

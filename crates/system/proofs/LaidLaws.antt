@@ -1,8 +1,8 @@
 -- A system behind a consistency point that was laid over its blocks and then carried out.
 use Rattle.std.proofs.Common.{◌≡◌, ◌⊎◌, inl, inr, ℕ, ◌+◌, ◌*◌, ◌≤◌, Option, None, Result, Ok, Err, refl, ap, sym, subst, ◌∙◌, arith}
 use Rattle.std.specs.Prelude.{IfSome, IsErrOf, IsFalse}
-use Rattle.station.specs.Images.{Images, Sector}
-use Rattle.station.specs.Moments.{EachCut, HasSizes, LeavesOnly, MayLeave, Meaning}
+use Rattle.station.specs.Images.{Images, Sector, Unchanged}
+use Rattle.station.specs.Moments.{EachCut, Goes, HasSizes, LeavesOnly, MayLeave, Meaning}
 use Rattle.station.specs.declared.station.Station.{Ghosts}
 use Rattle.station.proofs.Moments.{leaves_unchanged}
 use Rattle.layout.specs.Limits.{Sizes}
@@ -18,6 +18,9 @@ use Rattle.images.specs.Roots.{whole}
 use Rattle.images.specs.Room.{free_under}
 use Rattle.images.specs.SnapshotSteps.{SnapshotStep, kept_after}
 use Rattle.inofile.specs.Inodes.{IsChanged}
+use Rattle.inofile.specs.Room.{memory_room}
+use Rattle.inofile.specs.declared.inode_file.InodeFile.{InodeFile}
+use Rattle.model.specs.Volumes.{Volume}
 use Rattle.oplog.specs.LogEnd.{LogEnd, StandsAt, no_bodies}
 use Rattle.conspoint.specs.Cuts.{HasNewRoot}
 use Rattle.conspoint.specs.Finished.{disk_after}
@@ -26,14 +29,14 @@ use Rattle.conspoint.specs.Writes.{writes_of}
 use Rattle.overlay.specs.Overlays.{ShowsOver, planned_disk}
 use Rattle.overlay.specs.declared.laid.Laid.{Laid}
 use Rattle.planning.specs.declared.change.SnapshotChange.{SnapshotChange}
-use Rattle.system.specs.Counting.{Counted, no_call, point_error_failed}
+use Rattle.system.specs.Counting.{Counted, LogsNothing, no_call, point_error_failed}
 use Rattle.system.specs.Errors.{IsNotWritten, IsRefused}
 use Rattle.system.specs.Images.{IsLeft, IsUnder, OpensTo}
 use Rattle.system.specs.Laws.{CutLaws, RootLaws}
 use Rattle.system.specs.Memory.{HasEntries, IsInMemory}
-use Rattle.system.specs.Points.{HasRoomToStep, MakesPoint, StepsTo, stepped}
+use Rattle.system.specs.Points.{HasRoomToPlan, HasRoomToStep, IsStepFor, MakesPointFrom, MaySettle, StepsTo, turned}
 use Rattle.system.specs.Slicing.{CarriesOut, Finishes, IsLaid, Lays}
-use Rattle.system.specs.Systems.{HasState, IsCovered, Parts, disk_of, meaning_of, state_with, system_parts}
+use Rattle.system.specs.Systems.{HasState, HasStateBy, IsCovered, Parts, disk_of, meaning_of, state_with, system_parts}
 use Rattle.system.specs.UnderWay.{WayLaws}
 use Rattle.system.specs.declared.error.PointError.{PointError}
 use Rattle.system.specs.declared.error.PointError.TheVariants.{NotWritten}
@@ -55,15 +58,40 @@ error_of (Err e) = e
 not_other : (e other : PointError) → e ≡ NotWritten → IsRefused other → IsErrOf {T = Unit {0}} {E = PointError} (Err e) other → ⊥
 not_other e other failed refused is = subst IsRefused (sym (ap error_of is) ∙ failed) refused
 
+-- What a state that memory served, by these objects, is to the point: memory may settle a volume over the base of this step, and the other
+-- state is that of the volume.
+pub record Turning {S : Type 0} {G : Ghosts S} (change : SnapshotChange) (old : System S G) (known : InodeFile) (table : ℕ → Option Description) (s : State)
+    (serves : HasStateBy known old table s) (t : State) (IsRoomy : Type 0) : Type 0 where
+  pub step : SnapshotStep
+  pub base : Volume
+  pub volume : Volume
+  pub is : IsStepFor change old step
+  pub may : MaySettle change old old.inodes table base volume
+  pub room : IsRoomy → HasRoomToPlan change old (memory_room base old.inodes volume)
+  pub state : t ≡ turned old.root.geometry.inodes step volume table serves.first serves.snapshots
+
+-- a point that starts from the tree that is there settles the running volume
+pub steps_turn : {S : Type 0} {G : Ghosts S} (change : SnapshotChange) (old : System S G) → old.blocks.laid ≡ None → (table : ℕ → Option Description) (s : State) (serves : HasState old table s) (t : State)
+    → StepsTo change old table s serves t → Turning change old old.inodes table s serves t (HasRoomToStep change old)
+steps_turn {G = G} change old none table s serves t leads = record {
+  step = leads.0;
+  base = serves.first;
+  volume = serves.running;
+  is = leads.1;
+  may = points.settles_running {G = G} old serves change leads.0 leads.1.is leads.2;
+  room = points.has_room {G = G} old serves none change;
+  state = leads.3 ∙ ap (with_snapshots (kept_after leads.0 serves.first serves.snapshots)) serves.state;
+}
+
 module _ (cuts : CutLaws) (roots : RootLaws) (ways : WayLaws) {S : Type 0} {G : Ghosts S} (old mid new : System S G) (change : SnapshotChange) (none : old.blocks.laid ≡ None)
-    (lays : Lays change old mid (Ok tt)) where
+    (lays : Lays change old mid (Ok tt)) (known : InodeFile) where
   abbrev m : Meaning
   m = meaning_of old
 
   abbrev n : Meaning
   n = meaning_of new
 
-  module _ {table : ℕ → Option Description} {s : State} (serves : HasState old table s) (step : SnapshotStep) (is : IsLaid step old mid table s serves) (here : MayLeave m m.seen)
+  module _ {table : ℕ → Option Description} {s : State} (serves : HasStateBy known old table s) (step : SnapshotStep) {base v : Volume} (is : IsLaid step old mid known table s serves base v) (here : MayLeave m m.seen)
       (result : Result (Unit {0}) PointError) (does : Finishes mid new result) where
     abbrev p : Planned
     p = is.laid.plan
@@ -71,14 +99,14 @@ module _ (cuts : CutLaws) (roots : RootLaws) (ways : WayLaws) {S : Type 0} {G : 
     carries : CarriesOut mid new result is.laid
     carries = subst (λ (l : Option Laid). IfSome l (CarriesOut mid new result)) is.is does.carried
 
-    at_any_moment : LeavesOnly m n (λ c. OpensTo m s c ⊎ OpensTo m (stepped step serves.first serves.snapshots s) c)
+    at_any_moment : LeavesOnly m n (λ c. OpensTo m s c ⊎ OpensTo m (turned old.root.geometry.inodes step v table serves.first serves.snapshots) c)
     at_any_moment =
-        points.at_any_moment cuts serves none old.sectors old.half p mid.root step is.planned here (meaning_of mid) n lays.reads.goes carries.any_moment
+        points.at_any_moment cuts serves none old.sectors old.half p mid.root step v is.planned here (meaning_of mid) n lays.reads.goes carries.any_moment
 
   -- ---- it is carried out
 
-  module _ {table : ℕ → Option Description} {s : State} (serves : HasState old table s) (step : SnapshotStep) (is : IsLaid step old mid table s serves) (here : MayLeave m m.seen)
-      (does : Finishes mid new (Ok tt)) (left : n.is_honest → MayLeave n n.seen) (sized : EachCut n (HasSizes n)) where
+  module _ {table : ℕ → Option Description} {s : State} (serves : HasStateBy known old table s) (step : SnapshotStep) {base v : Volume} (is : IsLaid step old mid known table s serves base v)
+      (may : MaySettle change old old.inodes table base v) (here : MayLeave m m.seen) (does : Finishes mid new (Ok tt)) (left : n.is_honest → MayLeave n n.seen) (sized : EachCut n (HasSizes n)) where
     abbrev plan : Planned
     plan = is.laid.plan
 
@@ -105,8 +133,8 @@ module _ (cuts : CutLaws) (roots : RootLaws) (ways : WayLaws) {S : Type 0} {G : 
     parts_are =
         does.parts ∙ ap (λ (k : ℕ). record (system_parts mid) { kept = new.blocks.buffers.kept; laid = None; map = new.map; pledged = k }) (does.pledges (λ rests. served.not_both is.laid (sym is.is ∙ rests)))
 
-    under : IsUnder mid.slot mid.root serves.running (kept_after step serves.first serves.snapshots) n.seen.disk
-    under = subst (IsUnder mid.slot mid.root serves.running (kept_after step serves.first serves.snapshots)) disk is.under
+    under : IsUnder mid.slot mid.root v (kept_after step serves.first serves.snapshots) n.seen.disk
+    under = subst (IsUnder mid.slot mid.root v (kept_after step serves.first serves.snapshots)) disk is.under
 
     entries : HasEntries (whole (blocks_of n.seen.disk) mid.root).active new.map
     entries = subst (λ (d : ℕ → Sector). HasEntries (whole (blocks_of d) mid.root).active new.map) disk (λ b. done.map.settled b ∙ is.to_come b)
@@ -124,30 +152,33 @@ module _ (cuts : CutLaws) (roots : RootLaws) (ways : WayLaws) {S : Type 0} {G : 
         (is.covered old.root.generation rest.lasts.bodies m.seen.nvram (omega (arith, last)) (rest.left serves.honest m.seen here).log_stands))
 
     free : free_under (whole (blocks_of m.seen.disk) old.root).active old.root.geometry.blocks ≤ free_under (whole (blocks_of n.seen.disk) mid.root).active old.root.geometry.blocks + is.planned.room.spent
-    free = roots.free m.sectors m.seen.disk n.seen.disk m.seen.nvram s (writes_of plan.blocks) plan.slot mid.root serves.running step is.planned.room.spent
-        (points.reads cuts serves none old.sectors old.half plan mid.root step is.planned here) is.planned.point
-        (points.with_root cuts serves none old.sectors old.half plan mid.root step is.planned here n.seen has) is.planned.room.leaves
+    free = roots.free m.sectors m.seen.disk n.seen.disk m.seen.nvram s (writes_of plan.blocks) plan.slot mid.root v step is.planned.room.spent
+        (points.reads cuts serves none old.sectors old.half plan mid.root step v is.planned here) is.planned.point
+        (points.with_root cuts serves none old.sectors old.half plan mid.root step v is.planned here n.seen has) is.planned.room.leaves
 
-    settled : OnceCovered n parts_then table (stepped step serves.first serves.snapshots s)
+    abbrev after : State
+    after = turned old.root.geometry.inodes step v table serves.first serves.snapshots
+
+    settled : OnceCovered n parts_then table after
     settled = (
       record {
         honest = honest;
         shows = shows;
-        first = serves.running;
+        first = v;
         snapshots = kept_after step serves.first serves.snapshots;
         under = under;
-        running = serves.running;
-        mounted = serves.mounted;
-        memory = subst (λ (d : ℕ → Sector). IsInMemory (blocks_of d) mid.root mid.inodes serves.running) disk is.memory;
+        running = v;
+        mounted = may.mounted;
+        memory = subst (λ (d : ℕ → Sector). IsInMemory (blocks_of d) mid.root mid.inodes v) disk is.memory;
         view = subst (λ (o : Option View). ShowsSnapshot (blocks_of n.seen.disk) mid.root.geometry.blocks (kept_after step serves.first serves.snapshots) o) (sym is.viewless) tt;
-        settled = record { disk = n.seen.disk; root = mid.root; volume = serves.running };
+        settled = record { disk = n.seen.disk; root = mid.root; volume = v };
         lasts = record {
           newest = under.newest.newest;
           holds = under.holds;
           bodies = no_bodies;
-          replayed = none_replayed mid.root.geometry.inodes serves.running;
-          pledges = omega (arith, is.pledges, ap (λ (g : Sizes). count_nameless g.inodes serves.running) is.planned.point.geometry);
-          reserved = subst (λ (g : Sizes). 4 * count_nameless g.inodes serves.running + 0 + fixed_of g.blocks ≤ free_under (whole (blocks_of n.seen.disk) mid.root).active g.blocks) (sym is.planned.point.geometry)
+          replayed = none_replayed mid.root.geometry.inodes v;
+          pledges = omega (arith, is.pledges, ap (λ (g : Sizes). count_nameless g.inodes v) is.planned.point.geometry);
+          reserved = subst (λ (g : Sizes). 4 * count_nameless g.inodes v + 0 + fixed_of g.blocks ≤ free_under (whole (blocks_of n.seen.disk) mid.root).active g.blocks) (sym is.planned.point.geometry)
               (omega (arith, free, is.planned.room.enough));
         };
         left = λ honest c left. subst (IsLeft mid.root mid.log no_bodies n.seen.disk) (sym (done.just honest c left)) (record { same = λ k some. refl; log_stands = stands });
@@ -156,34 +187,43 @@ module _ (cuts : CutLaws) (roots : RootLaws) (ways : WayLaws) {S : Type 0} {G : 
         goes = subst (λ (l : LogEnd). IsFalse l.is_stopped) (sym lays.log) serves.goes;
         stored = is.stored;
         opened = serves.opened ∙ ap table_of (sym lays.same.1);
-        fits = subst (λ (d : Descriptors). FitsVolume d serves.running) (sym lays.same.1) serves.fits;
-        state = ap (with_snapshots (kept_after step serves.first serves.snapshots)) serves.state
-            ∙ ap (λ (g : Sizes). state_with g.inodes serves.running table (kept_after step serves.first serves.snapshots)) (sym is.planned.point.geometry);
+        fits = subst (λ (d : Descriptors). FitsVolume d v) (sym lays.same.1) may.fits;
+        state = ap (λ (g : Sizes). state_with g.inodes v table (kept_after step serves.first serves.snapshots)) (sym is.planned.point.geometry);
       },
       refl,
       refl,
     )
 
-    covered : IsCovered new table (stepped step serves.first serves.snapshots s)
+    covered : IsCovered new table after
     covered =
-        let there = subst (λ (k : Parts). OnceCovered n k table (stepped step serves.first serves.snapshots s)) (sym parts_are) settled in
+        let there = subst (λ (k : Parts). OnceCovered n k table after) (sym parts_are) settled in
         record { rests = ap (λ (k : Parts). k.laid) does.parts; serves = there.0; no_record = there.1; held = there.2 }
 
   -- ---- what is promised of it
 
-  module _ (here : m.is_honest → MayLeave m m.seen) (left : n.is_honest → MayLeave n n.seen) (sized : EachCut n (HasSizes n)) where
-    moments : (result : Result (Unit {0}) PointError) → Finishes mid new result → (table : ℕ → Option Description) (s : State) (serves : HasState old table s) (t : State) → StepsTo change old table s serves t
-        → HasRoomToStep change old → LeavesOnly m n (λ c. OpensTo m s c ⊎ OpensTo m t c)
-    moments result does table s serves t leads room =
-        subst (λ (u : State). LeavesOnly m n (λ c. OpensTo m s c ⊎ OpensTo m u c)) (sym leads.2)
-        (at_any_moment serves leads.0 (lays.laid table s serves leads.0 leads.1 room) (here serves.honest) result does)
+  module _ (here : m.is_honest → MayLeave m m.seen) (left : n.is_honest → MayLeave n n.seen) (sized : EachCut n (HasSizes n))
+      (Leads : (table : ℕ → Option Description) (s : State) → HasStateBy known old table s → State → Type 0) (IsRoomy : Type 0)
+      (turns : (table : ℕ → Option Description) (s : State) (serves : HasStateBy known old table s) (t : State) → Leads table s serves t → Turning change old known table s serves t IsRoomy) where
+    laid_by : (table : ℕ → Option Description) (s : State) (serves : HasStateBy known old table s) (t : State) (leads : Leads table s serves t) → IsRoomy
+        → let turn = turns table s serves t leads in IsLaid turn.step old mid known table s serves turn.base turn.volume
+    laid_by table s serves t leads room =
+        let turn = turns table s serves t leads in
+        lays.laid known table s serves turn.base turn.volume turn.may turn.step turn.is (turn.room room)
 
-    pub made : (result : Result (Unit {0}) PointError) → Finishes mid new result → MakesPoint (StepsTo change) (HasRoomToStep change) old new result
+    moments : (result : Result (Unit {0}) PointError) → Finishes mid new result → (table : ℕ → Option Description) (s : State) (serves : HasStateBy known old table s) (t : State) → Leads table s serves t
+        → IsRoomy → LeavesOnly m n (λ c. OpensTo m s c ⊎ OpensTo m t c)
+    moments result does table s serves t leads room =
+        let turn = turns table s serves t leads in
+        subst (λ (u : State). LeavesOnly m n (λ c. OpensTo m s c ⊎ OpensTo m u c)) (sym turn.state)
+        (at_any_moment serves turn.step (laid_by table s serves t leads room) (here serves.honest) result does)
+
+    pub made : (result : Result (Unit {0}) PointError) → Finishes mid new result → MakesPointFrom m old.log (HasStateBy known old) Leads IsRoomy new result
     made (Ok it) does = record {
       counted = counted_after m (meaning_of mid) n no_call lays.counted (all_written {T = Unit {0}} {E = PointError} IsNotWritten (meaning_of mid) n it does.writes);
       any_moment = moments (Ok it) does;
       covered = λ table s serves t leads room.
-          covered_at new table _ t leads.2 (covered serves leads.0 (lays.laid table s serves leads.0 leads.1 room) (here serves.honest) does left sized);
+          let turn = turns table s serves t leads in
+          covered_at new table _ t turn.state (covered serves turn.step (laid_by table s serves t leads room) turn.may (here serves.honest) does left sized);
       refused = λ table s serves. tt;
       kept = tt;
       unlogged = logged_twice m (meaning_of mid) n (nothing_logged m (meaning_of mid) lays.reads.goes) does.unlogged;
@@ -191,8 +231,8 @@ module _ (cuts : CutLaws) (roots : RootLaws) (ways : WayLaws) {S : Type 0} {G : 
       log = ap (λ (k : Parts). k.log) does.parts ∙ lays.log;
       rests = ap (λ (k : Parts). k.laid) does.parts;
       unchanged = subst (λ (k : Parts). (n : ℕ) → IsChanged k.inodes n → ⊥) (sym does.parts) lays.unchanged;
-      roomy = λ table s serves room is. cc;
-      damaged = λ table s serves is. cc;
+      roomy = λ table s serves t leads room is. cc;
+      damaged = λ table s serves t leads is. cc;
       last = λ table s serves is. cc;
     }
     made (Err e) does = record {
@@ -207,29 +247,37 @@ module _ (cuts : CutLaws) (roots : RootLaws) (ways : WayLaws) {S : Type 0} {G : 
       log = inr (does.why, ap (λ (k : Parts). k.log) does.parts ∙ lays.log);
       rests = ap (λ (k : Parts). k.laid) does.parts;
       unchanged = tt;
-      roomy = λ table s serves room is. absurd (not_other e _ does.why tt is);
-      damaged = λ table s serves is. absurd (not_other e _ does.why tt is);
+      roomy = λ table s serves t leads room is. absurd (not_other e _ does.why tt is);
+      damaged = λ table s serves t leads is. absurd (not_other e _ does.why tt is);
       last = λ table s serves is. absurd (not_other e _ does.why tt is);
     }
 
--- nothing was planned
-pub not_made : (cuts : CutLaws) {S : Type 0} {G : Ghosts S} (old new : System S G) (change : SnapshotChange) (e : PointError) → Lays change old new (Err e) → MakesPoint (StepsTo change) (HasRoomToStep change) old new (Err e)
-not_made cuts old new change e lays =
-    let m = meaning_of old in
-    let n = meaning_of new in
-    record {
-      counted = lays.counted;
-      any_moment = λ table s serves t leads room.
-          leaves_unchanged m n (λ c. OpensTo m s c ⊎ OpensTo m t c) (λ honest c left. inl (served.all_open serves old.sectors old.half cuts honest c left)) lays.reads.goes;
-      covered = λ table s serves t leads room. tt;
-      refused = λ table s serves refused. lays.refused table s serves;
-      kept = λ refused. lays.reads.goes;
-      unlogged = nothing_logged m n lays.reads.goes;
-      generation = tt;
-      log = inl (lays.why, lays.log);
-      rests = lays.none;
-      unchanged = tt;
-      roomy = lays.roomy;
-      damaged = lays.damaged;
-      last = lays.last;
-    }
+-- nothing was planned, and the system has these objects in memory again
+module _ (cuts : CutLaws) {S : Type 0} {G : Ghosts S} (old new : System S G) (change : SnapshotChange) (e : PointError) (lays : Lays change old new (Err e)) (known : InodeFile)
+    (Leads : (table : ℕ → Option Description) (s : State) → HasStateBy known old table s → State → Type 0) (IsRoomy : Type 0)
+    (turns : (table : ℕ → Option Description) (s : State) (serves : HasStateBy known old table s) (t : State) → Leads table s serves t → Turning change old known table s serves t IsRoomy) where
+  abbrev before : Meaning
+  before = meaning_of old
+
+  abbrev behind : Meaning
+  behind = meaning_of new
+
+  pub not_made : (again : System S G) → meaning_of again ≡ behind → again.log ≡ new.log → again.blocks.laid ≡ new.blocks.laid
+      → ((table : ℕ → Option Description) (s : State) → HasStateBy known new table s → HasState again table s) → MakesPointFrom before old.log (HasStateBy known old) Leads IsRoomy again (Err e)
+  not_made again meaning log laid serves_again = record {
+    counted = subst (λ (n : Meaning). Counted before n (point_error_failed e)) (sym meaning) lays.counted;
+    any_moment = λ table s serves t leads room.
+        subst (λ (n : Meaning). LeavesOnly before n (λ c. OpensTo before s c ⊎ OpensTo before t c)) (sym meaning)
+        (leaves_unchanged before behind (λ c. OpensTo before s c ⊎ OpensTo before t c) (λ honest c left. inl (served.all_open serves old.sectors old.half cuts honest c left)) lays.reads.goes);
+    covered = λ table s serves t leads room. tt;
+    refused = λ table s serves refused. serves_again table s (lays.refused known table s serves);
+    kept = λ refused. subst (λ (n : Meaning). Goes Unchanged before n) (sym meaning) lays.reads.goes;
+    unlogged = subst (λ (n : Meaning). LogsNothing before n) (sym meaning) (nothing_logged before behind lays.reads.goes);
+    generation = tt;
+    log = inl (lays.why, log ∙ lays.log);
+    rests = laid ∙ lays.none;
+    unchanged = tt;
+    roomy = λ table s serves t leads room. let turn = turns table s serves t leads in lays.roomy known table s serves turn.base turn.volume turn.may (turn.room room);
+    damaged = λ table s serves t leads. let turn = turns table s serves t leads in lays.damaged known table s serves turn.base turn.volume turn.may;
+    last = λ table s serves. lays.last known table s serves;
+  }

@@ -25,3 +25,4 @@ mod CloseLaws
 mod FileChangeLaws
 mod ViewLaws
 mod SettlingLaws
+mod RestoringLaws

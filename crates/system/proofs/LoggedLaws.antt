@@ -11,7 +11,7 @@ use Rattle.layout.specs.Limits.{Sizes}
 use Rattle.layout.specs.Places.{blocks_of}
 use Rattle.layout.specs.Record.{Change, IsChange, change_bytes}
 use Rattle.model.specs.Paths.{Name}
-use Rattle.model.specs.Records.{Applies, Replays, applied, work_of}
+use Rattle.model.specs.Records.{Applies, Extends, Replays, applied, work_of}
 use Rattle.model.specs.Room.{cost, fixed_of}
 use Rattle.model.specs.States.{State}
 use Rattle.model.specs.Trees.{Description, Tree}
@@ -67,33 +67,39 @@ replayed_more {inodes} {bodies} {first} {running} records was table change is ap
 
 -- ---- what outlasts a cut
 
+-- it costs the replayed volume what it costs the running one
+pub costs_replayed : RecordLaws → (inodes : ℕ) (running last : Volume) (change : Change) (n : ℕ) → Extends running last → Applies inodes running change → n ≡ cost (work_of running change) → n ≡ cost (work_of last change)
+costs_replayed records inodes running last change n extends applies is = is ∙ ap cost (sym (records.costs inodes running last change extends applies))
+
 -- a record more is replayed, and its cost is pledged
 abbrev pub lasts_more : (records : RecordLaws) {base : Base} {snapshots : List (Name × Tree)} {pledged : ℕ} {running : Volume} (lasts : Lasts base snapshots pledged running)
     (table : ℕ → Option Description) (change : Change) → IsChange change → Applies base.root.geometry.inodes running change
-    → (n : ℕ) → ((v : Volume) → n ≡ cost (work_of v change))
+    → (n : ℕ) → n ≡ cost (work_of running change)
     → HasReserve base.root (whole (blocks_of base.disk) base.root) base.volume (lasts.replayed.changes ++ change ∷ []) → Lasts base snapshots (pledged + n) (swept table (applied change running))
 lasts_more records {base} {snapshots} {pledged} {running} lasts table change is applies n costs_it reserved = record {
   newest = lasts.newest;
   holds = lasts.holds;
   bodies = with_body lasts.bodies (change_bytes change);
   replayed = replayed_more records lasts.replayed table change is applies;
-  pledges = one_pledged base.root.geometry.inodes base.volume lasts.replayed.changes change pledged n costs_it lasts.pledges;
+  pledges = one_pledged base.root.geometry.inodes base.volume lasts.replayed.changes lasts.replayed.last change pledged n lasts.replayed.replays
+      (costs_replayed records base.root.geometry.inodes running lasts.replayed.last change n lasts.replayed.extends applies costs_it) lasts.pledges;
   reserved = reserved;
 }
 
 -- a record is in the log while a point is under way: what it may cost is pledged behind the point, too
 pub records_keep : {settled : Base} {snapshots : List (Name × Tree)} {pledged : ℕ} {running : Volume} {old : Meaning} {log : LogEnd} {w : Way} (records : RecordLaws) (lasts : Lasts settled snapshots pledged running)
-    (table : ℕ → Option Description) (change : Change) (is : IsChange change) (applies : Applies settled.root.geometry.inodes running change) (n : ℕ) (costs : (v : Volume) → n ≡ cost (work_of v change))
+    (table : ℕ → Option Description) (change : Change) (is : IsChange change) (applies : Applies settled.root.geometry.inodes running change) (n : ℕ) (costs : n ≡ cost (work_of running change))
     (reserved : HasReserve settled.root (whole (blocks_of settled.disk) settled.root) settled.volume (lasts.replayed.changes ++ change ∷ []))
     → IsUnderWay old log lasts w → (now : Meaning) (next : LogEnd) → next.epoch ≡ log.epoch → now.seen.disk ≡ old.seen.disk
     → IsUnderWay now next (lasts_more records lasts table change is applies n costs reserved) (record w { pledged = w.pledged + n })
-records_keep {settled} {w = w} records lasts table change is applies n costs reserved way now next epoch disk = record {
+records_keep {settled} {running = running} {w = w} records lasts table change is applies n costs reserved way now next epoch disk = record {
   slot = way.slot;
   planned = way.planned;
   epoch = epoch ∙ way.epoch;
   stays = record { nvram = refl; disk = λ n out. ap (λ (d : ℕ → Sector). d n) disk ∙ way.stays.disk n out };
   since = replayed_more records way.since table change is applies;
-  pledges = one_pledged settled.root.geometry.inodes w.volume way.since.changes change w.pledged n costs way.pledges;
+  pledges = one_pledged settled.root.geometry.inodes w.volume way.since.changes way.since.last change w.pledged n way.since.replays
+      (costs_replayed records settled.root.geometry.inodes running way.since.last change n way.since.extends applies costs) way.pledges;
   saves = omega (arith, way.saves);
 }
 
@@ -138,15 +144,17 @@ module _ (laws : CutLaws) (records : RecordLaws) {m : Meaning} {k : Parts} {tabl
   Reserved = HasReserve serves.settled.root (whole (blocks_of serves.settled.disk) serves.settled.root) serves.settled.volume (serves.lasts.replayed.changes ++ change ∷ [])
 
   -- where the disk has room for it
-  pub reserves : (free n : ℕ) → ((v : Volume) → n ≡ cost (work_of v change)) → ((v : Volume) → k.pledged + cost (work_of v change) + fixed_of k.root.geometry.blocks ≤ free)
+  pub reserves : (free n : ℕ) → n ≡ cost (work_of serves.running change) → k.pledged + cost (work_of serves.running change) + fixed_of k.root.geometry.blocks ≤ free
       → free ≡ free_under (whole (blocks_of serves.settled.disk) serves.settled.root).active serves.settled.root.geometry.blocks → Reserved
   reserves free n costs_it room is =
-      let first = serves.settled.volume in
+      let replayed = serves.lasts.replayed in
+      let inodes = serves.settled.root.geometry.inodes in
       omega (
         arith,
-        one_pledged serves.settled.root.geometry.inodes first serves.lasts.replayed.changes change k.pledged n costs_it serves.lasts.pledges,
-        room first,
-        costs_it first,
+        one_pledged inodes serves.settled.volume replayed.changes replayed.last change k.pledged n replayed.replays
+            (costs_replayed records inodes serves.running replayed.last change n replayed.extends applies costs_it) serves.lasts.pledges,
+        room,
+        costs_it,
         is,
         ap (λ (g : Sizes). fixed_of g.blocks) (sizes serves),
       )
@@ -154,7 +162,7 @@ module _ (laws : CutLaws) (records : RecordLaws) {m : Meaning} {k : Parts} {tabl
   same_disk : (c : Images) → (d : Images) → MayLeave m d → c.disk ≡ d.disk → SameButFree serves.settled.root serves.settled.disk c.disk
   same_disk c d left is n some = ap (λ (e : ℕ → Sector). e n) is ∙ (serves.left serves.honest d left).same n some
 
-  module _ (n : ℕ) (costs_it : (v : Volume) → n ≡ cost (work_of v change)) (reserved : Reserved) where
+  module _ (n : ℕ) (costs_it : n ≡ cost (work_of serves.running change)) (reserved : Reserved) where
     abbrev lasts_after : Lasts serves.settled serves.snapshots (k.pledged + n) volume_after
     lasts_after = lasts_more records serves.lasts table change advances.is applies n costs_it reserved
 

@@ -152,7 +152,7 @@ module _ (disk : Blocks) (r : Root) (nvram : List ℕ) (first last : Volume) (sn
 
 module _ (disk : Blocks) (r : Root) (nvram : List ℕ) (changes : List Change) (under : IsFaultlessUnder r (whole disk r) nvram changes) where
   pub grammar_read : IsReadableIn by_sizes disk r
-  grammar_read = record { sound = (under.active.grammar, under.active.numbers); root = under.active.grammar.root }
+  grammar_read = record { sound = (under.active.grammar, under.active.numbers); within = under.within; root = under.active.grammar.root }
 
   module _ (saved : Saved) (half : saved.half ≡ r.geometry.half) (generation : saved.generation ≡ r.generation) (inodes : InodeFile) (geometry : inodes.geometry ≡ r.geometry) where
     pub saves_within : SavesRecordsIn by_sizes inodes.geometry.inodes nvram saved changes under.log.first under.log.last

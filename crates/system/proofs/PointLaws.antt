@@ -8,12 +8,14 @@ use Rattle.station.proofs.Moments.{joined, leaves_unchanged, weaker}
 use Rattle.layout.specs.Log.{LogHolds, EpochHolds, IsUnopened, half_of}
 use Rattle.layout.specs.Limits.{Sizes}
 use Rattle.layout.specs.Opens.{HoldsRoot}
+use Rattle.layout.specs.SnapRoot.{Snapshot}
 use Rattle.layout.specs.Places.{blocks_of}
 use Rattle.layout.specs.Root.{root_bytes}
 use Rattle.layout.specs.declared.root.Root.{Root}
 use Rattle.model.specs.Records.{count_nameless}
 use Rattle.model.specs.Room.{fixed_of}
-use Rattle.model.specs.States.{State}
+use Rattle.model.specs.Paths.{Name}
+use Rattle.model.specs.States.{Forgets, State}
 use Rattle.model.specs.Trees.{Description}
 use Rattle.model.specs.Volumes.{Volume}
 use Rattle.blockmap.specs.Maps.{settled_at}
@@ -21,28 +23,34 @@ use Rattle.blockmap.specs.declared.map.BlockMap.{BlockMap}
 use Rattle.images.specs.BlockMap.{entry}
 use Rattle.images.specs.Cuts as points
 use Rattle.images.specs.Cuts.{Write, AreFree, LeavesFree}
+use Rattle.images.specs.Contents.{HoldsVolume, tree_contents}
 use Rattle.inofile.specs.Room.{memory_room}
-use Rattle.images.specs.Roots.{whole}
-use Rattle.images.specs.SnapshotSteps.{SnapshotStep}
-use Rattle.images.specs.States.{Opens, OpensBy}
+use Rattle.inofile.specs.Volumes.{IsVolumeOf}
+use Rattle.inofile.specs.declared.inode_file.InodeFile.{InodeFile}
+use Rattle.loading.specs.Images.{inodes_of}
+use Rattle.descriptors.specs.declared.table.Descriptors.{Descriptors}
+use Rattle.images.specs.Roots.{HeldTree, whole}
+use Rattle.images.specs.SnapshotSteps.{SnapshotStep, unchanged, taken, restored, kept_after}
+use Rattle.images.specs.States.{Opens, OpensBy, state_of}
 use Rattle.oplog.specs.LogEnd.{LogEnd, Bodies, all_bodies, no_bodies, StandsAt}
 use Rattle.conspoint.specs.Cuts.{StaysOutside, HasNewRoot, HasRootOrLost, LosesSlot}
 use Rattle.conspoint.specs.Plans.{Planned}
 use Rattle.conspoint.specs.Writes.{writes_of}
 use Rattle.system.specs.Images.{OpensTo}
 use Rattle.system.specs.Laws.{CutLaws}
-use Rattle.planning.specs.Changes.{IsStepOf, TakesNone}
+use Rattle.overlay.specs.Overlays.{planned_disk}
+use Rattle.overlay.specs.declared.laid.Laid.{Laid}
+use Rattle.planning.specs.Changes.{HasRestored, IsStepOf, SharesNone, starting_tree}
 use Rattle.planning.specs.Plans.{IsPlannable}
 use Rattle.planning.specs.declared.change.SnapshotChange.{SnapshotChange}
 use Rattle.planning.specs.declared.change.SnapshotChange.TheVariants as changes
 use Rattle.system.specs.Plans.{IsPlannedOver, LeavesRoom}
-use Rattle.system.specs.Points.{HasRoomToStep, stepped}
-use Rattle.system.specs.Room.{HasRoomToTake}
+use Rattle.system.specs.Points.{HasRoomFor, HasRoomToPlan, HasRoomToStep, MaySettle, MaySettleOver, StartsActive, turned}
 use Rattle.system.specs.Slots.{IsNewestAt, other_slot}
-use Rattle.system.specs.Systems.{Parts, HasState, IsServing, meaning_of}
+use Rattle.system.specs.Systems.{Parts, HasState, HasStateBy, IsServing, disk_of, disk_over, meaning_of}
 use Rattle.system.specs.declared.system.System.{System}
 use Rattle.system.proofs.RoomLaws.{nameless_least, rest_free}
-use Rattle.system.proofs.SystemLaws.{AtRest, all_open, at_rest, one_opens, reads_open, root_sizes}
+use Rattle.system.proofs.SystemLaws.{AtRest, all_open, at_rest, extends_itself, one_opens, reads_open, root_sizes}
 
 -- what holds of an answer that is Ok
 pub of_ok : {X E : Type 0} (r : Result X E) (x : X) (P : X → Type 0) → r ≡ Ok x → IfOk r P → P x
@@ -92,27 +100,32 @@ other_is r d slot other newest is = elim newest.is_slot [
 pub outside : (r : Root) (d : ℕ → List ℕ) (writes : List Write) (n : ℕ) → AreFree r d writes → entry (whole (blocks_of d) r).active (n / 8) ≢ 0 → points.IsOutsideWrites writes n
 outside r d writes n free some = λ k w lt same. some (ap (entry (whole (blocks_of d) r).active) (sym same) ∙ free k w lt)
 
--- what a system serves may be planned
+-- what memory stands for may be planned over a system
 pub plannable : {m : Meaning} {k : Parts} {table : ℕ → Option Description} {s : State} (serves : IsServing m k table s)
     → k.laid ≡ None → MayLeave m m.seen → (other generation : ℕ) (given : BlockMap) → other ≡ other_slot k.slot → generation ≡ k.log.epoch
     → ((b : ℕ) → settled_at given.parts.items b ≡ settled_at k.map.parts.items b)
-    → IsPlannable k.root m.seen.disk other generation given k.inodes serves.first serves.running serves.snapshots
-plannable {m} {k} serves none here other generation given other_one epoch same =
+    → (change : SnapshotChange) (files : Descriptors) (memory : InodeFile) (base v : Volume) → MaySettleOver change (blocks_of (disk_over k m.seen.disk)) k.root files memory table base v
+    → IsPlannable change k.root m.seen.disk other generation given memory base v
+plannable {m} {k} {table} serves none here other generation given other_one epoch same change files memory base v may =
     let rest = at_rest serves none in
+    let seen = subst (λ (d : ℕ → List ℕ). MaySettleOver change (blocks_of d) k.root files memory table base v) (ap (λ (l : Option Laid). planned_disk l m.seen.disk) none) may in
     record {
       other = other_is k.root m.seen.disk k.slot other rest.under.newest other_one;
       later = subst (λ (n : ℕ). k.root.generation < n) (sym epoch) (later k.log k.root.generation rest.lasts.bodies m.seen.nvram (rest.left serves.honest m.seen here).log_stands);
-      holds = rest.under.holds;
+      sound = rest.under.holds.sound;
       entries = λ b. same b ∙ rest.entries b;
-      memory = rest.memory.stands;
-      volume = rest.memory.volume;
+      restored = seen.restored;
+      holds = seen.base_held;
+      base_volume = seen.base_volume;
+      memory = seen.stands;
+      volume = seen.volume;
     }
 
 module _ (laws : CutLaws) {m : Meaning} {k : Parts} {table : ℕ → Option Description} {s : State}
     (serves : IsServing m k table s) (none : k.laid ≡ None) (size : m.sectors ≡ 8 * k.root.geometry.blocks) (half : k.log.half ≡ k.root.geometry.half)
-    (p : Planned) (new : Root) (step : SnapshotStep) (planned : IsPlannedOver step m.seen.disk k.root k.slot k.log.epoch p new serves.running) where
+    (p : Planned) (new : Root) (step : SnapshotStep) (v : Volume) (planned : IsPlannedOver step m.seen.disk k.root k.slot k.log.epoch p new v) where
   abbrev after : State
-  after = stepped step serves.first serves.snapshots s
+  after = turned k.root.geometry.inodes step v table serves.first serves.snapshots
 
   abbrev rest : AtRest serves
   rest = at_rest serves none
@@ -136,6 +149,10 @@ module _ (laws : CutLaws) {m : Meaning} {k : Parts} {table : ℕ → Option Desc
     abbrev pub reads : Opens m.sectors m.seen.disk m.seen.nvram s
     reads = reads_open laws rest.lasts (root_sizes serves size half) m.seen.nvram (rest.left serves.honest m.seen here).log_stands.holds
 
+    -- what a mount finds behind it
+    found_after : Forgets after (state_of k.root.geometry.inodes v (kept_after step serves.first serves.snapshots))
+    found_after = record { tree = laws.forgets k.root.geometry.inodes v v table planned.point.volume (extends_itself v); rest = refl }
+
     pub finished : (c : Images) → HasNewRoot p m.seen c → OpensTo m after c
     finished c has =
         let stands = (rest.left serves.honest m.seen here).log_stands in
@@ -143,13 +160,13 @@ module _ (laws : CutLaws) {m : Meaning} {k : Parts} {table : ℕ → Option Desc
         let holds = covered laws k.log k.root.generation rest.lasts.bodies m.seen.nvram small stands in
         record {
           opens = (subst (λ (nvram : List ℕ). OpensBy m.sectors c.disk nvram after []) (sym has.nvram)
-              (laws.opens m.sectors m.seen.disk c.disk m.seen.nvram s (writes_of p.blocks) p.slot new serves.running step [] serves.running reads planned.point (with_root c has)
+              (laws.opens m.sectors m.seen.disk c.disk m.seen.nvram s (writes_of p.blocks) p.slot new v step [] v reads planned.point (with_root c has)
               (record {
                 are = λ i d lt. absurd (omega (arith, lt));
                 log = subst (λ (h : ℕ). LogHolds h new.generation m.seen.nvram []) (half ∙ ap (λ s. s.half) (sym planned.point.geometry))
                     (subst (λ (g : ℕ). LogHolds k.log.half g m.seen.nvram []) (sym planned.covers) holds);
               })
-              refl (sym (laws.ends serves.running rest.lasts.replayed.last rest.lasts.replayed.extends)) planned.room.spent planned.room.leaves
+              refl after found_after planned.room.spent planned.room.leaves
               (omega (arith, planned.room.enough)))).opens;
         }
 
@@ -183,50 +200,94 @@ module _ (laws : CutLaws) {m : Meaning} {k : Parts} {table : ℕ → Option Desc
 abbrev pub OnceCovered : Meaning → Parts → (ℕ → Option Description) → State → Type 0
 OnceCovered m k table s = (serves : IsServing m k table s) × (serves.lasts.bodies ≡ no_bodies) × (serves.first ≡ serves.running)
 
--- where no snapshot is taken, all that is pledged is kept, and else what every point stores, too
-pub kept_by : {S : Type 0} {G : Ghosts S} (f : System S G) (change : SnapshotChange) (step : SnapshotStep) → IsStepOf change f.root step → HasRoomToStep change f
-    → TakesNone step ⊎ ((TakesNone step → ⊥) × HasRoomToTake f)
-kept_by f changes.Unchanged step is room = inl (subst TakesNone (sym is) tt)
-kept_by f (changes.Take k order name) step is room = inr (subst TakesNone is, room)
-kept_by f (changes.Delete k) step is room = inl (subst TakesNone (sym is.1) tt)
+-- what a system serves it may settle, if the point starts from the tree that is there
+module _ {S : Type 0} {G : Ghosts S} (f : System S G) {table : ℕ → Option Description} {s : State} (serves : HasState f table s) where
+  abbrev seen_disk : ℕ → List ℕ
+  seen_disk = disk_of f
 
--- A point is planned over a system: where it takes no snapshot, it spends no more than was pledged.
-abbrev pub IsPlannedFrom : {S : Type 0} {G : Ghosts S} → System S G → Volume → SnapshotStep → Planned → Root → Type 0
-IsPlannedFrom f running step p new =
-    (planned : IsPlannedOver step (meaning_of f).seen.disk f.root f.slot f.log.epoch p new running)
-    × (TakesNone step → planned.room.spent + 4 * count_nameless f.root.geometry.inodes running ≤ f.pledged)
+  settles_with : (change : SnapshotChange) → HasRestored change f.root (whole (blocks_of seen_disk) f.root) → starting_tree change (whole (blocks_of seen_disk) f.root) ≡ (whole (blocks_of seen_disk) f.root).active
+      → MaySettle change f f.inodes table serves.first serves.running
+  settles_with change none tree = record {
+    restored = none;
+    base_held = subst (λ (t : HeldTree). HoldsVolume f.root.geometry.inodes (tree_contents t) serves.first) (sym tree) serves.under.holds.holds;
+    base_volume = serves.under.holds.volume;
+    stands = subst (λ (t : HeldTree). IsVolumeOf f.root.geometry.blocks (blocks_of seen_disk) (inodes_of t) f.inodes serves.running) (sym tree) serves.memory.stands;
+    volume = serves.memory.volume;
+    mounted = serves.mounted;
+    fits = serves.fits;
+  }
 
--- what is planned leaves so many blocks free, if it does but for what memory needs, and for what every point stores where a snapshot is taken
-pub leaves_room : {S : Type 0} {G : Ghosts S} (f : System S G) (table : ℕ → Option Description) (s : State) (serves : HasState f table s) → f.blocks.laid ≡ None → (change : SnapshotChange) (step : SnapshotStep)
-    → IsStepOf change f.root step → HasRoomToStep change f → (writes : List Write) (new : Root)
-    → (TakesNone step → (spent : ℕ) → memory_room serves.first f.inodes serves.running ≤ spent + 4 * count_nameless f.inodes.geometry.inodes serves.running
+  pub settles_running : (change : SnapshotChange) (step : SnapshotStep) → IsStepOf change f.root step → StartsActive step → MaySettle change f f.inodes table serves.first serves.running
+  settles_running changes.Unchanged step is active = settles_with changes.Unchanged tt refl
+  settles_running (changes.Take k order name) step is active = settles_with (changes.Take k order name) tt refl
+  settles_running (changes.Delete k) step is active = settles_with (changes.Delete k) tt refl
+  settles_running (changes.Restore k file) step is active = absurd (subst StartsActive is.1 active)
+
+  -- the disk has room for what it needs
+  pub has_room : f.blocks.laid ≡ None → (change : SnapshotChange) → HasRoomToStep change f → HasRoomToPlan change f (memory_room serves.first f.inodes serves.running)
+  has_room rests changes.Unchanged room = omega (arith, serves.stored, (at_rest serves rests).all, (at_rest serves rests).lasts.pledges, (at_rest serves rests).lasts.reserved, rest_free {G = G} f.inodes f table s serves rests)
+  has_room rests (changes.Take k order name) room = omega (arith, serves.stored, (at_rest serves rests).all, room)
+  has_room rests (changes.Delete k) room = omega (arith, serves.stored, (at_rest serves rests).all, (at_rest serves rests).lasts.pledges, (at_rest serves rests).lasts.reserved, rest_free {G = G} f.inodes f table s serves rests)
+  has_room rests (changes.Restore k file) room = absurd room
+
+-- there is room for what memory needs, and what every point stores
+pub needs_fit : (change : SnapshotChange) (fixed free needs : ℕ) → HasRoomFor change fixed free needs → needs + fixed ≤ free
+needs_fit changes.Unchanged fixed free needs room = room
+needs_fit (changes.Take k order name) fixed free needs room = omega (arith, room)
+needs_fit (changes.Delete k) fixed free needs room = room
+needs_fit (changes.Restore k file) fixed free needs room = omega (arith, room)
+
+-- where no snapshot is taken or restored, what every point stores is given back, and else it is free twice
+pub kept_by : (change : SnapshotChange) (root : Root) (step : SnapshotStep) (fixed free needs : ℕ) → IsStepOf change root step → HasRoomFor change fixed free needs
+    → (SharesNone step × (needs + fixed ≤ free)) ⊎ ((step ≡ unchanged → ⊥) × (needs + 2 * fixed ≤ free))
+kept_by changes.Unchanged root step fixed free needs is room = inl (subst SharesNone (sym is) tt, room)
+kept_by (changes.Take k order name) root step fixed free needs is room = inr (λ same. other_taken (sym is ∙ same), room)
+  where
+    other_taken : {k : ℕ} {q : Snapshot} → taken k q ≡ unchanged → ⊥
+    other_taken same = cc
+kept_by (changes.Delete k) root step fixed free needs is room = inl (subst SharesNone (sym is.1) tt, room)
+kept_by (changes.Restore k file) root step fixed free needs is room = inr (λ same. other_restored (sym is.1 ∙ same), room)
+  where
+    other_restored : {k : ℕ} {name : Name} → restored k name ≡ unchanged → ⊥
+    other_restored same = cc
+
+-- A point is planned over a system: where it does nothing with the snapshots, it spends no more than was pledged, if memory needs no more.
+abbrev pub IsPlannedFrom : {S : Type 0} {G : Ghosts S} → System S G → (base v : Volume) → SnapshotStep → Planned → Root → Type 0
+IsPlannedFrom f base v step p new =
+    (planned : IsPlannedOver step (meaning_of f).seen.disk f.root f.slot f.log.epoch p new v)
+    × (step ≡ unchanged → memory_room base f.inodes v ≤ f.pledged → planned.room.spent + 4 * count_nameless f.root.geometry.inodes v ≤ f.pledged)
+
+-- what is planned leaves so many blocks free, if it does but for what memory needs, and for what every point stores where a snapshot is taken or restored
+pub leaves_room : {S : Type 0} {G : Ghosts S} (known : InodeFile) (f : System S G) (table : ℕ → Option Description) (s : State) (serves : HasStateBy known f table s) → f.blocks.laid ≡ None
+    → (change : SnapshotChange) (step : SnapshotStep) (base v : Volume) → IsStepOf change f.root step → HasRoomToPlan change f (memory_room base f.inodes v) → (writes : List Write) (new : Root)
+    → (SharesNone step → (spent : ℕ) → memory_room base f.inodes v ≤ spent + 4 * count_nameless f.inodes.geometry.inodes v
     → LeavesFree spent f.root (blocks_of (meaning_of f).seen.disk) writes new)
-    → ((spent : ℕ) → memory_room serves.first f.inodes serves.running + fixed_of f.root.geometry.blocks ≤ spent + 4 * count_nameless f.inodes.geometry.inodes serves.running
+    → ((spent : ℕ) → memory_room base f.inodes v + fixed_of f.root.geometry.blocks ≤ spent + 4 * count_nameless f.inodes.geometry.inodes v
     → LeavesFree spent f.root (blocks_of (meaning_of f).seen.disk) writes new)
-    → (room : LeavesRoom (meaning_of f).seen.disk f.root serves.running writes new) × (TakesNone step → room.spent + 4 * count_nameless f.root.geometry.inodes serves.running ≤ f.pledged)
-leaves_room f table s serves rests change step is asked writes new none_taken any =
-    let needs = memory_room serves.first f.inodes serves.running in
-    let nameless = 4 * count_nameless f.inodes.geometry.inodes serves.running in
+    → (room : LeavesRoom (meaning_of f).seen.disk f.root v writes new)
+    × (step ≡ unchanged → memory_room base f.inodes v ≤ f.pledged → room.spent + 4 * count_nameless f.root.geometry.inodes v ≤ f.pledged)
+leaves_room {G = G} known f table s serves rests change step base v asked has writes new none_taken any =
+    let needs = memory_room base f.inodes v in
+    let nameless = 4 * count_nameless f.inodes.geometry.inodes v in
     let fixed = fixed_of f.root.geometry.blocks in
-    let least = nameless_least serves.first f.inodes serves.running f.inodes.geometry.inodes in
-    let sizes = ap (λ (x : Sizes). count_nameless x.inodes serves.running) f.sizes in
-    let rest = at_rest serves rests in
-    let free = rest_free f table s serves rests in
-    elim (kept_by f change step is asked) [
-      | inl none ↦ (
+    let least = nameless_least base f.inodes v f.inodes.geometry.inodes in
+    let sizes = ap (λ (x : Sizes). count_nameless x.inodes v) f.sizes in
+    let free = rest_free {G = G} known f table s serves rests in
+    elim (kept_by change f.root step fixed f.free needs asked has) [
+      | inl (none, enough) ↦ (
         record {
           spent = needs - nameless;
           leaves = none_taken none (needs - nameless) (omega (arith, least));
-          enough = omega (arith, least, serves.stored, rest.all, rest.lasts.pledges, rest.lasts.reserved, sizes);
+          enough = omega (arith, least, enough, sizes, free);
         },
-        λ takes_none. omega (arith, least, serves.stored, rest.all, sizes),
+        λ same few. omega (arith, least, few, sizes),
       )
-      | inr (taken, enough) ↦ (
+      | inr (other, enough) ↦ (
         record {
           spent = needs + fixed - nameless;
           leaves = any (needs + fixed - nameless) (omega (arith, least));
-          enough = omega (arith, least, serves.stored, rest.all, enough, sizes, free);
+          enough = omega (arith, least, enough, sizes, free);
         },
-        λ takes_none. absurd (taken takes_none),
+        λ same. absurd (other same),
       )
     ]

@@ -5,7 +5,7 @@ use Rattle.std.proofs.lemmas.Bool.{cases_lt, cond-false, ne_eqb}
 use Rattle.std.proofs.lemmas.List.{length-replicate}
 use Rattle.layout.specs.Limits.{Sizes}
 use Rattle.layout.specs.Places.{blocks_of}
-use Rattle.model.specs.Records.{Change, applied, costs, count_nameless, pledged_for, work_of, create, link, unname, rename, write, cut, change_mode}
+use Rattle.model.specs.Records.{Change, Replays, applied, costs, count_nameless, pledged_for, work_of, create, link, unname, rename, write, cut, change_mode}
 use Rattle.model.specs.Room.{cost}
 use Rattle.model.specs.States.{State}
 use Rattle.model.specs.Trees.{Description}
@@ -28,20 +28,21 @@ use Rattle.replay.specs.Costs.{IsSizeBefore}
 use Rattle.station.specs.declared.station.Station.{Ghosts}
 use Rattle.system.specs.Images.{Base}
 use Rattle.system.specs.Memory.{HasEntries}
-use Rattle.system.specs.Systems.{HasState, meaning_of}
+use Rattle.system.specs.Systems.{HasState, HasStateBy, meaning_of}
 use Rattle.system.specs.declared.system.System.{System}
 use Rattle.system.proofs.SystemLaws.{at_rest, sizes}
 
 -- ---- what is pledged
 
--- a record more costs what it costs any volume
-costs_more : (v : Volume) (changes : List Change) (change : Change) (k : ℕ) → ((u : Volume) → k ≡ cost (work_of u change)) → costs v (changes ++ change ∷ []) ≡ costs v changes + k
-costs_more v [] change k is = omega (arith, is v)
-costs_more v (c ∷ changes) change k is = omega (arith, costs_more (applied c v) changes change k is)
+-- a record more costs what it costs the volume that the others lead to
+costs_more : (inodes : ℕ) (v : Volume) (changes : List Change) (last : Volume) (change : Change) (k : ℕ) → Replays inodes v changes last → k ≡ cost (work_of last change)
+    → costs v (changes ++ change ∷ []) ≡ costs v changes + k
+costs_more inodes v [] last change k replays is = omega (arith, is, ap (λ (u : Volume). cost (work_of u change)) replays)
+costs_more inodes v (c ∷ changes) last change k replays is = omega (arith, costs_more inodes (applied c v) changes last change k replays.1 is)
 
-pub one_pledged : (inodes : ℕ) (first : Volume) (changes : List Change) (change : Change) (pledged k : ℕ) → ((v : Volume) → k ≡ cost (work_of v change))
+pub one_pledged : (inodes : ℕ) (first : Volume) (changes : List Change) (last : Volume) (change : Change) (pledged k : ℕ) → Replays inodes first changes last → k ≡ cost (work_of last change)
     → pledged ≡ pledged_for inodes first changes → pledged + k ≡ pledged_for inodes first (changes ++ change ∷ [])
-one_pledged inodes first changes change pledged k is so_far = omega (arith, so_far, costs_more first changes change k is)
+one_pledged inodes first changes last change pledged k replays is so_far = omega (arith, so_far, costs_more inodes first changes last change k replays is)
 
 false_is : (b : Bool) → (IsTrue b → ⊥) → IsFalse b
 false_is true not_true = absurd (not_true refl)
@@ -64,17 +65,20 @@ free_same t map has (suc b) = λ i. free_same t map has b i + (if has b i == 0 t
 abbrev pub free_of : Base → ℕ
 free_of base = free_under (whole (blocks_of base.disk) base.root).active base.root.geometry.blocks
 
--- what a system keeps of it
-pub free_is : {S : Type 0} {G : Ghosts S} (f : System S G) (table : ℕ → Option Description) (s : State) → (serves : HasState f table s) → f.free ≡ free_of serves.settled
-free_is f table s serves =
+-- what a system keeps of it, whatever objects memory would serve by
+pub free_by : {S : Type 0} {G : Ghosts S} (known : InodeFile) (f : System S G) (table : ℕ → Option Description) (s : State) → (serves : HasStateBy known f table s) → f.free ≡ free_of serves.settled
+free_by known f table s serves =
     f.counted ∙ ap (free_below f.map.parts.items) f.count
     ∙ free_same (whole (blocks_of serves.settled.disk) serves.settled.root).active f.map serves.entries f.root.geometry.blocks
     ∙ ap (λ (g : Sizes). free_under (whole (blocks_of serves.settled.disk) serves.settled.root).active g.blocks) (sym (sizes serves))
 
+pub free_is : {S : Type 0} {G : Ghosts S} (f : System S G) (table : ℕ → Option Description) (s : State) → (serves : HasState f table s) → f.free ≡ free_of serves.settled
+free_is {G = G} f table s serves = free_by {G = G} f.inodes f table s serves
+
 -- where no consistency point is under way it is so under the root
-pub rest_free : {S : Type 0} {G : Ghosts S} (f : System S G) (table : ℕ → Option Description) (s : State) → HasState f table s → f.blocks.laid ≡ None
+pub rest_free : {S : Type 0} {G : Ghosts S} (known : InodeFile) (f : System S G) (table : ℕ → Option Description) (s : State) → HasStateBy known f table s → f.blocks.laid ≡ None
     → f.free ≡ free_under (whole (blocks_of (meaning_of f).seen.disk) f.root).active f.root.geometry.blocks
-rest_free f table s serves none = free_is f table s serves ∙ ap free_of (at_rest serves none).base
+rest_free {G = G} known f table s serves none = free_by {G = G} known f table s serves ∙ ap free_of (at_rest serves none).base
 
 free_settled : (given m : BlockMap) → ((b : ℕ) → settled_at given.parts.items b ≡ settled_at m.parts.items b) → (n : ℕ) → free_below given.parts.items n ≡ free_below m.parts.items n
 unfolding free_below
@@ -101,10 +105,10 @@ system_kept r w exact = omega (arith, kept 0 (omega arith), kept 1 (omega arith)
     kept b low = cond-false (entry w.active b == 0) 1 0 (ne_eqb (entry w.active b) 0 (λ free. no_bit 31 _ free ((exact.system b).1 (roots low))))
 
 -- what is left of its map with no change is all that
-pub all_left : {S : Type 0} {G : Ghosts S} (f : System S G) (table : ℕ → Option Description) (s : State) → HasState f table s → f.blocks.laid ≡ None
+pub all_left : {S : Type 0} {G : Ghosts S} (known : InodeFile) (f : System S G) (table : ℕ → Option Description) (s : State) → HasStateBy known f table s → f.blocks.laid ≡ None
     → (given : BlockMap) → given.next ≡ 2 → given.count ≡ f.map.count → ((b : ℕ) → settled_at given.parts.items b ≡ settled_at f.map.parts.items b) → left given ≡ f.free
 unfolding left
-all_left f table s serves none given fresh count settled =
+all_left known f table s serves none given fresh count settled =
     let rest = at_rest serves none in
     let w = whole (blocks_of (meaning_of f).seen.disk) f.root in
     let low : free_below given.parts.items given.next ≡ 0 =
@@ -114,18 +118,18 @@ all_left f table s serves none given fresh count settled =
 -- ---- what a record costs
 
 -- a volume whose files all have so many bytes
-abbrev files_of : ℕ → Volume
+abbrev pub files_of : ℕ → Volume
 files_of size n = Some (file_node 0 1 (replicate size 0))
 
--- what it costs over the volumes where its file has one size it costs over all
-pub same_cost : (change : Change) (size k : ℕ) → ((v : Volume) → IsSizeBefore v change size → k ≡ cost (work_of v change)) → (v : Volume) → k ≡ cost (work_of v change)
-same_cost (create number parent made name) size k told v = told v tt
-same_cost (link number parent name) size k told v = told v tt
-same_cost (unname parent name) size k told v = told v tt
-same_cost (rename parent name new_parent new_name) size k told v = told v tt
-same_cost (write number offset bytes) size k told v = told (files_of size) (sym (length-replicate size 0))
-same_cost (cut number new) size k told v = told (files_of size) (sym (length-replicate size 0))
-same_cost (change_mode number mode) size k told v = told v tt
+-- in it a record's file has this size
+pub files_sized : (change : Change) (size : ℕ) → IsSizeBefore (files_of size) change size
+files_sized (create number parent made name) size = tt
+files_sized (link number parent name) size = tt
+files_sized (unname parent name) size = tt
+files_sized (rename parent name new_parent new_name) size = tt
+files_sized (write number offset bytes) size = sym (length-replicate size 0)
+files_sized (cut number new) size = sym (length-replicate size 0)
+files_sized (change_mode number mode) size = tt
 
 -- ---- files without names
 

@@ -7,6 +7,7 @@ use Rattle.layout.specs.Places.{blocks_of}
 use Rattle.layout.specs.Root.{root_bytes}
 use Rattle.layout.specs.declared.inode.Inode.{Inode}
 use Rattle.layout.specs.declared.root.Root.{Root}
+use Rattle.layout.specs.declared.version.TheConstants.{VERSION}
 use Rattle.model.specs.Paths.{Name}
 use Rattle.model.specs.States.{State}
 use Rattle.model.specs.Trees.{Description, Tree}
@@ -60,16 +61,16 @@ none_replayed inodes running = record {
 -- on images that have the new root of a point
 module _ (cuts : CutLaws) (laws : RootLaws) {m : Meaning} {k : Parts} {table : ℕ → Option Description} {s : State}
     (serves : IsServing m k table s) (none : k.laid ≡ None) (size : m.sectors ≡ 8 * k.root.geometry.blocks) (half : k.log.half ≡ k.root.geometry.half)
-    (p : Planned) (new : Root) (step : SnapshotStep) (planned : IsPlannedOver step m.seen.disk k.root k.slot k.log.epoch p new serves.running)
+    (p : Planned) (new : Root) (step : SnapshotStep) (v : Volume) (planned : IsPlannedOver step m.seen.disk k.root k.slot k.log.epoch p new v)
     (here : MayLeave m m.seen) (e : Images) (has : HasNewRoot p m.seen e) where
   abbrev rest : AtRest serves
   rest = at_rest serves none
 
   abbrev opens : Opens m.sectors m.seen.disk m.seen.nvram s
-  opens = points_laws.reads cuts serves none size half p new step planned here
+  opens = points_laws.reads cuts serves none size half p new step v planned here
 
   pub images : points.HasRootWritten (writes_of p.blocks) p.slot (root_bytes new) m.seen.disk e.disk
-  images = points_laws.with_root cuts serves none size half p new step planned here e has
+  images = points_laws.with_root cuts serves none size half p new step v planned here e has
 
   -- what isn't written is as it was
   stays : (b : ℕ) → 2 ≤ b → All (λ w. w.place ≢ b) (writes_of p.blocks) → blocks_of e.disk b ≡ blocks_of m.seen.disk b
@@ -94,32 +95,32 @@ module _ (cuts : CutLaws) (laws : RootLaws) {m : Meaning} {k : Parts} {table : �
   abbrev kept_then : List (Name × Tree)
   kept_then = kept_after step serves.first serves.snapshots
 
-  pub under : IsUnder p.slot new serves.running kept_then e.disk
+  pub under : IsUnder p.slot new v kept_then e.disk
   under = record {
     newest = record {
       is_slot = slot_is k.root m.seen.disk p.slot planned.point.slot;
       there = record { root = planned.point.root; spelled = images.root_is };
-      newest = laws.newest m.sectors m.seen.disk e.disk m.seen.nvram s (writes_of p.blocks) p.slot new serves.running step opens planned.point images;
+      newest = laws.newest m.sectors m.seen.disk e.disk m.seen.nvram s (writes_of p.blocks) p.slot new v step opens planned.point images;
     };
-    holds = laws.holds m.sectors m.seen.disk e.disk m.seen.nvram s (writes_of p.blocks) p.slot new serves.running step opens planned.point images;
+    holds = laws.holds m.sectors m.seen.disk e.disk m.seen.nvram s (writes_of p.blocks) p.slot new v step opens planned.point images;
   }
 
   -- ---- memory under the new root
 
-  pub memory : (file : File) (now_inodes : InodeFile) → k.inodes.geometry ≡ k.root.geometry → IsFileOfInode new.inode_file file
-      → ((count : ℕ) (disk : ℕ → List ℕ) (settled : ℕ → Inode) (v : Volume) → AreSettled count disk k.inodes.geometry file settled → MapsVolume k.inodes.numbers.bytes.items v
-      → HoldsVolume k.inodes.geometry.inodes (λ n. held_content disk (settled n)) v → IsVolumeOf count disk settled now_inodes v)
-      → IsInMemory (blocks_of e.disk) new now_inodes serves.running
-  memory file now_inodes same is_file volume =
+  pub memory : (file : File) (inodes now_inodes : InodeFile) → inodes.geometry ≡ k.root.geometry → MapsVolume inodes.numbers.bytes.items v → IsFileOfInode new.inode_file file
+      → ((count : ℕ) (disk : ℕ → List ℕ) (settled : ℕ → Inode) (v : Volume) → AreSettled count disk VERSION inodes.geometry file settled → MapsVolume inodes.numbers.bytes.items v
+      → HoldsVolume inodes.geometry.inodes (λ n. held_content disk (settled n)) v → IsVolumeOf count disk settled now_inodes v)
+      → IsInMemory (blocks_of e.disk) new now_inodes v
+  memory file inodes now_inodes same mapped is_file volume =
       let d = blocks_of e.disk in
       let settled : ℕ → Inode = inodes_of (whole d new).active in
-      let geometry : new.geometry ≡ k.inodes.geometry = planned.point.geometry ∙ sym same in
-      let ready = laws.readable d new serves.running kept_then under.holds in
+      let geometry : new.geometry ≡ inodes.geometry = planned.point.geometry ∙ sym same in
+      let ready = laws.readable d new v kept_then under.holds in
       record {
-        stands = volume new.geometry.blocks d settled serves.running
-            (subst (λ (g : Sizes). AreSettled new.geometry.blocks d g file settled) geometry (laws.settled d new file planned.point.root ready is_file))
-            rest.memory.stands.mapped
-            (subst (λ (g : Sizes). HoldsVolume g.inodes (λ n. held_content d (settled n)) serves.running) geometry
-            (laws.held d new serves.running planned.point.root ready under.holds.holds));
+        stands = volume new.geometry.blocks d settled v
+            (subst (λ (g : Sizes). AreSettled new.geometry.blocks d VERSION g file settled) geometry (laws.settled d new file planned.point.root ready is_file))
+            mapped
+            (subst (λ (g : Sizes). HoldsVolume g.inodes (λ n. held_content d (settled n)) v) geometry
+            (laws.held d new v planned.point.root ready under.holds.holds));
         volume = under.holds.volume;
       }

@@ -11,7 +11,7 @@ use Rattle.layout.specs.declared.version.TheConstants.{SNAPSHOT_SLOTS}
 use Rattle.model.specs.Laws.{MountsForget}
 use Rattle.model.specs.Paths.{Name, first_refusal}
 use Rattle.model.specs.Records.{without_nameless}
-use Rattle.model.specs.Room.{Need, a_snapshot, nothing}
+use Rattle.model.specs.Room.{Need, Room, a_snapshot, nothing}
 use Rattle.model.specs.States.{State, ForgetsOpenFiles, with_snapshots}
 use Rattle.model.specs.Steps.{Step, deletes, frozen, passing, says, take_tests, takes}
 use Rattle.model.specs.Trees.{Tree}
@@ -26,7 +26,7 @@ use Rattle.buffers.specs.Disks.{ReadsOn}
 use Rattle.blocktree.specs.declared.error.ReadError.{ReadError}
 use Rattle.blocktree.specs.declared.error.ReadError.TheVariants as read_errors
 use Rattle.images.specs.Roots.{whole}
-use Rattle.images.specs.SnapshotSteps.{CanDelete, CanTake}
+use Rattle.images.specs.SnapshotSteps.{HasNamed, CanTake}
 use Rattle.oplog.specs.LogEnd.{LogEnd}
 use Rattle.oplog.specs.declared.log.End.TheVariants.{Unopened}
 use Rattle.conspoint.specs.Errors.{plan_error}
@@ -39,7 +39,7 @@ use Rattle.snapshots.specs.declared.taking.Taking.{Taking}
 use Rattle.system.specs.Counting.{AgesBy, Counted, Failed, LogsNothing, no_call, point_error_failed}
 use Rattle.system.specs.Errors.{IsNotWritten, IsRefused, call_error}
 use Rattle.system.specs.Images.{OpensTo}
-use Rattle.system.specs.Serving.{IsBrokenOff, LeavesEither, ServesState, WouldCall, WouldChange}
+use Rattle.system.specs.Serving.{IsBrokenOff, LeavesEither, ServesState, WouldCall, WouldChange, WouldDo}
 use Rattle.system.specs.Settling.{Glances, IsSettled, Settles}
 use Rattle.system.specs.Slicing.{Finishes}
 use Rattle.system.specs.Systems.{Parts, disk_of, meaning_of}
@@ -50,7 +50,8 @@ use Rattle.system.specs.declared.system.System.{System}
 use Rattle.system.proofs.CountingLaws.{all_read, all_written, counted_after, logged_twice, next_age, not_read, not_written, nothing_logged, perhaps_read, same_age}
 use Rattle.system.proofs.HandlingLaws.{opens_same}
 use Rattle.system.proofs.ServingLaws.{AllOpen}
-use Rattle.system.proofs.ViewLaws.{closed, extends_itself, snapshots_of}
+use Rattle.system.proofs.SystemLaws.{extends_itself}
+use Rattle.system.proofs.ViewLaws.{closed, snapshots_of}
 
 error_is : (x y : PointError) (r q : Result (Result (Unit {0}) Errno) PointError) → r ≡ Err x → q ≡ Err y → r ≡ q → x ≡ y
 error_is x y r q first second is = cc
@@ -253,7 +254,7 @@ module _ {S : Type 0} {G : Ghosts S} (old : System S G) {read : System S G} (end
 
   -- it wasn't, and so nothing else was done
   pub not_ended : (P : State → Type 0) (c : Command) (e : PointError) → e ≡ point.NotWritten → Finishes read ended (Err e)
-      → ((s : State) → ServesState old s → (reply : Reply) × (after : State) × (need : Need) × WouldCall s c reply after need) → Settles old ended P c (Err e)
+      → ((s : State) → ServesState old s → (reply : Reply) × (after : State) × (need : (Room → Need)) × WouldDo s c reply after need) → Settles old ended P c (Err e)
   not_ended P c e why told would =
       let same = ended_log told in
       not_settled old ended (meaning_of read) P c (all_read (meaning_of old) (meaning_of read) reads counted) (nothing_logged (meaning_of old) (meaning_of read) reads.goes) told.unlogged e
@@ -291,9 +292,9 @@ module _ (s : State) (name : Name) where
   would_take t is forgets = record {
     reply = Done;
     after = with_snapshots (s.snapshots ++ (name, t) ∷ []) s;
-    need = a_snapshot;
+    need = λ room. a_snapshot;
     step = λ room. take_done t is forgets;
-    needs = λ e. cc;
+    needs = λ room e. cc;
   }
 
 -- the tree of the state that a system serves, without its open files
@@ -326,7 +327,7 @@ can_take r disk other name t root same may low =
     })
 
 pub can_delete : (r : Root) (disk : Blocks) (name : Name) (pairs : List (Name × Tree)) (f : FoundSnapshot) → FindsSnapshot r disk name pairs (Some f) → (1 ≤ f.slot) × (f.slot ≤ SNAPSHOT_SLOTS)
-    → CanDelete r (whole disk r) f.slot name
+    → HasNamed r (whole disk r) f.slot name
 can_delete r disk name pairs f finds number =
     record { number = record { first = number.0; last = number.1 }; snapshot = snapshot_found name f; has = finds.0; named = refl }
 

@@ -21,13 +21,15 @@ use Rattle.system.specs.Errors.{IsNotWritten}
 use Rattle.system.specs.Images.{OpensTo}
 use Rattle.system.specs.Laws.{CutLaws, RootLaws}
 use Rattle.system.specs.Slicing.{CarriesOut, Finishes, Lays, Steps, StepsOn}
-use Rattle.system.specs.Systems.{Parts, HasState, IsComing, IsServing, disk_of, meaning_of, system_parts}
+use Rattle.inofile.specs.declared.inode_file.InodeFile.{InodeFile}
+use Rattle.system.specs.Systems.{Parts, HasState, HasStateBy, IsComing, IsServing, disk_of, meaning_of, system_parts}
 use Rattle.system.specs.UnderWay.{WayLaws}
 use Rattle.system.specs.declared.error.PointError.{PointError}
 use Rattle.system.specs.declared.error.PointError.TheVariants.{NotWritten}
 use Rattle.system.specs.declared.slicing.TheConstants.{SLICE_BLOCKS}
 use Rattle.system.specs.declared.system.System.{System}
 use Rattle.system.proofs.CountingLaws.{next_age, nothing_logged, perhaps_read, same_age}
+use Rattle.system.proofs.PointLaws.{has_room, settles_running}
 use Rattle.system.proofs.SystemLaws.{all_open}
 use Rattle.system.proofs.GoingOnLaws.{carried_unlogged, coming_of, end_leaves, ended, laid_serves, slice_leaves, slice_unlogged, sliced, wrote}
 
@@ -82,11 +84,12 @@ module _ {S : Type 0} {G : Ghosts S} (laws : CutLaws) (old new : System S G) (no
 
   pub planned_step : (r : Result (Unit {0}) PointError) → Lays Unchanged old new r → Steps old new (Ok tt)
   planned_step (Ok u) lays =
-      lays_on lays (λ table s serves. laid_serves old new table s serves none first lays.reads lays.log lays.same.0 lays.same.1 (lays.laid table s serves unchanged (record { is = refl; can = tt }) tt))
+      lays_on lays (λ table s serves. laid_serves old new table s serves none first lays.reads lays.log lays.same.0 lays.same.1 (lays.laid old.inodes table s serves serves.first serves.running
+      (settles_running {G = G} old serves Unchanged unchanged refl tt) unchanged (record { is = refl; can = tt }) (has_room {G = G} old serves none Unchanged tt)))
       (next_age old.log.epoch new.log.epoch (ap (λ (l : LogEnd). l.epoch) lays.log)) (ap (λ (l : LogEnd). l.is_stopped) lays.log)
       (planned_so old.blocks.laid new.blocks.laid none lays.unwritten)
   planned_step (Err e) lays =
-      lays_on lays lays.refused (same_age old.log.epoch new.log.epoch (ap (λ (l : LogEnd). l.epoch) lays.log)) (ap (λ (l : LogEnd). l.is_stopped) lays.log)
+      lays_on lays (λ table s serves. subst (λ (i : InodeFile). HasStateBy i new table s) (sym lays.memory) (lays.refused old.inodes table s serves)) (same_age old.log.epoch new.log.epoch (ap (λ (l : LogEnd). l.epoch) lays.log)) (ap (λ (l : LogEnd). l.is_stopped) lays.log)
       (planned_so old.blocks.laid new.blocks.laid none (subst (λ (l : Option Laid). IfSome l (λ l. l.plan.written ≡ 0)) (sym lays.none) tt))
 
 -- ---- what the blocks were told

@@ -1,4 +1,5 @@
 -- The images of a system that serves a state open to it.
+use Rattle.std.specs.Prelude.{IsTrue}
 use Rattle.std.proofs.Common.{◌≡◌, inl, inr, ℕ, ◌*◌, List, Option, Some, None, refl, ap, sym, subst, ◌∙◌, arith}
 use Rattle.station.specs.Images.{Images, Sector}
 use Rattle.station.specs.Moments.{Meaning, EachCut}
@@ -8,17 +9,17 @@ use Rattle.layout.specs.Limits.{Sizes}
 use Rattle.layout.specs.Places.{Blocks, blocks_of}
 use Rattle.layout.specs.declared.root.Root.{Root}
 use Rattle.model.specs.Paths.{Name}
-use Rattle.model.specs.Records.{without_nameless}
-use Rattle.model.specs.States.{State, Forgets, going}
+use Rattle.model.specs.Records.{Extends, is_vacant}
+use Rattle.model.specs.States.{State, Forgets}
 use Rattle.model.specs.Trees.{Description, Tree}
-use Rattle.model.specs.Volumes.{Volume, IsVolume, tree_of}
+use Rattle.model.specs.Volumes.{Node, Volume, IsVolume}
 use Rattle.buffers.specs.declared.kept.Kept.{Kept}
 use Rattle.blockmap.specs.Maps.{entry_at, settled_at}
 use Rattle.blockmap.specs.declared.map.BlockMap.{BlockMap}
 use Rattle.inofile.specs.Volumes.{IsVolumeOf}
 use Rattle.inofile.specs.declared.inode_file.InodeFile.{InodeFile}
 use Rattle.images.specs.Roots.{whole}
-use Rattle.images.specs.States.{Opens, SameButFree}
+use Rattle.images.specs.States.{Opens, SameButFree, state_of}
 use Rattle.inofile.specs.Room.{NeedsNoMore}
 use Rattle.inofile.proofs.RoomLaws.{needs_room}
 use Rattle.loading.specs.Images.{inodes_of}
@@ -32,6 +33,10 @@ use Rattle.system.specs.Memory.{HasEntries, HasEntriesToCome, IsInMemory}
 use Rattle.system.specs.Systems.{Parts, IsComing, IsServing, disk_over, state_with}
 use Rattle.system.specs.Views.{ShowsSnapshot}
 use Rattle.system.specs.UnderWay.{IsUnderWay, Way}
+
+-- a volume and itself
+pub extends_itself : (v : Volume) → Extends v v
+extends_itself v = record { kept = λ n some. refl; rest = λ n none. subst (λ (o : Option Node). IsTrue (is_vacant o)) (sym none) refl }
 
 -- memory over the tree of a root
 abbrev pub OverRoot : Blocks → Root → InodeFile → Volume → Type 0
@@ -155,22 +160,20 @@ pub record AreOf (sizes : Sizes) (m : Meaning) (log : LogEnd) (running : Volume)
   pub volume : IsVolume sizes.inodes running
   pub state : s ≡ state_with sizes.inodes running table snapshots
 
+-- what a mount finds of the state is that of a replayed volume
+pub found_of : CutLaws → {sizes : Sizes} {m : Meaning} {log : LogEnd} {running : Volume} {table : ℕ → Option Description} {snapshots : List (Name × Tree)} {s : State}
+    → AreOf sizes m log running table snapshots s → (last : Volume) → Extends running last → Forgets s (state_of sizes.inodes last snapshots)
+found_of laws {sizes} {running = running} {table = table} {snapshots = snapshots} are last extends =
+    subst (λ (t : State). Forgets t (state_of sizes.inodes last snapshots)) (sym are.state) (record {
+      tree = laws.forgets sizes.inodes running last table are.volume extends;
+      rest = refl;
+    })
+
 -- What outlasts a cut opens to the state of the running volume.
 module _ (laws : CutLaws) {m : Meaning} {base : Base} {snapshots : List (Name × Tree)} {log : LogEnd} {pledged : ℕ} {running : Volume} (lasts : Lasts base snapshots pledged running)
     {table : ℕ → Option Description} {s : State} (are : AreOf base.root.geometry m log running table snapshots s) where
-  abbrev found : State
-  found = record {
-    inodes = base.root.geometry.inodes;
-    tree = tree_of (without_nameless lasts.replayed.last) (λ d. None);
-    snapshots = snapshots;
-    mark = going;
-  }
-
-  pub finds : Forgets s found
-  finds = subst (λ (t : State). Forgets t found) (sym are.state) (record {
-    tree = laws.forgets base.root.geometry.inodes running lasts.replayed.last table are.volume lasts.replayed.extends;
-    rest = refl;
-  })
+  pub finds : Forgets s (state_of base.root.geometry.inodes lasts.replayed.last snapshots)
+  finds = found_of laws are lasts.replayed.last lasts.replayed.extends
 
   -- its disk, with any NVRAM that has its records
   abbrev pub reads_open : (nvram : List ℕ) → LogHolds log.half base.root.generation nvram (all_bodies lasts.bodies) → Opens m.sectors base.disk nvram s

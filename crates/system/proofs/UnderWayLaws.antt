@@ -11,7 +11,7 @@ use Rattle.layout.specs.declared.root.Root.{Root}
 use Rattle.model.specs.Paths.{Name}
 use Rattle.model.specs.Records.{Replays, count_nameless, pledged_for}
 use Rattle.model.specs.Room.{fixed_of}
-use Rattle.model.specs.States.{State, with_snapshots}
+use Rattle.model.specs.States.{State}
 use Rattle.model.specs.Trees.{Description, Tree}
 use Rattle.model.specs.Volumes.{Volume}
 use Rattle.images.specs.Cuts as points
@@ -30,7 +30,7 @@ use Rattle.system.specs.Plans.{IsPlannedOver}
 use Rattle.system.specs.UnderWay.{Way, IsUnderWay, WayLaws, all_older, base_to_come, newest_of, way_at}
 use Rattle.system.proofs.PointLaws.{outside}
 use Rattle.system.proofs.SettledLaws.{none_replayed}
-use Rattle.system.proofs.SystemLaws.{AreOf, one_opens, reads_open}
+use Rattle.system.proofs.SystemLaws.{AreOf, found_of, one_opens, reads_open}
 
 -- a plan of which so much is written, where the epoch that its root covers is said otherwise
 abbrev planned_at : {disk : ℕ → Sector} {root new : Root} {slot epoch : ℕ} {p : Planned} {v : Volume} → (n other : ℕ) → epoch ≡ other
@@ -167,7 +167,6 @@ module _ (laws : CutLaws) {m : Meaning} {log : LogEnd} {settled : Base} {snapsho
     new_opens : (c : Images) → HasNewRoot w.plan m.seen c → OpensTo m s c
     new_opens c has = record {
       opens = subst (λ (nvram : List ℕ). Opens m.sectors c.disk nvram s) (sym has.nvram)
-          (subst (λ (t : State). Opens m.sectors c.disk m.seen.nvram t) (ap (with_snapshots snapshots) are.state ∙ sym are.state)
           (laws.opens m.sectors settled.disk c.disk m.seen.nvram s (writes_of w.plan.blocks) w.plan.slot w.root w.volume unchanged way.since.changes way.since.last opens way.planned.point
           (with_root c (rooted c has))
           (record {
@@ -176,8 +175,7 @@ module _ (laws : CutLaws) {m : Meaning} {log : LogEnd} {settled : Base} {snapsho
                 (subst (λ (h : ℕ). LogHolds h w.root.generation m.seen.nvram lasts.bodies.newest) (are.half ∙ ap (λ (g : Sizes). g.half) (sym way.planned.point.geometry)) log_then.holds);
           })
           way.since.replays
-          (laws.ends running way.since.last way.since.extends ∙ sym (laws.ends running lasts.replayed.last lasts.replayed.extends))
-          way.planned.room.spent way.planned.room.leaves enough).opens);
+          s (found_of laws are way.since.last way.since.extends) way.planned.room.spent way.planned.room.leaves enough).opens;
     }
 
     lost_opens : (c : Images) → LosesSlot w.plan m.seen c → OpensTo m s c

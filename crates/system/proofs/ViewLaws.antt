@@ -3,12 +3,12 @@ use Rattle.std.proofs.Common.{◌≡◌, ◌∙◌, ℕ, List, [], ◌∷◌, ap
 use Rattle.std.specs.Prelude.{IsTrue}
 use Rattle.model.specs.Laws.{MountsForget}
 use Rattle.model.specs.Paths.{Name}
-use Rattle.model.specs.Records.{Extends, is_vacant, without_nameless}
+use Rattle.model.specs.Records.{without_nameless}
 use Rattle.model.specs.Room.{nothing}
 use Rattle.model.specs.States.{State}
 use Rattle.model.specs.Steps.{Step, calls, frozen, is_reading_call, passing, says, views}
 use Rattle.model.specs.Trees.{Description, Tree}
-use Rattle.model.specs.Volumes.{Node, Volume, IsVolume, tree_of}
+use Rattle.model.specs.Volumes.{Volume, IsVolume, tree_of}
 use Rattle.model.specs.declared.command.PathCall.{PathCall}
 use Rattle.model.specs.declared.errno.Errno.TheVariants.{EROFS, NOSNAP}
 use Rattle.model.specs.declared.reply.Reply.{Reply}
@@ -32,13 +32,10 @@ use Rattle.system.specs.Views.{KeepsView, ShowsSnapshot, StandsForSnapshot}
 use Rattle.system.specs.declared.snapshot_reading.View.{View}
 use Rattle.system.specs.declared.system.System.{System}
 use Rattle.system.proofs.LookedLaws.{ServesOver}
-use Rattle.system.proofs.SystemLaws.{read_into}
+use Rattle.system.proofs.SystemLaws.{extends_itself, read_into}
 
 abbrev pub closed : ℕ → Option Description
 closed d = None
-
-pub extends_itself : (v : Volume) → Extends v v
-extends_itself v = record { kept = λ n some. refl; rest = λ n none. subst (λ (o : Option Node). IsTrue (is_vacant o)) (sym none) refl }
 
 -- what is answered on a volume is answered on the tree that a snapshot of it has
 pub frozen_told : MountsForget → ReadingForgets → (inodes n : ℕ) (v : Volume) (c : PathCall) (reply : Reply) → IsVolume inodes v → IsTrue (is_reading_call c)

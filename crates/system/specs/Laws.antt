@@ -8,11 +8,12 @@ use Rattle.layout.specs.Record.{Change}
 use Rattle.layout.specs.Root.{IsRoot, root_bytes}
 use Rattle.layout.specs.declared.TheConstants.{SLOT_A, SLOT_B}
 use Rattle.layout.specs.declared.root.Root.{Root}
-use Rattle.model.specs.Laws.{MountsForget, RecordsKeepVolumes, ReplayEndsSame, ReplayFollows, SweepsKeepVolumes}
+use Rattle.layout.specs.declared.version.TheConstants.{VERSION}
+use Rattle.model.specs.Laws.{MountsForget, RecordsKeepVolumes, ReplayFollows, ReplaysCostTheSame, SweepsKeepVolumes}
 use Rattle.model.specs.Paths.{Name}
-use Rattle.model.specs.Records.{Replays, pledged_for, without_nameless}
+use Rattle.model.specs.Records.{Replays, pledged_for}
 use Rattle.model.specs.Room.{fixed_of}
-use Rattle.model.specs.States.{State, with_snapshots}
+use Rattle.model.specs.States.{Forgets, State}
 use Rattle.model.specs.Trees.{Tree}
 use Rattle.model.specs.Volumes.{Volume}
 use Rattle.inode.specs.declared.file.File.{File}
@@ -24,7 +25,7 @@ use Rattle.images.specs.Cuts.{IsOfDisk, IsPointWith, LeavesFree, Write}
 use Rattle.images.specs.Room.{free_under}
 use Rattle.images.specs.Roots.{whole, Needs}
 use Rattle.images.specs.SnapshotSteps.{SnapshotStep, kept_after}
-use Rattle.images.specs.States.{Holds, IsSound, LogHoldsChanges, Opens, OpensBy, SameButFree}
+use Rattle.images.specs.States.{Holds, IsSound, LogHoldsChanges, Opens, OpensBy, SameButFree, state_of}
 use Rattle.conspoint.specs.Cuts.{HasNewRoot, LosesSlot, StaysOutside, disk_with_blocks}
 use Rattle.conspoint.specs.Plans.{Planned}
 use Rattle.conspoint.specs.Writes.{writes_of}
@@ -34,7 +35,6 @@ use Rattle.loading.specs.Images.{IsFileOfInode, IsReadable, inodes_of}
 -- on the images that a cut leaves
 pub record CutLaws : Type 0 where
   pub forgets : MountsForget
-  pub ends : ReplayEndsSame
   pub free : (sectors : ℕ) (d e : ℕ → List ℕ) (nvram : List ℕ) (s : State)
       → (o : Opens sectors d nvram s) → SameButFree o.root d e → OpensBy sectors e nvram s o.changes
   pub unfinished : (blocks : List PlannedBlock) (old new : Images) → StaysOutside blocks old new
@@ -52,11 +52,12 @@ pub record CutLaws : Type 0 where
       (last : Volume) → (o : Opens sectors d nvram s)
       → IsPointWith step o.root d writes sector new v
       → points.HasRootWritten writes sector (root_bytes new) d e → LogHoldsChanges new nvram rest
-      → Replays o.root.geometry.inodes v rest last → without_nameless last ≡ without_nameless o.last
+      → Replays o.root.geometry.inodes v rest last → (t : State)
+      → Forgets t (state_of o.root.geometry.inodes last (kept_after step o.first o.snapshots))
       → (spent : ℕ) → LeavesFree spent o.root (blocks_of d) writes new
       → pledged_for o.root.geometry.inodes v rest + fixed_of o.root.geometry.blocks + spent
       ≤ free_under (whole (blocks_of d) o.root).active o.root.geometry.blocks
-      → OpensBy sectors e nvram (with_snapshots (kept_after step o.first o.snapshots) s) rest
+      → OpensBy sectors e nvram t rest
   pub one : (half g : ℕ) (nvram : List ℕ) (bodies : List (List ℕ)) → g + 3 < 2 ^ 64
       → (log : LogHolds half g nvram bodies) → LogHolds half (g + 1) nvram log.second
   pub both : (half g : ℕ) (nvram : List ℕ) (bodies : List (List ℕ)) → g + 4 < 2 ^ 64
@@ -88,7 +89,7 @@ pub record RootLaws : Type 0 where
       → Holds r (whole d r) first snapshots → IsReadable d r
   pub settled : (d : Blocks) (r : Root) (file : File) → IsRoot r → IsReadable d r
       → IsFileOfInode r.inode_file file
-      → AreSettled r.geometry.blocks d r.geometry file (inodes_of (whole d r).active)
+      → AreSettled r.geometry.blocks d VERSION r.geometry file (inodes_of (whole d r).active)
   pub held : (d : Blocks) (r : Root) (v : Volume) → IsRoot r → IsReadable d r
       → HoldsVolume r.geometry.inodes (tree_contents (whole d r).active) v
       → HoldsVolume r.geometry.inodes (λ n. held_content d (inodes_of (whole d r).active n)) v
@@ -98,5 +99,6 @@ pub record RootLaws : Type 0 where
 -- on records
 pub record RecordLaws : Type 0 where
   pub follow : ReplayFollows
+  pub costs : ReplaysCostTheSame
   pub volumes : RecordsKeepVolumes
   pub sweeps : SweepsKeepVolumes

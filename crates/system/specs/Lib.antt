@@ -19,4 +19,5 @@ pub mod Changing
 pub mod Answering
 pub mod OpenFiles
 pub mod Settling
+pub mod Restoring
 pub mod Slicing

@@ -12,7 +12,7 @@ use Rattle.model.specs.declared.reply.Reply.{Reply}
 use Rattle.model.specs.declared.reply.Reply.TheVariants.{Refused}
 use Rattle.model.specs.Circumstances.{IsSure}
 use Rattle.model.specs.Records.{Change, work_of}
-use Rattle.model.specs.Room.{Need, Room, Work, nothing, logs, a_snapshot}
+use Rattle.model.specs.Room.{Need, Room, Work, nothing, logs, a_snapshot, a_restore}
 use Rattle.model.specs.States.{State}
 use Rattle.model.specs.Steps.{WouldStep}
 use Rattle.model.specs.Volumes.{Volume}
@@ -38,6 +38,7 @@ IsCall command.Sync = ⊥
 IsCall command.Df = ⊥
 IsCall (command.SnapTake name) = ⊥
 IsCall (command.SnapDelete name) = ⊥
+IsCall (command.SnapRestore name) = ⊥
 IsCall call = Unit {0}
 
 -- the command is a call on descriptors: it opens one, or names one that is open
@@ -60,13 +61,17 @@ IsAtOnce files call = ⊥
 abbrev pub WouldCall : State → Command → Reply → State → Need → Type 0
 WouldCall s call reply after need = (room : Room) → WouldStep room s call reply after need
 
+-- the same, where what is needed may be by the room
+abbrev pub WouldDo : State → Command → Reply → State → (Room → Need) → Type 0
+WouldDo s call reply after need = (room : Room) → WouldStep room s call reply after (need room)
+
 -- the call would change something
 pub record WouldChange (s : State) (call : Command) : Type 0 where
   pub reply : Reply
   pub after : State
-  pub need : Need
-  pub step : WouldCall s call reply after need
-  pub needs : need ≢ nothing
+  pub need : Room → Need
+  pub step : WouldDo s call reply after need
+  pub needs : (room : Room) → need room ≢ nothing
 
 -- the reply is no refusal
 abbrev pub IsAccepted : Reply → Type 0
@@ -89,6 +94,7 @@ abbrev pub HasLogged : Need → Volume → List Change → List Change → Type 
 HasLogged nothing v before after = after ≡ before
 HasLogged (logs work) v before after = (change : Change) × (work ≡ work_of v change) × (after ≡ before ++ change ∷ [])
 HasLogged a_snapshot v before after = ⊥
+HasLogged (a_restore nameless) v before after = ⊥
 
 -- A call was done on a system that serves a state: it is answered so, the disk had room for what it needed, the system serves the state
 -- that it leaves, and the log has what the call needed, and nothing else.
@@ -107,8 +113,8 @@ pub record IsBrokenOff {S : Type 0} {G : Ghosts S} (old new : System S G) (s : S
     (call : Command) : Type 0 where
   pub reply : Reply
   pub after : State
-  pub need : Need
-  pub step : WouldCall s call reply after need
+  pub need : Room → Need
+  pub step : WouldDo s call reply after need
   pub leaves : LeavesEither (meaning_of old) (meaning_of new) s after
 
 -- A call on a system at a state would change something, and the disk has no room for its work.

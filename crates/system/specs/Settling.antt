@@ -3,11 +3,9 @@ use Rattle.std.specs.Prelude.{◌≡◌, ◌≢◌, OnOk, ◌≤◌, ◌^◌, If
 use Rattle.station.specs.Images.{Unchanged}
 use Rattle.station.specs.Moments.{Goes, LeavesOnly}
 use Rattle.station.specs.declared.station.Station.{Ghosts}
-use Rattle.model.specs.Paths.{Name}
-use Rattle.model.specs.Room.{Need, nothing}
+use Rattle.model.specs.Room.{Need, Room, nothing}
 use Rattle.model.specs.States.{State}
 use Rattle.model.specs.declared.command.Command.{Command}
-use Rattle.model.specs.declared.command.Command.TheVariants as command
 use Rattle.model.specs.declared.errno.Errno.{Errno}
 use Rattle.model.specs.declared.errno.Errno.TheVariants.{EIO}
 use Rattle.model.specs.declared.reply.Reply.TheVariants.{Done, Refused}
@@ -16,7 +14,7 @@ use Rattle.conspoint.specs.declared.error.PlanError.TheVariants as plan
 use Rattle.system.specs.Counting.{AgesBy, Counted, LogsNothing, call_failed, point_failed}
 use Rattle.system.specs.Errors.{IsRefused}
 use Rattle.system.specs.Images.{OpensTo}
-use Rattle.system.specs.Serving.{HasEmptyLog, IsBrokenOff, LeavesEither, ServesState, WouldCall, WouldChange}
+use Rattle.system.specs.Serving.{HasEmptyLog, IsBrokenOff, LeavesEither, ServesState, WouldCall, WouldChange, WouldDo}
 use Rattle.system.specs.Systems.{IsCovered, meaning_of}
 use Rattle.system.specs.declared.error.CallError.{CallError}
 use Rattle.system.specs.declared.error.CallError.TheVariants.{Damaged, LogFull, NoRoom, NotWritten, StepDue}
@@ -33,16 +31,16 @@ pub record Glances {S : Type 0} {G : Ghosts S} {T : Type 0} (old new : System S 
   pub serves : (s : State) → ServesState old s → ServesState new s
   pub damaged : (s : State) → ServesState old s → IsErrOf result Damaged → ⊥
 
--- of the tests of `snap take` on a state this is the first refusal, or it would take one
-abbrev pub TestsTake : State → Name → Option Errno → Type 0
-TestsTake s name (Some errno) = WouldCall s (command.SnapTake name) (Refused errno) s nothing
-TestsTake s name None = WouldChange s (command.SnapTake name)
+-- of a command's own tests on a state this is the first refusal, or it would change something
+abbrev pub TestsCommand : State → Command → Option Errno → Type 0
+TestsCommand s c (Some errno) = WouldCall s c (Refused errno) s nothing
+TestsCommand s c None = WouldChange s c
 
 -- A command was done on a system at a state, and its root holds all of the state that it leaves.
 pub record IsSettled {S : Type 0} {G : Ghosts S} (old new : System S G) (s : State) (c : Command) : Type 0 where
   pub after : State
-  pub need : Need
-  pub step : WouldCall s c Done after need
+  pub need : Room → Need
+  pub step : WouldDo s c Done after need
   pub covered : IsCovered new after.tree.descriptors after
   pub leaves : LeavesEither (meaning_of old) (meaning_of new) s after
 

@@ -1,5 +1,5 @@
 -- A consistency point that is carried out in slices, between calls.
-use Rattle.std.specs.Prelude.{[], ℕ, ◌≡◌, ◌≢◌, ◌⊎◌, ◌+◌, ◌*◌, ◌<◌, ◌≤◌, ◌^◌, List, Option, Some, None, Result, Ok, Err, OnOk, IfErr, IfOk, IfSome, IsErrOf, IsFalse, MatchResult, length}
+use Rattle.std.specs.Prelude.{[], ℕ, ◌≡◌, ◌≢◌, ◌⊎◌, ◌+◌, ◌*◌, ◌<◌, ◌≤◌, ◌^◌, List, Option, Some, None, Result, Ok, Err, OnOk, OnErr, IfErr, IfOk, IfSome, IsErrOf, IsFalse, MatchResult, length}
 use Rattle.station.specs.Calls.{OnlyWrites}
 use Rattle.station.specs.Moments.{After, EachCut, LeavesJust, LeavesOnly}
 use Rattle.station.specs.declared.station.Station.{Ghosts}
@@ -7,6 +7,7 @@ use Rattle.layout.specs.Places.{blocks_of}
 use Rattle.model.specs.Records.{count_nameless}
 use Rattle.model.specs.States.{State}
 use Rattle.model.specs.Trees.{Description}
+use Rattle.model.specs.Volumes.{Volume}
 use Rattle.model.specs.declared.command.Command.{Command}
 use Rattle.model.specs.declared.errno.Errno.{Errno}
 use Rattle.model.specs.declared.reply.Reply.{Reply}
@@ -17,8 +18,9 @@ use Rattle.blockmap.specs.Changes.{SettlesAs}
 use Rattle.blockmap.specs.Maps.{entry_at}
 use Rattle.inofile.specs.Inodes.{IsChanged}
 use Rattle.inofile.specs.Room.{memory_room}
+use Rattle.inofile.specs.declared.inode_file.InodeFile.{InodeFile}
 use Rattle.images.specs.Roots.{whole}
-use Rattle.images.specs.SnapshotSteps.{SnapshotStep, kept_after}
+use Rattle.images.specs.SnapshotSteps.{SnapshotStep, unchanged, kept_after}
 use Rattle.oplog.specs.LogEnd.{Bodies, StandsAt, all_bodies, no_bodies}
 use Rattle.oplog.specs.declared.log.End.TheVariants.{Unopened}
 use Rattle.conspoint.specs.Cuts.{HasNewRoot, HasRootOrLost, StaysOutside}
@@ -26,16 +28,15 @@ use Rattle.conspoint.specs.Plans.{IsPlanned}
 use Rattle.conspoint.specs.declared.error.PlanError.TheVariants.{Damaged, NoSpace}
 use Rattle.overlay.specs.Overlays.{ShowsOver}
 use Rattle.overlay.specs.declared.laid.Laid.{Laid}
-use Rattle.planning.specs.Changes.{TakesNone}
 use Rattle.planning.specs.declared.change.SnapshotChange.{SnapshotChange}
 use Rattle.system.specs.Counting.{AgesBy, Counted, Failed, LogsNothing, a_write, beside_reads, call_failed, perhaps_reads, point_failed}
 use Rattle.system.specs.Errors.{IsNotWritten, IsRefused}
 use Rattle.system.specs.Images.{IsUnder, OpensTo}
 use Rattle.system.specs.Memory.{HasEntries, HasEntriesToCome, IsInMemory}
 use Rattle.system.specs.Plans.{IsPlannedOver}
-use Rattle.system.specs.Points.{HasRoomToStep, IsStepFor}
+use Rattle.system.specs.Points.{HasRoomToPlan, IsStepFor, MaySettle}
 use Rattle.system.specs.Serving.{AnswersAtOnce, HasEmptyLog, IsAtOnce, IsBrokenOff, IsCalled, IsSureOn, LacksRoom, LeavesEither, ServesState, TellsNoFault, WouldChange}
-use Rattle.system.specs.Systems.{HasState, IsCovered, disk_of, meaning_of, system_parts}
+use Rattle.system.specs.Systems.{HasState, HasStateBy, IsCovered, disk_of, meaning_of, system_parts}
 use Rattle.system.specs.declared.error.CallError.{CallError}
 use Rattle.system.specs.declared.error.CallError.TheVariants as calls
 use Rattle.system.specs.declared.error.CallError.TheVariants.{LogFull, NoRoom, NotWritten, StepDue}
@@ -47,18 +48,19 @@ use Rattle.system.specs.declared.system.System.{System}
 -- ---- a point is laid over the blocks
 
 -- A point that does this with the snapshots is under way on a system, of which nothing is written: memory stands on its root, over
--- the disk that it leaves. What is pledged for what that root doesn't cover is what its files without names may cost.
-pub record IsLaid {S : Type 0} {G : Ghosts S} (step : SnapshotStep) (old new : System S G) (table : ℕ → Option Description) (s : State)
-    (serves : HasState old table s) : Type 0 where
+-- the disk that it leaves, for the volume that it settles over that base, whatever memory served before. What is pledged for what that
+-- root doesn't cover is what its files without names may cost.
+pub record IsLaid {S : Type 0} {G : Ghosts S} (step : SnapshotStep) (old new : System S G) (known : InodeFile) (table : ℕ → Option Description) (s : State)
+    (serves : HasStateBy known old table s) (base v : Volume) : Type 0 where
   pub laid : Laid
   pub is : new.blocks.laid ≡ Some laid
   pub unwritten : laid.plan.written ≡ 0
   pub sound : IsPlanned laid.plan
   pub slot : new.slot ≡ laid.plan.slot
-  pub planned : IsPlannedOver step (meaning_of old).seen.disk old.root old.slot old.log.epoch laid.plan new.root serves.running
-  pub under : IsUnder new.slot new.root serves.running (kept_after step serves.first serves.snapshots) (disk_of new)
+  pub planned : IsPlannedOver step (meaning_of old).seen.disk old.root old.slot old.log.epoch laid.plan new.root v
+  pub under : IsUnder new.slot new.root v (kept_after step serves.first serves.snapshots) (disk_of new)
   pub shows : ShowsOver (meaning_of new) new.blocks.buffers.kept new.blocks.laid (blocks_of (disk_of new))
-  pub memory : IsInMemory (blocks_of (disk_of new)) new.root new.inodes serves.running
+  pub memory : IsInMemory (blocks_of (disk_of new)) new.root new.inodes v
   pub viewless : new.view ≡ None
   pub entries : HasEntries (whole (blocks_of (meaning_of old).seen.disk) old.root).active new.map
   pub to_come : HasEntriesToCome (whole (blocks_of (disk_of new)) new.root).active new.map
@@ -66,27 +68,35 @@ pub record IsLaid {S : Type 0} {G : Ghosts S} (step : SnapshotStep) (old new : S
       → StandsAt new.log g (record { older = all_bodies bodies; newest = [] }) nvram
   pub covered : (g : ℕ) (bodies : Bodies) (nvram : List ℕ) → g < 2 ^ 62 → StandsAt old.log g bodies nvram
       → StandsAt new.log old.log.epoch no_bodies nvram
-  pub pledges : new.pledged_then ≡ 4 * count_nameless old.root.geometry.inodes serves.running
-  pub stored : memory_room serves.running new.inodes serves.running ≤ new.pledged_then
-  pub saves : TakesNone step → planned.room.spent + new.pledged_then ≤ old.pledged
+  pub pledges : new.pledged_then ≡ 4 * count_nameless old.root.geometry.inodes v
+  pub stored : memory_room v new.inodes v ≤ new.pledged_then
+  pub saves : step ≡ unchanged → memory_room base old.inodes v ≤ old.pledged → planned.room.spent + new.pledged_then ≤ old.pledged
 
--- What laying a point over a system's blocks does, or why there is none: nothing is done but reading. A refused one leaves what was.
+-- What laying a point over a system's blocks does, which settles the objects that are in memory, or why there is none: nothing is done but
+-- reading. A refused one leaves what was, and what the system would serve by other objects.
 pub record Lays {S : Type 0} {G : Ghosts S} (change : SnapshotChange) (old new : System S G) (result : Result (Unit {0}) PointError) : Type 0 where
   pub reads : ReadsOn (meaning_of old) (meaning_of new)
   pub counted : Counted (meaning_of old) (meaning_of new) (point_failed result)
   pub why : IfErr result IsRefused
   pub none : IfErr result (λ e. new.blocks.laid ≡ None)
-  pub refused : (table : ℕ → Option Description) (s : State) → HasState old table s → IfErr result (λ e. HasState new table s)
+  pub refused : (known : InodeFile) (table : ℕ → Option Description) (s : State) → HasStateBy known old table s
+      → IfErr result (λ e. HasStateBy known new table s)
+  pub memory : OnErr result (new.inodes ≡ old.inodes)
   pub log : MatchResult result (λ _. new.log ≡ record old.log { epoch = old.log.epoch + 1; end = Unopened }) (λ _. new.log ≡ old.log)
   pub same : OnOk result ((new.pledged ≡ old.pledged) × (new.files ≡ old.files))
   pub generation : OnOk result (new.root.generation ≡ old.log.epoch)
   pub unchanged : OnOk result ((n : ℕ) → IsChanged new.inodes n → ⊥)
   pub unwritten : OnOk result (IfSome new.blocks.laid (λ l. l.plan.written ≡ 0))
-  pub laid : (table : ℕ → Option Description) (s : State) → (serves : HasState old table s) → (step : SnapshotStep) → IsStepFor change old step
-      → HasRoomToStep change old → OnOk result (IsLaid step old new table s serves)
-  pub roomy : (table : ℕ → Option Description) (s : State) → HasState old table s → HasRoomToStep change old → IsErrOf result (NotPlanned NoSpace) → ⊥
-  pub damaged : (table : ℕ → Option Description) (s : State) → HasState old table s → IsErrOf result (NotPlanned Damaged) → ⊥
-  pub last : (table : ℕ → Option Description) (s : State) → HasState old table s → IsErrOf result NoGeneration → 2 ^ 62 ≤ old.log.epoch
+  pub laid : (known : InodeFile) (table : ℕ → Option Description) (s : State) → (serves : HasStateBy known old table s) → (base v : Volume)
+      → MaySettle change old old.inodes table base v → (step : SnapshotStep) → IsStepFor change old step
+      → HasRoomToPlan change old (memory_room base old.inodes v) → OnOk result (IsLaid step old new known table s serves base v)
+  pub roomy : (known : InodeFile) (table : ℕ → Option Description) (s : State) → HasStateBy known old table s → (base v : Volume)
+      → MaySettle change old old.inodes table base v → HasRoomToPlan change old (memory_room base old.inodes v)
+      → IsErrOf result (NotPlanned NoSpace) → ⊥
+  pub damaged : (known : InodeFile) (table : ℕ → Option Description) (s : State) → HasStateBy known old table s → (base v : Volume)
+      → MaySettle change old old.inodes table base v → IsErrOf result (NotPlanned Damaged) → ⊥
+  pub last : (known : InodeFile) (table : ℕ → Option Description) (s : State) → HasStateBy known old table s
+      → IsErrOf result NoGeneration → 2 ^ 62 ≤ old.log.epoch
 
 -- ---- it is carried out
 

@@ -129,6 +129,10 @@ abbrev pub HasState : {S : Type 0} {G : Ghosts S} → System S G → (ℕ → Op
     → Type 0
 HasState f table s = IsServing (meaning_of f) (system_parts f) table s
 
+-- the same, were these the objects in memory
+abbrev pub HasStateBy : {S : Type 0} {G : Ghosts S} → InodeFile → System S G → (ℕ → Option Description) → State → Type 0
+HasStateBy inodes f table s = IsServing (meaning_of f) (record (system_parts f) { inodes = inodes }) table s
+
 -- the same, with this running volume, and with these records beside the root
 pub record IsServingWith (m : Meaning) (k : Parts) (table : ℕ → Option Description) (s : State)
     (running : Volume) (changes : List Change) : Type 0 where

@@ -18,7 +18,7 @@ use images::{
 };
 use loading::{readable_inodes_are_settled, volumes_are_readable};
 use model::{
-    mounts_forget_open_files, records_keep_volumes, replays_end_same, replays_follow,
+    mounts_forget_open_files, records_keep_volumes, replays_cost_the_same, replays_follow,
     sweeps_keep_volumes,
 };
 use oplog::roots_cover_the_older_epoch;
@@ -37,7 +37,6 @@ pub(crate) fn cuts_open()
     ensures { CutLaws }
 {
     mounts_forget_open_files();
-    replays_end_same();
     free_blocks_are_no_matter();
     cuts_are_those_of_images();
     lost_slots_open_as_before();
@@ -70,6 +69,7 @@ pub(crate) fn records_lead_on()
     ensures { RecordLaws }
 {
     replays_follow();
+    replays_cost_the_same();
     records_keep_volumes();
     sweeps_keep_volumes();
 }

@@ -16,6 +16,7 @@ mod open_files;
 mod opening;
 mod point;
 mod reading;
+mod restoring;
 mod room;
 mod serving;
 mod settling;

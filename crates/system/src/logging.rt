@@ -14,7 +14,7 @@ ghost use Rattle.oplog.specs.LogEnd.{HasRoomInHalf, behind_record, logged_body};
 ghost use Rattle.system.specs.Images.{OpensTo};
 ghost use Rattle.records.specs.Prepared.{IsReady};
 ghost use Rattle.system.specs.Logging.{Advances, DoesOver, WouldServe};
-ghost use Rattle.replay.specs.Costs.{KnowsFile};
+ghost use Rattle.replay.specs.Costs.{IsSizeBefore, KnowsFile};
 ghost use Rattle.system.specs.Room.{HasRoomForWork, HasRoomToLog};
 ghost use Rattle.system.specs.Serving.{IsStepDue, LeavesEither};
 ghost use Rattle.system.specs.Systems.{HasState, ServesWith, meaning_of, system_parts, state_with};
@@ -30,11 +30,11 @@ use station::Station;
 
 impl<S: Station> System<S> {
     /// Puts a record into the log; what it does to memory is to follow. A cut at any moment leaves the state before it or the one after
-    /// it. `LogFull`, where it doesn't fit what is left of the log's half, and `NoMemory` change nothing; after `Device` the log has
-    /// stopped, and whether the record counts is known at the next mount.
-    pub(crate) fn log_record(&mut self, change: &Record) -> Result<(), AppendError>
+    /// it. What it costs is by the size of the file that it writes to or cuts. `LogFull`, where it doesn't fit what is left of the log's
+    /// half, and `NoMemory` change nothing; after `Device` the log has stopped, and whether the record counts is known at the next mount.
+    pub(crate) fn log_record(&mut self, change: &Record, size: u64) -> Result<(), AppendError>
         requires fits { KeepsLimits (change_of change.now) }
-        requires room { HasRoomToLog self.old (change_of change.now) }
+        requires room { HasRoomToLog self.old (change_of change.now) size }
         ensures writes { OnlyWrites
             (λ e. (e ≡ AppendError.Device) × IsFalse self.old.log.is_stopped)
             (meaning_of self.old) (meaning_of self.new) result }
@@ -52,12 +52,14 @@ impl<S: Station> System<S> {
           pledged_then = self.new.pledged_then;
         }) × OnErr result ((self.new.pledged ≡ self.old.pledged)
             × (self.new.pledged_then ≡ self.old.pledged_then)) }
-        ensures pledges { (v : Volume) → OnOk result ((self.new.pledged
+        ensures pledges { (v : Volume) → IsSizeBefore v (change_of change.now) size
+            → OnOk result ((self.new.pledged
             ≡ self.old.pledged + cost (work_of v (change_of change.now)))
             × (self.new.pledged_then
             ≡ self.old.pledged_then + cost (work_of v (change_of change.now)))) }
         ensures any_moment { (table : ℕ → Option Description) (s : State)
             → (serves : HasState self.old table s)
+            → IsSizeBefore serves.running (change_of change.now) size
             → Advances self.old.root.geometry.inodes serves.running table (change_of change.now)
             → LeavesOnly (meaning_of self.old) (meaning_of self.new)
             (λ c. OpensTo (meaning_of self.old) s c ⊎ OpensTo (meaning_of self.old)
@@ -65,6 +67,7 @@ impl<S: Station> System<S> {
             (swept table (applied (change_of change.now) serves.running)) table serves.snapshots) c) }
         ensures logged { (table : ℕ → Option Description) (s : State)
             → (serves : HasState self.old table s)
+            → IsSizeBefore serves.running (change_of change.now) size
             → Advances self.old.root.geometry.inodes serves.running table (change_of change.now)
             → OnOk result (WouldServe self.old self.new serves.first
             (swept table (applied (change_of change.now) serves.running))
@@ -74,7 +77,7 @@ impl<S: Station> System<S> {
     {
         cuts_open();
         records_lead_on();
-        let cost = cost_of(change, size_before(&self.inodes, change));
+        let cost = cost_of(change, size);
         match self
             .log
             .append(self.alloc, &mut self.blocks.buffers.station, change)
@@ -131,12 +134,14 @@ impl<S: Station> System<S> {
             × OnOk result (self.new.log.is_stopped ≡ self.old.log.is_stopped) }
         ensures any_moment { (table : ℕ → Option Description) (s : State)
             → (serves : HasState self.old table s)
+            → KnowsFile self.old.inodes (change_of change.now)
             → Advances self.old.root.geometry.inodes serves.running table (change_of change.now)
             → LeavesEither (meaning_of self.old) (meaning_of self.new) s
             (state_with self.old.root.geometry.inodes
             (swept table (applied (change_of change.now) serves.running)) table serves.snapshots) }
         ensures done { (table : ℕ → Option Description) (s : State)
             → (serves : HasState self.old table s)
+            → KnowsFile self.old.inodes (change_of change.now)
             → Advances self.old.root.geometry.inodes serves.running table (change_of change.now)
             → DoesOver self.old serves.running prepared (change_of change.now)
             → let after = swept table (applied (change_of change.now) serves.running) in
@@ -148,13 +153,14 @@ impl<S: Station> System<S> {
         if steps && self.is_step_due() {
             return Err(CallError::StepDue);
         }
-        if !self.has_room(change) {
+        let size = size_before(&self.inodes, change);
+        if !self.has_room(change, size) {
             return Err(CallError::NoRoom);
         }
         if self.log.epoch() != self.root.generation.epoch_after(1) {
             return Err(CallError::LogFull);
         }
-        if let Err(error) = self.log_record(change) {
+        if let Err(error) = self.log_record(change, size) {
             return Err(log_error(error));
         }
         commit_swept(&mut self.inodes, &mut self.files, prepared);

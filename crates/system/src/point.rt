@@ -1,13 +1,17 @@
 //! A consistency point of a mounted system.
 
 ghost use Rattle.std.specs.Prelude.{◌≡◌, None};
+ghost use Rattle.inofile.specs.Room.{memory_room};
+ghost use Rattle.model.specs.Volumes.{Volume};
 ghost use Rattle.planning.specs.Changes.{FitsSlots};
-ghost use Rattle.system.specs.Points.{HasRoomToStep, MakesPoint, StaysAt, StepsTo};
+ghost use Rattle.system.specs.Points.{HasRoomToPlan, HasRoomToStep, MakesPoint, StaysAt, StepsTo, TurnsTo};
 
 use crate::laws::{cuts_open, new_roots_hold, points_go_on};
 use crate::{PointError, System};
+use inofile::InodeFile;
 use planning::SnapshotChange;
 use station::Station;
+use std::mem;
 
 impl<S: Station> System<S> {
     /// Makes a consistency point: a new root holds the running volume and covers all records. What the system serves stays
@@ -20,8 +24,9 @@ impl<S: Station> System<S> {
         self.point_with(&SnapshotChange::Unchanged)
     }
 
-    /// Makes a consistency point that does with the snapshots what is asked for, too. A cut at any moment leaves what the system
-    /// served, or that with the snapshot taken or deleted; else as `point`. A snapshot that is taken has the tree that the root holds.
+    /// Makes a consistency point that does with the snapshots what is asked for, too, and starts from the tree that is there. A cut at any
+    /// moment leaves what the system served, or that with the snapshot taken or deleted; else as `point`. A snapshot that is taken has the
+    /// tree that the root holds.
     pub(crate) fn point_with(&mut self, change: &SnapshotChange<'_>) -> Result<(), PointError>
         requires rests { self.old.blocks.laid ≡ None }
         requires fits { FitsSlots change.now }
@@ -32,5 +37,31 @@ impl<S: Station> System<S> {
         points_go_on();
         self.lay_point(change)?;
         self.finish()
+    }
+
+    /// Makes a consistency point that settles these objects in place of those in memory, which come back where it is refused. A cut at any
+    /// moment leaves what the system served, or what these stand for; else as `point_with`.
+    pub(crate) fn point_over(
+        &mut self,
+        memory: InodeFile,
+        change: &SnapshotChange<'_>,
+    ) -> Result<(), PointError>
+        requires rests { self.old.blocks.laid ≡ None }
+        requires fits { FitsSlots change.now }
+        requires sizes { memory.geometry ≡ self.old.root.geometry }
+        ensures { (base v : Volume) → MakesPoint (TurnsTo change.now memory base v)
+            (λ f. HasRoomToPlan change.now f (memory_room base memory v)) self.old self.new result }
+    {
+        cuts_open();
+        new_roots_hold();
+        points_go_on();
+        let known = mem::replace(&mut self.inodes, memory);
+        match self.lay_point(change) {
+            Ok(()) => self.finish(),
+            Err(error) => {
+                self.inodes = known;
+                Err(error)
+            }
+        }
     }
 }

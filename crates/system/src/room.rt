@@ -1,18 +1,16 @@
 //! Whether the disk has room for what is asked of it.
 
-ghost use Rattle.std.specs.Prelude.{◌≡◌, ◌↔◌, ℕ, Option, IsTrue};
+ghost use Rattle.std.specs.Prelude.{◌≡◌, ◌↔◌, IsTrue};
 ghost use Rattle.layout.specs.Record.{KeepsLimits, change_of};
 ghost use Rattle.model.specs.Records.{work_of};
 ghost use Rattle.model.specs.Room as room;
-ghost use Rattle.model.specs.States.{State};
-ghost use Rattle.model.specs.Trees.{Description};
-ghost use Rattle.replay.specs.Costs.{KnowsFile};
-ghost use Rattle.system.specs.Room.{HasRoomForWork, HasRoomToLog, HasRoomToTake};
-ghost use Rattle.system.specs.Systems.{HasState};
+ghost use Rattle.model.specs.Volumes.{Volume};
+ghost use Rattle.replay.specs.Costs.{IsSizeBefore};
+ghost use Rattle.system.specs.Room.{HasRoomBesides, HasRoomForWork, HasRoomToLog, HasRoomToTake};
 
 use crate::System;
 use layout::Record;
-use replay::{cost_of, keep_of, size_before};
+use replay::{cost_of, keep_of};
 use station::Station;
 
 /// Blocks that every consistency point may store, whatever changed, on a disk of so many.
@@ -23,16 +21,14 @@ fn fixed_of(blocks: u32) -> u64
 }
 
 impl<S: Station> System<S> {
-    /// Whether the disk has room for a record whose change is prepared, beside all that may be stored already and what stays free
-    /// behind it.
-    pub(crate) fn has_room(&self, change: &Record<'_>) -> bool
+    /// Whether the disk has room for a record whose change is prepared, where the file that it writes to or cuts has so many bytes: beside
+    /// all that may be stored already and what stays free behind it.
+    pub(crate) fn has_room(&self, change: &Record<'_>, size: u64) -> bool
         requires { KeepsLimits (change_of change.now) }
-        ensures logs { IsTrue result → HasRoomToLog self.now (change_of change.now) }
-        ensures told { (table : ℕ → Option Description) (s : State) → (serves : HasState self.now table s)
-            → KnowsFile self.now.inodes (change_of change.now)
-            → IsTrue result ↔ HasRoomForWork self.now (work_of serves.running (change_of change.now)) }
+        ensures logs { IsTrue result → HasRoomToLog self.now (change_of change.now) size }
+        ensures told { (v : Volume) → IsSizeBefore v (change_of change.now) size
+            → IsTrue result ↔ HasRoomForWork self.now (work_of v (change_of change.now)) }
     {
-        let size = size_before(&self.inodes, change);
         let asked = cost_of(change, size) + keep_of(change, size);
         asked + fixed_of(self.map.count()) <= u64::from(self.free).saturating_sub(self.pledged)
     }
@@ -42,5 +38,13 @@ impl<S: Station> System<S> {
         ensures { IsTrue result ↔ HasRoomToTake self.now }
     {
         2 * fixed_of(self.map.count()) < u64::from(self.free).saturating_sub(self.pledged)
+    }
+
+    /// Whether it has room to make the tree that of a snapshot, under which so many files without names are kept.
+    pub(crate) fn has_room_besides(&self, nameless: u32) -> bool
+        ensures { IsTrue result ↔ HasRoomBesides self.now nameless }
+    {
+        let asked = 2 * fixed_of(self.map.count()) + 4 * u64::from(nameless);
+        asked < u64::from(self.free).saturating_sub(self.pledged)
     }
 }

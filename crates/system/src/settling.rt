@@ -5,7 +5,7 @@ ghost use Rattle.model.specs.States.{State};
 ghost use Rattle.model.specs.declared.command.Command.{Command};
 ghost use Rattle.system.specs.Room.{HasRoomToTake};
 ghost use Rattle.system.specs.Serving.{ServesState};
-ghost use Rattle.system.specs.Settling.{Glances, Settles, TestsTake};
+ghost use Rattle.system.specs.Settling.{Glances, Settles, TestsCommand};
 ghost use Rattle.system.specs.Systems.{IsCovered};
 
 use crate::laws::{cuts_open, served_states_open};
@@ -25,7 +25,7 @@ impl<S: Station> System<S> {
         ensures glances { Glances self.old self.new result }
         ensures own { IfOk result (λ refusal. IfSome refusal (λ errno. errno ≢ Errno.EIO)) }
         ensures tests { (s : State) → ServesState self.old s
-            → IfOk result (TestsTake s name.now) }
+            → IfOk result (TestsCommand s (Command.SnapTake name.now)) }
     {
         cuts_open();
         match prepare_take(&mut self.blocks, &self.root, name.as_bytes()) {

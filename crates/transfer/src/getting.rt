@@ -12,7 +12,7 @@ use mount::Fs;
 use station::Station;
 use std::alloc::Global;
 use std::fs::{File, OpenOptions};
-use std::io::Write;
+use std::io::{Write, sink};
 use std::rt::Files;
 
 /// The names of standard output.
@@ -85,7 +85,7 @@ fn bring<'a, R: Files<File = File> + AllocGlobal, S: Station, O: Write, E: Write
     }
 }
 
-/// Reads a file to its end, and then shows its bytes.
+/// Shows a file's bytes, part by part. It is read to its end before, so that nothing is shown of one that can't be read.
 fn show<'a, S: Station, O: Write, E: Write>(
     alloc: Global,
     fs: &mut Fs<S>,
@@ -94,10 +94,9 @@ fn show<'a, S: Station, O: Write, E: Write>(
     out: &mut O,
     progress: &mut Progress<E>,
 ) -> Result<(), TransferError<'a>> {
-    let mut bytes = Vec::new(alloc);
-    read_to(alloc, fs, source, what, &mut bytes, progress)?;
-    on(what.file, out.write_all(bytes.as_slice()))?;
-    Ok(())
+    let mut untold = Progress::new(sink(), false);
+    read_to(alloc, fs, source, what, &mut sink(), &mut untold)?;
+    read_to(alloc, fs, source, what, out, progress)
 }
 
 /// Reads a file to its end into a new file beside its place, which it then gets.

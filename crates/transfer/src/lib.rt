@@ -4,8 +4,10 @@
 
 mod error;
 mod getting;
+mod input;
 mod progress;
 mod putting;
+mod runs;
 mod steps;
 mod target;
 mod what;

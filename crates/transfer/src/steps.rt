@@ -1,7 +1,9 @@
 //! The calls of a transfer, one by one.
 
 use crate::error::TransferError;
-use model::{Access, Command, Errno, Flags, Mode, PathCall, Reply, Stat, TRANSFER_BYTES, Text};
+use model::{
+    Access, Command, Errno, Flags, Mode, PathCall, Reply, SINGLE_FILE, Stat, TRANSFER_BYTES, Text,
+};
 use mount::{Fs, mount};
 use station::{BLOCK_BYTES, Station};
 use std::alloc::Global;
@@ -27,13 +29,21 @@ const NEW_BYTES: Flags = Flags {
     appends: false,
 };
 
-/// Blocks that have to be free to make a file, and to give it its name: what the record may cost, and what stays free behind it.
-pub const NAMING_COST: u64 = 24 + 16;
+/// Blocks that stay free behind a record, so that files can still be taken away.
+const KEPT: u64 = 16;
 
-/// The same of a write of so many bytes, which begins with a block.
-pub fn writing_cost(bytes: usize) -> u64 {
+/// Blocks that have to be free to make a file, and to give it its name: what the record may cost, and what stays free behind it.
+pub const NAMING_COST: u64 = 24 + KEPT;
+
+/// The same of a greater size that a file gets.
+pub const SIZING_COST: u64 = 6 + KEPT;
+
+/// The same of a write of so many bytes at a block's first one, which ends behind all others of its file.
+pub fn writing_cost(offset: u64, bytes: usize) -> u64 {
     let touched = bytes.div_ceil(BLOCK_BYTES) as u64;
-    touched.saturating_mul(2).saturating_add(6 + 16)
+    let is_single = offset.saturating_add(bytes as u64) <= SINGLE_FILE;
+    let beside = if is_single { 6 } else { 8 };
+    touched.saturating_mul(2).saturating_add(beside + KEPT)
 }
 
 /// Mounts a station, which is let go where that fails.
@@ -262,17 +272,30 @@ fn done(reply: Reply) -> Result<(), Errno> {
     }
 }
 
-/// Writes bytes where the descriptor's offset is, and moves it behind them.
-pub fn write_part<S: Station>(fs: &mut Fs<S>, fd: u32, part: Vec<u8>) -> Result<(), Errno> {
-    let count = part.len();
-    let write = Command::Write {
-        fd,
-        data: Text::new(part),
+/// Writes bytes at this one of an open file.
+pub fn write_at<S: Station>(
+    alloc: Global,
+    fs: &mut Fs<S>,
+    fd: u32,
+    offset: u64,
+    bytes: &[u8],
+) -> Result<(), Errno> {
+    let Ok(offset) = i64::try_from(offset) else {
+        return Err(Errno::EFBIG);
     };
-    match answer(fs, write) {
-        Reply::Wrote(written) if written as usize == count => Ok(()),
+    let data = text_of(alloc, bytes)?;
+    match answer(fs, Command::Pwrite { fd, offset, data }) {
+        Reply::Wrote(written) if written as usize == bytes.len() => Ok(()),
         reply => Err(refusal(&reply)),
     }
+}
+
+/// Gives an open file a size: what it hasn't of that yet are zeros, for which no block is stored.
+pub fn set_size<S: Station>(fs: &mut Fs<S>, fd: u32, size: u64) -> Result<(), Errno> {
+    let Ok(size) = i64::try_from(size) else {
+        return Err(Errno::EFBIG);
+    };
+    done(answer(fs, Command::Ftruncate { fd, size }))
 }
 
 /// A word of a command.

@@ -11,6 +11,7 @@ use buffers::Buffers;
 use inode::File;
 use layout::{VERSION, greatest_size};
 use memory_station::Sim;
+use model::GREATEST_FILE;
 use std::alloc::{AllocError, Global};
 
 /// Runs a row on the file, and answers what it gives.
@@ -62,7 +63,7 @@ fn read_row(
     offset: u64,
     count: usize,
 ) -> Result<String, AllocError> {
-    if offset > 1_000_000_000 || count > 100 {
+    if offset > GREATEST_FILE || count > 100 {
         return format!(in alloc; "no row");
     }
     if offset + count as u64 > greatest_size(VERSION) {

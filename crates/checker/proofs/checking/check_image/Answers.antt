@@ -84,7 +84,7 @@ returns-in-Ok-clause-faultless g c disk shows clear =
     let seen = ((c.check_trees.ensures.reads.reads c.args.blocks.now (c.check_snapshots.ensures.reads.reads c.args.blocks.now (reads_none _))).goes shows.honest).seen in
     let active = c.in_ok-is_faultless.ensures.newest disk shows1 snapshots (search rules) in
     let shows2 = c.check_trees.ensures.reads.same disk shows1 in
-    let told = c.in-Ok.ensures.passes disk shows2 active in
+    let told = c.in-Ok.ensures.passes disk shows2 active.0 active.1 in
     faultless_by r w nvram _ c.in_ok-is_faultless.free c.in-Ok.records told.0 snapshots (c.in_ok-is_faultless.ensures.faultless disk shows1 snapshots clear)
     (subst (λ (i : Images). HasLog r w i.nvram told.0) seen told.1) told.2 (search rules) c.count_snapshots.ensures (search rules) (search rules)
 
@@ -102,7 +102,7 @@ returns-in-Err-Fault-clause-found g c disk shows =
     let seen = ((c.check_trees.ensures.reads.reads c.args.blocks.now (c.check_snapshots.ensures.reads.reads c.args.blocks.now (reads_none _))).goes shows.honest).seen in
     let active = c.in_ok-is_faultless.ensures.newest disk shows1 snapshots (search rules) in
     let shows2 = c.check_trees.ensures.reads.same disk shows1 in
-    let told = rw c.in-Err-Fault.field-0-is at (c.in-Err-Fault.ensures.passes disk shows2 active) in
+    let told = rw c.in-Err-Fault.field-0-is at (c.in-Err-Fault.ensures.passes disk shows2 active.0 active.1) in
     if_found r w nvram c.find.new.self.first
     (more_found r w nvram c.check_trees.new.findings.first c.find.new.self.first (record { tree = Image; fault = c.in-Err-Fault.fault }) c.find.ensures second
     (subst (λ (i : Images). IsFindingUnder r w i.nvram Image c.in-Err-Fault.fault) seen told))

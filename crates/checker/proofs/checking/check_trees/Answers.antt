@@ -10,7 +10,7 @@ use Rattle.checker.specs.Findings.{IsFindingUnder}
 use Rattle.checker.specs.declared.error.CheckError.TheVariants.{NoMemory}
 use Rattle.checker.specs.declared.error.Halt.{Halt}
 use Rattle.checker.specs.declared.fault.TreeName.TheVariants.{Image}
-use Rattle.checker.proofs.AllTreesLaws.{all_faultless, first_faultless, first_known, should, stays_clean}
+use Rattle.checker.proofs.AllTreesLaws.{all_faultless, all_within, first_faultless, first_known, first_within, should, stays_clean}
 use Rattle.checker.proofs.EachLaws.{get_at}
 use Rattle.checker.proofs.FindingLaws.{more_found}
 use Rattle.checker.proofs.ReadLaws.{looked, looked_more, looked_none, looks_err, looks_ok, looks_passed}
@@ -49,7 +49,7 @@ returns-then-not-are_apart-clause-found g c disk nvram shows snapshots are =
     let two = looked_more one (looked c.check_numbers.ensures.reads) in
     let r = c.args.root.now in
     let opened = c.in_ok-trees.ensures.trees disk shows snapshots c.in_ok-marks.ensures.none c.in_ok-shared.ensures in
-    let numbered = c.in_ok-check_numbers.ensures.seen disk r (one.same disk shows) c.requires.root refl opened in
+    let numbered = c.in_ok-check_numbers.ensures.seen disk (one.same disk shows) opened in
     c.in_ok-are_apart.ensures.found disk r c.check_numbers.new.marks nvram (two.same disk shows) c.requires.root refl numbered are
 
 pub returns-then-not-are_apart-clause-newest : goal.returns-then-not-are_apart-clause-newest
@@ -58,10 +58,14 @@ returns-then-not-are_apart-clause-newest g c disk shows snapshots sure =
     let two = looked_more one (looked c.check_numbers.ensures.reads) in
     let r = c.args.root.now in
     let opened = c.in_ok-trees.ensures.trees disk shows snapshots c.in_ok-marks.ensures.none c.in_ok-shared.ensures in
-    let numbered = c.in_ok-check_numbers.ensures.seen disk r (one.same disk shows) c.requires.root refl opened in
+    let numbered = c.in_ok-check_numbers.ensures.seen disk (one.same disk shows) opened in
     let ended = c.in_ok-are_apart.ensures.seen disk r c.check_numbers.new.marks (two.same disk shows) c.requires.root refl numbered in
     let some : 0 < length c.check_each.new.trees.items = search rules in
-    first_faultless disk r c.check_numbers.new.marks c.check_numbers.new.trees.items c.check_each.new.trees.items _ numbered c.in_ok-are_apart.ensures.trees ended c.index.result.now (get_at c.check_each.new.trees.items 0 c.index.result.now some c.index.ensures) (search rules)
+    let there = get_at c.check_each.new.trees.items 0 c.index.result.now some c.index.ensures in
+    let none : c.index.result.now.fault ≡ None = search rules in (
+      first_faultless disk r c.check_numbers.new.marks c.check_numbers.new.trees.items c.check_each.new.trees.items _ numbered c.in_ok-are_apart.ensures.trees ended c.index.result.now there none,
+      first_within disk r c.check_numbers.new.marks c.check_numbers.new.trees.items c.check_each.new.trees.items _ numbered c.in_ok-are_apart.ensures.trees ended c.index.result.now there none,
+    )
 
 pub returns-then-not-are_apart-clause-told : goal.returns-then-not-are_apart-clause-told
 returns-then-not-are_apart-clause-told g c none =
@@ -87,10 +91,14 @@ returns-in-Ok-clause-newest g c disk shows snapshots sure =
     let two = looked_more one (looked c.check_numbers.ensures.reads) in
     let r = c.args.root.now in
     let opened = c.in_ok-trees.ensures.trees disk shows snapshots c.in_ok-marks.ensures.none c.in_ok-shared.ensures in
-    let numbered = c.in_ok-check_numbers.ensures.seen disk r (one.same disk shows) c.requires.root refl opened in
+    let numbered = c.in_ok-check_numbers.ensures.seen disk (one.same disk shows) opened in
     let ended = c.in_ok-are_apart.ensures.seen disk r c.check_numbers.new.marks (two.same disk shows) c.requires.root refl numbered in
     let some : 0 < length c.check_each.new.trees.items = search rules in
-    first_faultless disk r c.check_numbers.new.marks c.check_numbers.new.trees.items c.check_each.new.trees.items _ numbered c.in_ok-are_apart.ensures.trees ended c.index.result.now (get_at c.check_each.new.trees.items 0 c.index.result.now some c.index.ensures) (search rules)
+    let there = get_at c.check_each.new.trees.items 0 c.index.result.now some c.index.ensures in
+    let none : c.index.result.now.fault ≡ None = search rules in (
+      first_faultless disk r c.check_numbers.new.marks c.check_numbers.new.trees.items c.check_each.new.trees.items _ numbered c.in_ok-are_apart.ensures.trees ended c.index.result.now there none,
+      first_within disk r c.check_numbers.new.marks c.check_numbers.new.trees.items c.check_each.new.trees.items _ numbered c.in_ok-are_apart.ensures.trees ended c.index.result.now there none,
+    )
 
 pub returns-in-Err-Fault-clause-reads : goal.returns-in-Err-Fault-clause-reads
 returns-in-Err-Fault-clause-reads g c =
@@ -105,10 +113,14 @@ returns-in-Err-Fault-clause-newest g c disk shows snapshots sure =
     let two = looked_more one (looked c.check_numbers.ensures.reads) in
     let r = c.args.root.now in
     let opened = c.in_ok-trees.ensures.trees disk shows snapshots c.in_ok-marks.ensures.none c.in_ok-shared.ensures in
-    let numbered = c.in_ok-check_numbers.ensures.seen disk r (one.same disk shows) c.requires.root refl opened in
+    let numbered = c.in_ok-check_numbers.ensures.seen disk (one.same disk shows) opened in
     let ended = c.in_ok-are_apart.ensures.seen disk r c.check_numbers.new.marks (two.same disk shows) c.requires.root refl numbered in
     let some : 0 < length c.check_each.new.trees.items = search rules in
-    first_faultless disk r c.check_numbers.new.marks c.check_numbers.new.trees.items c.check_each.new.trees.items _ numbered c.in_ok-are_apart.ensures.trees ended c.index.result.now (get_at c.check_each.new.trees.items 0 c.index.result.now some c.index.ensures) (search rules)
+    let there = get_at c.check_each.new.trees.items 0 c.index.result.now some c.index.ensures in
+    let none : c.index.result.now.fault ≡ None = search rules in (
+      first_faultless disk r c.check_numbers.new.marks c.check_numbers.new.trees.items c.check_each.new.trees.items _ numbered c.in_ok-are_apart.ensures.trees ended c.index.result.now there none,
+      first_within disk r c.check_numbers.new.marks c.check_numbers.new.trees.items c.check_each.new.trees.items _ numbered c.in_ok-are_apart.ensures.trees ended c.index.result.now there none,
+    )
 
 pub returns-in-Ok-clause-found : goal.returns-in-Ok-clause-found
 returns-in-Ok-clause-found g c disk nvram shows snapshots are =
@@ -116,7 +128,7 @@ returns-in-Ok-clause-found g c disk nvram shows snapshots are =
     let two = looked_more one (looked c.check_numbers.ensures.reads) in
     let r = c.args.root.now in
     let opened = c.in_ok-trees.ensures.trees disk shows snapshots c.in_ok-marks.ensures.none c.in_ok-shared.ensures in
-    let numbered = c.in_ok-check_numbers.ensures.seen disk r (one.same disk shows) c.requires.root refl opened in
+    let numbered = c.in_ok-check_numbers.ensures.seen disk (one.same disk shows) opened in
     c.in_ok-are_apart.ensures.found disk r c.check_numbers.new.marks nvram (two.same disk shows) c.requires.root refl numbered are
 
 pub returns-in-Ok-clause-told : goal.returns-in-Ok-clause-told
@@ -134,7 +146,7 @@ returns-in-Ok-clause-faultless g c disk shows snapshots none =
     let r = c.args.root.now in
     let w = whole disk r in
     let opened = c.in_ok-trees.ensures.trees disk shows snapshots c.in_ok-marks.ensures.none c.in_ok-shared.ensures in
-    let numbered = c.in_ok-check_numbers.ensures.seen disk r (one.same disk shows) c.requires.root refl opened in
+    let numbered = c.in_ok-check_numbers.ensures.seen disk (one.same disk shows) opened in
     let ended = c.in_ok-are_apart.ensures.seen disk r c.check_numbers.new.marks (two.same disk shows) c.requires.root refl numbered in
     let some : 0 < length c.check_each.new.trees.items = search rules in
     let apart = c.in_ok-are_apart.ensures.apart (search rules) in
@@ -145,6 +157,7 @@ returns-in-Ok-clause-faultless g c disk shows snapshots none =
     let passes = c.in-Ok.ensures.passes disk r [] (three.same disk shows) c.requires.root refl newest.tree newest.plane newest.grammar exact in
     record {
       trees = all_faultless disk r c.check_numbers.new.marks c.check_numbers.new.trees.items c.check_each.new.trees.items _ numbered c.in_ok-are_apart.ensures.trees ended (c.in_ok-are_apart.ensures.told none);
+      within = all_within disk r c.check_numbers.new.marks c.check_numbers.new.trees.items c.check_each.new.trees.items _ numbered c.in_ok-are_apart.ensures.trees ended (c.in_ok-are_apart.ensures.told none);
       readable = passes.0;
       exact = passes.1;
       free_is = passes.2;
@@ -158,7 +171,7 @@ returns-in-Err-Fault-clause-found g c disk nvram shows snapshots are =
     let r = c.args.root.now in
     let w = whole disk r in
     let opened = c.in_ok-trees.ensures.trees disk shows snapshots c.in_ok-marks.ensures.none c.in_ok-shared.ensures in
-    let numbered = c.in_ok-check_numbers.ensures.seen disk r (one.same disk shows) c.requires.root refl opened in
+    let numbered = c.in_ok-check_numbers.ensures.seen disk (one.same disk shows) opened in
     let ended = c.in_ok-are_apart.ensures.seen disk r c.check_numbers.new.marks (two.same disk shows) c.requires.root refl numbered in
     let some : 0 < length c.check_each.new.trees.items = search rules in
     let apart = c.in_ok-are_apart.ensures.apart (search rules) in

@@ -4,12 +4,12 @@ use Rattle.buffers.proofs.DiskLaws.{still_shows}
 use Rattle.checker.proofs.log.check_log.Goals as goal
 
 pub returns-in-Err-Damaged-clause-passes : goal.returns-in-Err-Damaged-clause-passes
-returns-in-Err-Damaged-clause-passes g c disk shows faultless = λ changes log. c.in-Err-Damaged.ensures.damaged (search rules) shows.honest _ log.log.log
+returns-in-Err-Damaged-clause-passes g c disk shows faultless within = λ changes log. c.in-Err-Damaged.ensures.damaged (search rules) shows.honest _ log.log.log
 
 pub returns-clause-passes : goal.returns-clause-passes
-returns-clause-passes g c disk shows faultless =
+returns-clause-passes g c disk shows faultless within =
     let old = g.S.Station.meaning c.args.blocks.now.station in
     let new = g.S.Station.meaning c.load.new.station in
     let went = c.load.ensures.reads.goes shows.honest in
     c.replay_saved.ensures.passes disk old.seen.nvram (still_shows old new c.args.blocks.now.kept disk went.honest c.load.ensures.reads.same.sectors (ap (λ (i : Images). i.disk) went.seen) shows)
-    (c.in-Ok.ensures.tells shows.honest) faultless
+    (c.in-Ok.ensures.tells shows.honest) faultless within

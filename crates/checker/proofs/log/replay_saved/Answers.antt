@@ -16,17 +16,17 @@ returns-in_err-inodes-clause-reads g c =
     (load_device (faults.Tree InodeMap) c.load_inodes-loaded.result c.in_err-inodes.field-0.0 c.in_err-inodes.ensures c.load_inodes-loaded.ensures.reads.device)
 
 pub returns-in_err-inodes-clause-passes : goal.returns-in_err-inodes-clause-passes
-returns-in_err-inodes-clause-passes g c disk nvram shows tells faultless =
+returns-in_err-inodes-clause-passes g c disk nvram shows tells faultless within =
     not_loaded _ _ _ (faults.Tree InodeMap) c.load_inodes-loaded.result c.in_err-inodes.field-0.0 c.from_residual.result c.from_residual.ensures.1 c.in_err-inodes.ensures
-    (c.load_inodes-loaded.ensures.loads by_sizes disk shows c.args.root.now refl refl (record { sound = (faultless.grammar, faultless.numbers); root = faultless.grammar.root }))
+    (c.load_inodes-loaded.ensures.loads by_sizes disk shows c.args.root.now refl refl refl (record { sound = (faultless.grammar, faultless.numbers); within = within; root = faultless.grammar.root }))
 
 pub returns-in_err-first-clause-passes : goal.returns-in_err-first-clause-passes
-returns-in_err-first-clause-passes g c disk nvram shows tells faultless =
+returns-in_err-first-clause-passes g c disk nvram shows tells faultless within =
     let r = c.args.root.now in
     let w = whole disk r in
     let saved = c.args.saved.now in
-    let told = c.load_inodes-loaded.ensures.loads by_sizes disk shows r refl refl (record { sound = (faultless.grammar, faultless.numbers); root = faultless.grammar.root }) in
-    let are = loaded (AreInodesIn by_sizes disk r.geometry w.active) _ (faults.Tree InodeMap) c.load_inodes-loaded.result c.in_ok-inodes.inodes c.in_ok-inodes.ensures told in
+    let told = c.load_inodes-loaded.ensures.loads by_sizes disk shows r refl refl refl (record { sound = (faultless.grammar, faultless.numbers); within = within; root = faultless.grammar.root }) in
+    let are = loaded (AreInodesIn by_sizes disk r.version r.geometry w.active) _ (faults.Tree InodeMap) c.load_inodes-loaded.result c.in_ok-inodes.inodes c.in_ok-inodes.ensures told in
     let graphs = c.faultless_trees_hold_graphs.ensures in
     let read = c.load_inodes-loaded.ensures.reads in
     failed r w nvram c.from_residual-in_err-first.result c.in_err-first.field-0.0 c.from_residual-in_err-first.ensures.1 c.in_err-first.ensures.faults (λ changes log.
@@ -39,12 +39,12 @@ returns-in_err-first-clause-passes g c disk nvram shows tells faultless =
     (lead_over c.in_ok-inodes.inodes.geometry r.geometry c.first_records.result.now saved.first.records both.one v both.mid are.geometry c.first_records.ensures.records both.leads)))
 
 pub returns-in_err-second-clause-passes : goal.returns-in_err-second-clause-passes
-returns-in_err-second-clause-passes g c disk nvram shows tells faultless =
+returns-in_err-second-clause-passes g c disk nvram shows tells faultless within =
     let r = c.args.root.now in
     let w = whole disk r in
     let saved = c.args.saved.now in
-    let told = c.load_inodes-loaded.ensures.loads by_sizes disk shows r refl refl (record { sound = (faultless.grammar, faultless.numbers); root = faultless.grammar.root }) in
-    let are = loaded (AreInodesIn by_sizes disk r.geometry w.active) _ (faults.Tree InodeMap) c.load_inodes-loaded.result c.in_ok-inodes.inodes c.in_ok-inodes.ensures told in
+    let told = c.load_inodes-loaded.ensures.loads by_sizes disk shows r refl refl refl (record { sound = (faultless.grammar, faultless.numbers); within = within; root = faultless.grammar.root }) in
+    let are = loaded (AreInodesIn by_sizes disk r.version r.geometry w.active) _ (faults.Tree InodeMap) c.load_inodes-loaded.result c.in_ok-inodes.inodes c.in_ok-inodes.ensures told in
     let graphs = c.faultless_trees_hold_graphs.ensures in
     let read = c.load_inodes-loaded.ensures.reads in
     let one = c.in_ok-first.ensures in
@@ -61,15 +61,15 @@ returns-in_err-second-clause-passes g c disk nvram shows tells faultless =
     (lead_over c.replay_half.new.inodes.geometry r.geometry c.second_records.result.now saved.second.records both.two both.mid log.last (one.geometry ∙ are.geometry) c.second_records.ensures.records both.leads_on)))
 
 pub returns-clause-passes : goal.returns-clause-passes
-returns-clause-passes g c disk nvram shows tells faultless =
+returns-clause-passes g c disk nvram shows tells faultless within =
     let r = c.args.root.now in
     let w = whole disk r in
     let saved = c.args.saved.now in
     let sized = c.faultless_trees_hold_graphs.ensures.holds disk r faultless in
     let v = sized.0 in
     let holds = sized.1 in
-    let told = c.load_inodes-loaded.ensures.loads by_sizes disk shows r refl refl (record { sound = (faultless.grammar, faultless.numbers); root = faultless.grammar.root }) in
-    let are = loaded (AreInodesIn by_sizes disk r.geometry w.active) _ (faults.Tree InodeMap) c.load_inodes-loaded.result c.in_ok-inodes.inodes c.in_ok-inodes.ensures told in
+    let told = c.load_inodes-loaded.ensures.loads by_sizes disk shows r refl refl refl (record { sound = (faultless.grammar, faultless.numbers); within = within; root = faultless.grammar.root }) in
+    let are = loaded (AreInodesIn by_sizes disk r.version r.geometry w.active) _ (faults.Tree InodeMap) c.load_inodes-loaded.result c.in_ok-inodes.inodes c.in_ok-inodes.ensures told in
     let graphs = c.faultless_trees_hold_graphs.ensures in
     let read = c.load_inodes-loaded.ensures.reads in
     let has = has_volume disk r (g.B.Blocks.count c.load_inodes-loaded.new.blocks) c.in_ok-inodes.inodes v (read.count ∙ c.requires.size) are holds

@@ -1,4 +1,4 @@
-use Rattle.std.proofs.Common.{◌≡◌, ◌∙◌, ℕ, Some, ap, subst, sym}
+use Rattle.std.proofs.Common.{◌∙◌, ℕ, Some, ap, subst, sym}
 use Rattle.layout.specs.Directory.{IsEntry}
 use Rattle.model.specs.Volumes.{with_edge}
 use Rattle.checker.specs.Findings.{IsTreeFinding}

@@ -4,12 +4,13 @@ use Rattle.std.proofs.lemmas.Bool.{cases_lt}
 use Rattle.std.proofs.lemmas.List.{get_or-set_other, get_or-set_same, get_or_default}
 use Rattle.images.specs.BlockMap.{HasBit}
 use Rattle.checker.specs.declared.nodes.Shared.{Shared}
+use Rattle.checker.specs.declared.nodes.TheConstants.{PLANES}
 use Rattle.checker.proofs.NodeLaws.{AddsAt, adds_more, adds_none, adds_set, some_none, some_same}
 use Rattle.checker.proofs.nodes.add_shared.Goals as goal
 use Rattle.checker.proofs.nodes.add_shared.Goals.{then-bits-k-eq1, in-Some, in-None, else-bits-k-eq1}
 
-written : {A : Type 0} {k : ℕ} (old new : List (Option Shared)) (v : Option Shared) → new ≡ slice_set old k v → k < length old → A → length old ≡ 21
-    → (length new ≡ 21) × ((j : ℕ) → j ≢ k → slice_index_or new j None ≡ slice_index_or old j None) × A
+written : {A : Type 0} {k : ℕ} (old new : List (Option Shared)) (v : Option Shared) → new ≡ slice_set old k v → k < length old → A → length old ≡ PLANES
+    → (length new ≡ PLANES) × ((j : ℕ) → j ≢ k → slice_index_or new j None ≡ slice_index_or old j None) × A
 written {k = k} old new v set within a long = (
   ap (λ (xs : List (Option Shared)). length xs) set ∙ (length-set old k v ∙ long),
   (λ j ne. ap (λ (xs : List (Option Shared)). slice_index_or xs j None) set ∙ get_or-set_other old k j v None ne),
@@ -23,7 +24,7 @@ loop-k-preserved c =
     let new = c.if-bits-k-eq1.of in
     let before = c.loop-k.invariant in
     let within : k < length old = omega (arith, before.length_is, c.loop-k-test.true) in
-    let step : (length new ≡ 21) × ((j : ℕ) → j ≢ k → slice_index_or new j None ≡ slice_index_or old j None) × AddsAt c.args.bits c.args.shared k old new =
+    let step : (length new ≡ PLANES) × ((j : ℕ) → j ≢ k → slice_index_or new j None ≡ slice_index_or old j None) × AddsAt c.args.bits c.args.shared k old new =
     elim c.if-bits-k-eq1.branch [
       | then-bits-k-eq1 w ↦ elim w.match-of-k.branch [
         | in-Some v ↦

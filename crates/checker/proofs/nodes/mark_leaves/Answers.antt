@@ -1,6 +1,6 @@
-use Rattle.std.proofs.Common.{◌≡◌, ◌∙◌, ◌+◌, ◌<◌, ℕ, [], refl, rules, subst, sym, arith}
+use Rattle.std.proofs.Common.{◌≡◌, ◌∙◌, ◌+◌, ℕ, [], refl, rules, subst, sym, arith}
 use Rattle.layout.specs.declared.pointer.Pointer.TheVariants.{Hole}
-use Rattle.checker.specs.Nodes.{IsAmong, IsUnder, MarksFor}
+use Rattle.checker.specs.Nodes.{IsAmong, MarksFor}
 use Rattle.checker.specs.declared.fault.FileNode.{FileNode}
 use Rattle.checker.proofs.NodeLaws.{keeps_more, looks_none}
 use Rattle.checker.proofs.NodeSteps.{hole_marked, leaf_marked, leaf_more}

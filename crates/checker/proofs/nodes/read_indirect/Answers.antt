@@ -1,5 +1,4 @@
-use Rattle.std.proofs.Common.{rules, ◌∙◌, sym, subst}
-use Rattle.layout.specs.Maps.{IsIndirectBlock}
+use Rattle.std.proofs.Common.{rules}
 use Rattle.checker.proofs.nodes.read_indirect.Goals as goal
 
 pub returns-then-not-branch-clause-bad : goal.returns-then-not-branch-clause-bad

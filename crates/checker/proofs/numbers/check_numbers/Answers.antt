@@ -25,11 +25,11 @@ loop-i-preserved g c = record {
   places = λ disk shows.
       subst (λ (n : ℕ). ArePlacesOfTrees n disk c.check_block.new.trees.items c.in_ok-places.places.items) (sym (c.forget.ensures.count ∙ c.check_block.ensures.reads.count))
       (places_kept _ disk c.loop-i.trees.items c.check_block.new.trees.items c.in_ok-places.places.items c.check_block.ensures.trees (c.loop-i.invariant.places disk shows));
-  seen = λ disk r shows root same seen.
-      c.in_ok-check_block.ensures.seen disk r (c.loop-i.invariant.kept.looked.same disk shows) root same (c.loop-i.invariant.places disk shows) (c.loop-i.invariant.seen disk r shows root same seen);
+  seen = λ disk shows seen.
+      c.in_ok-check_block.ensures.seen disk (c.loop-i.invariant.kept.looked.same disk shows) (c.loop-i.invariant.places disk shows) (c.loop-i.invariant.seen disk shows seen);
 }
 
 pub returns-clause-seen : goal.returns-clause-seen
-returns-clause-seen g c = λ disk r shows root same seen.
-    let all : c.loop-i.i ≡ div_ceil c.args.geometry.inodes INODES_PER_BLOCK = search rules in
-    subst (λ (n : ℕ). AreSeenTo disk r n c.loop-i.marks c.loop-i.shared.of c.loop-i.trees.items) all (c.loop-i.invariant.seen disk r shows root same seen)
+returns-clause-seen g c = λ disk shows seen.
+    let all : c.loop-i.i ≡ div_ceil c.args.root.now.geometry.inodes INODES_PER_BLOCK = search rules in
+    subst (λ (n : ℕ). AreSeenTo disk c.args.root.now n c.loop-i.marks c.loop-i.shared.of c.loop-i.trees.items) all (c.loop-i.invariant.seen disk shows seen)

@@ -20,6 +20,6 @@ pub returns-clause-row : goal.returns-clause-row
 returns-clause-row g c = λ disk r count places marks shared shows root are leads known.
     let v = c.args.tree.now in
     let broken = row_damaged disk r c.args.i v known.tree c.args.place (c.in_ok-read.ensures.damaged disk shows c.if-branch.false) leads in (
-      subst (IsSeenTo disk r count places marks shared) (sym c.add.ensures) (seen_added disk r count places count places marks marks shared shared v known (InodeBlock c.args.i) broken),
+      subst (IsSeenTo disk r count places marks shared) (sym c.add.ensures) (seen_added disk r count places count places marks marks shared shared v known (InodeBlock c.args.i) (λ grammar within. broken grammar)),
       (λ inside. absurd (inside (subst (λ (q : Tree). IsOut q.fault) (sym c.add.ensures) (added_out r (tree_in (whole disk r) v.plane) v.fault (InodeBlock c.args.i) known.fault)))),
     )

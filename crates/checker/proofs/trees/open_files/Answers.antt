@@ -20,7 +20,7 @@ use Rattle.checker.specs.declared.fault.Fault.TheVariants as faults
 use Rattle.checker.specs.declared.fault.TreeFault.TheVariants as tree_faults
 use Rattle.checker.proofs.HaltLaws.{if_ok, looks_more, looks_of, looks_or_fault, looks_residual, on_ok, passes_or_fault, passes_residual}
 use Rattle.checker.proofs.HeldLaws.{own_is, own_there, top_grammar, top_is}
-use Rattle.checker.proofs.OpenLaws.{TellsOut, is_inode_map, map_bytes, map_grammar, map_paths, map_readable, map_reads, map_whole, mark_failed, maps_within, top_inodes, top_marked, top_shared}
+use Rattle.checker.proofs.OpenLaws.{TellsOut, is_inode_map, map_bytes, map_grammar, map_paths, map_readable, map_reads, map_whole, mark_failed, maps_within, top_inodes, top_small, top_marked, top_shared}
 use Rattle.checker.proofs.ReadLaws.{looked, looked_more, looked_of}
 use Rattle.checker.proofs.trees.open_files.Goals as goal
 
@@ -46,7 +46,7 @@ returns-in_err-inode-clause-opened g c = λ disk r shows root same is unmarked n
     passes_residual (λ (_ : Inode). Unit {0}) _ (TellsOut r t) c.from_residual-in_err-inode.result _ c.from_residual-in_err-inode.ensures.1
     (passes_or_fault (λ (_ : Inode). Unit {0}) (TellsOut r t) (faults.Tree (tree_faults.Inode 1)) c.own_inode.result _ c.in_err-inode.ensures (λ damaged. (
       tt,
-      λ grammar.
+      λ grammar within.
           let known : IsTreeGrammar c.args.geometry t = subst (λ (s : Sizes). IsTreeGrammar s t) same grammar in
           own_there c.sound_files_read_as_held.ensures c.based_trees_are_sound.ensures.at c.args.geometry disk r c.args.tree.now 1 (g.B.Blocks.count c.mark_file.new.blocks) kinds.InodeMap is known
           (c.in_ok-mark_file.ensures.reads.count ∙ c.requires.size) (omega arith) (omega (arith, sizes.least_inodes)) (known.kinds 1)
@@ -74,7 +74,7 @@ returns-in_err-tree-clause-opened g c = λ disk r shows root same is unmarked no
     passes_residual (λ (_ : Vec ℕ Global). Unit {0}) _ (TellsOut r t) c.from_residual-in_err-tree.result _ c.from_residual-in_err-tree.ensures.1
     (passes_or_fault (λ (_ : Vec ℕ Global). Unit {0}) (TellsOut r t) (faults.Tree tree_faults.InodeMap) c.load_numbers.result _ c.in_err-tree.ensures (λ damaged. (
       tt,
-      λ grammar.
+      λ grammar within.
           let known : IsTreeGrammar s t = subst (λ (x : Sizes). IsTreeGrammar x t) same grammar in
           let count : g.B.Blocks.count c.own_inode.new.blocks ≡ s.blocks = c.own_inode.ensures.reads.count ∙ c.in_ok-mark_file.ensures.reads.count ∙ c.requires.size in
           c.load_numbers.ensures.damaged disk (c.own_inode.ensures.reads.same disk shows1) damaged
@@ -103,7 +103,7 @@ returns-in_err-inode-2-clause-opened g c = λ disk r shows root same is unmarked
     passes_residual (λ (_ : Inode). Unit {0}) _ (TellsOut r t) c.from_residual-in_err-inode-2.result _ c.from_residual-in_err-inode-2.ensures.1
     (passes_or_fault (λ (_ : Inode). Unit {0}) (TellsOut r t) (faults.Tree (tree_faults.Inode 2)) c.own_inode-2.result _ c.in_err-inode-2.ensures (λ damaged. (
       tt,
-      λ grammar.
+      λ grammar within.
           let known : IsTreeGrammar c.args.geometry t = subst (λ (s : Sizes). IsTreeGrammar s t) same grammar in
           own_there c.sound_files_read_as_held.ensures c.based_trees_are_sound.ensures.at c.args.geometry disk r c.args.tree.now 2 (g.B.Blocks.count c.load_numbers.new.blocks) kinds.BlockMap is known
           (c.load_numbers.ensures.reads.count ∙ c.own_inode.ensures.reads.count ∙ c.in_ok-mark_file.ensures.reads.count ∙ c.requires.size) (omega arith) (omega (arith, sizes.least_inodes)) (known.kinds 2)
@@ -135,7 +135,7 @@ returns-in_err-_map-clause-opened g c = λ disk r shows root same is unmarked no
     passes_residual (λ (_ : File). Unit {0}) _ (TellsOut r t) c.from_residual-in_err-_map.result _ c.from_residual-in_err-_map.ensures.1
     (passes_or_fault (λ (_ : File). Unit {0}) (TellsOut r t) (faults.Tree tree_faults.BlockMap) c.map_file.result _ c.in_err-_map.ensures (λ damaged. (
       tt,
-      λ grammar.
+      λ grammar within.
           let known : IsTreeGrammar s t = subst (λ (x : Sizes). IsTreeGrammar x t) same grammar in
           let count : g.B.Blocks.count c.own_inode-2.new.blocks ≡ s.blocks =
           c.own_inode-2.ensures.reads.count ∙ c.load_numbers.ensures.reads.count ∙ c.own_inode.ensures.reads.count ∙ c.in_ok-mark_file.ensures.reads.count ∙ c.requires.size in
@@ -183,7 +183,7 @@ returns-clause-opened g c = λ disk r shows root same is unmarked none.
         bytes_are = λ grammar. bytes ∙ map_bytes c.sound_files_read_as_held.ensures s disk i (t 1) one grammar;
         within = maps_within s numbers.items sizes (omega (arith, numbers.ok.0, size)) map;
       });
-      inodes = subst (λ (x : Sizes). HasInodes x t 0 0) (sym same) (top_inodes s t (held disk c.args.tree.now.top) own top);
+      inodes = subst (λ (x : Sizes). HasInodes r.version x t 0 0) (sym same) (top_inodes r.version s t (held disk c.args.tree.now.top) own top (top_small r.version s disk c.args.tree.now.top sizes c.requires.top is.kind));
       marked = top_marked t (held disk c.args.tree.now.top) k c.args.marks.now c.mark_file.new.marks c.args.shared.now.of c.mark_file.new.shared.of own looks unmarked none;
       shared_is = top_shared t (held disk c.args.tree.now.top) k c.args.marks.now c.mark_file.new.marks c.args.shared.now.of c.mark_file.new.shared.of own looks unmarked none;
     }

@@ -1,10 +1,11 @@
 use Rattle.std.proofs.Common.{◌≡◌, inl, inr, ℕ, List, refl, ap, length, ◌<◌, ◌∙◌, arith, rules}
 use Rattle.layout.specs.declared.pointer.Pointer.{Pointer}
-use Rattle.layout.specs.declared.pointer.Pointer.TheVariants.{Hole}
+use Rattle.layout.specs.declared.pointer.Pointer.TheVariants.{Hole, Block}
 use Rattle.layout.specs.Maps.{indirect_pointer}
 use Rattle.conspoint.specs.Groups.{pointer_at}
 use Rattle.conspoint.specs.Groups.IsGroup.{spells}
 use Rattle.conspoint.specs.Space.{StoresNone}
+use Rattle.conspoint.proofs.GroupLemmas.{follows_moved, follows_none}
 use Rattle.conspoint.proofs.group.place_group.Goals as goal
 
 pub returns-clause-group : goal.returns-clause-group
@@ -36,3 +37,24 @@ returns-in_err-place-clause-none c = λ none.
     let found = c.in-Some.ensures.found in
     absurd (stores c.args.old.now c.args.new.now c.in-Some.field-0 (omega (arith, found.0, c.requires.new)) found.1
     (λ same. let is = c.same_pointers.ensures.1 same in let not = c.if-same_pointers.false in search (rules, is, not)) c.requires.new none)
+
+-- some node is no hole
+some_block : (new : List Pointer) (k : ℕ) → k < length new → length new ≡ 1024 → (pointer_at new k ≡ Hole → ⊥) → ((i : ℕ) → i < 1024 → pointer_at new i ≡ Hole) → ⊥
+some_block new k low count some all = some (all k (omega (arith, low, count)))
+
+pub returns-in_default-clause-follows : goal.returns-in_default-clause-follows
+returns-in_default-clause-follows c =
+    follows_none c.args.settled Hole (pointer_at c.args.old.now) (pointer_at c.args.new.now) refl (λ i lt. c.in_default.ensures.none i (omega (arith, lt, c.requires.new)))
+
+pub returns-then-same_pointers-clause-follows : goal.returns-then-same_pointers-clause-follows
+returns-then-same_pointers-clause-follows c =
+    let found = c.in-Some.ensures.found in
+    follows_moved c.args.settled c.args.settled (pointer_at c.args.old.now) (pointer_at c.args.new.now)
+    (some_block c.args.new.now c.in-Some.field-0 found.0 c.requires.new found.1) (λ all. refl)
+
+pub returns-clause-follows : goal.returns-clause-follows
+returns-clause-follows c =
+    let found = c.in-Some.ensures.found in
+    follows_moved c.args.settled (Block c.in_ok-place.place) (pointer_at c.args.old.now) (pointer_at c.args.new.now)
+    (some_block c.args.new.now c.in-Some.field-0 found.0 c.requires.new found.1)
+    (λ all. absurd (let is = c.same_pointers.ensures.1 (λ i lt. all i (omega (arith, lt, c.requires.new))) in let not = c.if-same_pointers.false in search (rules, is, not)))

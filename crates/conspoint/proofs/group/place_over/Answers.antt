@@ -8,9 +8,9 @@ use Rattle.layout.specs.declared.pointer.Pointer.TheVariants.{Hole}
 use Rattle.images.proofs.SumLaws.{sums_rise}
 use Rattle.blocktree.specs.PlaceMaps.{place_at}
 use Rattle.blocktree.proofs.PlaceMapLaws.{changed_all}
-use Rattle.conspoint.specs.Groups.{pointer_at, group, IsGroup, ComesFrom}
+use Rattle.conspoint.specs.Groups.{pointer_at, group, IsGroup, Follows, ComesFrom}
 use Rattle.conspoint.proofs.StepLemmas.{group_more, over_of, places_err, places_none, places_ok, places_out, places_rise}
-use Rattle.conspoint.proofs.GroupLemmas.{groups_more, placed_more, placed_none, same_group, same_none}
+use Rattle.conspoint.proofs.GroupLemmas.{follows_none, groups_more, placed_more, placed_none, same_follows, same_group, same_none}
 use Rattle.conspoint.proofs.group.place_over.Goals as goal
 
 pub place_group-requires : goal.place_group-requires
@@ -28,6 +28,7 @@ loop-j-init c = record {
   step = λ w counts. places_none c.args.draft.now;
   behind = λ i le. c.new-over.ensures i;
   groups = λ e has j lt. absurd (omega (arith, lt));
+  follows = λ j lt. absurd (omega (arith, lt));
   placed = placed_none c.args.draft.now c.args.settled.now c.new-over.result c.new-over.ensures;
 }
 
@@ -54,6 +55,10 @@ loop-j-preserved c =
           (λ k le lt. IsGroup.none (so_far.behind k le) (λ i small. c.in-Some.ensures.before k i le lt small))
           (same_group e (place_at settled j) p (group old j) (pointer_at before.result) (group new j) (pointer_at after.result) before.ensures.nodes after.ensures.nodes
           (subst (λ (s : Pointer). IsGroup e s (pointer_at before.result) (pointer_at after.result) p) c.at.ensures (placed.group e has)));
+      follows = groups_more (λ k q. Follows (place_at settled k) (group old k) (group new k) q) c.loop-j.over c.set.new.self c.loop-j.from j p put.there put.others so_far.follows
+          (λ k le lt. follows_none (place_at settled k) (place_at c.loop-j.over k) (group old k) (group new k) (so_far.behind k le) (λ i small. c.in-Some.ensures.before k i le lt small))
+          (same_follows (place_at settled j) p (group old j) (pointer_at before.result) (group new j) (pointer_at after.result) before.ensures.nodes after.ensures.nodes
+          (subst (λ (s : Pointer). Follows s (pointer_at before.result) (pointer_at after.result) p) c.at.ensures placed.follows));
       placed = placed_more c.args.draft.now c.loop-j.draft c.place_group.new.draft settled c.loop-j.over c.set.new.self j p
           (so_far.step (λ i. 1) (λ i lt none. absurd (omega (arith, none)))).grows placed.step.grows so_far.placed put.there put.others
           (subst (λ (s : Pointer). ComesFrom c.loop-j.draft c.place_group.new.draft s p) c.at.ensures placed.from) placed.within;
@@ -89,4 +94,11 @@ pub returns-clause-groups : goal.returns-clause-groups
 returns-clause-groups c e has j lt = elim (cases_lt j c.loop-j.from) [
   | inl done ↦ c.loop-j.invariant.groups e has j done
   | inr more ↦ IsGroup.none (c.loop-j.invariant.behind j more) (λ i small. c.in_default.ensures.none j i more lt small)
+]
+
+pub returns-clause-follows : goal.returns-clause-follows
+returns-clause-follows c j lt = elim (cases_lt j c.loop-j.from) [
+  | inl done ↦ c.loop-j.invariant.follows j done
+  | inr more ↦
+      follows_none (place_at c.args.settled.now j) (place_at c.loop-j.over j) (group c.args.old.now j) (group c.args.new.now j) (c.loop-j.invariant.behind j more) (λ i small. c.in_default.ensures.none j i more lt small)
 ]

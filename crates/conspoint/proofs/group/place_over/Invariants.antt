@@ -2,7 +2,7 @@ use Rattle.std.proofs.Common.{ℕ, ◌-◌, ◌<◌, ◌≤◌, Ok}
 use Rattle.images.specs.Sums.{sum_below}
 use Rattle.blocktree.specs.PlaceMaps.{EndBefore, place_at}
 use Rattle.conspoint.specs.Drafts.{OnEach}
-use Rattle.conspoint.specs.Groups.{group, IsGroup, ArePlaced}
+use Rattle.conspoint.specs.Groups.{group, IsGroup, Follows, ArePlaced}
 use Rattle.conspoint.specs.Space.{CountsGroups}
 use Rattle.conspoint.specs.Steps.{Places}
 use Rattle.conspoint.proofs.group.place_over.Given as goal
@@ -13,6 +13,7 @@ invariant-loop-j l = record {
   step : (w : ℕ → ℕ) → CountsGroups w l.groups (group l.old) (group l.new) → Places {T = Unit {0}} (sum_below w l.from) l.fn.draft l.draft (Ok tt);
   behind : EndBefore l.from l.over;
   groups : OnEach l.draft (λ e. (j : ℕ) → j < l.from → IsGroup e (place_at l.settled j) (group l.old j) (group l.new j) (place_at l.over j));
+  follows : (j : ℕ) → j < l.from → Follows (place_at l.settled j) (group l.old j) (group l.new j) (place_at l.over j);
   placed : ArePlaced l.fn.draft l.draft l.settled l.over;
 }
 

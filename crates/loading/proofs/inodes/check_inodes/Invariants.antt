@@ -7,5 +7,5 @@ use Rattle.loading.proofs.inodes.check_inodes.Given as goal
 abbrev pub invariant-loop-i : goal.invariant-loop-i
 invariant-loop-i g l = record {
   read : HasOnlyRead g.B.Blocks l.initial.blocks l.blocks;
-  are : (disk : ℕ → List ℕ) → g.B.Blocks.Shows l.initial.blocks disk → (j : ℕ) → j < l.i → IsInodeBlock l.geometry (21 * j) (file_block disk l.file j);
+  are : (disk : ℕ → List ℕ) → g.B.Blocks.Shows l.initial.blocks disk → (j : ℕ) → j < l.i → IsInodeBlock l.version l.geometry (21 * j) (file_block disk l.file j);
 }

@@ -4,4 +4,4 @@ use Rattle.loading.specs.InodeBlocks.{IsInodeAt}
 use Rattle.loading.proofs.inodes.is_inode_block.Given as goal
 
 abbrev pub invariant-loop-k : goal.invariant-loop-k
-invariant-loop-k l = (j : ℕ) → j < l.k → IsInodeAt l.geometry (l.first + j) (inode_part l.bytes j)
+invariant-loop-k l = (j : ℕ) → j < l.k → IsInodeAt l.version l.geometry (l.first + j) (inode_part l.bytes j)

@@ -67,6 +67,7 @@ returns g c = record {
   parts = search rules;
   unchanged = search rules;
   next = search rules;
+  version = search rules;
   geometry = search rules;
   clean = c.new-inodes.ensures.unchanged;
   numbers = search rules;
@@ -86,6 +87,6 @@ returns g c = record {
       c.in_ok-block_map.ensures.kind c.in_ok-block_map.ensures.is.kind)
       (c.in_ok-numbers.ensures.bytes disk shows3) (c.in_ok-parts.ensures.parts disk shows4) c.in_ok-parts.ensures.unchanged
       c.new-map.ensures.parts (search rules) c.new-map.ensures.next
-      c.new-inodes.ensures.geometry c.new-inodes.ensures.file c.new-inodes.ensures.map c.new-inodes.ensures.unchanged
+      c.new-inodes.ensures.version c.new-inodes.ensures.geometry c.new-inodes.ensures.file c.new-inodes.ensures.map c.new-inodes.ensures.unchanged
       (λ v are maps holds. c.new-inodes.ensures.volume _ c.args.root.now.geometry.blocks disk (inodes_of (tree disk c.args.root.now.geometry.inodes c.args.root.now.inode_file)) v are maps holds);
 }

@@ -42,16 +42,16 @@ returns-in_err-all-clause-step c =
     let law = c.free_files_hold_nothing.ensures in
     let change = own_change s c.args.draft.now o kinds.InodeFile (sym c.requires.map) (law.sound s nothing) (law.none nothing) c.inode_file-object.ensures.base
     (zeros_end o.file (c.inode_file-object.ensures.blocks nothing)) c.inode_file-object.ensures.attributes (refl, refl, c.inode_file-object.ensures.size) in
-    let few = top_few c.inode_file-object.result.file c.inode_file-object.ensures.unchanged in
+    let few = top_few c.inode_file-object.result.file c.inode_file-object.ensures.small c.inode_file-object.ensures.unchanged in
     placed_fails c.from_residual.result c.from_residual.ensures.1
     (shortage c.in_err-all.field-0.0 (λ is. c.in_err-all.ensures.step.reads.device cc) (c.in_err-all.ensures.damaged s nothing free_inode (λ place. refl) change)) c.in_err-all.ensures.step few
 
 pub returns-in_err-mark_all-clause-step : goal.returns-in_err-mark_all-clause-step
 returns-in_err-mark_all-clause-step c =
-    let few = top_few c.inode_file-object.result.file c.inode_file-object.ensures.unchanged in
+    let few = top_few c.inode_file-object.result.file c.inode_file-object.ensures.small c.inode_file-object.ensures.unchanged in
     takes_err c.from_residual-in_err-mark_all.result c.from_residual-in_err-mark_all.ensures.1 (takes_then (placed_takes c.in_ok-all.ensures.step few) (marks_take c.in_err-mark_all.ensures.step) (omega arith))
 
 pub returns-clause-step : goal.returns-clause-step
 returns-clause-step c =
-    let few = top_few c.inode_file-object.result.file c.inode_file-object.ensures.unchanged in
+    let few = top_few c.inode_file-object.result.file c.inode_file-object.ensures.small c.inode_file-object.ensures.unchanged in
     takes_ok (takes_then (placed_takes c.in_ok-all.ensures.step few) (marks_take c.in_ok-mark_all.ensures.step) (omega arith))

@@ -11,20 +11,20 @@ use Rattle.making.proofs.first.plan_first.Goals as goal
 pub returns-clause-root : goal.returns-clause-root
 returns-clause-root c =
     let d = c.plan_files.new.draft in
-    root_is _ d refl c.blocks-2.ensures.within refl c.in_ok-inode_file.ensures.tree
+    root_is _ d refl refl c.blocks-2.ensures.within refl c.in_ok-inode_file.ensures.tree
     (disk_with_blocks d.blocks.items nothing) (c.written_disks_have_the_blocks.ensures.has d.blocks.items nothing d.drafted.planned.apart)
 
 pub returns-clause-holds : goal.returns-clause-holds
 returns-clause-holds c = λ e all.
     let d = c.plan_files.new.draft in
     let has = c.in_ok-inode_file.ensures.tree in
-    c.first_roots_hold.ensures _ e has.numbers has.map (first_is _ d refl c.blocks-2.ensures.within refl has e (subst (λ (p : Planned). HasAll e p.blocks) c.into_plan-map.ensures.plan all))
+    c.first_roots_hold.ensures _ e has.numbers has.map (first_is _ d refl refl c.blocks-2.ensures.within refl has e (subst (λ (p : Planned). HasAll e p.blocks) c.into_plan-map.ensures.plan all))
 
 pub returns-clause-room : goal.returns-clause-room
 returns-clause-room c = λ e all.
     let d = c.plan_files.new.draft in
     let start = subst (λ (n : ℕ). IsEmptyMap n c.new-draft.result.map) c.blocks-2.ensures.value (subst (IsEmptyMap c.blocks-2.result) (sym c.new-draft.ensures.map) c.in_ok-empty_map.ensures) in
-    reserve_is _ d refl c.blocks-2.ensures.within refl c.in_ok-inode_file.ensures.tree e (subst (λ (p : Planned). HasAll e p.blocks) c.into_plan-map.ensures.plan all)
+    reserve_is _ d refl refl c.blocks-2.ensures.within refl c.in_ok-inode_file.ensures.tree e (subst (λ (p : Planned). HasAll e p.blocks) c.into_plan-map.ensures.plan all)
     (few_given_out c.args.geometry.blocks c.new-draft.result d c.blocks-2.ensures.within.least_blocks start c.plan_files.ensures.grows c.in_ok-inode_file.ensures.takes)
 
 pub returns-clause-behind : goal.returns-clause-behind

@@ -3,21 +3,21 @@ use Rattle.std.proofs.lemmas.Bool.{cond_below}
 use Rattle.layout.specs.Version.{level_of}
 use Rattle.layout.specs.declared.pointer.Pointer.TheVariants.{Hole}
 use Rattle.blocktree.specs.PlaceMaps.{AreBelow, place_at}
+use Rattle.blocktree.specs.Names.{nodes_at}
 use Rattle.blocktree.specs.Places.{block_count}
-use Rattle.conspoint.specs.Groups.{group}
 use Rattle.conspoint.specs.Space.{block_stores, changed_blocks}
 use Rattle.conspoint.specs.Steps.{Places}
 use Rattle.conspoint.specs.declared.draft.Draft.{Draft}
 use Rattle.conspoint.specs.declared.error.PlanError.{PlanError}
 use Rattle.conspoint.proofs.StepLemmas.{places_err, places_ok, places_rise}
 use Rattle.placement.specs.Files.{object_block, with_first}
-use Rattle.placement.specs.Nodes.{AreWithin, node, under}
+use Rattle.placement.specs.Nodes.{AreWithin, node}
 use Rattle.placement.specs.Space.{first_stores, more_over}
 use Rattle.placement.specs.Steps.{PlacesHeights}
 use Rattle.placement.proofs.CostLaws.{changed_most, not_changed, one_added, placed_most, some_index, some_stored, with_one}
 use Rattle.placement.proofs.HeldLaws.{nodes_fall}
 use Rattle.placement.proofs.PlacedLaws.{one_placed, placed_both, placed_over}
-use Rattle.placement.proofs.RaiseLaws.{placed_heights}
+use Rattle.placement.proofs.RaiseLaws.{ones, placed_heights}
 use Rattle.placement.proofs.StandLaws.{block_is, first_is}
 use Rattle.placement.proofs.but_first.lay_but_first.Goals as goal
 use Rattle.placement.proofs.but_first.lay_but_first.Goals.{In_ok-placed}
@@ -30,12 +30,13 @@ lay_over-requires c =
       end = rw c.block_count-count.ensures at c.in_ok-placed.ensures.end;
       blocks = subst (λ (n : ℕ). AreBelow n c.in_ok-placed.placed.0) (sym count) c.in_ok-placed.ensures.placed.within;
       settled = subst (λ (n : ℕ). AreWithin n c.args.settled.now) (sym count) c.requires.settled;
+      full = c.requires.full;
     }
 
 pub returns-clause-reserved : goal.returns-clause-reserved
 returns-clause-reserved c =
     let size = c.args.object.now.file.size in
-    (placed_heights (block_count size) (level_of size) (under c.args.settled.now 0) (group c.in_ok-placed.placed.0) c.in_ok-laid.ensures.step).others c.in_ok-placed.placed.1 c.in_ok-placed.ensures.reserved
+    (placed_heights (block_count size) (level_of size) c.args.settled.now c.in_ok-placed.placed.0 c.in_ok-laid.ensures.step).others c.in_ok-placed.placed.1 c.in_ok-placed.ensures.reserved
 
 pub returns-clause-placed : goal.returns-clause-placed
 returns-clause-placed c =
@@ -44,7 +45,7 @@ returns-clause-placed c =
     let size = c.args.object.now.file.size in
     let a = c.args.draft.now in
     let b = c.place_but_first.new.draft in
-    let over = placed_heights (block_count size) (level_of size) (under settled 0) (group c.in_ok-placed.placed.0) c.in_ok-laid.ensures.step in
+    let over = placed_heights (block_count size) (level_of size) settled c.in_ok-placed.placed.0 c.in_ok-laid.ensures.step in
     placed_over a c.lay_over.new.draft settled n (level_of size) (omega (arith, c.in_ok-laid.ensures.heights))
     (placed_both a b c.lay_over.new.draft settled n 0 1 (level_of size) c.in_ok-placed.ensures.step.grows over.grows
     (one_placed a b settled n 0 c.in_ok-placed.placed.0 c.in_ok-placed.ensures.placed c.in_ok-laid.ensures.blocks) c.in_ok-laid.ensures.placed)
@@ -71,7 +72,7 @@ returns-clause-stands c = λ s disk base change known e has same.
     let settled = c.args.settled.now in
     let nodes = c.in_ok-placed.placed.0 in
     let first = c.in_ok-placed.placed.1 in
-    let over = placed_heights (block_count o.file.size) (level_of o.file.size) (under settled 0) (group nodes) c.in_ok-laid.ensures.step in
+    let over = placed_heights (block_count o.file.size) (level_of o.file.size) settled nodes c.in_ok-laid.ensures.step in
     c.in_ok-laid.ensures.stands s disk base (change.blocks ∙ sym c.in_ok-placed.ensures.step.grows.count) change.sound known e has same (with_first (e first) (object_block disk o))
     (first_is e (place_at nodes) first (object_block disk o) c.in_ok-placed.ensures.first
     (λ i some. block_is disk e base o settled known same (place_at nodes) i (λ past. c.in_ok-placed.ensures.end i (omega (arith, past)))
@@ -79,7 +80,7 @@ returns-clause-stands c = λ s disk base change known e has same.
 
 -- the blocks are placed before
 most : {U : Type 0} {d : Draft} {r : Result U PlanError} (c : In_ok-placed)
-    → PlacesHeights (block_count c.args.object.now.file.size) (level_of c.args.object.now.file.size) (under c.args.settled.now 0) (group c.in_ok-placed.placed.0) c.place_but_first.new.draft d r
+    → PlacesHeights (block_count c.args.object.now.file.size) (level_of c.args.object.now.file.size) c.args.settled.now c.in_ok-placed.placed.0 c.place_but_first.new.draft d r
     → Places (first_stores c.args.object.now.file) c.args.draft.now d r
 most c step =
     let file = c.args.object.now.file in
@@ -88,9 +89,9 @@ most c step =
     let level : 1 ≤ level_of file.size = search rules in
     let stores = block_stores t 1 in
     let lowest : Places (changed_blocks t 1 count + 1) c.args.draft.now c.place_but_first.new.draft (Ok c.in_ok-placed.placed) = rw (c.tree.ensures, c.block_count-count.ensures) at c.in_ok-placed.ensures.step in
-    placed_most (with_one stores) (changed_blocks t 1 count + 1) file c.args.settled.now c.in_ok-placed.placed.0 c.requires.counted (rw c.block_count-count.ensures at c.in_ok-placed.ensures.end)
+    placed_most (with_one stores) (λ j. 1) (changed_blocks t 1 count + 1) (nodes_at count 2) file c.args.settled.now c.in_ok-placed.placed.0 c.requires.counted (rw c.block_count-count.ensures at c.in_ok-placed.ensures.end)
     (λ i lt none. rw c.tree.ensures at (c.in_ok-placed.ensures.unchanged i (omega (arith, lt)) (some_index stores i none) (rw c.tree.ensures (not_changed t 1 i (some_index stores i none) (some_stored stores i none)))))
-    level (one_added stores count) lowest step
+    level (one_added stores count) (omega (arith, ones (nodes_at count 2))) (λ j high none. absurd (omega (arith, none))) lowest step
 
 pub returns-clause-step : goal.returns-clause-step
 returns-clause-step c = places_ok (most (goal.at.returns-clause-step c).In_ok-placed c.in_ok-laid.ensures.step)
@@ -104,4 +105,4 @@ returns-in_err-placed-clause-step c =
     let file = c.args.object.now.file in
     let level : 1 ≤ level_of file.size = search rules in
     places_err c.from_residual.result c.from_residual.ensures.1
-    (places_rise (rw (c.tree.ensures, c.block_count-count.ensures) at c.in_err-placed.ensures.step) (changed_most (level_of file.size) (block_count file.size) (changed_blocks file.tree 1 (block_count file.size) + 1) (more_over file) level))
+    (places_rise (rw (c.tree.ensures, c.block_count-count.ensures) at c.in_err-placed.ensures.step) (changed_most (level_of file.size) (block_count file.size) (changed_blocks file.tree 1 (block_count file.size) + 1) (more_over file) (nodes_at (block_count file.size) 2) level))

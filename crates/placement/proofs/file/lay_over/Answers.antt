@@ -3,9 +3,8 @@ use Rattle.layout.specs.Places.{pointed}
 use Rattle.layout.specs.Version.{level_of}
 use Rattle.blocktree.specs.Names.{nodes_at}
 use Rattle.blocktree.specs.Places.{block_count}
-use Rattle.conspoint.specs.Groups.{group}
 use Rattle.conspoint.proofs.StepLemmas.{places_err, places_ok}
-use Rattle.placement.specs.Nodes.{ArePlacedIn, height_of, node, under}
+use Rattle.placement.specs.Nodes.{ArePlacedIn, height_of, node}
 use Rattle.placement.proofs.HeldLaws.{nodes_same, top_few, top_of}
 use Rattle.placement.proofs.PlacedLaws.{all_within}
 use Rattle.placement.proofs.RaiseLaws.{heights_as}
@@ -43,10 +42,10 @@ returns-in_err-nodes-clause-step c = λ w counts.
     let size = c.args.object.now.file.size in
     let level : c.from-level.result ≡ level_of size = search rules in
     places_err c.from_residual.result c.from_residual.ensures.1
-    (heights_as (block_count size) c.block_count.result (level_of size) c.from-level.result (under c.args.settled.now 0) (group c.args.blocks) c.block_count.ensures level c.in_err-nodes.ensures.step w counts)
+    (heights_as (block_count size) c.block_count.result (level_of size) c.from-level.result c.args.settled.now c.args.blocks c.block_count.ensures level c.in_err-nodes.ensures.step w counts)
 
 pub returns-clause-step : goal.returns-clause-step
 returns-clause-step c = λ w counts.
     let size = c.args.object.now.file.size in
     let level : c.from-level.result ≡ level_of size = search rules in
-    places_ok (heights_as (block_count size) c.block_count.result (level_of size) c.from-level.result (under c.args.settled.now 0) (group c.args.blocks) c.block_count.ensures level c.in_ok-nodes.ensures.step w counts)
+    places_ok (heights_as (block_count size) c.block_count.result (level_of size) c.from-level.result c.args.settled.now c.args.blocks c.block_count.ensures level c.in_ok-nodes.ensures.step w counts)

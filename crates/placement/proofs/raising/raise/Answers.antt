@@ -1,7 +1,7 @@
 use Rattle.std.proofs.Common.{arith}
 use Rattle.blocktree.specs.PlaceMaps.{place_at}
 use Rattle.conspoint.specs.Groups.{group}
-use Rattle.placement.proofs.RaiseLaws.{AreOver, over_err, over_none, over_settled, raised_group, raised_placed, raised_step}
+use Rattle.placement.proofs.RaiseLaws.{AreOver, over_err, over_none, over_settled, raised_follows, raised_group, raised_placed, raised_step}
 use Rattle.placement.proofs.raising.raise.Goals as goal
 use Rattle.placement.proofs.raising.raise.Goals.{After-height-old, After-new-none}
 
@@ -19,6 +19,10 @@ pub returns-then-above-len-clause-groups : goal.returns-then-above-len-clause-gr
 returns-then-above-len-clause-groups c = λ e has j lt.
     raised_group (settled_are (goal.at.returns-then-above-len-clause-groups c).After-height-old) e j (group c.args.nodes.now j) (place_at c.in_ok-placed.placed j) (c.in_ok-placed.ensures.groups e has j lt)
 
+pub returns-then-above-len-clause-follows : goal.returns-then-above-len-clause-follows
+returns-then-above-len-clause-follows c = λ j lt.
+    raised_follows (settled_are (goal.at.returns-then-above-len-clause-follows c).After-height-old) j (group c.args.nodes.now j) (place_at c.in_ok-placed.placed j) (c.in_ok-placed.ensures.follows j lt)
+
 pub returns-then-above-len-clause-placed : goal.returns-then-above-len-clause-placed
 returns-then-above-len-clause-placed c =
     raised_placed (settled_are (goal.at.returns-then-above-len-clause-placed c).After-height-old) c.args.draft.now c.place_over.new.draft c.in_ok-placed.placed c.requires.settled c.in_ok-placed.ensures.placed
@@ -33,6 +37,10 @@ returns-clause-step c = raised_step (none_are (goal.at.returns-clause-step c).Af
 pub returns-clause-groups : goal.returns-clause-groups
 returns-clause-groups c = λ e has j lt.
     raised_group (none_are (goal.at.returns-clause-groups c).After-new-none) e j (group c.args.nodes.now j) (place_at c.in_ok-raised.raised j) (c.in_ok-raised.ensures.groups e has j lt)
+
+pub returns-clause-follows : goal.returns-clause-follows
+returns-clause-follows c = λ j lt.
+    raised_follows (none_are (goal.at.returns-clause-follows c).After-new-none) j (group c.args.nodes.now j) (place_at c.in_ok-raised.raised j) (c.in_ok-raised.ensures.follows j lt)
 
 pub returns-clause-placed : goal.returns-clause-placed
 returns-clause-placed c =

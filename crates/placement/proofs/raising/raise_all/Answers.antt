@@ -9,14 +9,14 @@ use Rattle.conspoint.specs.Groups.{group}
 use Rattle.conspoint.specs.Steps.{Places, PlacesOver}
 use Rattle.conspoint.specs.declared.draft.Draft.{Draft}
 use Rattle.conspoint.specs.declared.error.PlanError.{PlanError}
-use Rattle.conspoint.proofs.GroupLemmas.{same_group}
+use Rattle.conspoint.proofs.GroupLemmas.{same_follows, same_group}
 use Rattle.conspoint.proofs.StepLemmas.{places_err, places_none, places_ok, places_out, places_then}
 use Rattle.placement.specs.declared.nodes.Nodes.{Nodes}
 use Rattle.placement.specs.Nodes.{ArePlacedAt, AreWithin, height_of, node, under}
 use Rattle.placement.specs.Steps.{PlacesHeights, raise_stores}
 use Rattle.placement.proofs.HeldLaws.{first_nodes}
 use Rattle.placement.proofs.PlacedLaws.{all_within, node_last, node_over, node_pushed, none_placed, one_placed, placed_both, placed_same}
-use Rattle.placement.proofs.RaiseLaws.{end_pushed, height_pushed, nodes_next, over_pushed, placed_heights, raise_step}
+use Rattle.placement.proofs.RaiseLaws.{IsStill, end_pushed, height_pushed, nodes_next, over_pushed, placed_heights, raise_step, still_first, still_pushed}
 use Rattle.placement.proofs.raising.raise_all.Goals as goal
 use Rattle.placement.proofs.raising.raise_all.Goals.{After-height-below}
 
@@ -25,18 +25,21 @@ loop-height-init c =
     let count = c.args.count in
     let old : Nodes = record { heights = c.new.result } in
     let new : Nodes = record { heights = c.push.new.self } in
-    let is = c.in_ok-push.ensures.items in
+    let is_new = c.in_ok-push.ensures.items in
     let none : height_of old ≡ 0 = ap (λ (xs : List PlaceMap). length xs) c.new.ensures.items in
-    let heights : height_of new ≡ 1 = omega (arith, height_pushed old new c.args.lowest is, none) in
+    let heights : height_of new ≡ 1 = omega (arith, height_pushed old new c.args.lowest is_new, none) in
     let first : 0 ≡ 1 - 1 = omega arith in
     record {
       step = λ w counts. places_none c.args.draft.now;
       heights = heights;
       groups = sym (first_nodes count) ∙ ap (nodes_at count) first;
       few = omega arith;
-      lowest = λ i. node_last old new c.args.lowest 0 i is (sym none);
-      end = end_pushed old new c.args.lowest count 0 count is none (sym (first_nodes count)) c.requires.end (λ m i past. node_over old m i (omega (arith, none)));
+      lowest = λ i. node_last old new c.args.lowest 0 i is_new (sym none);
+      end = end_pushed old new c.args.lowest count 0 count is_new none (sym (first_nodes count)) c.requires.end (λ m i past. node_over old m i (omega (arith, none)));
       over = λ e has m j lt. absurd (omega (arith, lt, heights));
+      still = λ h j low.
+          let is : 0 ≡ h = omega (arith, low) in
+          subst (λ (k : ℕ). IsStill c.args.settled.now c.args.lowest k j (node new k j)) is (still_first c.args.settled.now new c.args.lowest j (node_last old new c.args.lowest 0 j is_new (sym none)));
       placed = none_placed c.args.draft.now c.args.draft.now c.args.settled.now new 1;
     }
 
@@ -50,29 +53,34 @@ pub raise-requires-clause-within : goal.raise-requires-clause-within
 raise-requires-clause-within c = λ i.
     let so_far = c.loop-height.invariant in
     let h = c.loop-height.height in
-    let grows = (placed_heights c.args.count h (under c.args.settled.now 0) (group c.args.lowest) so_far.step).grows in
+    let grows = (placed_heights c.args.count h c.args.settled.now c.args.lowest so_far.step).grows in
     subst (PointsBelow c.loop-height.draft.map.count) (sym (c.height-below.ensures i))
     (all_within c.loop-height.draft.map.count h c.args.draft.now c.loop-height.draft c.args.settled.now c.loop-height.nodes c.args.lowest grows.count so_far.heights c.requires.within so_far.lowest so_far.placed (h - 1) i)
 
 pub raise-requires-clause-settled : goal.raise-requires-clause-settled
 raise-requires-clause-settled c =
-    let grows = (placed_heights c.args.count c.loop-height.height (under c.args.settled.now 0) (group c.args.lowest) c.loop-height.invariant.step).grows in
+    let grows = (placed_heights c.args.count c.loop-height.height c.args.settled.now c.args.lowest c.loop-height.invariant.step).grows in
     subst (λ (n : ℕ). AreWithin n c.args.settled.now) (sym grows.count) c.requires.settled
 
 -- with the nodes over the last height that is placed, a level over all of these takes what its heights do
 more : {T : Type 0} {d : Draft} {r : Result T PlanError} (level : ℕ) (c : After-height-below) → c.loop-height.height < level
     → PlacesOver c.div_ceil-groups.result (under c.args.settled.now (c.loop-height.height - 1)) (group c.height-below.result.now) c.loop-height.draft d r
-    → PlacesHeights c.args.count level (under c.args.settled.now 0) (group c.args.lowest) c.args.draft.now d r
+    → PlacesHeights c.args.count level c.args.settled.now c.args.lowest c.args.draft.now d r
 more {d = d} level c low step = λ w counts.
     let so_far = c.loop-height.invariant in
     let h = c.loop-height.height in
+    let m = h - 1 in
     let count = c.args.count in
-    places_then (so_far.step w (λ le. counts (omega (arith, le, low))))
-    (raise_step count h c.div_ceil-groups.result w c.args.settled.now c.args.lowest c.height-below.result.now c.loop-height.draft d c.loop-height.auto.height
-    (c.div_ceil-groups.ensures ∙ nodes_next count h c.loop-height.groups c.loop-height.auto.height so_far.groups)
-    (λ e k. (let none : h - 1 ≡ 0 = omega (arith, e) in c.height-below.ensures k ∙ ap (λ (m : ℕ). node c.loop-height.nodes m k) none ∙ so_far.lowest k))
-    (λ le. counts (omega (arith, le, low))) step)
-    (is_in_sum (raise_stores count w) h level low)
+    let some : 1 ≤ h = c.loop-height.auto.height in
+    let top : suc m ≡ h = omega (arith, some) in
+    let groups : c.div_ceil-groups.result ≡ nodes_at count h = c.div_ceil-groups.ensures ∙ nodes_next count h c.loop-height.groups some so_far.groups in
+    places_then (so_far.step w (λ k j one le. counts k j one (omega (arith, le, low))))
+    (raise_step count m c.div_ceil-groups.result w c.args.settled.now c.loop-height.nodes c.args.lowest c.height-below.result.now c.loop-height.draft d (groups ∙ ap (nodes_at count) (sym top))
+    c.height-below.ensures
+    (λ j. so_far.still m j (omega (arith, top)))
+    (λ j. counts (suc m) j (omega arith) (omega (arith, top, low)))
+    step)
+    (subst (λ (k : ℕ). sum_below (raise_stores count w) h + raise_stores count w k ≤ sum_below (raise_stores count w) level) (sym top) (is_in_sum (raise_stores count w) h level low))
 
 pub loop-height-preserved : goal.loop-height-preserved
 loop-height-preserved c =
@@ -91,7 +99,7 @@ loop-height-preserved c =
     let all : groups ≡ nodes_at count h = c.div_ceil-groups.ensures ∙ nodes_next count h c.loop-height.groups some so_far.groups in
     let top : suc (h - 1) ≡ h = omega (arith, some) in
     let next : h ≡ h + 1 - 1 = omega arith in
-    let before = (placed_heights count h (under settled 0) (group lowest) so_far.step).grows in
+    let before = (placed_heights count h settled lowest so_far.step).grows in
     record {
       step = λ w counts. places_ok (more (h + 1) (goal.at.loop-height-preserved c).After-height-below (omega arith) raised.step w counts);
       heights = height_pushed old new over is ∙ ap (λ (n : ℕ). n + 1) so_far.heights;
@@ -103,6 +111,10 @@ loop-height-preserved c =
           (λ i le. so_far.end (h - 1) i (omega (arith, le, c.div_ceil-groups.ensures, so_far.groups)))
           (λ j lt. same_group e (node settled (suc (h - 1)) j) (place_at over j) (under settled (h - 1) j) (under settled (h - 1) j) (λ i. node old (h - 1) (1024 * j + i)) (group c.height-below.result.now j)
           (λ i small. refl) (λ i small. c.height-below.ensures (1024 * j + i)) (raised.groups e has j lt));
+      still = still_pushed settled old new lowest over (h - 1) h groups is so_far.heights top c.requires.full raised.end
+          (λ i le. so_far.end (h - 1) i (omega (arith, le, c.div_ceil-groups.ensures, so_far.groups)))
+          (λ j lt. same_follows (node settled (suc (h - 1)) j) (place_at over j) (under settled (h - 1) j) (under settled (h - 1) j) (λ i. node old (h - 1) (1024 * j + i)) (group c.height-below.result.now j)
+          (λ i small. refl) (λ i small. c.height-below.ensures (1024 * j + i)) (raised.follows j lt)) so_far.still;
       placed = placed_both c.args.draft.now c.loop-height.draft c.raise.new.draft settled new 1 h (h + 1) before raised.step.grows
           (placed_same c.args.draft.now c.loop-height.draft settled old new 1 h (λ m i le lt. node_pushed old new over m i is (omega (arith, lt, so_far.heights))) so_far.placed)
           (one_placed c.loop-height.draft c.raise.new.draft settled new h over
@@ -123,4 +135,4 @@ pub returns-clause-step : goal.returns-clause-step
 returns-clause-step c = λ w counts.
     let end : c.loop-height.height ≡ c.args.level = omega (arith, c.loop-height-test.false, c.loop-height.auto.height-end, c.requires.level) in
     subst (λ (k : ℕ). Places (sum_below (raise_stores c.args.count w) k) c.args.draft.now c.loop-height.draft (Ok c.loop-height.nodes)) end
-    (places_ok (c.loop-height.invariant.step w (λ le. counts (omega (arith, le, end)))))
+    (places_ok (c.loop-height.invariant.step w (λ k j one low. counts k j one (omega (arith, low, end)))))

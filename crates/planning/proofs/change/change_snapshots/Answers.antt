@@ -1,13 +1,14 @@
-use Rattle.std.proofs.Common.{Ok, inl, inr, rules, ap, sym, subst, ◌∙◌}
+use Rattle.std.proofs.Common.{Ok, ◌+◌, inl, inr, rules, ap, arith, sym, subst, ◌∙◌}
 use Rattle.std.proofs.lemmas.Bool.{cases_eq}
 use Rattle.images.specs.Roots.{slot}
 use Rattle.layout.proofs.PointerLaws.{hole_block}
 use Rattle.images.specs.SnapshotSteps.{HasHead, SnapshotStep}
 use Rattle.layout.specs.Places.{pointed}
-use Rattle.planning.specs.Changes.{IsStepOf, head_nodes}
+use Rattle.blockmap.specs.Maps.{entry_at, settled_at}
+use Rattle.planning.specs.Changes.{IsStepOf, StartsActive, StepsSets, head_nodes}
 use Rattle.planning.specs.declared.change.SnapshotChange.{SnapshotChange}
 use Rattle.planning.proofs.change.change_snapshots.Goals as goal
-use Rattle.conspoint.proofs.StepLemmas.{places_none, takes_err, takes_of, takes_ok}
+use Rattle.conspoint.proofs.StepLemmas.{marks_take, places_none, takes_err, takes_of, takes_ok}
 use Rattle.conspoint.specs.Steps.{Takes}
 use Rattle.layout.specs.declared.root.Root.{Root}
 
@@ -70,3 +71,18 @@ returns-in_ok-delete-in-Delete-clause-steps c = λ step is. record {
   slots = search rules;
   head = search rules;
 }
+
+pub returns-in_ok-load_plane-in-Restore-clause-step : goal.returns-in_ok-load_plane-in-Restore-clause-step
+returns-in_ok-load_plane-in-Restore-clause-step c =
+    subst (λ n. Takes {T = Root} n c.args.draft.now c.load_plane.new.self (Ok c.args.root.now)) (sym (ap head_nodes c.in-Restore.is)) (takes_ok (marks_take c.in_ok-load_plane-in-Restore.ensures.step))
+
+pub returns-in_ok-load_plane-in-Restore-clause-active : goal.returns-in_ok-load_plane-in-Restore-clause-active
+returns-in_ok-load_plane-in-Restore-clause-active c =
+    subst (λ (x : SnapshotChange). StartsActive x (settled_at c.args.draft.now.map.parts.items) (entry_at c.args.draft.now.map.parts.items) (entry_at c.load_plane.new.self.map.parts.items)) (sym c.in-Restore.is)
+    (λ b. (c.in_ok-load_plane-in-Restore.ensures.plane (b + 1)).there b (omega arith))
+
+pub returns-in_ok-load_plane-in-Restore-clause-sets : goal.returns-in_ok-load_plane-in-Restore-clause-sets
+returns-in_ok-load_plane-in-Restore-clause-sets c = λ step is.
+    let named = subst (λ (x : SnapshotChange). IsStepOf x c.args.root.now step) c.in-Restore.is is in
+    subst (λ (x : SnapshotStep). StepsSets x c.args.root.now c.args.root.now (settled_at c.args.draft.now.map.parts.items) (entry_at c.args.draft.now.map.parts.items) (entry_at c.load_plane.new.self.map.parts.items)) (sym named.1)
+    (λ b i other. (c.in_ok-load_plane-in-Restore.ensures.plane (b + 1)).others b i (omega arith) other)

@@ -13,6 +13,7 @@ use Rattle.model.specs.Volumes.{Volume}
 use Rattle.placement.specs.Files.{is_one}
 use Rattle.placement.specs.Space.{file_stores}
 use Rattle.planning.specs.Plans.{IsInodeMapOn}
+use Rattle.planning.specs.Progress.{Before}
 use Rattle.planning.specs.Space.{CountsBlocks, map_stores}
 use Rattle.planning.specs.Steps.{IsOverTree, settled_tree}
 use Rattle.conspoint.proofs.SpaceLemmas.{same_left}
@@ -71,8 +72,8 @@ returns-in_err-put_parts-clause-damaged g c = λ disk settled v before shows mem
     (c.based_trees_are_sound.ensures.at _ s disk c.in_ok-settled.settled tree i sound sound.bytes.readable c.in_ok-object.ensures.base))
 
 -- the file that is placed, over the settled one
-map_now : (g : Over) (c : In_ok-put_parts g) (disk : ℕ → List ℕ) (settled : ℕ → Inode) (v : Volume) (before : ℕ → ℕ) → g.B.Blocks.Shows c.args.blocks.now disk
-    → IsOverTree (g.B.Blocks.count c.args.blocks.now) disk settled c.args.inodes.now v before → ((b : ℕ) → settled_at c.args.draft.now.map.parts.items b ≡ before b)
+map_now : (g : Over) (c : In_ok-put_parts g) (disk : ℕ → List ℕ) (settled : ℕ → Inode) (v : Volume) (before : Before) → g.B.Blocks.Shows c.args.blocks.now disk
+    → IsOverTree (g.B.Blocks.count c.args.blocks.now) disk settled c.args.inodes.now v before → ((b : ℕ) → settled_at c.args.draft.now.map.parts.items b ≡ before.entry b)
     → IsMapOver c.args.inodes.now.geometry c.args.draft.now disk (settled 1) (record c.in_ok-object.object { file = c.put_parts.new.file }) c.args.inodes.now.numbers.bytes.items
 map_now g c disk settled v before shows memory same =
     let now : c.in_ok-settled.settled ≡ settled 1 = c.in_ok-settled.ensures.read disk settled shows memory.volume.inodes in
@@ -115,7 +116,7 @@ returns-clause-planned g c = λ disk settled v before found shows memory no_hole
     (c.in_ok-put_inode.ensures.put disk shown_last) (c.in_ok-put_inode.ensures.whole disk shown_last) c.in_ok-put_inode.ensures.long
 
 -- no more of the file is stored than counts
-few_counted : (g : Over) (c : In_ok-put_parts g) (disk : ℕ → List ℕ) (settled : ℕ → Inode) (v : Volume) (before : ℕ → ℕ) → g.B.Blocks.Shows c.args.blocks.now disk
+few_counted : (g : Over) (c : In_ok-put_parts g) (disk : ℕ → List ℕ) (settled : ℕ → Inode) (v : Volume) (before : Before) → g.B.Blocks.Shows c.args.blocks.now disk
     → IsOverTree (g.B.Blocks.count c.args.blocks.now) disk settled c.args.inodes.now v before → (w : ℕ → ℕ) → CountsBlocks w c.args.inodes.now.numbers.bytes.items (nodes.file_block (held disk (settled 1)))
     → file_stores c.put_parts.new.file ≤ map_stores w c.args.inodes.now
 few_counted g c disk settled v before shows memory w counts =

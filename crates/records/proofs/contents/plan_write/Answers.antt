@@ -16,7 +16,7 @@ returns-in-Ok g c =
       reads = search rules;
       same = search rules;
       fits = search rules;
-      stores = told.stores;
+      stores = told.stores c.requires.few;
       rewrites = λ disk shows whole.
           rewrites_same disk (written c.args.offset c.args.bytes.now) old c.prepare_write.new.self change told.same
           (written_ends (byte_at disk old) (byte_with disk old change) old.size change.size c.args.offset c.args.bytes.now told.size whole (told.bytes disk shows whole))

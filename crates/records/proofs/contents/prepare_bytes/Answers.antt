@@ -1,4 +1,6 @@
 use Rattle.std.proofs.Common.{◌+◌, Option, IfSome, is_some, IsTrue, refl, ap, sym, subst, ◌∙◌, arith}
+use Rattle.std.specs.Ordering.{nat_cmp}
+use Rattle.std.specs.BTreeMap as tree
 use Rattle.std.proofs.lemmas.Bool.{both_ways, false≢true}
 use Rattle.model.specs.Records.{with_file_bytes}
 use Rattle.model.specs.Volumes.{Node, is_file_node, with_node}
@@ -9,6 +11,7 @@ use Rattle.records.specs.declared.steps.Update.TheVariants as updates
 use Rattle.records.proofs.DetailLaws.{known_of}
 use Rattle.records.proofs.ContentLaws.{bars_rewriting, bounds_kept, file_changed, rewrite_within, rewriting_applied, rewriting_applies, rewriting_knows, rewriting_place, tells_rewriting}
 use Rattle.records.proofs.Deciding.{decides, obstructs, stops}
+use Rattle.records.proofs.SizeLaws.{loaded_bytes}
 use Rattle.records.proofs.StandLaws.{no_look}
 use Rattle.records.proofs.contents.prepare_bytes.Goals as goal
 
@@ -49,7 +52,9 @@ returns-clause-decides g c =
     let is : IsTrue (is_file_node (v n)) = sym told.0 ∙ ap is_some c.in-Some.is in
     let gives = subst (λ o. IfSome o (RewritesIn detail disk f (loaded s n))) c.in-Some.is told.1 in
     let w = with_node n (with_file_bytes f (v n)) v in
-    let room = rewrite_within n c.args.rewrite.now (loaded s n) c.in-Some.change (subst (λ o. IfSome o (RewriteRoom c.args.rewrite.now (loaded s n))) c.in-Some.is planned.stores) in
+    let now = planned.looks.kept {detail = detail} disk settled v stands in
+    let same = loaded_bytes detail disk s.geometry.inodes (settled n) (v n) (tree.get nat_cmp s.slots n) (now.volume.objects n) is in
+    let room = rewrite_within n c.args.rewrite.now (loaded s n) c.in-Some.change v same (subst (λ o. IfSome o (RewriteRoom c.args.rewrite.now (loaded s n))) c.in-Some.is planned.stores) in
     record {
       between = w;
       second = w;
@@ -65,7 +70,7 @@ returns-clause-decides g c =
       first_room = (room.0, omega arith, room.1);
       next_room = tt;
       last_room = tt;
-      within = omega (arith, room.2 v);
+      within = omega (arith, room.2);
       knows = rewriting_knows n c.args.rewrite.now s (subst (λ o. IfSome o (λ x. TakesUpdate s n (updates.Bytes x))) c.in-Some.is planned.ready).at_hand.known;
     })
     (λ detail disk settled v stands.

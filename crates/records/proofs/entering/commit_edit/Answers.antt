@@ -3,6 +3,7 @@ use Rattle.layout.specs.Inode.{FitsKind}
 use Rattle.layout.specs.declared.kind.Kind.{Kind}
 use Rattle.images.specs.Sizes.{StandsAsIn}
 use Rattle.dirs.specs.Room.{piece_count}
+use Rattle.inode.specs.Room.{edit_room}
 use Rattle.inode.specs.Files.{file_block}
 use Rattle.inode.specs.declared.object.Object.{Object}
 use Rattle.inofile.specs.Objects.{IsObjectOrNone}
@@ -40,4 +41,4 @@ returns-in-Some-clause-edits c = λ detail disk inodes settled found f stands ed
 
 pub returns-in-Some-clause-room : goal.returns-in-Some-clause-room
 returns-in-Some-clause-room c =
-    raises_to (record { attributes = c.in-Some.directory.attributes; file = c.commit.new.file; known = c.in-Some.directory.known }) (2 * piece_count c.args.edit + 3) c.in-Some.is c.commit.ensures.few.room
+    raises_to (record { attributes = c.in-Some.directory.attributes; file = c.commit.new.file; known = c.in-Some.directory.known }) (edit_room (piece_count c.args.edit)) c.in-Some.is c.commit.ensures.few.room

@@ -1,9 +1,13 @@
-use Rattle.std.proofs.Common.{rules, ◌≡◌, ◌+◌, ◌≤◌, ℕ, ◌/◌, ◌%◌, List, length, max, slice_index, refl, ap, ◌∙◌, arith}
+use Rattle.std.proofs.Common.{rules, ◌≡◌, ◌+◌, ◌*◌, ◌≤◌, ℕ, ◌/◌, ◌%◌, Bool, false, List, length, max, slice_index, refl, ap, subst, ◌∙◌, arith}
+use Rattle.std.specs.Prelude.{nat_lt, if◌then◌else◌}
+use Rattle.std.proofs.lemmas.Bool.Decides.{nat_tests}
 use Rattle.layout.specs.FileBytes.{EndsAt, first_bytes}
 use Rattle.model.specs.Room.{touched}
+use Rattle.model.specs.declared.limits.TheConstants.{SINGLE_FILE}
 use Rattle.buffers.specs.Positions.{with_bytes_at}
 use Rattle.inode.specs.Edges.{written_list}
 use Rattle.inode.specs.Files.{byte_at, file_block}
+use Rattle.inode.specs.Room.{file_room}
 use Rattle.inode.proofs.BytePositions.{slice_index-zeros}
 use Rattle.inode.proofs.ComposingLaws.{committed_byte, written_ends}
 use Rattle.inode.proofs.EdgeLaws.{list_of_write}
@@ -50,9 +54,12 @@ returns-clause-room g c =
     let old = c.empty-file.result in
     let none = empty_room old c.empty-file.ensures.size c.empty-file.ensures.unchanged in
     let same = same_room old c.prepare_write.new.self c.prepare_write.ensures.same in
-    let stores = c.in-Ok.ensures.stores c.commit.new.self c.commit.ensures in
-    let one : touched 0 (length c.args.text.now) ≤ 1 = omega (arith, c.requires.short) in
-    omega (arith, none, same, stores, one)
+    let length_of = length c.args.text.now in
+    let stores = c.in-Ok.ensures.stores (omega (arith, c.requires.short)) c.commit.new.self c.commit.ensures in
+    let low : nat_lt SINGLE_FILE (max old.size (0 + length_of)) ≡ false = grind (arith, nat_tests, c.empty-file.ensures.size, c.requires.short) in
+    let few = subst (λ (b : Bool). file_room c.commit.new.self ≤ file_room c.prepare_write.new.self + (2 * touched 0 length_of + (if b then 6 else 3))) low stores in
+    let one : touched 0 length_of ≤ 1 = omega (arith, c.requires.short) in
+    omega (arith, none, same, few, one)
 
 pub returns-in-Err-Damaged-clause-damaged : goal.returns-in-Err-Damaged-clause-damaged
 returns-in-Err-Damaged-clause-damaged g c = λ disk shows is.

@@ -10,7 +10,7 @@ returns-in_err-inodes-clause-views g c = λ disk shows v name pairs holds found.
     let root = c.args.root.now in
     let f = c.args.found.now in
     let ready = c.snapshots_are_readable.ensures.readable disk root v pairs f.slot (snapshot_found name f) found.1.tree holds found.0 found.1.frozen in
-    let why = c.in_err-inodes.ensures.loads by_bytes disk shows (record root { inode_file = f.inode_file }) refl refl ready in
+    let why = c.in_err-inodes.ensures.loads by_bytes disk shows (record root { inode_file = f.inode_file }) refl refl refl ready in
     search (rules, why)
 
 pub returns-clause-views : goal.returns-clause-views
@@ -18,5 +18,5 @@ returns-clause-views g c = λ disk shows v name pairs holds found.
     let root = c.args.root.now in
     let f = c.args.found.now in
     let ready = c.snapshots_are_readable.ensures.readable disk root v pairs f.slot (snapshot_found name f) found.1.tree holds found.0 found.1.frozen in
-    subst (λ (t : HeldTree). AreInodesOf disk root.geometry t c.in_ok-inodes.inodes) (c.snapshots_are_readable.ensures.tree disk root f.slot (snapshot_found name f) found.0)
-    (c.in_ok-inodes.ensures.loads by_bytes disk shows (record root { inode_file = f.inode_file }) refl refl ready)
+    subst (λ (t : HeldTree). AreInodesOf disk root.version root.geometry t c.in_ok-inodes.inodes) (c.snapshots_are_readable.ensures.tree disk root f.slot (snapshot_found name f) found.0)
+    (c.in_ok-inodes.ensures.loads by_bytes disk shows (record root { inode_file = f.inode_file }) refl refl refl ready)

@@ -3,7 +3,6 @@ use Rattle.system.proofs.laws.cuts_open.Goals as goal
 pub returns : goal.returns
 returns c = record {
   forgets = c.mounts_forget_open_files.ensures;
-  ends = c.replays_end_same.ensures;
   free = c.free_blocks_are_no_matter.ensures;
   unfinished = c.cuts_are_those_of_images.ensures.unfinished;
   finished = c.cuts_are_those_of_images.ensures.finished;

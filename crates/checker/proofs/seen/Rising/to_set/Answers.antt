@@ -1,9 +1,8 @@
-use Rattle.std.proofs.Common.{◌≡◌, ◌∙◌, inl, inr, ℕ, ◌<◌, ◌≤◌, Some, is_some, length, arith, get_or, refl, sym, ap, subst}
+use Rattle.std.proofs.Common.{◌∙◌, inl, inr, ◌<◌, ◌≤◌, is_some, length, arith, get_or, sym, ap}
 use Rattle.std.specs.Prelude.{slice_get}
 use Rattle.std.proofs.Math.Nat.{eq-or-lt_of_le}
 use Rattle.std.proofs.lemmas.Option.{slice_get-get_or, slice_get_within}
 use Rattle.model.proofs.ListingLemmas.{names_apart}
-use Rattle.checker.specs.declared.seen.Span.{Span}
 use Rattle.checker.proofs.SeenNames.{both_ways, grown_other, grown_same, has_key}
 use Rattle.checker.proofs.seen.Rising.to_set.Goals as goal
 

@@ -1,6 +1,5 @@
-use Rattle.std.proofs.Common.{◌≡◌, ◌∙◌, None, Some, sym, subst}
-use Rattle.layout.specs.DirectoryNames.{NameMap}
-use Rattle.checker.specs.Seen.{AddsName, KnowsBy, KnowsSeen, KnowsSet}
+use Rattle.std.proofs.Common.{sym, subst}
+use Rattle.checker.specs.Seen.{KnowsBy}
 use Rattle.checker.proofs.SeenNames.{if_ok, rising_more}
 use Rattle.checker.proofs.seen.Seen.add.Goals as goal
 

@@ -1,13 +1,16 @@
-use Rattle.std.proofs.Common.{rules, ◌+◌, ◌≡◌, ◌∙◌, ℕ, ◌*◌, ◌/◌, ◌%◌, ◌≤◌, ◌==◌, if◌then◌else◌, List, length, slice_index, ap, sym, arith, inl, inr, ltb}
+use Rattle.std.proofs.Common.{rules, subst, ◌+◌, ◌<◌, ◌⊎◌, ◌≡◌, ◌∙◌, ℕ, ◌*◌, ◌/◌, ◌%◌, ◌≤◌, ◌==◌, if◌then◌else◌, List, length, slice_index, ap, sym, arith, inl, inr, ltb}
 use Rattle.std.specs.BTreeMap as tree
 use Rattle.std.proofs.lemmas.Bool.{cases_eq, cases_lt, cond-false, cond-true, eq-eqb, le-ltb, lt-ltb, ne_eqb}
 use Rattle.layout.specs.Bytes.{zeros}
 use Rattle.layout.proofs.ZeroLaws.{length-zeros}
+use Rattle.model.specs.declared.limits.TheConstants.{SINGLE_FILE}
 use Rattle.blocktree.specs.Places.{block_count}
+use Rattle.blocktree.specs.Trees.{IsChanged}
 use Rattle.inode.specs.Files.{file_block}
 use Rattle.inode.specs.Room.{changed_below}
 use Rattle.inode.proofs.BytePositions.{slice_index-zeros}
-use Rattle.inode.proofs.RoomLaws.{one_changed, none_changed, room_grows}
+use Rattle.inode.proofs.GroupLaws.{none_top, one_top}
+use Rattle.inode.proofs.RoomLaws.{edit_grows, none_changed, one_changed}
 use Rattle.dirs.proofs.edit.Edit.commit.Goals as goal
 
 pub returns-clause-ends : goal.returns-clause-ends
@@ -38,6 +41,10 @@ loop-i-preserved c = record {
       let one = one_changed c.loop-i.file.tree c.set_block.new.self.tree c.in-Some.i c.set_block.ensures.only n in
       let len : tree.btree_map_len c.pop_first.new.self + 1 ≡ tree.btree_map_len c.loop-i.changed = c.in-Some.ensures.len in
       omega (arith, one, len, c.loop-i.invariant.few n);
+  tops =
+      let one = one_top c.loop-i.file.tree c.set_block.new.self.tree c.in-Some.i c.set_block.ensures.only in
+      let len : tree.btree_map_len c.pop_first.new.self + 1 ≡ tree.btree_map_len c.loop-i.changed = c.in-Some.ensures.len in
+      omega (arith, one, len, c.loop-i.invariant.tops);
 }
 
 pub returns-clause-whole : goal.returns-clause-whole
@@ -55,7 +62,19 @@ pub returns-clause-few : goal.returns-clause-few
 returns-clause-few c =
     let few : (n : ℕ) → changed_below c.set_size.new.self.tree n ≤ changed_below c.args.file.now.tree n + tree.btree_map_len c.args.self.changed =
     λ n. omega (arith, none_changed c.loop-i.file.tree c.set_size.new.self.tree c.set_size.ensures.changed n, c.loop-i.invariant.few n) in
-    record { changed = few; room = room_grows c.args.file.now c.set_size.new.self (tree.btree_map_len c.args.self.changed) (few _) }
+    let tops = none_top c.loop-i.file.tree c.set_size.new.self.tree c.set_size.ensures.changed in
+    let grown : (c.set_size.new.self.size ≤ SINGLE_FILE) ⊎ (c.set_size.new.self.size ≤ c.args.file.now.size) =
+    elim c.requires.grown [
+      | inl had ↦ inr (omega (arith, had, c.set_size.ensures.size))
+      | inr low ↦ inl (omega (arith, low, c.set_size.ensures.size))
+    ] in
+    record {
+      changed = few;
+      room = edit_grows c.args.file.now c.set_size.new.self (tree.btree_map_len c.args.self.changed) (few _) (omega (arith, tops, c.loop-i.invariant.tops)) past grown;
+    }
+  where
+    past : (j : ℕ) → IsChanged c.set_size.new.self.tree j → j < block_count c.set_size.new.self.size
+    past j changed = subst (λ n. j < block_count n) (sym c.set_size.ensures.size) (c.set_size.ensures.past j changed)
 
 pub returns-clause-sound : goal.returns-clause-sound
 returns-clause-sound c = λ blocks disk i is. c.set_size.ensures.sound blocks disk i (c.loop-i.invariant.sound blocks disk i is)

@@ -5,6 +5,7 @@ use Rattle.blocktree.specs.Trees.{HasRoom, KeepsSound}
 use Rattle.inode.specs.Bases.{KeepsBase}
 use Rattle.inode.specs.Files.{file_block}
 use Rattle.inode.specs.Room.{changed_below}
+use Rattle.inode.proofs.GroupLaws.{changed_tops}
 use Rattle.dirs.specs.Edits.{AreWhole}
 use Rattle.dirs.proofs.edit.Edit.commit.Given as goal
 
@@ -21,4 +22,6 @@ invariant-loop-i l = record {
   sound : KeepsSound l.initial.file.tree l.file.tree;
   few : (n : ℕ) → changed_below l.file.tree n + tree.btree_map_len l.changed
       ≤ changed_below l.initial.file.tree n + tree.btree_map_len l.initial.changed;
+  tops : changed_tops l.file.tree + tree.btree_map_len l.changed
+      ≤ changed_tops l.initial.file.tree + tree.btree_map_len l.initial.changed;
 }

@@ -1,4 +1,5 @@
 use Rattle.std.proofs.Common.{rules, ◌≡◌, ◌∙◌, inl, inr, ◌+◌, ◌≤◌, arith, subst, sym, refl, [], None}
+use Rattle.std.specs.Prelude.{OnErr, Result, Ok, Err}
 use Rattle.std.proofs.lemmas.Bool.{cases_lt}
 use Rattle.std.proofs.lemmas.List.{nil_from_length}
 use Rattle.layout.specs.Directory.{HoldsEntries}
@@ -6,9 +7,20 @@ use Rattle.entries.specs.Entries.{without}
 use Rattle.layout.specs.DirectoryNames.{HoldNames}
 use Rattle.dirs.specs.Directory.{with_name}
 use Rattle.dirs.specs.Edits.{IsNamePlace, IsReached, edited_block}
-use Rattle.dirs.proofs.HoldLaws.{removed_nothing, hold_removed}
+use Rattle.dirs.proofs.HoldLaws.{removed_nothing, hold_removed, same_blocks}
 use Rattle.buffers.proofs.ReadLaws.{reads_err, reads_more, reads_ok}
 use Rattle.dirs.proofs.edit.Edit.prepare_remove.Goals as goal
+
+on_err : {T E : Type 0} (r : Result T E) (P : Type 0) → P → OnErr r P
+on_err (Ok x) P holds = tt
+on_err (Err e) P holds = holds
+
+pub returns-in_err-put-clause-kept : goal.returns-in_err-put-clause-kept
+returns-in_err-put-clause-kept g c = λ disk names has.
+    let put = c.in_err-put.ensures in
+    let new = edited_block disk c.put.new.file c.put.new.self in
+    on_err c.from_residual-in_err-put.result _ (subst (λ n. HoldNames c.args.inodes n new names) (sym put.count)
+    (same_blocks c.args.inodes c.args.self.now.count (edited_block disk c.args.file.now c.args.self.now) new names (λ j below. put.err disk j) has))
 
 pub returns-in_default-clause-removed : goal.returns-in_default-clause-removed
 returns-in_default-clause-removed g c = λ disk names shows has.

@@ -1,10 +1,9 @@
-use Rattle.std.proofs.Common.{rules, arith, ◌≡◌, ◌≢◌, ◌≤◌, ◌^◌, ◌∙◌, ℕ, List, sym, subst}
+use Rattle.std.proofs.Common.{rules, arith, ◌≡◌, ◌≤◌, ◌^◌, ◌∙◌, ℕ, List, sym, subst}
 use Rattle.std.proofs.Math.Logic.{∥∥₁_elim}
-use Rattle.std.specs.List.{slice_index}
 use Rattle.layout.specs.Directory.{Named, HoldsEntries}
-use Rattle.entries.specs.Marks.{IsBlock}
+use Rattle.entries.specs.Marks.{HasMarks, IsBlock}
 use Rattle.entries.proofs.Once.{block_once, unmarked}
-use Rattle.entries.proofs.summary.Summary.look.Goals.{then-deref-mark_of-eq1, else-deref-mark_of-eq1}
+use Rattle.entries.proofs.summary.Summary.look.Goals.{then-has_marks, else-has_marks}
 use Rattle.entries.proofs.summary.Summary.look.Goals as goal
 
 pub returns-clause-tells : goal.returns-clause-tells
@@ -20,11 +19,11 @@ returns-clause-tells c =
     record {
       entries = here.0;
       holds = here.1;
-      number = λ es h. elim c.if-deref-mark_of-eq1.branch [
-        | then-deref-mark_of-eq1 w ↦ w.number-is ∙ w.find-number.ensures.found es h
-        | else-deref-mark_of-eq1 w ↦
-            let apart : slice_index s.marks.value c.mark_of.result ≢ 1 = search rules in
-            w.number-is ∙ sym (unmarked s.marks.value c.args.name.now es (s.tally.marked es (back es h)) (subst (λ k. slice_index s.marks.value k ≢ 1) c.mark_of.ensures.value apart))
+      number = λ es h. elim c.if-has_marks.branch [
+        | then-has_marks w ↦ w.number-is ∙ w.find-number.ensures.found es h
+        | else-has_marks w ↦
+            let apart : HasMarks s.marks.value c.args.name.now → ⊥ = search rules in
+            w.number-is ∙ sym (unmarked s.marks.value c.args.name.now es (s.tally.marked es (back es h)) apart)
       ];
       names = λ es h. s.tally.names es (back es h);
       used = λ es h. s.tally.used es (back es h);

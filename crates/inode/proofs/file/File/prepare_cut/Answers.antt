@@ -5,7 +5,7 @@ use Rattle.inode.proofs.BytePositions.{cut_laid_hole, cut_laid_none, cut_laid_on
 use Rattle.std.proofs.lemmas.List.{length_push}
 use Rattle.layout.specs.Version.{level_of}
 use Rattle.inode.proofs.EdgeLaws.{list_of_cut}
-use Rattle.inode.proofs.RoomLaws.{stores_pieces, stores_kept, keeps_level}
+use Rattle.inode.proofs.RoomLaws.{stores_cut, stores_none}
 use Rattle.std.proofs.lemmas.Bool.{cases_eq, cases_lt, false≢true}
 use Rattle.layout.proofs.ZeroLaws.{length-zeros}
 use Rattle.images.specs.Edges.{EndsIn}
@@ -49,22 +49,25 @@ returns-clause-list g c = λ disk shows whole.
     list_of_cut (byte_at disk c.args.self.now) _ c.args.self.now.size c.args.size whole (returns-clause-bytes g c disk shows whole)
 
 pub returns-then-keeps_last_block-clause-stores : goal.returns-then-keeps_last_block-clause-stores
-returns-then-keeps_last_block-clause-stores g c =
-    let none : length c.new-pieces.result.items ≡ 0 = ap length c.new-pieces.ensures.items in
-    stores_pieces c.args.self.now _ 3 (omega (arith, none))
+returns-then-keeps_last_block-clause-stores g c = stores_none c.args.self.now _ (ap length c.new-pieces.ensures.items)
 
 pub returns-then-in_hole-clause-stores : goal.returns-then-in_hole-clause-stores
-returns-then-in_hole-clause-stores g c =
-    let none : length c.new-pieces.result.items ≡ 0 = ap length c.new-pieces.ensures.items in
-    stores_pieces c.args.self.now _ 3 (omega (arith, none))
+returns-then-in_hole-clause-stores g c = stores_none c.args.self.now _ (ap length c.new-pieces.ensures.items)
 
 pub returns-clause-stores : goal.returns-clause-stores
 returns-clause-stores g c =
     let none : length c.new-pieces.result.items ≡ 0 = ap length c.new-pieces.ensures.items in
     let one : length c.push.new.self.items ≡ length c.new-pieces.result.items + 1 = ap length c.in_ok-push.ensures.items ∙ length_push c.new-pieces.result.items c.cut.new.self in
-    stores_kept c.make_room.new.self _ 3 (omega (arith, none, one))
-    (subst (λ (n : ℕ). (1 ≤ level_of n) ⊎ (level_of c.args.size ≡ 0)) (sym c.make_room.ensures.same.size)
-    (keeps_level c.args.self.now.size c.args.size (cut_level c.args.self.now.size c.args.size (c.keeps_last_block.ensures.cuts c.if-keeps_last_block.false).how)))
+    let cuts = c.keeps_last_block.ensures.cuts c.if-keeps_last_block.false in
+    stores_cut c.make_room.new.self _ (omega (arith, none, one)) refl cuts.within
+    (subst (λ (n : ℕ). (c.args.size < n) ⊎ (c.args.size ≤ 128)) (sym c.make_room.ensures.same.size) (cut_level c.args.self.now.size c.args.size cuts.how))
+    (elim (c.in_ok-in_hole.ensures.stands c.if-in_hole.false) [
+      | inl small ↦ inl small
+      | inr there ↦ inr (elim there [
+        | inl kept ↦ inl (subst (λ (n : ℕ). c.args.size / 4096 < n) (sym c.make_room.ensures.kept) kept)
+        | inr changed ↦ inr (c.make_room.ensures.changed (c.args.size / 4096) changed)
+      ])
+    ])
 
 -- a change without pieces
 none_put : (blocks : ℕ → List ℕ) (size : ℕ) (pieces : List (List ℕ)) (i : ℕ) → pieces ≡ [] → (i < size / 4096) ⊎ (size / 4096 + length pieces ≤ i)

@@ -8,7 +8,7 @@ use Rattle.inode.specs.Files.{file_block, byte_at}
 use Rattle.inode.proofs.BaseLaws.{same_itself, still_same}
 use Rattle.inode.proofs.BytePositions.{write_laid, piece_more, each_more, at_edge, written_same}
 use Rattle.inode.proofs.EdgeLaws.{list_of_write}
-use Rattle.inode.proofs.RoomLaws.{stores_pieces, touches}
+use Rattle.inode.proofs.RoomLaws.{stores_write}
 use Rattle.inode.proofs.ChangeLaws.{kept_block, one_more, past_length, put_length, written_in, written_out}
 use Rattle.inode.proofs.file.File.prepare_write.Given.{Over}
 use Rattle.inode.proofs.file.File.prepare_write.Goals as goal
@@ -72,8 +72,8 @@ pub returns-in_err-push-clause-same : goal.returns-in_err-push-clause-same
 returns-in_err-push-clause-same g c = still_same c.args.self.now c.loop-i.self c.new_block.new.self c.loop-i.invariant.same c.in_ok-block.ensures.unchanged
 
 pub returns-clause-stores : goal.returns-clause-stores
-returns-clause-stores g c =
-    stores_pieces c.loop-i.self _ _ (touches c.args.self.now.size c.args.offset (length c.args.bytes.now) (length c.loop-i.pieces.items) (search rules))
+returns-clause-stores g c = λ short.
+    stores_write c.loop-i.self _ c.args.self.now.size c.args.offset (length c.args.bytes.now) (search rules) short (search rules)
 
 pub returns-in_err-block-clause-damaged : goal.returns-in_err-block-clause-damaged
 returns-in_err-block-clause-damaged g c = λ disk shows bad sound.

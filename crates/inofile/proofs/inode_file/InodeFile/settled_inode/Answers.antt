@@ -1,5 +1,6 @@
-use Rattle.std.proofs.Common.{◌∙◌, ap, ℕ, ◌≡◌, ◌%◌, List}
+use Rattle.std.proofs.Common.{◌∙◌, ap, ℕ, ◌≡◌, ◌≤◌, ◌%◌, List}
 use Rattle.layout.specs.Inode.{IsInode, inode_bytes}
+use Rattle.layout.specs.Version.{greatest_size}
 use Rattle.layout.specs.declared.inode.Inode.{Inode}
 use Rattle.layout.specs.declared.version.TheConstants.{VERSION}
 use Rattle.blocktree.specs.declared.error.ReadError.TheVariants.{Damaged}
@@ -12,7 +13,7 @@ use Rattle.inofile.proofs.inode_file.InodeFile.settled_inode.Given.{Over}
 use Rattle.inofile.proofs.inode_file.InodeFile.settled_inode.Goals as goal
 
 spelled : {detail : Detail} (g : Over) (c : goal.After-read_inode g) (disk : ℕ → List ℕ) (settled : ℕ → Inode) → g.B.Blocks.Shows c.args.blocks.now disk
-    → AreSettledIn detail (g.B.Blocks.count c.args.blocks.now) disk c.args.self.now.geometry c.args.self.now.file settled
+    → AreSettledIn detail (g.B.Blocks.count c.args.blocks.now) disk c.args.self.now.version c.args.self.now.geometry c.args.self.now.file settled
     → inode_part c.bytes.result.now (c.args.number % 21) ≡ inode_bytes (settled c.args.number)
 spelled g c disk settled shows are =
     ap (λ (b : List ℕ). inode_part b (c.args.number % 21)) (c.bytes.ensures disk (c.in_ok-location.ensures.reads.same disk shows) (c.in_ok-location.ensures.found disk shows))
@@ -20,9 +21,9 @@ spelled g c disk settled shows are =
 
 pub returns-clause-read : goal.returns-clause-read
 returns-clause-read g c = λ detail disk settled shows are.
-    c.read_inode.ensures.read (settled c.args.number) (held_inode c.args.self.now.geometry disk (settled c.args.number) (are.sound c.args.number)) (spelled g c disk settled shows are)
+    c.read_inode.ensures.read (settled c.args.number) (held_inode c.args.self.now.geometry disk (settled c.args.number) (are.sound c.args.number)) (are.within c.args.number) (spelled g c disk settled shows are)
 
 pub returns-clause-damaged : goal.returns-clause-damaged
 returns-clause-damaged g c = λ detail disk settled shows bad are.
-    of_error c.read_inode.result Damaged ((i : Inode) → IsInode VERSION c.args.self.now.geometry i → inode_part c.bytes.result.now (c.args.number % 21) ≡ inode_bytes i → ⊥) bad c.read_inode.ensures.damaged
-    (settled c.args.number) (held_inode c.args.self.now.geometry disk (settled c.args.number) (are.sound c.args.number)) (spelled g c disk settled shows are)
+    of_error c.read_inode.result Damaged ((i : Inode) → IsInode VERSION c.args.self.now.geometry i → i.size ≤ greatest_size c.args.self.now.version → inode_part c.bytes.result.now (c.args.number % 21) ≡ inode_bytes i → ⊥) bad c.read_inode.ensures.damaged
+    (settled c.args.number) (held_inode c.args.self.now.geometry disk (settled c.args.number) (are.sound c.args.number)) (are.within c.args.number) (spelled g c disk settled shows are)

@@ -1,6 +1,6 @@
 use Rattle.std.proofs.Common.{◌≡◌, ◌∙◌, subst, sym}
 use Rattle.model.specs.declared.command.Command.{Command}
-use Rattle.model.specs.declared.command.Command.TheVariants.{SnapDelete, SnapTake, Sync}
+use Rattle.model.specs.declared.command.Command.TheVariants.{SnapDelete, SnapRestore, SnapTake, Sync}
 use Rattle.descriptors.specs.declared.table.Descriptors.{Descriptors}
 use Rattle.system.specs.Serving.{IsAtOnce}
 use Rattle.mount.proofs.AnswerLemmas.{answers_so}
@@ -25,6 +25,12 @@ returns-in-SnapDelete-clause-answers g c =
     behind_letting_go {G = g.S.Station} c.args.self.now _ _ c.args.command.now c.delete.result c.requires.going c.requires.going (λ t here. c.served_states_open.ensures t.tree.descriptors t here)
     c.let_go.ensures.glances c.let_go.ensures.station (answers_so 2 _ _ _ (SnapDelete c.in-SnapDelete.name) c.args.command.now c.delete.result is c.delete.ensures)
 
+pub returns-in-SnapRestore-clause-answers : goal.returns-in-SnapRestore-clause-answers
+returns-in-SnapRestore-clause-answers g c =
+    let is : c.args.command.now ≡ SnapRestore c.in-SnapRestore.name = cc in
+    behind_letting_go {G = g.S.Station} c.args.self.now _ _ c.args.command.now c.restore.result c.requires.going c.requires.going (λ t here. c.served_states_open.ensures t.tree.descriptors t here)
+    c.let_go.ensures.glances c.let_go.ensures.station (answers_so 2 _ _ _ (SnapRestore c.in-SnapRestore.name) c.args.command.now c.restore.result is c.restore.ensures)
+
 pub returns-in_default-clause-answers : goal.returns-in_default-clause-answers
 returns-in_default-clause-answers g c =
     behind_letting_go {G = g.S.Station} c.args.self.now _ _ c.args.command.now c.call.result c.requires.going c.requires.going (λ t here. c.served_states_open.ensures t.tree.descriptors t here)
@@ -48,6 +54,11 @@ pub returns-in-SnapDelete-clause-at_once : goal.returns-in-SnapDelete-clause-at_
 returns-in-SnapDelete-clause-at_once g c once =
     let is : c.args.command.now ≡ SnapDelete c.in-SnapDelete.name = cc in
     absurd (not_once c.args.self.now.system.files c.args.command.now (SnapDelete c.in-SnapDelete.name) is (λ no. no) once)
+
+pub returns-in-SnapRestore-clause-at_once : goal.returns-in-SnapRestore-clause-at_once
+returns-in-SnapRestore-clause-at_once g c once =
+    let is : c.args.command.now ≡ SnapRestore c.in-SnapRestore.name = cc in
+    absurd (not_once c.args.self.now.system.files c.args.command.now (SnapRestore c.in-SnapRestore.name) is (λ no. no) once)
 
 pub returns-in_default-clause-at_once : goal.returns-in_default-clause-at_once
 returns-in_default-clause-at_once g c once =

@@ -77,13 +77,14 @@ returns-in-Ok g c =
     let before = looked_on {G = g.S.Station} fs blocks c.prepare.new.inodes looks in
     let made = λ (s : State) (served : ServesState {G = g.S.Station} fs s).
     changing_told {G = g.S.Station} fs s served c.args.call.now c.in-Ok-Some.changing change c.record.ensures.says c.record.ensures.is (on_mounted {G = g.S.Station} fs told.answers s served) in
+    let knows = λ (s : State) (served : ServesState {G = g.S.Station} fs s).
+    subst (KnowsFile c.prepare.new.inodes) (sym c.record.ensures.says) (on_volumes {G = g.S.Station} fs told.does s served).knows in
     in_force {G = g.S.Station} fs c.log.new.self (g.S.Station.meaning blocks.buffers.station) c.args.call.now change reads.below (c.log.ensures.laid ∙ reads.laid) looks.reads.counted
     (c.log.ensures.log.0, c.in-Ok.ensures.log.1) (λ s served. c.served_states_open.ensures s.tree.descriptors s served) made
-    (λ s served. c.log.ensures.any_moment s.tree.descriptors s (before s served) (made s served).advances) c.in-Ok.field-0 c.in-Ok.ensures.writes
+    (λ s served. c.log.ensures.any_moment s.tree.descriptors s (before s served) (knows s served) (made s served).advances) c.in-Ok.field-0 c.in-Ok.ensures.writes
     (λ steps laid. c.log.ensures.waits steps (λ is. laid (sym reads.laid ∙ is)))
-    (λ s served. c.in-Ok.ensures.room s.tree.descriptors s (before s served)
-    (subst (KnowsFile c.prepare.new.inodes) (sym c.record.ensures.says) (on_volumes {G = g.S.Station} fs told.does s served).knows))
-    (λ s served. c.in-Ok.ensures.done s.tree.descriptors s (before s served) (made s served).advances
+    (λ s served. c.in-Ok.ensures.room s.tree.descriptors s (before s served) (knows s served))
+    (λ s served. c.in-Ok.ensures.done s.tree.descriptors s (before s served) (knows s served) (made s served).advances
     (does_over (disk_of {G = g.S.Station} fs) _ fs.root c.prepare.new.inodes served.running _ change _ c.record.ensures.says (same_disk {G = g.S.Station} fs blocks c.prepare.new.inodes looks s served)
     (on_volumes {G = g.S.Station} fs told.does s served)))
 
@@ -99,13 +100,15 @@ returns-in-Ok-Some g c =
     changing_told {G = g.S.Station} fs s served c.args.call.now c.in-Ok-Some.changing change c.record.ensures.says c.record.ensures.is (on_mounted {G = g.S.Station} fs told.answers s served) in
     let reads = reads_on {G = g.S.Station} fs blocks c.prepare.new.inodes looks in
     let failed = c.in-Err-log.ensures in
+    let knows = λ (s : State) (served : ServesState {G = g.S.Station} fs s).
+    subst (KnowsFile c.prepare.new.inodes) (sym c.record.ensures.says) (on_volumes {G = g.S.Station} fs told.does s served).knows in
     not_logged {G = g.S.Station} fs c.log.new.self (g.S.Station.meaning blocks.buffers.station) (command.Path c.args.call.now) Done reads.below (c.log.ensures.laid ∙ reads.laid) looks.reads.counted
     c.log.ensures.log.0 (λ s served. c.served_states_open.ensures s.tree.descriptors s served) (λ s served x. x, λ x. x)
     (λ s served. record {
       after = _;
       work = work_of served.running change;
       step = (made s served).step;
-      leaves = c.log.ensures.any_moment s.tree.descriptors s (before s served) (made s served).advances;
+      leaves = c.log.ensures.any_moment s.tree.descriptors s (before s served) (knows s served) (made s served).advances;
     })
     c.in-Err-log.error failed.own failed.stops (λ steps laid. c.log.ensures.waits steps (λ is. laid (sym reads.laid ∙ is))) failed.writes
     (λ is.
@@ -119,4 +122,4 @@ returns-in-Ok-Some g c =
     let due = failed.due (ap (λ e. Err e) is) in
     (due.0, subst (λ (f : System g.row.S.Denot g.S.Station). IsStepDue f) (sym due.2) due.1))
     (λ is empty. short_fits {G = g.S.Station} fs change empty c.record.ensures.short (failed.full (ap (λ e. Err e) is)))
-    (λ is s served. failed.short s.tree.descriptors s (before s served) (subst (KnowsFile c.prepare.new.inodes) (sym c.record.ensures.says) (on_volumes {G = g.S.Station} fs told.does s served).knows) (ap (λ e. Err e) is))
+    (λ is s served. failed.short s.tree.descriptors s (before s served) (knows s served) (ap (λ e. Err e) is))

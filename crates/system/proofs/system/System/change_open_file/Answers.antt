@@ -66,9 +66,11 @@ returns-in-Ok-log g c =
     let change = change_of c.record.result in
     let made = λ (s : State) (served : ServesState {G = g.S.Station} fs s).
     told_logged {G = g.S.Station} fs s served call doing c.in-Some.field-0 change c.in-Some.is c.record.ensures.says c.record.ensures.is (on_open {G = g.S.Station} fs told.answers s served) in
+    let knows = λ (s : State) (served : ServesState {G = g.S.Station} fs s).
+    subst (KnowsFile inodes) (sym c.record.ensures.says) (rw c.in-Some.is at (on_volumes {G = g.S.Station} fs told.does s served)).knows in
     let leads = λ (s : State) (served : ServesState {G = g.S.Station} fs s).
     leaves_moved mid (meaning_of {G = g.S.Station} c.log.new.self) s fs.root.geometry.inodes (swept s.tree.descriptors (applied change served.running)) s.tree.descriptors
-    (moved_table doing.table s.tree.descriptors) served.snapshots (c.log.ensures.any_moment s.tree.descriptors s (before s served) (made s served).advances) in
+    (moved_table doing.table s.tree.descriptors) served.snapshots (c.log.ensures.any_moment s.tree.descriptors s (before s served) (knows s served) (made s served).advances) in
     let put = c.put_into.ensures in
     let moves : Moves c.log.new.self.files c.put_into.new.files doing.table = record {
       table = put.table;
@@ -80,13 +82,12 @@ returns-in-Ok-log g c =
     (λ s served. record { after = _; work = work_of served.running change; step = (made s served).step; leaves = leads s served })
     c.in-Ok-log.field-0 change (λ s served. refl) (told.within.accepted EIO) told.within.accepted c.in-Ok-log.ensures.writes c.in-Ok-log.ensures.log.1
     (λ steps laid. c.log.ensures.waits steps (λ is. laid (sym reads.laid ∙ is)))
-    (λ s served. c.in-Ok-log.ensures.room s.tree.descriptors s (before s served)
-    (subst (KnowsFile inodes) (sym c.record.ensures.says) (rw c.in-Some.is at (on_volumes {G = g.S.Station} fs told.does s served)).knows))
+    (λ s served. c.in-Ok-log.ensures.room s.tree.descriptors s (before s served) (knows s served))
     (λ s served.
     let is = made s served in
     let behind = logged_moves {G = g.S.Station} c.log.new.self c.put_into.new.files doing.table s.tree.descriptors fs.root.geometry.inodes (swept s.tree.descriptors (applied change served.running)) served.snapshots
     (served.lasts.replayed.changes ++ change ∷ [])
-    (c.in-Ok-log.ensures.done s.tree.descriptors s (before s served) is.advances
+    (c.in-Ok-log.ensures.done s.tree.descriptors s (before s served) (knows s served) is.advances
     (does_over (disk_of {G = g.S.Station} fs) _ fs.root inodes served.running _ change _ c.record.ensures.says (same_disk {G = g.S.Station} fs blocks inodes looks s served)
     (rw c.in-Some.is at (on_volumes {G = g.S.Station} fs told.does s served))))
     is.advances.mounted is.fits moves in
@@ -106,9 +107,11 @@ returns-in-Err-log g c =
     let change = change_of c.record.result in
     let made = λ (s : State) (served : ServesState {G = g.S.Station} fs s).
     told_logged {G = g.S.Station} fs s served call doing c.in-Some.field-0 change c.in-Some.is c.record.ensures.says c.record.ensures.is (on_open {G = g.S.Station} fs told.answers s served) in
+    let knows = λ (s : State) (served : ServesState {G = g.S.Station} fs s).
+    subst (KnowsFile inodes) (sym c.record.ensures.says) (rw c.in-Some.is at (on_volumes {G = g.S.Station} fs told.does s served)).knows in
     let leads = λ (s : State) (served : ServesState {G = g.S.Station} fs s).
     leaves_moved mid (meaning_of {G = g.S.Station} c.log.new.self) s fs.root.geometry.inodes (swept s.tree.descriptors (applied change served.running)) s.tree.descriptors
-    (moved_table doing.table s.tree.descriptors) served.snapshots (c.log.ensures.any_moment s.tree.descriptors s (before s served) (made s served).advances) in
+    (moved_table doing.table s.tree.descriptors) served.snapshots (c.log.ensures.any_moment s.tree.descriptors s (before s served) (knows s served) (made s served).advances) in
     let reads = reads_on {G = g.S.Station} fs blocks inodes looks in
     let failed = c.in-Err-log.ensures in
     not_logged {G = g.S.Station} fs c.log.new.self mid call doing.reply reads.below (c.log.ensures.laid ∙ reads.laid) looks.reads.counted c.log.ensures.log.0
@@ -126,4 +129,4 @@ returns-in-Err-log g c =
     let due = failed.due (ap (λ e. Err e) is) in
     (due.0, subst (λ (f : System g.row.S.Denot g.S.Station). IsStepDue f) (sym due.2) due.1))
     (λ is empty. record_fits {G = g.S.Station} fs change empty c.record.ensures.short (failed.full (ap (λ e. Err e) is)))
-    (λ is s served. failed.short s.tree.descriptors s (before s served) (subst (KnowsFile inodes) (sym c.record.ensures.says) (rw c.in-Some.is at (on_volumes {G = g.S.Station} fs told.does s served)).knows) (ap (λ e. Err e) is))
+    (λ is s served. failed.short s.tree.descriptors s (before s served) (knows s served) (ap (λ e. Err e) is))

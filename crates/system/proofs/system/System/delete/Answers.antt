@@ -87,7 +87,7 @@ returns-in_err-finish g c =
     (λ s served. (
       Done,
       without {G = g.S.Station} fs s name served,
-      nothing,
+      λ room. nothing,
       λ room. subst (λ (n : Name). deletes s n Done (without {G = g.S.Station} fs s name served) nothing) c.as_bytes.ensures
           (delete_step {G = g.S.Station} fs s name served _ (finds g (goal.at.returns-in_err-finish g c).In-Some s served).1.listed),
     )))
@@ -114,11 +114,11 @@ returns-in-Ok-point_with g c =
     let can = can_delete mid.root (blocks_of (disk_of {G = g.S.Station} mid)) name over.snapshots found is_found (number g (goal.at.returns-in-Ok-point_with g c).In-Some) in
     record {
       after = after;
-      need = nothing;
+      need = λ room. nothing;
       step = λ room. subst (λ (n : Name). deletes s n Done after nothing) c.as_bytes.ensures (delete_step {G = g.S.Station} mid s name over _ is_found.1.listed);
-      covered = made.covered s.tree.descriptors s over after (deleted found.slot name, record { is = (name, refl); can = can }, refl) tt;
+      covered = made.covered s.tree.descriptors s over after (deleted found.slot name, record { is = (name, refl); can = can }, tt, refl) tt;
       leaves = either_behind (meaning_of {G = g.S.Station} fs) (meaning_of {G = g.S.Station} mid) (meaning_of {G = g.S.Station} new) s after end.counted.uses.same.sectors (end.leaves s served)
-          (made.any_moment s.tree.descriptors s over after (deleted found.slot name, record { is = (name, refl); can = can }, refl) tt);
+          (made.any_moment s.tree.descriptors s over after (deleted found.slot name, record { is = (name, refl); can = can }, tt, refl) tt);
     }) _
 
 pub returns-in-Err-point_with : goal.returns-in-Err-point_with
@@ -135,6 +135,11 @@ returns-in-Err-point_with g c =
     (λ s served. stays_read {G = g.S.Station} fs c.find.new.blocks s on told.reads.same served) c.in_ok-finish.ensures in
     let new = c.point_with.new.self in
     let made = c.in-Err-point_with.ensures in
+    let found_at = λ (s : State) (served : ServesState {G = g.S.Station} fs s).
+    found_still {G = g.S.Station} fs mid s name found (ended_root c.in_ok-finish.ensures) d (c.in_ok-finish.ensures.shows d (told.reads.same d served.shows)).is served (end.serves s served)
+    (finds g (goal.at.returns-in-Err-point_with g c).In-Some s served) in
+    let can_of = λ (s : State) (served : ServesState {G = g.S.Station} fs s).
+    can_delete mid.root (blocks_of (disk_of {G = g.S.Station} mid)) name (end.serves s served).snapshots found (found_at s served) (number g (goal.at.returns-in-Err-point_with g c).In-Some) in
     not_settled fs new (meaning_of {G = g.S.Station} mid) _ (command.SnapDelete c.args.name.now) end.counted end.unlogged
     made.unlogged c.in-Err-point_with.error made.counted
     (subst (λ (l : LogEnd). AgesBy 1 l.epoch new.log.epoch × (new.log.is_stopped ≡ l.is_stopped)) end.log (unmade mid.log new.log c.in-Err-point_with.error made.log))
@@ -145,16 +150,14 @@ returns-in-Err-point_with g c =
     (λ s served any is.
     let there = end.serves s served in
     let after = without {G = g.S.Station} mid s name there in
-    let is_found = found_still {G = g.S.Station} fs mid s name found (ended_root c.in_ok-finish.ensures) d (c.in_ok-finish.ensures.shows d (told.reads.same d served.shows)).is served there (finds g (goal.at.returns-in-Err-point_with g c).In-Some s served) in
-    let can = can_delete mid.root (blocks_of (disk_of {G = g.S.Station} mid)) name there.snapshots found is_found (number g (goal.at.returns-in-Err-point_with g c).In-Some) in
     record {
       reply = Done;
       after = after;
-      need = nothing;
-      step = λ room. subst (λ (n : Name). deletes s n Done after nothing) c.as_bytes.ensures (delete_step {G = g.S.Station} mid s name there _ is_found.1.listed);
+      need = λ room. nothing;
+      step = λ room. subst (λ (n : Name). deletes s n Done after nothing) c.as_bytes.ensures (delete_step {G = g.S.Station} mid s name there _ (found_at s served).1.listed);
       leaves = either_behind m (meaning_of {G = g.S.Station} mid) (meaning_of {G = g.S.Station} new) s after end.counted.uses.same.sectors (end.leaves s served)
-          (made.any_moment s.tree.descriptors s there after (deleted found.slot name, record { is = (name, refl); can = can }, refl) tt);
+          (made.any_moment s.tree.descriptors s there after (deleted found.slot name, record { is = (name, refl); can = can_of s served }, tt, refl) tt);
     })
-    (λ s served any is. made.roomy s.tree.descriptors s (end.serves s served) tt (ap (λ e. Err e) is))
-    (λ s served is. made.damaged s.tree.descriptors s (end.serves s served) (ap (λ e. Err e) is))
+    (λ s served any is. made.roomy s.tree.descriptors s (end.serves s served) _ (deleted found.slot name, record { is = (name, refl); can = can_of s served }, tt, refl) tt (ap (λ e. Err e) is))
+    (λ s served is. made.damaged s.tree.descriptors s (end.serves s served) _ (deleted found.slot name, record { is = (name, refl); can = can_of s served }, tt, refl) (ap (λ e. Err e) is))
     (λ s served is. subst (λ (l : LogEnd). 2 ^ 62 ≤ l.epoch) end.log (made.last s.tree.descriptors s (end.serves s served) (ap (λ e. Err e) is)))

@@ -10,7 +10,7 @@ use Rattle.model.specs.Records.{count_nameless}
 use Rattle.model.specs.Room.{fixed_of}
 use Rattle.model.specs.States.{State}
 use Rattle.model.specs.Trees.{Description}
-use Rattle.model.specs.Volumes.{IsMounted}
+use Rattle.model.specs.Volumes.{IsMounted, Volume}
 use Rattle.buffers.specs.Disks.{ReadsOn}
 use Rattle.buffers.specs.Readings.{reads_none}
 use Rattle.buffers.specs.declared.cache.Buffers.{Buffers}
@@ -20,6 +20,8 @@ use Rattle.blockmap.specs.declared.map.BlockMap.{BlockMap}
 use Rattle.images.specs.Cuts.{IsPointWith, LeavesFree}
 use Rattle.images.specs.Roots.{whole}
 use Rattle.images.specs.SnapshotSteps.{SnapshotStep, CanStep, kept_after}
+use Rattle.inofile.specs.Room.{memory_room}
+use Rattle.inofile.specs.declared.inode_file.InodeFile.{InodeFile}
 use Rattle.inofile.proofs.RoomLaws.{clean_room}
 use Rattle.oplog.specs.LogEnd.{LogEnd}
 use Rattle.oplog.specs.declared.log.End.TheVariants.{Unopened}
@@ -34,14 +36,14 @@ use Rattle.planning.specs.declared.points.Point.{Point}
 use Rattle.records.specs.Opened.{HasNumbers}
 use Rattle.system.specs.Images.{IsUnder}
 use Rattle.system.specs.Memory.{HasEntriesToCome, IsInMemory}
-use Rattle.system.specs.Points.{HasRoomToStep, IsStepFor}
-use Rattle.system.specs.Systems.{HasState}
+use Rattle.system.specs.Points.{HasRoomToPlan, IsStepFor, MaySettle}
+use Rattle.system.specs.Systems.{HasStateBy}
 use Rattle.system.proofs.CountingLaws.{all_read, not_planned, perhaps_read}
 use Rattle.system.proofs.SystemLaws as served
 use Rattle.system.proofs.PointLaws as points
-use Rattle.system.proofs.PointLaws.{IsPlannedFrom, leaves_room, of_err, of_ok, on_ok}
+use Rattle.system.proofs.PointLaws.{IsPlannedFrom, leaves_room, needs_fit, of_err, of_ok, on_ok}
 use Rattle.system.proofs.SettledLaws as settled
-use Rattle.system.proofs.RoomLaws.{all_left, rest_free, still_counted}
+use Rattle.system.proofs.RoomLaws.{all_left, still_counted}
 use Rattle.system.proofs.system.System.lay_point.Given.{Over}
 use Rattle.system.proofs.system.System.lay_point.Goals as goal
 use Rattle.system.proofs.system.System.lay_point.Goals.{After-plan-map, In-Ok}
@@ -62,11 +64,12 @@ given_count g c = c.give_up.ensures.count ∙ ap (λ (x : BlockMap). x.count) c.
 counted : (g : Over) (c : After-plan-map g) → c.args.self.now.free ≡ free_below c.plan-map.result.0.parts.items c.plan-map.result.0.count
 counted g c = still_counted {G = g.S.Station} c.args.self.now c.plan-map.result.0 (c.plan-map.ensures.count ∙ given_count g c) (λ b. c.plan-map.ensures.settled b ∙ given g c b)
 
-plannable : (g : Over) (c : After-plan-map g) (table : ℕ → Option Description) (s : State) → (serves : HasState c.args.self.now table s)
-    → IsPlannable c.args.self.now.root (g.S.Station.meaning c.args.self.now.blocks.buffers.station).seen.disk c.other_slot-slot.result c.in-Some.generation c.give_up.new.self c.args.self.now.inodes serves.first serves.running serves.snapshots
-plannable g c table s serves =
+plannable : (g : Over) (c : After-plan-map g) (known : InodeFile) (table : ℕ → Option Description) (s : State) → (serves : HasStateBy {G = g.S.Station} known c.args.self.now table s) (base v : Volume)
+    → MaySettle {G = g.S.Station} c.args.change.now c.args.self.now c.args.self.now.inodes table base v
+    → IsPlannable c.args.change.now c.args.self.now.root (g.S.Station.meaning c.args.self.now.blocks.buffers.station).seen.disk c.other_slot-slot.result c.in-Some.generation c.give_up.new.self c.args.self.now.inodes base v
+plannable g c known table s serves base v may =
     points.plannable serves c.requires.rests (g.met.S.Station.seen_may_be_left c.args.self.now.blocks.buffers.station serves.honest) c.other_slot-slot.result c.in-Some.generation c.give_up.new.self
-    c.other_slot-slot.ensures (c.in-Some.ensures.value ∙ c.get.ensures ∙ c.epoch.ensures) (given g c)
+    c.other_slot-slot.ensures (c.in-Some.ensures.value ∙ c.get.ensures ∙ c.epoch.ensures) (given g c) c.args.change.now c.args.self.now.files c.args.self.now.inodes base v may
 
 fits : (g : Over) (c : In-Ok g) → FitsDisk (8 * c.args.self.now.root.geometry.blocks) c.in-Ok.point.plan
 fits g c =
@@ -75,11 +78,12 @@ fits g c =
     of_ok c.plan-map.result.1 c.in-Ok.point (λ (q : Point). FitsDisk (8 * f.root.geometry.blocks) q.plan) c.in-Ok.is
     (c.plan-map.ensures.fits (8 * f.root.geometry.blocks) (omega (arith, f.is_root.head.sizes)) (omega (arith, count)))
 
-planned : (g : Over) (c : In-Ok g) (table : ℕ → Option Description) (s : State) → (serves : HasState c.args.self.now table s) → (step : SnapshotStep) → IsStepFor c.args.change.now c.args.self.now step
-    → IsPlannable c.args.self.now.root (g.S.Station.meaning c.args.self.now.blocks.buffers.station).seen.disk c.other_slot-slot.result c.in-Some.generation c.give_up.new.self c.args.self.now.inodes serves.first serves.running serves.snapshots
-    → HasRoomToStep c.args.change.now c.args.self.now
-    → IsPlannedFrom {G = g.S.Station} c.args.self.now serves.running step c.in-Ok.point.plan c.in-Ok.point.root
-planned g c table s serves step made ready room =
+planned : (g : Over) (c : In-Ok g) (known : InodeFile) (table : ℕ → Option Description) (s : State) → (serves : HasStateBy {G = g.S.Station} known c.args.self.now table s) → (step : SnapshotStep) (base v : Volume)
+    → IsStepFor {G = g.S.Station} c.args.change.now c.args.self.now step
+    → IsPlannable c.args.change.now c.args.self.now.root (g.S.Station.meaning c.args.self.now.blocks.buffers.station).seen.disk c.other_slot-slot.result c.in-Some.generation c.give_up.new.self c.args.self.now.inodes base v
+    → HasRoomToPlan {G = g.S.Station} c.args.change.now c.args.self.now (memory_room base c.args.self.now.inodes v)
+    → IsPlannedFrom {G = g.S.Station} c.args.self.now base v step c.in-Ok.point.plan c.in-Ok.point.root
+planned g c known table s serves step base v made ready room =
     let f = c.args.self.now in
     let m = g.S.Station.meaning f.blocks.buffers.station in
     let q = c.in-Ok.point in
@@ -89,19 +93,19 @@ planned g c table s serves step made ready room =
     let can = subst (λ (e : ℕ → Sector). CanStep step f.root (whole (blocks_of e) f.root)) (ap (λ (l : Option Laid). planned_disk l m.seen.disk) c.requires.rests) made.can in
     let rest = served.at_rest serves c.requires.rests in
     let sized : fixed_of c.give_up.new.self.count ≡ fixed_of f.root.geometry.blocks = ap fixed_of (c.give_up.ensures.count ∙ ap (λ (x : BlockMap). x.count) c.replace-map.ensures.value ∙ f.count) in
-    let leaves = leaves_room {G = g.S.Station} f table s serves c.requires.rests c.args.change.now step made.is room (writes_of q.plan.blocks) q.root
+    let leaves = leaves_room {G = g.S.Station} known f table s serves c.requires.rests c.args.change.now step base v made.is room (writes_of q.plan.blocks) q.root
     (λ none spent least. of_ok r q (λ (p : Point). LeavesFree spent f.root (blocks_of m.seen.disk) (writes_of p.plan.blocks) p.root) c.in-Ok.is
-    (c.plan-map.ensures.room m.seen.disk serves.first serves.running serves.snapshots rest.shows ready c.give_up.ensures.next step made.is none can spent least))
+    (c.plan-map.ensures.room m.seen.disk base v rest.shows ready c.give_up.ensures.next step made.is none can spent least))
     (λ spent least. of_ok r q (λ (p : Point). LeavesFree spent f.root (blocks_of m.seen.disk) (writes_of p.plan.blocks) p.root) c.in-Ok.is
-    (c.plan-map.ensures.leaves m.seen.disk serves.first serves.running serves.snapshots rest.shows ready c.give_up.ensures.next step made.is can spent (omega (arith, least, sized)))) in (
+    (c.plan-map.ensures.leaves m.seen.disk base v rest.shows ready c.give_up.ensures.next step made.is can spent (omega (arith, least, sized)))) in (
       record {
         bytes = of_ok r q (λ (x : Point). x.plan.root ≡ root_bytes x.root) c.in-Ok.is c.plan-map.ensures.bytes;
         other = slot ∙ c.other_slot-slot.ensures;
         covers = of_ok r q (λ (x : Point). x.root.generation ≡ c.in-Some.generation) c.in-Ok.is c.plan-map.ensures.generation ∙ epoch;
         fits = fits g c;
-        point = subst (λ (n : ℕ). IsPointWith step f.root m.seen.disk (writes_of q.plan.blocks) n q.root serves.running) (sym slot)
-            (of_ok r q (λ (x : Point). IsPointWith step f.root m.seen.disk (writes_of x.plan.blocks) c.other_slot-slot.result x.root serves.running) c.in-Ok.is
-            (c.plan-map.ensures.point m.seen.disk serves.first serves.running serves.snapshots rest.shows ready step made.is can));
+        point = subst (λ (n : ℕ). IsPointWith step f.root m.seen.disk (writes_of q.plan.blocks) n q.root v) (sym slot)
+            (of_ok r q (λ (x : Point). IsPointWith step f.root m.seen.disk (writes_of x.plan.blocks) c.other_slot-slot.result x.root v) c.in-Ok.is
+            (c.plan-map.ensures.point m.seen.disk base v rest.shows ready step made.is can));
         room = leaves.0;
       },
       leaves.1,
@@ -122,15 +126,16 @@ returns-in_default g c =
       unwritten = tt;
       why = tt;
       none = c.requires.rests;
-      refused = λ table s serves. serves;
+      refused = λ known table s serves. serves;
+      memory = refl;
       log = refl;
       same = tt;
       generation = tt;
       unchanged = tt;
-      laid = λ table s serves step made room. tt;
-      roomy = λ table s serves room is. cc;
-      damaged = λ table s serves is. cc;
-      last = λ table s serves is.
+      laid = λ known table s serves base v may step made room. tt;
+      roomy = λ known table s serves base v may room is. cc;
+      damaged = λ known table s serves base v may is. cc;
+      last = λ known table s serves is.
           let here = g.met.S.Station.seen_may_be_left f.blocks.buffers.station serves.honest in
           let rest = served.at_rest serves c.requires.rests in
           let later : f.root.generation < f.log.epoch = points.later f.log f.root.generation rest.lasts.bodies m.seen.nvram (rest.left serves.honest m.seen here).log_stands in
@@ -160,31 +165,30 @@ returns-in-Err g c =
       unwritten = tt;
       why = tt;
       none = read_over.laid ∙ rests;
-      refused = λ table s serves.
+      refused = λ known table s serves.
           served.read_on serves rests mid c.plan-map.new.blocks.buffers.kept c.plan-map.new.blocks.laid given_map read_over c.plan-map.ensures.reads.same
           (λ b. c.plan-map.ensures.settled b ∙ given g at b);
+      memory = refl;
       log = refl;
       same = tt;
       generation = tt;
       unchanged = tt;
-      laid = λ table s serves step made room. tt;
-      roomy = λ table s serves room is.
-          let here = g.met.S.Station.seen_may_be_left f.blocks.buffers.station serves.honest in
+      laid = λ known table s serves base v may step made room. tt;
+      roomy = λ known table s serves base v may room is.
           let same : c.in-Err.error ≡ NoSpace = cc in
-          let rest = served.at_rest serves rests in
-          let lacks = c.plan-map.ensures.needs m.seen.disk serves.first serves.running serves.snapshots rest.shows
-          (plannable g at table s serves)
+          let lacks = c.plan-map.ensures.needs m.seen.disk base v (served.at_rest serves rests).shows
+          (plannable g at known table s serves base v may)
           (c.in-Err.is ∙ ap Err same) in
-          let left_is = all_left {G = g.S.Station} f table s serves rests c.give_up.new.self c.give_up.ensures.next (given_count g at) (given g at) ∙ rest_free {G = g.S.Station} f table s serves rests in
+          let left_is = all_left {G = g.S.Station} known f table s serves rests c.give_up.new.self c.give_up.ensures.next (given_count g at) (given g at) in
           let fixed_is = ap fixed_of (given_count g at ∙ f.count) in
-          absurd (omega (arith, lacks, left_is, fixed_is, serves.stored, rest.all, rest.lasts.pledges, rest.lasts.reserved));
-      damaged = λ table s serves is.
-          let here = g.met.S.Station.seen_may_be_left f.blocks.buffers.station serves.honest in
+          let enough = needs_fit c.args.change.now (fixed_of f.root.geometry.blocks) f.free (memory_room base f.inodes v) room in
+          absurd (omega (arith, lacks, left_is, fixed_is, enough));
+      damaged = λ known table s serves base v may is.
           let same : c.in-Err.error ≡ Damaged = cc in
-          c.plan-map.ensures.damaged m.seen.disk serves.first serves.running serves.snapshots (served.at_rest serves rests).shows
-          (plannable g at table s serves)
+          c.plan-map.ensures.damaged m.seen.disk base v (served.at_rest serves rests).shows
+          (plannable g at known table s serves base v may)
           (c.in-Err.is ∙ ap Err same);
-      last = λ table s serves is. cc;
+      last = λ known table s serves is. cc;
     }
 
 pub invariant_of-self : goal.invariant_of-self
@@ -237,17 +241,18 @@ returns-in-Err-take_memory g c =
       unwritten = tt;
       why = tt;
       none = read_over.laid ∙ c.requires.rests;
-      refused = λ table s serves.
+      refused = λ known table s serves.
           served.read_on serves c.requires.rests mid c.plan-map.new.blocks.buffers.kept c.plan-map.new.blocks.laid c.plan-map.result.0 read_over c.plan-map.ensures.reads.same
           (λ b. c.plan-map.ensures.settled b ∙ given g at b);
+      memory = refl;
       log = refl;
       same = tt;
       generation = tt;
       unchanged = tt;
-      laid = λ table s serves step made room. tt;
-      roomy = λ table s serves room is. cc;
-      damaged = λ table s serves is. cc;
-      last = λ table s serves is. cc;
+      laid = λ known table s serves base v may step made room. tt;
+      roomy = λ known table s serves base v may room is. cc;
+      damaged = λ known table s serves base v may is. cc;
+      last = λ known table s serves is. cc;
     }
 
 -- ---- it is laid over the blocks
@@ -321,19 +326,20 @@ returns-in-Ok-take_memory g c =
           (ap (λ (x : Planned). x.written) taken.plan.0 ∙ of_ok r q (λ (x : Point). x.plan.written ≡ 0) c.in-Ok.is c.plan-map.ensures.none);
       why = tt;
       none = tt;
-      refused = λ table s serves. tt;
+      refused = λ known table s serves. tt;
+      memory = tt;
       log = c.go_on.ensures.end ∙ ap (λ (n : ℕ). record f.log { epoch = n; end = Unopened }) next;
       same = (refl, refl);
       generation = of_ok r q (λ (x : Point). x.root.generation ≡ c.in-Some.generation) c.in-Ok.is c.plan-map.ensures.generation ∙ epoch;
       unchanged = c.settle.ensures.unchanged;
-      laid = λ table s serves step made room.
+      laid = λ known table s serves base v may step made room.
           let rests = c.requires.rests in
           let here = g.met.S.Station.seen_may_be_left f.blocks.buffers.station serves.honest in
           let rest = served.at_rest serves rests in
           let seen = (read_over.below.goes serves.honest).seen in
-          let both : IsPlannedFrom {G = g.S.Station} f serves.running step p new =
-          subst (λ (x : Planned). IsPlannedFrom {G = g.S.Station} f serves.running step x new) (sym taken.plan.0)
-          (planned g (goal.at.returns-in-Ok-take_memory g c).In-Ok table s serves step made (plannable g at table s serves) room) in
+          let both : IsPlannedFrom {G = g.S.Station} f base v step p new =
+          subst (λ (x : Planned). IsPlannedFrom {G = g.S.Station} f base v step x new) (sym taken.plan.0)
+          (planned g (goal.at.returns-in-Ok-take_memory g c).In-Ok known table s serves step base v made (plannable g at known table s serves base v may) room) in
           let plan = both.0 in
           let sound = subst IsPlanned (sym taken.plan.0) taken.plan.1 in
           let then : Images = record { disk = disk_after p m.seen.disk; nvram = m.seen.nvram } in
@@ -349,10 +355,10 @@ returns-in-Ok-take_memory g c =
           let entries : PlansEntries (blocks_of m.seen.disk) f.root p new c.plan-map.result.0 =
           subst (λ (x : Planned). PlansEntries (blocks_of m.seen.disk) f.root x new c.plan-map.result.0) (sym taken.plan.0)
           (of_ok r q (λ (x : Point). PlansEntries (blocks_of m.seen.disk) f.root x.plan x.root c.plan-map.result.0) c.in-Ok.is
-          (c.plan-map.ensures.entries m.seen.disk serves.first serves.running serves.snapshots rest.shows (plannable g at table s serves))) in
-          let counted : c.from.result ≡ count_nameless f.root.geometry.inodes serves.running =
-          c.from.ensures ∙ c.nameless_files.ensures.counted f.root.geometry.inodes serves.running serves.memory.volume
-          (subst (λ (t : ℕ → Option Description). IsMounted serves.running t) serves.opened serves.mounted) serves.fits in
+          (c.plan-map.ensures.entries m.seen.disk base v rest.shows (plannable g at known table s serves base v may))) in
+          let counted : c.from.result ≡ count_nameless f.root.geometry.inodes v =
+          c.from.ensures ∙ c.nameless_files.ensures.counted f.root.geometry.inodes v may.volume
+          (subst (λ (t : ℕ → Option Description). IsMounted v t) serves.opened may.mounted) may.fits in
           record {
             laid = c.in-Ok-take_memory.laid;
             is = c.lay.ensures.laid;
@@ -360,30 +366,30 @@ returns-in-Ok-take_memory g c =
             sound = sound;
             slot = sym slot;
             planned = plan;
-            under = subst (λ (n : ℕ). IsUnder n new serves.running kept (planned_disk c.lay.new.self.laid now.seen.disk)) slot
-                (subst (IsUnder p.slot new serves.running kept) disk (settled.under cuts roots serves rests f.sectors f.half p new step plan here then has));
+            under = subst (λ (n : ℕ). IsUnder n new v kept (planned_disk c.lay.new.self.laid now.seen.disk)) slot
+                (subst (IsUnder p.slot new v kept) disk (settled.under cuts roots serves rests f.sectors f.half p new step v plan here then has));
             shows = subst (λ (d : ℕ → Sector). ShowsOver now c.lay.new.self.buffers.kept c.lay.new.self.laid (blocks_of d)) (ap (λ (i : Images). disk_after p i.disk) seen ∙ disk)
                 (c.lay.ensures.shows (blocks_of m.seen.disk) (c.plan-map.ensures.reads.same (blocks_of m.seen.disk) rest.shows));
-            memory = subst (λ (d : ℕ → Sector). IsInMemory (blocks_of d) new c.settle.new.self serves.running) disk
-                (settled.memory cuts roots serves rests f.sectors f.half p new step plan here then has c.in-Ok-take_memory.file c.settle.new.self f.sizes
-                taken.file c.settle.ensures.volume);
+            memory = subst (λ (d : ℕ → Sector). IsInMemory (blocks_of d) new c.settle.new.self v) disk
+                (settled.memory cuts roots serves rests f.sectors f.half p new step v plan here then has c.in-Ok-take_memory.file f.inodes c.settle.new.self f.sizes
+                may.stands.mapped taken.file c.settle.ensures.volume);
             viewless = refl;
             entries = λ b. c.plan-map.ensures.settled b ∙ given g at b ∙ rest.entries b;
             to_come = subst (λ (d : ℕ → Sector). HasEntriesToCome (whole (blocks_of d) new).active c.plan-map.result.0) disk
-                (λ b. sym (entries (blocks_of then.disk) (settled.has_all cuts roots serves rests f.sectors f.half p new step plan here then has)
-                (settled.agrees cuts roots serves rests f.sectors f.half p new step plan here then has) b));
+                (λ b. sym (entries (blocks_of then.disk) (settled.has_all cuts roots serves rests f.sectors f.half p new step v plan here then has)
+                (settled.agrees cuts roots serves rests f.sectors f.half p new step v plan here then has) b));
             newer = λ g bodies nvram first stands. c.go_on.ensures.newer g bodies nvram first (omega (arith, next, first)) stands;
             covered = λ g bodies nvram small stands. c.go_on.ensures.covered g bodies nvram small next stands;
             pledges = ap (λ (n : ℕ). 4 * n) counted;
-            saves = λ takes_none. let saved = both.1 takes_none in omega (arith, saved, counted);
+            saves = λ same few. let saved = both.1 same few in omega (arith, saved, counted);
             stored = omega (
               arith,
-              clean_room c.settle.new.self serves.running c.settle.ensures.unchanged c.settle.new.self.geometry.inodes,
+              clean_room c.settle.new.self v c.settle.ensures.unchanged c.settle.new.self.geometry.inodes,
               counted,
-              ap (λ (x : Sizes). count_nameless x.inodes serves.running) (c.settle.ensures.geometry ∙ f.sizes),
+              ap (λ (x : Sizes). count_nameless x.inodes v) (c.settle.ensures.geometry ∙ f.sizes),
             );
           };
-      roomy = λ table s serves room is. cc;
-      damaged = λ table s serves is. cc;
-      last = λ table s serves is. cc;
+      roomy = λ known table s serves base v may room is. cc;
+      damaged = λ known table s serves base v may is. cc;
+      last = λ known table s serves is. cc;
     }

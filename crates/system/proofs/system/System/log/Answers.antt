@@ -27,22 +27,34 @@ use Rattle.system.specs.Images.{OpensTo}
 use Rattle.system.specs.declared.error.CallError.{CallError}
 use Rattle.system.specs.declared.error.CallError.TheVariants.{NoRoom}
 use Rattle.system.specs.Serving.{LeavesEither}
-use Rattle.system.specs.Systems.{Parts, disk_of}
+use Rattle.replay.specs.Costs.{IsSizeBefore, KnowsFile}
+use Rattle.system.specs.Systems.{HasState, Parts, disk_of}
+use Rattle.system.proofs.system.System.log.Given.{Over}
+use Rattle.system.proofs.system.System.log.Goals.{After-size_before-size}
 use Rattle.system.proofs.system.System.log.Goals as goal
 
 -- where nothing is done a cut leaves the state before it
 before : (m : Meaning) (s t : State) → EachCut m (OpensTo m s) → LeavesEither m m s t
 before m s t opens = weaker m m (OpensTo m s) (λ (i : Images). OpensTo m s i ⊎ OpensTo m t i) (started m (OpensTo m s) opens) (λ i here. inl here)
 
+-- the size of the file, as it is before the record
+sized : (g : Over) (c : After-size_before-size g) (table : ℕ → Option Description) (s : State) (serves : HasState {G = g.S.Station} c.args.self.now table s) → KnowsFile c.args.self.now.inodes (change_of c.args.change.now)
+    → IsSizeBefore serves.running (change_of c.args.change.now) c.size_before-size.result
+sized g c table s serves knows =
+    let f = c.args.self.now in
+    let disk = blocks_of (disk_of {G = g.S.Station} f) in
+    c.size_before-size.ensures _ f.root.geometry.blocks disk (inodes_of (whole disk f.root).active) serves.running serves.memory.stands knows
+
 pub returns-then-is_step_due-clause-any_moment : goal.returns-then-is_step_due-clause-any_moment
-returns-then-is_step_due-clause-any_moment g c = λ table s serves advances. before _ s _ (c.served_states_open.ensures table s serves)
+returns-then-is_step_due-clause-any_moment g c = λ table s serves knows advances. before _ s _ (c.served_states_open.ensures table s serves)
 
 pub returns-then-ne-clause-any_moment : goal.returns-then-ne-clause-any_moment
-returns-then-ne-clause-any_moment g c = λ table s serves advances. before _ s _ (c.served_states_open.ensures table s serves)
+returns-then-ne-clause-any_moment g c = λ table s serves knows advances. before _ s _ (c.served_states_open.ensures table s serves)
 
 pub returns-clause-done : goal.returns-clause-done
-returns-clause-done g c = λ table s serves advances does.
+returns-clause-done g c = λ table s serves knows advances does.
     let f = c.args.self.now in
+    let size = sized g (goal.at.returns-clause-done g c).After-size_before-size table s serves knows in
     let change = change_of c.args.change.now in
     let v = serves.running in
     let disk = blocks_of (disk_of {G = g.S.Station} f) in
@@ -59,8 +71,8 @@ returns-clause-done g c = λ table s serves advances does.
     let within = subst (λ (i : InodeFile). memory_room serves.first c.commit_swept.new.inodes (after (table_of c.log_record.new.self.files)) ≤ memory_room serves.first i v + cost (work_of v change))
     (sym same) (c.commit_swept.ensures.room serves.first count disk settled v change over doing mounted) in
     let stored = subst (λ (t : ℕ → Option Description). memory_room serves.first c.commit_swept.new.inodes (after t) ≤ c.log_record.new.self.pledged_then) (sym opened)
-    (omega (arith, within, serves.stored, (c.in_default.ensures.pledges v).1)) in
-    c.in_default.ensures.logged table s serves advances c.commit_swept.new.inodes c.commit_swept.new.files
+    (omega (arith, within, serves.stored, (c.in_default.ensures.pledges v size).1)) in
+    c.in_default.ensures.logged table s serves size advances c.commit_swept.new.inodes c.commit_swept.new.files
     (subst (λ (t : ℕ → Option Description). IsVolumeOf count disk settled c.commit_swept.new.inodes (after t)) (sym opened)
     (c.commit_swept.ensures.volume count disk settled v change over doing mounted))
     stored
@@ -70,14 +82,22 @@ returns-clause-done g c = λ table s serves advances does.
     (subst (λ (d : Descriptors). FitsVolume d v) files serves.fits)
     (subst (λ (t : ℕ → Option Description). IsMounted (after t) t) opened advances.mounted)))
 
+pub returns-in-Err-clause-any_moment : goal.returns-in-Err-clause-any_moment
+returns-in-Err-clause-any_moment g c = λ table s serves knows advances.
+    c.in-Err.ensures.any_moment table s serves (sized g (goal.at.returns-in-Err-clause-any_moment g c).After-size_before-size table s serves knows) advances
+
+pub returns-clause-any_moment : goal.returns-clause-any_moment
+returns-clause-any_moment g c = λ table s serves knows advances.
+    c.log_record.ensures.any_moment table s serves (sized g (goal.at.returns-clause-any_moment g c).After-size_before-size table s serves knows) advances
+
 pub returns-then-not-has_room-clause-short : goal.returns-then-not-has_room-clause-short
-returns-then-not-has_room-clause-short g c = λ table s serves knows is room. false≢true (sym c.if-not-has_room.true ∙ (c.has_room.ensures.told table s serves knows).1 room)
+returns-then-not-has_room-clause-short g c = λ table s serves knows is room. false≢true (sym c.if-not-has_room.true ∙ (c.has_room.ensures.told serves.running (sized g (goal.at.returns-then-not-has_room-clause-short g c).After-size_before-size table s serves knows)).1 room)
 
 pub returns-then-not-has_room-clause-any_moment : goal.returns-then-not-has_room-clause-any_moment
-returns-then-not-has_room-clause-any_moment g c = λ table s serves advances. before _ s _ (c.served_states_open.ensures table s serves)
+returns-then-not-has_room-clause-any_moment g c = λ table s serves knows advances. before _ s _ (c.served_states_open.ensures table s serves)
 
 pub returns-clause-room : goal.returns-clause-room
-returns-clause-room g c = λ table s serves knows. (c.has_room.ensures.told table s serves knows).0 c.if-not-has_room.false
+returns-clause-room g c = λ table s serves knows. (c.has_room.ensures.told serves.running (sized g (goal.at.returns-clause-room g c).After-size_before-size table s serves knows)).0 c.if-not-has_room.false
 
 -- an append fails for other reasons
 other_reason : (e : AppendError) (x : CallError) → x ≡ log_error e → IsErrOf {T = Unit {0}} (Err x) NoRoom → ⊥

@@ -1,14 +1,13 @@
-use Rattle.std.proofs.Common.{Ok, Err, None, ◌≡◌, ℕ, ◌+◌, length, ap, arith, sym, subst, ◌⊎◌, ◌≢◌, inl, inr, refl}
+use Rattle.std.proofs.Common.{Ok, Err, ◌≡◌, ℕ, ◌+◌, length, ap, arith, sym, subst, ◌⊎◌, ◌≢◌, inl, inr, refl}
 use Rattle.std.specs.Prelude.{IsFalse, IsErrOf}
 use Rattle.layout.specs.Record.{change_of}
-use Rattle.model.specs.Volumes.{Volume}
 use Rattle.oplog.specs.LogEnd.{HasRoomInHalf, LogEnd, logged_body}
 use Rattle.oplog.specs.declared.log.AppendError.{AppendError}
 use Rattle.oplog.specs.declared.log.AppendError.TheVariants.{Device, LogFull, NoMemory}
 use Rattle.overlay.specs.Overlays.{FitsOver, HoldsSoFar}
 use Rattle.system.proofs.LoggedLaws as laws
 use Rattle.system.proofs.LoggedLaws.{same_overlay}
-use Rattle.system.proofs.RoomLaws.{few_free, free_is, had_room, same_cost}
+use Rattle.system.proofs.RoomLaws.{few_free, files_of, files_sized, free_is, had_room}
 use Rattle.system.proofs.system.System.log_record.Goals as goal
 
 no_error : {T E : Type 0} {e : E} (x : T) → Ok x ≡ Err e → ⊥
@@ -18,7 +17,8 @@ pub overflow_add-self : goal.overflow_add-self
 overflow_add-self g c =
     let f = c.args.self.now in
     let room : HasRoomInHalf f.log (length (logged_body (change_of c.args.change.now))) = had_room f.log _ (λ why. no_error c.in-Ok.field-0 (c.in-Ok.ensures.full.1 why)) (λ is. no_error c.in-Ok.field-0 (c.in-Ok.ensures.stopped is).0) in
-    let none : Volume = λ n. None in
+    let size = files_of c.args.size in
+    let sized = files_sized (change_of c.args.change.now) c.args.size in
     omega (
       arith,
       f.few,
@@ -26,8 +26,8 @@ overflow_add-self g c =
       room,
       f.half,
       f.is_root.head.sizes.most_half,
-      c.requires.room none,
-      same_cost (change_of c.args.change.now) _ _ c.cost_of-cost.ensures.cost none,
+      c.requires.room size sized,
+      c.cost_of-cost.ensures.cost size sized,
       f.counted,
       few_free f.map.parts.items f.map.count,
       f.count,
@@ -59,37 +59,37 @@ returns-in-Err-clause-refused g c = λ other.
     (same_overlay {G = g.S.Station} _ c.args.self.now.blocks (λ i. record c.args.self.now.blocks.buffers { station = same.0 i }) refl, same.1)
 
 pub returns-in-Err-clause-any_moment : goal.returns-in-Err-clause-any_moment
-returns-in-Err-clause-any_moment g c = λ table s serves advances.
+returns-in-Err-clause-any_moment g c = λ table s serves sized advances.
     let f = c.args.self.now in
     let m = g.S.Station.meaning f.blocks.buffers.station in
     let change = change_of c.args.change.now in
-    let costs_it = same_cost change _ _ c.cost_of-cost.ensures.cost in
+    let costs_it = c.cost_of-cost.ensures.cost serves.running sized in
     laws.at_any_moment c.cuts_open.ensures c.records_lead_on.ensures serves change advances c.cost_of-cost.result costs_it
-    (laws.reserves c.cuts_open.ensures c.records_lead_on.ensures serves change advances f.free c.cost_of-cost.result costs_it c.requires.room (free_is {G = g.S.Station} f table s serves))
+    (laws.reserves c.cuts_open.ensures c.records_lead_on.ensures serves change advances f.free c.cost_of-cost.result costs_it (c.requires.room serves.running sized) (free_is {G = g.S.Station} f table s serves))
     f.sectors f.half (g.S.Station.meaning c.append.new.station)
     (c.append.ensures.any_moment serves.settled.root.generation serves.lasts.bodies
     (laws.log_stands c.cuts_open.ensures c.records_lead_on.ensures serves change advances))
 
 pub returns-in-Ok-clause-any_moment : goal.returns-in-Ok-clause-any_moment
-returns-in-Ok-clause-any_moment g c = λ table s serves advances.
+returns-in-Ok-clause-any_moment g c = λ table s serves sized advances.
     let f = c.args.self.now in
     let m = g.S.Station.meaning f.blocks.buffers.station in
     let change = change_of c.args.change.now in
-    let costs_it = same_cost change _ _ c.cost_of-cost.ensures.cost in
+    let costs_it = c.cost_of-cost.ensures.cost serves.running sized in
     laws.at_any_moment c.cuts_open.ensures c.records_lead_on.ensures serves change advances c.cost_of-cost.result costs_it
-    (laws.reserves c.cuts_open.ensures c.records_lead_on.ensures serves change advances f.free c.cost_of-cost.result costs_it c.requires.room (free_is {G = g.S.Station} f table s serves))
+    (laws.reserves c.cuts_open.ensures c.records_lead_on.ensures serves change advances f.free c.cost_of-cost.result costs_it (c.requires.room serves.running sized) (free_is {G = g.S.Station} f table s serves))
     f.sectors f.half (g.S.Station.meaning c.append.new.station)
     (c.append.ensures.any_moment serves.settled.root.generation serves.lasts.bodies
     (laws.log_stands c.cuts_open.ensures c.records_lead_on.ensures serves change advances))
 
 pub returns-in-Ok-clause-logged : goal.returns-in-Ok-clause-logged
-returns-in-Ok-clause-logged g c = λ table s serves advances.
+returns-in-Ok-clause-logged g c = λ table s serves sized advances.
     let f = c.args.self.now in
     let m = g.S.Station.meaning f.blocks.buffers.station in
     let change = change_of c.args.change.now in
-    let costs_it = same_cost change _ _ c.cost_of-cost.ensures.cost in
+    let costs_it = c.cost_of-cost.ensures.cost serves.running sized in
     laws.logged c.cuts_open.ensures c.records_lead_on.ensures serves change advances c.cost_of-cost.result costs_it
-    (laws.reserves c.cuts_open.ensures c.records_lead_on.ensures serves change advances f.free c.cost_of-cost.result costs_it c.requires.room
+    (laws.reserves c.cuts_open.ensures c.records_lead_on.ensures serves change advances f.free c.cost_of-cost.result costs_it (c.requires.room serves.running sized)
     (free_is {G = g.S.Station} f table s serves))
     (g.S.Station.meaning c.append.new.station) c.append.new.self (ap (λ (l : LogEnd). l.epoch) c.in-Ok.ensures.end) c.append.ensures.disk c.append.ensures.writes.same
     (c.in-Ok.ensures.appended serves.settled.root.generation serves.lasts.bodies
@@ -97,7 +97,7 @@ returns-in-Ok-clause-logged g c = λ table s serves advances.
     (subst (λ (l : LogEnd). IsFalse l.is_stopped) (sym c.in-Ok.ensures.end) serves.goes)
 
 pub returns-in-Ok-clause-pledges : goal.returns-in-Ok-clause-pledges
-returns-in-Ok-clause-pledges g c = λ v.
+returns-in-Ok-clause-pledges g c = λ v sized.
     let f = c.args.self.now in
-    let costs = same_cost (change_of c.args.change.now) _ _ c.cost_of-cost.ensures.cost v in
+    let costs = c.cost_of-cost.ensures.cost v sized in
     (ap (λ (n : ℕ). f.pledged + n) costs, ap (λ (n : ℕ). f.pledged_then + n) costs)

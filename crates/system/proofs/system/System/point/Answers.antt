@@ -1,6 +1,12 @@
 use Rattle.std.proofs.Common.{◌≡◌, ap, refl, sym, ◌∙◌}
 use Rattle.images.specs.SnapshotSteps.SnapshotStep.{unchanged}
+use Rattle.model.specs.Trees.{Description}
+use Rattle.std.proofs.Common.{ℕ, Option}
 use Rattle.model.specs.States.{State, with_snapshots}
+use Rattle.planning.specs.declared.change.SnapshotChange.TheVariants as changes
+use Rattle.system.specs.Points.{StepsTo}
+use Rattle.system.specs.Systems.{HasState}
+use Rattle.system.proofs.system.System.point.Given.{Over}
 use Rattle.system.proofs.system.System.point.Goals as goal
 
 -- a state has the snapshots that it has
@@ -10,12 +16,13 @@ same_state s t is = ap (λ (x : State). with_snapshots x.snapshots s) (sym is)
 pub returns : goal.returns
 returns g c =
     let made = c.point_with.ensures in
+    let f = c.args.self.now in
+    let leads : (table : ℕ → Option Description) (s : State) (serves : HasState {G = g.S.Station} f table s) (t : State) → t ≡ s → StepsTo {G = g.S.Station} changes.Unchanged f table s serves t =
+    λ table s serves t is. (unchanged, record { is = refl; can = tt }, tt, is ∙ sym (same_state s _ serves.state)) in
     record {
       counted = made.counted;
-      any_moment = λ table s serves t is roomy.
-          made.any_moment table s serves t (unchanged, record { is = refl; can = tt }, is ∙ sym (same_state s _ serves.state)) tt;
-      covered = λ table s serves t is roomy.
-          made.covered table s serves t (unchanged, record { is = refl; can = tt }, is ∙ sym (same_state s _ serves.state)) tt;
+      any_moment = λ table s serves t is roomy. made.any_moment table s serves t (leads table s serves t is) tt;
+      covered = λ table s serves t is roomy. made.covered table s serves t (leads table s serves t is) tt;
       refused = made.refused;
       kept = made.kept;
       unlogged = made.unlogged;
@@ -23,7 +30,7 @@ returns g c =
       log = made.log;
       rests = made.rests;
       unchanged = made.unchanged;
-      roomy = made.roomy;
-      damaged = made.damaged;
+      roomy = λ table s serves t is roomy. made.roomy table s serves t (leads table s serves t is) tt;
+      damaged = λ table s serves t is. made.damaged table s serves t (leads table s serves t is);
       last = made.last;
     }

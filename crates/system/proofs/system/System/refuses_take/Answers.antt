@@ -7,7 +7,8 @@ use Rattle.model.specs.Steps.{take_tests}
 use Rattle.model.specs.declared.errno.Errno.{Errno}
 use Rattle.snapshots.specs.Taken.{RefusesTake}
 use Rattle.snapshots.specs.declared.taking.Taking.{Taking}
-use Rattle.system.specs.Settling.{TestsTake}
+use Rattle.model.specs.declared.command.Command.TheVariants as command
+use Rattle.system.specs.Settling.{TestsCommand}
 use Rattle.system.specs.Systems.{disk_of}
 use Rattle.system.proofs.SettlingLaws.{forgets_running, glanced, not_glanced, take_refused, would_take}
 use Rattle.system.proofs.ViewLaws.{snapshots_of, stays_read}
@@ -27,7 +28,7 @@ returns-in-Ok-Ok-clause-tests g c = λ s served.
     let d = blocks_of (disk_of {G = g.S.Station} fs) in
     let tests = c.in-Ok-Ok.ensures.tests d served.shows served.first served.snapshots served.under.holds s (snapshots_of {G = g.S.Station} fs s served) in
     let passed = subst (λ (r : Result Taking Errno). MatchResult r (λ t. first_refusal (take_tests s c.as_bytes.result.now) ≡ None) (RefusesTake s c.as_bytes.result.now)) c.in-Ok-Ok.field-0-is tests in
-    subst (λ (name : Name). TestsTake s name None) c.as_bytes.ensures (would_take s c.as_bytes.result.now _ passed (forgets_running {G = g.S.Station} fs s c.cuts_open.ensures.forgets served))
+    subst (λ (name : Name). TestsCommand s (command.SnapTake name) None) c.as_bytes.ensures (would_take s c.as_bytes.result.now _ passed (forgets_running {G = g.S.Station} fs s c.cuts_open.ensures.forgets served))
 
 pub returns-in-Ok-Err-clause-glances : goal.returns-in-Ok-Err-clause-glances
 returns-in-Ok-Err-clause-glances g c =
@@ -43,7 +44,7 @@ returns-in-Ok-Err-clause-tests g c = λ s served.
     let d = blocks_of (disk_of {G = g.S.Station} fs) in
     let tests = c.in-Ok-Err.ensures.tests d served.shows served.first served.snapshots served.under.holds s (snapshots_of {G = g.S.Station} fs s served) in
     let refused = subst (λ (r : Result Taking Errno). MatchResult r (λ t. first_refusal (take_tests s c.as_bytes.result.now) ≡ None) (RefusesTake s c.as_bytes.result.now)) c.in-Ok-Err.field-0-is tests in
-    λ room. subst (λ (name : Name). TestsTake s name (Some c.in-Ok-Err.errno)) c.as_bytes.ensures (λ room. take_refused s c.as_bytes.result.now c.in-Ok-Err.errno refused) room
+    λ room. subst (λ (name : Name). TestsCommand s (command.SnapTake name) (Some c.in-Ok-Err.errno)) c.as_bytes.ensures (λ room. take_refused s c.as_bytes.result.now c.in-Ok-Err.errno refused) room
 
 pub returns-in-Err-clause-glances : goal.returns-in-Err-clause-glances
 returns-in-Err-clause-glances g c =

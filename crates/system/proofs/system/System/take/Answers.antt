@@ -119,12 +119,12 @@ returns-in-Ok g c =
     let can = can_take fs.root d (blocks_of (planned_disk c.prepare_take.new.blocks.laid mid.seen.disk)) name taking fs.is_root same (may g (goal.at.returns-in-Ok g c).In-Ok-Ok s v) low in
     record {
       after = after;
-      need = a_snapshot;
+      need = λ room. a_snapshot;
       step = λ room. subst (λ (n : Name). takes s n Done after a_snapshot) c.as_bytes-name.ensures
           (take_step {G = g.S.Station} fs s c.cuts_open.ensures.forgets name v covered.0.held (passed g (goal.at.returns-in-Ok g c).In-Ok-Ok s v));
-      covered = made.covered s.tree.descriptors s over after (step, record { is = refl; can = can }, refl) covered.1;
+      covered = made.covered s.tree.descriptors s over after (step, record { is = refl; can = can }, tt, refl) covered.1;
       leaves = either_after m mid (meaning_of {G = g.S.Station} new) s after on.below (opens s served)
-          (made.any_moment s.tree.descriptors s over after (step, record { is = refl; can = can }, refl) covered.1);
+          (made.any_moment s.tree.descriptors s over after (step, record { is = refl; can = can }, tt, refl) covered.1);
     }) _
 
 pub returns-in-Err-point_with : goal.returns-in-Err-point_with
@@ -141,6 +141,11 @@ returns-in-Err-point_with g c =
     let taking = c.in-Ok-Ok.taking in
     let made = c.in-Err-point_with.ensures in
     let over = λ (s : State) (served : ServesState {G = g.S.Station} fs s). stays_read {G = g.S.Station} fs c.prepare_take.new.blocks s on told.reads.same served in
+    let low : taking.order < 2 ^ 62 = (c.in-Some.ensures.within.0 refl).1 in
+    let step_of = taken taking.slot (record { order = taking.order; name = name; inode_file = fs.root.inode_file }) in
+    let can_of = λ (s : State) (served : ServesState {G = g.S.Station} fs s).
+    can_take fs.root d (blocks_of (planned_disk c.prepare_take.new.blocks.laid mid.seen.disk)) name taking fs.is_root (told.reads.same d served.shows).is
+    (may g (goal.at.returns-in-Err-point_with g c).In-Ok-Ok s served) low in
     not_settled fs new mid _ (command.SnapTake c.args.name.now) (all_read m mid on.below told.reads.counted) (nothing_logged m mid on.below.goes) made.unlogged c.in-Err-point_with.error made.counted
     (unmade fs.log new.log c.in-Err-point_with.error made.log)
     (λ s served refused. (
@@ -150,18 +155,14 @@ returns-in-Err-point_with g c =
     (λ s served covered is.
     let v = covered.0.serves in
     let after : State = with_snapshots (v.snapshots ++ (name, tree_of (without_nameless v.first) closed) ∷ []) s in
-    let step = taken taking.slot (record { order = taking.order; name = name; inode_file = fs.root.inode_file }) in
-    let same = (told.reads.same d v.shows).is in
-    let low : taking.order < 2 ^ 62 = (c.in-Some.ensures.within.0 refl).1 in
-    let can = can_take fs.root d (blocks_of (planned_disk c.prepare_take.new.blocks.laid mid.seen.disk)) name taking fs.is_root same (may g (goal.at.returns-in-Err-point_with g c).In-Ok-Ok s v) low in
     record {
       reply = Done;
       after = after;
-      need = a_snapshot;
+      need = λ room. a_snapshot;
       step = λ room. subst (λ (n : Name). takes s n Done after a_snapshot) c.as_bytes-name.ensures
           (take_step {G = g.S.Station} fs s c.cuts_open.ensures.forgets name v covered.0.held (passed g (goal.at.returns-in-Err-point_with g c).In-Ok-Ok s v));
       leaves = either_after m mid (meaning_of {G = g.S.Station} new) s after on.below (opens s served)
-          (made.any_moment s.tree.descriptors s (over s v) after (step, record { is = refl; can = can }, refl) covered.1);
+          (made.any_moment s.tree.descriptors s (over s v) after (step_of, record { is = refl; can = can_of s v }, tt, refl) covered.1);
     })
-    (λ s served covered is. made.roomy s.tree.descriptors s (over s served) covered.1 (ap (λ e. Err e) is))
-    (λ s served is. made.damaged s.tree.descriptors s (over s served) (ap (λ e. Err e) is)) (λ s served is. made.last s.tree.descriptors s (over s served) (ap (λ e. Err e) is))
+    (λ s served covered is. made.roomy s.tree.descriptors s (over s served) _ (step_of, record { is = refl; can = can_of s served }, tt, refl) covered.1 (ap (λ e. Err e) is))
+    (λ s served is. made.damaged s.tree.descriptors s (over s served) _ (step_of, record { is = refl; can = can_of s served }, tt, refl) (ap (λ e. Err e) is)) (λ s served is. made.last s.tree.descriptors s (over s served) (ap (λ e. Err e) is))

@@ -1,7 +1,17 @@
 use Rattle.std.proofs.Common.{◌≡◌, ◌+◌, ◌*◌, length, ◌∙◌, sym, ap, arith, rules, false}
 use Rattle.station.specs.Images.{Images, unreadable}
+use Rattle.buffers.specs.Readings.{reads_none}
 use Rattle.buffers.proofs.SectorLaws.{block_read, told_lost, whole_sectors}
-use Rattle.buffers.proofs.cache.read_block.Goals as goal
+use Rattle.buffers.proofs.cache.read_sectors.Goals as goal
+
+pub loop-i-init : goal.loop-i-init
+loop-i-init g c = record {
+  reads = reads_none (g.S.Station.meaning c.args.station.now);
+  counted = λ i. (g.S.Station.meaning c.args.station.now).failed_reads;
+  full = c.is_whole.ensures;
+  whole = λ honest k low. absurd (omega (arith, low));
+  bytes = λ honest r low. absurd (omega (arith, low));
+}
 
 pub returns-then-not-is_readable-clause-damaged : goal.returns-then-not-is_readable-clause-damaged
 returns-then-not-is_readable-clause-damaged g c = λ _ honest whole.

@@ -1,6 +1,6 @@
 use Rattle.std.proofs.Common.{◌≡◌, ℕ, ◌+◌, ◌*◌, ◌/◌, ◌%◌, ◌<◌, length, slice_index}
 use Rattle.buffers.specs.Disks.{ReadsOn}
-use Rattle.checker.proofs.letting_go.read_sectors.Given as goal
+use Rattle.buffers.proofs.cache.read_sectors.Given as goal
 
 abbrev pub invariant-loop-i : goal.invariant-loop-i
 invariant-loop-i g l = record {

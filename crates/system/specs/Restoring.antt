@@ -1,0 +1,66 @@
+-- Making the tree that of a snapshot.
+use Rattle.std.specs.Prelude.{ℕ, ◌≡◌, ◌*◌, ◌≤◌, Bool, true, false}
+use Rattle.station.specs.declared.station.Station.{Ghosts}
+use Rattle.layout.specs.Places.{Blocks, blocks_of}
+use Rattle.layout.specs.SnapRoot.{Snapshot}
+use Rattle.layout.specs.declared.root.Root.{Root}
+use Rattle.model.specs.Paths.{Name}
+use Rattle.model.specs.Records.{count_nameless, without_nameless}
+use Rattle.model.specs.Volumes.{IsVolume, Volume}
+use Rattle.images.specs.Contents.{HoldsVolume, tree_contents}
+use Rattle.images.specs.Roots.{HeldTree, whole}
+use Rattle.images.specs.Snapshots.{HasSnapshot}
+use Rattle.inofile.specs.Room.{memory_room}
+use Rattle.inofile.specs.Volumes.{IsVolumeOf}
+use Rattle.inofile.specs.declared.inode_file.InodeFile.{InodeFile}
+use Rattle.loading.specs.Images.{inodes_of}
+use Rattle.system.specs.Room.{HasRoomBesides}
+use Rattle.system.specs.Systems.{disk_of}
+use Rattle.system.specs.declared.system.System.{System}
+
+-- the tree of a slot
+abbrev pub tree_in_slot : Blocks → Root → ℕ → HeldTree
+tree_in_slot disk r k = (whole disk r).frozen k
+
+-- Memory stands for what a snapshot's tree holds, without the files that have no name. A consistency point over that tree stores no more
+-- for it than these files may cost.
+pub record RestoresVolume (disk : Blocks) (r : Root) (k : ℕ) (v : Volume) (inodes : InodeFile) : Type 0 where
+  pub stands : IsVolumeOf r.geometry.blocks disk (inodes_of (tree_in_slot disk r k)) inodes (without_nameless v)
+  pub few : memory_room v inodes (without_nameless v) ≤ 4 * count_nameless r.geometry.inodes v
+
+-- so it does, whatever volume the tree holds
+abbrev pub RestoresSlot : Blocks → Root → ℕ → InodeFile → Type 0
+RestoresSlot disk r k inodes =
+    (v : Volume) → HoldsVolume r.geometry.inodes (tree_contents (tree_in_slot disk r k)) v → IsVolume r.geometry.inodes v → RestoresVolume disk r k v inodes
+
+-- so many files without names are in it
+abbrev pub CountsKept : Blocks → Root → ℕ → ℕ → Type 0
+CountsKept disk r k nameless =
+    (v : Volume) → HoldsVolume r.geometry.inodes (tree_contents (tree_in_slot disk r k)) v → IsVolume r.geometry.inodes v → nameless ≡ count_nameless r.geometry.inodes v
+
+-- a disk keeps so many files without names under the snapshot of this name that a root has
+pub record KeepsNamelessOn (disk : Blocks) (r : Root) (name : Name) (nameless : ℕ) : Type 0 where
+  pub slot : ℕ
+  pub head : Snapshot
+  pub has : HasSnapshot r (whole disk r) slot head
+  pub named : head.name ≡ name
+  pub volume : Volume
+  pub holds : HoldsVolume r.geometry.inodes (tree_contents (tree_in_slot disk r slot)) volume
+  pub is : IsVolume r.geometry.inodes volume
+  pub counted : nameless ≡ count_nameless r.geometry.inodes volume
+
+-- so does the image of a system
+abbrev pub KeepsNameless : {S : Type 0} {G : Ghosts S} → System S G → Name → ℕ → Type 0
+KeepsNameless f name nameless = KeepsNamelessOn (blocks_of (disk_of f)) f.root name nameless
+
+-- the disk has room to make the tree that of the snapshot of this name
+abbrev pub HasRoomToRestore : {S : Type 0} {G : Ghosts S} → System S G → Name → Type 0
+HasRoomToRestore f name = (nameless : ℕ) → KeepsNameless f name nameless → HasRoomBesides f nameless
+
+-- so it was told whether there is room for what a disk keeps under the snapshot of this name, where there is for these numbers
+abbrev pub TellsRoomOn : Blocks → Root → Name → (ℕ → Type 0) → Bool → Type 0
+TellsRoomOn disk r name HasRoom true = (nameless : ℕ) → KeepsNamelessOn disk r name nameless → HasRoom nameless
+TellsRoomOn disk r name HasRoom false = (nameless : ℕ) × KeepsNamelessOn disk r name nameless × (HasRoom nameless → ⊥)
+
+abbrev pub TellsRoomToRestore : {S : Type 0} {G : Ghosts S} → System S G → Name → Bool → Type 0
+TellsRoomToRestore f name has_room = TellsRoomOn (blocks_of (disk_of f)) f.root name (HasRoomBesides f) has_room
