@@ -48,7 +48,7 @@ cost() {
     restore "$name.$at"
     /usr/bin/time -f %M -o peak "$wafl" "$@" > replies
     { sort -n times | head -n 1; tail -n 1 peak; } | paste -s > "$name.$at"
-    awk -v name="wafl $name" -v at="$at" '{printf "%-12s at %11d %9d ms %9.1f MiB\n", name, at, $1, $2 / 1024}' "$name.$at"
+    awk -v name="wafl $name" -v at="$at" '{printf "%-12s at %11s %9d ms %9.1f MiB\n", name, at, $1, $2 / 1024}' "$name.$at"
 }
 
 for at in 4096 $end; do
