@@ -45,18 +45,22 @@ pub settled_within : (disk : ℕ → List ℕ) (pointers : List Pointer) (depth 
 unfolding settled_block
 settled_within disk pointers depth kept i p within is = rw (below_true i kept within, is) refl
 
-trimmed_slot : (m n : BTreeMap ℕ Slot) (count : ℕ) → n.entries ≡ filter (λ e. nat_lt e.0 count) m.entries → (j : ℕ) → get nat_cmp n j ≡ (if nat_lt j count then get nat_cmp m j else None)
+pub trimmed_slot : (m n : BTreeMap ℕ Slot) (count : ℕ) → n.entries ≡ filter (λ e. nat_lt e.0 count) m.entries → (j : ℕ) → get nat_cmp n j ≡ (if nat_lt j count then get nat_cmp m j else None)
 trimmed_slot m n count e j =
     rw e (lookup-filter-keys (is_at (nat_cmp j)) (λ (k : ℕ). nat_lt k count) (nat_lt j count) (λ k at. found_key j k at) m.entries)
   where
     found_key : (j k : ℕ) → is_at (nat_cmp j) k ≡ true → nat_lt k count ≡ nat_lt j count
     found_key j k at = grind (arith, common_steps, nat_tests)
 
+-- the slots below `count` stay, the others are gone
+abbrev pub AreTrimmed : ℕ → BTreeMap ℕ Slot → BTreeMap ℕ Slot → Type 0
+AreTrimmed count m n = (j : ℕ) → get nat_cmp n j ≡ (if nat_lt j count then get nat_cmp m j else None)
+
 -- the blocks below `count` stay, the others are gone
-pub trimmed_block : (disk : ℕ → List ℕ) (pointers : List Pointer) (depth kept new_kept count : ℕ) (m n : BTreeMap ℕ Slot) → n.entries ≡ filter (λ e. nat_lt e.0 count) m.entries → new_kept ≡ min kept count → (j : ℕ)
+pub trimmed_block : (disk : ℕ → List ℕ) (pointers : List Pointer) (depth kept new_kept count : ℕ) (m n : BTreeMap ℕ Slot) → AreTrimmed count m n → new_kept ≡ min kept count → (j : ℕ)
     → slot_bytes (get nat_cmp n j) (settled_block disk pointers depth new_kept j) ≡ (if nat_lt j count then slot_bytes (get nat_cmp m j) (settled_block disk pointers depth kept j) else zeros 4096)
 unfolding settled_block
-trimmed_block disk pointers depth kept new_kept count m n e k j = rw (trimmed_slot m n count e j, k) (each (ltb j count) refl)
+trimmed_block disk pointers depth kept new_kept count m n e k j = rw (e j, k) (each (ltb j count) refl)
   where
     narrow : (b : Bool) → ltb j count ≡ b → ltb j (min kept count) ≡ (if b then ltb j kept else false)
     narrow b e = grind (arith, nat_tests)
@@ -65,25 +69,25 @@ trimmed_block disk pointers depth kept new_kept count m n e k j = rw (trimmed_sl
     each true e = rw (narrow true e) refl
     each false e = rw (narrow false e) refl
 
-pub trimmed_room : (m n : BTreeMap ℕ Slot) (count : ℕ) → n.entries ≡ filter (λ e. nat_lt e.0 count) m.entries → (j : ℕ) → j < count → ContainsKey nat_cmp m j → ContainsKey nat_cmp n j
-trimmed_room m n count e j lt had = rw (trimmed_slot m n count e j, below_true j count lt) had
+pub trimmed_room : (m n : BTreeMap ℕ Slot) (count : ℕ) → AreTrimmed count m n → (j : ℕ) → j < count → ContainsKey nat_cmp m j → ContainsKey nat_cmp n j
+trimmed_room m n count e j lt had = rw (e j, below_true j count lt) had
 
-pub trimmed_changed : (m n : BTreeMap ℕ Slot) (count : ℕ) → n.entries ≡ filter (λ e. nat_lt e.0 count) m.entries → (j : ℕ) → j < count → IsChangedSlot (get nat_cmp m j) → IsChangedSlot (get nat_cmp n j)
-trimmed_changed m n count e j lt had = rw (trimmed_slot m n count e j, below_true j count lt) had
+pub trimmed_changed : (m n : BTreeMap ℕ Slot) (count : ℕ) → AreTrimmed count m n → (j : ℕ) → j < count → IsChangedSlot (get nat_cmp m j) → IsChangedSlot (get nat_cmp n j)
+trimmed_changed m n count e j lt had = rw (e j, below_true j count lt) had
 
 -- of the changed blocks none is new
-pub trimmed_only : (m n : BTreeMap ℕ Slot) (count : ℕ) → n.entries ≡ filter (λ e. nat_lt e.0 count) m.entries → (j : ℕ) → IsChangedSlot (get nat_cmp n j) → IsChangedSlot (get nat_cmp m j)
-trimmed_only m n count e j had = among (nat_lt j count) (rw (trimmed_slot m n count e j) at had)
+pub trimmed_only : (m n : BTreeMap ℕ Slot) (count : ℕ) → AreTrimmed count m n → (j : ℕ) → IsChangedSlot (get nat_cmp n j) → IsChangedSlot (get nat_cmp m j)
+trimmed_only m n count e j had = among (nat_lt j count) (rw (e j) at had)
   where
     among : (b : Bool) → IsChangedSlot (if b then get nat_cmp m j else None) → IsChangedSlot (get nat_cmp m j)
     among true had = had
     among false had = absurd had
 
 -- none is changed behind the cut
-pub trimmed_below : (m n : BTreeMap ℕ Slot) (count : ℕ) → n.entries ≡ filter (λ e. nat_lt e.0 count) m.entries → (j : ℕ) → IsChangedSlot (get nat_cmp n j) → j < count
+pub trimmed_below : (m n : BTreeMap ℕ Slot) (count : ℕ) → AreTrimmed count m n → (j : ℕ) → IsChangedSlot (get nat_cmp n j) → j < count
 trimmed_below m n count e j had = elim (cases_lt j count) [
   | inl lt ↦ lt
   | inr ge ↦
       let no : nat_lt j count ≡ false = grind (arith, nat_tests, ge) in
-      absurd (rw (trimmed_slot m n count e j, no) at had)
+      absurd (rw (e j, no) at had)
 ]

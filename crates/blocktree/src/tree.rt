@@ -63,6 +63,24 @@ fn block_count(size: u64) -> u32
     size.div_ceil(4096) as u32
 }
 
+ghost use Rattle.std.specs.Prelude.{nat_lt, if◌then◌else◌};
+ghost use Rattle.std.specs.Ordering.{nat_cmp};
+ghost use Rattle.std.specs.BTreeMap.{get};
+
+/// Lets go of what memory has of the blocks from `count` on. Where it has nothing of them, as while a file grows, none is looked at.
+fn cut_slots(slots: &mut BTreeMap<u32, Slot>, count: u32)
+    ensures { (j : ℕ) → get nat_cmp slots.new j
+        ≡ (if nat_lt j count then get nat_cmp slots.old j else None) }
+{
+    let reaches = match slots.last_key_value() {
+        Some((last, _)) => *last >= count,
+        None => false,
+    };
+    if reaches {
+        slots.retain(|i, _| *i < count);
+    }
+}
+
 static ZERO_BLOCK: [u8; BLOCK_BYTES] = [0; BLOCK_BYTES];
 
 /// What a hole reads as.
@@ -354,7 +372,7 @@ impl BlockTree {
         ensures changed { (j : ℕ) → IsChanged self.new j → IsChanged self.old j }
         ensures cut { (j : ℕ) → IsChanged self.new j → j < count }
     {
-        self.slots.retain(|i, _| *i < count);
+        cut_slots(&mut self.slots, count);
         self.kept = self.kept.min(count);
     }
 

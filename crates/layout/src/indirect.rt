@@ -33,12 +33,12 @@ fn all_fit(bytes: &[u8; BLOCK_BYTES], blocks: u32, count: u32) -> bool
     ensures { IsTrue result
         → (i : ℕ) → i < count → PointsBelow blocks (indirect_pointer bytes.now i) }
 {
+    // Every pointer is looked at, whatever came before it: so several are looked at at once.
+    let mut fit = true;
     for i in 0..count {
-        if !indirect_pointer(bytes, i).fits(blocks) {
-            return false;
-        }
+        fit &= indirect_pointer(bytes, i).fits(blocks);
     }
-    true
+    fit
 }
 
 /// Whether the bytes from one place on are zeros.

@@ -63,7 +63,7 @@ pub fn is_inode_map(bytes: &[u8], first: u32, inodes: u32) -> bool
     true
 }
 
-/// Entry `index` of a block of the block map: bit 0 the active tree, bits 1 to 20 the snapshots, bit 31 the system's own.
+/// Entry `index` of a block of the block map: bit 0 the active tree, bits 1 to 30 the snapshots, bit 31 the system's own.
 pub fn map_entry(bytes: &[u8; BLOCK_BYTES], index: u32) -> u32
     requires { index < BLOCK_POINTERS }
     ensures { result ≡ map_entry bytes.now index }
