@@ -81,6 +81,37 @@ fn cut_slots(slots: &mut BTreeMap<u32, Slot>, count: u32)
     }
 }
 
+impl Slot {
+    ghost use Rattle.std.specs.Prelude.{◌↔◌, IsTrue, IsFalse, Some};
+    ghost use Rattle.buffers.specs.Positions.{with_bytes_at};
+    ghost use Rattle.blocktree.specs.Trees.{IsChangedSlot, slot_bytes};
+
+    /// Writes these bytes into the block, where it is changed, and tells whether it is.
+    fn put(&mut self, at: usize, bytes: &[u8]) -> bool
+        requires { at + length bytes.now ≤ 4096 }
+        ensures there { IsTrue result → (below : List ℕ) (k : ℕ) → slice_index (slot_bytes (Some self.new) below) k
+            ≡ with_bytes_at (slice_index (slot_bytes (Some self.old) below)) at bytes.now k }
+        ensures whole { IsTrue result → (below : List ℕ) → (length (slot_bytes (Some self.old) below) ≡ 4096)
+            × (length (slot_bytes (Some self.new) below) ≡ 4096) }
+        ensures same { IsFalse result → self.new ≡ self.old }
+        ensures changed { IsChangedSlot (Some self.old) ↔ IsChangedSlot (Some self.new) }
+    {
+        match self {
+            Slot::Changed(block) => {
+                is_whole(block.bytes());
+                block.put(at, bytes);
+                true
+            }
+            Slot::AsSettled => false,
+        }
+    }
+}
+
+// A block in memory has all its bytes. It does nothing.
+fn is_whole(bytes: &[u8; BLOCK_BYTES])
+    ensures { length bytes.now ≡ 4096 }
+{}
+
 static ZERO_BLOCK: [u8; BLOCK_BYTES] = [0; BLOCK_BYTES];
 
 /// What a hole reads as.
@@ -92,10 +123,10 @@ fn zero_block() -> &'static [u8; BLOCK_BYTES]
 }
 
 impl BlockTree {
-    ghost use Rattle.std.specs.Prelude.{if◌then◌else◌, ◌==◌, ◌↔◌, min, nat_lt, IfSome, IfNone, Contains};
+    ghost use Rattle.std.specs.Prelude.{if◌then◌else◌, ◌==◌, ◌≢◌, ◌↔◌, min, nat_lt, IfSome, IfNone, IsTrue, IsFalse, Contains};
     ghost use Rattle.std.specs.Ordering.{nat_cmp};
     ghost use Rattle.std.specs.BTreeMap as tree;
-    ghost use Rattle.buffers.specs.Positions.{laid};
+    ghost use Rattle.buffers.specs.Positions.{laid, with_bytes_at};
     ghost use Rattle.blocktree.specs.Trees.{AreSound, tree_block, slot_bytes, settled_block, HasRoom, KeepsRoom, SameBlocks, SameSettled, IsChanged, IsSoundAt, KeepsSound, IsAtLocation, OnDisk};
 
     /// The blocks of a settled file of this size with these pointers in its inode.
@@ -358,6 +389,29 @@ impl BlockTree {
         ensures only { (j : ℕ) → IsChanged self.new j → (j ≡ i) ⊎ IsChanged self.old j }
     {
         let _ = self.slots.insert(i, Slot::Changed(block));
+    }
+
+    /// Writes these bytes into block `i`, from one place in it on, where it is changed already, and tells whether it is. Where it isn't,
+    /// nothing happens.
+    pub fn put(&mut self, i: u32, at: usize, bytes: &[u8]) -> bool
+        requires { at + length bytes.now ≤ 4096 }
+        ensures there { IsTrue result → (disk : ℕ → List ℕ) (k : ℕ) → slice_index (tree_block disk self.new i) k
+            ≡ with_bytes_at (slice_index (tree_block disk self.old i)) at bytes.now k }
+        ensures whole { IsTrue result → (disk : ℕ → List ℕ)
+            → (length (tree_block disk self.old i) ≡ 4096) × (length (tree_block disk self.new i) ≡ 4096) }
+        ensures others { (disk : ℕ → List ℕ) (j : ℕ) → (j ≢ i)
+            → tree_block disk self.new j ≡ tree_block disk self.old j }
+        ensures same { IsFalse result → SameBlocks self.old self.new }
+        ensures room { (j : ℕ) → HasRoom self.old j ↔ HasRoom self.new j }
+        ensures sound { KeepsSound self.old self.new }
+        ensures settled { SameSettled self.old self.new }
+        ensures kept { self.new.kept ≡ self.old.kept }
+        ensures changed { (j : ℕ) → IsChanged self.old j ↔ IsChanged self.new j }
+    {
+        match self.slots.get_mut(&i) {
+            Some(slot) => slot.put(at, bytes),
+            None => false,
+        }
     }
 
     /// Cuts off the blocks from `count` on.

@@ -37,7 +37,7 @@ fn keeps_last_block(old: u64, new: u64) -> bool
 }
 
 impl File {
-    ghost use Rattle.std.specs.Prelude.{if◌then◌else◌, ◌==◌, nat_lt};
+    ghost use Rattle.std.specs.Prelude.{if◌then◌else◌, ◌==◌, ◌↔◌, nat_lt};
     ghost use Rattle.layout.specs.Bytes.{zeros};
     ghost use Rattle.layout.specs.declared.TheConstants.{INLINE_BYTES};
     ghost use Rattle.model.specs.declared.limits.TheConstants.{TRANSFER_BYTES};
@@ -77,6 +77,27 @@ impl File {
         ensures only { (j : ℕ) → IsChanged self.new.tree j → (j ≡ i) ⊎ IsChanged self.old.tree j }
     {
         self.tree.set(i, block);
+    }
+
+    /// Writes these bytes into block `i`, from one place in it on, where it is changed already, and tells whether it is. Where it isn't,
+    /// nothing happens.
+    pub fn put_in_block(&mut self, i: u32, at: usize, bytes: &[u8]) -> bool
+        requires { at + length bytes.now ≤ 4096 }
+        ensures size { self.new.size ≡ self.old.size }
+        ensures there { IsTrue result → (disk : ℕ → List ℕ) (k : ℕ) → slice_index (file_block disk self.new i) k
+            ≡ with_bytes_at (slice_index (file_block disk self.old i)) at bytes.now k }
+        ensures whole { IsTrue result → (disk : ℕ → List ℕ)
+            → (length (file_block disk self.old i) ≡ 4096) × (length (file_block disk self.new i) ≡ 4096) }
+        ensures others { (disk : ℕ → List ℕ) (j : ℕ) → (j ≢ i)
+            → file_block disk self.new j ≡ file_block disk self.old j }
+        ensures same { IsFalse result → (disk : ℕ → List ℕ) (j : ℕ)
+            → file_block disk self.new j ≡ file_block disk self.old j }
+        ensures sound { KeepsSound self.old.tree self.new.tree }
+        ensures settled { SameSettled self.old.tree self.new.tree }
+        ensures kept { self.new.tree.kept ≡ self.old.tree.kept }
+        ensures changed { (j : ℕ) → IsChanged self.old.tree j ↔ IsChanged self.new.tree j }
+    {
+        self.tree.put(i, at, bytes)
     }
 
     /// Makes the file of this size. Blocks past it are cut off; within the last one nothing is cleared.

@@ -1,6 +1,6 @@
 //! Inodes in the blocks of the inode file.
 
-ghost use Rattle.std.specs.Prelude.{ℕ, ◌≡◌, ◌/◌, ◌%◌, ◌*◌, ◌<◌, List, length, OnOk, IfOk, IsErrOf};
+ghost use Rattle.std.specs.Prelude.{ℕ, ◌≡◌, ◌/◌, ◌%◌, ◌*◌, ◌<◌, List, length, OnOk, IfOk, IsErrOf, IsFalse, IsTrue};
 ghost use Rattle.layout.specs.Inode.{inode_bytes};
 ghost use Rattle.layout.specs.declared.TheConstants.{BLOCK_BYTES, INODES_PER_BLOCK, INODE_BYTES};
 ghost use Rattle.buffers.specs.Reads.{ReadsBlocks};
@@ -42,6 +42,23 @@ pub(crate) fn block_with<B: Blocks>(
     Ok(block)
 }
 
+/// Puts an inode into the place of a number of the changed inode file, where that block of it is changed already, and tells whether it is.
+fn put_again(file: &mut File, number: u32, inode: &Inode) -> bool
+    ensures file { ChangesFile (λ i. ⊥) file.old file.new }
+    ensures put { IsTrue result → (disk : ℕ → List ℕ) (i : ℕ)
+        → file_block disk file.new i ≡ with_inode_at (file_block disk file.old) number inode.now i }
+    ensures whole { IsTrue result → (disk : ℕ → List ℕ)
+        → length (file_block disk file.old (number / INODES_PER_BLOCK)) ≡ BLOCK_BYTES }
+    ensures long { length (inode_bytes inode.now) ≡ INODE_BYTES }
+    ensures same { IsFalse result → (disk : ℕ → List ℕ) (i : ℕ)
+        → file_block disk file.new i ≡ file_block disk file.old i }
+{
+    let mut bytes = [0; INODE_BYTES];
+    let _ = inode.write(&mut bytes);
+    let at = INODE_BYTES * (number % INODES_PER_BLOCK) as usize;
+    file.put_in_block(number / INODES_PER_BLOCK, at, &bytes)
+}
+
 /// Puts an inode into the place of a number of the changed inode file.
 pub(crate) fn put_inode<B: Blocks>(
     alloc: Global,
@@ -60,6 +77,10 @@ pub(crate) fn put_inode<B: Blocks>(
     ensures damaged { (disk : ℕ → List ℕ) → B.Shows blocks.old disk → IsErrOf result read.Damaged
         → IsSoundAt (B.count blocks.old) disk file.old.tree (number / INODES_PER_BLOCK) → ⊥ }
 {
+    // Its block mostly has another changed inode.
+    if put_again(file, number, inode) {
+        return Ok(());
+    }
     let i = number / INODES_PER_BLOCK;
     file.make_room(i)?;
     let block = block_with(alloc, blocks, file, number, inode)?;
