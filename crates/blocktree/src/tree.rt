@@ -242,8 +242,8 @@ impl BlockTree {
         ensures none { IfNone result ((i : ℕ) → from ≤ i → i < to → IsChanged self.now i → ⊥) }
     {
         let mut from = from;
-        while let Some((i, _)) = next_entry(&self.slots, from, to) {
-            if let Some(block) = self.changed(i) {
+        while let Some((i, slot)) = next_entry(&self.slots, from, to) {
+            if let Slot::Changed(block) = slot {
                 return Some((i, block));
             }
             from = i + 1;
