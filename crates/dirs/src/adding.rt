@@ -91,7 +91,7 @@ impl Edit {
             return Err(AddError::DirFull);
         }
         match survey.room {
-            Some(i) => self.add_to(alloc, file, blocks, i, inodes, entry)?,
+            Some(i) => self.add_to(alloc, file, known, blocks, i, inodes, entry)?,
             None => self.add_behind(alloc, file, inodes, entry)?,
         }
         Ok(true)
@@ -102,6 +102,7 @@ impl Edit {
         &mut self,
         alloc: Global,
         file: &mut File,
+        known: &mut Known,
         blocks: &mut B,
         i: u32,
         inodes: u32,
@@ -130,7 +131,7 @@ impl Edit {
     {
         let mut bytes = [0; BLOCK_BYTES];
         self.copy(file, blocks, i, &mut bytes)?;
-        add(&mut bytes, inodes, entry);
+        known.add(self.key(i), &mut bytes, inodes, entry);
         self.put(alloc, file, i, &bytes)?;
         Ok(())
     }

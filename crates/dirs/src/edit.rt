@@ -80,18 +80,22 @@ impl Edit {
             IsSoundAt (B.count blocks.old) disk file.now.tree i → (entries : List Named) →
             HoldsEntries inodes (edited_block disk file.now self.now i) entries → ⊥ }
     {
-        // What is known is kept by key i + 1, and under key 0 nothing: nothing of bytes that the edit may change again, nor of a
-        // directory of one block.
+        let key = self.key(i);
         if let Some(block) = self.changed.get(&i) {
-            return known.look_at(0, block.bytes(), inodes, name);
+            return known.look_at(key, block.bytes(), inodes, name);
         }
-        let kept_as = if self.count > 1 {
+        let location = file.locate(blocks, i)?;
+        known.look_at(key, file.bytes(blocks, i, location), inodes, name)
+    }
+
+    // By which key it is known what block `i` has, and will have: by i + 1; and by 0, where nothing is known, if the directory has one
+    // block. What is known of a block that the edit changes follows it; if the edit isn't made, it speaks of no bytes that there are.
+    pub(crate) fn key(&self, i: u32) -> u32 {
+        if self.count > 1 {
             i.saturating_add(1)
         } else {
             0
-        };
-        let location = file.locate(blocks, i)?;
-        known.look_at(kept_as, file.bytes(blocks, i, location), inodes, name)
+        }
     }
 
     // Copies block `i`.

@@ -8,7 +8,7 @@ ghost use Rattle.blocktree.specs.Errors.{IsFault};
 use crate::Edit;
 use blocktree::ReadError;
 use buffers::Blocks;
-use entries::{Known, count, remove};
+use entries::{Known, count};
 use inode::File;
 use layout::BLOCK_BYTES;
 use std::alloc::Global;
@@ -84,7 +84,7 @@ impl Edit {
         };
         let mut bytes = [0; BLOCK_BYTES];
         self.copy(file, blocks, place.block, &mut bytes)?;
-        remove(&mut bytes, inodes, name);
+        known.remove(self.key(place.block), &mut bytes, inodes, name);
         if place.block + 1 == self.count && count(&bytes, inodes) == 0 {
             self.count = self.trimmed(file, known, blocks, inodes, place.block)?;
             return Ok(());

@@ -9,7 +9,7 @@ use Rattle.model.specs.Paths.{Name}
 use Rattle.entries.specs.Marks.{AreMarked, HasMarks, IsBlock}
 use Rattle.entries.proofs.EntryLists.{none_left, one_first}
 
-entries_once : (inodes : ℕ) (bytes : List ℕ) (es fs : List Named) → inodes ≤ 2 ^ 32 → HoldsEntries inodes bytes es → HoldsEntries inodes bytes fs → es ≡ fs
+pub entries_once : (inodes : ℕ) (bytes : List ℕ) (es fs : List Named) → inodes ≤ 2 ^ 32 → HoldsEntries inodes bytes es → HoldsEntries inodes bytes fs → es ≡ fs
 entries_once inodes bytes [] fs limit one other = sym (none_left inodes bytes fs limit other one)
 entries_once inodes bytes (e ∷ es) fs limit one other =
     let b = one_first inodes bytes one.0 e fs limit one.1 one.2 other in

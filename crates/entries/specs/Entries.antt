@@ -1,5 +1,5 @@
 -- Entries in a row: one taken away, and how long they are.
-use Rattle.std.specs.Prelude.{ℕ, ◌+◌, ◌<◌, ◌≤◌, List, [], ◌∷◌, length, bytes_eq, if◌then◌else◌}
+use Rattle.std.specs.Prelude.{ℕ, ◌≡◌, ◌+◌, ◌<◌, ◌≤◌, List, [], ◌∷◌, length, bytes_eq, if◌then◌else◌}
 use Rattle.layout.specs.Directory.{Named, entry_bytes}
 use Rattle.model.specs.declared.limits.TheConstants.{FIRST_NUMBER}
 use Rattle.model.specs.Paths.{Name}
@@ -17,3 +17,8 @@ without name (e ∷ entries) = if bytes_eq name e.name then entries else e ∷ w
 abbrev pub used_by : List Named → ℕ
 used_by [] = 0
 used_by (e ∷ entries) = length (entry_bytes e) + used_by entries
+
+-- one entry of so many bytes less
+pub record IsOneFewer (bytes : ℕ) (entries others : List Named) : Type 0 where
+  pub names : length entries ≡ length others + 1
+  pub used : used_by entries ≡ used_by others + bytes

@@ -4,7 +4,7 @@ ghost use Rattle.std.specs.Prelude.{◌≡◌, ◌+◌, ◌<◌, ◌≤◌, ◌�
 ghost use Rattle.layout.specs.Bytes.{zeros};
 ghost use Rattle.layout.specs.Directory.{Named, HoldsEntries, IsEntry, entry_bytes, named_of};
 ghost use Rattle.layout.specs.DirectoryNames.{number_of};
-ghost use Rattle.entries.specs.Entries.{IsObjectNumber, without, used_by};
+ghost use Rattle.entries.specs.Entries.{IsObjectNumber, IsOneFewer, without, used_by};
 
 use layout::{Entry, NextEntry, next_entry};
 
@@ -79,8 +79,8 @@ pub fn remove(bytes: &mut [u8], inodes: u32, name: &[u8])
     }
 }
 
-// Takes so many bytes out, moves up those behind them, and leaves zeros at the end.
-fn close_up(bytes: &mut [u8], at: usize, count: usize)
+/// Takes so many bytes out, moves up those behind them, and leaves zeros at the end.
+pub(crate) fn close_up(bytes: &mut [u8], at: usize, count: usize)
     requires { at + count ≤ length bytes.old }
     ensures { bytes.new ≡ take at bytes.old ++ (drop (at + count) bytes.old ++ zeros count) }
 {
@@ -89,13 +89,15 @@ fn close_up(bytes: &mut [u8], at: usize, count: usize)
     bytes[end..].fill(0);
 }
 
-// Where the entry with a name stands in a block, and how many bytes it has.
-fn place_of(bytes: &[u8], inodes: u32, name: &[u8]) -> Option<(usize, usize)>
+/// Where the entry with a name stands in a block, and how many bytes it has.
+pub(crate) fn place_of(bytes: &[u8], inodes: u32, name: &[u8]) -> Option<(usize, usize)>
     ensures within { IfSome result (λ p. p.0 + p.1 ≤ length bytes.now) }
     ensures found { (entries : List Named) → HoldsEntries inodes bytes.now entries →
         IfSome result (λ p. HoldsEntries inodes
         (take p.0 bytes.now ++ (drop (p.0 + p.1) bytes.now ++ zeros p.1))
         (without name.now entries)) }
+    ensures fewer { (entries : List Named) → HoldsEntries inodes bytes.now entries →
+        IfSome result (λ p. IsOneFewer p.1 entries (without name.now entries)) }
     ensures missing { (entries : List Named) → HoldsEntries inodes bytes.now entries →
         IfNone result (number_of name.now entries ≡ None) }
 {

@@ -1,15 +1,16 @@
 //! What is known of the blocks of one directory.
 
-ghost use Rattle.std.specs.Prelude.{◌≡◌, List, IfOk, IfErr, IfSome, OnErr};
-ghost use Rattle.layout.specs.Directory.{Named, HoldsEntries};
+ghost use Rattle.std.specs.Prelude.{◌≡◌, ◌≤◌, ◌+◌, [], ◌∷◌, ◌++◌, List, length, IfOk, IfErr, IfSome, OnErr};
+ghost use Rattle.layout.specs.Directory.{Named, HoldsEntries, IsEntry, entry_bytes, named_of};
 ghost use Rattle.blocktree.specs.declared.error.ReadError.TheVariants.{Damaged};
-ghost use Rattle.entries.specs.Entries.{IsObjectNumber};
+ghost use Rattle.entries.specs.Entries.{IsObjectNumber, used_by, without};
 
 use crate::MOST_KNOWN;
+use crate::entries::{add, remove};
 use crate::look::{Look, look_at};
 use crate::summary::Summary;
 use blocktree::ReadError;
-use layout::BLOCK_BYTES;
+use layout::{BLOCK_BYTES, Entry};
 use std::alloc::Global;
 use std::collections::BTreeMap;
 
@@ -56,6 +57,37 @@ impl Known {
         let look = look_at(bytes, inodes, name)?;
         self.learn(i, bytes, inodes, name, look);
         Ok(look)
+    }
+
+    /// Adds an entry behind the others of block `i`, which has these bytes, where they leave room for it. What is known of the block
+    /// follows.
+    pub fn add(&mut self, i: u32, bytes: &mut [u8; BLOCK_BYTES], inodes: u32, entry: &Entry<'_>)
+        requires { IsEntry inodes (named_of entry.now) }
+        ensures length { length bytes.new ≡ length bytes.old }
+        ensures holds { (entries : List Named) → HoldsEntries inodes bytes.old entries →
+            used_by entries + length (entry_bytes (named_of entry.now)) ≤ 4096 →
+            HoldsEntries inodes bytes.new (entries ++ named_of entry.now ∷ []) }
+    {
+        if let Some(summary) = self.summaries.get_mut(&i)
+            && summary.add(bytes, inodes, entry)
+        {
+            return;
+        }
+        add(bytes, inodes, entry);
+    }
+
+    /// Takes the entry with a name out of block `i`, which has these bytes, if there is one. What is known of the block follows.
+    pub fn remove(&mut self, i: u32, bytes: &mut [u8; BLOCK_BYTES], inodes: u32, name: &[u8])
+        ensures length { length bytes.new ≡ length bytes.old }
+        ensures holds { (entries : List Named) → HoldsEntries inodes bytes.old entries →
+            HoldsEntries inodes bytes.new (without name.now entries) }
+    {
+        if let Some(summary) = self.summaries.get_mut(&i)
+            && summary.remove(bytes, inodes, name)
+        {
+            return;
+        }
+        remove(bytes, inodes, name);
     }
 
     // Keeps the summary of a block, where there is room for it.

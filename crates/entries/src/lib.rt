@@ -17,5 +17,9 @@ const MARKS: usize = 8192;
 
 /// Hashes of names are below this number: the places of two marks.
 const HASHES: usize = MARKS * MARKS;
+
 /// Blocks of one directory of which a summary is kept.
 const MOST_KNOWN: usize = 256;
+
+/// Changes that a summary follows. The marks of names that were taken away stay, so it is made anew before they are many.
+const MOST_CHANGES: u32 = 256;

@@ -26,6 +26,16 @@ pub(crate) fn has_marks(marks: &[u8; MARKS], name: &[u8]) -> bool
     marks[hash % MARKS] == 1 && marks[hash / MARKS] == 1
 }
 
+/// Sets both marks of a name.
+pub(crate) fn mark(marks: &mut [u8; MARKS], name: &[u8])
+    ensures keeps { KeepsMarks marks.old marks.new }
+    ensures marked { HasMarks marks.new name.now }
+{
+    let hash = hash_of(name);
+    marks[hash % MARKS] = 1;
+    marks[hash / MARKS] = 1;
+}
+
 /// Marks the names of a block's entries.
 pub(crate) fn mark_each(bytes: &[u8], inodes: u32, marks: &mut [u8; MARKS])
     ensures keeps { KeepsMarks marks.old marks.new }
@@ -36,9 +46,7 @@ pub(crate) fn mark_each(bytes: &[u8], inodes: u32, marks: &mut [u8; MARKS])
         NextEntry::End => {}
         NextEntry::Malformed => {}
         NextEntry::Entry { entry, rest } => {
-            let hash = hash_of(entry.name);
-            marks[hash % MARKS] = 1;
-            marks[hash / MARKS] = 1;
+            mark(marks, entry.name);
             mark_each(rest, inodes, marks);
         }
     }

@@ -1,12 +1,10 @@
-use Rattle.std.proofs.Common.{rules, arith, ◌≡◌, ◌≤◌, ◌^◌, ◌/◌, ◌%◌, ◌∙◌, inl, inr, ap, sym, subst, bytes_eq, length}
+use Rattle.std.proofs.Common.{arith, ◌≤◌, ◌^◌, ◌∙◌, inl, inr, ap, sym, subst, bytes_eq}
 use Rattle.std.proofs.lemmas.Bool.{cases_Bool}
-use Rattle.std.specs.List.{slice_index}
 use Rattle.layout.specs.Directory.{named_of}
 use Rattle.layout.specs.DirectoryNames.{number_of}
 use Rattle.model.proofs.OptionLaws.{none_some}
-use Rattle.entries.specs.Marks.{hash_of}
+use Rattle.entries.specs.Marks.{HasMarks}
 use Rattle.entries.proofs.EntryLists.{none_left, one_first, found_behind}
-use Rattle.entries.proofs.MarkLaws.{first, second}
 use Rattle.entries.proofs.MissingLaws.{same_name}
 use Rattle.entries.proofs.marks.+mark_each.Goals as goal
 
@@ -22,10 +20,7 @@ returns-in-Entry-clause-marked t c = λ entries holds name n is.
     let b = one_first c.args.inodes c.args.bytes.now c.in-Entry.rest.now e entries limit c.in-Entry.ensures.0 c.in-Entry.ensures.1 holds in
     elim (cases_Bool (bytes_eq name c.in-Entry.entry.name.now)) [
       | inl here ↦
-          let long : length c.args.marks.now ≡ 8192 = search rules in
-          let at : c.hash_of-hash.result ≡ hash_of name = c.hash_of-hash.ensures.value ∙ ap hash_of (sym (same_name name c.in-Entry.entry.name.now here)) in (
-            subst (λ k. slice_index c.mark_each.new.marks (k % 8192) ≡ 1) at (c.mark_each.ensures.keeps (c.hash_of-hash.result % 8192) (first c.args.marks.now (c.hash_of-hash.result % 8192) (c.hash_of-hash.result / 8192) (omega (arith, long)) (omega (arith, long, c.hash_of-hash.ensures.within)))),
-            subst (λ k. slice_index c.mark_each.new.marks (k / 8192) ≡ 1) at (c.mark_each.ensures.keeps (c.hash_of-hash.result / 8192) (second c.args.marks.now (c.hash_of-hash.result % 8192) (c.hash_of-hash.result / 8192) (omega (arith, long)) (omega (arith, long, c.hash_of-hash.ensures.within)))),
-          )
+          let m = c.mark.ensures.marked in
+          subst (HasMarks c.mark_each.new.marks) (sym (same_name name c.in-Entry.entry.name.now here)) (c.mark_each.ensures.keeps _ m.0, c.mark_each.ensures.keeps _ m.1)
       | inr behind ↦ c.mark_each.ensures.marked b.others b.holds name n (sym (found_behind name e entries b.others b.are behind) ∙ is)
     ]

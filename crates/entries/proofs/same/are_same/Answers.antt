@@ -6,9 +6,9 @@ use Rattle.entries.proofs.same.are_same.Goals as goal
 pub loop-at-preserved : goal.loop-at-preserved
 loop-at-preserved c = record {
   within = omega arith;
-  same = λ k high. elim (cases_lt k (64 * c.loop-at.at)) [
+  same = λ k high. elim (cases_lt k (256 * c.loop-at.at)) [
     | inl lt ↦ c.loop-at.invariant.same k lt
-    | inr ge ↦ c.others_at.ensures (omega arith) k ge (omega (arith, high))
+    | inr ge ↦ c.others_of_256.ensures (omega arith) k ge (omega (arith, high))
   ];
 }
 
