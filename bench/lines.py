@@ -5,6 +5,7 @@
     python3 lines.py pauses FILE COMMAND..    the same, and tells how long those five took that took longest, behind the first, and the one in
                                               the middle
     python3 lines.py memory AT COMMAND..      tells the program's memory in MiB behind its first line of output, and behind line AT"""
+import gc
 import subprocess
 import sys
 import time
@@ -16,6 +17,8 @@ def waits(file, command):
         lines = it.readlines()
     run = subprocess.Popen(command, stdin=subprocess.PIPE, stdout=subprocess.PIPE)
     took = []
+    # A collection of Python's own, among so many tuples, would be told as a wait of some milliseconds.
+    gc.disable()
     for number, line in enumerate(lines, 1):
         begin = time.perf_counter()
         run.stdin.write(line)

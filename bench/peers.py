@@ -27,6 +27,7 @@ PART = 65_536
 PARTS = 1_024
 TEN = [f"d{n}" for n in range(10)]
 MOVES = [(f"d/n{n:05}", f"d/m{n:05}") for n in range(COUNT)]
+MOVES_IN_TEN = [(f"d{n % 10}/n{n:05}", f"d{n % 10}/m{n:05}") for n in range(COUNT)]
 IN_TEN = [f"d{n % 10}/n{n:05}" for n in range(COUNT)]
 IN_ONE = [f"d/n{n:05}" for n in range(COUNT)]
 TIME = ["/usr/bin/time", "-f", "%U %S %M", "-o", "used"]
@@ -39,6 +40,7 @@ def scripts():
     yield "dirs10", [f"mkdir /{d}" for d in TEN] + [f"mkdir /{d}" for d in IN_TEN]
     yield "dirs1", ["mkdir /d"] + [f"mkdir /{d}" for d in IN_ONE]
     yield "moves1", [f"rename /{old} /{new}" for old, new in MOVES]
+    yield "moves10", [f"rename /{old} /{new}" for old, new in MOVES_IN_TEN]
     small = [f"open /{f} wc\nwrite 0 {'61' * 100}\nclose 0" for f in IN_TEN]
     yield "files10", [f"mkdir /{d}" for d in TEN] + small
     yield "write", ["open /large wc", *[f"write 0 {data.hex()}"] * PARTS, "close 0"]
@@ -58,10 +60,12 @@ WAFL = {
     "dirs10": (SMALL, [], "run disk nvram dirs10"),
     "dirs1": (SMALL, [], "run disk nvram dirs1"),
     "moves1": (SMALL, ["dirs1", "sync"], "run disk nvram moves1"),
+    "moves10": (SMALL, ["dirs10", "sync"], "run disk nvram moves10"),
     "mount": (WIDE, ["dirs1", "sync", "moves1"], "df disk nvram"),
     "files10": (SMALL, [], "run disk nvram files10"),
     "write": (SMALL, [], "shell disk nvram < write"),
     "put": (SMALL, [], "put disk nvram large /large"),
+    "get": (SMALL, ["put"], "get disk nvram /large back"),
     "read": (SMALL, ["put"], "run disk nvram read"),
     "take": (HUGE, [], "run disk nvram take"),
     "delete": (HUGE, ["take"], "run disk nvram delete"),
@@ -71,10 +75,12 @@ TITLES = {
     "dirs10": "10,000 directories in ten",
     "dirs1": "10,000 directories in one",
     "moves1": "10,000 moves within one directory",
+    "moves10": "10,000 moves within ten directories",
     "mount": "mount with these moves in the log",
     "files10": "10,000 small files in ten",
     "write": "64 MiB in writes of 64 KiB, each durable",
     "put": "`put` of 64 MiB",
+    "get": "`get` of 64 MiB",
     "read": "64 MiB read",
     "take": "20 snapshots taken on 4 GiB",
     "delete": "20 snapshots deleted on 4 GiB",
@@ -106,7 +112,7 @@ def copied(names, ending_from, ending_to):
 def run_wafl(program, words):
     words, _, given = words.partition(" < ")
     numbers = measured([program, *words.split()], given or None, "replies")
-    if not words.startswith("put"):
+    if not words.startswith(("put", "get")):
         with open("replies", "rb") as replies:
             for line in replies:
                 if line.startswith(b"err"):
@@ -234,9 +240,10 @@ def debugfs(_, work, rounds):
         "moves1": [line for old, new in MOVES for line in (f"ln {old} {new}", f"unlink {old}")],
         "write": ["write large large"],
         "put": ["write large large"],
+        "get": ["dump large back"],
         "read": ["dump large back"],
     }
-    before = {"moves1": one, "read": ["write large large"]}.get(work, [])
+    before = {"moves1": one, "get": ["write large large"], "read": ["write large large"]}.get(work, [])
     for name, text in (("lines", lines[work]), ("lines.before", before)):
         with open(name, "w", encoding="ascii") as it:
             it.write("".join(line + "\n" for line in text))
@@ -255,7 +262,7 @@ def debugfs(_, work, rounds):
 PEERS = {
     **{kind: (kernel, ["dirs10", "dirs1", "moves1", "files10", "write"]) for kind in FILESYSTEMS},
     "sqlite": (sqlite, ["dirs10", "dirs1", "moves1", "files10", "write", "read"]),
-    "debugfs": (debugfs, ["dirs10", "dirs1", "moves1", "files10", "write", "put", "read"]),
+    "debugfs": (debugfs, ["dirs10", "dirs1", "moves1", "files10", "write", "put", "get", "read"]),
 }
 
 

@@ -70,6 +70,17 @@ module _ (old new : PlaceMap) (i : ℕ) (group : List Pointer) (updates : Update
     | inr apart ↦ ap (λ o. pointer_in o (k % 1024)) (updates.2 (k / 1024) (other_key (i / 1024) (k / 1024) apart))
   ]
 
+-- one group changes whole
+module _ (old new : PlaceMap) (j : ℕ) (group : List Pointer) (updates : Updates nat_cmp old.groups new.groups j (Some group)) where
+  pub group_there : (r : ℕ) → r < 1024 → place_at new (1024 * j + r) ≡ slice_index_or group r Hole
+  group_there r lt =
+      let same : (1024 * j + r) % 1024 ≡ r = omega (arith, lt) in
+      in_group new (1024 * j + r) j group updates.1 (omega (arith, lt)) ∙ ap (λ k. slice_index_or group k Hole) same
+
+  pub group_others : (i : ℕ) → i / 1024 ≢ j → place_at new i ≡ place_at old i
+  unfolding place_at
+  group_others i apart = ap (λ o. pointer_in o (i % 1024)) (updates.2 (i / 1024) (other_key j (i / 1024) apart))
+
 -- the first group that is held from that of a node on
 module _ (p : PlaceMap) (from j : ℕ) (group : List Pointer) (is : get nat_cmp p.groups j ≡ Some group) (none : (g : ℕ) → from / 1024 ≤ g → g < j → get nat_cmp p.groups g ≡ None) where
   pub node_in : (r : ℕ) → r < 1024 → place_at p (1024 * j + r) ≡ slice_index_or group r Hole

@@ -10,9 +10,9 @@ use Rattle.std.specs.BTreeMap.{BTreeMap, get, is_at, ContainsKey}
 use Rattle.layout.specs.Bytes.{zeros}
 use Rattle.layout.specs.declared.pointer.Pointer.{Pointer}
 use Rattle.blocktree.specs.Places.{pointed, place}
-use Rattle.blocktree.specs.Trees.{slot_bytes, slot_stores, settled_block, IsChangedSlot}
-use Rattle.blocktree.specs.declared.tree.Slot.{Slot}
-use Rattle.blocktree.specs.declared.tree.Slot.TheVariants.{AsSettled, Changed}
+use Rattle.blocktree.specs.Trees.{AreTrimmed, slot_bytes, slot_stores, settled_block, IsChangedSlot}
+use Rattle.blocktree.specs.declared.slot.Slot.{Slot}
+use Rattle.blocktree.specs.declared.slot.Slot.TheVariants.{AsSettled, Changed}
 
 pub one_at_most : (s : Option Slot) → slot_stores s ≤ 1
 one_at_most None = omega arith
@@ -51,10 +51,6 @@ trimmed_slot m n count e j =
   where
     found_key : (j k : ℕ) → is_at (nat_cmp j) k ≡ true → nat_lt k count ≡ nat_lt j count
     found_key j k at = grind (arith, common_steps, nat_tests)
-
--- the slots below `count` stay, the others are gone
-abbrev pub AreTrimmed : ℕ → BTreeMap ℕ Slot → BTreeMap ℕ Slot → Type 0
-AreTrimmed count m n = (j : ℕ) → get nat_cmp n j ≡ (if nat_lt j count then get nat_cmp m j else None)
 
 -- the blocks below `count` stay, the others are gone
 pub trimmed_block : (disk : ℕ → List ℕ) (pointers : List Pointer) (depth kept new_kept count : ℕ) (m n : BTreeMap ℕ Slot) → AreTrimmed count m n → new_kept ≡ min kept count → (j : ℕ)

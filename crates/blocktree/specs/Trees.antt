@@ -6,8 +6,8 @@ use Rattle.layout.specs.Bytes.{zeros}
 use Rattle.layout.specs.declared.pointer.Pointer.{Pointer}
 use Rattle.buffers.specs.Disks.{IsWhole}
 use Rattle.blocktree.specs.Places.{pointed, place, IsPath}
-use Rattle.blocktree.specs.declared.tree.Slot.{Slot}
-use Rattle.blocktree.specs.declared.tree.Slot.TheVariants.{AsSettled, Changed}
+use Rattle.blocktree.specs.declared.slot.Slot.{Slot}
+use Rattle.blocktree.specs.declared.slot.Slot.TheVariants.{AsSettled, Changed}
 use Rattle.blocktree.specs.declared.tree.Location.{Location}
 use Rattle.blocktree.specs.declared.tree.Location.TheVariants as locations
 use Rattle.blocktree.specs.declared.tree.BlockTree.{BlockTree}
@@ -50,6 +50,10 @@ abbrev pub IsChangedSlot : Option Slot → Type 0
 IsChangedSlot (Some (Changed block)) = Unit {0}
 IsChangedSlot (Some AsSettled) = ⊥
 IsChangedSlot None = ⊥
+
+-- what memory has of the blocks below `count` stays, and it has nothing of the others
+abbrev pub AreTrimmed : ℕ → tree.BTreeMap ℕ Slot → tree.BTreeMap ℕ Slot → Type 0
+AreTrimmed count old new = (i : ℕ) → tree.get nat_cmp new i ≡ (if nat_lt i count then tree.get nat_cmp old i else None)
 
 -- one for a changed block
 abbrev pub slot_stores : Option Slot → ℕ

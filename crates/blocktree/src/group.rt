@@ -1,10 +1,11 @@
 //! The places of the nodes under one indirect block.
 
 ghost use Rattle.std.specs.Prelude.{◌≡◌, ◌≢◌, ℕ, ◌<◌, ◌≤◌, IfOk, IfSome, IfNone, length, slice_index_or};
+ghost use Rattle.layout.specs.Maps.{indirect_pointer};
 ghost use Rattle.layout.specs.declared.TheConstants.{BLOCK_POINTERS};
 ghost use Rattle.layout.specs.declared.pointer.Pointer.TheVariants.{Hole, Block};
 
-use layout::{BLOCK_POINTERS, BlockNumber, Pointer};
+use layout::{BLOCK_BYTES, BLOCK_POINTERS, BlockNumber, Pointer, indirect_pointer};
 use std::alloc::{AllocError, Global};
 use std::marker::Model;
 
@@ -47,6 +48,18 @@ impl Group {
         all[r as usize] = pointer;
         let pointers = Box::new(alloc, all)?;
         Ok(Group { pointers })
+    }
+
+    /// Those that an indirect block spells.
+    pub(crate) fn spelled(alloc: Global, bytes: &[u8; BLOCK_BYTES]) -> Result<Group, AllocError>
+        ensures { IfOk result (λ g. (r : ℕ) → r < 1024
+            → slice_index_or g r Hole ≡ indirect_pointer bytes.now r) }
+    {
+        let mut group = Group::holes(alloc)?;
+        for r in 0..GROUP {
+            group.set(r, indirect_pointer(bytes, r));
+        }
+        Ok(group)
     }
 
     /// A copy of the pointers.

@@ -9,8 +9,10 @@ mod names;
 mod nodes;
 mod place;
 mod place_map;
+mod slot;
 mod tree;
 
 pub use error::ReadError;
 pub use place_map::{PlaceMap, StoredNode};
-pub use tree::{BlockTree, Location, Slot};
+pub use slot::Slot;
+pub use tree::{BlockTree, Location};

@@ -44,18 +44,6 @@ fn own_places(
     Ok(places)
 }
 
-/// Has a pointer as that to a node that is a hole so far.
-fn put_pointer(places: &mut PlaceMap, i: u32, pointer: Pointer) -> Result<(), AllocError>
-    requires { place_at places.old i ≡ Hole }
-    ensures there { OnOk result (place_at places.new i ≡ pointer) }
-    ensures others { OnOk result ((j : ℕ) → j ≢ i → place_at places.new j ≡ place_at places.old j) }
-{
-    match pointer {
-        Pointer::Hole => Ok(()),
-        Pointer::Block(place) => places.set(i, Pointer::Block(place)),
-    }
-}
-
 /// Has the pointers of an indirect block as those to the nodes of group `j`, which are holes so far.
 fn put_group(places: &mut PlaceMap, j: u32, bytes: &[u8; BLOCK_BYTES]) -> Result<(), AllocError>
     requires index { j < 4194304 }
@@ -66,9 +54,7 @@ fn put_group(places: &mut PlaceMap, j: u32, bytes: &[u8; BLOCK_BYTES]) -> Result
         → place_at places.new (1024 * j + r) ≡ indirect_pointer bytes.now r) }
     ensures behind { OnOk result (EndBefore (1024 * j + 1024) places.new) }
 {
-    for r in 0..GROUP {
-        put_pointer(places, GROUP * j + r, indirect_pointer(bytes, r))?;
-    }
+    places.put_spelled(j, bytes)?;
     Ok(())
 }
 

@@ -10,7 +10,7 @@ ghost use Rattle.blocktree.specs.Places.{follow, place, IsStoredNode, IsPath};
 
 use crate::ReadError;
 use buffers::Blocks;
-use layout::{BODY_POINTERS, BlockNumber, Pointer, indirect_pointer, is_indirect_block};
+use layout::{BODY_POINTERS, BlockNumber, Pointer, indirect_pointer};
 
 /// The pointer to node `i` of `count` at this depth under an inode's pointers. Depth 0 is that of the pointers themselves.
 pub(crate) fn find_place<B: Blocks>(
@@ -56,7 +56,7 @@ pub(crate) fn own_pointer(
     within(pointers[i as usize], blocks)
 }
 
-/// An inode's pointer, on a disk of so many blocks.
+/// A pointer, on a disk of so many blocks.
 fn within(pointer: Pointer, blocks: u32) -> Result<Pointer, ReadError>
     ensures pointer { IfOk result (λ p. p ≡ pointer) }
     ensures within { OnOk result (PointsBelow blocks pointer) }
@@ -117,9 +117,9 @@ fn read_pointer<B: Blocks>(
         → IsIndirectBlock (B.count blocks.old) used (disk node) → ⊥ }
 {
     blocks.make_resident(node)?;
-    let bytes = blocks.bytes(node);
-    if !is_indirect_block(bytes, blocks.count(), used) {
+    if !blocks.is_indirect(node, used) {
         return Err(ReadError::Damaged);
     }
-    Ok(indirect_pointer(bytes, i))
+    // Each pointer of such a block stays on the disk: this tells nothing new.
+    within(indirect_pointer(blocks.bytes(node), i), blocks.count())
 }

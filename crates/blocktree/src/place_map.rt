@@ -3,12 +3,13 @@
 ghost use Rattle.std.specs.Prelude.{◌≡◌, ◌≢◌, ℕ, ◌+◌, ◌*◌, ◌/◌, ◌<◌, ◌≤◌, IfNone, IfOk, IfSome, None, OnOk, Some, length, slice_index_or, nat_lt, if◌then◌else◌};
 ghost use Rattle.std.specs.BTreeMap as tree;
 ghost use Rattle.std.specs.Ordering.{nat_cmp};
+ghost use Rattle.layout.specs.Maps.{indirect_pointer};
 ghost use Rattle.layout.specs.declared.TheConstants.{BLOCK_POINTERS};
 ghost use Rattle.layout.specs.declared.pointer.Pointer.TheVariants.{Hole, Block};
 ghost use Rattle.blocktree.specs.PlaceMaps.{place_at};
 
 use crate::group::{GROUP, Group};
-use layout::{BLOCK_POINTERS, BlockNumber, Pointer};
+use layout::{BLOCK_BYTES, BLOCK_POINTERS, BlockNumber, Pointer};
 use std::alloc::{AllocError, Global};
 use std::collections::BTreeMap;
 
@@ -111,6 +112,22 @@ impl PlaceMap {
             Ok(_) => Ok(()),
             Err(_) => Err(AllocError),
         }
+    }
+
+    /// Holds the pointers that an indirect block spells as those of group `j`.
+    pub(crate) fn put_spelled(
+        &mut self,
+        j: u32,
+        bytes: &[u8; BLOCK_BYTES],
+    ) -> Result<(), AllocError>
+        ensures group { OnOk result ((r : ℕ) → r < 1024
+            → place_at self.new (1024 * j + r) ≡ indirect_pointer bytes.now r) }
+        ensures others { OnOk result ((i : ℕ) → i / 1024 ≢ j
+            → place_at self.new i ≡ place_at self.old i) }
+    {
+        let group = Group::spelled(self.alloc, bytes)?;
+        self.put(j, group)?;
+        Ok(())
     }
 
     /// The pointers to the nodes of group `j`.

@@ -1,6 +1,6 @@
 //! A file's blocks, settled ones and changed ones.
 
-ghost use Rattle.std.specs.Prelude.{◌≡◌, ◌⊎◌, ℕ, ◌+◌, ◌-◌, ◌*◌, ◌^◌, ◌<◌, ◌≤◌, List, length, slice_index, OnOk, IfOk, IsErrOf};
+ghost use Rattle.std.specs.Prelude.{◌≡◌, ◌⊎◌, ℕ, ◌+◌, ◌-◌, ◌*◌, ◌^◌, ◌<◌, ◌≤◌, List, length, slice_index, OnOk, OnErr, IfOk, IsErrOf};
 ghost use Rattle.layout.specs.Bytes.{zeros};
 ghost use Rattle.layout.specs.Version.{greatest_size};
 ghost use Rattle.layout.specs.declared.version.TheConstants.{VERSION};
@@ -16,18 +16,11 @@ use crate::names::{name_nodes, nodes_at};
 use crate::nodes::read_places;
 use crate::place::find_place;
 use crate::place_map::{PlaceMap, next_entry};
-use buffers::{Block, Blocks};
+use crate::slot::{Slot, cut_slots};
+use buffers::{Blocks, SharedBlock};
 use layout::{BLOCK_BYTES, BODY_POINTERS, BlockNumber, Pointer, level_of};
 use std::alloc::{AllocError, Global};
 use std::collections::BTreeMap;
-
-/// What memory has of a block.
-#[derive(Debug, Drop)]
-pub enum Slot {
-    /// Room for a change; the block is as the settled inode has it.
-    AsSettled,
-    Changed(Block),
-}
 
 /// Where a block of a file is.
 #[derive(Clone, Copy, Debug, PartialEq, Eq)]
@@ -62,55 +55,6 @@ fn block_count(size: u64) -> u32
 {
     size.div_ceil(4096) as u32
 }
-
-ghost use Rattle.std.specs.Prelude.{nat_lt, if◌then◌else◌};
-ghost use Rattle.std.specs.Ordering.{nat_cmp};
-ghost use Rattle.std.specs.BTreeMap.{get};
-
-/// Lets go of what memory has of the blocks from `count` on. Where it has nothing of them, as while a file grows, none is looked at.
-fn cut_slots(slots: &mut BTreeMap<u32, Slot>, count: u32)
-    ensures { (j : ℕ) → get nat_cmp slots.new j
-        ≡ (if nat_lt j count then get nat_cmp slots.old j else None) }
-{
-    let reaches = match slots.last_key_value() {
-        Some((last, _)) => *last >= count,
-        None => false,
-    };
-    if reaches {
-        slots.retain(|i, _| *i < count);
-    }
-}
-
-impl Slot {
-    ghost use Rattle.std.specs.Prelude.{◌↔◌, IsTrue, IsFalse, Some};
-    ghost use Rattle.buffers.specs.Positions.{with_bytes_at};
-    ghost use Rattle.blocktree.specs.Trees.{IsChangedSlot, slot_bytes};
-
-    /// Writes these bytes into the block, where it is changed, and tells whether it is.
-    fn put(&mut self, at: usize, bytes: &[u8]) -> bool
-        requires { at + length bytes.now ≤ 4096 }
-        ensures there { IsTrue result → (below : List ℕ) (k : ℕ) → slice_index (slot_bytes (Some self.new) below) k
-            ≡ with_bytes_at (slice_index (slot_bytes (Some self.old) below)) at bytes.now k }
-        ensures whole { IsTrue result → (below : List ℕ) → (length (slot_bytes (Some self.old) below) ≡ 4096)
-            × (length (slot_bytes (Some self.new) below) ≡ 4096) }
-        ensures same { IsFalse result → self.new ≡ self.old }
-        ensures changed { IsChangedSlot (Some self.old) ↔ IsChangedSlot (Some self.new) }
-    {
-        match self {
-            Slot::Changed(block) => {
-                is_whole(block.bytes());
-                block.put(at, bytes);
-                true
-            }
-            Slot::AsSettled => false,
-        }
-    }
-}
-
-// A block in memory has all its bytes. It does nothing.
-fn is_whole(bytes: &[u8; BLOCK_BYTES])
-    ensures { length bytes.now ≡ 4096 }
-{}
 
 static ZERO_BLOCK: [u8; BLOCK_BYTES] = [0; BLOCK_BYTES];
 
@@ -216,7 +160,7 @@ impl BlockTree {
     }
 
     /// The changed block `i`, if it is changed.
-    pub fn changed(&self, i: u32) -> Option<&Block>
+    pub fn changed(&self, i: u32) -> Option<&SharedBlock>
         ensures some { IfSome result (λ b. (disk : ℕ → List ℕ)
             → tree_block disk self.now i ≡ b.now) }
         ensures is { IfSome result (λ b. IsChanged self.now i) }
@@ -233,7 +177,7 @@ impl BlockTree {
     }
 
     /// The first changed block from one index on and before another.
-    pub fn next_changed(&self, from: u32, to: u32) -> Option<(u32, &Block)>
+    pub fn next_changed(&self, from: u32, to: u32) -> Option<(u32, &SharedBlock)>
         ensures found { IfSome result (λ n. (from ≤ n.0) × (n.0 < to) × IsChanged self.now n.0) }
         ensures block { IfSome result (λ n. (disk : ℕ → List ℕ)
             → tree_block disk self.now n.0 ≡ n.1.now) }
@@ -377,7 +321,7 @@ impl BlockTree {
     }
 
     /// Changes block `i`, for which there is room.
-    pub fn set(&mut self, i: u32, block: Block)
+    pub fn set(&mut self, i: u32, block: SharedBlock)
         requires { HasRoom self.old i }
         ensures blocks { (disk : ℕ → List ℕ) (j : ℕ)
             → tree_block disk self.new j ≡ (if j == i then block else tree_block disk self.old j) }
@@ -392,16 +336,25 @@ impl BlockTree {
     }
 
     /// Writes these bytes into block `i`, from one place in it on, where it is changed already, and tells whether it is. Where it isn't,
-    /// nothing happens.
-    pub fn put(&mut self, i: u32, at: usize, bytes: &[u8]) -> bool
+    /// or there is no memory, nothing happens.
+    pub fn put(
+        &mut self,
+        alloc: Global,
+        i: u32,
+        at: usize,
+        bytes: &[u8],
+    ) -> Result<bool, AllocError>
         requires { at + length bytes.now ≤ 4096 }
-        ensures there { IsTrue result → (disk : ℕ → List ℕ) (k : ℕ) → slice_index (tree_block disk self.new i) k
-            ≡ with_bytes_at (slice_index (tree_block disk self.old i)) at bytes.now k }
-        ensures whole { IsTrue result → (disk : ℕ → List ℕ)
-            → (length (tree_block disk self.old i) ≡ 4096) × (length (tree_block disk self.new i) ≡ 4096) }
+        ensures there { IfOk result (λ is. IsTrue is → (disk : ℕ → List ℕ) (k : ℕ)
+            → slice_index (tree_block disk self.new i) k
+            ≡ with_bytes_at (slice_index (tree_block disk self.old i)) at bytes.now k) }
+        ensures whole { IfOk result (λ is. IsTrue is → (disk : ℕ → List ℕ)
+            → (length (tree_block disk self.old i) ≡ 4096) × (length (tree_block disk self.new i) ≡ 4096)) }
         ensures others { (disk : ℕ → List ℕ) (j : ℕ) → (j ≢ i)
             → tree_block disk self.new j ≡ tree_block disk self.old j }
-        ensures same { IsFalse result → SameBlocks self.old self.new }
+        ensures told { IfOk result (λ is. IsTrue is ↔ IsChanged self.old i) }
+        ensures same { IfOk result (λ is. IsFalse is → SameBlocks self.old self.new) }
+        ensures refused { OnErr result (SameBlocks self.old self.new) }
         ensures room { (j : ℕ) → HasRoom self.old j ↔ HasRoom self.new j }
         ensures sound { KeepsSound self.old self.new }
         ensures settled { SameSettled self.old self.new }
@@ -409,8 +362,8 @@ impl BlockTree {
         ensures changed { (j : ℕ) → IsChanged self.old j ↔ IsChanged self.new j }
     {
         match self.slots.get_mut(&i) {
-            Some(slot) => slot.put(at, bytes),
-            None => false,
+            Some(slot) => slot.put(alloc, at, bytes),
+            None => Ok(false),
         }
     }
 
@@ -431,7 +384,7 @@ impl BlockTree {
     }
 
     /// Changes the blocks from `first` on, for each of which there is room.
-    pub fn install(&mut self, first: u32, pieces: Vec<Block>)
+    pub fn install(&mut self, first: u32, pieces: Vec<SharedBlock>)
         requires room { (j : ℕ) → j < length pieces.items → HasRoom self.old (first + j) }
         requires most { first + length pieces.items < 2 ^ 32 }
         ensures blocks { (disk : ℕ → List ℕ) (j : ℕ)

@@ -1,27 +1,39 @@
 //! The bytes of a block in memory.
 
-ghost use Rattle.std.specs.Prelude.{◌≡◌, ℕ, ◌+◌, ◌<◌, ◌≤◌, length, slice_index, IfOk};
+ghost use Rattle.std.specs.Prelude.{◌≡◌, ◌↔◌, ℕ, ◌+◌, ◌<◌, ◌≤◌, length, slice_index, IfOk, IsTrue};
 ghost use Rattle.layout.specs.Bytes.{zeros};
+ghost use Rattle.layout.specs.Maps.{IsIndirectBlock};
 ghost use Rattle.buffers.specs.Positions.{with_bytes_at, cut};
 
-use layout::BLOCK_BYTES;
+use layout::{BLOCK_BYTES, is_indirect_block};
 use std::alloc::{AllocError, Global};
 use std::marker::Model;
+
+/// An indirect block over so many blocks of a file, in an image of so many blocks.
+#[derive(Clone, Copy, Debug)]
+struct Indirect {
+    blocks: u32,
+    used: u32,
+}
 
 /// The 4,096 bytes of a block, in memory.
 #[derive(Debug, Drop)]
 pub struct Block {
     bytes: Box<[u8; BLOCK_BYTES]>,
+    /// What they were found to be, so that it isn't tested again while they stay.
+    found: Option<Indirect>,
 }
 
 impl Model for Block {
-    ghost use Rattle.std.specs.Prelude.{◌≡◌, List, ℕ, length};
+    ghost use Rattle.std.specs.Prelude.{◌≡◌, List, ℕ, length, IfSome};
+    ghost use Rattle.layout.specs.Maps.{IsIndirectBlock};
 
     ghost Value = { List ℕ };
 
     ghost view = { λ b. b.bytes.value };
 
-    ghost invariant = { λ b. length b.bytes.value ≡ 4096 };
+    ghost invariant = { λ b. (length b.bytes.value ≡ 4096)
+        × IfSome b.found (λ f. IsIndirectBlock f.blocks f.used b.bytes.value) };
 }
 
 impl Block {
@@ -31,7 +43,7 @@ impl Block {
         ensures { IfOk result (λ b. b ≡ zeros 4096) }
     {
         let bytes = Box::new(alloc, [0; BLOCK_BYTES])?;
-        Ok(Block { bytes })
+        Ok(Block { bytes, found: None })
     }
 
     /// A copy of these bytes.
@@ -39,11 +51,11 @@ impl Block {
         ensures { IfOk result (λ b. b ≡ bytes.now) }
     {
         let bytes = Box::new(alloc, *bytes)?;
-        Ok(Block { bytes })
+        Ok(Block { bytes, found: None })
     }
 
     /// A block in memory has all its bytes. It does nothing.
-    pub(crate) fn is_whole(&self)
+    pub fn is_whole(&self)
         ensures { length self.now ≡ 4096 }
     {
         let _ = &self.bytes;
@@ -62,6 +74,7 @@ impl Block {
             → slice_index self.new k ≡ with_bytes_at (slice_index self.old) at bytes.now k }
         ensures length { length self.new ≡ 4096 }
     {
+        self.found = None;
         self.bytes[at..at + bytes.len()].copy_from_slice(bytes);
     }
 
@@ -71,6 +84,25 @@ impl Block {
         ensures bytes { (k : ℕ) → slice_index self.new k ≡ cut (slice_index self.old) at k }
         ensures length { length self.new ≡ 4096 }
     {
+        self.found = None;
         self.bytes[at..].fill(0);
+    }
+
+    /// Whether it is an indirect block over so many blocks of a file, in an image of so many blocks. A block that is one is tested once.
+    pub fn is_indirect(&mut self, blocks: u32, used: u32) -> bool
+        ensures same { self.new ≡ self.old }
+        ensures is { IsTrue result ↔ IsIndirectBlock blocks used self.old }
+    {
+        if let Some(found) = self.found
+            && found.blocks == blocks
+            && found.used == used
+        {
+            return true;
+        }
+        let is = is_indirect_block(&self.bytes, blocks, used);
+        if is {
+            self.found = Some(Indirect { blocks, used });
+        }
+        is
     }
 }

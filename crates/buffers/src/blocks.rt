@@ -1,6 +1,7 @@
 //! The blocks of the disk as the layers above read them.
 
-ghost use Rattle.std.specs.Prelude.{◌≡◌, ℕ, ◌<◌, ◌≤◌, List, OnOk, IsErrOf};
+ghost use Rattle.std.specs.Prelude.{◌≡◌, ◌↔◌, ℕ, ◌<◌, ◌≤◌, List, OnOk, IsErrOf, IsTrue};
+ghost use Rattle.layout.specs.Maps.{IsIndirectBlock};
 ghost use Rattle.buffers.specs.Disks.{IsWhole};
 ghost use Rattle.buffers.specs.Failures.{HasGrown};
 
@@ -51,6 +52,17 @@ pub trait Blocks {
     fn bytes(&self, place: BlockNumber) -> &[u8; BLOCK_BYTES]
         requires { IsResident self.now place }
         ensures { (disk : ℕ → List ℕ) → Shows self.now disk → result.now ≡ disk place };
+
+    /// Whether a resident block is an indirect block over so many blocks of a file. It may be remembered of it.
+    fn is_indirect(&mut self, place: BlockNumber, used: u32) -> bool
+        requires { IsResident self.old place }
+        ensures count { count self.new ≡ count self.old }
+        ensures counted { failed self.new ≡ failed self.old }
+        ensures is { (disk : ℕ → List ℕ) → Shows self.old disk
+            → (IsTrue result ↔ IsIndirectBlock (count self.old) used (disk place)) }
+        ensures reads { (start : Self) → ReadsOn start self.old → ReadsOn start self.new }
+        ensures same { (disk : ℕ → List ℕ) → Shows self.old disk → Shows self.new disk }
+        ensures stays { (p : ℕ) → IsResident self.old p → IsResident self.new p };
 
     ghost reads_nothing: { (s : Self) → ReadsOn s s };
 }

@@ -116,6 +116,11 @@ impl<S: Station> Blocks for Buffers<S> {
         }
     }
 
+    fn is_indirect(&mut self, place: BlockNumber, used: u32) -> bool {
+        let blocks = self.count();
+        self.kept.is_indirect(place.get(), blocks, used)
+    }
+
     ghost reads_nothing = { λ s. reads_none (S.meaning s.station) };
 }
 

@@ -1,6 +1,7 @@
 //! Blocks of a disk in memory: those that are in use, and a cache of those that were.
 
-ghost use Rattle.std.specs.Prelude.{◌≡◌, ◌≤◌, ◌⊎◌, ℕ, Some, None, OnOk};
+ghost use Rattle.std.specs.Prelude.{◌≡◌, ◌↔◌, ◌≤◌, ◌⊎◌, ℕ, Some, None, OnOk, IsTrue};
+ghost use Rattle.layout.specs.Maps.{IsIndirectBlock};
 ghost use Rattle.std.specs.Ordering.{nat_cmp};
 ghost use Rattle.std.specs.BTreeMap as tree;
 ghost use Rattle.buffers.specs.Caches.{cached, capacity, count_cached};
@@ -51,6 +52,21 @@ impl Kept {
         match self.held.insert(place, block) {
             Ok(_) => Ok(()),
             Err(_) => Err(AllocError),
+        }
+    }
+
+    /// Whether the block that is in use at a place is an indirect block over so many blocks of a file, in an image of so many blocks.
+    pub(crate) fn is_indirect(&mut self, place: u32, blocks: u32, used: u32) -> bool
+        requires { tree.ContainsKey nat_cmp self.old.held place }
+        ensures loses { Loses self.old self.new }
+        ensures stays { (p : ℕ) → tree.ContainsKey nat_cmp self.old.held p
+            → tree.ContainsKey nat_cmp self.new.held p }
+        ensures is { (block : Block) → tree.get nat_cmp self.old.held place ≡ Some block
+            → (IsTrue result ↔ IsIndirectBlock blocks used block) }
+    {
+        match self.held.get_mut(&place) {
+            Some(block) => block.is_indirect(blocks, used),
+            None => unreachable!(),
         }
     }
 

@@ -8,9 +8,11 @@ mod blocks;
 mod cache;
 mod error;
 mod kept;
+mod shared;
 
 pub use block::Block;
 pub use blocks::Blocks;
 pub use cache::{Buffers, read_sectors};
 pub use error::BufferError;
 pub use kept::{CACHED_BLOCKS, Kept};
+pub use shared::SharedBlock;

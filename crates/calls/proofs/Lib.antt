@@ -16,6 +16,7 @@ pub mod RenameLaws
 pub mod RenameEnds
 pub mod RenameTests
 pub mod RenameComes
+pub mod PlaceTells
 pub mod TruncateLaws
 pub mod OpenLaws
 pub mod SweptLaws

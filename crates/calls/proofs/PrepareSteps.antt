@@ -28,7 +28,7 @@ use Rattle.records.specs.declared.failure.Failure.TheVariants.{Read, Refused}
 use Rattle.records.specs.declared.prepared.Prepared.{Prepared}
 use Rattle.calls.specs.Changing.{said_by}
 use Rattle.calls.specs.Leading.{TellsWhere}
-use Rattle.calls.specs.Preparing.{Answer, PreparesWith}
+use Rattle.calls.specs.Preparing.{Answer, PreparesAny, PreparesKnowing, PreparesWith}
 use Rattle.calls.specs.Refusals.{is_path_refusal}
 use Rattle.calls.specs.declared.changed.Changing.{Changing}
 use Rattle.calls.specs.declared.changed.OwnedChange.{OwnedChange}
@@ -151,6 +151,64 @@ module _ {B T : Type 0} {changes : T → Option Changing} {G : Ghosts B} {a b : 
         IfOk-weaker (told r) _ _ (leads disk settled v table stands volume mounted) (all.answers disk settled v table stands volume mounted);
     damaged = all.damaged;
   }
+
+-- a part of a call, where so much is known of a volume
+module _ {B : Type 0} {Known : Volume → Type 0} {G : Ghosts B} {a b : B} {s t : InodeFile} {P : Answer (Option Changing)} where
+  -- what is prepared whatever is known
+  pub whatever : {r : Result (Option Changing) Failure} → PreparesAny G a b s t (λ inodes v table y. Known v → P inodes v table y) r → PreparesKnowing Known G a b s t P r
+  whatever {r = r} all = record {
+    looks = all.looks;
+    own = all.own;
+    ready = all.ready;
+    does = λ disk settled v stands know. all.does disk settled v stands;
+    answers = λ disk settled v table stands volume mounted know.
+        IfOk-weaker (told r) _ _ (λ y given. given know) (all.answers disk settled v table stands volume mounted);
+    damaged = all.damaged;
+  }
+
+  -- this is known
+  pub known : {r : Result (Option Changing) Failure} → PreparesKnowing Known G a b s t P r → OnVolumes G a s (λ disk settled v. Known v) → PreparesAny G a b s t P r
+  known part is = record {
+    looks = part.looks;
+    own = part.own;
+    ready = part.ready;
+    does = λ disk settled v stands. part.does disk settled v stands (is disk settled v stands);
+    answers = λ disk settled v table stands volume mounted. part.answers disk settled v table stands volume mounted (is disk settled v stands);
+    damaged = part.damaged;
+  }
+
+  -- what a record decides is the answer
+  pub granted_knowing : {Over Sure : Premise} {change : Change} (c : Changing) → DecidesOn Over Sure G a b s t change (Ok c.prepared) → said_by c.change ≡ change
+      → OnVolumes G a s (λ disk settled v. Known v → Over by_bytes disk settled v)
+      → ((disk : ℕ → List ℕ) (settled : ℕ → Inode) (v : Volume) (table : ℕ → Option Description) → Stands G disk settled v a s → IsVolume s.geometry.inodes v → Known v
+      → (Sure by_bytes disk settled v → Applies s.geometry.inodes v change) → P s.geometry.inodes v table (Ok (Some c)))
+      → PreparesKnowing Known G a b s t P (Ok (Some c))
+  granted_knowing c decides says over answers = record {
+    looks = looks_ok decides.looks;
+    own = tt;
+    ready = decides.ready;
+    does = λ disk settled v stands know.
+        subst (Does disk settled t v c.prepared) (sym says) (decides.does {detail = by_bytes} disk settled v (over disk settled v stands know));
+    answers = λ disk settled v table stands volume mounted know. answers disk settled v table stands volume know (decides.applies {detail = by_bytes} disk settled v);
+    damaged = λ disk settled v stands is. cc;
+  }
+
+-- it goes on behind a look
+pub follows_knowing : {B X : Type 0} {Known Then : Volume → Type 0} {G : Ghosts B} {a b c : B} {s t u : InodeFile} {P Q : Answer (Option Changing)} {x : X} {r : Result (Option Changing) Failure}
+    → Looks {T = X} {E = ReadError} G IsFault a b s t (Ok x) → PreparesKnowing Then G b c t u Q r → OnVolumes G a s (λ disk settled v. Known v → Then v)
+    → OnMounted G a s (λ v table. Known v → (y : Result (Option Changing) Errno) → Q s.geometry.inodes v table y → P s.geometry.inodes v table y)
+    → PreparesKnowing Known G a c s u P r
+follows_knowing {Q = Q} {r = r} looks then knows leads = record {
+  looks = looks_more looks then.looks;
+  own = then.own;
+  ready = then.ready;
+  does = λ disk settled v stands know. then.does disk settled v (looks.kept disk settled v stands) (knows disk settled v stands know);
+  answers = λ disk settled v table stands volume mounted know.
+      IfOk-weaker (told r) _ _ (leads disk settled v table stands volume mounted know)
+      (subst (λ (z : Sizes). IfOk (told r) (Q z.inodes v table)) looks.geometry
+      (then.answers disk settled v table (looks.kept disk settled v stands) (subst (λ (z : Sizes). IsVolume z.inodes v) (sym looks.geometry) volume) mounted (knows disk settled v stands know)));
+  damaged = λ disk settled v stands is. then.damaged disk settled v (looks.kept disk settled v stands) is;
+}
 
 -- what a record decides is the call's answer
 module _ {B T : Type 0} {changes : T → Option Changing} {G : Ghosts B} {a b : B} {s t : InodeFile} {P : Answer T} {Over Sure : Premise} {change : Change} where

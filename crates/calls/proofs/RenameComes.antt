@@ -131,9 +131,8 @@ module _ (inodes : ℕ) (v : Volume) (table : ℕ → Option Description) (volum
   -- ---- the trail of the new path
 
   module _ (by_paths : BelowIsByPaths) (by_trails : TrailsTellBelow) (r : Resolution) (d : ℕ) (x : Name) (n : ℕ) (finds : FindsEntry v r d x n) where
-    along : (w : Path) (trail : List ℕ) (y : Name) → Trails (entries v) w trail → is_directory_node (v (here trail)) ≡ true → IsName y → entries v (here trail) y ≢ Some n → MovesAlong v d x n trail y
+    along : (w : Path) (trail : List ℕ) (y : Name) → Trails (entries v) w trail → is_directory_node (v (here trail)) ≡ true → IsName y → entries v (here trail) y ≢ Some n → MovesAlong v n trail y
     along w trail y trails directory name other = record {
-      there = finds.edge;
       name = name;
       other = other;
       tells = (
@@ -147,13 +146,13 @@ module _ (inodes : ℕ) (v : Volume) (table : ℕ → Option Description) (volum
       );
     }
 
-    pub along_entry : (trail : List ℕ) (y : Name) (m : ℕ) (s : Resolution) → m ≢ n → IsPlaceOf v (at_entry trail y m) s → MovesAlong v d x n trail y
+    pub along_entry : (trail : List ℕ) (y : Name) (m : ℕ) (s : Resolution) → m ≢ n → IsPlaceOf v (at_entry trail y m) s → MovesAlong v n trail y
     along_entry trail y m (named q) apart (w, trails, same, to) =
         along w trail y trails (named_directory (v (here trail)) y m to) (volume.graph.naming.names (here trail) y (ap is_some to)) (λ is. apart (some_same (sym to ∙ is)))
     along_entry trail y m (missing w z) apart is = absurd is
     along_entry trail y m (refused errno) apart is = absurd is
 
-    pub along_gap : (trail : List ℕ) (y : Name) (s : Resolution) → is_directory_node (v (here trail)) ≡ true → IsName y → IsPlaceOf v (at_gap trail y) s → MovesAlong v d x n trail y
+    pub along_gap : (trail : List ℕ) (y : Name) (s : Resolution) → is_directory_node (v (here trail)) ≡ true → IsName y → IsPlaceOf v (at_gap trail y) s → MovesAlong v n trail y
     along_gap trail y (named q) directory name is = absurd is
     along_gap trail y (missing w z) directory name (trails, same, none) = along w trail y trails directory name (λ is. none_some (sym none ∙ is))
     along_gap trail y (refused errno) directory name is = absurd is

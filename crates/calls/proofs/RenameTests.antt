@@ -12,7 +12,6 @@ use Rattle.model.specs.Volumes.{Volume, enter, entries, is_directory_node, numbe
 use Rattle.model.proofs.OptionLaws.{none_some, some_same}
 use Rattle.model.specs.declared.limits.TheConstants.{ROOT_NUMBER}
 use Rattle.paths.specs.Numbers.{AreNumbers, IsNumber}
-use Rattle.records.specs.Moving.{LiesOutside}
 use Rattle.records.proofs.FileLaws.{named_directory}
 use Rattle.calls.specs.Rename.{MovesAlong}
 use Rattle.calls.proofs.LeadLaws.{trail_end}
@@ -54,11 +53,9 @@ below_trail v w trail n trails (i, within, is) =
     )
 
 -- it is told whether the object lies on the trail
-module _ (v : Volume) (d : ℕ) (x : Name) (n : ℕ) (trail : List ℕ) (y : Name) (moves : MovesAlong v d x n trail y) (below : Bool) (told : IsTrue below ↔ Contains trail n) where
+module _ (v : Volume) (n : ℕ) (trail : List ℕ) (y : Name) (moves : MovesAlong v n trail y) (below : Bool) (told : IsTrue below ↔ Contains trail n) where
   pub lies_below : below ≡ true → IsBelow (entries v) n (here trail)
   lies_below one = moves.tells.0 (told.0 one)
 
-  pub lies_outside : below ≡ false → LiesOutside v d x (here trail)
-  lies_outside never m at is_below =
-      let under = subst (λ (j : ℕ). IsBelow (entries v) j (here trail)) (some_same (sym at ∙ moves.there)) is_below in
-      false≢true (sym never ∙ told.1 (moves.tells.1 under))
+  pub lies_outside : below ≡ false → IsBelow (entries v) n (here trail) → ⊥
+  lies_outside never is_below = false≢true (sym never ∙ told.1 (moves.tells.1 is_below))

@@ -49,6 +49,17 @@ Prepares G blocks after s t answer result = PreparesWith (λ c. Some c) G blocks
 abbrev pub PreparesAny : {B : Type 0} → Ghosts B → B → B → InodeFile → InodeFile → Answer (Option Changing) → Result (Option Changing) Failure → Type 0
 PreparesAny G blocks after s t answer result = PreparesWith (λ o. o) G blocks after s t answer result
 
+-- this of a part of a call that may find nothing to change, where so much is known of a volume
+pub record PreparesKnowing {B : Type 0} (Known : Volume → Type 0) (G : Ghosts B) (blocks after : B) (s t : InodeFile)
+    (answer : Answer (Option Changing)) (result : Result (Option Changing) Failure) : Type 0 where
+  pub looks : Looks G IsFault blocks after s t (told result)
+  pub own : IfOk (told result) (λ r. IfErr r (λ e. IsTrue (is_path_refusal e)))
+  pub ready : Readies (λ o. o) t result
+  pub does : OnVolumes G blocks s
+      (λ disk settled v. Known v → IfOk result (λ x. IfSome x (λ c. Does disk settled t v c.prepared (said_by c.change))))
+  pub answers : OnMounted G blocks s (λ v table. Known v → IfOk (told result) (answer s.geometry.inodes v table))
+  pub damaged : NeverDamaged G blocks s (told result)
+
 -- this of opening a file, where it may be made or cut
 abbrev pub PreparesOpening : {B : Type 0} → Ghosts B → B → B → InodeFile → InodeFile → Answer Opened → Result Opened Failure → Type 0
 PreparesOpening G blocks after s t answer result = PreparesWith (λ o. o.changing) G blocks after s t answer result

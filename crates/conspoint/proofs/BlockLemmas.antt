@@ -3,8 +3,8 @@ use Rattle.std.proofs.Common.{◌≡◌, ℕ, List, [], Option, Some, None, sym,
 use Rattle.std.specs.Ordering.{nat_cmp}
 use Rattle.std.specs.BTreeMap as tree
 use Rattle.blocktree.specs.declared.tree.BlockTree.{BlockTree}
-use Rattle.blocktree.specs.declared.tree.Slot.{Slot}
-use Rattle.blocktree.specs.declared.tree.Slot.TheVariants.{AsSettled, Changed}
+use Rattle.blocktree.specs.declared.slot.Slot.{Slot}
+use Rattle.blocktree.specs.declared.slot.Slot.TheVariants.{AsSettled, Changed}
 use Rattle.blocktree.specs.Trees.{slot_bytes, tree_block, settled_block, IsChanged, IsChangedSlot}
 use Rattle.conspoint.specs.Blocks.{changed_or}
 

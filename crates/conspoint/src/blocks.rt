@@ -17,12 +17,11 @@ ghost use Rattle.conspoint.specs.Steps.{Places};
 use crate::draft::Draft;
 use crate::error::PlanError;
 use blocktree::{BlockTree, PlaceMap};
-use buffers::Block;
+use buffers::SharedBlock;
 use layout::{BlockNumber, Pointer};
-use std::alloc::Global;
 
-/// Plans a copy of a block.
-fn store_copy(alloc: Global, draft: &mut Draft, block: &Block) -> Result<BlockNumber, PlanError>
+/// Plans a block that a file has.
+fn store_shared(draft: &mut Draft, block: &SharedBlock) -> Result<BlockNumber, PlanError>
     ensures step { Places 1 draft.old draft.new result }
     ensures taken { IfOk result (WasTaken draft.old draft.new) }
     ensures whole { OnOk result (IsWhole block.now) }
@@ -31,14 +30,14 @@ fn store_copy(alloc: Global, draft: &mut Draft, block: &Block) -> Result<BlockNu
     ensures from { IfOk result (λ place. (settled : Pointer)
         → ComesFrom draft.old draft.new settled (Pointer.Block place)) }
 {
-    let copy = Block::copy_of(alloc, block.bytes())?;
-    draft.store(copy)
+    block.is_whole();
+    let shared = block.share()?;
+    draft.store(shared)
 }
 
 /// The places of a changed file's blocks, where these are the settled ones that count still: of its first `count` blocks each
 /// changed one gets a new place, by rising index. The blocks before `first` aren't looked at, and keep the settled places.
 pub fn place_blocks(
-    alloc: Global,
     draft: &mut Draft,
     tree: &BlockTree,
     first: u32,
@@ -66,7 +65,7 @@ pub fn place_blocks(
     let mut nodes = settled;
     let mut from = first;
     while let Some((i, block)) = tree.next_changed(from, count) {
-        let place = store_copy(alloc, draft, block)?;
+        let place = store_shared(draft, block)?;
         nodes.set(i, Pointer::Block(place))?;
         from = i + 1;
     }

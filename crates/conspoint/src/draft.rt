@@ -10,7 +10,7 @@ ghost use Rattle.conspoint.specs.Plans.{AreDrafted, ChangesTouched, FitsDisk, Is
 use crate::error::PlanError;
 use crate::plan::{Plan, PlannedBlock};
 use blockmap::BlockMap;
-use buffers::Block;
+use buffers::SharedBlock;
 use layout::{BLOCK_BYTES, BlockNumber, ROOT_BYTES};
 use std::alloc::Global;
 
@@ -41,7 +41,7 @@ impl Draft {
     }
 
     /// Plans a block at the next free place.
-    pub fn store(&mut self, bytes: Block) -> Result<BlockNumber, PlanError>
+    pub fn store(&mut self, bytes: SharedBlock) -> Result<BlockNumber, PlanError>
         ensures step { Places 1 self.old self.new result }
         ensures taken { IfOk result (WasTaken self.old self.new) }
         ensures stored { IfOk result (λ place. OnEach self.new (λ e. e place ≡ bytes)) }
@@ -65,7 +65,7 @@ impl Draft {
     }
 
     /// Plans a block at a place that was reserved.
-    pub fn put(&mut self, place: BlockNumber, bytes: Block) -> Result<(), PlanError>
+    pub fn put(&mut self, place: BlockNumber, bytes: SharedBlock) -> Result<(), PlanError>
         requires { IsReserved self.old place }
         ensures step { Puts self.old self.new result }
         ensures stored { OnOk result (OnEach self.new (λ e. e place ≡ bytes)) }

@@ -15,7 +15,7 @@ ghost use Rattle.conspoint.specs.Steps.{Places, PlacesOver};
 use crate::draft::Draft;
 use crate::error::PlanError;
 use blocktree::PlaceMap;
-use buffers::Block;
+use buffers::SharedBlock;
 use layout::{BLOCK_BYTES, BLOCK_POINTERS, Pointer, set_pointer};
 use std::alloc::Global;
 
@@ -107,7 +107,7 @@ pub fn place_group(
     }
     let mut bytes = [0; BLOCK_BYTES];
     spell(new, &mut bytes);
-    let place = draft.store(Block::copy_of(alloc, &bytes)?)?;
+    let place = draft.store(SharedBlock::copy_of(alloc, &bytes)?)?;
     Ok(Pointer::Block(place))
 }
 

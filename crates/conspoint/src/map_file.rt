@@ -8,7 +8,7 @@ ghost use Rattle.conspoint.specs.Steps.{Puts};
 
 use crate::draft::Draft;
 use crate::error::PlanError;
-use buffers::Block;
+use buffers::SharedBlock;
 use layout::Pointer;
 use std::alloc::Global;
 
@@ -23,7 +23,7 @@ fn store_part(alloc: Global, draft: &mut Draft, k: usize, pointer: Pointer) -> R
         → IsReserved draft.old p → IsReserved draft.new p }
 {
     if let Pointer::Block(place) = pointer {
-        let bytes = Block::copy_of(alloc, &draft.map_bytes(k))?;
+        let bytes = SharedBlock::copy_of(alloc, &draft.map_bytes(k))?;
         draft.put(place, bytes)?;
     }
     Ok(())

@@ -19,7 +19,7 @@ use crate::closure::reserve_map;
 use crate::draft::Draft;
 use crate::error::PlanError;
 use crate::map_file::store_map;
-use buffers::Block;
+use buffers::SharedBlock;
 use layout::{BLOCK_BYTES, BLOCK_POINTERS, BODY_POINTERS, Body, Inode, Kind, Pointer, set_pointer};
 use model::Mode;
 use std::alloc::{AllocError, Global};
@@ -148,7 +148,7 @@ fn store_over(
 {
     if let Pointer::Block(place) = over {
         let bytes = spell_nodes(settled, places, count);
-        draft.put(place, Block::copy_of(alloc, &bytes)?)?;
+        draft.put(place, SharedBlock::copy_of(alloc, &bytes)?)?;
     }
     Ok(())
 }

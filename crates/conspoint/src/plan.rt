@@ -7,7 +7,7 @@ ghost use Rattle.buffers.specs.Disks.{ShowsDisk, disk_with_sector};
 ghost use Rattle.conspoint.specs.Plans.{Planned, ArePlacedBehindSlots, IsPlanned, IsSlot, FitsDisk};
 ghost use Rattle.conspoint.specs.Cuts.{StaysOutside, HoldsWritten, HasNewRoot, HasRootOrLost, IsFault, disk_so_far};
 
-use buffers::{Block, BufferError, Buffers};
+use buffers::{BufferError, Buffers, SharedBlock};
 use layout::{BlockNumber, ROOT_BYTES};
 use station::Station;
 use std::marker::Model;
@@ -16,7 +16,7 @@ use std::marker::Model;
 #[derive(Debug, Drop)]
 pub struct PlannedBlock {
     pub place: BlockNumber,
-    pub bytes: Block,
+    pub bytes: SharedBlock,
 }
 
 /// All blocks of a consistency point and its root, and how much of it is written. Where a call fails, the plan is given

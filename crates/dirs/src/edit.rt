@@ -2,7 +2,7 @@
 
 use crate::FILE_BLOCKS;
 use blocktree::ReadError;
-use buffers::{Block, Blocks};
+use buffers::{Blocks, SharedBlock};
 use entries::{Known, Look};
 use inode::File;
 use layout::BLOCK_BYTES;
@@ -13,7 +13,7 @@ use std::collections::BTreeMap;
 #[derive(Debug, Drop)]
 pub struct Edit {
     /// The changed blocks, by index.
-    pub(crate) changed: BTreeMap<u32, Block>,
+    pub(crate) changed: BTreeMap<u32, SharedBlock>,
     /// How many blocks the directory will have.
     pub(crate) count: u32,
     ghost within: { count ≤ FILE_BLOCKS },
@@ -144,7 +144,7 @@ impl Edit {
             (edited_block disk file.new self.new j ≡ edited_block disk file.old self.old j) }
     {
         file.make_room(i)?;
-        let block = Block::copy_of(alloc, bytes)?;
+        let block = SharedBlock::copy_of(alloc, bytes)?;
         match self.changed.insert(i, block) {
             Ok(_) => Ok(()),
             Err(_) => Err(AllocError),
@@ -227,14 +227,9 @@ impl Edit {
     {
         let Edit { mut changed, count } = self;
         while let Some((i, block)) = changed.pop_first() {
-            is_whole(block.bytes());
+            block.is_whole();
             file.set_block(i, block);
         }
         file.set_size(4096 * u64::from(count));
     }
 }
-
-// A block in memory has all its bytes. It does nothing.
-fn is_whole(bytes: &[u8; BLOCK_BYTES])
-    ensures { length bytes.now ≡ 4096 }
-{}

@@ -9,7 +9,7 @@ use Rattle.entries.specs.declared.TheConstants.{HASHES, MARKS}
 -- the hash of a name
 abbrev pub hash_of : Name → ℕ
 hash_of [] = zero
-hash_of (byte ∷ name) = (31 * hash_of name + byte) % HASHES
+hash_of (byte ∷ name) = (1021 * hash_of name + byte) % HASHES
 
 -- a name has both of its marks
 abbrev pub HasMarks : List ℕ → Name → Type 0

@@ -14,7 +14,7 @@ fn hash_of(name: &[u8]) -> usize
 {
     match name.split_first() {
         None => 0,
-        Some((first, rest)) => (31 * hash_of(rest) + *first as usize) % HASHES,
+        Some((first, rest)) => (1021 * hash_of(rest) + *first as usize) % HASHES,
     }
 }
 

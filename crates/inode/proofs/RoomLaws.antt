@@ -8,6 +8,7 @@ use Rattle.std.proofs.lemmas.Bool.Decides.{nat_tests}
 use Rattle.layout.specs.declared.TheConstants.{BODY_POINTERS, INLINE_BYTES}
 use Rattle.layout.specs.Version.{greatest_size, level_of}
 use Rattle.layout.specs.declared.version.TheConstants.{VERSION}
+use Rattle.layout.proofs.SizeLaws.{level_low}
 use Rattle.blocktree.specs.Places.{block_count, depth_of}
 use Rattle.blocktree.specs.Trees.{slot_stores, IsChanged}
 use Rattle.blocktree.specs.declared.tree.BlockTree.{BlockTree}
@@ -104,9 +105,6 @@ room_three (suc (suc (suc level))) changed more top some = refl
 -- what the size of a file tells of its level
 level_tells : (size : ℕ) → (size ≤ INLINE_BYTES → level_of size ≡ 0) × (INLINE_BYTES < size → 1 ≤ level_of size) × (size ≤ 67108864 → level_of size ≤ 2) × (67108864 < size → 3 ≤ level_of size)
 level_tells size = (λ low. grind (arith, nat_tests, low), λ high. grind (arith, nat_tests, high), λ low. grind (arith, nat_tests, low), λ high. grind (arith, nat_tests, high))
-
-level_low : (size : ℕ) → size ≤ 67108864 → level_of size ≤ 2
-level_low size low = (level_tells size).2 low
 
 level_three : (size : ℕ) → 67108864 < size → 3 ≤ level_of size
 level_three size high = (level_tells size).3 high

@@ -11,7 +11,7 @@ ghost use Rattle.inode.specs.Errors.{IsChangeFault};
 
 use crate::{Change, ChangeError, File};
 use blocktree::{Location, ReadError};
-use buffers::{Block, Blocks};
+use buffers::{Block, Blocks, SharedBlock};
 use layout::{INLINE_BYTES, VERSION, greatest_size};
 use std::alloc::{AllocError, Global};
 
@@ -63,7 +63,7 @@ impl File {
     }
 
     /// Changes block `i`, for which there is room.
-    pub fn set_block(&mut self, i: u32, block: Block)
+    pub fn set_block(&mut self, i: u32, block: SharedBlock)
         requires { HasRoom self.old.tree i }
         ensures size { self.new.size ≡ self.old.size }
         ensures blocks { (disk : ℕ → List ℕ) (j : ℕ)
@@ -80,24 +80,34 @@ impl File {
     }
 
     /// Writes these bytes into block `i`, from one place in it on, where it is changed already, and tells whether it is. Where it isn't,
-    /// nothing happens.
-    pub fn put_in_block(&mut self, i: u32, at: usize, bytes: &[u8]) -> bool
+    /// or there is no memory, nothing happens.
+    pub fn put_in_block(
+        &mut self,
+        alloc: Global,
+        i: u32,
+        at: usize,
+        bytes: &[u8],
+    ) -> Result<bool, AllocError>
         requires { at + length bytes.now ≤ 4096 }
         ensures size { self.new.size ≡ self.old.size }
-        ensures there { IsTrue result → (disk : ℕ → List ℕ) (k : ℕ) → slice_index (file_block disk self.new i) k
-            ≡ with_bytes_at (slice_index (file_block disk self.old i)) at bytes.now k }
-        ensures whole { IsTrue result → (disk : ℕ → List ℕ)
-            → (length (file_block disk self.old i) ≡ 4096) × (length (file_block disk self.new i) ≡ 4096) }
+        ensures there { IfOk result (λ is. IsTrue is → (disk : ℕ → List ℕ) (k : ℕ)
+            → slice_index (file_block disk self.new i) k
+            ≡ with_bytes_at (slice_index (file_block disk self.old i)) at bytes.now k) }
+        ensures whole { IfOk result (λ is. IsTrue is → (disk : ℕ → List ℕ)
+            → (length (file_block disk self.old i) ≡ 4096) × (length (file_block disk self.new i) ≡ 4096)) }
         ensures others { (disk : ℕ → List ℕ) (j : ℕ) → (j ≢ i)
             → file_block disk self.new j ≡ file_block disk self.old j }
-        ensures same { IsFalse result → (disk : ℕ → List ℕ) (j : ℕ)
-            → file_block disk self.new j ≡ file_block disk self.old j }
+        ensures told { IfOk result (λ is. IsTrue is ↔ IsChanged self.old.tree i) }
+        ensures same { IfOk result (λ is. IsFalse is → (disk : ℕ → List ℕ) (j : ℕ)
+            → file_block disk self.new j ≡ file_block disk self.old j) }
+        ensures refused { OnErr result ((disk : ℕ → List ℕ) (j : ℕ)
+            → file_block disk self.new j ≡ file_block disk self.old j) }
         ensures sound { KeepsSound self.old.tree self.new.tree }
         ensures settled { SameSettled self.old.tree self.new.tree }
         ensures kept { self.new.tree.kept ≡ self.old.tree.kept }
         ensures changed { (j : ℕ) → IsChanged self.old.tree j ↔ IsChanged self.new.tree j }
     {
-        self.tree.put(i, at, bytes)
+        self.tree.put(alloc, i, at, bytes)
     }
 
     /// Makes the file of this size. Blocks past it are cut off; within the last one nothing is cleared.
@@ -179,7 +189,7 @@ impl File {
         i: u32,
         offset: u64,
         bytes: &[u8],
-    ) -> Result<Block, ReadError>
+    ) -> Result<SharedBlock, ReadError>
         requires end { offset + length bytes.now ≤ greatest_size VERSION }
         requires above { 4096 * i < offset + length bytes.now }
         requires below { offset < 4096 * i + 4096 }
@@ -210,7 +220,8 @@ impl File {
             (from - start) as usize,
             &bytes[(from - offset) as usize..(to - offset) as usize],
         );
-        Ok(block)
+        let shared = SharedBlock::new(alloc, block)?;
+        Ok(shared)
     }
 
     /// Block `i` for a write of so many bytes of it: nothing is read where that is all of it.
@@ -312,7 +323,8 @@ impl File {
         self.make_room(first)?;
         let mut block = self.copy(alloc, blocks, first)?;
         block.cut((size % 4096) as usize);
-        pieces.push(block)?;
+        let shared = SharedBlock::new(alloc, block)?;
+        pieces.push(shared)?;
         Ok(Change {
             size,
             first,

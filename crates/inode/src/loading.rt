@@ -9,7 +9,7 @@ ghost use Rattle.inode.specs.Bases.{StartsFrom, StartsUnchanged};
 ghost use Rattle.inode.specs.Bodies.{body_block};
 
 use blocktree::BlockTree;
-use buffers::Block;
+use buffers::{Block, SharedBlock};
 use layout::{Body, INLINE_BYTES};
 use std::alloc::{AllocError, Global};
 
@@ -44,8 +44,9 @@ fn inline_tree(
     let length = size.min(INLINE_BYTES as u64) as usize;
     let mut block = Block::zeroed(alloc)?;
     block.put(0, &bytes[..length]);
+    let shared = SharedBlock::new(alloc, block)?;
     let mut tree = BlockTree::empty(alloc);
     tree.make_room(0)?;
-    tree.set(0, block);
+    tree.set(0, shared);
     Ok(tree)
 }

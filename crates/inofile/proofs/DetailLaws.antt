@@ -11,8 +11,8 @@ use Rattle.model.specs.Volumes.{Node, file_node, link_node}
 use Rattle.blocktree.specs.Places.{place}
 use Rattle.blocktree.specs.Trees.{AreSound, IsChangedSlot, IsSoundAt, settled_block, slot_bytes, tree_block}
 use Rattle.blocktree.specs.declared.tree.BlockTree.{BlockTree}
-use Rattle.blocktree.specs.declared.tree.Slot.{Slot}
-use Rattle.blocktree.specs.declared.tree.Slot.TheVariants.{AsSettled, Changed}
+use Rattle.blocktree.specs.declared.slot.Slot.{Slot}
+use Rattle.blocktree.specs.declared.slot.Slot.TheVariants.{AsSettled, Changed}
 use Rattle.blocktree.proofs.SlotLaws.{settled_within}
 use Rattle.images.specs.Contents.{Content, StandsAs, content_bytes}
 use Rattle.images.specs.Nodes.{Held, held}

@@ -31,6 +31,10 @@ level_three size large =
 pub level_some : (size : ℕ) → 128 < size → 1 ≤ level_of size
 level_some size large = grind (arith, nat_tests, large)
 
+-- the inode file has no third height
+pub level_low : (size : ℕ) → size ≤ 67108864 → level_of size ≤ 2
+level_low size low = grind (arith, nat_tests, low)
+
 -- the inode's pointers lead to the highest nodes
 pub used_is : (size top : ℕ) → level_of size ≡ suc top → pointers_used size ≡ nodes_of_size size top
 used_is size top level =

@@ -14,17 +14,16 @@ use std::simd::prelude::*;
 pub(crate) fn is_filled(bytes: &[u8; BLOCK_BYTES], blocks: u32, used: u32) -> bool
     ensures { IsTrue result → IsIndirectBlock blocks used bytes.now }
 {
-    if used > BLOCK_POINTERS as u32 {
-        return false;
-    }
     let first = indirect_pointer(bytes, 0);
     if first.is_hole() {
         return false;
     }
-    if !are_zero_from(bytes, 4 * used as usize) {
+    // Over a file's blocks before its last indirect block all pointers are in use.
+    let count = used.min(BLOCK_POINTERS as u32);
+    if !are_zero_from(bytes, 4 * count as usize) {
         return false;
     }
-    all_fit(bytes, blocks, used)
+    all_fit(bytes, blocks, count)
 }
 
 /// Whether the first so many pointers are holes or lead to blocks of the disk.

@@ -8,6 +8,7 @@ use Rattle.std.specs.Int.{div_ceil}
 use Rattle.std.specs.Ordering.{nat_cmp}
 use Rattle.std.specs.BTreeMap as tree
 use Rattle.layout.specs.Version.{level_of}
+use Rattle.layout.proofs.SizeLaws.{level_low}
 use Rattle.model.specs.Room.{fixed_of}
 use Rattle.images.specs.Sums.{sum_below}
 use Rattle.images.proofs.SumLaws.{gap_counts, sum_of_none}
@@ -15,7 +16,7 @@ use Rattle.blocktree.specs.Names.{nodes_at}
 use Rattle.blocktree.specs.Places.{block_count}
 use Rattle.blocktree.specs.Trees.{IsChanged, IsChangedSlot, slot_stores}
 use Rattle.blocktree.specs.declared.tree.BlockTree.{BlockTree}
-use Rattle.blocktree.specs.declared.tree.Slot.{Slot}
+use Rattle.blocktree.specs.declared.slot.Slot.{Slot}
 use Rattle.blocktree.proofs.SlotLaws.{slot_is}
 use Rattle.blockmap.specs.Maps.{free_below, settled_at}
 use Rattle.blockmap.specs.Parts.{Part}
@@ -79,9 +80,6 @@ stores_few zero blocks changed more tops low one = omega arith
 stores_few (suc zero) blocks changed more tops low one = omega arith
 stores_few (suc (suc zero)) blocks changed more tops low one = omega (arith, one)
 stores_few (suc (suc (suc level))) blocks changed more tops low one = absurd (omega (arith, low))
-
-level_low : (size : ℕ) → size ≤ 67108864 → level_of size ≤ 2
-level_low size low = grind (arith, nat_tests, low)
 
 unchanged_slot : (s : Option Slot) → (IsChangedSlot s → ⊥) → slot_stores s ≡ 0
 unchanged_slot s not = elim (slot_is s) [ inl none ↦ none | inr changed ↦ absurd (not changed) ]

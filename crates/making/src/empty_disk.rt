@@ -4,7 +4,7 @@ ghost use Rattle.std.specs.Prelude.{◌≡◌, ℕ, IfOk};
 ghost use Rattle.layout.specs.Bytes.{zeros};
 
 use buffers::{Block, Blocks, BufferError};
-use layout::{BLOCK_BYTES, BlockNumber};
+use layout::{BLOCK_BYTES, BlockNumber, is_indirect_block};
 use std::alloc::{AllocError, Global};
 
 /// So many blocks of zeros.
@@ -48,5 +48,9 @@ impl Blocks for EmptyDisk {
 
     fn bytes(&self, _place: BlockNumber) -> &[u8; BLOCK_BYTES] {
         self.block.bytes()
+    }
+
+    fn is_indirect(&mut self, _place: BlockNumber, used: u32) -> bool {
+        is_indirect_block(self.block.bytes(), self.count, used)
     }
 }

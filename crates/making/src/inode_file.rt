@@ -14,7 +14,7 @@ ghost use Rattle.inode.specs.Files.{file_block};
 ghost use Rattle.making.specs.Starts.{inodes_block};
 
 use crate::inode_map::own_attributes;
-use buffers::Block;
+use buffers::{Block, SharedBlock};
 use entries::Known;
 use inode::{File, Object};
 use layout::{Body, Geometry, INLINE_BYTES, INODE_BYTES, Inode, Kind};
@@ -70,7 +70,11 @@ fn put_inode(block: &mut Block, at: u32, inode: &Inode)
 }
 
 /// The file's first block, with the inodes of the two maps and of the root directory.
-pub(crate) fn first_block(alloc: Global, numbers: &Inode, map: &Inode) -> Result<Block, AllocError>
+pub(crate) fn first_block(
+    alloc: Global,
+    numbers: &Inode,
+    map: &Inode,
+) -> Result<SharedBlock, AllocError>
     ensures bytes { IfOk result (λ b. b ≡ inodes_block numbers.now map.now) }
     ensures numbers { OnOk result (length (inode_bytes numbers.now) ≡ INODE_BYTES) }
     ensures map { OnOk result (length (inode_bytes map.now) ≡ INODE_BYTES) }
@@ -80,5 +84,5 @@ pub(crate) fn first_block(alloc: Global, numbers: &Inode, map: &Inode) -> Result
     put_inode(&mut block, 1, numbers);
     put_inode(&mut block, 2, map);
     put_inode(&mut block, 3, &root_directory());
-    Ok(block)
+    SharedBlock::new(alloc, block)
 }

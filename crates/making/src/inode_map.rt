@@ -9,7 +9,7 @@ ghost use Rattle.inode.specs.Files.{file_block};
 ghost use Rattle.placement.specs.Files.{AreAllChanged};
 ghost use Rattle.making.specs.Starts.{numbers_block};
 
-use buffers::Block;
+use buffers::{Block, SharedBlock};
 use entries::Known;
 use inode::{Attributes, File, Object};
 use layout::{BLOCK_BYTES, Geometry, Kind};
@@ -54,7 +54,9 @@ pub(crate) fn inode_map(alloc: Global, geometry: Geometry) -> Result<Object, All
     file.set_size(size as u64);
     for i in 0..size.div_ceil(4096) {
         file.make_room(i)?;
-        file.set_block(i, map_block(alloc, i)?);
+        let block = map_block(alloc, i)?;
+        let shared = SharedBlock::new(alloc, block)?;
+        file.set_block(i, shared);
     }
     let attributes = own_attributes(Kind::InodeMap);
     let known = Known::new(alloc);

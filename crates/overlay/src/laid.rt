@@ -5,7 +5,7 @@ ghost use Rattle.overlay.specs.Indexes.{IsIndex, IsAt};
 ghost use Rattle.conspoint.specs.Finished.{IsAbsent};
 ghost use Rattle.conspoint.specs.Plans.{IsPlanned};
 
-use buffers::Block;
+use buffers::SharedBlock;
 use conspoint::{Plan, PlannedBlock};
 use std::alloc::{AllocError, Global};
 use std::collections::BTreeMap;
@@ -30,7 +30,7 @@ impl Laid {
     }
 
     /// The planned block at a place; None where the plan has none there.
-    pub fn find(&self, place: u32) -> Option<&Block>
+    pub fn find(&self, place: u32) -> Option<&SharedBlock>
         ensures some { IfSome result (λ b. IsAt self.now.plan.blocks place b.now) }
         ensures none { IfNone result (IsAbsent self.now.plan.blocks place) }
         ensures planned { IsPlanned self.now.plan }

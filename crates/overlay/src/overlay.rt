@@ -13,9 +13,9 @@ ghost use Rattle.conspoint.specs.Finished.{disk_after};
 ghost use Rattle.conspoint.specs.Plans.{FitsDisk};
 
 use crate::laid::Laid;
-use buffers::{Block, Blocks, BufferError, Buffers};
+use buffers::{Blocks, BufferError, Buffers, SharedBlock};
 use conspoint::{finished_disks_are_one, write_rest, written_disks_have_the_blocks};
-use layout::{BLOCK_BYTES, BlockNumber};
+use layout::{BLOCK_BYTES, BlockNumber, is_indirect_block};
 use station::Station;
 
 /// The blocks of a station, and over them those of a consistency point under way: a place reads as it does once the point is
@@ -61,6 +61,13 @@ impl<S: Station> Blocks for Overlay<S> {
         }
     }
 
+    fn is_indirect(&mut self, place: BlockNumber, used: u32) -> bool {
+        if let Some(block) = self.planned(place) {
+            return is_indirect_block(block.bytes(), self.count(), used);
+        }
+        self.buffers.is_indirect(place, used)
+    }
+
     ghost reads_nothing = { λ s.
         record { below = reads_none (S.meaning s.buffers.station); laid = refl } };
 }
@@ -99,7 +106,7 @@ impl<S: Station> Overlay<S> {
     }
 
     /// The block that the point under way has for this place, if it has one.
-    fn planned(&self, place: BlockNumber) -> Option<&Block>
+    fn planned(&self, place: BlockNumber) -> Option<&SharedBlock>
         requires { 2 ≤ place }
         ensures here { IfSome result (λ b. IsPlannedAt self.now.laid place) }
         ensures whole { IfSome result (λ b. IsWhole b.now) }

@@ -45,6 +45,6 @@ pub(crate) fn place_lowest(
 {
     let kept = tree.kept().min(count);
     let below = settled.height(0).first(alloc, kept)?;
-    let nodes = place_blocks(alloc, draft, tree, first, below, count)?;
+    let nodes = place_blocks(draft, tree, first, below, count)?;
     Ok(nodes)
 }

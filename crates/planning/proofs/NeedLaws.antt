@@ -10,6 +10,7 @@ use Rattle.layout.specs.declared.TheConstants.{BLOCK_POINTERS, BODY_POINTERS}
 use Rattle.layout.specs.Version.{greatest_size, level_of}
 use Rattle.layout.specs.declared.root.Root.{Root}
 use Rattle.layout.specs.declared.version.TheConstants.{VERSION}
+use Rattle.layout.proofs.SizeLaws.{level_low}
 use Rattle.model.specs.Records.{count_nameless}
 use Rattle.model.specs.Room.{fixed_of}
 use Rattle.model.specs.Volumes.{KeepsNodeLimits, Node, Volume}
@@ -53,10 +54,6 @@ level_within (suc (suc (suc (suc level)))) blocks changed more top far all low f
 
 level_most : (size : ℕ) → level_of size ≤ 3
 level_most size = grind (arith, nat_tests)
-
--- an inode file has no third height
-level_low : (size : ℕ) → size ≤ 67108864 → level_of size ≤ 2
-level_low size le = grind (arith, nat_tests, le)
 
 pub stores_room : (f : File) → file_stores f ≤ file_room f
 stores_room f =

@@ -19,7 +19,7 @@ ghost use Rattle.planning.specs.Changes.{ChangesPlane, FitsSlots, HasHeads, IsSt
 ghost use Rattle.planning.specs.Progress.{KeepsActive};
 ghost use Rattle.conspoint.specs.Steps.{Places, Takes};
 
-use buffers::Block;
+use buffers::SharedBlock;
 use conspoint::{Draft, PlanError};
 use layout::{BLOCK_BYTES, BlockNumber, Inode, Kind, Pointer, Root, SnapRoot, VERSION};
 use std::alloc::Global;
@@ -72,7 +72,7 @@ fn place_head(
     };
     let mut bytes = [0; BLOCK_BYTES];
     let _ = head.write(&mut bytes);
-    let block = Block::copy_of(alloc, &bytes)?;
+    let block = SharedBlock::copy_of(alloc, &bytes)?;
     let place = draft.store(block)?;
     Ok(place)
 }

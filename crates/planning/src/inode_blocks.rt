@@ -12,10 +12,10 @@ ghost use Rattle.images.specs.InodeFiles.{spliced_at};
 ghost use Rattle.planning.specs.Inodes.{with_inode_at, ChangesFile};
 
 use blocktree::ReadError;
-use buffers::{Block, Blocks};
+use buffers::{Blocks, SharedBlock};
 use inode::File;
 use layout::{INODE_BYTES, INODES_PER_BLOCK, Inode};
-use std::alloc::Global;
+use std::alloc::{AllocError, Global};
 
 /// The block of the inode file with this inode in the place of a number.
 pub(crate) fn block_with<B: Blocks>(
@@ -24,7 +24,7 @@ pub(crate) fn block_with<B: Blocks>(
     file: &File,
     number: u32,
     inode: &Inode,
-) -> Result<Block, ReadError>
+) -> Result<SharedBlock, ReadError>
     ensures reads { ReadsBlocks B.Blocks IsFault blocks.old blocks.new result }
     ensures put { (disk : ℕ → List ℕ) → B.Shows blocks.old disk → IfOk result (λ b. b
         ≡ spliced_at (INODE_BYTES * (number % INODES_PER_BLOCK)) (inode_bytes inode.now)
@@ -39,24 +39,26 @@ pub(crate) fn block_with<B: Blocks>(
     let mut bytes = [0; INODE_BYTES];
     let _ = inode.write(&mut bytes);
     block.put(INODE_BYTES * (number % INODES_PER_BLOCK) as usize, &bytes);
-    Ok(block)
+    let shared = SharedBlock::new(alloc, block)?;
+    Ok(shared)
 }
 
 /// Puts an inode into the place of a number of the changed inode file, where that block of it is changed already, and tells whether it is.
-fn put_again(file: &mut File, number: u32, inode: &Inode) -> bool
+fn put_again(alloc: Global, file: &mut File, number: u32, inode: &Inode) -> Result<bool, AllocError>
     ensures file { ChangesFile (λ i. ⊥) file.old file.new }
-    ensures put { IsTrue result → (disk : ℕ → List ℕ) (i : ℕ)
-        → file_block disk file.new i ≡ with_inode_at (file_block disk file.old) number inode.now i }
-    ensures whole { IsTrue result → (disk : ℕ → List ℕ)
-        → length (file_block disk file.old (number / INODES_PER_BLOCK)) ≡ BLOCK_BYTES }
+    ensures put { IfOk result (λ is. IsTrue is → (disk : ℕ → List ℕ) (i : ℕ)
+        → file_block disk file.new i ≡ with_inode_at (file_block disk file.old) number inode.now i) }
+    ensures whole { IfOk result (λ is. IsTrue is → (disk : ℕ → List ℕ)
+        → length (file_block disk file.old (number / INODES_PER_BLOCK)) ≡ BLOCK_BYTES) }
     ensures long { length (inode_bytes inode.now) ≡ INODE_BYTES }
-    ensures same { IsFalse result → (disk : ℕ → List ℕ) (i : ℕ)
-        → file_block disk file.new i ≡ file_block disk file.old i }
+    ensures same { IfOk result (λ is. IsFalse is → (disk : ℕ → List ℕ) (i : ℕ)
+        → file_block disk file.new i ≡ file_block disk file.old i) }
 {
     let mut bytes = [0; INODE_BYTES];
     let _ = inode.write(&mut bytes);
     let at = INODE_BYTES * (number % INODES_PER_BLOCK) as usize;
-    file.put_in_block(number / INODES_PER_BLOCK, at, &bytes)
+    let put = file.put_in_block(alloc, number / INODES_PER_BLOCK, at, &bytes)?;
+    Ok(put)
 }
 
 /// Puts an inode into the place of a number of the changed inode file.
@@ -78,7 +80,8 @@ pub(crate) fn put_inode<B: Blocks>(
         → IsSoundAt (B.count blocks.old) disk file.old.tree (number / INODES_PER_BLOCK) → ⊥ }
 {
     // Its block mostly has another changed inode.
-    if put_again(file, number, inode) {
+    let put = put_again(alloc, file, number, inode)?;
+    if put {
         return Ok(());
     }
     let i = number / INODES_PER_BLOCK;

@@ -33,7 +33,7 @@ ghost use Rattle.planning.specs.Promises.{PlansParts};
 use crate::inode_blocks::put_inode;
 use crate::number::mark_placed;
 use blocktree::ReadError;
-use buffers::{Block, Blocks};
+use buffers::{Block, Blocks, SharedBlock};
 use conspoint::{Draft, PlanError};
 use images::{disks_that_agree_hold_the_same, inodes_are_put_one_by_one};
 use inode::{File, Object, based_trees_are_sound};
@@ -111,8 +111,9 @@ fn put_part<B: Blocks>(
     if are_same(before.bytes(), part.bytes()) {
         return Ok(());
     }
+    let shared = SharedBlock::new(alloc, part)?;
     file.make_room(i)?;
-    file.set_block(i, part);
+    file.set_block(i, shared);
     Ok(())
 }
 

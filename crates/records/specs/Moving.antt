@@ -3,7 +3,7 @@ use Rattle.std.specs.Prelude.{ℕ, ◌≡◌, ◌≢◌, List, Option, Some, Non
 use Rattle.layout.specs.declared.entry.Entry.{Entry}
 use Rattle.layout.specs.declared.inode.Inode.{Inode}
 use Rattle.model.specs.Paths.{Name}
-use Rattle.model.specs.Records.{IsBelow, IsEmpty}
+use Rattle.model.specs.Records.{IsEmpty}
 use Rattle.model.specs.Volumes.{Volume, entries, is_directory_node, with_name_less}
 use Rattle.model.specs.declared.errno.Errno.{Errno}
 use Rattle.model.specs.declared.errno.Errno.TheVariants.{EEXIST}
@@ -47,9 +47,10 @@ Replaces detail disk settled v n None None = Unit {0}
 Replaces detail disk settled v n (Some m) (Some step) = (step.number ≡ m) × MayReplace v n m × UpdateTakesName detail disk settled v m step.update
 Replaces detail disk settled v n target step = ⊥
 
--- the directory k doesn't lie below what has the name x in d
-abbrev pub LiesOutside : Volume → ℕ → Name → ℕ → Type 0
-LiesOutside v d x k = (n : ℕ) → entries v d x ≡ Some n → IsBelow (entries v) n k → ⊥
+-- the object n has the name x in d, and the target has the name y in k, or nothing has it where there is none
+pub record MovesOver (v : Volume) (d : ℕ) (x : Name) (n k : ℕ) (y : Name) (target : Option ℕ) : Type 0 where
+  pub there : entries v d x ≡ Some n
+  pub over : entries v k y ≡ target
 
 -- the object n has the name x in d, may get the name y in k, and a step takes away the name of what has it
 pub record Moves (detail : Detail) (disk : ℕ → List ℕ) (settled : ℕ → Inode) (v : Volume) (d : ℕ) (x : Name) (n k : ℕ) (y : Name) (step : Option Step) : Type 0 where

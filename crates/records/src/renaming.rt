@@ -13,7 +13,7 @@ ghost use Rattle.paths.specs.Standing.{StandsIn};
 ghost use Rattle.records.specs.Entering.{Accepts, EditsIn, IsNameEdit, PreparesEdit};
 ghost use Rattle.records.specs.Failures.{told};
 ghost use Rattle.records.specs.Looking.{Finds};
-ghost use Rattle.records.specs.Moving.{LiesOutside, IsSomeAlone, Moves, ReplacesBy};
+ghost use Rattle.records.specs.Moving.{IsSomeAlone, Moves, MovesOver, ReplacesBy};
 ghost use Rattle.records.specs.Preparing.{DecidesOn, DecidesRecord};
 ghost use Rattle.records.specs.Steps.{IsAlone, IsAtHand, IsSomeAtHand, TakesUpdate};
 ghost use Rattle.records.specs.declared.steps.Update.TheVariants as updates;
@@ -63,43 +63,18 @@ pub(crate) fn prepare_rename<'n, B: Blocks>(
     if below {
         return Err(Failure::Refused(Errno::EINVAL));
     }
-    move_found(
-        alloc, inodes, blocks, parent, name, number, new_parent, new_name,
+    let target = number_in(alloc, inodes, blocks, new_parent, new_name)?;
+    prepare_move(
+        alloc, inodes, blocks, parent, name, number, new_parent, new_name, target,
     )
 }
 
-/// Prepares the same where it is known that the new parent doesn't lie below the object, as the walk to it tells: nothing further is
-/// looked at for it; or tells the first obstacle: ENAMETOOLONG where the new name is none, ENOENT where the name isn't there, EEXIST
-/// where the object has the new name already, ENOTDIR where a directory would take the name of something else, EISDIR the other way
-/// round, ENOTEMPTY where it would take that of a directory with names, DIRFULL where the new parent takes no such name.
-pub fn prepare_move<'n, B: Blocks>(
-    alloc: Global,
-    inodes: &mut InodeFile,
-    blocks: &mut B,
-    parent: InodeNumber,
-    name: &'n [u8],
-    new_parent: InodeNumber,
-    new_name: &'n [u8],
-) -> Result<Prepared, Failure>
-    requires parent { IsNumber inodes.old.geometry.inodes parent }
-    requires new_parent { IsNumber inodes.old.geometry.inodes new_parent }
-    ensures { DecidesOn (λ detail disk settled v. StandsIn detail B.Blocks disk settled v blocks.old inodes.old)
-        (λ detail disk settled v. StandsIn detail B.Blocks disk settled v blocks.old inodes.old
-        × LiesOutside v parent name.now new_parent) B.Blocks blocks.old blocks.new inodes.old inodes.new
-        (rename parent name.now new_parent new_name.now) result }
-{
-    let found = number_in(alloc, inodes, blocks, parent, name)?;
-    let Some(number) = found else {
-        return Err(Failure::Refused(Errno::ENOENT));
-    };
-    move_found(
-        alloc, inodes, blocks, parent, name, number, new_parent, new_name,
-    )
-}
-
-// The same of the object that has the name.
+/// Prepares the same where it is known what has both names, as the walks to them tell, and that the new parent doesn't lie below the
+/// object: neither name is looked up; or tells the first obstacle: ENAMETOOLONG where the new name is none, ENOENT where the name isn't
+/// there, EEXIST where the object has the new name already, ENOTDIR where a directory would take the name of something else, EISDIR the
+/// other way round, ENOTEMPTY where it would take that of a directory with names, DIRFULL where the new parent takes no such name.
 #[allow(clippy::too_many_arguments)]
-fn move_found<'n, B: Blocks>(
+pub fn prepare_move<'n, B: Blocks>(
     alloc: Global,
     inodes: &mut InodeFile,
     blocks: &mut B,
@@ -108,14 +83,16 @@ fn move_found<'n, B: Blocks>(
     number: InodeNumber,
     new_parent: InodeNumber,
     new_name: &'n [u8],
+    target: Option<InodeNumber>,
 ) -> Result<Prepared, Failure>
     requires parent { IsNumber inodes.old.geometry.inodes parent }
     requires number { IsNumber inodes.old.geometry.inodes number }
     requires new_parent { IsNumber inodes.old.geometry.inodes new_parent }
+    requires target { IfSome target (IsNumber inodes.old.geometry.inodes) }
     ensures { DecidesOn (λ detail disk settled v. StandsIn detail B.Blocks disk settled v blocks.old inodes.old
-        × (entries v parent name.now ≡ Some number))
+        × MovesOver v parent name.now number new_parent new_name.now target)
         (λ detail disk settled v. StandsIn detail B.Blocks disk settled v blocks.old inodes.old
-        × (entries v parent name.now ≡ Some number)
+        × MovesOver v parent name.now number new_parent new_name.now target
         × (IsBelow (entries v) number new_parent → ⊥))
         B.Blocks blocks.old blocks.new inodes.old inodes.new
         (rename parent name.now new_parent new_name.now) result }
@@ -131,7 +108,6 @@ fn move_found<'n, B: Blocks>(
     if !entry.fits(inodes.geometry().inodes()) {
         return Err(Failure::Refused(Errno::ENOENT));
     }
-    let target = number_in(alloc, inodes, blocks, new_parent, new_name)?;
     let Some(other) = target else {
         return place(
             alloc, inodes, blocks, parent, name, new_parent, &entry, None,

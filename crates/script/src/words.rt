@@ -8,7 +8,7 @@ ghost use Rattle.script.specs.Forms.{bytes, mode};
 ghost use Rattle.script.specs.Readings.{ReadsWord};
 ghost use Rattle.script.specs.Words.{data_word, is_plain, hex_digit, byte_word, text_word, mode_word, words_of, AddsText, AreByteValues, IsSplit};
 
-use crate::ScriptError;
+use crate::{ScriptError, split_at_byte};
 use hex::FromHexError;
 use model::{Mode, Text};
 use std::alloc::{AllocError, Global};
@@ -17,7 +17,7 @@ use std::alloc::{AllocError, Global};
 pub(crate) fn split_words<'a>(alloc: Global, line: &'a [u8]) -> Result<Vec<&'a [u8]>, AllocError>
     ensures { IfOk result (λ words. map (λ word. word.now) words.items ≡ words_of line.now) }
 {
-    line.split(|byte| *byte == b' ').collect(alloc)
+    split_at_byte(alloc, line, b' ')
 }
 
 /// Whether a byte stands for itself in a text's word: one of 0x21 to 0x7e, but `%`.
@@ -187,7 +187,12 @@ pub(crate) fn read_data(alloc: Global, word: &[u8]) -> Result<Text, ScriptError>
 fn has_capital(word: &[u8]) -> bool
     ensures { result ≡ list_any is_ascii_uppercase word.now }
 {
-    word.iter().any(|byte| byte.is_ascii_uppercase())
+    // Every byte is looked at, whatever came before it: so many are looked at at once.
+    let mut found = false;
+    for byte in word {
+        found |= byte.is_ascii_uppercase();
+    }
+    found
 }
 
 fn decode(alloc: Global, word: &[u8]) -> Result<Vec<u8>, ScriptError>

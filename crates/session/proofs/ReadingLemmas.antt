@@ -1,10 +1,12 @@
 -- Lines taken from the beginning of known bytes.
-use Rattle.std.proofs.Common.{◌≡◌, ◌≢◌, inl, inr, ℕ, ◌+◌, ◌-◌, ◌<◌, ◌==◌, Bool, false, List, [], ◌∷◌, ◌++◌, length, take, drop, Option, Some, None, arith, refl, sym, ◌∙◌, ap, subst, append_assoc}
+use Rattle.std.proofs.Common.{◌≡◌, ◌≢◌, inl, inr, ℕ, ◌+◌, ◌-◌, ◌<◌, ◌==◌, Bool, false, List, [], ◌∷◌, ◌++◌, length, take, drop, Option, Some, None, arith, refl, sym, ◌∙◌, ap, subst, add-one, append_assoc, drop-cons, slice_index}
 use Rattle.std.specs.Io.KnownBytes.{prepend_known, Consumes, IsAtEnd, Keeps}
 use Rattle.std.proofs.Math.Seq.{take-add}
-use Rattle.std.proofs.lemmas.List.{append-nil, drop-drop, length-append, length-drop, take_all, take-append-drop}
-use Rattle.std.proofs.lemmas.List.Elements.{All-append}
-use Rattle.std.specs.Prelude.{Ok, MatchOption}
+use Rattle.memchr.specs.Find.{is_byte, IsFirstByte}
+use Rattle.std.proofs.lemmas.Bool.{eqb-true, false_from_ne_true, true≢false}
+use Rattle.std.proofs.lemmas.List.{append-nil, drop-drop, get_or-take, length-append, length-drop, length-take, take_all, take-append-drop}
+use Rattle.std.proofs.lemmas.List.Elements.{All-append, All-from_get_or}
+use Rattle.std.specs.Prelude.{IfSome, IsNone, Ok, MatchOption}
 use Rattle.session.specs.Reading.{EndsReading, IsHeardAs, IsPlain, Loses, TakesLine}
 use Rattle.session.specs.declared.reading.Heard.{Heard}
 use Rattle.session.specs.Scripts.{is_skipped}
@@ -14,6 +16,25 @@ use Rattle.session.specs.declared.reading.TheConstants.{LINE_BYTES}
 -- the first line ends here
 abbrev pub EndsLine : List ℕ → ℕ → Type 0
 EndsLine xs end = (end < length xs) × IsPlain (take end xs) × (drop end xs ≡ 10 ∷ drop (end + 1) xs)
+
+-- the first line's end was found, or there is none
+module _ (xs : List ℕ) where
+  plain_none : IsFirstByte (is_byte 10) xs None → IsPlain xs
+  plain_none none = All-from_get_or (λ b. (b == 10) ≡ false) xs 0 (λ i within. false_from_ne_true (slice_index xs i == 10) (none i (omega arith) within))
+
+  ends_found : (end : ℕ) → IsFirstByte (is_byte 10) xs (Some end) → EndsLine xs end
+  ends_found end found =
+      let within : end < length xs = found.0.high in (
+        within,
+        All-from_get_or (λ b. (b == 10) ≡ false) (take end xs) 0 (λ i below.
+            let before : i < end = omega (arith, length-take end xs) in
+            rw (get_or-take end xs i 0 before) (false_from_ne_true (slice_index xs i == 10) (found.0.before i (omega arith) before))),
+        rw (add-one, drop-cons xs end 0, eqb-true (slice_index xs end) 10 found.1) refl,
+      )
+
+  pub end_told : (r : Option ℕ) → IsFirstByte (is_byte 10) xs r → IfSome r (EndsLine xs) × (IsNone r → IsPlain xs)
+  end_told None none = (tt, λ _. plain_none none)
+  end_told (Some end) found = (ends_found end found, λ none. absurd (true≢false none))
 
 -- no line ends in the first bytes
 module _ (xs : List ℕ) (plain : ℕ) (front : IsPlain (take plain xs)) where

@@ -5,7 +5,7 @@ ghost use Rattle.session.specs.Scripts.{is_skipped, lines_of, IsBadLine, IsScrip
 
 use crate::Fault;
 use model::Command;
-use script::{ScriptError, read_command};
+use script::{ScriptError, read_command, split_at_byte};
 use std::alloc::{AllocError, Global};
 
 /// The commands of a script's lines, but for empty lines and those that begin with `#`.
@@ -42,7 +42,7 @@ pub(crate) fn read_line(alloc: Global, line: &[u8]) -> Result<Option<Command>, S
 fn split_lines<'a>(alloc: Global, script: &'a [u8]) -> Result<Vec<&'a [u8]>, AllocError>
     ensures { IfOk result (λ lines. map (λ line. line.now) lines.items ≡ lines_of script.now) }
 {
-    script.split(|byte| *byte == b'\n').collect(alloc)
+    split_at_byte(alloc, script, b'\n')
 }
 
 /// An empty line, or a comment.

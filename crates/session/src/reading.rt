@@ -6,6 +6,7 @@ ghost use Rattle.session.specs.Reading.{EndsReading, IsHeardAs, IsPlain, IsInput
 
 use crate::Status;
 use crate::lines::is_skipped;
+use memchr::memchr;
 use std::io::{ErrorKind, Read};
 use std::mem;
 
@@ -73,7 +74,7 @@ fn line_end(bytes: &[u8]) -> Option<usize>
         × (drop end bytes.now ≡ 10 ∷ drop (end + 1) bytes.now)) }
     ensures none { IsNone result → IsPlain bytes.now }
 {
-    bytes.iter().position(|byte| *byte == b'\n')
+    memchr(b'\n', bytes)
 }
 
 /// Where the first line ends, which doesn't in the first bytes.

@@ -1,16 +1,17 @@
 //! Moving a name over paths.
 
-ghost use Rattle.std.specs.Prelude.{◌≡◌, false};
+ghost use Rattle.std.specs.Prelude.{◌≡◌, false, IfSome, Some};
 ghost use Rattle.model.specs.Changing.{renames};
 ghost use Rattle.model.specs.Finding.{IsPlaceOf, at_entry, here};
 ghost use Rattle.model.specs.Paths.{parts as parts_of};
+ghost use Rattle.model.specs.Records.{IsBelow};
 ghost use Rattle.model.specs.Resolution.{resolve};
-ghost use Rattle.model.specs.Volumes.{tree_of};
+ghost use Rattle.model.specs.Volumes.{entries, tree_of};
 ghost use Rattle.paths.specs.Numbers.{AreNumbers, IsNumber};
 ghost use Rattle.calls.specs.Changing.{ComesOrStays};
 ghost use Rattle.calls.specs.Rename.{MovesAlong, MovesName, PassTests};
-ghost use Rattle.records.specs.Moving.{LiesOutside};
-ghost use Rattle.calls.specs.Preparing.{PreparesAny};
+ghost use Rattle.records.specs.Moving.{MovesOver};
+ghost use Rattle.calls.specs.Preparing.{PreparesAny, PreparesKnowing};
 
 use crate::root::is_root;
 use crate::{Changing, EntryName, OwnedChange};
@@ -108,7 +109,8 @@ fn rename_found<B: Blocks>(
     requires passed { PassTests old.now path.now }
     requires within { AreNumbers inodes.old.geometry.inodes trail }
     requires number { IsNumber inodes.old.geometry.inodes number }
-    ensures { PreparesAny B.Blocks blocks.old blocks.new inodes.old inodes.new
+    ensures { PreparesKnowing (λ v. entries v (here trail) name.items ≡ Some number)
+        B.Blocks blocks.old blocks.new inodes.old inodes.new
         (λ inodes v table r. IsPlaceOf v (at_entry trail name.items number) (resolve (tree_of v
         table) false old.now) → ComesOrStays (renames (tree_of v table) old.now path.now) inodes v
         table r) result }
@@ -128,21 +130,26 @@ fn rename_found<B: Blocks>(
             if other.get() == number.get() {
                 return Ok(None);
             }
-            return move_name(alloc, inodes, blocks, parent, name, number, above, new_name);
+            let target = Some(other);
+            return move_name(
+                alloc, inodes, blocks, parent, name, number, above, new_name, target,
+            );
         }
         Place::Gap {
             trail: above,
             name: new_name,
         } => {
-            return move_name(alloc, inodes, blocks, parent, name, number, above, new_name);
+            return move_name(
+                alloc, inodes, blocks, parent, name, number, above, new_name, None,
+            );
         }
         Place::Directory(_trail) => return Err(Failure::Refused(Errno::EBUSY)),
         Place::Refusal(errno) => return Err(Failure::Refused(errno)),
     }
 }
 
-// Moves the name that an object has in a directory to another one, in the directory that a trail leads to; EINVAL where that one lies
-// below the object, as the trail tells.
+// Moves the name that an object has in a directory to another one, in the directory that a trail leads to, where the target has it, if
+// anything does; EINVAL where that directory lies below the object, as the trail tells.
 #[allow(clippy::too_many_arguments)]
 fn move_name<B: Blocks>(
     alloc: Global,
@@ -153,19 +160,25 @@ fn move_name<B: Blocks>(
     number: InodeNumber,
     trail: Trail,
     new_name: Vec<u8>,
+    target: Option<InodeNumber>,
 ) -> Result<Option<Changing>, Failure>
     requires parent { IsNumber inodes.old.geometry.inodes parent }
     requires number { IsNumber inodes.old.geometry.inodes number }
     requires within { AreNumbers inodes.old.geometry.inodes trail }
-    ensures { PreparesAny B.Blocks blocks.old blocks.new inodes.old inodes.new
-        (λ inodes v table r. MovesAlong v parent name.items number trail new_name.items → MovesName
-        inodes v parent name.items (here trail) new_name.items r) result }
+    requires target { IfSome target (IsNumber inodes.old.geometry.inodes) }
+    ensures { PreparesKnowing
+        (λ v. MovesOver v parent name.items number (here trail) new_name.items target)
+        B.Blocks blocks.old blocks.new inodes.old inodes.new
+        (λ inodes v table r. MovesAlong v number trail new_name.items
+        → MovesName inodes v parent name.items (here trail) new_name.items r) result }
 {
     if trail.passes(number) {
         return Err(Failure::Refused(Errno::EINVAL));
     }
     let new_parent = trail.here();
-    record_move(alloc, inodes, blocks, parent, name, new_parent, new_name)
+    record_move(
+        alloc, inodes, blocks, parent, name, number, new_parent, new_name, target,
+    )
 }
 
 // Prepares that a name is moved to a directory outside of what has it, or tells the first obstacle to its record.
@@ -176,14 +189,20 @@ fn record_move<B: Blocks>(
     blocks: &mut B,
     parent: InodeNumber,
     name: Vec<u8>,
+    number: InodeNumber,
     new_parent: InodeNumber,
     new_name: Vec<u8>,
+    target: Option<InodeNumber>,
 ) -> Result<Option<Changing>, Failure>
     requires parent { IsNumber inodes.old.geometry.inodes parent }
+    requires number { IsNumber inodes.old.geometry.inodes number }
     requires new_parent { IsNumber inodes.old.geometry.inodes new_parent }
-    ensures { PreparesAny B.Blocks blocks.old blocks.new inodes.old inodes.new
-        (λ inodes v table r. LiesOutside v parent name.items new_parent → MovesName inodes v parent
-        name.items new_parent new_name.items r) result }
+    requires target { IfSome target (IsNumber inodes.old.geometry.inodes) }
+    ensures { PreparesKnowing
+        (λ v. MovesOver v parent name.items number new_parent new_name.items target)
+        B.Blocks blocks.old blocks.new inodes.old inodes.new
+        (λ inodes v table r. (IsBelow (entries v) number new_parent → ⊥)
+        → MovesName inodes v parent name.items new_parent new_name.items r) result }
 {
     let Some(name) = EntryName::new(name) else {
         return Err(Failure::Refused(Errno::ENOENT));
@@ -197,8 +216,10 @@ fn record_move<B: Blocks>(
         blocks,
         parent,
         &name.bytes,
+        number,
         new_parent,
         &new_name.bytes,
+        target,
     )?;
     Ok(Some(Changing {
         change: OwnedChange::Rename {

@@ -72,7 +72,7 @@ loop-i-preserved c =
           | inr more ↦ subst IsWhole (unchanged_block t j below (c.in-Some.ensures.before j more (omega (arith, lt, n)))) is
         ]
       ];
-      placed = placed_more c.args.draft.now c.loop-i.draft c.store_copy.new.draft settled c.loop-i.nodes c.set.new.self i p so_far.step.grows stored.step.grows so_far.placed put.there put.others
+      placed = placed_more c.args.draft.now c.loop-i.draft c.store_shared.new.draft settled c.loop-i.nodes c.set.new.self i p so_far.step.grows stored.step.grows so_far.placed put.there put.others
           (stored.from (place_at settled i)) stored.within;
     }
 

@@ -15,7 +15,8 @@ returns-clause-blocks c =
     inline_block c.put.new.self c.args.bytes.now c.args.size c.min-length.result c.put.ensures.length c.told-bytes c.min-length.ensures
     (λ k. c.put.ensures.bytes k ∙ ap (λ (b : List ℕ). with_bytes_at (slice_index b) 0 (take c.min-length.result c.args.bytes.now) k) c.in_ok-block.ensures) in
     let laid : (disk : ℕ → List ℕ) (i : ℕ) → tree_block disk c.set.new.self i ≡ (if i == 0 then c.put.new.self else zeros 4096) = λ disk i.
-    c.set.ensures.blocks disk i ∙ ap (λ (b : List ℕ). if i == 0 then c.put.new.self else b) (c.make_room.ensures.same disk i ∙ c.empty-tree.ensures.blocks disk i) in
+    c.set.ensures.blocks disk i ∙ ap (λ (b : List ℕ). if i == 0 then b else tree_block disk c.make_room.new.self i) c.in_ok-shared.ensures
+    ∙ ap (λ (b : List ℕ). if i == 0 then c.put.new.self else b) (c.make_room.ensures.same disk i ∙ c.empty-tree.ensures.blocks disk i) in
     rw (← bytes) laid
 
 pub returns-then-size-eq0-clause-first : goal.returns-then-size-eq0-clause-first

@@ -24,3 +24,11 @@ returns-clause-file g c = record {
   sound = search rules;
   changes = record { kept = search rules; only = search rules };
 }
+
+pub returns-in_err-put-clause-file : goal.returns-in_err-put-clause-file
+returns-in_err-put-clause-file g c = record {
+  size = search rules;
+  settled = search rules;
+  sound = search rules;
+  changes = record { kept = search rules; only = search rules };
+}

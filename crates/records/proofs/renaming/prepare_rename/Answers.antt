@@ -1,10 +1,14 @@
-use Rattle.std.proofs.Common.{◌≡◌, ◌∙◌, ℕ, Option, None, Some, IsSome, IsTrue, refl, ap, sym, subst}
+use Rattle.std.proofs.Common.{◌≡◌, ◌∙◌, ℕ, List, Option, None, Some, IsSome, IsTrue, refl, ap, sym, subst}
 use Rattle.std.proofs.lemmas.Bool.{both_ways, false≢true}
 use Rattle.layout.specs.Limits.{Sizes}
-use Rattle.model.specs.Volumes.{Node, entries, is_directory_node, names_in}
+use Rattle.layout.specs.declared.inode.Inode.{Inode}
+use Rattle.model.specs.Volumes.{Node, Volume, entries, is_directory_node, names_in}
 use Rattle.model.specs.declared.errno.Errno.TheVariants.{DIRFULL}
 use Rattle.model.proofs.OptionLaws.{none_some}
+use Rattle.images.specs.Soundness.{Detail}
+use Rattle.paths.specs.Standing.{StandsIn}
 use Rattle.paths.proofs.Looks.{looks_more}
+use Rattle.records.specs.Moving.{MovesOver}
 use Rattle.records.specs.Obstacles.{BarsMove}
 use Rattle.model.specs.Records.{rename}
 use Rattle.records.specs.Preparing.{IsKnownVolume}
@@ -68,12 +72,27 @@ returns-then-below g c =
     let below = (c.in_ok-below.ensures.below detail disk settled v (found.looks.kept disk settled v stands)).0 c.if-below.true in
     (n, sym (found.found disk settled v stands) ∙ c.in-Some.is, ((λ at. never_around v (graph_of detail c.args.inodes.now.geometry.inodes v (known_of detail c.args.inodes.now.geometry.inodes (rename c.args.parent c.args.name.now c.args.new_parent c.args.new_name.now) v volume)) n k c.args.new_name.now at below), below)))
 
+pub returns-in_err-target : goal.returns-in_err-target
+returns-in_err-target g c =
+    let before = looks_more c.in_ok-found.ensures.number.looks c.in_ok-below.ensures.looks in
+    follows before
+    (stops c.from_residual-in_err-target.result c.from_residual-in_err-target.ensures.1 c.in_err-target.ensures.number.looks (λ detail disk settled v stands reads. c.in_err-target.ensures.number.damaged {detail = detail} disk settled v stands))
+    (λ detail. before.kept {detail = detail}) (λ detail. before.kept {detail = detail})
+
 pub returns : goal.returns
 returns g c =
     let found = c.in_ok-found.ensures.number in
+    let target = c.in_ok-target.ensures.number in
     let before = looks_more found.looks c.in_ok-below.ensures.looks in
-    follows before c.move_found.ensures
-    (λ detail disk settled v stands. (before.kept disk settled v stands, sym (found.found disk settled v stands) ∙ c.in-Some.is))
+    let known = looks_more before target.looks in
+    let over = λ (detail : Detail) (disk : ℕ → List ℕ) (settled : ℕ → Inode) (v : Volume) (stands : StandsIn detail g.B.Blocks disk settled v c.args.blocks.now c.args.inodes.now).
+    let o : MovesOver v c.args.parent c.args.name.now c.in-Some.number c.args.new_parent c.args.new_name.now c.in_ok-target.target = record {
+      there = sym (found.found disk settled v stands) ∙ c.in-Some.is;
+      over = sym (target.found disk settled v (before.kept disk settled v stands));
+    } in
+    o in
+    follows known c.prepare_move.ensures
+    (λ detail disk settled v stands. (known.kept disk settled v stands, over detail disk settled v stands))
     (λ detail disk settled v stands.
     let told = c.in_ok-below.ensures.below detail disk settled v (found.looks.kept disk settled v stands) in
-    (before.kept disk settled v stands, sym (found.found disk settled v stands) ∙ c.in-Some.is, λ is. both_ways c.in_ok-below.below c.if-below.false (told.1 is)))
+    (known.kept disk settled v stands, over detail disk settled v stands, λ is. both_ways c.in_ok-below.below c.if-below.false (told.1 is)))

@@ -35,7 +35,7 @@ loop-i-preserved c = record {
   base = λ settled based. c.set_block.ensures.base settled (c.loop-i.invariant.base settled based);
   whole = λ disk was j.
       let now = c.loop-i.invariant.whole disk was in
-      put_whole c.in-Some.i j (file_block disk c.loop-i.file) c.in-Some.block (file_block disk c.set_block.new.self j) (ap length (sym c.bytes.ensures) ∙ c.is_whole.ensures) (c.set_block.ensures.blocks disk j) (now j);
+      put_whole c.in-Some.i j (file_block disk c.loop-i.file) c.in-Some.block (file_block disk c.set_block.new.self j) c.is_whole.ensures (c.set_block.ensures.blocks disk j) (now j);
   sound = λ blocks disk i is. c.set_block.ensures.sound blocks disk i (c.loop-i.invariant.sound blocks disk i is);
   few = λ n.
       let one = one_changed c.loop-i.file.tree c.set_block.new.self.tree c.in-Some.i c.set_block.ensures.only n in

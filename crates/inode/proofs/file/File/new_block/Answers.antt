@@ -27,7 +27,7 @@ returns-clause-bytes g c = λ disk shows r lt.
     let start : 4096 * c.from-start.result ≡ 4096 * c.args.i = ap (λ (n : ℕ). 4096 * n) c.from-start.ensures in
     let block : c.min-to.result - c.max-from.result ≢ 4096 → c.in_ok-block.block ≡ file_block disk c.args.self.now c.args.i =
     λ part. c.in_ok-block.ensures.bytes disk shows part ∙ c.make_room.ensures.same.blocks disk c.args.i in
-    c.put.ensures.bytes r
+    ap (λ (b : List ℕ). slice_index b r) c.in_ok-shared.ensures ∙ c.put.ensures.bytes r
     ∙ written_piece (byte_at disk c.args.self.now) (slice_index c.in_ok-block.block) c.args.offset c.args.bytes.now _ (4096 * c.from-start.result) c.max-from.result c.min-to.result r (search rules) (search rules) (omega arith) (omega arith) refl lt
     (λ part. ap (λ (b : List ℕ). slice_index b r) (block part) ∙ sym (byte_in_block (file_block disk c.args.self.now) c.args.i r lt) ∙ ap (λ (n : ℕ). byte_at disk c.args.self.now (n + r)) (sym start))
     ∙ ap (λ (n : ℕ). with_bytes_at (byte_at disk c.args.self.now) c.args.offset c.args.bytes.now (n + r)) start

@@ -57,7 +57,7 @@ returns-then-in_hole-clause-stores g c = stores_none c.args.self.now _ (ap lengt
 pub returns-clause-stores : goal.returns-clause-stores
 returns-clause-stores g c =
     let none : length c.new-pieces.result.items ≡ 0 = ap length c.new-pieces.ensures.items in
-    let one : length c.push.new.self.items ≡ length c.new-pieces.result.items + 1 = ap length c.in_ok-push.ensures.items ∙ length_push c.new-pieces.result.items c.cut.new.self in
+    let one : length c.push.new.self.items ≡ length c.new-pieces.result.items + 1 = ap length c.in_ok-push.ensures.items ∙ length_push c.new-pieces.result.items c.in_ok-shared.shared in
     let cuts = c.keeps_last_block.ensures.cuts c.if-keeps_last_block.false in
     stores_cut c.make_room.new.self _ (omega (arith, none, one)) refl cuts.within
     (subst (λ (n : ℕ). (c.args.size < n) ⊎ (c.args.size ≤ 128)) (sym c.make_room.ensures.same.size) (cut_level c.args.self.now.size c.args.size cuts.how))
@@ -106,9 +106,9 @@ pub returns-clause-blocks : goal.returns-clause-blocks
 returns-clause-blocks g c = λ disk shows.
     let blocks = file_block disk c.args.self.now in
     let none : length c.new-pieces.result.items ≡ 0 = ap length c.new-pieces.ensures.items in
-    let one : length c.push.new.self.items ≡ length c.new-pieces.result.items + 1 = ap length c.in_ok-push.ensures.items ∙ length_push c.new-pieces.result.items c.cut.new.self in
+    let one : length c.push.new.self.items ≡ length c.new-pieces.result.items + 1 = ap length c.in_ok-push.ensures.items ∙ length_push c.new-pieces.result.items c.in_ok-shared.shared in
     let whole : AreWhole c.push.new.self.items =
-    one_more c.new-pieces.result.items c.push.new.self.items c.cut.new.self c.in_ok-push.ensures.items (λ j lt. absurd (omega (arith, none, lt))) c.cut.ensures.length in
+    one_more c.new-pieces.result.items c.push.new.self.items c.in_ok-shared.shared c.in_ok-push.ensures.items (λ j lt. absurd (omega (arith, none, lt))) (ap length c.in_ok-shared.ensures ∙ c.cut.ensures.length) in
     record {
       read = λ i is. ap (λ (k : ℕ). length (blocks k)) is.1
           ∙ ap length (sym (c.in_ok-block.ensures.bytes disk (c.in_ok-in_hole.ensures.reads.same disk shows) ∙ c.make_room.ensures.same.blocks disk (c.args.size / 4096)))
