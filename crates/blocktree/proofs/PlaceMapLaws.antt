@@ -1,39 +1,15 @@
 -- Maps of places: keys within a range, groups, and what one more pointer changes.
-use Rattle.std.proofs.Common.{◌≡◌, ◌≢◌, inl, inr, ℕ, zero, suc, ◌+◌, ◌-◌, ◌*◌, ◌/◌, ◌%◌, ◌<◌, ◌≤◌, Bool, true, false, List, ◌∷◌, replicate, refl, sym, ap, subst, ◌∙◌, arith}
-use Rattle.std.specs.Prelude.{Option, Some, None, IfSome, IsSome, slice_index_or, nat_lt, if◌then◌else◌}
+use Rattle.std.proofs.Common.{◌≡◌, ◌≢◌, inl, inr, ℕ, zero, suc, ◌+◌, ◌-◌, ◌*◌, ◌/◌, ◌%◌, ◌<◌, ◌≤◌, Bool, true, false, List, replicate, refl, sym, ap, subst, ◌∙◌, arith}
+use Rattle.std.specs.Prelude.{Some, None, slice_index_or, nat_lt, if◌then◌else◌}
 use Rattle.std.specs.BTreeMap.{Updates, get, is_at}
 use Rattle.std.specs.Int.{div_ceil}
-use Rattle.std.specs.List.{slice_get}
-use Rattle.std.specs.Ordering.{nat_cmp, is_gt}
-use Rattle.std.specs.Cmp.{nat_cmp_is}
-use Rattle.std.proofs.Common.{Less, Equal}
+use Rattle.std.specs.Ordering.{nat_cmp}
 use Rattle.std.proofs.lemmas.Bool.{cases_lt, cases_eq, cond_above, cond_below}
 use Rattle.std.proofs.lemmas.Grind.{common_steps}
-use Rattle.std.proofs.lemmas.Map.Keys.{le_from_not_gt}
 use Rattle.layout.specs.declared.pointer.Pointer.{Pointer}
 use Rattle.layout.specs.declared.pointer.Pointer.TheVariants.{Hole}
 use Rattle.blocktree.specs.PlaceMaps.{place_at, pointer_in}
 use Rattle.blocktree.specs.declared.place_map.PlaceMap.{PlaceMap}
-
-pub not_above : (a b : ℕ) → a ≤ b → is_gt (nat_cmp a b) ≡ false
-not_above a b le = elim (cases_lt a b) [
-  | inl lt ↦ ap is_gt (sym (nat_cmp_is a b Less lt))
-  | inr ge ↦ (let same : a ≡ b = omega arith in ap is_gt (sym (nat_cmp_is a b Equal same)))
-]
-
-pub below_to : (a b : ℕ) → a < b → nat_cmp a b ≡ Less
-below_to a b lt = sym (nat_cmp_is a b Less lt)
-
--- what isn't there is none
-pub none_of : {X : Type 0} (o : Option X) → (IsSome o → ⊥) → o ≡ None
-none_of None not = refl
-none_of (Some x) not = absurd (not refl)
-
--- before the first key of a range is none
-pub not_first : {X : Type 0} (r t : List (ℕ × X)) (k i : ℕ) (x : X) → r ≡ (k, x) ∷ t → IfSome (slice_get r 0) (λ e. is_gt (nat_cmp e.0 i) ≡ false) → i < k → ⊥
-not_first r t k i x is least lt =
-    let first : is_gt (nat_cmp k i) ≡ false = subst (λ es. IfSome (slice_get es 0) (λ e. is_gt (nat_cmp e.0 i) ≡ false)) is least in
-    omega (arith, le_from_not_gt k i first)
 
 -- another key isn't found
 other_key : (a q : ℕ) → q ≢ a → is_at (nat_cmp a) q ≡ false

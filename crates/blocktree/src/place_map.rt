@@ -37,12 +37,10 @@ pub(crate) fn next_entry<V>(map: &BTreeMap<u32, V>, from: u32, to: u32) -> Optio
     ensures none { IfNone result ((i : ℕ) → from ≤ i → i < to
         → tree.get nat_cmp map.now i ≡ None) }
 {
-    if from >= to {
-        return None;
-    }
-    match map.range(from..to).next() {
-        Some((key, value)) => Some((*key, value)),
-        None => None,
+    // A range without an end is found by one search less.
+    match map.range(from..).next() {
+        Some((key, value)) if *key < to => Some((*key, value)),
+        _ => None,
     }
 }
 

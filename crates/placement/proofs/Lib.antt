@@ -6,6 +6,7 @@ mod StandLaws
 mod InlineLaws
 mod FileLaws
 mod SettledLaws
+mod AmongLaws
 mod ListLaws
 mod FirstLaws
 mod HoleLaws

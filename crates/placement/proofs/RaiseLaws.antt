@@ -12,7 +12,7 @@ use Rattle.blocktree.specs.Names.{nodes_at}
 use Rattle.blocktree.specs.PlaceMaps.{EndBefore, place_at}
 use Rattle.blocktree.specs.declared.place_map.PlaceMap.{PlaceMap}
 use Rattle.conspoint.specs.Groups.{group, ArePlaced, Follows, IsGroup}
-use Rattle.conspoint.specs.Space.{CountsGroups, StoresNone}
+use Rattle.conspoint.specs.Space.{StoresNone}
 use Rattle.conspoint.specs.Steps.{Places, PlacesOver}
 use Rattle.conspoint.specs.declared.draft.Draft.{Draft}
 use Rattle.conspoint.specs.declared.error.PlanError.{PlanError}

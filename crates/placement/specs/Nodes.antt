@@ -1,5 +1,5 @@
 -- Where the nodes of a file are, by height: its blocks, the indirect blocks over each 1,024 of them, and so on.
-use Rattle.std.specs.Prelude.{ℕ, zero, suc, ◌≡◌, ◌<◌, ◌+◌, ◌*◌, ◌≤◌, ◌⊎◌, length, nat_lt, if◌then◌else◌, Option, Some, None}
+use Rattle.std.specs.Prelude.{ℕ, zero, suc, ◌≡◌, ◌<◌, ◌+◌, ◌*◌, ◌≤◌, ◌⊎◌, List, length, slice_index, nat_lt, if◌then◌else◌, Option, Some, None}
 use Rattle.std.specs.List.{slice_get}
 use Rattle.layout.specs.Pointer.{PointsBelow}
 use Rattle.layout.specs.declared.TheConstants.{BLOCK_POINTERS}
@@ -70,6 +70,23 @@ HasLeft from to b = (i : ℕ) × (place_at from i ≡ Block b) × (to i ≡ Bloc
 -- the same among the nodes from one on and before another
 abbrev pub HasLeftIn : ℕ → ℕ → PlaceMap → (ℕ → Pointer) → ℕ → Type 0
 HasLeftIn start end from to b = (i : ℕ) × (start ≤ i) × (i < end) × (place_at from i ≡ Block b) × (to i ≡ Block b → ⊥)
+
+-- i is one of these
+abbrev pub IsAmong : List ℕ → ℕ → Type 0
+IsAmong is i = (k : ℕ) × (k < length is) × (slice_index is k ≡ i)
+
+-- they are all from one number on and before another
+abbrev pub AreBetween : ℕ → ℕ → List ℕ → Type 0
+AreBetween start end is = (k : ℕ) → k < length is → (start ≤ slice_index is k) × (slice_index is k < end)
+
+-- the same among these nodes
+abbrev pub HasLeftAmong : List ℕ → PlaceMap → (ℕ → Pointer) → ℕ → Type 0
+HasLeftAmong is from to b = (k : ℕ) × (k < length is) × (place_at from (slice_index is k) ≡ Block b) × (to (slice_index is k) ≡ Block b → ⊥)
+
+-- these are the changed blocks of a file behind the first and before another
+pub record AreChanged (t : BlockTree) (end : ℕ) (is : List ℕ) : Type 0 where
+  pub within : AreBetween 1 end is
+  pub all : (i : ℕ) → 1 ≤ i → i < end → (IsAmong is i → ⊥) → IsChanged t i → ⊥
 
 -- a block stands at one of these nodes, and not at the same of those
 abbrev pub HasMoved : Nodes → Nodes → ℕ → Type 0

@@ -26,7 +26,7 @@ ghost use Rattle.conspoint.specs.Errors.{IsReadFault};
 
 use crate::blocks::place_lowest;
 use crate::inline::inline_bytes;
-use crate::nodes::{Nodes, body_of, moved};
+use crate::nodes::{Nodes, body_of, changed_before, moved};
 use crate::raising::raise_all;
 use crate::settled::settled_nodes;
 use blocktree::PlaceMap;
@@ -233,8 +233,10 @@ pub(crate) fn placed_file(
 {
     let Laid { nodes, body, kept } = laid;
     let tree = object.file.tree();
-    let taken = moved(alloc, &nodes, settled, tree, kept, block_count(object))?;
-    let freed = moved(alloc, settled, &nodes, tree, kept, tree.count())?;
+    let changed = changed_before(alloc, tree, kept)?;
+    let count = block_count(object);
+    let taken = moved(alloc, &nodes, settled, &changed, kept, count)?;
+    let freed = moved(alloc, settled, &nodes, &changed, kept, tree.count())?;
     let inode = Inode {
         kind: object.attributes.kind,
         mode: object.attributes.mode,

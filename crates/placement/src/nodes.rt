@@ -5,10 +5,9 @@ ghost use Rattle.layout.specs.Pointer.{PointsBelow};
 ghost use Rattle.layout.specs.declared.TheConstants.{BODY_POINTERS};
 ghost use Rattle.layout.specs.declared.pointer.Pointer.TheVariants.{Hole, Block};
 ghost use Rattle.blocktree.specs.PlaceMaps.{AreBelow, EndBefore, place_at};
-ghost use Rattle.blocktree.specs.Trees.{IsChanged};
 ghost use Rattle.conspoint.specs.Groups.{pointer_at};
 ghost use Rattle.conspoint.specs.MapFiles.{map_nodes};
-ghost use Rattle.placement.specs.Nodes.{AreKept, AreShort, AreWithin, HasLeft, HasLeftIn, HasMoved, height_of, node};
+ghost use Rattle.placement.specs.Nodes.{AreChanged, AreShort, AreWithin, HasLeft, HasLeftAmong, HasLeftIn, HasMoved, IsAmong, AreBetween, height_of, node};
 
 use blocktree::{BlockTree, PlaceMap};
 use layout::{BODY_POINTERS, BlockNumber, Pointer};
@@ -129,44 +128,57 @@ fn add_left(
     Ok(())
 }
 
-/// As `add_left`, where only changed blocks of a file may have left.
+/// The changed blocks of a file behind the first and before another.
+pub(crate) fn changed_before(
+    alloc: Global,
+    tree: &BlockTree,
+    end: u32,
+) -> Result<Vec<u32>, AllocError>
+    ensures { IfOk result (λ changed. AreChanged tree.now end changed.items) }
+{
+    let mut changed = Vec::new(alloc);
+    let mut next = 1;
+    while let Some((i, _)) = tree.next_changed(next, end) {
+        changed.push(i)?;
+        next = i + 1;
+    }
+    Ok(changed)
+}
+
+/// As `add_left`, of these nodes alone.
 fn add_changed(
     from: &PlaceMap,
     to: &Nodes,
     height: usize,
-    tree: &BlockTree,
-    start: u32,
-    end: u32,
+    changed: &[u32],
     blocks: &mut Vec<BlockNumber>,
 ) -> Result<(), AllocError>
-    requires kept { (i : ℕ) → start ≤ i → i < end → (IsChanged tree.now i → ⊥)
-        → place_at from.now i ≡ node to.now height i }
     ensures left { OnOk result ((b : ℕ) → Contains blocks.new.items b
-        ↔ (Contains blocks.old.items b ⊎ HasLeftIn start end from.now (node to.now height) b)) }
+        ↔ (Contains blocks.old.items b ⊎ HasLeftAmong changed.now from.now (node to.now height) b)) }
     ensures within { (disk : ℕ) → AreBelow disk from.now
         → All (λ b. b < disk) blocks.old.items → All (λ b. b < disk) blocks.new.items }
 {
-    let mut next = start;
-    while let Some((i, _)) = tree.next_changed(next, end) {
+    for k in 0..changed.len() {
+        let i = changed[k];
         add_moved(from.at(i), to.at(height, i), blocks)?;
-        next = i + 1;
     }
     Ok(())
 }
 
 /// Adds the blocks at the first `count` nodes of one height of a file that don't stand at the same of the other. Of its blocks behind
-/// the first and before `kept` only the changed ones are looked at.
+/// the first and before `kept` only these changed ones are looked at.
 fn add_height(
     from: &PlaceMap,
     to: &Nodes,
     height: usize,
-    tree: &BlockTree,
+    changed: &[u32],
     kept: u32,
     count: u32,
     blocks: &mut Vec<BlockNumber>,
 ) -> Result<(), AllocError>
     requires short { EndBefore count from.now }
-    requires kept { height ≡ 0 → (i : ℕ) → 1 ≤ i → i < kept → (IsChanged tree.now i → ⊥)
+    requires among { AreBetween 1 kept changed.now }
+    requires kept { height ≡ 0 → (i : ℕ) → 1 ≤ i → i < kept → (IsAmong changed.now i → ⊥)
         → place_at from.now i ≡ node to.now height i }
     ensures left { OnOk result ((b : ℕ) → Contains blocks.new.items b
         ↔ (Contains blocks.old.items b ⊎ HasLeft from.now (node to.now height) b)) }
@@ -178,23 +190,25 @@ fn add_height(
         return Ok(());
     }
     add_left(from, to, height, 0, 1, blocks)?;
-    add_changed(from, to, height, tree, 1, kept, blocks)?;
+    add_changed(from, to, height, changed, blocks)?;
     add_left(from, to, height, kept.max(1), count, blocks)?;
     Ok(())
 }
 
 /// The blocks at nodes of one file, of which each height has `count` at the most, that don't stand at the same of the other. Of the
-/// file's blocks behind the first and before `kept` only the changed ones may.
+/// file's blocks behind the first and before `kept` only these changed ones may.
 pub(crate) fn moved(
     alloc: Global,
     from: &Nodes,
     to: &Nodes,
-    tree: &BlockTree,
+    changed: &[u32],
     kept: u32,
     count: u32,
 ) -> Result<Vec<BlockNumber>, AllocError>
     requires short { AreShort count from.now }
-    requires kept { AreKept kept tree.now to.now from.now }
+    requires among { AreBetween 1 kept changed.now }
+    requires kept { (i : ℕ) → 1 ≤ i → i < kept → (IsAmong changed.now i → ⊥)
+        → node to.now 0 i ≡ node from.now 0 i }
     ensures moved { IfOk result (λ blocks. (b : ℕ)
         → Contains blocks.items b ↔ HasMoved from.now to.now b) }
     ensures within { (disk : ℕ) → AreWithin disk from.now
@@ -203,7 +217,7 @@ pub(crate) fn moved(
     let mut blocks = Vec::new(alloc);
     for height in 0..from.heights.len() {
         let places = from.height(height);
-        add_height(places, to, height, tree, kept, count, &mut blocks)?;
+        add_height(places, to, height, changed, kept, count, &mut blocks)?;
     }
     Ok(blocks)
 }

@@ -1,4 +1,4 @@
-use Rattle.std.proofs.Common.{rules, arith, nat_lt, ◌<◌}
+use Rattle.std.proofs.Common.{rules, nat_lt}
 use Rattle.std.proofs.lemmas.Map.Made.{filter_same_pairs}
 use Rattle.blocktree.proofs.SlotLaws.{trimmed_slot}
 use Rattle.blocktree.proofs.slot.cut_slots.Goals as goal

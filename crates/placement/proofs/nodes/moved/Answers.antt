@@ -9,7 +9,8 @@ loop-height-init c = record { moved = λ b. moved_none c.new-blocks.result.items
 pub add_height-requires : goal.add_height-requires
 add_height-requires c = record {
   short = λ i past. c.height-places.ensures i ∙ c.requires.short c.loop-height.height i past;
-  kept = λ is i some lt not. c.height-places.ensures i ∙ subst (λ (m : ℕ). node c.args.from.now m i ≡ node c.args.to.now m i) (sym is) (c.requires.kept i some lt not);
+  among = c.requires.among;
+  kept = λ is i some lt not. c.height-places.ensures i ∙ subst (λ (m : ℕ). node c.args.from.now m i ≡ node c.args.to.now m i) (sym is) (sym (c.requires.kept i some lt not));
 }
 
 pub loop-height-preserved : goal.loop-height-preserved

@@ -1,5 +1,4 @@
-use Rattle.std.proofs.Common.{◌≡◌, ◌∙◌, ℕ, suc, ◌+◌, ◌-◌, ◌*◌, ◌<◌, ap, sym, arith}
-use Rattle.layout.specs.declared.pointer.Pointer.TheVariants.{Hole}
+use Rattle.std.proofs.Common.{◌≡◌, ◌∙◌, ℕ, suc, ◌+◌, ◌-◌, ◌*◌, ap, sym, arith}
 use Rattle.placement.specs.Nodes.{height_of, node}
 use Rattle.placement.proofs.settled.is_above.Goals as goal
 use Rattle.placement.proofs.settled.is_above.Goals.{After-is_full}

@@ -1,4 +1,4 @@
-use Rattle.std.proofs.Common.{rules, ◌≡◌, inl, inr, ◌+◌, sym, subst, arith}
+use Rattle.std.proofs.Common.{rules, ◌≡◌, inl, inr, subst, arith}
 use Rattle.std.proofs.lemmas.Bool.{cases_eq, cases_lt}
 use Rattle.layout.specs.declared.pointer.Pointer.TheVariants.{Hole}
 use Rattle.conspoint.specs.Groups.{group}

@@ -1,4 +1,4 @@
-use Rattle.std.proofs.Common.{ℕ, ◌<◌, ◌≤◌, arith}
+use Rattle.std.proofs.Common.{arith}
 use Rattle.blocktree.proofs.PlaceMapLaws.{first_all, first_more}
 use Rattle.blocktree.proofs.place_map.PlaceMap.first.Goals as goal
 

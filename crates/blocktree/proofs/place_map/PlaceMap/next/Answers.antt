@@ -1,8 +1,6 @@
-use Rattle.std.proofs.Common.{◌≡◌, inl, inr, ℕ, ◌+◌, ◌-◌, ◌*◌, ◌<◌, ◌≤◌, ◌∙◌, arith, rules}
+use Rattle.std.proofs.Common.{inl, inr, ◌-◌, ◌*◌, ◌∙◌, arith, rules}
 use Rattle.std.proofs.lemmas.Bool.{cases_lt}
 use Rattle.std.proofs.lemmas.Grind.{common_steps}
-use Rattle.layout.specs.declared.pointer.Pointer.TheVariants.{Hole}
-use Rattle.blocktree.specs.PlaceMaps.{place_at}
 use Rattle.blocktree.proofs.PlaceMapLaws.{holes_in, holes_past, node_in}
 use Rattle.blocktree.proofs.place_map.PlaceMap.next.Goals as goal
 

@@ -1,7 +1,5 @@
-use Rattle.std.proofs.Common.{◌∙◌, ◌/◌, refl, ap, subst}
-use Rattle.std.specs.Prelude.{IsSome, Some}
-use Rattle.std.specs.BTreeMap.{Updates}
-use Rattle.std.specs.Ordering.{nat_cmp}
+use Rattle.std.proofs.Common.{◌∙◌, refl, ap, subst}
+use Rattle.std.specs.Prelude.{IsSome}
 use Rattle.blocktree.specs.PlaceMaps.{pointer_in}
 use Rattle.blocktree.proofs.PlaceMapLaws.{put_others, put_there}
 use Rattle.blocktree.proofs.place_map.PlaceMap.set.Goals as goal
