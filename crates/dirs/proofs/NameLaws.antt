@@ -1,12 +1,12 @@
 -- What becomes of names when an entry goes or comes.
 use Rattle.std.proofs.Common.{◌≡◌, ◌≢◌, inl, inr, ℕ, ◌==◌, List, [], ◌∷◌, ◌++◌, Option, Some, None, refl, sym, ap, subst, ◌∙◌, true, false, bytes_eq, cond}
-use Rattle.std.proofs.lemmas.Bool.{cases_Bool, cases_eq, cond-true, cond-false, eq-eqb, ne_eqb, false_from_ne_true, both_ways}
+use Rattle.std.proofs.lemmas.Bool.{cases_Bool, cases_eq, cond-true, cond-false, eq-eqb, ne_eqb}
 use Rattle.std.proofs.lemmas.Slice.Eq.{bytes_eq-Decides}
 use Rattle.layout.specs.Directory.{Named}
 use Rattle.model.specs.Paths.{Name}
 use Rattle.layout.specs.DirectoryNames.{number_of, HasEachOnce, NameMap, AreNames}
 use Rattle.entries.specs.Entries.{without}
-use Rattle.entries.proofs.MissingLaws.{same_name, other_name, not_same, number_of-here, number_of-behind, IsMissing, missing_parts, without-here, without-behind, without-missing}
+use Rattle.entries.proofs.MissingLaws.{same_name, other_name, not_same, number_of-here, number_of-behind, missing_parts, without-here, without-behind}
 use Rattle.dirs.specs.Directory.{with_name, with_at}
 use Rattle.model.proofs.OptionLaws.{none_some}
 

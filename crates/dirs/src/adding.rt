@@ -27,6 +27,7 @@ impl Edit {
     ghost use Rattle.dirs.specs.Edits.{edited_block, HasEditedNames, IsSoundEdit, IsReached, FitsIn};
     ghost use Rattle.dirs.specs.FirstFit.{IsFirstFit};
     ghost use Rattle.dirs.specs.Room.{AddsPiece};
+    ghost use Rattle.entries.specs.Known.{Knows};
 
     /// Prepares that a name is added, in the first block with room for it, else in a new last one; or answers that it isn't,
     /// where it stands in the directory already. DirFull where the directory has as many names as it may have.
@@ -47,32 +48,42 @@ impl Edit {
         ensures keeps { KeepsRoom file.old.tree file.new.tree }
         ensures fits { FitsIn file.old self.old → FitsIn file.new self.new }
         ensures pieces { AddsPiece self.old self.new }
+        ensures knows { (disk : ℕ → List ℕ) → B.Shows blocks.old disk →
+            Knows inodes (edited_block disk file.old self.old) known.old →
+            OnOk result (Knows inodes (edited_block disk file.new self.new) known.new) }
         ensures there { (disk : ℕ → List ℕ) (names : NameMap) → B.Shows blocks.old disk →
+            Knows inodes (edited_block disk file.old self.old) known.old →
             HasEditedNames inodes disk file.old self.old names → IfOk result
             (λ added. IsFalse added → IsSome (names entry.now.name.now)) }
         ensures same { IfOk result (λ added. IsFalse added →
             (self.new ≡ self.old) × (file.new ≡ file.old)) }
         ensures missing { (disk : ℕ → List ℕ) (names : NameMap) → B.Shows blocks.old disk →
+            Knows inodes (edited_block disk file.old self.old) known.old →
             HasEditedNames inodes disk file.old self.old names → IfOk result
             (λ added. IsTrue added → names entry.now.name.now ≡ None) }
         ensures added { (disk : ℕ → List ℕ) (names : NameMap) → B.Shows blocks.old disk →
+            Knows inodes (edited_block disk file.old self.old) known.old →
             HasEditedNames inodes disk file.old self.old names → IfOk result
             (λ added. IsTrue added → HasEditedNames inodes disk file.new self.new
             (with_name entry.now.name.now (Some entry.now.number) names)) }
         ensures first { (disk : ℕ → List ℕ) (names : NameMap) → B.Shows blocks.old disk →
+            Knows inodes (edited_block disk file.old self.old) known.old →
             (has : HasEditedNames inodes disk file.old self.old names) → IfOk result
             (λ added. IsTrue added →
             IsFirstFit inodes (named_of entry.now) has.entries self.old.count self.new.count
             (edited_block disk file.old self.old) (edited_block disk file.new self.new)) }
         ensures sound { (disk : ℕ → List ℕ) → B.Shows blocks.old disk →
+            Knows inodes (edited_block disk file.old self.old) known.old →
             OnOk result (IsSoundEdit inodes disk file.old self.old) }
         ensures kept { (disk : ℕ → List ℕ) (names : NameMap) →
             HasEditedNames inodes disk file.old self.old names →
             OnErr result (HasEditedNames inodes disk file.new self.new names) }
         ensures room { (disk : ℕ → List ℕ) (names : NameMap) → B.Shows blocks.old disk →
+            Knows inodes (edited_block disk file.old self.old) known.old →
             HasEditedNames inodes disk file.old self.old names → IfOk result
             (λ added. IsTrue added → (n : ℕ) × HasCount names n × (n < DIRECTORY_NAMES)) }
         ensures full { (disk : ℕ → List ℕ) (names : NameMap) → B.Shows blocks.old disk →
+            Knows inodes (edited_block disk file.old self.old) known.old →
             HasEditedNames inodes disk file.old self.old names →
             IsErrOf result AddError.DirFull → (names entry.now.name.now ≡ None)
             × (n : ℕ) × HasCount names n × (DIRECTORY_NAMES ≤ n) }
@@ -92,7 +103,7 @@ impl Edit {
         }
         match survey.room {
             Some(i) => self.add_to(alloc, file, known, blocks, i, inodes, entry)?,
-            None => self.add_behind(alloc, file, inodes, entry)?,
+            None => self.add_behind(alloc, file, known, inodes, entry)?,
         }
         Ok(true)
     }
@@ -117,7 +128,11 @@ impl Edit {
         ensures many { self.new.count ≡ self.old.count }
         ensures others { (disk : ℕ → List ℕ) (j : ℕ) → (j ≢ i) →
             edited_block disk file.new self.new j ≡ edited_block disk file.old self.old j }
+        ensures knows { (disk : ℕ → List ℕ) → B.Shows blocks.old disk →
+            Knows inodes (edited_block disk file.old self.old) known.old →
+            OnOk result (Knows inodes (edited_block disk file.new self.new) known.new) }
         ensures here { (disk : ℕ → List ℕ) (entries : List Named) → B.Shows blocks.old disk →
+            Knows inodes (edited_block disk file.old self.old) known.old →
             HoldsEntries inodes (edited_block disk file.old self.old i) entries →
             used_by entries + length (entry_bytes (named_of entry.now)) ≤ 4096 →
             OnOk result (HoldsEntries inodes (edited_block disk file.new self.new i)
@@ -131,7 +146,7 @@ impl Edit {
     {
         let mut bytes = [0; BLOCK_BYTES];
         self.copy(file, blocks, i, &mut bytes)?;
-        known.add(self.key(i), &mut bytes, inodes, entry);
+        known.add(i, &mut bytes, inodes, entry);
         self.put(alloc, file, i, &bytes)?;
         Ok(())
     }
@@ -142,6 +157,7 @@ impl Edit {
         &mut self,
         alloc: Global,
         file: &mut File,
+        known: &mut Known,
         inodes: u32,
         entry: &Entry<'_>,
     ) -> Result<(), AllocError>
@@ -155,6 +171,9 @@ impl Edit {
         ensures as_many { OnErr result (self.new.count ≡ self.old.count) }
         ensures others { (disk : ℕ → List ℕ) (j : ℕ) → (j ≢ self.old.count) →
             edited_block disk file.new self.new j ≡ edited_block disk file.old self.old j }
+        ensures knows { (disk : ℕ → List ℕ) →
+            Knows inodes (edited_block disk file.old self.old) known.old →
+            OnOk result (Knows inodes (edited_block disk file.new self.new) known.new) }
         ensures here { (disk : ℕ → List ℕ) →
             OnOk result (HoldsEntries inodes (edited_block disk file.new self.new self.old.count)
             (named_of entry.now ∷ [])) }
@@ -164,6 +183,7 @@ impl Edit {
     {
         let mut bytes = [0; BLOCK_BYTES];
         add(&mut bytes, inodes, entry);
+        known.forget_from(self.count);
         self.put(alloc, file, self.count, &bytes)?;
         self.count += 1;
         Ok(())

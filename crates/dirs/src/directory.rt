@@ -13,6 +13,7 @@ ghost use Rattle.model.specs.Paths.{Name};
 ghost use Rattle.layout.specs.DirectoryNames.{number_of, NameMap};
 ghost use Rattle.dirs.specs.Directory.{AreDirectoryBlocks};
 ghost use Rattle.entries.specs.Entries.{IsObjectNumber};
+ghost use Rattle.entries.specs.Known.{Knows};
 ghost use Rattle.dirs.specs.Edits.{IsDirectory, IsReached, IsFirstFound};
 ghost use Rattle.dirs.specs.Listings.{IsListingOfNames, lists_name};
 
@@ -36,9 +37,14 @@ pub fn find<B: Blocks>(
     name: &[u8],
 ) -> Result<Option<u32>, ReadError>
     ensures reads { ReadsBlocks B.Blocks IsFault blocks.old blocks.new result }
+    ensures knows { (disk : ℕ → List ℕ) → B.Shows blocks.old disk →
+        Knows inodes (file_block disk file.now) known.old →
+        Knows inodes (file_block disk file.now) known.new }
     ensures found { (disk : ℕ → List ℕ) (names : NameMap) → B.Shows blocks.old disk →
+        Knows inodes (file_block disk file.now) known.old →
         IsDirectory inodes disk file.now names → IfOk result (λ number. number ≡ names name.now) }
     ensures sound { (disk : ℕ → List ℕ) → B.Shows blocks.old disk →
+        Knows inodes (file_block disk file.now) known.old →
         IfOk result
         (IsFirstFound inodes (file_block disk file.now) (file.now.size / 4096) name.now) }
     ensures ordinary { IfOk result (λ number. IfSome number (IsObjectNumber inodes)) }

@@ -16,6 +16,8 @@ pub struct Edit {
     pub(crate) changed: BTreeMap<u32, SharedBlock>,
     /// How many blocks the directory will have.
     pub(crate) count: u32,
+    /// What is known of its blocks then.
+    pub(crate) known: Known,
     ghost within: { count ≤ FILE_BLOCKS },
 }
 
@@ -42,6 +44,7 @@ impl Edit {
     ghost use Rattle.layout.specs.DirectoryNames.{NameMap, AllHold};
     ghost use Rattle.entries.specs.Entries.{IsObjectNumber};
     ghost use Rattle.dirs.specs.Edits.{AreWhole, edited_block, HasEditedNames, IsSoundEdit, IsReached, IsNamePlace, IsFirstFound, FitsIn, IsDirectory};
+    ghost use Rattle.entries.specs.Known.{Knows};
     ghost use Rattle.entries.specs.Looks.{TellsEntries, IsLikely};
     ghost use Rattle.dirs.specs.Room.{AddsPiece, ChangesFew, piece_count};
 
@@ -57,7 +60,17 @@ impl Edit {
         Edit {
             changed: BTreeMap::new(alloc),
             count: (file.size() / BLOCK_BYTES as u64) as u32,
+            known: Known::new(alloc),
         }
+    }
+
+    /// From now on this is what is known of the blocks as they will be.
+    pub fn keep(&mut self, known: Known)
+        ensures changed { self.new.changed ≡ self.old.changed }
+        ensures count { self.new.count ≡ self.old.count }
+        ensures known { self.new.known ≡ known }
+    {
+        self.known = known;
     }
 
     // Looks at block `i` for a name.
@@ -72,7 +85,11 @@ impl Edit {
     ) -> Result<Look, ReadError>
         ensures reads { ReadsBlocks B.Blocks IsFault blocks.old blocks.new result }
         ensures tells { (disk : ℕ → List ℕ) → B.Shows blocks.old disk →
+            Knows inodes (edited_block disk file.now self.now) known.old →
             IfOk result (TellsEntries inodes (edited_block disk file.now self.now i) name.now) }
+        ensures knows { (disk : ℕ → List ℕ) → B.Shows blocks.old disk →
+            Knows inodes (edited_block disk file.now self.now) known.old →
+            Knows inodes (edited_block disk file.now self.now) known.new }
         ensures ordinary { IfOk result (λ l. IfSome l.number (IsObjectNumber inodes)) }
         ensures likely { IfOk result IsLikely }
         ensures damaged { (disk : ℕ → List ℕ) → B.Shows blocks.old disk →
@@ -80,22 +97,16 @@ impl Edit {
             IsSoundAt (B.count blocks.old) disk file.now.tree i → (entries : List Named) →
             HoldsEntries inodes (edited_block disk file.now self.now i) entries → ⊥ }
     {
-        let key = self.key(i);
+        if let Some(look) = known.skim(i, name) {
+            return Ok(look);
+        }
+        // Of a directory of one block nothing is learned.
+        let learns = self.count > 1;
         if let Some(block) = self.changed.get(&i) {
-            return known.look_at(key, block.bytes(), inodes, name);
+            return known.look_at(i, block.bytes(), inodes, name, learns);
         }
         let location = file.locate(blocks, i)?;
-        known.look_at(key, file.bytes(blocks, i, location), inodes, name)
-    }
-
-    // By which key it is known what block `i` has, and will have: by i + 1; and by 0, where nothing is known, if the directory has one
-    // block. What is known of a block that the edit changes follows it; if the edit isn't made, it speaks of no bytes that there are.
-    pub(crate) fn key(&self, i: u32) -> u32 {
-        if self.count > 1 {
-            i.saturating_add(1)
-        } else {
-            0
-        }
+        known.look_at(i, file.bytes(blocks, i, location), inodes, name, learns)
     }
 
     // Copies block `i`.
@@ -164,10 +175,15 @@ impl Edit {
         ensures within { IfOk result (λ place. IfSome place (λ p. p.block < self.now.count)) }
         ensures ordinary { IfOk result (λ place. IfSome place
             (λ p. IsObjectNumber inodes p.number)) }
+        ensures knows { (disk : ℕ → List ℕ) → B.Shows blocks.old disk →
+            Knows inodes (edited_block disk file.now self.now) known.old →
+            Knows inodes (edited_block disk file.now self.now) known.new }
         ensures placed { (disk : ℕ → List ℕ) (entries : ℕ → List Named) → B.Shows blocks.old disk →
+            Knows inodes (edited_block disk file.now self.now) known.old →
             AllHold inodes self.now.count (edited_block disk file.now self.now) entries →
             IfOk result (IsNamePlace entries self.now.count name.now) }
         ensures first { (disk : ℕ → List ℕ) → B.Shows blocks.old disk →
+            Knows inodes (edited_block disk file.now self.now) known.old →
             IfOk result (λ place. IsFirstFound inodes (edited_block disk file.now self.now)
             self.now.count name.now (option_map (λ p. p.number) place)) }
         ensures damaged { (disk : ℕ → List ℕ) → B.Shows blocks.old disk →
@@ -194,10 +210,15 @@ impl Edit {
         name: &[u8],
     ) -> Result<Option<u32>, ReadError>
         ensures reads { ReadsBlocks B.Blocks IsFault blocks.old blocks.new result }
+        ensures knows { (disk : ℕ → List ℕ) → B.Shows blocks.old disk →
+            Knows inodes (edited_block disk file.now self.now) known.old →
+            Knows inodes (edited_block disk file.now self.now) known.new }
         ensures found { (disk : ℕ → List ℕ) (names : NameMap) → B.Shows blocks.old disk →
+            Knows inodes (edited_block disk file.now self.now) known.old →
             HasEditedNames inodes disk file.now self.now names →
             IfOk result (λ number. number ≡ names name.now) }
         ensures sound { (disk : ℕ → List ℕ) → B.Shows blocks.old disk →
+            Knows inodes (edited_block disk file.now self.now) known.old →
             IfOk result (IsFirstFound inodes (edited_block disk file.now self.now)
             self.now.count name.now) }
         ensures ordinary { IfOk result (λ number. IfSome number (IsObjectNumber inodes)) }
@@ -212,24 +233,33 @@ impl Edit {
         }
     }
 
-    /// Makes the edit: the directory's file has the prepared blocks from now on.
-    pub fn commit(self, file: &mut File)
+    /// Makes the edit: the directory's file has the prepared blocks from now on. The answer is what is known of them.
+    pub fn commit(self, file: &mut File) -> Known
         requires { FitsIn file.old self }
         ensures size { file.new.size ≡ 4096 * self.count }
         ensures ends { (disk : ℕ → List ℕ) → IsFile disk file.new }
         ensures names { (inodes : ℕ) (disk : ℕ → List ℕ) (names : NameMap) →
             HasEditedNames inodes disk file.old self names → IsDirectory inodes disk file.new names }
+        ensures knows { (inodes : ℕ) (disk : ℕ → List ℕ) →
+            Knows inodes (edited_block disk file.old self) self.known →
+            Knows inodes (file_block disk file.new) result }
         ensures base { KeepsBase file.old.tree file.new.tree }
         ensures sound { KeepsSound file.old.tree file.new.tree }
         ensures few { ChangesFew (piece_count self) file.old file.new }
         ensures whole { (disk : ℕ → List ℕ) → AreWhole (file_block disk file.old) →
             AreWhole (file_block disk file.new) }
     {
-        let Edit { mut changed, count } = self;
+        let Edit {
+            mut changed,
+            count,
+            mut known,
+        } = self;
         while let Some((i, block)) = changed.pop_first() {
             block.is_whole();
             file.set_block(i, block);
         }
         file.set_size(4096 * u64::from(count));
+        known.forget_from(count);
+        known
     }
 }

@@ -19,6 +19,7 @@ impl Edit {
     ghost use Rattle.layout.specs.DirectoryNames.{NameMap, AllHold};
     ghost use Rattle.dirs.specs.Directory.{AreDirectoryBlocks, with_name};
     ghost use Rattle.dirs.specs.Room.{AddsPiece};
+    ghost use Rattle.entries.specs.Known.{Knows};
     ghost use Rattle.dirs.specs.Edits.{edited_block, HasEditedNames, IsSoundEdit, IsReached, IsFirstFound, FitsIn};
 
     // How many blocks are left where the empty ones right before block `end` are cut away.
@@ -32,7 +33,11 @@ impl Edit {
     ) -> Result<u32, ReadError>
         ensures reads { ReadsBlocks B.Blocks IsFault blocks.old blocks.new result }
         ensures within { IfOk result (λ count. count ≤ end) }
+        ensures knows { (disk : ℕ → List ℕ) → B.Shows blocks.old disk →
+            Knows inodes (edited_block disk file.now self.now) known.old →
+            Knows inodes (edited_block disk file.now self.now) known.new }
         ensures empty { (disk : ℕ → List ℕ) (entries : ℕ → List Named) → B.Shows blocks.old disk →
+            Knows inodes (edited_block disk file.now self.now) known.old →
             AllHold inodes end (edited_block disk file.now self.now) entries →
             IfOk result (λ count. (i : ℕ) → count ≤ i → i < end → entries i ≡ []) }
         ensures damaged { (disk : ℕ → List ℕ) → B.Shows blocks.old disk →
@@ -65,10 +70,15 @@ impl Edit {
         ensures keeps { KeepsRoom file.old.tree file.new.tree }
         ensures fits { FitsIn file.old self.old → FitsIn file.new self.new }
         ensures pieces { AddsPiece self.old self.new }
+        ensures knows { (disk : ℕ → List ℕ) → B.Shows blocks.old disk →
+            Knows inodes (edited_block disk file.old self.old) known.old →
+            OnOk result (Knows inodes (edited_block disk file.new self.new) known.new) }
         ensures removed { (disk : ℕ → List ℕ) (names : NameMap) → B.Shows blocks.old disk →
+            Knows inodes (edited_block disk file.old self.old) known.old →
             HasEditedNames inodes disk file.old self.old names →
             OnOk result (HasEditedNames inodes disk file.new self.new (with_name name.now None names)) }
-        ensures sound { (disk : ℕ → List ℕ) → B.Shows blocks.old disk → OnOk result
+        ensures sound { (disk : ℕ → List ℕ) → B.Shows blocks.old disk →
+            Knows inodes (edited_block disk file.old self.old) known.old → OnOk result
             ((number : Option ℕ) × IsFirstFound inodes (edited_block disk file.old self.old)
             self.old.count name.now number) }
         ensures kept { (disk : ℕ → List ℕ) (names : NameMap) →
@@ -84,8 +94,9 @@ impl Edit {
         };
         let mut bytes = [0; BLOCK_BYTES];
         self.copy(file, blocks, place.block, &mut bytes)?;
-        known.remove(self.key(place.block), &mut bytes, inodes, name);
+        known.remove(place.block, &mut bytes, inodes, name);
         if place.block + 1 == self.count && count(&bytes, inodes) == 0 {
+            known.forget_from(place.block);
             self.count = self.trimmed(file, known, blocks, inodes, place.block)?;
             return Ok(());
         }

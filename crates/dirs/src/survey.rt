@@ -3,6 +3,7 @@
 ghost use Rattle.std.specs.Prelude.{◌≡◌, ◌+◌, ◌^◌, ◌<◌, ◌≤◌, ℕ, List, IfOk, IsErrOf, None};
 ghost use Rattle.buffers.specs.Reads.{ReadsBlocks};
 ghost use Rattle.blocktree.specs.Errors.{IsFault};
+ghost use Rattle.entries.specs.Known.{Knows};
 ghost use Rattle.dirs.specs.Edits.{edited_block, IsReached, IsSoundEdit};
 ghost use Rattle.dirs.specs.Surveys.{SurveysBlocks, IsBounded, next_place, next_room};
 
@@ -37,7 +38,11 @@ pub(crate) fn survey_of<B: Blocks>(
 ) -> Result<Survey, ReadError>
     requires { bytes ≤ 260 }
     ensures reads { ReadsBlocks B.Blocks IsFault blocks.old blocks.new result }
+    ensures knows { (disk : ℕ → List ℕ) → B.Shows blocks.old disk →
+        Knows inodes (edited_block disk file.now edit.now) known.old →
+        Knows inodes (edited_block disk file.now edit.now) known.new }
     ensures finds { (disk : ℕ → List ℕ) → B.Shows blocks.old disk →
+        Knows inodes (edited_block disk file.now edit.now) known.old →
         IfOk result
         (SurveysBlocks inodes (edited_block disk file.now edit.now) edit.now.count name.now bytes) }
     ensures bounded { IfOk result (λ s. IsBounded edit.now.count s s.room) }

@@ -1,22 +1,15 @@
 -- What is told of a block with an entry more or one fewer.
-use Rattle.std.proofs.Common.{◌≡◌, ◌∙◌, ℕ, ◌+◌, ◌^◌, ◌≤◌, ◌<◌, List, [], ◌∷◌, ◌++◌, length, Some, true, false, bytes_eq, inl, inr, ap, sym, subst, arith, slice_index}
-use Rattle.std.proofs.lemmas.Bool.{cases_Bool, le-leb, lt-ltb}
+use Rattle.std.proofs.Common.{◌≡◌, ◌∙◌, ℕ, ◌+◌, ◌^◌, ◌≤◌, List, [], ◌∷◌, ◌++◌, length, Some, true, false, bytes_eq, inl, inr, ap, sym, subst, arith}
+use Rattle.std.proofs.lemmas.Bool.{cases_Bool}
 use Rattle.std.proofs.lemmas.List.{length-append}
-use lib.Seq.{ext_get_or}
 use Rattle.layout.specs.Directory.{Named, HoldsEntries, entry_bytes}
 use Rattle.layout.specs.DirectoryNames.{number_of}
-use Rattle.layout.proofs.EntryLaws.{length-entry_bytes}
-use Rattle.buffers.specs.Positions.{with_bytes_at}
 use Rattle.model.specs.Paths.{Name}
 use Rattle.model.proofs.OptionLaws.{none_some}
 use Rattle.entries.specs.Entries.{IsOneFewer, used_by, without}
 use Rattle.entries.specs.Marks.{AreMarked, HasMarks, KeepsMarks, IsTally}
 use Rattle.entries.proofs.MissingLaws.{number_of-here, number_of-behind, same_name, without-here, without-behind}
 use Rattle.entries.proofs.Once.{entries_once}
-
--- the same of other bytes that are these
-pub holds_same : (inodes k : ℕ) (block bytes : List ℕ) (es : List Named) → inodes ≡ k → block ≡ bytes → HoldsEntries inodes block es → HoldsEntries k bytes es
-holds_same inodes k block bytes es same is holds = subst (λ (b : List ℕ). HoldsEntries k b es) is (subst (λ (n : ℕ). HoldsEntries n block es) same holds)
 
 -- ---- one fewer
 
@@ -62,11 +55,6 @@ used_by-added : (es : List Named) (e : Named) → used_by (es ++ e ∷ []) ≡ u
 used_by-added [] e = omega arith
 used_by-added (f ∷ es) e = omega (arith, used_by-added es e)
 
--- an entry has a byte at least
-pub names_within : (es : List Named) → length es ≤ used_by es
-names_within [] = omega arith
-names_within (e ∷ es) = omega (arith, names_within es, length-entry_bytes e)
-
 number_of-added : (name : Name) (es : List Named) (e : Named) → bytes_eq name e.name ≡ false → number_of name (es ++ e ∷ []) ≡ number_of name es
 number_of-added name [] e apart = number_of-behind name e [] apart
 number_of-added name (f ∷ es) e apart = elim (cases_Bool (bytes_eq name f.name)) [
@@ -92,11 +80,3 @@ added_tally inodes old new marks more names used count es e limit tally had has 
       used = λ fs h. omega (arith, tally.used es had, ap used_by (are fs h), used_by-added es e, count_is);
       marked = λ fs h. subst (AreMarked more) (sym (are fs h)) (marked_added marks more es e (tally.marked es had) keeps here);
     }
-
--- ---- the bytes that are kept
-
--- a block that gets all bytes anew has these
-pub put_all : (old new bytes : List ℕ) → ((k : ℕ) → slice_index new k ≡ with_bytes_at (slice_index old) 0 bytes k) → length new ≡ 4096 → length bytes ≡ 4096 → new ≡ bytes
-put_all old new bytes put long as_long = ext_get_or 0 new bytes (long ∙ sym as_long) (λ k lt.
-    let within : k < 0 + length bytes = omega (arith, lt) in
-    put k ∙ rw (le-leb 0 k (omega arith), lt-ltb k (0 + length bytes) within) (ap (slice_index bytes) (omega arith)))

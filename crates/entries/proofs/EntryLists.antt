@@ -1,10 +1,10 @@
 -- What a block's bytes begin with, and the entries that they are.
-use Rattle.std.proofs.Common.{◌≡◌, ℕ, zero, suc, take, drop, zero-add, append_assoc, ◌+◌, ◌*◌, ◌^◌, ◌≤◌, List, [], ◌∷◌, ◌++◌, length, Some, refl, sym, ap, subst, ◌∙◌, arith, true, false, bytes_eq}
+use Rattle.std.proofs.Common.{◌≡◌, ℕ, zero, suc, take, drop, zero-add, append_assoc, ◌+◌, ◌^◌, ◌≤◌, List, [], ◌∷◌, ◌++◌, length, Some, refl, sym, ap, subst, ◌∙◌, arith, true, false, bytes_eq}
 use Rattle.std.proofs.lemmas.List.{length-append, append_cancel_left, drop-drop, drop_at, length-replicate}
 use Rattle.layout.specs.Bytes.{zeros, Writes}
 use Rattle.layout.specs.Directory.{Named, entry_bytes, IsEntry, HoldsEntries, entry_in}
 use Rattle.layout.proofs.Formats.{some_is}
-use Rattle.layout.proofs.EntryLaws.{not_zeros, entry_again, length-entry_bytes}
+use Rattle.layout.proofs.EntryLaws.{not_zeros, entry_again}
 use Rattle.layout.specs.DirectoryNames.{number_of}
 use Rattle.entries.specs.Entries.{used_by, without}
 
@@ -111,9 +111,3 @@ removed_behind inodes bytes rest name e entries others at n m is_entry is are ap
       rw (is, sum, take_front (entry_bytes e) rest at, drop_front (entry_bytes e) rest (at + n)) (append_assoc (entry_bytes e) (take at rest) (drop (at + n) rest ++ zeros n)),
       holds,
     )
-
--- ---- how many bytes entries have at most
-
-pub used_most : (inodes : ℕ) (bytes : List ℕ) (entries : List Named) → HoldsEntries inodes bytes entries → used_by entries ≤ 260 * length entries
-used_most inodes bytes [] holds = omega arith
-used_most inodes bytes (e ∷ entries) holds = omega (arith, used_most inodes holds.0 entries holds.3, length-entry_bytes e, holds.1.name.short)

@@ -1,5 +1,5 @@
 pub mod ChangeLaws
 pub mod EntryLists
+pub mod KnownLaws
 pub mod MissingLaws
 pub mod Once
-pub mod SameLaws

@@ -1,3 +1,4 @@
 pub mod Entries
 pub mod Looks
 pub mod Marks
+pub mod Known

@@ -1,6 +1,8 @@
 //! What is known of the blocks of one directory.
 
-ghost use Rattle.std.specs.Prelude.{◌≡◌, ◌≤◌, ◌+◌, [], ◌∷◌, ◌++◌, List, length, IfOk, IfErr, IfSome, OnErr};
+ghost use Rattle.std.specs.Prelude.{◌≡◌, ◌≤◌, ◌<◌, ◌+◌, [], ◌∷◌, ◌++◌, ℕ, List, length, IfOk, IfErr, IfSome, IsFalse, OnErr, None};
+ghost use Rattle.std.specs.Ordering.{nat_cmp};
+ghost use Rattle.std.specs.BTreeMap as tree;
 ghost use Rattle.layout.specs.Directory.{Named, HoldsEntries, IsEntry, entry_bytes, named_of};
 ghost use Rattle.blocktree.specs.declared.error.ReadError.TheVariants.{Damaged};
 ghost use Rattle.entries.specs.Entries.{IsObjectNumber, used_by, without};
@@ -14,48 +16,68 @@ use layout::{BLOCK_BYTES, Entry};
 use std::alloc::Global;
 use std::collections::BTreeMap;
 
-/// Summaries of blocks that were looked at. Each is a fact of bytes and speaks of a block only as long as it has the very same ones, so
-/// that none is ever wrong, and any may be dropped.
+/// Summaries of blocks that were looked at. Any may be dropped.
 #[derive(Debug, Drop)]
 pub struct Known {
     alloc: Global,
-    /// By the block's index; none of the first block, so that a directory of one has none.
+    /// By the block's index.
     summaries: BTreeMap<u32, Summary>,
 }
 
 impl Known {
+    ghost use Rattle.entries.specs.Known.{AreButOne, Knows, Summarizes};
     ghost use Rattle.entries.specs.Looks.{TellsEntries, IsLikely};
 
     /// Nothing is known.
-    pub fn new(alloc: Global) -> Known {
+    pub fn new(alloc: Global) -> Known
+        ensures { (inodes : ℕ) (block : ℕ → List ℕ) → Knows inodes block result }
+    {
         Known {
             alloc,
             summaries: BTreeMap::new(alloc),
         }
     }
 
-    /// Looks at block `i`, which has these bytes, for a name; Damaged where it is outside its grammar.
+    /// What is known of block `i` where it hasn't this name; None where nothing is known, or it may have the name.
+    pub fn skim(&self, i: u32, name: &[u8]) -> Option<Look>
+        ensures tells { (inodes : ℕ) (block : ℕ → List ℕ) → Knows inodes block self.now →
+            IfSome result (TellsEntries inodes (block i) name.now) }
+        ensures likely { IfSome result IsLikely }
+        ensures missing { IfSome result (λ l. l.number ≡ None) }
+    {
+        match self.summaries.get(&i) {
+            Some(summary) => summary.skim(name),
+            None => None,
+        }
+    }
+
+    /// Looks at block `i`, which has these bytes, for a name. Where nothing is known of it, its entries are walked, and what they tell is
+    /// learned, if that is asked for; Damaged where it is outside its grammar.
     pub fn look_at(
         &mut self,
         i: u32,
         bytes: &[u8; BLOCK_BYTES],
         inodes: u32,
         name: &[u8],
+        learns: bool,
     ) -> Result<Look, ReadError>
-        ensures tells { IfOk result (TellsEntries inodes bytes.now name.now) }
+        ensures tells { (block : ℕ → List ℕ) → Knows inodes block self.old → block i ≡ bytes.now →
+            IfOk result (TellsEntries inodes bytes.now name.now) }
         ensures ordinary { IfOk result (λ l. IfSome l.number (IsObjectNumber inodes)) }
         ensures likely { IfOk result IsLikely }
         ensures damaged { OnErr result ((entries : List Named) →
             HoldsEntries inodes bytes.now entries → ⊥) }
         ensures only { IfErr result (λ e. e ≡ Damaged) }
+        ensures knows { (block : ℕ → List ℕ) → Knows inodes block self.old → block i ≡ bytes.now →
+            Knows inodes block self.new }
     {
-        if let Some(summary) = self.summaries.get(&i)
-            && let Some(look) = summary.look(bytes, inodes, name)
-        {
-            return Ok(look);
+        if let Some(summary) = self.summaries.get(&i) {
+            return Ok(summary.look(bytes, inodes, name));
         }
         let look = look_at(bytes, inodes, name)?;
-        self.learn(i, bytes, inodes, name, look);
+        if learns {
+            self.learn(i, bytes, inodes, name, look);
+        }
         Ok(look)
     }
 
@@ -64,13 +86,18 @@ impl Known {
     pub fn add(&mut self, i: u32, bytes: &mut [u8; BLOCK_BYTES], inodes: u32, entry: &Entry<'_>)
         requires { IsEntry inodes (named_of entry.now) }
         ensures length { length bytes.new ≡ length bytes.old }
-        ensures holds { (entries : List Named) → HoldsEntries inodes bytes.old entries →
+        ensures holds { (block : ℕ → List ℕ) (entries : List Named) → Knows inodes block self.old →
+            block i ≡ bytes.old → HoldsEntries inodes bytes.old entries →
             used_by entries + length (entry_bytes (named_of entry.now)) ≤ 4096 →
             HoldsEntries inodes bytes.new (entries ++ named_of entry.now ∷ []) }
+        ensures knows { (block next : ℕ → List ℕ) → Knows inodes block self.old →
+            block i ≡ bytes.old → next i ≡ bytes.new → AreButOne i block next →
+            Knows inodes next self.new }
     {
-        if let Some(summary) = self.summaries.get_mut(&i)
+        if let Some(mut summary) = self.take(i)
             && summary.add(bytes, inodes, entry)
         {
+            self.keep(i, summary);
             return;
         }
         add(bytes, inodes, entry);
@@ -81,27 +108,72 @@ impl Known {
         ensures length { length bytes.new ≡ length bytes.old }
         ensures holds { (entries : List Named) → HoldsEntries inodes bytes.old entries →
             HoldsEntries inodes bytes.new (without name.now entries) }
+        ensures knows { (block next : ℕ → List ℕ) → Knows inodes block self.old →
+            block i ≡ bytes.old → next i ≡ bytes.new → AreButOne i block next →
+            Knows inodes next self.new }
     {
-        if let Some(summary) = self.summaries.get_mut(&i)
+        if let Some(mut summary) = self.take(i)
             && summary.remove(bytes, inodes, name)
         {
+            self.keep(i, summary);
             return;
         }
         remove(bytes, inodes, name);
+    }
+
+    /// Nothing is known of the blocks from `count` on any more.
+    pub fn forget_from(&mut self, count: u32)
+        ensures knows { (inodes : ℕ) (block next : ℕ → List ℕ) → Knows inodes block self.old →
+            ((i : ℕ) → i < count → next i ≡ block i) → Knows inodes next self.new }
+    {
+        if self.reaches(count) {
+            self.summaries.retain(|i, _| *i < count);
+        }
+    }
+
+    // Whether something is known of a block from `count` on.
+    fn reaches(&self, count: u32) -> bool
+        ensures { IsFalse result → (i : ℕ) → count ≤ i →
+            tree.get nat_cmp self.now.summaries i ≡ None }
+    {
+        match self.summaries.last_key_value() {
+            Some((last, _)) => *last >= count,
+            None => false,
+        }
     }
 
     // Keeps the summary of a block, where there is room for it.
     fn learn(&mut self, i: u32, bytes: &[u8; BLOCK_BYTES], inodes: u32, name: &[u8], look: Look)
         requires tells { TellsEntries inodes bytes.now name.now look }
         requires likely { IsLikely look }
+        ensures knows { (block : ℕ → List ℕ) → Knows inodes block self.old → block i ≡ bytes.now →
+            Knows inodes block self.new }
     {
         let has = self.summaries.contains_key(&i);
-        if i == 0 || (!has && self.summaries.len() >= MOST_KNOWN) {
+        if !has && self.summaries.len() >= MOST_KNOWN {
             return;
         }
         let Ok(summary) = Summary::of(self.alloc, bytes, inodes, name, look) else {
             return;
         };
+        self.keep(i, summary);
+    }
+
+    // Takes the summary of a block, which isn't known then.
+    fn take(&mut self, i: u32) -> Option<Summary>
+        ensures told { (inodes : ℕ) (block : ℕ → List ℕ) → Knows inodes block self.old →
+            IfSome result (Summarizes inodes (block i)) }
+        ensures left { (inodes : ℕ) (block next : ℕ → List ℕ) → Knows inodes block self.old →
+            AreButOne i block next → Knows inodes next self.new }
+    {
+        self.summaries.remove(&i)
+    }
+
+    // Keeps this as the summary of a block, where there is memory.
+    fn keep(&mut self, i: u32, summary: Summary)
+        ensures { (inodes : ℕ) (block : ℕ → List ℕ) → Knows inodes block self.old →
+            Summarizes inodes (block i) summary → Knows inodes block self.new }
+    {
         let _ = self.summaries.insert(i, summary);
     }
 }

@@ -5,7 +5,6 @@ mod entries;
 mod known;
 mod look;
 mod marks;
-mod same;
 mod summary;
 
 pub use entries::{add, count, remove};
@@ -23,3 +22,6 @@ const MOST_KNOWN: usize = 256;
 
 /// Changes that a summary follows. The marks of names that were taken away stay, so it is made anew before they are many.
 const MOST_CHANGES: u32 = 256;
+
+/// Entries that a block has at the most.
+const MOST_NAMES: u32 = 4096;

@@ -30,6 +30,7 @@ pub struct Object {
 }
 
 impl Object {
+    ghost use Rattle.entries.specs.Known.{Knows};
     ghost use Rattle.layout.specs.Limits.{Sizes};
     ghost use Rattle.images.specs.Nodes.{held};
     ghost use Rattle.images.specs.Soundness.{Detail, IsHeldFile, IsSoundFile};
@@ -52,6 +53,8 @@ impl Object {
         ensures settled { IfOk result (λ o. StartsFrom inode.body inode.size o.file.tree) }
         ensures unchanged { IfOk result (λ o. StartsUnchanged inode.body o.file.tree) }
         ensures base { IfOk result (λ o. IsBased inode o.file.tree) }
+        ensures known { IfOk result (λ o. (inodes : ℕ) (block : ℕ → List ℕ)
+            → Knows inodes block o.known) }
     {
         let attributes = Attributes {
             kind: inode.kind,

@@ -18,12 +18,13 @@ use Rattle.images.specs.Nodes.{held}
 use Rattle.images.specs.Roots.{free_inode}
 use Rattle.images.specs.Sizes.{StandsForIn}
 use Rattle.images.specs.Soundness.{Detail, IsHeldFile, IsOrdinary, by_bytes, by_sizes}
+use Rattle.entries.specs.Known.{Knows}
 use Rattle.inode.specs.Bases.{IsBased, StartsFrom, StartsUnchanged}
 use Rattle.inode.specs.Files.{file_block, IsAsHeld, IsFile, IsSameFile}
 use Rattle.inode.specs.declared.file.File.{File}
 use Rattle.inode.specs.declared.object.Attributes.{Attributes}
 use Rattle.inode.specs.declared.object.Object.{Object}
-use Rattle.inofile.specs.Objects.{EndsIn, IsAsSettled, IsObjectIn, IsObjectKind, IsObjectOrNone, IsSameObject, IsSameOrNone, IsUntouched}
+use Rattle.inofile.specs.Objects.{EndsIn, IsAsSettled, IsObjectIn, IsObjectKind, IsObjectOrNone, IsSameObject, IsSameOrNone, IsUntouched, StaysKnown}
 use Rattle.inofile.specs.Settled.{content_of_object, held_content, unless_free, settled_content}
 use Rattle.inofile.proofs.DetailLaws.{HasSizeOf, by_size}
 use Rattle.std.proofs.lemmas.Bool.{false≢true}
@@ -91,6 +92,7 @@ pub record IsLoaded (i : Inode) (o : Object) : Type 0 where
   pub size : o.file.size ≡ i.size
   pub base : IsBased i o.file.tree
   pub used : i.kind ≡ kinds.Free → ⊥
+  pub known : (inodes : ℕ) (block : ℕ → List ℕ) → Knows inodes block o.known
 
 pub loaded_content : (disk : ℕ → List ℕ) (i : Inode) (o : Object) → IsLoaded i o → IsAsHeld disk i o.file → content_of_object disk o ≡ held_content disk i
 unfolding held
@@ -111,6 +113,7 @@ loaded_object detail disk inodes s i o found inode is same ends ordinary stands 
   stands = subst (λ (c : Content). StandsForIn detail inodes c found) (sym (loaded_content disk i o is same)) stands;
   ends = ends;
   base = is.base;
+  known = λ directory. is.known inodes (file_block disk o.file);
 }
 
 -- ---- objects in place of others
@@ -130,11 +133,11 @@ same_ends by_bytes disk old new same ends = same_file_ends disk old new same end
 same_ends by_sizes disk old new same ends = tt
 
 pub same_object : (detail : Detail) (disk : ℕ → List ℕ) (inodes : ℕ) (settled : Inode) (was now : Option Object) (found : Option Node) → IsSameOrNone was now
-    → IsObjectOrNone detail disk inodes settled was found → IsObjectOrNone detail disk inodes settled now found
-same_object detail disk inodes settled None None found same is = is
-same_object detail disk inodes settled None (Some o) found same is = absurd same
-same_object detail disk inodes settled (Some o) None found same is = absurd same
-same_object detail disk inodes settled (Some old) (Some new) found same is = record {
+    → StaysKnown inodes disk was now → IsObjectOrNone detail disk inodes settled was found → IsObjectOrNone detail disk inodes settled now found
+same_object detail disk inodes settled None None found same stays is = is
+same_object detail disk inodes settled None (Some o) found same stays is = absurd same
+same_object detail disk inodes settled (Some o) None found same stays is = absurd same
+same_object detail disk inodes settled (Some old) (Some new) found same stays is = record {
   kind = subst (λ (a : Attributes). IsObjectKind a.kind) (sym same.attributes) is.kind;
   mode = subst (λ (a : Attributes). a.mode ≤ 4095) (sym same.attributes) is.mode;
   fits = λ s.
@@ -143,6 +146,7 @@ same_object detail disk inodes settled (Some old) (Some new) found same is = rec
   stands = subst (λ (c : Content). StandsForIn detail inodes c found) (sym (same_content disk old new same)) is.stands;
   ends = same_ends detail disk old.file new.file same.file is.ends;
   base = same.file.base settled is.base;
+  known = λ directory. stays (is.known (subst (λ (a : Attributes). a.kind ≡ kinds.Directory) same.attributes directory));
 }
 
 same_untouched : (old new : Object) → IsSameObject old new → IsUntouched old → IsUntouched new

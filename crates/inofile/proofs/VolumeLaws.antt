@@ -13,7 +13,7 @@ use Rattle.images.specs.Sizes.{StandsForIn}
 use Rattle.images.specs.Soundness.{Detail}
 use Rattle.inode.specs.declared.object.Object.{Object}
 use Rattle.inofile.specs.Inodes.{IsKnownSlot, slot_content}
-use Rattle.inofile.specs.Objects.{IsAsSettled, IsObjectOrNone, IsSameOrNone}
+use Rattle.inofile.specs.Objects.{IsAsSettled, IsObjectOrNone, IsSameOrNone, StaysKnown}
 use Rattle.inofile.specs.Settled.{content_of_object, held_content, settled_content}
 use Rattle.inofile.specs.Volumes.{SlotStandsFor, MapsVolume, HasNoOwn, slot_with}
 use Rattle.inofile.specs.declared.inode_file.ObjectSlot.{ObjectSlot}
@@ -109,12 +109,12 @@ load_same disk settled old new number object up not same n = elim (cases_eq n nu
 
 -- an object that is put back into what memory has of a number
 pub back_stands : (detail : Detail) (disk : ℕ → List ℕ) (inodes : ℕ) (settled : Inode) (slot : Option ObjectSlot) (was now : Option Object) (found : Option Node) → IsKnownSlot slot → IsSameOrNone was now
-    → SlotStandsFor detail disk inodes settled (slot_with was slot) found → SlotStandsFor detail disk inodes settled (slot_with now slot) found
-back_stands detail disk inodes settled (Some AsSettled) was now found known same stands = absurd known
-back_stands detail disk inodes settled (Some (Loaded out)) was now found known same stands =
-    (same_settled disk settled was now same stands.0, same_object detail disk inodes settled was now found same stands.1)
-back_stands detail disk inodes settled (Some (Changed out)) was now found known same stands = same_object detail disk inodes settled was now found same stands
-back_stands detail disk inodes settled None was now found known same stands = absurd known
+    → StaysKnown inodes disk was now → SlotStandsFor detail disk inodes settled (slot_with was slot) found → SlotStandsFor detail disk inodes settled (slot_with now slot) found
+back_stands detail disk inodes settled (Some AsSettled) was now found known same stays stands = absurd known
+back_stands detail disk inodes settled (Some (Loaded out)) was now found known same stays stands =
+    (same_settled disk settled was now same stands.0, same_object detail disk inodes settled was now found same stays stands.1)
+back_stands detail disk inodes settled (Some (Changed out)) was now found known same stays stands = same_object detail disk inodes settled was now found same stays stands
+back_stands detail disk inodes settled None was now found known same stays stands = absurd known
 
 -- the file system's own numbers stay without objects
 pub own_stay : (number : ℕ) (node : Option Node) (v : Volume) → 3 ≤ number → HasNoOwn v → HasNoOwn (with_node number node v)

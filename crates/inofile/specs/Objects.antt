@@ -14,7 +14,8 @@ use Rattle.images.specs.Roots.{free_inode}
 use Rattle.images.specs.Sizes.{StandsForIn}
 use Rattle.images.specs.Soundness.{Detail, by_bytes, by_sizes}
 use Rattle.inode.specs.Bases.{IsBased}
-use Rattle.inode.specs.Files.{IsFile, IsSameFile}
+use Rattle.entries.specs.Known.{Knows}
+use Rattle.inode.specs.Files.{IsFile, IsSameFile, file_block}
 use Rattle.inode.specs.declared.file.File.{File}
 use Rattle.inode.specs.declared.object.Object.{Object}
 use Rattle.inofile.specs.Settled.{content_of_object, held_content}
@@ -35,7 +36,7 @@ IsObjectKind kinds.InodeMap = ⊥
 IsObjectKind kinds.BlockMap = ⊥
 
 -- An object in memory stands for this one of a volume, in so much detail. Its mode, links and size are such as its kind allows in an
--- image of any sizes, it ends at its size, and its tree is based on the inode that is settled under its number.
+-- image of any sizes, it ends at its size, its tree is based on the inode that is settled under its number, and what is known of a directory's blocks is so.
 pub record IsObjectIn (detail : Detail) (disk : ℕ → List ℕ) (inodes : ℕ) (settled : Inode) (o : Object) (found : Option Node) : Type 0 where
   pub kind : IsObjectKind o.attributes.kind
   pub mode : o.attributes.mode ≤ MODE_BITS
@@ -44,6 +45,7 @@ pub record IsObjectIn (detail : Detail) (disk : ℕ → List ℕ) (inodes : ℕ)
   pub stands : StandsForIn detail inodes (content_of_object disk o) found
   pub ends : EndsIn detail disk o.file
   pub base : IsBased settled o.file.tree
+  pub known : o.attributes.kind ≡ kinds.Directory → Knows inodes (file_block disk o.file) o.known
 
 abbrev pub IsObject : (ℕ → List ℕ) → ℕ → Inode → Object → Option Node → Type 0
 IsObject = IsObjectIn by_bytes
@@ -71,6 +73,13 @@ IsAsSettled disk settled None = settled ≡ free_inode
 pub record IsSameObject (old new : Object) : Type 0 where
   pub attributes : new.attributes ≡ old.attributes
   pub file : IsSameFile old.file new.file
+
+-- what is known of an object's blocks is so where it was
+abbrev pub StaysKnown : ℕ → (ℕ → List ℕ) → Option Object → Option Object → Type 0
+StaysKnown inodes disk (Some old) (Some new) = Knows inodes (file_block disk old.file) old.known → Knows inodes (file_block disk new.file) new.known
+StaysKnown inodes disk (Some old) None = Unit {0}
+StaysKnown inodes disk None (Some new) = Unit {0}
+StaysKnown inodes disk None None = Unit {0}
 
 abbrev pub IsSameOrNone : Option Object → Option Object → Type 0
 IsSameOrNone (Some old) (Some new) = IsSameObject old new

@@ -11,7 +11,7 @@ ghost use Rattle.model.specs.Volumes.{Volume};
 ghost use Rattle.images.specs.Contents.{HoldsVolume};
 ghost use Rattle.images.specs.Soundness.{Detail};
 ghost use Rattle.inode.specs.declared.object.Object.{Object};
-ghost use Rattle.inofile.specs.Objects.{IsObjectIn, IsSameOrNone};
+ghost use Rattle.inofile.specs.Objects.{IsObjectIn, IsSameOrNone, StaysKnown};
 ghost use Rattle.inofile.specs.Settled.{AreSettled, content_of_object, held_content, settled_content};
 
 use crate::{InodeFile, ObjectSlot};
@@ -123,7 +123,8 @@ impl InodeFile {
         ensures volume { (detail : Detail) (was : Option Object) (count : ℕ) (disk : ℕ → List ℕ)
             (settled : ℕ → Inode) (v : Volume)
             → IsVolumeWithout detail number was count disk settled self.old v
-            → IsSameOrNone was object → IsVolumeIn detail count disk settled self.new v }
+            → IsSameOrNone was object → StaysKnown self.old.geometry.inodes disk was object
+            → IsVolumeIn detail count disk settled self.new v }
     {
         let slot = self.slot_with(number, object);
         let _ = self.slots.insert(number, slot);

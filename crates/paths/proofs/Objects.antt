@@ -11,7 +11,7 @@ use Rattle.images.specs.Contents.{Content, StandsAs, content_bytes}
 use Rattle.inode.specs.Files.{file_block}
 use Rattle.inode.specs.declared.object.Object.{Object}
 use Rattle.inode.proofs.BaseLaws.{same_itself}
-use Rattle.inofile.specs.Objects.{IsObject, IsObjectIn, IsObjectKind, IsObjectOrNone, IsSameOrNone}
+use Rattle.inofile.specs.Objects.{IsObject, IsObjectIn, IsObjectKind, IsObjectOrNone, IsSameOrNone, StaysKnown}
 use Rattle.images.specs.Sizes.{CanReadBlock}
 use Rattle.images.specs.Soundness.{Detail}
 use Rattle.inofile.specs.Settled.{content_of_object}
@@ -90,6 +90,10 @@ found_is kinds.BlockMap inodes c node is = sym (ap found_in is)
 pub same_object : (x : Option Object) → IsSameOrNone x x
 same_object (Some o) = record { attributes = refl; file = same_itself o.file }
 same_object None = tt
+
+pub same_known : (inodes : ℕ) (disk : ℕ → List ℕ) (x : Option Object) → StaysKnown inodes disk x x
+same_known inodes disk (Some o) = λ known. known
+same_known inodes disk None = tt
 
 -- an object that was taken out, or none
 pub object_or_none : (detail : Detail) (disk : ℕ → List ℕ) (inodes : ℕ) (settled : Inode) (o : Option Object) (found : Option Node)

@@ -8,7 +8,7 @@ ghost use Rattle.dirs.specs.Listings.{IsListingOfNames};
 ghost use Rattle.entries.specs.Entries.{IsObjectNumber};
 ghost use Rattle.images.specs.Soundness.{Detail};
 ghost use Rattle.inode.specs.declared.object.Object.{Object};
-ghost use Rattle.inofile.specs.Objects.{IsObjectOrNone, IsSameOrNone};
+ghost use Rattle.inofile.specs.Objects.{IsObjectOrNone, IsSameOrNone, StaysKnown};
 ghost use Rattle.layout.specs.declared.inode.Inode.{Inode};
 ghost use Rattle.layout.specs.declared.kind.Kind.TheVariants as kinds;
 ghost use Rattle.inode.specs.Files.{bytes_of_file};
@@ -98,6 +98,8 @@ fn find_in<B: Blocks>(
 ) -> Result<Option<u32>, ReadError>
     ensures reads { ReadsBlocks B.Blocks IsFault blocks.old blocks.new result }
     ensures same { IsSameOrNone object.old object.new }
+    ensures knows { (disk : ℕ → List ℕ) → B.Shows blocks.old disk →
+        StaysKnown inodes disk object.old object.new }
     ensures within { IfOk result (λ number. IfSome number (IsObjectNumber inodes)) }
     ensures found { (detail : Detail) (disk : ℕ → List ℕ) (settled : Inode) (node : Option Node) →
         B.Shows blocks.old disk → IsObjectOrNone detail disk inodes settled object.old node →

@@ -7,6 +7,7 @@ use Rattle.layout.specs.Inode.{FitsKind}
 use Rattle.layout.specs.Limits.{Sizes}
 use Rattle.layout.specs.declared.inode.Inode.{Inode}
 use Rattle.layout.specs.declared.kind.Kind.{Kind}
+use Rattle.layout.specs.declared.kind.Kind.TheVariants as kinds
 use Rattle.model.specs.Edits.{resized, written}
 use Rattle.model.specs.Records.{Applies, applied, size_before, with_file_bytes, work_of}
 use Rattle.model.specs.Room.{cost}
@@ -125,6 +126,10 @@ module _ (disk : ℕ → List ℕ) (inodes : ℕ) (o : Object) (found : Option N
   ends_in by_bytes rewrites = ends_there disk o.file new change done rewrites.ends
   ends_in by_sizes rewrites = tt
 
+-- a file is no directory
+file_apart : {X : Type 0} (k : Kind) → k ≡ kinds.File → k ≡ kinds.Directory → X
+file_apart k file directory = cc
+
 pub bytes_put : (detail : Detail) (disk : ℕ → List ℕ) (inodes : ℕ) (settled : Inode) (o : Object) (found : Option Node) (f : List ℕ → List ℕ) (change : Change) (new : File)
     → IsObjectIn detail disk inodes settled o found → IsTrue (is_file_node found) → RewritesFile detail disk f o.file change → IsCommitted o.file change new
     → IsObjectIn detail disk inodes settled (record { attributes = o.attributes; file = new; known = o.known }) (with_file_bytes f found)
@@ -135,6 +140,7 @@ bytes_put detail disk inodes settled o found f change new was is rewrites done =
   stands = stands_in disk inodes o found f change new is done detail rewrites was.stands;
   ends = ends_in disk inodes o found f change new is done detail rewrites;
   base = done.base settled was.base;
+  known = λ directory. file_apart o.attributes.kind (is_kind detail o.attributes.kind inodes (content_of_object disk o) found was.stands is) directory;
 }
 
 -- ---- the record of a change

@@ -1,9 +1,16 @@
 -- Names that directories of a volume get and lose.
-use Rattle.std.proofs.Common.{◌≡◌, ◌≢◌, inl, inr, ℕ, zero, suc, ◌==◌, ◌≤◌, List, Option, Some, None, IsTrue, IsSome, is_some, IfSome, IfNone, IfOk, Result, Ok, Err, false, refl, sym, ap, subst, ◌∙◌, arith}
+use Rattle.std.proofs.Common.{◌≡◌, ◌≢◌, inl, inr, ℕ, zero, suc, ◌==◌, ◌≤◌, List, Option, Some, None, IsTrue, IsSome, is_some, IfNone, false, refl, sym, ap, subst, ◌∙◌, arith}
 use Rattle.std.proofs.Math.Path.{fun_ext}
 use Rattle.std.proofs.lemmas.Bool.{cases_Bool, cases_eq, false≢true, both_ways}
 use Rattle.std.proofs.lemmas.Bool.Decides.{nat_tests}
-use Rattle.layout.specs.DirectoryNames.{NameMap}
+use Rattle.std.specs.Prelude.{unwrap_or}
+use Rattle.std.specs.Ordering.{nat_cmp}
+use Rattle.std.specs.BTreeMap.{BTreeMap, btree_map_len, get}
+use Rattle.layout.specs.DirectoryNames.{HoldNames, NameMap}
+use Rattle.inode.specs.Files.{file_block}
+use Rattle.entries.specs.Known.{Knows}
+use Rattle.entries.specs.declared.known.Known.{Known}
+use Rattle.dirs.specs.Edits.{edited_block}
 use Rattle.layout.specs.declared.inode.Inode.{Inode}
 use Rattle.layout.specs.declared.kind.Kind.{Kind}
 use Rattle.layout.specs.declared.kind.Kind.TheVariants as kinds
@@ -18,13 +25,12 @@ use Rattle.inofile.specs.Objects.{IsObjectIn, IsObjectKind, IsObjectOrNone, IsSa
 use Rattle.images.specs.Soundness.{Detail}
 use Rattle.inofile.specs.Settled.{content_of_object}
 use Rattle.layout.specs.declared.entry.Entry.{Entry}
-use Rattle.blocktree.specs.declared.error.ReadError.{ReadError}
 use Rattle.dirs.specs.Directory.{HasCount, with_name}
 use Rattle.dirs.specs.Room.{piece_count}
 use Rattle.dirs.specs.declared.edit.Edit.{Edit}
 use Rattle.records.specs.declared.naming.NameEdit.{NameEdit}
 use Rattle.records.specs.declared.naming.NameEdit.TheVariants as edits
-use Rattle.records.specs.Entering.{Accepts, HasPlace, IsDirectoryObject, PreparesEdit, TakesEdit, TakesEntry, pieces_of, with_node_names}
+use Rattle.records.specs.Entering.{Accepts, HasPlace, IsDirectoryObject, PreparesEdit, TakesEdit, TakesEntry, names_after, pieces_of, with_node_names}
 use Rattle.records.specs.Naming.{EditsNames}
 use Rattle.inode.proofs.BaseLaws.{same_itself}
 use Rattle.model.proofs.ObjectLaws.{node_here, node_other}
@@ -70,17 +76,27 @@ pub same_names : (mode old : ℕ) (names others : NameMap) → Some (directory_n
 same_names mode old names others e = cc
 
 -- what an edit of a directory's file makes of the directory
-pub edits_directory : (disk : ℕ → List ℕ) (inodes : ℕ) (found : Option Node) (o : Object) (wanted : NameEdit) (names : NameMap) → o.attributes.kind ≡ kinds.Directory
-    → found ≡ Some (directory_node o.attributes.mode names) → (r : Result (Option Edit) ReadError) → IfOk r (EditsNames inodes disk o.file wanted names)
-    → IfOk r (λ e. IfSome e (λ x. piece_count x ≤ pieces_of wanted)) → IfOk r (PreparesEdit disk inodes wanted found (Some o))
-edits_directory disk inodes found o wanted names kind is (Ok (Some edit)) edited few = (
-  record { names = names; stands = is; kind = kind; edited = edited.1 },
-  record { mode = o.attributes.mode; names = names; is = is; takes = edited.0 },
-  few,
-)
-edits_directory disk inodes found o wanted names kind is (Ok None) never few = λ accepts.
-    never (subst (TakesEdit wanted) (same_names accepts.mode o.attributes.mode accepts.names names (sym accepts.is ∙ is)) accepts.takes)
-edits_directory disk inodes found o wanted names kind is (Err e) edited few = tt
+module _ (disk : ℕ → List ℕ) (inodes : ℕ) (found : Option Node) (o : Object) (known : Known) (wanted : NameEdit) (names : NameMap)
+    (kind : o.attributes.kind ≡ kinds.Directory) (is : found ≡ Some (directory_node o.attributes.mode names)) where
+  -- it keeps what is known of the blocks
+  pub edits_directory : (edit kept : Edit) → EditsNames inodes disk o.file known wanted names (Some edit) → piece_count edit ≤ pieces_of wanted → kept.changed ≡ edit.changed → kept.count ≡ edit.count → kept.known ≡ known
+      → PreparesEdit disk inodes wanted found (Some o) (Some kept)
+  edits_directory edit kept edited few changed count knows = (
+    record {
+      names = names;
+      stands = is;
+      kind = kind;
+      edited = subst (λ (n : ℕ). HoldNames inodes n (edited_block disk o.file kept) (names_after wanted names)) (sym count)
+          (subst (λ (m : BTreeMap ℕ (List ℕ)). HoldNames inodes edit.count (λ i. unwrap_or (get nat_cmp m i) (file_block disk o.file i)) (names_after wanted names)) (sym changed) edited.1);
+      known = subst (Knows inodes (edited_block disk o.file kept)) (sym knows) (subst (λ (m : BTreeMap ℕ (List ℕ)). Knows inodes (λ i. unwrap_or (get nat_cmp m i) (file_block disk o.file i)) known) (sym changed) edited.2);
+    },
+    record { mode = o.attributes.mode; names = names; is = is; takes = edited.0 },
+    subst (λ (m : BTreeMap ℕ (List ℕ)). btree_map_len m ≤ pieces_of wanted) (sym changed) few,
+  )
+
+  -- where there is none, the directory can't be edited so
+  pub no_edit : EditsNames inodes disk o.file known wanted names None → PreparesEdit disk inodes wanted found (Some o) None
+  no_edit never = λ accepts. never (subst (TakesEdit wanted) (same_names accepts.mode o.attributes.mode accepts.names names (sym accepts.is ∙ is)) accepts.takes)
 
 -- a directory that takes a name has place for its entry
 pub accepts_entry : (v : Volume) (d : ℕ) (entry : Entry) → TakesName v d entry.name.now → Accepts (edits.Add entry) (v d)

@@ -23,6 +23,11 @@ use Rattle.records.proofs.StandLaws.{no_look, some_stays_at_hand, stays_at_hand}
 pub same_error : {T U : Type 0} (f e d : ReadError) → f ≡ e → IsErrOf {T = T} {E = ReadError} (Err f) d → IsErrOf {T = U} {E = ReadError} (Err e) d
 same_error f e d is bad = cc
 
+-- an answer that passes on an error has that error
+pub passed_error : {T U : Type 0} {e d : ReadError} (q : Result T ReadError) → IsErrAnd q (λ f. f ≡ e) → IsErrOf q d → IsErrOf {T = U} {E = ReadError} (Err e) d
+passed_error (Ok x) is bad = absurd is
+passed_error {e = e} {d = d} (Err f) is bad = same_error f e d is bad
+
 -- what is true of one answer is true of it by another name
 pub ok_so : {T E : Type 0} (r : Result T E) (P Q : T → Type 0) → ((x : T) → P x → Q x) → IfOk r P → IfOk r Q
 ok_so (Ok x) P Q then is = then x is

@@ -1,5 +1,8 @@
 -- Names of a directory, changed one after the other.
 use Rattle.std.proofs.Common.{◌≡◌, ◌≤◌, ℕ, List, IfOk, IfSome, Option, Some, None, Result, Ok, Err, Bool, true, false, inl, inr, bytes_eq, if◌then◌else◌, refl, sym, ap, subst, ◌∙◌, arith}
+use Rattle.std.specs.Prelude.{unwrap_or}
+use Rattle.std.specs.Ordering.{nat_cmp}
+use Rattle.std.specs.BTreeMap as tree
 use Rattle.std.specs.Result.{IsErrAnd, IsErrOf}
 use Rattle.std.proofs.Math.Path.{fun_ext}
 use Rattle.std.proofs.lemmas.Bool.{cases_Bool, cond-false, cond-true}
@@ -7,7 +10,9 @@ use Rattle.std.proofs.lemmas.Slice.Eq.{bytes_eq-Decides}
 use Rattle.layout.specs.DirectoryNames.{NameMap}
 use Rattle.model.specs.Paths.{Name}
 use Rattle.dirs.specs.Directory.{with_name}
-use Rattle.dirs.specs.Edits.{HasEditedNames}
+use Rattle.dirs.specs.Edits.{HasEditedNames, edited_block}
+use Rattle.entries.specs.Known.{Knows, Summarizes}
+use Rattle.entries.specs.declared.known.Known.{Known}
 use Rattle.dirs.specs.Room.{piece_count}
 use Rattle.dirs.specs.declared.edit.Edit.{Edit}
 use Rattle.buffers.specs.Reads.{ReadsBlocks}
@@ -16,8 +21,10 @@ use Rattle.blocktree.specs.Errors.{IsFault}
 use Rattle.blocktree.specs.Trees.{IsSoundAt}
 use Rattle.blocktree.specs.declared.error.ReadError.{ReadError}
 use Rattle.blocktree.specs.declared.error.ReadError.TheVariants.{Damaged}
-use Rattle.inode.specs.Files.{IsSameFile}
+use Rattle.inode.specs.Files.{IsSameFile, file_block}
 use Rattle.inode.specs.declared.file.File.{File}
+use Rattle.inode.specs.declared.object.Object.{Object}
+use Rattle.inofile.specs.Objects.{StaysKnown}
 use Rattle.paths.proofs.Looks.{reads_more}
 use Rattle.records.specs.Naming.{EditsFile, EditsNames}
 use Rattle.records.specs.declared.naming.NameEdit.{NameEdit}
@@ -71,11 +78,11 @@ few_more few (Ok (Some edit)) is = omega (arith, few, is)
 few_more few (Ok None) is = tt
 few_more few (Err e) is = tt
 
-module _ {B : Type 0} {Had : (ℕ → List ℕ) → NameMap → Type 0} {G : Ghosts B} {a b : B} {inodes : ℕ} {file new : File} {wanted : NameEdit} {most : ℕ} where
+module _ {B : Type 0} {Had : (ℕ → List ℕ) → NameMap → Type 0} {G : Ghosts B} {a b : B} {inodes : ℕ} {file new : File} {known : Known} {wanted : NameEdit} {most : ℕ} where
   -- a step before has failed
   pub edit_stops : {T : Type 0} {e : ReadError} (q : Result (Option Edit) ReadError) → IsErrAnd q (λ f. f ≡ e) → ReadsBlocks {T = T} G IsFault a b (Err e) → IsSameFile file new
       → ((disk : ℕ → List ℕ) (names : NameMap) → G.Shows a disk → IsErrOf {T = T} {E = ReadError} (Err e) Damaged → Had disk names → ((i : ℕ) → IsSoundAt (G.count a) disk file.tree i) → ⊥)
-      → EditsFile Had most G a b inodes file new wanted q
+      → EditsFile Had most G a b inodes file new known wanted q
   edit_stops (Ok edit) is reads same sound = absurd is
   edit_stops {e = e} (Err f) is reads same sound = record {
     reads = reads_err (Err f) is reads;
@@ -86,19 +93,19 @@ module _ {B : Type 0} {Had : (ℕ → List ℕ) → NameMap → Type 0} {G : Gho
     damaged = λ disk names shows bad had grammar. sound disk names shows (same_error f e Damaged is bad) had grammar;
   }
 
-module _ {B T : Type 0} {Had Then : (ℕ → List ℕ) → NameMap → Type 0} {G : Ghosts B} {a b c : B} {inodes : ℕ} {file mid new : File} {wanted more : NameEdit} {x : T} {r : Result (Option Edit) ReadError} {low most : ℕ} where
+module _ {B T : Type 0} {Had Then : (ℕ → List ℕ) → NameMap → Type 0} {G : Ghosts B} {a b c : B} {inodes : ℕ} {file mid new : File} {known : Known} {wanted more : NameEdit} {x : T} {r : Result (Option Edit) ReadError} {low most : ℕ} where
   -- another function goes on, with other names, behind blocks that were read
-  pub edit_follows : ReadsBlocks {E = ReadError} G IsFault a b (Ok x) → IsSameFile file mid → EditsFile Then low G b c inodes mid new more r → low ≤ most → (f : NameMap → NameMap)
+  pub edit_follows : ReadsBlocks {E = ReadError} G IsFault a b (Ok x) → IsSameFile file mid → EditsFile Then low G b c inodes mid new known more r → low ≤ most → (f : NameMap → NameMap)
       → ((disk : ℕ → List ℕ) (names : NameMap) → G.Shows a disk → Had disk names → Then disk (f names))
-      → ((disk : ℕ → List ℕ) (names : NameMap) → G.Shows a disk → Had disk names → (o : Option Edit) → EditsNames inodes disk new more (f names) o → EditsNames inodes disk new wanted names o)
-      → EditsFile Had most G a c inodes file new wanted r
+      → ((disk : ℕ → List ℕ) (names : NameMap) → G.Shows a disk → Had disk names → (o : Option Edit) → EditsNames inodes disk new known more (f names) o → EditsNames inodes disk new known wanted names o)
+      → EditsFile Had most G a c inodes file new known wanted r
   edit_follows reads same last few f so turns = record {
     reads = reads_more r reads last.reads;
     same = still_same file mid new same last.same;
     fits = last.fits;
     pieces = few_more few r last.pieces;
     edited = λ disk names shows had.
-        ok_so r (EditsNames inodes disk new more (f names)) (EditsNames inodes disk new wanted names) (turns disk names shows had)
+        ok_so r (EditsNames inodes disk new known more (f names)) (EditsNames inodes disk new known wanted names) (turns disk names shows had)
         (last.edited disk (f names) (reads.same disk shows) (so disk names shows had));
     damaged = λ disk names shows is had grammar.
         last.damaged disk (f names) (reads.same disk shows) is (so disk names shows had)
@@ -106,8 +113,8 @@ module _ {B T : Type 0} {Had Then : (ℕ → List ℕ) → NameMap → Type 0} {
   }
 
 -- the same edit of names that are had in another way
-pub edit_had : {B : Type 0} {Had Then : (ℕ → List ℕ) → NameMap → Type 0} {G : Ghosts B} {a b : B} {inodes : ℕ} {file new : File} {wanted more : NameEdit} {r : Result (Option Edit) ReadError} {low most : ℕ}
-    → wanted ≡ more → EditsFile Then low G a b inodes file new more r → low ≤ most → ((disk : ℕ → List ℕ) (names : NameMap) → Had disk names → Then disk names) → EditsFile Had most G a b inodes file new wanted r
+pub edit_had : {B : Type 0} {Had Then : (ℕ → List ℕ) → NameMap → Type 0} {G : Ghosts B} {a b : B} {inodes : ℕ} {file new : File} {known : Known} {wanted more : NameEdit} {r : Result (Option Edit) ReadError} {low most : ℕ}
+    → wanted ≡ more → EditsFile Then low G a b inodes file new known more r → low ≤ most → ((disk : ℕ → List ℕ) (names : NameMap) → Had disk names → Then disk names) → EditsFile Had most G a b inodes file new known wanted r
 edit_had {inodes = inodes} {new = new} {r = r} same edits few so = record {
   reads = edits.reads;
   same = edits.same;
@@ -118,13 +125,29 @@ edit_had {inodes = inodes} {new = new} {r = r} same edits few so = record {
 }
 
 -- a name that goes, and one that stands for something else, are a move
-pub moved_names : (inodes : ℕ) (disk : ℕ → List ℕ) (file : File) (old entry : Entry) (names : NameMap) (o : Option Edit)
-    → EditsNames inodes disk file (edits.Replace entry) (with_name old.name.now None names) o → EditsNames inodes disk file (edits.Move old.name entry) names o
-moved_names inodes disk file old entry names (Some edit) is = (subst HasPlace (names_gone old.name.now entry.name.now names) is.0, is.1)
-moved_names inodes disk file old entry names None never = λ place. never (subst HasPlace (sym (names_gone old.name.now entry.name.now names)) place)
+pub moved_names : (inodes : ℕ) (disk : ℕ → List ℕ) (file : File) (known : Known) (old entry : Entry) (names : NameMap) (o : Option Edit)
+    → EditsNames inodes disk file known (edits.Replace entry) (with_name old.name.now None names) o → EditsNames inodes disk file known (edits.Move old.name entry) names o
+moved_names inodes disk file known old entry names (Some edit) is = (subst HasPlace (names_gone old.name.now entry.name.now names) is.0, is.1, is.2)
+moved_names inodes disk file known old entry names None never = λ place. never (subst HasPlace (sym (names_gone old.name.now entry.name.now names)) place)
 
 -- a name that goes, and is one more then, is replaced
-pub replaced_names : (inodes : ℕ) (disk : ℕ → List ℕ) (file : File) (entry : Entry) (names : NameMap) (o : Option Edit)
-    → EditsNames inodes disk file (edits.Add entry) (with_name entry.name.now None names) o → EditsNames inodes disk file (edits.Replace entry) names o
-replaced_names inodes disk file entry names (Some edit) is = (is.0.place, subst (HasEditedNames inodes disk file edit) (name_replaced entry.name.now (Some entry.number) names) is.1)
-replaced_names inodes disk file entry names None never = λ place. never (record { missing = name_gone entry.name.now names; place = place })
+pub replaced_names : (inodes : ℕ) (disk : ℕ → List ℕ) (file : File) (known : Known) (entry : Entry) (names : NameMap) (o : Option Edit)
+    → EditsNames inodes disk file known (edits.Add entry) (with_name entry.name.now None names) o → EditsNames inodes disk file known (edits.Replace entry) names o
+replaced_names inodes disk file known entry names (Some edit) is = (is.0.place, subst (HasEditedNames inodes disk file edit) (name_replaced entry.name.now (Some entry.number) names) is.1, is.2)
+replaced_names inodes disk file known entry names None never = λ place. never (record { missing = name_gone entry.name.now names; place = place })
+
+-- ---- what is known of a directory's blocks
+
+-- with an edit that changes nothing it is what was known
+pub unchanged_knows : (inodes : ℕ) (disk : ℕ → List ℕ) (file : File) (edit : Edit) (known : Known) → ((i : ℕ) → tree.get nat_cmp edit.changed i ≡ None) → Knows inodes (file_block disk file) known
+    → Knows inodes (edited_block disk file edit) known
+unchanged_knows inodes disk file edit known none knows i s is =
+    subst (λ (o : Option (List ℕ)). Summarizes inodes (unwrap_or o (file_block disk file i)) s) (sym (none i)) (knows i s is)
+
+-- it stays where the file stays the same
+pub same_knows : (inodes : ℕ) (disk : ℕ → List ℕ) (file new : File) (known : Known) → IsSameFile file new → Knows inodes (file_block disk file) known → Knows inodes (file_block disk new) known
+same_knows inodes disk file new known same knows i s is = subst (λ (bytes : List ℕ). Summarizes inodes bytes s) (sym (same.blocks disk i)) (knows i s is)
+
+-- what is known anew is so, whatever was known
+pub known_anew : (inodes : ℕ) (disk : ℕ → List ℕ) (o : Option Object) (old after : Object) → o ≡ Some old → Knows inodes (file_block disk after.file) after.known → StaysKnown inodes disk o (Some after)
+known_anew inodes disk o old after is knows = subst (λ (x : Option Object). StaysKnown inodes disk x (Some after)) (sym is) (λ was. knows)

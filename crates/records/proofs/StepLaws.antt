@@ -82,6 +82,7 @@ mode_set detail disk inodes settled o found mode good was is = record {
   stands = in_detail_after inodes mode (content_of_object disk o) found is detail o.attributes.kind was.stands;
   ends = was.ends;
   base = was.base;
+  known = was.known;
 }
 
 -- a step does the same where its object is the same in memory
@@ -129,6 +130,7 @@ links_set detail disk inodes settled o found links few was is = record {
   stands = in_detail_counted inodes links (content_of_object disk o) found is detail o.attributes.kind was.stands;
   ends = was.ends;
   base = was.base;
+  known = was.known;
 }
 
 -- ---- steps behind another one

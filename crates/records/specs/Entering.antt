@@ -6,7 +6,8 @@ use Rattle.layout.specs.declared.kind.Kind.TheVariants as kinds
 use Rattle.model.specs.Paths.{Name}
 use Rattle.model.specs.Volumes.{Node, directory_node}
 use Rattle.dirs.specs.Directory.{HasCount, with_name}
-use Rattle.dirs.specs.Edits.{HasEditedNames, FitsIn}
+use Rattle.dirs.specs.Edits.{HasEditedNames, FitsIn, edited_block}
+use Rattle.entries.specs.Known.{Knows}
 use Rattle.dirs.specs.Room.{piece_count}
 use Rattle.model.specs.declared.limits.TheConstants.{DIRECTORY_NAMES}
 use Rattle.dirs.specs.declared.edit.Edit.{Edit}
@@ -65,12 +66,14 @@ abbrev pub with_node_names : (NameMap → NameMap) → Option Node → Option No
 with_node_names f (Some (directory_node mode names)) = Some (directory_node mode (f names))
 with_node_names f o = o
 
--- an edit of a directory in memory makes this of its names; before, it stands for this object of a volume
+-- an edit of a directory in memory makes this of its names, and what it knows of its blocks is so then; before, it stands for this object of
+-- a volume
 pub record Edits (disk : ℕ → List ℕ) (inodes : ℕ) (f : NameMap → NameMap) (found : Option Node) (o : Object) (edit : Edit) : Type 0 where
   pub names : NameMap
   pub stands : found ≡ Some (directory_node o.attributes.mode names)
   pub kind : o.attributes.kind ≡ kinds.Directory
   pub edited : HasEditedNames inodes disk o.file edit (f names)
+  pub known : Knows inodes (edited_block disk o.file edit) edit.known
 
 -- there is an object, and an edit does so with it
 abbrev pub EditsIn : (ℕ → List ℕ) → ℕ → (NameMap → NameMap) → Option Node → Option Object → Edit → Type 0

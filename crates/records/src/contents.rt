@@ -15,7 +15,7 @@ ghost use Rattle.inode.specs.Files.{Fits};
 ghost use Rattle.inode.specs.Room.{StoresMore, size_room, write_room};
 ghost use Rattle.inode.specs.declared.object.Object.{Object};
 ghost use Rattle.inofile.specs.Inodes.{loaded};
-ghost use Rattle.inofile.specs.Objects.{EndsIn, IsObjectIn, IsObjectOrNone, IsSameObject, IsSameOrNone};
+ghost use Rattle.inofile.specs.Objects.{EndsIn, IsObjectIn, IsObjectOrNone, IsSameObject, IsSameOrNone, StaysKnown};
 ghost use Rattle.paths.specs.Numbers.{IsNumber};
 ghost use Rattle.paths.specs.Standing.{Looks};
 ghost use Rattle.records.specs.Contents.{FitsFile, IsSoundIn, IsWholeIn, KeepsRewriteBounds, LeavesPart, PlansFile, RewriteRoom, RewritesFile, RewritesIn, bytes_after, rewrite_room, rewriting};
@@ -134,6 +134,7 @@ fn plan_object<B: Blocks>(
     requires { KeepsRewriteBounds rewrite.now }
     ensures reads { ReadsBlocks B.Blocks IsFault blocks.old blocks.new result }
     ensures same { IsSameOrNone object.old object.new }
+    ensures knows { (inodes : ℕ) (disk : ℕ → List ℕ) → StaysKnown inodes disk object.old object.new }
     ensures fits { IfOk result (λ w. IfSome w (FitsFile object.new)) }
     ensures stores { IfOk result (λ w. IfSome w (RewriteRoom rewrite.now object.new)) }
     ensures told { (detail : Detail) (disk : ℕ → List ℕ) (inodes : ℕ) (settled : Inode)
@@ -167,6 +168,7 @@ fn plan_taken<B: Blocks>(
     requires { KeepsRewriteBounds rewrite.now }
     ensures reads { ReadsBlocks B.Blocks IsFault blocks.old blocks.new result }
     ensures same { IsSameObject object.old object.new }
+    ensures knows { (inodes : ℕ) (disk : ℕ → List ℕ) → StaysKnown inodes disk (Some object.old) (Some object.new) }
     ensures fits { IfOk result (λ w. IfSome w (Fits object.new.file.tree)) }
     ensures stores { IfOk result (λ w. IfSome w
         (λ x. StoresMore object.new.file x (rewrite_room object.new.file.size rewrite.now))) }

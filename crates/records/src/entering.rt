@@ -13,7 +13,7 @@ ghost use Rattle.dirs.specs.Room.{piece_count};
 ghost use Rattle.inode.specs.Room.{edit_room};
 ghost use Rattle.inode.specs.declared.object.Object.{Object};
 ghost use Rattle.inofile.specs.Inodes.{loaded};
-ghost use Rattle.inofile.specs.Objects.{IsObjectOrNone, IsSameOrNone};
+ghost use Rattle.inofile.specs.Objects.{IsObjectOrNone, IsSameOrNone, StaysKnown};
 ghost use Rattle.paths.specs.Numbers.{IsNumber};
 ghost use Rattle.records.specs.Entering.{EditsIn, FitsObject, IsDirectoryObject, IsNameEdit, PreparesEdit, with_node_names};
 ghost use Rattle.records.specs.Looking.{Finds};
@@ -26,10 +26,12 @@ use crate::naming::{NameEdit, edit_file};
 use blocktree::ReadError;
 use buffers::Blocks;
 use dirs::Edit;
+use entries::Known;
 use inode::Object;
 use inofile::{InodeFile, objects_stand_in_their_grammar};
 use layout::{InodeNumber, Kind};
 use std::alloc::Global;
+use std::mem;
 
 /// An edit of a directory's names, as it is known in memory from then on; None where the number is of no directory, or of one
 /// that can't be edited so.
@@ -89,6 +91,7 @@ fn edit_object<B: Blocks>(
     requires { IsNameEdit inodes wanted.now }
     ensures reads { ReadsBlocks B.Blocks IsFault blocks.old blocks.new result }
     ensures same { IsSameOrNone object.old object.new }
+    ensures knows { (disk : ℕ → List ℕ) → StaysKnown inodes disk object.old object.new }
     ensures fits { IfOk result (λ e. IfSome e (FitsObject object.new)) }
     ensures edits { (detail : Detail) (disk : ℕ → List ℕ) (settled : Inode) (found : Option Node)
         → B.Shows blocks.old disk → IsObjectOrNone detail disk inodes settled object.old found
@@ -105,16 +108,22 @@ fn edit_object<B: Blocks>(
     let Some(mut directory) = object.take() else {
         return Ok(None);
     };
+    // What is known of the blocks goes with the edit, which changes them; where there is none, it is learned anew.
+    let mut known = mem::replace(&mut directory.known, Known::new(alloc));
     let edit = edit_file(
         alloc,
         &mut directory.file,
-        &mut directory.known,
+        &mut known,
         blocks,
         inodes,
         wanted,
     );
     *object = Some(directory);
-    edit
+    let Some(mut edit) = edit? else {
+        return Ok(None);
+    };
+    edit.keep(known);
+    Ok(Some(edit))
 }
 
 fn is_directory(object: &Option<Object>) -> bool
@@ -136,6 +145,6 @@ pub(crate) fn commit_edit(object: &mut Option<Object>, edit: Edit)
         → IsObjectOrNone detail disk inodes settled object.new (with_node_names f found) }
 {
     if let Some(directory) = object {
-        edit.commit(&mut directory.file);
+        directory.known = edit.commit(&mut directory.file);
     }
 }

@@ -6,9 +6,10 @@ ghost use Rattle.layout.specs.DirectoryNames.{NameMap};
 ghost use Rattle.buffers.specs.Reads.{ReadsBlocks};
 ghost use Rattle.blocktree.specs.Errors.{IsFault};
 ghost use Rattle.blocktree.specs.Trees.{IsSoundAt};
-ghost use Rattle.inode.specs.Files.{IsSameFile};
+ghost use Rattle.inode.specs.Files.{IsSameFile, file_block};
 ghost use Rattle.dirs.specs.Directory.{with_name};
-ghost use Rattle.dirs.specs.Edits.{FitsIn, HasEditedNames, IsDirectory};
+ghost use Rattle.dirs.specs.Edits.{FitsIn, HasEditedNames, IsDirectory, edited_block};
+ghost use Rattle.entries.specs.Known.{Knows};
 ghost use Rattle.dirs.specs.Room.{piece_count};
 ghost use Rattle.records.specs.Entering.{IsNameEdit, pieces_of};
 ghost use Rattle.records.specs.Naming.{EditsFile};
@@ -46,8 +47,9 @@ pub(crate) fn edit_file<B: Blocks>(
     wanted: &NameEdit<'_>,
 ) -> Result<Option<Edit>, ReadError>
     requires { IsNameEdit inodes wanted.now }
-    ensures { EditsFile (λ disk. IsDirectory inodes disk file.old) (pieces_of wanted.now) B.Blocks blocks.old blocks.new
-        inodes file.old file.new wanted.now result }
+    ensures { EditsFile (λ disk names. IsDirectory inodes disk file.old names
+        × Knows inodes (file_block disk file.old) known.old) (pieces_of wanted.now) B.Blocks blocks.old blocks.new
+        inodes file.old file.new known.new wanted.now result }
 {
     let edit = Edit::of(alloc, file);
     match wanted {
@@ -70,8 +72,9 @@ fn add_new<B: Blocks>(
 ) -> Result<Option<Edit>, ReadError>
     requires entry { IsEntry inodes (named_of entry.now) }
     requires fits { FitsIn file.old edit }
-    ensures { EditsFile (λ disk. HasEditedNames inodes disk file.old edit) (piece_count edit + 1) B.Blocks blocks.old blocks.new
-        inodes file.old file.new (NameEdit.Add entry.now) result }
+    ensures { EditsFile (λ disk names. HasEditedNames inodes disk file.old edit names
+        × Knows inodes (edited_block disk file.old edit) known.old) (piece_count edit + 1) B.Blocks blocks.old blocks.new
+        inodes file.old file.new known.new (NameEdit.Add entry.now) result }
 {
     let mut edit = edit;
     match edit.prepare_add(alloc, file, known, blocks, inodes, entry) {
@@ -95,8 +98,9 @@ fn remove_one<B: Blocks>(
     name: &[u8],
 ) -> Result<Option<Edit>, ReadError>
     requires fits { FitsIn file.old edit }
-    ensures { EditsFile (λ disk. HasEditedNames inodes disk file.old edit) (piece_count edit + 1) B.Blocks blocks.old blocks.new
-        inodes file.old file.new (edits.Remove name.entry) result }
+    ensures { EditsFile (λ disk names. HasEditedNames inodes disk file.old edit names
+        × Knows inodes (edited_block disk file.old edit) known.old) (piece_count edit + 1) B.Blocks blocks.old blocks.new
+        inodes file.old file.new known.new (edits.Remove name.entry) result }
 {
     let edit = remove_in(alloc, file, known, blocks, inodes, edit, name)?;
     Ok(Some(edit))
@@ -114,8 +118,9 @@ fn replace_in<B: Blocks>(
 ) -> Result<Option<Edit>, ReadError>
     requires entry { IsEntry inodes (named_of entry.now) }
     requires fits { FitsIn file.old edit }
-    ensures { EditsFile (λ disk. HasEditedNames inodes disk file.old edit) (piece_count edit + 2) B.Blocks blocks.old blocks.new
-        inodes file.old file.new (NameEdit.Replace entry.now) result }
+    ensures { EditsFile (λ disk names. HasEditedNames inodes disk file.old edit names
+        × Knows inodes (edited_block disk file.old edit) known.old) (piece_count edit + 2) B.Blocks blocks.old blocks.new
+        inodes file.old file.new known.new (NameEdit.Replace entry.now) result }
 {
     let edit = remove_in(alloc, file, known, blocks, inodes, edit, entry.name)?;
     add_new(alloc, file, known, blocks, inodes, edit, entry)
@@ -133,8 +138,9 @@ fn place_in<B: Blocks>(
 ) -> Result<Option<Edit>, ReadError>
     requires entry { IsEntry inodes (named_of entry.now) }
     requires fits { FitsIn file.old edit }
-    ensures { EditsFile (λ disk. HasEditedNames inodes disk file.old edit) (piece_count edit + 2) B.Blocks blocks.old blocks.new
-        inodes file.old file.new (NameEdit.Replace entry.now) result }
+    ensures { EditsFile (λ disk names. HasEditedNames inodes disk file.old edit names
+        × Knows inodes (edited_block disk file.old edit) known.old) (piece_count edit + 2) B.Blocks blocks.old blocks.new
+        inodes file.old file.new known.new (NameEdit.Replace entry.now) result }
 {
     let mut edit = edit;
     match edit.prepare_add(alloc, file, known, blocks, inodes, entry) {
@@ -160,8 +166,9 @@ fn move_in<B: Blocks>(
 ) -> Result<Option<Edit>, ReadError>
     requires entry { IsEntry inodes (named_of entry.now) }
     requires fits { FitsIn file.old edit }
-    ensures { EditsFile (λ disk. HasEditedNames inodes disk file.old edit) (piece_count edit + 3) B.Blocks blocks.old blocks.new
-        inodes file.old file.new (edits.Move old.entry entry.now) result }
+    ensures { EditsFile (λ disk names. HasEditedNames inodes disk file.old edit names
+        × Knows inodes (edited_block disk file.old edit) known.old) (piece_count edit + 3) B.Blocks blocks.old blocks.new
+        inodes file.old file.new known.new (edits.Move old.entry entry.now) result }
 {
     let edit = remove_in(alloc, file, known, blocks, inodes, edit, old)?;
     place_in(alloc, file, known, blocks, inodes, edit, entry)
@@ -183,8 +190,10 @@ fn remove_in<B: Blocks>(
     ensures fits { IfOk result (FitsIn file.new) }
     ensures pieces { IfOk result (λ x. piece_count x ≤ piece_count edit + 1) }
     ensures edited { (disk : ℕ → List ℕ) (names : NameMap) → B.Shows blocks.old disk
+        → Knows inodes (edited_block disk file.old edit) known.old
         → HasEditedNames inodes disk file.old edit names → IfOk result
-        (λ x. HasEditedNames inodes disk file.new x (with_name name.now None names)) }
+        (λ x. HasEditedNames inodes disk file.new x (with_name name.now None names)
+        × Knows inodes (edited_block disk file.new x) known.new) }
     ensures damaged { (disk : ℕ → List ℕ) (names : NameMap) → B.Shows blocks.old disk
         → IsErrOf result ReadError.Damaged → HasEditedNames inodes disk file.old edit names
         → ((i : ℕ) → IsSoundAt (B.count blocks.old) disk file.old.tree i) → ⊥ }

@@ -23,7 +23,8 @@ loop-i-preserved g c =
       read = only_then so_far.read look.reads;
       most = omega (arith, so_far.most, more.names, look.likely.names);
       bounded = subst (IsBounded (c.loop-i.i + 1) c.with_block-survey.result) (sym more.room) (bounded_more c.loop-i.i c.args.bytes c.loop-i.survey c.with_block-survey.result c.in_ok-look.look c.requires look.likely more.names c.loop-i.survey.room so_far.bounded);
-      finds = λ disk shows. finds_more c.args.inodes (edited_block disk c.args.file.now c.args.edit.now) c.loop-i.i c.args.bytes _ c.loop-i.survey c.with_block-survey.result c.in_ok-look.look (so_far.finds disk shows) (look.tells disk (so_far.read.same disk shows)) more.place more.names more.room;
+      knows = λ disk shows knows. look.knows disk (so_far.read.same disk shows) (so_far.knows disk shows knows);
+      finds = λ disk shows knows. finds_more c.args.inodes (edited_block disk c.args.file.now c.args.edit.now) c.loop-i.i c.args.bytes _ c.loop-i.survey c.with_block-survey.result c.in_ok-look.look (so_far.finds disk shows knows) (look.tells disk (so_far.read.same disk shows) (so_far.knows disk shows knows)) more.place more.names more.room;
     }
 
 pub returns-in_err-look-clause-reads : goal.returns-in_err-look-clause-reads
@@ -31,3 +32,6 @@ returns-in_err-look-clause-reads g c = reads_err c.from_residual.result c.from_r
 
 pub returns-clause-reads : goal.returns-clause-reads
 returns-clause-reads g c = only_ok c.loop-i.invariant.read
+
+pub returns-in_err-look-clause-knows : goal.returns-in_err-look-clause-knows
+returns-in_err-look-clause-knows g c = λ disk shows knows. c.in_err-look.ensures.knows disk (c.loop-i.invariant.read.same disk shows) (c.loop-i.invariant.knows disk shows knows)

@@ -23,6 +23,7 @@ loaded c = record {
   size = c.in_ok-object-in_default.ensures.size;
   base = c.in_ok-object-in_default.ensures.base;
   used = c.in_default.not-Free;
+  known = c.in_ok-object-in_default.ensures.known;
 }
 
 untouched : (c : goal.In_ok-object-in_default) (s : Sizes) → IsInode VERSION s c.args.inode → IsUntouched c.in_ok-object-in_default.object

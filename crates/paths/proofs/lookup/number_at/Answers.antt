@@ -2,7 +2,7 @@ use Rattle.std.proofs.Common.{rules, ◌≡◌, ◌∙◌, ℕ, Option, sym, ap,
 use Rattle.inode.specs.declared.object.Object.{Object}
 use Rattle.inofile.proofs.DetailLaws.{directory_readable}
 use Rattle.inofile.proofs.RoomLaws.{back_needs}
-use Rattle.inofile.specs.Objects.{IsObjectOrNone}
+use Rattle.inofile.specs.Objects.{IsObjectOrNone, StaysKnown}
 use Rattle.inofile.specs.Settled.{content_of_object}
 use Rattle.layout.specs.Limits.{Sizes}
 use Rattle.paths.proofs.LookingUp.{fails_into}
@@ -29,7 +29,8 @@ returns g c =
         needs = back_needs memory c.take-object.new.self c.put_back.new.self n c.take-object.result c.find_in-found.new.object find.same take.slots take.back put.slots put.here;
         kept = λ {detail} disk settled v stands.
             stands_over c.load.new.blocks c.find_in-found.new.blocks c.put_back.new.self find.reads.count (find.reads.same disk stands.shows)
-            (put.volume _ c.take-object.result _ disk settled v (take.without _ _ disk settled v stands.volume) find.same);
+            (put.volume _ c.take-object.result _ disk settled v (take.without _ _ disk settled v stands.volume) find.same
+            (subst (λ (k : ℕ). StaysKnown k disk c.take-object.result c.find_in-found.new.object) (same ∙ sym (ap (λ (s : Sizes). s.inodes) take.geometry)) (find.knows disk stands.shows)));
       });
       loads = loads_more c.args.inodes.now memory c.put_back.new.self c.load.ensures.loads (record {
         known = λ k is. put.stays k (take.stays k is);

@@ -27,7 +27,7 @@ returns-clause-looks g c =
       needs = back_needs c.load_to_change.new.inodes c.take-object.new.self c.put_back.new.self c.get-n.result c.take-object.result c.plan_object-planned.new.object plan.same take.slots take.back c.put_back.ensures.slots c.put_back.ensures.here;
       kept = λ {detail} disk settled v now.
           stands_over c.load_to_change.new.blocks c.plan_object-planned.new.blocks c.put_back.new.self plan.reads.count (plan.reads.same disk now.shows)
-          (c.put_back.ensures.volume _ c.take-object.result count disk settled v (take.without _ count disk settled v now.volume) plan.same);
+          (c.put_back.ensures.volume _ c.take-object.result count disk settled v (take.without _ count disk settled v now.volume) plan.same (plan.knows _ disk));
     })
 
 pub returns-clause-planned : goal.returns-clause-planned

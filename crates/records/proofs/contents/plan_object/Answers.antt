@@ -1,6 +1,6 @@
 use Rattle.std.proofs.Common.{◌≡◌, OnOk, Option, None, Some, sym, subst, ◌∙◌}
 use Rattle.inode.specs.declared.object.Object.{Object}
-use Rattle.inofile.specs.Objects.{IsObjectOrNone}
+use Rattle.inofile.specs.Objects.{IsObjectOrNone, StaysKnown}
 use Rattle.records.specs.Contents.{IsWholeIn}
 use Rattle.model.proofs.OptionLaws.{none_some}
 use Rattle.records.proofs.contents.plan_object.Goals as goal
@@ -33,3 +33,8 @@ returns-clause-whole g c = λ disk o shows some.
 pub returns-clause-damaged : goal.returns-clause-damaged
 returns-clause-damaged g c = λ disk shows is sound.
     c.plan_taken-planned.ensures.damaged disk shows is (sound c.in-Some.taken (sym c.take.ensures.value ∙ c.in-Some.is))
+
+pub returns-clause-knows : goal.returns-clause-knows
+returns-clause-knows g c = λ inodes disk.
+    let was : c.args.object.now ≡ Some c.in-Some.taken = sym c.take.ensures.value ∙ c.in-Some.is in
+    subst (λ (x : Option Object). StaysKnown inodes disk x (Some c.plan_taken-planned.new.object)) (sym was) (c.plan_taken-planned.ensures.knows inodes disk)

@@ -5,6 +5,7 @@ use Rattle.records.specs.Contents.{rewrite_room}
 use Rattle.images.specs.Soundness.{by_bytes, by_sizes}
 use Rattle.records.proofs.KindLaws.{not_file}
 use Rattle.paths.proofs.Objects.{same_object}
+use Rattle.records.proofs.NamingLaws.{same_knows}
 use Rattle.records.proofs.contents.plan_taken.Goals as goal
 
 pub returns-in_default-clause-same : goal.returns-in_default-clause-same
@@ -27,3 +28,9 @@ returns-in_default-clause-whole g c = λ disk shows kind. absurd (c.in_default.n
 
 pub returns-clause-whole : goal.returns-clause-whole
 returns-clause-whole g c = λ disk shows kind. c.in_ok-change.ensures.whole disk shows
+
+pub returns-clause-knows : goal.returns-clause-knows
+returns-clause-knows g c = λ inodes disk. same_knows inodes disk c.args.object.now.file c.plan.new.file c.args.object.now.known c.plan.ensures.same
+
+pub returns-in_err-change-clause-knows : goal.returns-in_err-change-clause-knows
+returns-in_err-change-clause-knows g c = λ inodes disk. same_knows inodes disk c.args.object.now.file c.plan.new.file c.args.object.now.known c.plan.ensures.same

@@ -22,7 +22,7 @@ returns-in-Some-clause-edits c = λ detail disk inodes settled found f stands ed
     let o = subst (λ (x : Option Object). IsObjectOrNone detail disk inodes settled x found) c.in-Some.is stands in
     let e = subst (λ (x : Option Object). EditsIn disk inodes f found x c.args.edit) c.in-Some.is edits in
     let names = f e.names in
-    let after : Object = record { attributes = c.in-Some.directory.attributes; file = c.commit.new.file; known = c.in-Some.directory.known } in
+    let after : Object = record { attributes = c.in-Some.directory.attributes; file = c.commit.new.file; known = c.commit.result } in
     record {
       kind = o.kind;
       mode = o.mode;
@@ -37,8 +37,9 @@ returns-in-Some-clause-edits c = λ detail disk inodes settled found f stands ed
           (names, c.commit.ensures.names inodes disk names e.edited, ap (with_node_names f) e.stands));
       ends = ends_of detail disk c.commit.new.file (c.commit.ensures.ends disk);
       base = c.commit.ensures.base settled o.base;
+      known = λ is. c.commit.ensures.knows inodes disk e.known;
     }
 
 pub returns-in-Some-clause-room : goal.returns-in-Some-clause-room
 returns-in-Some-clause-room c =
-    raises_to (record { attributes = c.in-Some.directory.attributes; file = c.commit.new.file; known = c.in-Some.directory.known }) (edit_room (piece_count c.args.edit)) c.in-Some.is c.commit.ensures.few.room
+    raises_to (record { attributes = c.in-Some.directory.attributes; file = c.commit.new.file; known = c.commit.result }) (edit_room (piece_count c.args.edit)) c.in-Some.is c.commit.ensures.few.room

@@ -1,7 +1,7 @@
 use Rattle.std.proofs.Common.{◌≡◌, ℕ, Option, IfOk, ap, sym, subst, ◌∙◌}
 use Rattle.layout.specs.Limits.{Sizes}
 use Rattle.inode.specs.declared.object.Object.{Object}
-use Rattle.inofile.specs.Objects.{IsObjectOrNone}
+use Rattle.inofile.specs.Objects.{IsObjectOrNone, StaysKnown}
 use Rattle.inofile.specs.Settled.{content_of_object}
 use Rattle.inofile.proofs.DetailLaws.{directory_readable}
 use Rattle.inofile.proofs.RoomLaws.{back_needs}
@@ -25,7 +25,8 @@ returns-clause-edit g c =
         needs = back_needs c.args.inodes.now c.take-object.new.self c.put_back.new.self n c.take-object.result c.edit_object-edit.new.object edit.same take.slots take.back c.put_back.ensures.slots c.put_back.ensures.here;
         kept = λ {detail} disk settled v stands.
             stands_over c.args.blocks.now c.edit_object-edit.new.blocks c.put_back.new.self edit.reads.count (edit.reads.same disk stands.shows)
-            (c.put_back.ensures.volume _ c.take-object.result count disk settled v (take.without _ count disk settled v stands.volume) edit.same);
+            (c.put_back.ensures.volume _ c.take-object.result count disk settled v (take.without _ count disk settled v stands.volume) edit.same
+            (subst (λ (k : ℕ). StaysKnown k disk c.take-object.result c.edit_object-edit.new.object) (same ∙ sym (ap (λ (s : Sizes). s.inodes) take.geometry)) (edit.knows disk)));
       };
       stays = λ k is. c.put_back.ensures.stays k (take.stays k is);
       keeps = λ k is. c.put_back.ensures.keeps k (take.keeps k is);

@@ -4,9 +4,11 @@ use Rattle.records.proofs.NamingLaws.{edit_follows, edit_stops, moved_names}
 use Rattle.records.proofs.naming.move_in.Goals as goal
 
 pub returns-in_err-edit : goal.returns-in_err-edit
-returns-in_err-edit g c = edit_stops c.from_residual.result c.from_residual.ensures.1 c.in_err-edit.ensures.reads c.remove_in.ensures.same c.in_err-edit.ensures.damaged
+returns-in_err-edit g c = edit_stops c.from_residual.result c.from_residual.ensures.1 c.in_err-edit.ensures.reads c.remove_in.ensures.same
+    (λ disk names shows bad had. c.in_err-edit.ensures.damaged disk names shows bad had.0)
 
 pub returns : goal.returns
 returns g c =
-    edit_follows c.in_ok-edit.ensures.reads c.remove_in.ensures.same c.place_in.ensures (omega (arith, c.in_ok-edit.ensures.pieces)) (with_name c.args.old.now None) c.in_ok-edit.ensures.edited
-    (λ disk names shows had o is. moved_names c.args.inodes disk c.place_in.new.file (record { number = 0; name = c.args.old }) c.args.entry.now names o is)
+    edit_follows c.in_ok-edit.ensures.reads c.remove_in.ensures.same c.place_in.ensures (omega (arith, c.in_ok-edit.ensures.pieces)) (with_name c.args.old.now None)
+    (λ disk names shows had. c.in_ok-edit.ensures.edited disk names shows had.1 had.0)
+    (λ disk names shows had o is. moved_names c.args.inodes disk c.place_in.new.file c.place_in.new.known (record { number = 0; name = c.args.old }) c.args.entry.now names o is)

@@ -16,9 +16,12 @@ returns-in-Ok-true g c = record {
   fits = search rules;
   pieces = omega (arith, c.prepare_add.ensures.pieces);
   edited = λ disk names shows had.
-      let room = c.in-Ok-true.ensures.room disk names shows had (search rules) in
-      let gone = none_gone c.args.entry.now.name.now names (c.in-Ok-true.ensures.missing disk names shows had (search rules)) in
-      (subst HasPlace (sym gone) (record { count = room.0; counts = room.1; room = room.2 }), c.in-Ok-true.ensures.added disk names shows had (search rules));
+      let room = c.in-Ok-true.ensures.room disk names shows had.1 had.0 (search rules) in
+      let gone = none_gone c.args.entry.now.name.now names (c.in-Ok-true.ensures.missing disk names shows had.1 had.0 (search rules)) in (
+        subst HasPlace (sym gone) (record { count = room.0; counts = room.1; room = room.2 }),
+        c.in-Ok-true.ensures.added disk names shows had.1 had.0 (search rules),
+        c.in-Ok-true.ensures.knows disk shows had.1,
+      );
   damaged = search rules;
 }
 
@@ -29,9 +32,11 @@ returns-in-Ok-false g c =
     let mid = c.prepare_add.new.file in
     edit_follows {more = edits.Replace c.args.entry.now} {x = false} (search rules) (search rules) c.replace_in.ensures
     (subst (λ (e : Edit). piece_count edit + 2 ≤ piece_count e + 2) still.0 (omega arith)) (λ names. names)
-    (λ disk names shows had.
-    subst (λ (e : Edit). HasEditedNames c.args.inodes disk mid e names) (sym still.0)
-    (subst (λ (f : File). HasEditedNames c.args.inodes disk f c.args.edit names) (sym still.1) had))
+    (λ disk names shows had. (
+      subst (λ (e : Edit). HasEditedNames c.args.inodes disk mid e names) (sym still.0)
+          (subst (λ (f : File). HasEditedNames c.args.inodes disk f c.args.edit names) (sym still.1) had.0),
+      c.in-Ok-false.ensures.knows disk shows had.1,
+    ))
     (λ disk names shows had o is. is)
 
 pub returns-in-Err-DirFull : goal.returns-in-Err-DirFull
@@ -41,7 +46,7 @@ returns-in-Err-DirFull g c = record {
   fits = search rules;
   pieces = tt;
   edited = λ disk names shows had place.
-      let full = c.in-Err-DirFull.ensures.full disk names shows had (search rules) in
+      let full = c.in-Err-DirFull.ensures.full disk names shows had.1 had.0 (search rules) in
       full_has_no_place names full.1 full.2 full.3 (subst HasPlace (none_gone c.args.entry.now.name.now names full.0) place);
   damaged = search rules;
 }
@@ -53,5 +58,5 @@ returns g c = record {
   fits = search rules;
   pieces = tt;
   edited = search rules;
-  damaged = λ disk names shows is had sound. c.in-Err-Damaged.ensures.damaged disk shows (search rules) (λ i below. sound i) (λ i below. (had.entries i, had.holds i below));
+  damaged = λ disk names shows is had sound. c.in-Err-Damaged.ensures.damaged disk shows (search rules) (λ i below. sound i) (λ i below. (had.0.entries i, had.0.holds i below));
 }

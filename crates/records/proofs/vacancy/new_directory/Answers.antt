@@ -35,6 +35,7 @@ returns-clause-object c = λ detail disk inodes settled.
       );
       ends = ends_of detail disk c.empty.result (λ p beyond. ap (λ (b : List ℕ). slice_index b (p % 4096)) (c.empty.ensures.blocks disk (p / 4096)) ∙ slice_index-zeros 4096 (p % 4096));
       base = c.empty.ensures.base settled;
+      known = λ is. c.new.ensures inodes (file_block disk c.empty.result);
     }
 
 pub returns-clause-good : goal.returns-clause-good

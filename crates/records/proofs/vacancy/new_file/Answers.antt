@@ -15,6 +15,7 @@ returns-clause-object c = λ detail disk inodes settled. record {
   stands = file_in detail inodes (record { kind = kinds.File; mode = c.args.mode; links = 1; size = c.empty.result.size; block = file_block disk c.empty.result }) c.empty.ensures.size (λ i. ap length (c.empty.ensures.blocks disk i) ∙ length-zeros 4096);
   ends = ends_of detail disk c.empty.result (λ p beyond. ap (λ (b : List ℕ). slice_index b (p % 4096)) (c.empty.ensures.blocks disk (p / 4096)) ∙ slice_index-zeros 4096 (p % 4096));
   base = c.empty.ensures.base settled;
+  known = λ is. c.new.ensures inodes (file_block disk c.empty.result);
 }
 
 pub returns-clause-good : goal.returns-clause-good

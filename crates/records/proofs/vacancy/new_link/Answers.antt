@@ -47,6 +47,7 @@ returns-clause-object g c = λ detail disk shows inodes settled.
       stands = link_in detail inodes (record { kind = kinds.Link; mode = c.in-Some.mode; links = 1; size = new.size; block = file_block disk new }) text bytes;
       ends = ends_of detail disk new (written_ends (byte_at disk old) (byte_at disk new) old.size new.size 0 text size ends byte);
       base = c.commit.ensures.base settled (c.prepare_write.ensures.same.base settled (c.empty-file.ensures.base settled));
+      known = λ is. c.new-2.ensures inodes (file_block disk new);
     }
 
 pub returns-clause-room : goal.returns-clause-room

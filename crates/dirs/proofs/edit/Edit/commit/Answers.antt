@@ -1,4 +1,4 @@
-use Rattle.std.proofs.Common.{rules, subst, ◌+◌, ◌<◌, ◌⊎◌, ◌≡◌, ◌∙◌, ℕ, ◌*◌, ◌/◌, ◌%◌, ◌≤◌, ◌==◌, if◌then◌else◌, List, length, slice_index, ap, sym, arith, inl, inr, ltb}
+use Rattle.std.proofs.Common.{rules, nat_cmp, None, unwrap_or, subst, ◌+◌, ◌<◌, ◌⊎◌, ◌≡◌, ◌∙◌, ℕ, ◌*◌, ◌/◌, ◌%◌, ◌≤◌, ◌==◌, if◌then◌else◌, List, length, slice_index, ap, sym, arith, inl, inr, ltb}
 use Rattle.std.specs.BTreeMap as tree
 use Rattle.std.proofs.lemmas.Bool.{cases_eq, cases_lt, cond-false, cond-true, eq-eqb, le-ltb, lt-ltb, ne_eqb}
 use Rattle.layout.specs.Bytes.{zeros}
@@ -11,6 +11,7 @@ use Rattle.inode.specs.Room.{changed_below}
 use Rattle.inode.proofs.BytePositions.{slice_index-zeros}
 use Rattle.inode.proofs.GroupLaws.{none_top, one_top}
 use Rattle.inode.proofs.RoomLaws.{edit_grows, none_changed, one_changed}
+use Rattle.dirs.proofs.KnownLaws.{none_in}
 use Rattle.dirs.proofs.edit.Edit.commit.Goals as goal
 
 pub returns-clause-ends : goal.returns-clause-ends
@@ -78,3 +79,15 @@ returns-clause-few c =
 
 pub returns-clause-sound : goal.returns-clause-sound
 returns-clause-sound c = λ blocks disk i is. c.set_size.ensures.sound blocks disk i (c.loop-i.invariant.sound blocks disk i is)
+
+pub returns-clause-knows : goal.returns-clause-knows
+returns-clause-knows c = λ inodes disk knows. c.forget_from.ensures.knows inodes _ _ knows (λ i below.
+    let size = 4096 * c.from.result in
+    let cut : file_block disk c.set_size.new.self i ≡ file_block disk c.loop-i.file i =
+    c.set_size.ensures.blocks disk i ∙ cond-true (ltb i (block_count size)) (file_block disk c.loop-i.file i) (zeros 4096) (lt-ltb i (block_count size) (omega (arith, below, c.from.ensures))) in
+    let none : tree.btree_map_len c.loop-i.changed ≡ 0 = elim (cases_lt 0 (tree.btree_map_len c.loop-i.changed)) [
+      | inl some ↦ absurd (search (rules, c.in_default.ensures.variant.1 some))
+      | inr least ↦ omega (arith, least)
+    ] in
+    let empty : tree.get nat_cmp c.loop-i.changed i ≡ None = none_in c.loop-i.changed.entries i none in
+    cut ∙ sym (ap (λ o. unwrap_or o (file_block disk c.loop-i.file i)) empty) ∙ c.loop-i.invariant.same disk i)

@@ -15,8 +15,8 @@ returns-in_err-look-clause-damaged g c = λ disk shows is reached sound.
     c.in_err-look.ensures.damaged disk (so_far.read.same disk shows) (search rules) here held.0 held.1
 
 pub returns-then-look-gt0-clause-empty : goal.returns-then-look-gt0-clause-empty
-returns-then-look-gt0-clause-empty g c = λ disk entries shows holds i from below.
-    c.loop-i.invariant.empty disk entries shows holds i (omega (arith, from)) below
+returns-then-look-gt0-clause-empty g c = λ disk entries shows knows holds i from below.
+    c.loop-i.invariant.empty disk entries shows knows holds i (omega (arith, from)) below
 
 pub loop-i-preserved : goal.loop-i-preserved
 loop-i-preserved g c =
@@ -24,19 +24,20 @@ loop-i-preserved g c =
     let look = c.in_ok-look.ensures in
     record {
       read = only_then so_far.read look.reads;
-      empty = λ disk entries shows holds j from below. elim (cases_lt j c.loop-i.i) [
+      knows = λ disk shows knows. look.knows disk (so_far.read.same disk shows) (so_far.knows disk shows knows);
+      empty = λ disk entries shows knows holds j from below. elim (cases_lt j c.loop-i.i) [
         | inl here ↦
             let is : c.loop-i.i - 1 ≡ j = omega (arith, from, here) in
             let within : c.loop-i.i - 1 < c.args.end = omega (arith, is, below) in
-            let names = (look.tells disk (so_far.read.same disk shows)).names (entries (c.loop-i.i - 1)) (holds (c.loop-i.i - 1) within) in
+            let names = (look.tells disk (so_far.read.same disk shows) (so_far.knows disk shows knows)).names (entries (c.loop-i.i - 1)) (holds (c.loop-i.i - 1) within) in
             subst (λ (k : ℕ). entries k ≡ []) is (nil_from_length (entries (c.loop-i.i - 1)) (omega (arith, names)))
-        | inr behind ↦ so_far.empty disk entries shows holds j behind below
+        | inr behind ↦ so_far.empty disk entries shows knows holds j behind below
       ];
     }
 
 pub returns-clause-empty : goal.returns-clause-empty
-returns-clause-empty g c = λ disk entries shows holds i from below.
-    c.loop-i.invariant.empty disk entries shows holds i (omega arith) below
+returns-clause-empty g c = λ disk entries shows knows holds i from below.
+    c.loop-i.invariant.empty disk entries shows knows holds i (omega arith) below
 
 pub returns-in_err-look-clause-reads : goal.returns-in_err-look-clause-reads
 returns-in_err-look-clause-reads g c = reads_err c.from_residual.result c.from_residual.ensures.1 (only_more _ c.loop-i.invariant.read c.in_err-look.ensures.reads)
@@ -46,3 +47,9 @@ returns-then-look-gt0-clause-reads g c = reads_ok (only_more _ c.loop-i.invarian
 
 pub returns-clause-reads : goal.returns-clause-reads
 returns-clause-reads g c = only_ok c.loop-i.invariant.read
+
+pub returns-in_err-look-clause-knows : goal.returns-in_err-look-clause-knows
+returns-in_err-look-clause-knows g c = λ disk shows knows. c.in_err-look.ensures.knows disk (c.loop-i.invariant.read.same disk shows) (c.loop-i.invariant.knows disk shows knows)
+
+pub returns-then-look-gt0-clause-knows : goal.returns-then-look-gt0-clause-knows
+returns-then-look-gt0-clause-knows g c = λ disk shows knows. c.in_ok-look.ensures.knows disk (c.loop-i.invariant.read.same disk shows) (c.loop-i.invariant.knows disk shows knows)

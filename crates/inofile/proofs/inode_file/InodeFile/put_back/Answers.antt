@@ -7,7 +7,7 @@ use Rattle.inofile.proofs.VolumeLaws.{all_stand, back_stands, inserted, known_so
 use Rattle.inofile.proofs.inode_file.InodeFile.put_back.Goals as goal
 
 pub returns-clause-volume : goal.returns-clause-volume
-returns-clause-volume c = λ detail was count disk settled v is same. record {
+returns-clause-volume c = λ detail was count disk settled v is same stays. record {
   inodes = is.inodes;
   mapped = is.mapped;
   own = is.own;
@@ -15,5 +15,5 @@ returns-clause-volume c = λ detail was count disk settled v is same. record {
       (inserted c.insert.result (Updates nat_cmp c.args.self.now.slots c.insert.new.self c.args.number (Some c.slot_with-slot.result)) (get nat_cmp c.args.self.now.slots c.args.number)
       c.insert.ensures.updates c.insert.ensures.absent (known_some (get nat_cmp c.args.self.now.slots c.args.number) c.requires)) v v (λ n ne. refl) is.others
       (subst (λ (x : Option ObjectSlot). SlotStandsFor detail disk c.args.self.now.geometry.inodes (settled c.args.number) x (v c.args.number)) (sym c.slot_with-slot.ensures)
-      (back_stands detail disk c.args.self.now.geometry.inodes (settled c.args.number) (get nat_cmp c.args.self.now.slots c.args.number) was c.args.object (v c.args.number) c.requires same is.taken));
+      (back_stands detail disk c.args.self.now.geometry.inodes (settled c.args.number) (get nat_cmp c.args.self.now.slots c.args.number) was c.args.object (v c.args.number) c.requires same stays is.taken));
 }
