@@ -3,7 +3,7 @@
 use crate::FILE_BLOCKS;
 use blocktree::ReadError;
 use buffers::{Blocks, SharedBlock};
-use entries::{Known, Look};
+use entries::{Known, Look, hash_of};
 use inode::File;
 use layout::BLOCK_BYTES;
 use std::alloc::{AllocError, Global};
@@ -45,6 +45,7 @@ impl Edit {
     ghost use Rattle.entries.specs.Entries.{IsObjectNumber};
     ghost use Rattle.dirs.specs.Edits.{AreWhole, edited_block, HasEditedNames, IsSoundEdit, IsReached, IsNamePlace, IsFirstFound, FitsIn, IsDirectory};
     ghost use Rattle.entries.specs.Known.{Knows};
+    ghost use Rattle.entries.specs.Marks.{hash_of};
     ghost use Rattle.entries.specs.Looks.{TellsEntries, IsLikely};
     ghost use Rattle.dirs.specs.Room.{AddsPiece, ChangesFew, piece_count};
 
@@ -73,7 +74,7 @@ impl Edit {
         self.known = known;
     }
 
-    // Looks at block `i` for a name.
+    // Looks at block `i` for a name, of which this is the hash.
     pub(crate) fn look<B: Blocks>(
         &self,
         file: &File,
@@ -82,7 +83,9 @@ impl Edit {
         i: u32,
         inodes: u32,
         name: &[u8],
+        hash: usize,
     ) -> Result<Look, ReadError>
+        requires { hash ≡ hash_of name.now }
         ensures reads { ReadsBlocks B.Blocks IsFault blocks.old blocks.new result }
         ensures tells { (disk : ℕ → List ℕ) → B.Shows blocks.old disk →
             Knows inodes (edited_block disk file.now self.now) known.old →
@@ -97,7 +100,7 @@ impl Edit {
             IsSoundAt (B.count blocks.old) disk file.now.tree i → (entries : List Named) →
             HoldsEntries inodes (edited_block disk file.now self.now i) entries → ⊥ }
     {
-        if let Some(look) = known.skim(i, name) {
+        if let Some(look) = known.skim(i, name, hash) {
             return Ok(look);
         }
         // Of a directory of one block nothing is learned.
@@ -191,8 +194,9 @@ impl Edit {
             IsReached (B.count blocks.old) disk file.now self.now.count →
             IsSoundEdit inodes disk file.now self.now → ⊥ }
     {
+        let hash = hash_of(name);
         for i in 0..self.count {
-            let look = self.look(file, known, blocks, i, inodes, name)?;
+            let look = self.look(file, known, blocks, i, inodes, name, hash)?;
             if let Some(number) = look.number {
                 return Ok(Some(Place { block: i, number }));
             }

@@ -8,7 +8,7 @@ ghost use Rattle.blocktree.specs.Errors.{IsFault};
 use crate::Edit;
 use blocktree::ReadError;
 use buffers::Blocks;
-use entries::{Known, count};
+use entries::{Known, count, hash_of};
 use inode::File;
 use layout::BLOCK_BYTES;
 use std::alloc::Global;
@@ -45,8 +45,9 @@ impl Edit {
             IsReached (B.count blocks.old) disk file.now end →
             AreDirectoryBlocks inodes end (edited_block disk file.now self.now) → ⊥ }
     {
+        let hash = hash_of(b"");
         for i in (0..end).rev() {
-            let look = self.look(file, known, blocks, i, inodes, b"")?;
+            let look = self.look(file, known, blocks, i, inodes, b"", hash)?;
             if look.names > 0 {
                 return Ok(i + 1);
             }

@@ -11,7 +11,7 @@ use crate::Edit;
 use crate::edit::Place;
 use blocktree::ReadError;
 use buffers::Blocks;
-use entries::{Known, Look};
+use entries::{Known, Look, hash_of};
 use inode::File;
 use layout::BLOCK_BYTES;
 
@@ -56,8 +56,9 @@ pub(crate) fn survey_of<B: Blocks>(
         names: 0,
         room: None,
     };
+    let hash = hash_of(name);
     for i in 0..edit.count {
-        let look = edit.look(file, known, blocks, i, inodes, name)?;
+        let look = edit.look(file, known, blocks, i, inodes, name, hash)?;
         survey = with_block(survey, i, look, bytes);
     }
     Ok(survey)

@@ -9,7 +9,7 @@ use Rattle.model.proofs.OptionLaws.{none_some}
 use Rattle.entries.specs.Entries.{IsOneFewer, used_by, without}
 use Rattle.entries.specs.Marks.{AreMarked, HasMarks, KeepsMarks, IsTally}
 use Rattle.entries.proofs.MissingLaws.{number_of-here, number_of-behind, same_name, without-here, without-behind}
-use Rattle.entries.proofs.Once.{entries_once}
+use Rattle.entries.proofs.Once.{entries_once, keeps_name}
 
 -- ---- one fewer
 
@@ -65,9 +65,7 @@ number_of-added name (f ∷ es) e apart = elim (cases_Bool (bytes_eq name f.name
 marked_added : (marks more : List ℕ) (es : List Named) (e : Named) → AreMarked marks es → KeepsMarks marks more → HasMarks more e.name → AreMarked more (es ++ e ∷ [])
 marked_added marks more es e marked keeps here name n is = elim (cases_Bool (bytes_eq name e.name)) [
   | inl same ↦ subst (HasMarks more) (sym (same_name name e.name same)) here
-  | inr apart ↦
-      let had = marked name n (sym (number_of-added name es e apart) ∙ is) in
-      (keeps _ had.0, keeps _ had.1)
+  | inr apart ↦ keeps_name marks more name keeps (marked name n (sym (number_of-added name es e apart) ∙ is))
 ]
 
 pub added_tally : (inodes : ℕ) (old new marks more : List ℕ) (names used count : ℕ) (es : List Named) (e : Named) → inodes ≤ 2 ^ 32

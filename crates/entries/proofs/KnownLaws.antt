@@ -1,70 +1,110 @@
 -- What is known of blocks, where one becomes known or unknown.
-use Rattle.std.proofs.Common.{true, nat_lt, ltb, ◌≤◌, ◌≡◌, ◌≢◌, ◌∙◌, ℕ, ◌<◌, false, List, inl, inr, sym, subst, ap, arith, nat_cmp, Some, None}
-use Rattle.std.specs.Prelude.{Result, OnOk, OnErr, Ok, Err, if◌then◌else◌}
-use Rattle.std.specs.BTreeMap.{BTreeMap, Updates, get, is_at}
-use Rattle.std.specs.List.{filter}
-use Rattle.std.specs.Map.{lookup}
-use Rattle.std.proofs.lemmas.Map.Entries.{lookup-filter-keys}
-use Rattle.std.proofs.lemmas.Bool.Decides.{nat_tests}
-use Rattle.std.proofs.lemmas.Bool.{cases_eq, cases_lt}
-use Rattle.std.proofs.lemmas.Grind.{common_steps}
-use Rattle.entries.specs.Known.{AreButOne, Knows, Summarizes}
-use Rattle.entries.specs.declared.known.Known.{Known}
+use Rattle.std.proofs.Common.{◌≡◌, ◌≢◌, ◌∙◌, ℕ, zero, suc, ◌<◌, List, [], ◌∷◌, ◌++◌, Option, length, IfSome, inl, inr, refl, sym, subst, ap, arith, Some, None}
+use Rattle.std.specs.Prelude.{Result, Ok, Err, is_ok, if◌then◌else◌, slice_get, set, take}
+use Rattle.std.proofs.lemmas.Bool.{cases_eq}
+use Rattle.entries.specs.Known.{AreButOne, Summarizes}
 use Rattle.entries.specs.declared.summary.Summary.{Summary}
 
-other_key : (a q : ℕ) → q ≢ a → is_at (nat_cmp a) q ≡ false
-other_key a q other = grind (arith, common_steps)
+-- elements of a list of which one was set, one was added, or the first ones are left
+module _ {X : Type 0} where
+  at_none : (x : X) → None ≡ Some x → ⊥
+  at_none x e = absurd cc
 
-none_some : {X : Type 0} (x : X) → None ≡ Some x → ⊥
-none_some x e = absurd cc
+  set_here : (xs : List X) (i : ℕ) (y x : X) → slice_get (set xs i y) i ≡ Some x → y ≡ x
+  set_here [] i y x is = absurd (at_none x is)
+  set_here (z ∷ xs) zero y x is = cc
+  set_here (z ∷ xs) (suc i) y x is = set_here xs i y x is
 
-pub take_leaves : (inodes : ℕ) (old new : Known) (i : ℕ) (block next : ℕ → List ℕ) → Updates nat_cmp old.summaries new.summaries i None → Knows inodes block old → AreButOne i block next → Knows inodes next new
-take_leaves inodes old new i block next updates knows others j s is = elim (cases_eq j i) [
-  | inl e ↦ absurd (none_some s (sym (ap (get nat_cmp new.summaries) e ∙ updates.1) ∙ is))
-  | inr apart ↦ subst (λ b. Summarizes inodes b s) (sym (others j apart)) (knows j s (sym (updates.2 j (other_key i j apart)) ∙ is))
+  set_other : (xs : List X) (i j : ℕ) (y : X) → j ≢ i → slice_get (set xs i y) j ≡ slice_get xs j
+  set_other [] i j y apart = refl
+  set_other (z ∷ xs) zero zero y apart = absurd (apart refl)
+  set_other (z ∷ xs) zero (suc j) y apart = refl
+  set_other (z ∷ xs) (suc i) zero y apart = refl
+  set_other (z ∷ xs) (suc i) (suc j) y apart = set_other xs i j y (λ e. apart (ap suc e))
+
+  added_here : (xs : List X) (y x : X) → slice_get (xs ++ y ∷ []) (length xs) ≡ Some x → y ≡ x
+  added_here [] y x is = cc
+  added_here (z ∷ xs) y x is = added_here xs y x is
+
+  added_other : (xs : List X) (j : ℕ) (y : X) → j ≢ length xs → slice_get (xs ++ y ∷ []) j ≡ slice_get xs j
+  added_other [] zero y apart = absurd (apart refl)
+  added_other [] (suc j) y apart = refl
+  added_other (z ∷ xs) zero y apart = refl
+  added_other (z ∷ xs) (suc j) y apart = added_other xs j y (λ e. apart (ap suc e))
+
+  among_first : (n : ℕ) (xs : List X) (i : ℕ) (x : X) → slice_get (take n xs) i ≡ Some x → (i < n) × (slice_get xs i ≡ Some x)
+  among_first zero xs i x is = absurd (at_none x is)
+  among_first (suc n) [] i x is = absurd (at_none x is)
+  among_first (suc n) (z ∷ xs) zero x is = (omega arith, is)
+  among_first (suc n) (z ∷ xs) (suc i) x is =
+      let b = among_first n xs i x is in
+      (omega (arith, b.0), b.1)
+
+no_summary : (s : Summary) → None ≡ Some s → ⊥
+no_summary s e = absurd cc
+
+same_summary : (s t : Summary) → Some s ≡ Some t → s ≡ t
+same_summary s t e = cc
+
+-- each of these summaries tells of the block with its index
+abbrev AreKnown : ℕ → (ℕ → List ℕ) → List (Option Summary) → Type 0
+AreKnown inodes block xs = (i : ℕ) (s : Summary) → slice_get xs i ≡ Some (Some s) → Summarizes inodes (block i) s
+
+module _ (inodes : ℕ) (xs ys : List (Option Summary)) where
+  pub same_known : (block : ℕ → List ℕ) → ys ≡ xs → AreKnown inodes block xs → AreKnown inodes block ys
+  same_known block is known = subst (AreKnown inodes block) (sym is) known
+
+  -- there is none of one block any more
+  pub none_at : (i : ℕ) (block next : ℕ → List ℕ) → ys ≡ set xs i None → AreKnown inodes block xs → AreButOne i block next → AreKnown inodes next ys
+  none_at i block next is known others = subst (AreKnown inodes next) (sym is) left
+    where
+      left : AreKnown inodes next (set xs i None)
+      left j s had = elim (cases_eq j i) [
+        | inl e ↦ absurd (no_summary s (set_here xs i None (Some s) (sym (ap (slice_get (set xs i None)) e) ∙ had)))
+        | inr apart ↦ subst (λ b. Summarizes inodes b s) (sym (others j apart)) (known j s (sym (set_other xs i j None apart) ∙ had))
+      ]
+
+  -- there is a new one of one block
+  with_one : (i : ℕ) (summary : Summary) (block : ℕ → List ℕ) → ((s : Summary) → slice_get ys i ≡ Some (Some s) → summary ≡ s) → ((j : ℕ) → (j ≢ i) → slice_get ys j ≡ slice_get xs j)
+      → AreKnown inodes block xs → Summarizes inodes (block i) summary → AreKnown inodes block ys
+  with_one i summary block here others known tells j s had = elim (cases_eq j i) [
+    | inl e ↦ subst (λ (k : ℕ). Summarizes inodes (block k) s) (sym e) (subst (Summarizes inodes (block i)) (here s (sym (ap (slice_get ys) e) ∙ had)) tells)
+    | inr apart ↦ known j s (sym (others j apart) ∙ had)
+  ]
+
+  -- the first so many are left
+  pub first_known : (count : ℕ) (block next : ℕ → List ℕ) → ys ≡ take count xs → AreKnown inodes block xs → ((i : ℕ) → i < count → next i ≡ block i) → AreKnown inodes next ys
+  first_known count block next is known same j s had =
+      let b = among_first count xs j (Some s) (sym (ap (λ (l : List (Option Summary)). slice_get l j) is) ∙ had) in
+      subst (λ b. Summarizes inodes b s) (sym (same j b.0)) (known j s b.1)
+
+module _ (inodes : ℕ) (xs ys : List (Option Summary)) where
+  pub known_at : (i : ℕ) (summary : Summary) (block : ℕ → List ℕ) → ys ≡ set xs i (Some summary) → AreKnown inodes block xs → Summarizes inodes (block i) summary → AreKnown inodes block ys
+  known_at i summary block is known tells =
+      let zs = set xs i (Some summary) in
+      subst (AreKnown inodes block) (sym is)
+      (with_one inodes xs zs i summary block (λ t e. same_summary summary t (set_here xs i (Some summary) (Some t) e)) (λ k apart. set_other xs i k (Some summary) apart) known tells)
+
+  pub known_last : (i : ℕ) (summary : Summary) (block : ℕ → List ℕ) → ys ≡ xs ++ Some summary ∷ [] → i ≡ length xs → AreKnown inodes block xs → Summarizes inodes (block i) summary → AreKnown inodes block ys
+  known_last i summary block is last known tells =
+      let zs = xs ++ Some summary ∷ [] in
+      subst (AreKnown inodes block) (sym is)
+      (with_one inodes xs zs i summary block (λ t e. same_summary summary t (added_here xs (Some summary) (Some t) (sym (ap (slice_get zs) last) ∙ e))) (λ k apart. added_other xs k (Some summary) (λ e. apart (e ∙ sym last))) known tells)
+
+-- nothing is known of a block that has no place
+pub none_past : (inodes : ℕ) (xs : List (Option Summary)) (i : ℕ) (block next : ℕ → List ℕ) → slice_get xs i ≡ None → AreKnown inodes block xs → AreButOne i block next → AreKnown inodes next xs
+none_past inodes xs i block next none known others j s had = elim (cases_eq j i) [
+  | inl e ↦ absurd (at_none (Some s) (sym none ∙ sym (ap (slice_get xs) e) ∙ had))
+  | inr apart ↦ subst (λ b. Summarizes inodes b s) (sym (others j apart)) (known j s had)
 ]
 
-pub keep_knows : (inodes : ℕ) (old new : Known) (i : ℕ) (summary : Summary) (block : ℕ → List ℕ) → Updates nat_cmp old.summaries new.summaries i (Some summary) → Knows inodes block old → Summarizes inodes (block i) summary
-    → Knows inodes block new
-keep_knows inodes old new i summary block updates knows tells j s is = elim (cases_eq j i) [
-  | inl e ↦
-      let same : summary ≡ s = cc in
-      subst (λ (k : ℕ). Summarizes inodes (block k) s) (sym e) (subst (Summarizes inodes (block i)) same tells)
-  | inr apart ↦ knows j s (sym (updates.2 j (other_key i j apart)) ∙ is)
-]
+-- what there is of one block
+pub some_at : (inodes : ℕ) (xs : List (Option Summary)) (i : ℕ) (block : ℕ → List ℕ) (o : Option Summary) → slice_get xs i ≡ Some o → AreKnown inodes block xs → IfSome o (Summarizes inodes (block i))
+some_at inodes xs i block None is known = tt
+some_at inodes xs i block (Some s) is known = known i s is
 
--- a result, whichever it is
-pub whichever : {X E : Type 0} (r : Result X E) (A B P : Type 0) → OnOk r A → OnErr r B → (A → P) → (B → P) → P
-whichever (Ok x) A B P a b first second = first a
-whichever (Err e) A B P a b first second = second b
-
-pub keep_none : (inodes : ℕ) (old new : Known) (block : ℕ → List ℕ) → new.summaries.entries ≡ old.summaries.entries → Knows inodes block old → Knows inodes block new
-keep_none inodes old new block same knows j s is = knows j s (ap (lookup (is_at (nat_cmp j))) (sym same) ∙ is)
-
-below_true : (i n : ℕ) → i < n → ltb i n ≡ true
-below_true i n lt = grind (arith, nat_tests)
-
-below_false : (i n : ℕ) → n ≤ i → ltb i n ≡ false
-below_false i n le = grind (arith, nat_tests)
-
--- what is known of the first so many
-cut_at : (m n : BTreeMap ℕ Summary) (count : ℕ) → n.entries ≡ filter (λ e. nat_lt e.0 count) m.entries → (j : ℕ) → get nat_cmp n j ≡ (if nat_lt j count then get nat_cmp m j else None)
-cut_at m n count e j = rw e (lookup-filter-keys (is_at (nat_cmp j)) (λ (k : ℕ). nat_lt k count) (nat_lt j count) (λ k at. found_key j k at) m.entries)
-  where
-    found_key : (j k : ℕ) → is_at (nat_cmp j) k ≡ true → nat_lt k count ≡ nat_lt j count
-    found_key j k at = grind (arith, common_steps, nat_tests)
-
-pub cut_knows : (inodes : ℕ) (old new : Known) (count : ℕ) (block next : ℕ → List ℕ) → new.summaries.entries ≡ filter (λ e. nat_lt e.0 count) old.summaries.entries
-    → Knows inodes block old → ((i : ℕ) → i < count → next i ≡ block i) → Knows inodes next new
-cut_knows inodes old new count block next cut knows same j s is = elim (cases_lt j count) [
-  | inl lt ↦ subst (λ b. Summarizes inodes b s) (sym (same j lt)) (knows j s (rw (below_true j count lt) at (sym (cut_at old.summaries new.summaries count cut j)) ∙ is))
-  | inr ge ↦ absurd (none_some s (rw (below_false j count ge) at (sym (cut_at old.summaries new.summaries count cut j)) ∙ is))
-]
-
--- where nothing is known of the others
-pub low_knows : (inodes : ℕ) (k : Known) (count : ℕ) (block next : ℕ → List ℕ) → ((i : ℕ) → count ≤ i → get nat_cmp k.summaries i ≡ None)
-    → Knows inodes block k → ((i : ℕ) → i < count → next i ≡ block i) → Knows inodes next k
-low_knows inodes k count block next none knows same j s is = elim (cases_lt j count) [
-  | inl lt ↦ subst (λ b. Summarizes inodes b s) (sym (same j lt)) (knows j s is)
-  | inr ge ↦ absurd (none_some s (sym (none j ge) ∙ is))
-]
+-- a new one behind the others, where memory sufficed
+pub pushed : {E : Type 0} (inodes : ℕ) (xs ys : List (Option Summary)) (r : Result Unit E) (i : ℕ) (summary : Summary) (block : ℕ → List ℕ) → ys ≡ (if is_ok r then xs ++ Some summary ∷ [] else xs) → i ≡ length xs
+    → AreKnown inodes block xs → Summarizes inodes (block i) summary → AreKnown inodes block ys
+pushed inodes xs ys (Ok x) i summary block is last known tells = known_last inodes xs ys i summary block is last known tells
+pushed inodes xs ys (Err e) i summary block is last known tells = same_known inodes xs ys block is known

@@ -1,7 +1,5 @@
 -- What is known of the blocks of a directory.
-use Rattle.std.specs.Prelude.{ℕ, ◌≡◌, List, Some}
-use Rattle.std.specs.Ordering.{nat_cmp}
-use Rattle.std.specs.BTreeMap as tree
+use Rattle.std.specs.Prelude.{ℕ, ◌≡◌, List, Some, slice_get}
 use Rattle.entries.specs.Marks.{IsBlock, IsTally}
 use Rattle.entries.specs.declared.known.Known.{Known}
 use Rattle.entries.specs.declared.summary.Summary.{Summary}
@@ -13,7 +11,7 @@ pub record Summarizes (inodes : ℕ) (bytes : List ℕ) (s : Summary) : Type 0 w
 
 -- each summary that there is tells of the block with its index
 abbrev pub Knows : ℕ → (ℕ → List ℕ) → Known → Type 0
-Knows inodes block k = (i : ℕ) (s : Summary) → tree.get nat_cmp k.summaries i ≡ Some s → Summarizes inodes (block i) s
+Knows inodes block k = (i : ℕ) (s : Summary) → slice_get k.summaries.items i ≡ Some (Some s) → Summarizes inodes (block i) s
 
 -- blocks that are the same but for one
 abbrev pub AreButOne : ℕ → (ℕ → List ℕ) → (ℕ → List ℕ) → Type 0

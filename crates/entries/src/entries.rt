@@ -1,12 +1,13 @@
 //! The entries of one block. A block outside its grammar is safe to look at, and nothing is said of what comes out.
 
-ghost use Rattle.std.specs.Prelude.{◌≡◌, ◌+◌, ◌<◌, ◌≤◌, ◌∷◌, [], ◌++◌, List, length, Option, IfSome, IfNone, None, take, drop};
+ghost use Rattle.std.specs.Prelude.{◌≡◌, ◌+◌, ◌<◌, ◌≤◌, ◌∷◌, [], ◌++◌, List, length, Option, IfSome, IfNone, None, Some, take, drop};
 ghost use Rattle.layout.specs.Bytes.{zeros};
 ghost use Rattle.layout.specs.Directory.{Named, HoldsEntries, IsEntry, entry_bytes, named_of};
 ghost use Rattle.layout.specs.DirectoryNames.{number_of};
 ghost use Rattle.entries.specs.Entries.{IsObjectNumber, IsOneFewer, without, used_by};
 
-use layout::{Entry, NextEntry, next_entry};
+use layout::{Entry, InodeNumber, NextEntry, first_entry, next_entry};
+use model::FIRST_NUMBER;
 
 /// The number that a name stands for among the entries of a block.
 pub(crate) fn find(bytes: &[u8], inodes: u32, name: &[u8]) -> Option<u32>
@@ -14,16 +15,26 @@ pub(crate) fn find(bytes: &[u8], inodes: u32, name: &[u8]) -> Option<u32>
         result ≡ number_of name.now entries }
     ensures ordinary { IfSome result (IsObjectNumber inodes) }
 {
-    match next_entry(bytes, inodes) {
-        NextEntry::End => None,
-        NextEntry::Malformed => None,
-        NextEntry::Entry { entry, rest } => {
-            if name == entry.name {
-                Some(entry.number.get())
-            } else {
-                find(rest, inodes, name)
-            }
-        }
+    let Some((entry, rest)) = first_entry(bytes) else {
+        return None;
+    };
+    if name == entry.name {
+        ordinary(entry.number, inodes)
+    } else {
+        find(rest, inodes, name)
+    }
+}
+
+// An object's number; None where it is none in an image of so many inodes.
+fn ordinary(number: InodeNumber, inodes: u32) -> Option<u32>
+    ensures same { IsObjectNumber inodes number → result ≡ Some number }
+    ensures ordinary { IfSome result (IsObjectNumber inodes) }
+{
+    let number = number.get();
+    if FIRST_NUMBER <= number && number < inodes {
+        Some(number)
+    } else {
+        None
     }
 }
 
@@ -101,17 +112,14 @@ pub(crate) fn place_of(bytes: &[u8], inodes: u32, name: &[u8]) -> Option<(usize,
     ensures missing { (entries : List Named) → HoldsEntries inodes bytes.now entries →
         IfNone result (number_of name.now entries ≡ None) }
 {
-    match next_entry(bytes, inodes) {
-        NextEntry::End => None,
-        NextEntry::Malformed => None,
-        NextEntry::Entry { entry, rest } => {
-            if name == entry.name {
-                return Some((0, entry.encoded_len()));
-            }
-            let Some((at, count)) = place_of(rest, inodes, name) else {
-                return None;
-            };
-            Some((entry.encoded_len() + at, count))
-        }
+    let Some((entry, rest)) = first_entry(bytes) else {
+        return None;
+    };
+    if name == entry.name {
+        return Some((0, entry.encoded_len()));
     }
+    let Some((at, count)) = place_of(rest, inodes, name) else {
+        return None;
+    };
+    Some((entry.encoded_len() + at, count))
 }

@@ -1,8 +1,6 @@
 //! What is known of the blocks of one directory.
 
-ghost use Rattle.std.specs.Prelude.{◌≡◌, ◌≤◌, ◌<◌, ◌+◌, [], ◌∷◌, ◌++◌, ℕ, List, length, IfOk, IfErr, IfSome, IsFalse, OnErr, None};
-ghost use Rattle.std.specs.Ordering.{nat_cmp};
-ghost use Rattle.std.specs.BTreeMap as tree;
+ghost use Rattle.std.specs.Prelude.{◌≡◌, ◌≤◌, ◌<◌, ◌+◌, [], ◌∷◌, ◌++◌, ℕ, List, length, IfOk, IfErr, IfSome, OnErr, None};
 ghost use Rattle.layout.specs.Directory.{Named, HoldsEntries, IsEntry, entry_bytes, named_of};
 ghost use Rattle.blocktree.specs.declared.error.ReadError.TheVariants.{Damaged};
 ghost use Rattle.entries.specs.Entries.{IsObjectNumber, used_by, without};
@@ -14,17 +12,17 @@ use crate::summary::Summary;
 use blocktree::ReadError;
 use layout::{BLOCK_BYTES, Entry};
 use std::alloc::Global;
-use std::collections::BTreeMap;
 
 /// Summaries of blocks that were looked at. Any may be dropped.
 #[derive(Debug, Drop)]
 pub struct Known {
     alloc: Global,
     /// By the block's index.
-    summaries: BTreeMap<u32, Summary>,
+    summaries: Vec<Option<Summary>>,
 }
 
 impl Known {
+    ghost use Rattle.entries.specs.Marks.{hash_of};
     ghost use Rattle.entries.specs.Known.{AreButOne, Knows, Summarizes};
     ghost use Rattle.entries.specs.Looks.{TellsEntries, IsLikely};
 
@@ -34,19 +32,20 @@ impl Known {
     {
         Known {
             alloc,
-            summaries: BTreeMap::new(alloc),
+            summaries: Vec::new(alloc),
         }
     }
 
-    /// What is known of block `i` where it hasn't this name; None where nothing is known, or it may have the name.
-    pub fn skim(&self, i: u32, name: &[u8]) -> Option<Look>
+    /// What is known of block `i` where it hasn't this name, of which this is the hash; None where nothing is known, or it may have the name.
+    pub fn skim(&self, i: u32, name: &[u8], hash: usize) -> Option<Look>
+        requires { hash ≡ hash_of name.now }
         ensures tells { (inodes : ℕ) (block : ℕ → List ℕ) → Knows inodes block self.now →
             IfSome result (TellsEntries inodes (block i) name.now) }
         ensures likely { IfSome result IsLikely }
         ensures missing { IfSome result (λ l. l.number ≡ None) }
     {
-        match self.summaries.get(&i) {
-            Some(summary) => summary.skim(name),
+        match self.summary(i) {
+            Some(summary) => summary.skim(name, hash),
             None => None,
         }
     }
@@ -71,7 +70,7 @@ impl Known {
         ensures knows { (block : ℕ → List ℕ) → Knows inodes block self.old → block i ≡ bytes.now →
             Knows inodes block self.new }
     {
-        if let Some(summary) = self.summaries.get(&i) {
+        if let Some(summary) = self.summary(i) {
             return Ok(summary.look(bytes, inodes, name));
         }
         let look = look_at(bytes, inodes, name)?;
@@ -126,31 +125,28 @@ impl Known {
         ensures knows { (inodes : ℕ) (block next : ℕ → List ℕ) → Knows inodes block self.old →
             ((i : ℕ) → i < count → next i ≡ block i) → Knows inodes next self.new }
     {
-        if self.reaches(count) {
-            self.summaries.retain(|i, _| *i < count);
-        }
+        self.summaries.truncate(count as usize);
     }
 
-    // Whether something is known of a block from `count` on.
-    fn reaches(&self, count: u32) -> bool
-        ensures { IsFalse result → (i : ℕ) → count ≤ i →
-            tree.get nat_cmp self.now.summaries i ≡ None }
+    // The summary of block `i`, if it is known.
+    fn summary(&self, i: u32) -> Option<&Summary>
+        ensures { (inodes : ℕ) (block : ℕ → List ℕ) → Knows inodes block self.now →
+            IfSome result (λ s. Summarizes inodes (block i) s.now) }
     {
-        match self.summaries.last_key_value() {
-            Some((last, _)) => *last >= count,
-            None => false,
+        match self.summaries.get(i as usize) {
+            Some(slot) => slot.as_ref(),
+            None => None,
         }
     }
 
-    // Keeps the summary of a block, where there is room for it.
+    // Keeps the summary of a block, where there is room for it and the blocks before it are known.
     fn learn(&mut self, i: u32, bytes: &[u8; BLOCK_BYTES], inodes: u32, name: &[u8], look: Look)
         requires tells { TellsEntries inodes bytes.now name.now look }
         requires likely { IsLikely look }
         ensures knows { (block : ℕ → List ℕ) → Knows inodes block self.old → block i ≡ bytes.now →
             Knows inodes block self.new }
     {
-        let has = self.summaries.contains_key(&i);
-        if !has && self.summaries.len() >= MOST_KNOWN {
+        if i >= MOST_KNOWN || i as usize > self.summaries.len() {
             return;
         }
         let Ok(summary) = Summary::of(self.alloc, bytes, inodes, name, look) else {
@@ -166,14 +162,23 @@ impl Known {
         ensures left { (inodes : ℕ) (block next : ℕ → List ℕ) → Knows inodes block self.old →
             AreButOne i block next → Knows inodes next self.new }
     {
-        self.summaries.remove(&i)
+        let i = i as usize;
+        if i >= self.summaries.len() {
+            return None;
+        }
+        self.summaries[i].take()
     }
 
-    // Keeps this as the summary of a block, where there is memory.
+    // Keeps this as the summary of a block, where there is memory and those before it have a place.
     fn keep(&mut self, i: u32, summary: Summary)
         ensures { (inodes : ℕ) (block : ℕ → List ℕ) → Knows inodes block self.old →
             Summarizes inodes (block i) summary → Knows inodes block self.new }
     {
-        let _ = self.summaries.insert(i, summary);
+        let i = i as usize;
+        if i < self.summaries.len() {
+            self.summaries[i] = Some(summary);
+        } else if i == self.summaries.len() {
+            let _ = self.summaries.push(Some(summary));
+        }
     }
 }

@@ -1,14 +1,15 @@
 //! Marks of the names in a block: two for each name, by a hash of it.
 
-ghost use Rattle.std.specs.Prelude.{◌≡◌, ◌↔◌, ◌<◌, List, IsTrue, length};
+ghost use Rattle.std.specs.Prelude.{◌≡◌, ◌+◌, ◌%◌, ◌↔◌, ◌<◌, ◌≤◌, List, IsTrue, length};
 ghost use Rattle.layout.specs.Directory.{Named, HoldsEntries};
-ghost use Rattle.entries.specs.Marks.{AreMarked, HasMarks, KeepsMarks, hash_of};
+ghost use Rattle.model.specs.Paths.{Name};
+ghost use Rattle.entries.specs.Marks.{AreMarked, HasMarks, IsMarkedAt, KeepsMarks, MayBe, hash_of, print_of};
 
-use crate::{HASHES, MARKS};
+use crate::{HASHES, MARKS, PRINTS, SHARED};
 use layout::{NextEntry, next_entry};
 
 /// A name's hash: its two marks stand at the parts of this number.
-fn hash_of(name: &[u8]) -> usize
+pub fn hash_of(name: &[u8]) -> usize
     ensures value { result ≡ hash_of name.now }
     ensures within { result < HASHES }
 {
@@ -18,12 +19,28 @@ fn hash_of(name: &[u8]) -> usize
     }
 }
 
-/// Whether both marks of a name are there.
-pub(crate) fn has_marks(marks: &[u8; MARKS], name: &[u8]) -> bool
-    ensures { IsTrue result ↔ HasMarks marks.now name.now }
+// What stands at the places of a name with this hash, where no other name has them.
+fn print_of(hash: usize) -> u8
+    ensures value { (name : Name) → hash ≡ hash_of name → result ≡ print_of name }
+    ensures some { 1 ≤ result }
 {
-    let hash = hash_of(name);
-    marks[hash % MARKS] == 1 && marks[hash / MARKS] == 1
+    (hash % PRINTS) as u8 + 1
+}
+
+// Whether this mark may be a name's with this print.
+fn may_be(mark: u8, print: u8) -> bool
+    ensures { IsTrue result ↔ MayBe mark print }
+{
+    mark == print || mark == SHARED
+}
+
+/// Whether both marks of a name with this hash are there.
+pub(crate) fn has_marks(marks: &[u8; MARKS], hash: usize) -> bool
+    requires { hash < HASHES }
+    ensures { (name : Name) → hash ≡ hash_of name → (IsTrue result ↔ HasMarks marks.now name) }
+{
+    let print = print_of(hash);
+    may_be(marks[hash % MARKS], print) && may_be(marks[hash / MARKS], print)
 }
 
 /// Sets both marks of a name.
@@ -32,8 +49,21 @@ pub(crate) fn mark(marks: &mut [u8; MARKS], name: &[u8])
     ensures marked { HasMarks marks.new name.now }
 {
     let hash = hash_of(name);
-    marks[hash % MARKS] = 1;
-    marks[hash / MARKS] = 1;
+    let print = print_of(hash);
+    mark_at(marks, hash % MARKS, print);
+    mark_at(marks, hash / MARKS, print);
+}
+
+// Sets one mark; where a name with another print has it, they share it.
+fn mark_at(marks: &mut [u8; MARKS], at: usize, print: u8)
+    requires place { at < MARKS }
+    requires print { 1 ≤ print }
+    ensures keeps { KeepsMarks marks.old marks.new }
+    ensures marked { IsMarkedAt marks.new at print }
+{
+    let old = marks[at];
+    let is_free = old == 0 || old == print;
+    marks[at] = if is_free { print } else { SHARED };
 }
 
 /// Marks the names of a block's entries.

@@ -30,6 +30,7 @@ use std::alloc::{AllocError, Global};
 
 impl Summary {
     ghost use Rattle.entries.specs.Known.{Summarizes};
+    ghost use Rattle.entries.specs.Marks.{hash_of};
     ghost use Rattle.entries.specs.Looks.{TellsEntries, IsLikely};
 
     /// The summary of these bytes, of which a look told so much.
@@ -54,14 +55,15 @@ impl Summary {
         })
     }
 
-    /// What it tells of a name that its block hasn't; None where the block may have it.
-    pub(crate) fn skim(&self, name: &[u8]) -> Option<Look>
+    /// What it tells of a name, of which this is the hash, that its block hasn't; None where the block may have it.
+    pub(crate) fn skim(&self, name: &[u8], hash: usize) -> Option<Look>
+        requires { hash ≡ hash_of name.now }
         ensures tells { (inodes : ℕ) (bytes : List ℕ) → Summarizes inodes bytes self.now →
             IfSome result (TellsEntries inodes bytes name.now) }
         ensures likely { IfSome result IsLikely }
         ensures missing { IfSome result (λ l. l.number ≡ None) }
     {
-        if has_marks(&self.marks, name) {
+        if has_marks(&self.marks, hash) {
             return None;
         }
         Some(Look {

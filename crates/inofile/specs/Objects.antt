@@ -36,7 +36,8 @@ IsObjectKind kinds.InodeMap = ⊥
 IsObjectKind kinds.BlockMap = ⊥
 
 -- An object in memory stands for this one of a volume, in so much detail. Its mode, links and size are such as its kind allows in an
--- image of any sizes, it ends at its size, its tree is based on the inode that is settled under its number, and what is known of a directory's blocks is so.
+-- image of any sizes, it ends at its size, its tree is based on the inode that is settled under its number, and what is known of a
+-- directory's blocks is so.
 pub record IsObjectIn (detail : Detail) (disk : ℕ → List ℕ) (inodes : ℕ) (settled : Inode) (o : Object) (found : Option Node) : Type 0 where
   pub kind : IsObjectKind o.attributes.kind
   pub mode : o.attributes.mode ≤ MODE_BITS

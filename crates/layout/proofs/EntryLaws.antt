@@ -1,6 +1,6 @@
 -- An entry of a directory: what is read is spelled so, and what is spelled so is read, whatever stands behind it. And blocks
 -- of entries: their first entry is what their bytes begin with.
-use Rattle.std.proofs.Common.{◌≡◌, ◌≢◌, ℕ, ◌+◌, ◌^◌, ◌≤◌, ◌↔◌, List, [], ◌∷◌, ◌++◌, length, Some, refl, sym, ap, subst, ◌∙◌, append_assoc, arith}
+use Rattle.std.proofs.Common.{◌≡◌, ◌≢◌, ℕ, ◌+◌, ◌^◌, ◌<◌, ◌≤◌, ◌↔◌, List, [], ◌∷◌, ◌++◌, length, Some, refl, sym, ap, subst, ◌∙◌, append_assoc, arith}
 use Rattle.std.proofs.lemmas.List.{length-append, append_cancel_left}
 use Rattle.layout.specs.Bytes.{little, number, zeros, IsBytes}
 use Rattle.layout.specs.Format.{counted}
@@ -24,6 +24,15 @@ unfolding entry_in
 entry_again inodes e rest limit is =
     rw (entry_exact.again (e.number, e.name) rest (omega (arith, is.below), omega (arith, is.name.short))) refl
 
+-- a name is no longer than its length's byte tells
+pub entry_short : (bytes : List ℕ) (e : Named) → IsBytes bytes → entry_in bytes ≡ Some e → length e.name ≤ 255
+unfolding entry_in
+entry_short bytes e fits read =
+    let w = bind_some (entry_fields.at bytes) (λ x. Some (record { number = x.0.0; name = x.0.1 })) e read in
+    let t = entry_exact.takes bytes w.0 fits w.1 in
+    let same : w.0.0.1 ≡ e.name = ap (λ (n : Named). n.name) (some_is (record { number = w.0.0.0; name = w.0.0.1 }) e w.2) in
+    omega (arith, t.1.1, ap length same)
+
 pub length-entry_bytes : (e : Named) → length (entry_bytes e) ≡ 5 + length e.name
 length-entry_bytes e = simp (length-append, length-little) (omega arith)
 
@@ -36,6 +45,24 @@ not_zeros inodes bytes rest e count limit is spelled none =
     let first : number 4 bytes ≡ e.number = ap (number 4) regrouped ∙ number-little 4 e.number ((counted 1).text e.name ++ rest) (omega (arith, is.below)) in
     let nothing : number 4 bytes ≡ 0 = ap (number 4) none ∙ number-zeros count in
     omega (arith, is.ordinary)
+
+-- bytes that begin with a number are not zeros
+pub numbered : (bytes rest : List ℕ) (e : Named) (count : ℕ) → e.number < 2 ^ 32 → 1 ≤ e.number → bytes ≡ entry_bytes e ++ rest → bytes ≢ zeros count
+numbered bytes rest e count below some spelled none =
+    let regrouped : bytes ≡ little 4 e.number ++ ((counted 1).text e.name ++ rest) = spelled ∙ append_assoc (little 4 e.number) ((counted 1).text e.name) rest in
+    let first : number 4 bytes ≡ e.number = ap (number 4) regrouped ∙ number-little 4 e.number ((counted 1).text e.name ++ rest) below in
+    let nothing : number 4 bytes ≡ 0 = ap (number 4) none ∙ number-zeros count in
+    omega (arith, some, first, nothing)
+
+-- entries that begin with none are none
+pub none_is : (inodes : ℕ) (bytes : List ℕ) (entries : List Named) → inodes ≤ 2 ^ 32 → HoldsEntries inodes bytes entries → ((e : Named) → IsEntry inodes e → entry_in bytes ≡ Some e → ⊥) → bytes ≡ zeros (length bytes)
+none_is inodes bytes [] limit holds never = holds
+none_is inodes bytes (e ∷ entries) limit holds never = absurd (never e holds.1 (ap entry_in holds.2 ∙ entry_again inodes e holds.0 limit holds.1))
+
+-- what entries begin with is one of the image
+pub first_is : (inodes : ℕ) (bytes : List ℕ) (entries : List Named) (e : Named) → inodes ≤ 2 ^ 32 → HoldsEntries inodes bytes entries → entry_in bytes ≡ Some e → bytes ≢ zeros (length bytes) → IsEntry inodes e
+first_is inodes bytes [] e limit holds read some = absurd (some holds)
+first_is inodes bytes (f ∷ entries) e limit holds read some = subst (IsEntry inodes) (some_is f e (sym (ap entry_in holds.2 ∙ entry_again inodes f holds.0 limit holds.1) ∙ read)) holds.1
 
 -- the first of the entries, where there are some
 pub record First (inodes : ℕ) (bytes : List ℕ) : Type 0 where

@@ -23,7 +23,7 @@ mod snap_root;
 mod version;
 mod writing;
 
-pub use directory::{NextEntry, is_directory_block, next_entry};
+pub use directory::{NextEntry, first_entry, is_directory_block, next_entry};
 pub use entry::Entry;
 pub use geometry::{
     Geometry, LEAST_BLOCKS, LEAST_HALF, LEAST_INODES, MOST_BLOCKS, MOST_HALF, MOST_INODES,

@@ -19,8 +19,8 @@ pub record StandsIn {B : Type 0} (detail : Detail) (G : Ghosts B) (disk : ℕ �
 abbrev pub Stands : {B : Type 0} → Ghosts B → (ℕ → List ℕ) → (ℕ → Inode) → Volume → B → InodeFile → Type 0
 Stands G disk settled v blocks s = StandsIn by_bytes G disk settled v blocks s
 
--- Blocks are read, and objects come into memory. What memory stands for stays, and a consistency point stores no more of it. IsFault tells which errors say that a device call
--- failed.
+-- Blocks are read, and objects come into memory. What memory stands for stays, and a consistency point stores no more of it. IsFault
+-- tells which errors say that a device call failed.
 pub record Looks {B T E : Type 0} (G : Ghosts B) (IsFault : E → Type 0) (blocks after : B) (s t : InodeFile) (result : Result T E) : Type 0 where
   pub reads : ReadsBlocks G IsFault blocks after result
   pub geometry : t.geometry ≡ s.geometry

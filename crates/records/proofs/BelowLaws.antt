@@ -7,7 +7,7 @@ use Rattle.std.proofs.lemmas.List.Elements.{All-head, All-replicate, All-tail, C
 use Rattle.std.proofs.lemmas.List.Sums.{fold-append, sum_by-set}
 use Rattle.std.specs.List.{All, Contains}
 use Rattle.model.specs.Paths.{Name, Path}
-use Rattle.model.specs.Records.{IsBelow}
+use Rattle.model.specs.Records.{IsBelow, IsEmpty}
 use Rattle.model.specs.Volumes.{Entries, IsGraph, Volume, enter, entries, is_directory_node, is_file_node}
 use Rattle.model.specs.declared.limits.TheConstants.{ROOT_NUMBER}
 use Rattle.records.specs.Below.{IsChild, IsMarkedNumber, MarksMore, Searches, count_unmarked}
@@ -43,6 +43,11 @@ module _ (e : Entries) (P : ℕ → Type 0) (closed : (d n : ℕ) → P d → Is
 
   pub closed_below : (n k : ℕ) → P n → IsBelow e n k → P k
   closed_below n k is below = closed_from below.0 (Some n) k is below.1
+
+-- below an object without names there is nothing but itself
+pub only_itself : (v : Volume) (n k : ℕ) → IsEmpty v n → IsBelow (entries v) n k → k ≡ n
+only_itself v n k empty below =
+    closed_below (entries v) (λ j. j ≡ n) (λ d m is child. none_some (sym (empty child.0) ∙ ap (λ (j : ℕ). entries v j child.0) (sym is) ∙ child.1)) n k refl below
 
 -- nothing below an object leads back to it
 module _ (v : Volume) (graph : IsGraph v) where

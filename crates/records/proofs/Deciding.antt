@@ -18,12 +18,13 @@ use Rattle.paths.proofs.Looks.{looks_err, looks_more, looks_ok}
 use Rattle.records.specs.Failures.{told}
 use Rattle.records.specs.Obstacles.{IsObstacle, tells_obstacle}
 use Rattle.records.specs.Prepared.{DoesIn, IsReady}
-use Rattle.records.specs.Preparing.{DecidesOn, IsVolumeFor, Premise}
+use Rattle.records.specs.Preparing.{DecidesKnown, DecidesOn, DecidesRecord, IsVolumeFor, Premise}
 use Rattle.records.specs.Shown.{OnVolumesIn}
 use Rattle.records.specs.declared.failure.Failure.{Failure}
 use Rattle.records.specs.declared.failure.Failure.TheVariants.{Read, Refused}
 use Rattle.records.specs.declared.prepared.Prepared.{Prepared}
 use Rattle.records.proofs.Failures.{damaged_by, looks_failed, refused_by}
+use Rattle.records.proofs.StandLaws.{no_look}
 
 -- what can be read is known in no more detail
 pub reads_in : (detail : Detail) (v : Volume) (change : Change) → ReadsParts v change → ReadsIn detail v change
@@ -109,3 +110,7 @@ follows {s = s} {change = change} {r = r} looks last then surely = record {
   reads = λ {detail} disk settled v sure. last.reads {detail = detail} disk settled v (surely detail disk settled v sure);
   damaged = λ {detail} disk settled v stands reads is. last.damaged {detail = detail} disk settled v (looks.kept disk settled v stands) reads is;
 }
+
+-- what is told of each volume is told of those that are known to be such
+pub of_known : {B : Type 0} {G : Ghosts B} {a b : B} {s t : InodeFile} {change : Change} {r : Result Prepared Failure} → DecidesRecord G a b s t change r → DecidesKnown G a b s t change r
+of_known decides = follows no_look decides (λ detail disk settled v stands. stands) (λ detail disk settled v known. known.0)

@@ -1,8 +1,5 @@
 -- Names of a directory, changed one after the other.
 use Rattle.std.proofs.Common.{◌≡◌, ◌≤◌, ℕ, List, IfOk, IfSome, Option, Some, None, Result, Ok, Err, Bool, true, false, inl, inr, bytes_eq, if◌then◌else◌, refl, sym, ap, subst, ◌∙◌, arith}
-use Rattle.std.specs.Prelude.{unwrap_or}
-use Rattle.std.specs.Ordering.{nat_cmp}
-use Rattle.std.specs.BTreeMap as tree
 use Rattle.std.specs.Result.{IsErrAnd, IsErrOf}
 use Rattle.std.proofs.Math.Path.{fun_ext}
 use Rattle.std.proofs.lemmas.Bool.{cases_Bool, cond-false, cond-true}
@@ -10,8 +7,8 @@ use Rattle.std.proofs.lemmas.Slice.Eq.{bytes_eq-Decides}
 use Rattle.layout.specs.DirectoryNames.{NameMap}
 use Rattle.model.specs.Paths.{Name}
 use Rattle.dirs.specs.Directory.{with_name}
-use Rattle.dirs.specs.Edits.{HasEditedNames, edited_block}
-use Rattle.entries.specs.Known.{Knows, Summarizes}
+use Rattle.dirs.specs.Edits.{HasEditedNames}
+use Rattle.entries.specs.Known.{Knows}
 use Rattle.entries.specs.declared.known.Known.{Known}
 use Rattle.dirs.specs.Room.{piece_count}
 use Rattle.dirs.specs.declared.edit.Edit.{Edit}
@@ -137,16 +134,6 @@ replaced_names inodes disk file known entry names (Some edit) is = (is.0.place, 
 replaced_names inodes disk file known entry names None never = λ place. never (record { missing = name_gone entry.name.now names; place = place })
 
 -- ---- what is known of a directory's blocks
-
--- with an edit that changes nothing it is what was known
-pub unchanged_knows : (inodes : ℕ) (disk : ℕ → List ℕ) (file : File) (edit : Edit) (known : Known) → ((i : ℕ) → tree.get nat_cmp edit.changed i ≡ None) → Knows inodes (file_block disk file) known
-    → Knows inodes (edited_block disk file edit) known
-unchanged_knows inodes disk file edit known none knows i s is =
-    subst (λ (o : Option (List ℕ)). Summarizes inodes (unwrap_or o (file_block disk file i)) s) (sym (none i)) (knows i s is)
-
--- it stays where the file stays the same
-pub same_knows : (inodes : ℕ) (disk : ℕ → List ℕ) (file new : File) (known : Known) → IsSameFile file new → Knows inodes (file_block disk file) known → Knows inodes (file_block disk new) known
-same_knows inodes disk file new known same knows i s is = subst (λ (bytes : List ℕ). Summarizes inodes bytes s) (sym (same.blocks disk i)) (knows i s is)
 
 -- what is known anew is so, whatever was known
 pub known_anew : (inodes : ℕ) (disk : ℕ → List ℕ) (o : Option Object) (old after : Object) → o ≡ Some old → Knows inodes (file_block disk after.file) after.known → StaysKnown inodes disk o (Some after)

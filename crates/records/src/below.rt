@@ -12,13 +12,15 @@ ghost use Rattle.paths.specs.Standing.{Looks};
 ghost use Rattle.records.specs.Below.{IsChild, IsMarkedNumber, MarksMore};
 ghost use Rattle.records.specs.Shown.{NeverDamagedIn, OnVolumesIn};
 
+use crate::loading::is_same;
+use crate::unnaming::is_empty;
 use blocktree::ReadError;
 use buffers::Blocks;
 use inofile::InodeFile;
 use layout::InodeNumber;
 use std::alloc::{AllocError, Global};
 
-/// Whether a number is that of an object, or of one below it.
+/// Whether a number is that of an object, or of one below it. Below an object without names there is none, so nothing is marked then.
 pub(crate) fn is_below<B: Blocks>(
     alloc: Global,
     inodes: &mut InodeFile,
@@ -29,7 +31,31 @@ pub(crate) fn is_below<B: Blocks>(
     requires top { IsNumber inodes.old.geometry.inodes top }
     requires number { number < inodes.old.geometry.inodes }
     ensures looks { Looks B.Blocks IsFault blocks.old blocks.new inodes.old inodes.new result }
-    ensures loads { OnlyLoads inodes.old inodes.new }
+    ensures below { (detail : Detail) → OnVolumesIn detail B.Blocks blocks.old inodes.old (λ disk settled v.
+        IfOk result (λ below. IsTrue below ↔ IsBelow (entries v) top number)) }
+    ensures damaged { (detail : Detail) → NeverDamagedIn detail B.Blocks blocks.old inodes.old result }
+{
+    if is_same(top, number) {
+        return Ok(true);
+    }
+    let empty = is_empty(alloc, inodes, blocks, top)?;
+    if empty {
+        return Ok(false);
+    }
+    search(alloc, inodes, blocks, top, number)
+}
+
+// The same, where all that lies below the object is looked into.
+fn search<B: Blocks>(
+    alloc: Global,
+    inodes: &mut InodeFile,
+    blocks: &mut B,
+    top: InodeNumber,
+    number: InodeNumber,
+) -> Result<bool, ReadError>
+    requires top { IsNumber inodes.old.geometry.inodes top }
+    requires number { number < inodes.old.geometry.inodes }
+    ensures looks { Looks B.Blocks IsFault blocks.old blocks.new inodes.old inodes.new result }
     ensures below { (detail : Detail) → OnVolumesIn detail B.Blocks blocks.old inodes.old (λ disk settled v.
         IfOk result (λ below. IsTrue below ↔ IsBelow (entries v) top number)) }
     ensures damaged { (detail : Detail) → NeverDamagedIn detail B.Blocks blocks.old inodes.old result }

@@ -16,7 +16,7 @@ ghost use Rattle.inofile.specs.Volumes.{IsVolumeIn};
 ghost use Rattle.paths.specs.Standing.{Looks, StandsIn};
 ghost use Rattle.records.specs.Failures.{told};
 ghost use Rattle.records.specs.Prepared.{AreAtHand, DoesIn, IsReady};
-ghost use Rattle.records.specs.Preparing.{DecidesRecord, IsKnownVolume};
+ghost use Rattle.records.specs.Preparing.{DecidesKnown, DecidesRecord, IsKnownVolume};
 ghost use Rattle.records.specs.Shown.{NeverDamagedIn, OnVolumesIn};
 
 use crate::Failure;
@@ -54,7 +54,7 @@ pub fn prepare<B: Blocks>(
     blocks: &mut B,
     logged: &Record<'_>,
 ) -> Result<Prepared, Failure>
-    ensures { DecidesRecord B.Blocks blocks.old blocks.new inodes.old inodes.new
+    ensures { DecidesKnown B.Blocks blocks.old blocks.new inodes.old inodes.new
         (change_of logged.now) result }
 {
     match logged {

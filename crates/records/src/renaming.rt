@@ -1,20 +1,24 @@
 //! Records that move a name.
 
-ghost use Rattle.std.specs.Prelude.{◌≡◌, ◌≢◌, ◌≤◌, ℕ, List, Option, None, Some, IsTrue, IfErr, IfOk, IfSome, IfNone};
+ghost use Rattle.std.specs.Prelude.{◌≡◌, ◌≢◌, ◌≤◌, ◌↔◌, ℕ, List, Option, None, Some, IsTrue, IfErr, IfOk, IfSome, IfNone};
 ghost use Rattle.layout.specs.Directory.{IsEntry, named_of};
 ghost use Rattle.model.specs.Laws.{is_own};
+ghost use Rattle.model.specs.Paths.{Name};
 ghost use Rattle.model.specs.Records.{IsBelow, rename};
 ghost use Rattle.model.specs.Volumes.{entries, is_directory_node};
 ghost use Rattle.dirs.specs.Directory.{with_name};
 ghost use Rattle.dirs.specs.Room.{piece_count};
+ghost use Rattle.blocktree.specs.Errors.{IsFault};
+ghost use Rattle.images.specs.Soundness.{Detail};
 ghost use Rattle.inofile.specs.Inodes.{loaded};
 ghost use Rattle.paths.specs.Numbers.{IsNumber};
-ghost use Rattle.paths.specs.Standing.{StandsIn};
+ghost use Rattle.paths.specs.Standing.{Looks, StandsIn};
 ghost use Rattle.records.specs.Entering.{Accepts, EditsIn, IsNameEdit, PreparesEdit};
 ghost use Rattle.records.specs.Failures.{told};
 ghost use Rattle.records.specs.Looking.{Finds};
 ghost use Rattle.records.specs.Moving.{IsSomeAlone, Moves, MovesOver, ReplacesBy};
-ghost use Rattle.records.specs.Preparing.{DecidesOn, DecidesRecord};
+ghost use Rattle.records.specs.Preparing.{DecidesKnown, DecidesOn, IsKnownVolume};
+ghost use Rattle.records.specs.Shown.{NeverDamagedIn, OnVolumesIn};
 ghost use Rattle.records.specs.Steps.{IsAlone, IsAtHand, IsSomeAtHand, TakesUpdate};
 ghost use Rattle.records.specs.declared.steps.Update.TheVariants as updates;
 
@@ -46,7 +50,7 @@ pub(crate) fn prepare_rename<'n, B: Blocks>(
     new_parent: InodeNumber,
     new_name: &'n [u8],
 ) -> Result<Prepared, Failure>
-    ensures { DecidesRecord B.Blocks blocks.old blocks.new inodes.old inodes.new
+    ensures { DecidesKnown B.Blocks blocks.old blocks.new inodes.old inodes.new
         (rename parent name.now new_parent new_name.now) result }
 {
     if !is_number(inodes, parent) {
@@ -59,7 +63,7 @@ pub(crate) fn prepare_rename<'n, B: Blocks>(
     if !is_number(inodes, new_parent) {
         return Err(Failure::Refused(Errno::DIRFULL));
     }
-    let below = is_below(alloc, inodes, blocks, number, new_parent)?;
+    let below = goes_below(alloc, inodes, blocks, parent, number, new_parent)?;
     if below {
         return Err(Failure::Refused(Errno::EINVAL));
     }
@@ -67,6 +71,31 @@ pub(crate) fn prepare_rename<'n, B: Blocks>(
     prepare_move(
         alloc, inodes, blocks, parent, name, number, new_parent, new_name, target,
     )
+}
+
+// Whether what a directory has a name for would come below itself in another one. In the same one it can't, so nothing is looked into
+// then.
+fn goes_below<B: Blocks>(
+    alloc: Global,
+    inodes: &mut InodeFile,
+    blocks: &mut B,
+    parent: InodeNumber,
+    number: InodeNumber,
+    new_parent: InodeNumber,
+) -> Result<bool, ReadError>
+    requires number { IsNumber inodes.old.geometry.inodes number }
+    requires new_parent { IsNumber inodes.old.geometry.inodes new_parent }
+    ensures looks { Looks B.Blocks IsFault blocks.old blocks.new inodes.old inodes.new result }
+    ensures below { (detail : Detail) (name : Name) → OnVolumesIn detail B.Blocks blocks.old inodes.old
+        (λ disk settled v. IsKnownVolume detail inodes.old.geometry.inodes v
+        → entries v parent name ≡ Some number
+        → IfOk result (λ below. IsTrue below ↔ IsBelow (entries v) number new_parent)) }
+    ensures damaged { (detail : Detail) → NeverDamagedIn detail B.Blocks blocks.old inodes.old result }
+{
+    if is_same(parent, new_parent) {
+        return Ok(false);
+    }
+    is_below(alloc, inodes, blocks, number, new_parent)
 }
 
 /// Prepares the same where it is known what has both names, as the walks to them tell, and that the new parent doesn't lie below the

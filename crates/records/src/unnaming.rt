@@ -101,8 +101,8 @@ pub(crate) fn release<B: Blocks>(
     Ok(Some(released(inodes, number)))
 }
 
-// Whether there are no names in an object.
-fn is_empty<B: Blocks>(
+/// Whether there are no names in an object.
+pub(crate) fn is_empty<B: Blocks>(
     alloc: Global,
     inodes: &mut InodeFile,
     blocks: &mut B,

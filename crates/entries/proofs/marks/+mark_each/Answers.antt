@@ -5,6 +5,7 @@ use Rattle.layout.specs.DirectoryNames.{number_of}
 use Rattle.model.proofs.OptionLaws.{none_some}
 use Rattle.entries.specs.Marks.{HasMarks}
 use Rattle.entries.proofs.EntryLists.{none_left, one_first, found_behind}
+use Rattle.entries.proofs.Once.{keeps_name}
 use Rattle.entries.proofs.MissingLaws.{same_name}
 use Rattle.entries.proofs.marks.+mark_each.Goals as goal
 
@@ -21,6 +22,9 @@ returns-in-Entry-clause-marked t c = λ entries holds name n is.
     elim (cases_Bool (bytes_eq name c.in-Entry.entry.name.now)) [
       | inl here ↦
           let m = c.mark.ensures.marked in
-          subst (HasMarks c.mark_each.new.marks) (sym (same_name name c.in-Entry.entry.name.now here)) (c.mark_each.ensures.keeps _ m.0, c.mark_each.ensures.keeps _ m.1)
+          subst (HasMarks c.mark_each.new.marks) (sym (same_name name c.in-Entry.entry.name.now here)) (keeps_name c.mark.new.marks c.mark_each.new.marks c.in-Entry.entry.name.now c.mark_each.ensures.keeps m)
       | inr behind ↦ c.mark_each.ensures.marked b.others b.holds name n (sym (found_behind name e entries b.others b.are behind) ∙ is)
     ]
+
+pub returns-in-Entry-clause-keeps : goal.returns-in-Entry-clause-keeps
+returns-in-Entry-clause-keeps t c = λ i print some is. c.mark_each.ensures.keeps i print some (c.mark.ensures.keeps i print some is)

@@ -5,7 +5,8 @@ use Rattle.records.specs.Contents.{rewrite_room}
 use Rattle.images.specs.Soundness.{by_bytes, by_sizes}
 use Rattle.records.proofs.KindLaws.{not_file}
 use Rattle.paths.proofs.Objects.{same_object}
-use Rattle.records.proofs.NamingLaws.{same_knows}
+use Rattle.inode.specs.Files.{file_block}
+use Rattle.dirs.proofs.KnownLaws.{same_knows}
 use Rattle.records.proofs.contents.plan_taken.Goals as goal
 
 pub returns-in_default-clause-same : goal.returns-in_default-clause-same
@@ -30,7 +31,7 @@ pub returns-clause-whole : goal.returns-clause-whole
 returns-clause-whole g c = λ disk shows kind. c.in_ok-change.ensures.whole disk shows
 
 pub returns-clause-knows : goal.returns-clause-knows
-returns-clause-knows g c = λ inodes disk. same_knows inodes disk c.args.object.now.file c.plan.new.file c.args.object.now.known c.plan.ensures.same
+returns-clause-knows g c = λ inodes disk. same_knows inodes (file_block disk c.args.object.now.file) (file_block disk c.plan.new.file) c.args.object.now.known (c.plan.ensures.same.blocks disk)
 
 pub returns-in_err-change-clause-knows : goal.returns-in_err-change-clause-knows
-returns-in_err-change-clause-knows g c = λ inodes disk. same_knows inodes disk c.args.object.now.file c.plan.new.file c.args.object.now.known c.plan.ensures.same
+returns-in_err-change-clause-knows g c = λ inodes disk. same_knows inodes (file_block disk c.args.object.now.file) (file_block disk c.plan.new.file) c.args.object.now.known (c.plan.ensures.same.blocks disk)

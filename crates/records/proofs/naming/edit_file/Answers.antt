@@ -1,6 +1,7 @@
 use Rattle.std.proofs.Common.{ap, subst, arith}
 use Rattle.records.specs.Entering.{IsNameEdit, pieces_of}
-use Rattle.records.proofs.NamingLaws.{edit_had, unchanged_knows}
+use Rattle.dirs.proofs.KnownLaws.{edited_knows}
+use Rattle.records.proofs.NamingLaws.{edit_had}
 use Rattle.records.proofs.naming.edit_file.Goals as goal
 
 pub add_new-requires-clause-entry : goal.add_new-requires-clause-entry
@@ -13,13 +14,13 @@ pub move_in-requires-clause-entry : goal.move_in-requires-clause-entry
 move_in-requires-clause-entry g c = subst (IsNameEdit c.args.inodes) c.in-Move.is c.requires
 
 pub returns-in-Add : goal.returns-in-Add
-returns-in-Add g c = edit_had c.in-Add.is c.add_new.ensures (omega (arith, ap pieces_of c.in-Add.is, c.of-edit.ensures.pieces)) (λ disk names had. (c.of-edit.ensures.same c.args.inodes disk names had.0, unchanged_knows c.args.inodes disk c.args.file.now c.of-edit.result c.args.known.now c.of-edit.ensures.none had.1))
+returns-in-Add g c = edit_had c.in-Add.is c.add_new.ensures (omega (arith, ap pieces_of c.in-Add.is, c.of-edit.ensures.pieces)) (λ disk names had. (c.of-edit.ensures.same c.args.inodes disk names had.0, edited_knows c.args.inodes disk c.args.file.now c.of-edit.result c.args.known.now c.of-edit.ensures.none had.1))
 
 pub returns-in-Remove : goal.returns-in-Remove
-returns-in-Remove g c = edit_had c.in-Remove.is c.remove_one.ensures (omega (arith, ap pieces_of c.in-Remove.is, c.of-edit.ensures.pieces)) (λ disk names had. (c.of-edit.ensures.same c.args.inodes disk names had.0, unchanged_knows c.args.inodes disk c.args.file.now c.of-edit.result c.args.known.now c.of-edit.ensures.none had.1))
+returns-in-Remove g c = edit_had c.in-Remove.is c.remove_one.ensures (omega (arith, ap pieces_of c.in-Remove.is, c.of-edit.ensures.pieces)) (λ disk names had. (c.of-edit.ensures.same c.args.inodes disk names had.0, edited_knows c.args.inodes disk c.args.file.now c.of-edit.result c.args.known.now c.of-edit.ensures.none had.1))
 
 pub returns-in-Replace : goal.returns-in-Replace
-returns-in-Replace g c = edit_had c.in-Replace.is c.replace_in.ensures (omega (arith, ap pieces_of c.in-Replace.is, c.of-edit.ensures.pieces)) (λ disk names had. (c.of-edit.ensures.same c.args.inodes disk names had.0, unchanged_knows c.args.inodes disk c.args.file.now c.of-edit.result c.args.known.now c.of-edit.ensures.none had.1))
+returns-in-Replace g c = edit_had c.in-Replace.is c.replace_in.ensures (omega (arith, ap pieces_of c.in-Replace.is, c.of-edit.ensures.pieces)) (λ disk names had. (c.of-edit.ensures.same c.args.inodes disk names had.0, edited_knows c.args.inodes disk c.args.file.now c.of-edit.result c.args.known.now c.of-edit.ensures.none had.1))
 
 pub returns-in-Move : goal.returns-in-Move
-returns-in-Move g c = edit_had c.in-Move.is c.move_in.ensures (omega (arith, ap pieces_of c.in-Move.is, c.of-edit.ensures.pieces)) (λ disk names had. (c.of-edit.ensures.same c.args.inodes disk names had.0, unchanged_knows c.args.inodes disk c.args.file.now c.of-edit.result c.args.known.now c.of-edit.ensures.none had.1))
+returns-in-Move g c = edit_had c.in-Move.is c.move_in.ensures (omega (arith, ap pieces_of c.in-Move.is, c.of-edit.ensures.pieces)) (λ disk names had. (c.of-edit.ensures.same c.args.inodes disk names had.0, edited_knows c.args.inodes disk c.args.file.now c.of-edit.result c.args.known.now c.of-edit.ensures.none had.1))

@@ -1,22 +1,23 @@
+use Rattle.records.proofs.Deciding.{of_known}
 use Rattle.records.proofs.prepared.prepare.Goals as goal
 
 pub returns-in-Create : goal.returns-in-Create
-returns-in-Create g c = rw c.in-Create.is c.prepare_create.ensures
+returns-in-Create g c = rw c.in-Create.is (of_known c.prepare_create.ensures)
 
 pub returns-in-Write : goal.returns-in-Write
-returns-in-Write g c = rw c.in-Write.is c.prepare_bytes.ensures.decides
+returns-in-Write g c = rw c.in-Write.is (of_known c.prepare_bytes.ensures.decides)
 
 pub returns-in-Cut : goal.returns-in-Cut
-returns-in-Cut g c = rw c.in-Cut.is c.prepare_bytes-in-Cut.ensures.decides
+returns-in-Cut g c = rw c.in-Cut.is (of_known c.prepare_bytes-in-Cut.ensures.decides)
 
 pub returns-in-Link : goal.returns-in-Link
-returns-in-Link g c = rw c.in-Link.is c.prepare_link.ensures
+returns-in-Link g c = rw c.in-Link.is (of_known c.prepare_link.ensures)
 
 pub returns-in-Unname : goal.returns-in-Unname
-returns-in-Unname g c = rw c.in-Unname.is c.prepare_unname.ensures
+returns-in-Unname g c = rw c.in-Unname.is (of_known c.prepare_unname.ensures)
 
 pub returns-in-Rename : goal.returns-in-Rename
 returns-in-Rename g c = rw c.in-Rename.is c.prepare_rename.ensures
 
 pub returns-in-ChangeMode : goal.returns-in-ChangeMode
-returns-in-ChangeMode g c = rw c.in-ChangeMode.is c.prepare_mode.ensures
+returns-in-ChangeMode g c = rw c.in-ChangeMode.is (of_known c.prepare_mode.ensures)

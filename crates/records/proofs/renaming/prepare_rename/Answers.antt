@@ -10,38 +10,36 @@ use Rattle.paths.specs.Standing.{StandsIn}
 use Rattle.paths.proofs.Looks.{looks_more}
 use Rattle.records.specs.Moving.{MovesOver}
 use Rattle.records.specs.Obstacles.{BarsMove}
-use Rattle.model.specs.Records.{rename}
 use Rattle.records.specs.Preparing.{IsKnownVolume}
-use Rattle.records.proofs.DetailLaws.{graph_of, known_of}
+use Rattle.records.proofs.DetailLaws.{graph_of}
 use Rattle.records.proofs.BelowLaws.{closed_below, never_around}
 use Rattle.records.proofs.Deciding.{follows, obstructs, stops}
 use Rattle.records.proofs.StandLaws.{no_look}
 use Rattle.records.proofs.renaming.prepare_rename.Goals as goal
 
 pub returns-then-not-is_number : goal.returns-then-not-is_number
-returns-then-not-is_number g c = obstructs no_look refl (λ detail disk settled v stands volume.
-    ap (λ (o : Option Node). names_in o c.args.name.now) (c.is_number.ensures.no c.if-not-is_number.true detail v (known_of detail c.args.inodes.now.geometry.inodes (rename c.args.parent c.args.name.now c.args.new_parent c.args.new_name.now) v volume)))
+returns-then-not-is_number g c = obstructs no_look refl (λ detail disk settled v sure volume.
+    ap (λ (o : Option Node). names_in o c.args.name.now) (c.is_number.ensures.no c.if-not-is_number.true detail v sure.1))
 
 pub returns-in_err-found : goal.returns-in_err-found
 returns-in_err-found g c = stops c.from_residual.result c.from_residual.ensures.1 c.in_err-found.ensures.number.looks (λ detail disk settled v stands reads. c.in_err-found.ensures.number.damaged {detail = detail} disk settled v stands)
 
 pub returns-in_default : goal.returns-in_default
-returns-in_default g c = obstructs c.in_ok-found.ensures.number.looks refl (λ detail disk settled v stands volume.
-    sym (c.in_ok-found.ensures.number.found disk settled v stands) ∙ c.in_default.is)
+returns-in_default g c = obstructs c.in_ok-found.ensures.number.looks refl (λ detail disk settled v sure volume.
+    sym (c.in_ok-found.ensures.number.found disk settled v sure.0) ∙ c.in_default.is)
 
 -- nothing has a number that is none
 pub returns-then-not-is_number-2 : goal.returns-then-not-is_number-2
 returns-then-not-is_number-2 g c =
     let found = c.in_ok-found.ensures.number in
-    obstructs found.looks refl (λ detail disk settled v stands volume.
+    obstructs found.looks refl (λ detail disk settled v sure volume.
     let x = c.args.name.now in
     let n = c.in-Some.number in
     let k = c.args.new_parent in
     let y = c.args.new_name.now in
-    let there : entries v c.args.parent x ≡ Some n = sym (found.found disk settled v stands) ∙ c.in-Some.is in
-    let nothing = c.is_number-2.ensures.no c.if-not-is_number-2.true detail v (subst (λ (s : Sizes). IsKnownVolume detail s.inodes v) (sym found.looks.geometry)
-    (known_of detail c.args.inodes.now.geometry.inodes (rename c.args.parent c.args.name.now c.args.new_parent c.args.new_name.now) v volume)) in
-    let graph = graph_of detail c.args.inodes.now.geometry.inodes v (known_of detail c.args.inodes.now.geometry.inodes (rename c.args.parent c.args.name.now c.args.new_parent c.args.new_name.now) v volume) in
+    let there : entries v c.args.parent x ≡ Some n = sym (found.found disk settled v sure.0) ∙ c.in-Some.is in
+    let nothing = c.is_number-2.ensures.no c.if-not-is_number-2.true detail v (subst (λ (s : Sizes). IsKnownVolume detail s.inodes v) (sym found.looks.geometry) sure.1) in
+    let graph = graph_of detail c.args.inodes.now.geometry.inodes v sure.1 in
     let none : entries v k y ≡ None = ap (λ (o : Option Node). names_in o y) nothing in (
       n,
       there,
@@ -61,23 +59,25 @@ pub returns-in_err-below : goal.returns-in_err-below
 returns-in_err-below g c =
     follows c.in_ok-found.ensures.number.looks
     (stops c.from_residual-in_err-below.result c.from_residual-in_err-below.ensures.1 c.in_err-below.ensures.looks (λ detail disk settled v stands reads. c.in_err-below.ensures.damaged detail disk settled v stands))
-    (λ detail. c.in_ok-found.ensures.number.looks.kept {detail = detail}) (λ detail. c.in_ok-found.ensures.number.looks.kept {detail = detail})
+    (λ detail. c.in_ok-found.ensures.number.looks.kept {detail = detail}) (λ detail disk settled v sure. c.in_ok-found.ensures.number.looks.kept {detail = detail} disk settled v sure.0)
 
 pub returns-then-below : goal.returns-then-below
 returns-then-below g c =
     let found = c.in_ok-found.ensures.number in
-    obstructs (looks_more found.looks c.in_ok-below.ensures.looks) refl (λ detail disk settled v stands volume.
+    obstructs (looks_more found.looks c.in_ok-below.ensures.looks) refl (λ detail disk settled v sure volume.
     let n = c.in-Some.number in
     let k = c.args.new_parent in
-    let below = (c.in_ok-below.ensures.below detail disk settled v (found.looks.kept disk settled v stands)).0 c.if-below.true in
-    (n, sym (found.found disk settled v stands) ∙ c.in-Some.is, ((λ at. never_around v (graph_of detail c.args.inodes.now.geometry.inodes v (known_of detail c.args.inodes.now.geometry.inodes (rename c.args.parent c.args.name.now c.args.new_parent c.args.new_name.now) v volume)) n k c.args.new_name.now at below), below)))
+    let there : entries v c.args.parent c.args.name.now ≡ Some n = sym (found.found disk settled v sure.0) ∙ c.in-Some.is in
+    let below = (c.in_ok-below.ensures.below detail c.args.name.now disk settled v (found.looks.kept disk settled v sure.0)
+    (subst (λ (s : Sizes). IsKnownVolume detail s.inodes v) (sym found.looks.geometry) sure.1) there).0 c.if-below.true in
+    (n, there, ((λ at. never_around v (graph_of detail c.args.inodes.now.geometry.inodes v sure.1) n k c.args.new_name.now at below), below)))
 
 pub returns-in_err-target : goal.returns-in_err-target
 returns-in_err-target g c =
     let before = looks_more c.in_ok-found.ensures.number.looks c.in_ok-below.ensures.looks in
     follows before
     (stops c.from_residual-in_err-target.result c.from_residual-in_err-target.ensures.1 c.in_err-target.ensures.number.looks (λ detail disk settled v stands reads. c.in_err-target.ensures.number.damaged {detail = detail} disk settled v stands))
-    (λ detail. before.kept {detail = detail}) (λ detail. before.kept {detail = detail})
+    (λ detail. before.kept {detail = detail}) (λ detail disk settled v sure. before.kept {detail = detail} disk settled v sure.0)
 
 pub returns : goal.returns
 returns g c =
@@ -93,6 +93,8 @@ returns g c =
     o in
     follows known c.prepare_move.ensures
     (λ detail disk settled v stands. (known.kept disk settled v stands, over detail disk settled v stands))
-    (λ detail disk settled v stands.
-    let told = c.in_ok-below.ensures.below detail disk settled v (found.looks.kept disk settled v stands) in
-    (known.kept disk settled v stands, over detail disk settled v stands, λ is. both_ways c.in_ok-below.below c.if-below.false (told.1 is)))
+    (λ detail disk settled v sure.
+    let moves = over detail disk settled v sure.0 in
+    let told = c.in_ok-below.ensures.below detail c.args.name.now disk settled v (found.looks.kept disk settled v sure.0)
+    (subst (λ (s : Sizes). IsKnownVolume detail s.inodes v) (sym found.looks.geometry) sure.1) moves.there in
+    (known.kept disk settled v sure.0, moves, λ is. both_ways c.in_ok-below.below c.if-below.false (told.1 is)))

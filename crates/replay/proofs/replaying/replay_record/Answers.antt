@@ -27,7 +27,7 @@ returns-in-Err-Refused-clause-replays g c detail disk settled v change shows has
     let n = c.args.inodes.now.geometry.inodes in
     let logged = change_of c.in-Some.logged in
     let same : logged ≡ change = c.in-Some.ensures.only change spells.is spells.spelled in
-    let bars = c.prepare.ensures.refused {detail = detail} disk settled v (record { shows = shows; volume = has.memory })
+    let bars = c.prepare.ensures.refused {detail = detail} disk settled v (record { shows = shows; volume = has.memory }, has.volume)
     (subst (λ (x : Change). IsVolumeFor detail n x v) (sym same) (volume_for detail n change v has.volume applies)) in
     let is = c.in-Err-Refused.is ∙ ap (λ (f : Failure). Err f) c.in-Err-Refused.field-0-is in
     absurd (obstacle_stops n v logged c.in-Err-Refused._errno
@@ -74,9 +74,9 @@ returns-clause-applies g c detail disk settled v shows has =
     let looks = c.prepare.ensures.looks in
     let kept = looks.kept disk settled v stands in
     let does = subst (λ (r : Result Prepared Failure). IfOk r (λ x. DoesIn detail disk settled c.prepare.new.inodes v x logged)) c.in-Ok.is (c.prepare.ensures.does disk settled v stands) in
-    let can = subst (λ (r : Result Prepared Failure). IfOk r (λ _. Applies n v logged)) c.in-Ok.is (c.prepare.ensures.applies disk settled v stands) in
-    let place = subst (λ (r : Result Prepared Failure). IfOk r (λ _. LeavesPlace v logged)) c.in-Ok.is (c.prepare.ensures.place disk settled v stands) in
-    let reads = subst (λ (r : Result Prepared Failure). IfOk r (λ _. ReadsIn detail v logged)) c.in-Ok.is (c.prepare.ensures.reads disk settled v stands) in
+    let can = subst (λ (r : Result Prepared Failure). IfOk r (λ _. Applies n v logged)) c.in-Ok.is (c.prepare.ensures.applies disk settled v (stands, has.volume)) in
+    let place = subst (λ (r : Result Prepared Failure). IfOk r (λ _. LeavesPlace v logged)) c.in-Ok.is (c.prepare.ensures.place disk settled v (stands, has.volume)) in
+    let reads = subst (λ (r : Result Prepared Failure). IfOk r (λ _. ReadsIn detail v logged)) c.in-Ok.is (c.prepare.ensures.reads disk settled v (stands, has.volume)) in
     let count = g.B.Blocks.count c.args.blocks.now in
     let memory = subst (λ (k : ℕ). IsVolumeIn detail k disk settled c.prepare.new.inodes v) looks.reads.count kept.volume in (
       logged,

@@ -6,7 +6,7 @@ use Rattle.paths.specs.Numbers.{AreNumbers}
 use Rattle.paths.specs.Standing.{StandsIn}
 use Rattle.paths.proofs.Looks.{HasLooked}
 use Rattle.records.specs.Below.{Searches, count_unmarked}
-use Rattle.records.proofs.below.is_below.Given as goal
+use Rattle.records.proofs.below.search.Given as goal
 
 abbrev pub decreases-loop-here : goal.decreases-loop-here
 decreases-loop-here g l = count_unmarked l.marks.items + length l.left.items
