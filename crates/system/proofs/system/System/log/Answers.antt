@@ -25,7 +25,7 @@ use Rattle.oplog.specs.declared.log.AppendError.TheVariants.{Device, LogFull, No
 use Rattle.system.specs.Errors.{log_error}
 use Rattle.system.specs.Images.{OpensTo}
 use Rattle.system.specs.declared.error.CallError.{CallError}
-use Rattle.system.specs.declared.error.CallError.TheVariants.{NoRoom}
+use Rattle.system.specs.declared.error.CallError.TheVariants.{NoRoom, StepDue}
 use Rattle.system.specs.Serving.{LeavesEither}
 use Rattle.replay.specs.Costs.{IsSizeBefore, KnowsFile}
 use Rattle.system.specs.Systems.{HasState, Parts, disk_of}
@@ -99,11 +99,14 @@ returns-then-not-has_room-clause-any_moment g c = λ table s serves knows advanc
 pub returns-clause-room : goal.returns-clause-room
 returns-clause-room g c = λ table s serves knows. (c.has_room.ensures.told serves.running (sized g (goal.at.returns-clause-room g c).After-size_before-size table s serves knows)).0 c.if-not-has_room.false
 
--- an append fails for other reasons
-other_reason : (e : AppendError) (x : CallError) → x ≡ log_error e → IsErrOf {T = Unit {0}} (Err x) NoRoom → ⊥
-other_reason NoMemory x is err = cc
-other_reason Device x is err = cc
-other_reason LogFull x is err = cc
+-- an append fails for no want of room, and for no step that is due
+other_reason : (e : AppendError) (x : CallError) → x ≡ log_error e → (IsErrOf {T = Unit {0}} (Err x) NoRoom → ⊥) × (IsErrOf {T = Unit {0}} (Err x) StepDue → ⊥)
+other_reason NoMemory x is = (λ err. cc, λ err. cc)
+other_reason Device x is = (λ err. cc, λ err. cc)
+other_reason LogFull x is = (λ err. cc, λ err. cc)
 
 pub returns-in-Err-clause-short : goal.returns-in-Err-clause-short
-returns-in-Err-clause-short g c = λ table s serves knows is room. other_reason c.in-Err.error c.log_error.result c.log_error.ensures is
+returns-in-Err-clause-short g c = λ table s serves knows is room. (other_reason c.in-Err.error c.log_error.result c.log_error.ensures).0 is
+
+pub returns-in-Err-clause-due : goal.returns-in-Err-clause-due
+returns-in-Err-clause-due g c = λ is. absurd ((other_reason c.in-Err.error c.log_error.result c.log_error.ensures).1 is)
