@@ -1,5 +1,5 @@
-# Builds the proved program: sourced by the script `wafl`, behind sources.sh.
-# shellcheck disable=SC2154 # The script has set $root and $out.
+# Builds the proved program: sourced by the script `wafl` and by prove_behind.sh, behind sources.sh and with background.sh.
+# shellcheck disable=SC2154 # The script has set $root and $out, and background.sh sets $proving.
 #
 # The crates are proved side by side, each as soon as those below it are built. `rt lib` keeps every other rt out of the crates below
 # the one that it builds, so each crate is built in a tree of its own, of links to its sources and to the libraries below it, and what it
@@ -13,20 +13,19 @@ state=$trees/state
 # is_proved : whether the program is built for the sources as they are.
 is_proved() { [ -x "$out/wafl" ] && [ "$(cat "$out/sources" 2>/dev/null)" = "$(sum_of wafl src specs proofs)" ]; }
 
-# build_proved : proves and builds what isn't built yet; ends the script with 70 where that fails.
+# build_proved WHERE : proves and builds what isn't built yet, while the script holds the lock at descriptor 9; ends the script with 70
+# where that fails. WHERE, background or foreground, is told to those who look.
 build_proved() {
-    locked "$out/lock" 'is building the program'
-    if ! is_proved; then
-        sources=$(sum_of wafl src specs proofs)
-        prepare
-        trap 'end_jobs; echo "wafl: interrupted; the next call goes on from here" >&2; exit 130' INT
-        trap 'end_jobs; exit 143' TERM HUP
-        prove_all
-        trap - INT TERM HUP
-        rm -rf "$trees"
-        printf '%s\n' "$sources" >"$out/sources" || exit 70
-    fi
-    unlock
+    ! is_proved || return 0
+    sources=$(sum_of wafl src specs proofs)
+    printf '%s\n' $$ "$sources" "$1" >"$proving" || exit 70
+    prepare
+    trap 'end_jobs; echo "wafl: interrupted; the next call goes on from here" >&2; exit 130' INT
+    trap 'end_jobs; exit 143' TERM HUP
+    prove_all
+    trap - INT TERM HUP
+    rm -rf "$trees" "$proving"
+    printf '%s\n' "$sources" >"$out/sources" || exit 70
 }
 
 # prepare : finds out what there is to do and how much of it at once, and says so.
@@ -40,12 +39,11 @@ prepare() {
     lanes=$(lanes)
     running=
     told=
-    : >"$state"
+    echo "lanes $lanes" >"$state"
     for crate in $(below wafl); do
         ! is_built "$crate" || echo "kept $crate" >>"$state"
     done
-    echo "wafl: building the program: $((total - $(grep -c . "$state"))) of its $total crates are to be proved, up to $lanes at once;" \
-        "WAFL_UNPROVED=1 runs it without proofs" >&2
+    echo "wafl: proving the program: $((total - $(grep -c '^kept' "$state"))) of its $total crates are to be proved, up to $lanes at once" >&2
 }
 
 # weigh : a line for each crate, lowest first: its name, its weight, and the crates right below it. The weight stands for the time that
@@ -224,13 +222,19 @@ collect() {
     running=$still
 }
 
-# failed NAME STATUS : says which crate isn't built and why, and ends the script.
+# failed NAME STATUS : says which crate isn't built and why, has no call begin again by itself, and ends the script.
 failed() {
     [ ! -t 2 ] || echo >&2
+    tell_failed "$1" "$2"
+    end_jobs
+    hold "$1" "$sources" "$2"
+    exit 70
+}
+
+# tell_failed NAME STATUS : says which crate isn't built and why.
+tell_failed() {
     echo "wafl: the crate $1 is not built (rt ended with $2); the last lines of $logs/$1.log:" >&2
     tail -n 20 "$logs/$1.log" >&2
-    end_jobs
-    exit 70
 }
 
 # end_jobs : ends what is under way; what it made so far stays.

@@ -31,6 +31,16 @@ answer() {
     esac
 }
 
+# answer_own WORD.. : does the same for a word of the script `wafl` itself, whose help stands in build/help.
+answer_own() {
+    helps=$root/build/help
+    judged=$(judge "$@") && return 0
+    case $judged in
+        help) show "$1" ;;
+        *) fault "$1" "$judged" ;;
+    esac
+}
+
 # is_command NAME : whether the program has this command.
 is_command() {
     case $1 in

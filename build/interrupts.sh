@@ -1,0 +1,66 @@
+# Runs the program so that an interrupted `put` or `restore` leaves nothing in the image: sourced by the script `wafl`, and by the one
+# that `wafl install` installs.
+
+# run PROGRAM WORD.. : becomes the program with these words; of the two commands that store a file's bytes, waits for it.
+run() {
+    case ${2-} in
+        put | restore) run_storing "$@" ;;
+        *) exec "$@" ;;
+    esac
+}
+
+# run_storing PROGRAM COMMAND WORD.. : runs the program, and passes its status on. Interrupted, ends it, takes away what it collected in the
+# image, and ends by the same signal. A program in the background hears no interrupt of the terminal, so it is always told.
+run_storing() {
+    child=
+    signal=
+    for name in HUP INT QUIT TERM; do
+        # The name as it is now.
+        # shellcheck disable=SC2064
+        trap "signal=$name; [ -z \"\$child\" ] || kill \"\$child\" 2>/dev/null" "$name"
+    done
+    # By a descriptor of its own: standard input itself is /dev/null for a command in the background.
+    if (: <&0) 2>/dev/null; then
+        exec 3<&0
+        "$@" <&3 3<&- &
+    else
+        "$@" <&- &
+    fi
+    child=$!
+    [ -z "$signal" ] || kill "$child" 2>/dev/null
+    while :; do
+        wait "$child"
+        status=$?
+        kill -0 "$child" 2>/dev/null || break
+    done
+    [ -n "$signal" ] || exit "$status"
+    trap '' HUP INT QUIT TERM
+    take_leftover "$@"
+    trap - HUP INT QUIT TERM
+    kill -s "$signal" $$
+    exit "$status"
+}
+
+# take_leftover PROGRAM COMMAND WORD.. : removes the name under which the program collects a file's bytes. DISK and NVRAM are the first
+# two words behind the command that are no options; the options that stand before them have their values in the same word.
+take_leftover() {
+    leftover_of=$1
+    shift 2
+    disk=
+    is_open=1
+    for word; do
+        case $is_open$word in
+            1--) is_open= ;;
+            1-?*) ;;
+            *)
+                case $word in -*) word=./$word ;; esac
+                if [ -z "$disk" ]; then
+                    disk=$word
+                else
+                    "$leftover_of" 'do' "$disk" "$word" unlink /.wafl-put </dev/null >/dev/null 2>&1
+                    return
+                fi
+                ;;
+        esac
+    done
+}
