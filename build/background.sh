@@ -20,7 +20,7 @@ is_held() { [ -f "$held" ] && is_for "$held"; }
 # start_proving : begins to prove in the background, at the lowest priority and in a session of its own, where nobody proves these
 # sources yet, and nothing speaks against it.
 start_proving() {
-    if is_held || { is_busy && is_for "$proving"; }; then return; fi
+    if is_held || ! command -v rt >/dev/null || { is_busy && is_for "$proving"; }; then return; fi
     idle=
     ! ionice -c 3 true 2>/dev/null || idle='ionice -c 3'
     # Words.
@@ -30,7 +30,9 @@ start_proving() {
 
 # say_unproved : says that this build isn't proved, and how it stands with the proving.
 say_unproved() {
-    if ! is_held; then
+    if ! command -v rt >/dev/null; then
+        echo 'wafl: this build is not proved, and rt, of the Rattle kit, which proves it, is not on the PATH' >&2
+    elif ! is_held; then
         echo 'wafl: this build is not proved yet; proving goes on in the background (./wafl prove tells how far)' >&2
     elif [ "$(sed q "$held")" = stopped ]; then
         echo 'wafl: this build is not proved, and proving was stopped (./wafl prove goes on with it)' >&2

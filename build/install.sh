@@ -62,7 +62,7 @@ place() {
     folder=$(dirname "$base/$3")
     told=$(mkdir -p "$folder" 2>&1) || refuse "$(reason "$told")"
     new=$(mktemp "$folder/.wafl-install-XXXXXX" 2>&1) || refuse "$(reason "$new")"
-    if ! told=$({ write "$2" "${4-}" && chmod "$1" "$new" && sync "$new" && mv -f "$new" "$base/$3" && sync "$folder"; } 2>&1); then
+    if ! told=$({ write "$2" "${4-}" && chmod "$1" "$new" && sync "$new" && mv -fT "$new" "$base/$3" && sync "$folder"; } 2>&1); then
         rm -f "$new"
         refuse "$(reason "$told")"
     fi

@@ -20,7 +20,7 @@ run_storing() {
         trap "signal=$name; [ -z \"\$child\" ] || kill \"\$child\" 2>/dev/null" "$name"
     done
     # By a descriptor of its own: standard input itself is /dev/null for a command in the background.
-    if (: <&0) 2>/dev/null; then
+    if (: 3<&0) 2>/dev/null; then
         exec 3<&0
         "$@" <&3 3<&- &
     else
