@@ -29,7 +29,8 @@ run_storing() {
     child=$!
     [ -z "$signal" ] || kill "$child" 2>/dev/null
     while :; do
-        wait "$child"
+        # Without the word of the shell on how it ended.
+        wait "$child" 2>/dev/null
         status=$?
         kill -0 "$child" 2>/dev/null || break
     done
