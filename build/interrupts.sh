@@ -14,10 +14,10 @@ run() {
 run_storing() {
     child=
     signal=
-    for name in HUP INT QUIT TERM; do
-        # The name as it is now.
+    for told in HUP:129 INT:130 QUIT:131 TERM:143; do
+        # The signal as it is now.
         # shellcheck disable=SC2064
-        trap "signal=$name; [ -z \"\$child\" ] || kill \"\$child\" 2>/dev/null" "$name"
+        trap "signal=$told; [ -z \"\$child\" ] || kill \"\$child\" 2>/dev/null" "${told%:*}"
     done
     # By a descriptor of its own: standard input itself is /dev/null for a command in the background.
     if (: 3<&0) 2>/dev/null; then
@@ -38,8 +38,9 @@ run_storing() {
     trap '' HUP INT QUIT TERM
     take_leftover "$@"
     trap - HUP INT QUIT TERM
-    kill -s "$signal" $$
-    exit "$status"
+    kill -s "${signal%:*}" $$
+    # Some shells ignore one of these.
+    exit "${signal#*:}"
 }
 
 # take_leftover PROGRAM COMMAND WORD.. : removes the name under which the program collects a file's bytes. DISK and NVRAM are the first
