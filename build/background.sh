@@ -128,6 +128,10 @@ stop_proving() {
         exit 70
     elif is_busy; then
         end_behind
+        if is_busy; then
+            echo 'wafl: proving was told to stop, and has not ended yet' >&2
+            exit 70
+        fi
         echo 'wafl: proving was stopped; what is built stays (./wafl prove goes on with it)' >&2
     else
         echo 'wafl: nothing is proved in the background, and no call begins it (./wafl prove does)' >&2
@@ -138,7 +142,7 @@ stop_proving() {
 # are told to end.
 end_behind() {
     tries=0
-    while is_busy && is_behind && [ "$tries" -lt 60 ]; do
+    while is_busy && is_behind && [ "$tries" -lt 120 ]; do
         # Names of processes.
         # shellcheck disable=SC2046
         set -- $(holders "$(sed q "$proving")")
