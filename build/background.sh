@@ -142,12 +142,18 @@ stop_proving() {
 # are told to end.
 end_behind() {
     tries=0
+    ending=
     while is_busy && is_behind && [ "$tries" -lt 120 ]; do
-        # Names of processes.
+        leader=$(sed q "$proving")
+        # Numbers.
         # shellcheck disable=SC2046
-        set -- $(holders "$(sed q "$proving")")
+        set -- $(holders "$leader")
         case " $* " in
-            *" $(sed q "$proving") "*) [ "$tries" -gt 0 ] || kill "$(sed q "$proving")" 2>/dev/null ;;
+            *" $leader "*)
+                # Once: it waits for those whom it began.
+                [ "$ending" = "$leader" ] || kill "$leader" 2>/dev/null
+                ending=$leader
+                ;;
             *) [ "$#" -eq 0 ] || kill "$@" 2>/dev/null ;;
         esac
         tries=$((tries + 1))
