@@ -1,20 +1,22 @@
 -- What a check comes to.
-use Rattle.std.proofs.Common.{◌≡◌, ◌∙◌, ℕ, zero, suc, List, Option, Some, None, length, refl, sym, subst}
-use Rattle.std.specs.Prelude.{IfSome, IsSome, count_by}
+use Rattle.std.proofs.Common.{◌≡◌, ◌∙◌, ◌+◌, ◌≤◌, ℕ, zero, suc, arith, List, Option, Some, None, length, refl, sym, subst}
+use Rattle.std.specs.Prelude.{◌↔◌, IfSome, IsSome, IsTrue, count_by}
 use Rattle.station.specs.Moments.{IsSameStation, Meaning}
 use Rattle.layout.specs.Opens.{IsNewest}
 use Rattle.layout.specs.Places.{blocks_of}
-use Rattle.layout.specs.Record.{Change}
 use Rattle.layout.specs.declared.TheConstants.{SLOT_A, SLOT_B}
 use Rattle.layout.specs.declared.pointer.Pointer.TheVariants.{Block, Hole}
 use Rattle.layout.specs.declared.root.Root.{Root}
-use Rattle.images.specs.Faults.{HasLog, HasRoots, IsFaultless}
+use Rattle.model.specs.Room.{fixed_of}
+use Rattle.images.specs.Faults.{HasRoots, IsFaultless}
 use Rattle.images.specs.Roots.{Whole, slot, whole}
 use Rattle.images.specs.Snapshots.{AreSnapshots}
 use Rattle.images.specs.Soundness.{IsWithin}
 use Rattle.loading.specs.Slots.{FitsStation}
 use Rattle.checker.specs.Checks.{AreFaultless, IsFaultlessBy, Reports, is_block, report_of}
 use Rattle.checker.specs.Findings.{IsFaultIn, IsFinding, IsFindingUnder}
+use Rattle.checker.specs.Logs.{IsLogged}
+use Rattle.checker.specs.declared.log.Logged.{Logged}
 use Rattle.checker.specs.declared.fault.Fault.{Fault}
 use Rattle.checker.specs.declared.fault.Fault.TheVariants as faults
 use Rattle.checker.specs.declared.fault.Finding.{Finding}
@@ -24,12 +26,34 @@ use Rattle.checker.specs.declared.report.Summary.{Summary}
 -- ---- under a root
 
 -- nothing was found
-pub faultless_by : (r : Root) (w : Whole) (nvram : List ℕ) (s : Summary) (free count : ℕ) (changes : List Change) → AreSnapshots r w → AreFaultless r w free → HasLog r w nvram changes → count ≡ length changes
-    → s.generation ≡ r.generation → s.snapshots ≡ count_by is_block r.snapshots → s.records ≡ count → s.free ≡ free → IsFaultlessBy r w nvram s
-faultless_by r w nvram s free count changes snapshots trees log counted generation slots records left = record {
-  changes = changes;
-  under = record { snapshots = snapshots; active = trees.trees 0 tt; frozen = frozen; within = trees.within 0 tt; frozen_within = frozen_within; readable = trees.readable; exact = trees.exact; log = log };
-  figures = record { generation_is = generation; snapshots_are = slots; records_are = records ∙ counted; free_is = left ∙ trees.free_is };
+pub faultless_by : (r : Root) (w : Whole) (nvram : List ℕ) (s : Summary) (free : ℕ)
+    (logged : Logged) → AreSnapshots r w → AreFaultless r w free → IsLogged r w nvram logged
+    → s.generation ≡ r.generation → s.snapshots ≡ count_by is_block r.snapshots
+    → s.records ≡ logged.records → s.free ≡ free
+    → IsTrue s.has_reserve ↔ (logged.pledged + fixed_of r.geometry.blocks ≤ free)
+    → IsFaultlessBy r w nvram s
+faultless_by r w nvram s free logged snapshots trees told generation slots records left room = record {
+  changes = told.changes;
+  under = record {
+    snapshots = snapshots;
+    active = trees.trees 0 tt;
+    frozen = frozen;
+    within = trees.within 0 tt;
+    frozen_within = frozen_within;
+    readable = trees.readable;
+    exact = trees.exact;
+    log = told.log;
+  };
+  figures = record {
+    generation_is = generation;
+    snapshots_are = slots;
+    records_are = records ∙ told.records_are;
+    free_is = left ∙ trees.free_is;
+    reserve_is = (
+      λ yes. omega (arith, room.0 yes, told.pledged_is, trees.free_is),
+      λ has. room.1 (omega (arith, has, told.pledged_is, trees.free_is)),
+    );
+  };
 }
   where
     frozen : (k block : ℕ) → slot r k ≡ Block block → IsFaultless r.geometry (w.frozen k)

@@ -23,7 +23,7 @@ pub record IsEnded {B : Type 0} (Shows : B → (ℕ → List ℕ) → Type 0) (b
       → IsSeen disk r marks q × (q.fault ≡ None → IsFaultless r.geometry (tree_in (whole disk r) q.plane))
 
 -- a tree's fault, with its name
-pub tree_finding : (r : Root) (w : Whole) (nvram : List ℕ) (tree : TreeName) (k : ℕ) (fault : Fault) → IsNamedTree r tree k → IsTreeFinding r (tree_in w k) fault → IsFindingUnder r w nvram tree fault
+pub tree_finding : (r : Root) (w : Whole) (nvram : List ℕ) (tree : TreeName) (k : ℕ) (fault : Fault) → IsNamedTree r w tree k → IsTreeFinding r (tree_in w k) fault → IsFindingUnder r w nvram tree fault
 tree_finding r w nvram tree k (faults.Roots found) named told = absurd told
 tree_finding r w nvram tree k (faults.Snapshot slot block found) named told = absurd told
 tree_finding r w nvram trees.Image k (faults.Tree found) named told = absurd named

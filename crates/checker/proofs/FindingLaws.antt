@@ -1,16 +1,16 @@
 -- What was found first.
 use Rattle.std.proofs.Common.{◌≡◌, ℕ, List, Bool, true, false, Option, Some, None, length, subst, sym, ap, ◌∙◌}
 use Rattle.std.specs.Prelude.{IfSome, if◌then◌else◌, nat_le}
-use Rattle.station.specs.Images.{Images}
-use Rattle.station.specs.Moments.{IsSameStation, Meaning}
+use Rattle.station.specs.Images.{Images, Unchanged}
+use Rattle.station.specs.Moments.{Goes, IsSameStation, LeavesJust, Meaning}
 use Rattle.layout.specs.Opens.{IsNewest}
 use Rattle.layout.specs.declared.TheConstants.{SLOT_A, SLOT_B}
 use Rattle.layout.specs.declared.root.Root.{Root}
 use Rattle.images.specs.Faults.{HasRoots}
 use Rattle.images.specs.Roots.{Whole}
-use Rattle.loading.specs.Slots.{FitsStation}
+use Rattle.loading.specs.Slots.{FitsStation, HasNoRoot}
 use Rattle.checker.specs.Checks.{AreFindings}
-use Rattle.checker.specs.Findings.{IsFinding, IsFindingUnder, fault_number, first_of}
+use Rattle.checker.specs.Findings.{IsFinding, IsFindingUnder, IsFirstTold, TellsRoots, fault_number, first_of}
 use Rattle.checker.specs.declared.fault.Fault.TheVariants as faults
 use Rattle.checker.specs.declared.fault.Finding.{Finding}
 use Rattle.checker.specs.declared.fault.RootsFault.{RootsFault}
@@ -23,11 +23,25 @@ no_roots m n same seen size none r has =
     none r (subst (λ (i : Images). IsNewest r (i.disk SLOT_A) (i.disk SLOT_B)) (sym seen) has.newest)
     (record { sectors = same.sectors ∙ has.sizes.disk; nvram = same.nvram_bytes ∙ sym size ∙ has.sizes.nvram })
 
+-- what is told of the slots of a station is told of those before
+pub no_root_before : (m n : Meaning) → IsSameStation m n → n.seen ≡ m.seen
+    → HasNoRoot n.sectors n.seen.disk → HasNoRoot m.sectors m.seen.disk
+no_root_before m n same seen none =
+    subst (λ (i : Images). HasNoRoot m.sectors i.disk) seen
+    (subst (λ (k : ℕ). HasNoRoot k n.seen.disk) same.sectors none)
+
+pub no_root_behind : (m n : Meaning) → IsSameStation m n → n.seen ≡ m.seen
+    → HasNoRoot m.sectors m.seen.disk → HasNoRoot n.sectors n.seen.disk
+no_root_behind m n same seen none =
+    subst (λ (i : Images). HasNoRoot n.sectors i.disk) (sym seen)
+    (subst (λ (k : ℕ). HasNoRoot k m.seen.disk) (sym same.sectors) none)
+
 pub roots_found : (sectors : ℕ) (disk : ℕ → List ℕ) (nvram : List ℕ) (first new : Option Finding) (found : RootsFault) → first ≡ None → new ≡ Some (first_of first (record { tree = Image; fault = faults.Roots found }))
-    → ((r : Root) → HasRoots r sectors disk nvram → ⊥) → IfSome new (IsFinding sectors disk nvram)
-roots_found sectors disk nvram first new found none is not =
+    → ((r : Root) → HasRoots r sectors disk nvram → ⊥) → TellsRoots sectors disk found
+    → IfSome new (IsFinding sectors disk nvram)
+roots_found sectors disk nvram first new found none is not told =
     let one : new ≡ Some (record { tree = Image; fault = faults.Roots found }) = is ∙ ap (λ (o : Option Finding). Some (first_of o (record { tree = Image; fault = faults.Roots found }))) none in
-    subst (λ (o : Option Finding). IfSome o (IsFinding sectors disk nvram)) (sym one) not
+    subst (λ (o : Option Finding). IfSome o (IsFinding sectors disk nvram)) (sym one) (not, told)
 
 module _ (r : Root) (w : Whole) (nvram : List ℕ) where
   either : (b : Bool) (x y : Finding) → IsFindingUnder r w nvram x.tree x.fault → IsFindingUnder r w nvram y.tree y.fault → AreFindings r w nvram (Some (if b then x else y))
@@ -45,3 +59,22 @@ module _ (r : Root) (w : Whole) (nvram : List ℕ) where
   pub if_found : (first : Option Finding) → AreFindings r w nvram first → IfSome first (λ f. IsFindingUnder r w nvram f.tree f.fault)
   if_found None are = tt
   if_found (Some found) are = are
+
+-- ---- what a station leaves
+
+-- reads change nothing of what a cut leaves
+pub still_left : (old new : Meaning) (i : Images) → IsSameStation old new → Goes Unchanged old new
+    → LeavesJust old i → LeavesJust new i
+still_left old new i same goes just honest c may =
+    let was = same.honest.1 honest in
+    let before = (goes was).now c may in
+    before.2 ∙ just was before.0 before.1
+
+-- ---- what a watch was told
+
+-- nothing more
+pub same_told : (known new : Option (List Finding)) (first last : Option Finding) → new ≡ known
+    → last ≡ first → IsFirstTold known first → IsFirstTold new last
+same_told known new first last same is told =
+    subst (λ (k : Option (List Finding)). IsFirstTold k last) (sym same)
+    (subst (IsFirstTold known) (sym is) told)

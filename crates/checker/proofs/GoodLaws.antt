@@ -1,5 +1,5 @@
 -- In images without a fault none is found, where their files can be read.
-use Rattle.std.proofs.Common.{◌≡◌, ◌⊎◌, ◌∙◌, ◌<◌, ℕ, zero, suc, Bool, true, false, List, Some, refl, sym, ap, subst, inl, inr, arith}
+use Rattle.std.proofs.Common.{◌≡◌, ◌⊎◌, ◌∙◌, ◌<◌, ◌≤◌, ◌^◌, ℕ, zero, suc, Bool, true, false, List, Some, refl, sym, ap, subst, inl, inr, arith}
 use Rattle.std.specs.Prelude.{◌≢◌, ◌↔◌, IsTrue}
 use Rattle.std.specs.Int.{bit_at}
 use Rattle.std.proofs.lemmas.Bool.{cases_eq}
@@ -12,15 +12,17 @@ use Rattle.layout.specs.declared.kind.Kind.TheVariants.{Directory, Free}
 use Rattle.layout.specs.declared.pointer.Pointer.TheVariants.{Block}
 use Rattle.layout.specs.declared.TheConstants.{SLOT_A, SLOT_B}
 use Rattle.layout.specs.declared.root.Root.{Root}
+use Rattle.layout.specs.Opens.{IsNewest}
+use Rattle.layout.specs.Root.{IsRoot}
 use Rattle.layout.proofs.OpenLaws.{newest_once}
 use Rattle.model.specs.Paths.{Name}
 use Rattle.model.proofs.CountLemmas.{counts_once}
 use Rattle.model.proofs.ListingLemmas.{names_apart}
-use Rattle.model.specs.Volumes.{entries}
+use Rattle.model.specs.Volumes.{HasNames, Volume, entries, file_node}
 use Rattle.images.specs.BlockMap.{HasBit, IsExact, entry}
-use Rattle.images.specs.Contents.{content_bytes, content_of}
+use Rattle.images.specs.Contents.{Content, HoldsVolume, content_bytes, content_of, tree_contents}
 use Rattle.images.specs.Faults.{HasRoots, IsFaultless, IsFaultlessUnder}
-use Rattle.images.specs.Roots.{HeldTree, Whole, whole}
+use Rattle.images.specs.Roots.{HeldTree, Whole, slot, whole}
 use Rattle.images.specs.Soundness.{FitsNumber, IsWithin}
 use Rattle.checker.specs.Checks.{IsGood, Reports}
 use Rattle.checker.specs.Findings.{HasTree, IsFaultIn, IsFindingUnder, IsNamedTree, IsTreeFinding, ShouldHave, StandsIn, tree_in}
@@ -32,6 +34,12 @@ use Rattle.checker.specs.declared.fault.TreeName.TheVariants as trees
 use Rattle.checker.specs.declared.report.Report.{Report}
 use Rattle.checker.specs.declared.report.Report.TheVariants.{Bad, Good}
 
+-- what files hold is one volume at most
+abbrev pub HoldOneVolume : Type 0
+HoldOneVolume =
+    (inodes : ℕ) (files : ℕ → Content) (v w : Volume) → inodes ≤ 2 ^ 32
+    → HoldsVolume inodes files v → HoldsVolume inodes files w → v ≡ w
+
 -- ---- a tree
 
 own_used : (n : ℕ) (kind : Kind) → n < 3 → FitsNumber n kind → kind ≢ Free
@@ -40,7 +48,8 @@ own_used (suc zero) kind low is free = cc
 own_used (suc (suc zero)) kind low is free = cc
 own_used (suc (suc (suc n))) kind low is free = absurd (omega (arith, low))
 
-module _ (r : Root) (t : HeldTree) (is : IsFaultless r.geometry t) (within : IsWithin r.version t) where
+module _ (one : HoldOneVolume) (r : Root) (t : HeldTree) (few : r.geometry.inodes ≤ 2 ^ 32)
+    (is : IsFaultless r.geometry t) (within : IsWithin r.version t) where
   used_below : (n : ℕ) → n < 4 → (t n).inode.kind ≢ Free
   used_below n low free = elim (cases_eq n 3) [
     | inl root ↦ (let kind : (t n).inode.kind ≡ Directory = ap (λ (m : ℕ). (t m).inode.kind) root ∙ is.grammar.root in cc)
@@ -76,12 +85,15 @@ module _ (r : Root) (t : HeldTree) (is : IsFaultless r.geometry t) (within : IsW
   no_tree_finding (faults.Tree found) not = not is.grammar within
   no_tree_finding (faults.Shared block first second) (one, other, differ) = differ (one_node block first second one other)
   no_tree_finding (faults.InodeMap number is_taken) (taken, free) = map_told number is_taken taken free
-  no_tree_finding (faults.Directory found) not = not is.names.names
-  no_tree_finding (faults.Links number names links) told =
-      let v = is.names.names.volume in
-      let here = told v is.names.names.holds in
-      let counted = is.names.counts number here.2 links here.3 here.4 in
-      here.1 (counts_once (λ (place : ℕ × Name). entries v place.0 place.1 ≡ Some number) place_apart names links here.0 counted)
+  no_tree_finding (faults.Directory found) (not, numbers) = not is.names.names
+  no_tree_finding (faults.Links number names links) (v, holds, has, differ, mode, bytes, file) =
+      let named = is.names.names in
+      let same = one r.geometry.inodes (tree_contents t) v named.volume few holds named.holds in
+      let at = ap (λ (w : Volume). w number) (sym same) ∙ file in
+      let counted = is.names.counts number mode links bytes at in
+      differ (counts_once (λ (place : ℕ × Name). entries v place.0 place.1 ≡ Some number)
+      place_apart names links has
+      (subst (λ (w : Volume). HasNames (entries w) number links) (sym same) counted))
   no_tree_finding (faults.Roots found) not = not
   no_tree_finding (faults.Snapshot k block found) not = not
   no_tree_finding (faults.MapBit block is_entry should) not = not
@@ -112,7 +124,8 @@ entry_should r w block should exact told = same_from_bits (entry w.active block)
       | inr other ↦ through (exact.frozen block (suc k) (omega arith) other) (told.frozen (suc k) (omega arith) other)
     ]
 
-module _ (r : Root) (w : Whole) (nvram : List ℕ) (changes : List Change) (under : IsFaultlessUnder r w nvram changes) where
+module _ (one : HoldOneVolume) (r : Root) (w : Whole) (nvram : List ℕ) (changes : List Change)
+    (few : r.geometry.inodes ≤ 2 ^ 32) (under : IsFaultlessUnder r w nvram changes) where
   faultless_tree : (k : ℕ) → HasTree r k → IsFaultless r.geometry (tree_in w k)
   faultless_tree zero has = under.active
   faultless_tree (suc k) has = under.frozen (suc k) has.0 has.1
@@ -121,20 +134,27 @@ module _ (r : Root) (w : Whole) (nvram : List ℕ) (changes : List Change) (unde
   within_tree zero has = under.within
   within_tree (suc k) has = under.frozen_within (suc k) has.0 has.1
 
-  named_tree : (tree : TreeName) (k : ℕ) → IsNamedTree r tree k → HasTree r k
+  tree_there : (k block : ℕ) → slot r k ≡ Block block → HasTree r k
+  tree_there zero block there = tt
+  tree_there (suc k) block there = (block, there)
+
+  named_tree : (tree : TreeName) (k : ℕ) → IsNamedTree r w tree k → HasTree r k
   named_tree trees.Image k named = absurd named
   named_tree trees.Newest k named = subst (HasTree r) (sym named) tt
-  named_tree (trees.Snapshot slot name) k named = named.1
+  named_tree (trees.Snapshot slot name) k named =
+      let has = named.2 in tree_there k has.block has.there
 
-  in_tree : (tree : TreeName) (fault : Fault) → (k : ℕ) × IsNamedTree r tree k × IsTreeFinding r (tree_in w k) fault → ⊥
+  in_tree : (tree : TreeName) (fault : Fault)
+      → (k : ℕ) × IsNamedTree r w tree k × IsTreeFinding r (tree_in w k) fault → ⊥
   in_tree tree fault (k, named, told) =
-      let has = named_tree tree k named in no_tree_finding r (tree_in w k) (faultless_tree k has) (within_tree k has) fault told
+      let has = named_tree tree k named in
+      no_tree_finding one r (tree_in w k) few (faultless_tree k has) (within_tree k has) fault told
 
   pub no_finding_under : (tree : TreeName) (fault : Fault) → IsFindingUnder r w nvram tree fault → ⊥
   no_finding_under tree (faults.Roots found) not = not
-  no_finding_under tree (faults.Snapshot k block found) (there, not) = not under.snapshots
+  no_finding_under tree (faults.Snapshot k block found) (there, not, told) = not under.snapshots
   no_finding_under tree (faults.MapBit block is_entry should) (is, differ, told) = differ (sym is ∙ entry_should r w block should under.exact told)
-  no_finding_under tree (faults.Log found) not = not changes under.log
+  no_finding_under tree (faults.Log found) (tree_is, not) = not changes under.log
   no_finding_under trees.Image (faults.Tree found) not = not under.readable
   no_finding_under trees.Newest (faults.Tree found) told = in_tree trees.Newest (faults.Tree found) told
   no_finding_under (trees.Snapshot slot name) (faults.Tree found) told = in_tree (trees.Snapshot slot name) (faults.Tree found) told
@@ -145,15 +165,21 @@ module _ (r : Root) (w : Whole) (nvram : List ℕ) (changes : List Change) (unde
 
 -- ---- in images that open
 
-module _ (sectors : ℕ) (disk : ℕ → List ℕ) (nvram : List ℕ) (root : Root) (roots : HasRoots root sectors disk nvram) (changes : List Change)
+newest_root : (r : Root) (a b : List ℕ) → IsNewest r a b → IsRoot r
+newest_root r a b (inl first) = first.0.root
+newest_root r a b (inr second) = second.0.root
+
+module _ (one : HoldOneVolume) (sectors : ℕ) (disk : ℕ → List ℕ) (nvram : List ℕ) (root : Root) (roots : HasRoots root sectors disk nvram) (changes : List Change)
     (under : IsFaultlessUnder root (whole (blocks_of disk) root) nvram changes) where
   found_under : (tree : TreeName) (fault : Fault) → (r : Root) × HasRoots r sectors disk nvram × IsFindingUnder r (whole (blocks_of disk) r) nvram tree fault → ⊥
   found_under tree fault (r, has, told) =
-      no_finding_under root (whole (blocks_of disk) root) nvram changes under tree fault
+      let sizes = (newest_root root (disk SLOT_A) (disk SLOT_B) roots.newest).head.sizes in
+      no_finding_under one root (whole (blocks_of disk) root) nvram changes
+      (omega (arith, sizes.most_inodes)) under tree fault
       (subst (λ (x : Root). IsFindingUnder x (whole (blocks_of disk) x) nvram tree fault) (newest_once (disk SLOT_A) (disk SLOT_B) r root has.newest roots.newest) told)
 
   no_fault_in : (tree : TreeName) (fault : Fault) → IsFaultIn sectors disk nvram tree fault → ⊥
-  no_fault_in tree (faults.Roots found) not = not root roots
+  no_fault_in tree (faults.Roots found) (not, told) = not root roots
   no_fault_in tree (faults.Snapshot k block found) told = found_under tree (faults.Snapshot k block found) told
   no_fault_in tree (faults.Tree found) told = found_under tree (faults.Tree found) told
   no_fault_in tree (faults.Shared block first second) told = found_under tree (faults.Shared block first second) told

@@ -24,9 +24,9 @@ use Rattle.images.specs.Roots.{HeldTree, frozen_at, frozen_inode_file, slot, who
 use Rattle.images.specs.Soundness.{FitsNumber}
 use Rattle.images.proofs.KindLaws.{directory_kind}
 use Rattle.images.proofs.ReadingLaws.{read_past}
-use Rattle.checker.specs.Findings.{IsTreeFinding, tree_in}
-use Rattle.checker.specs.Links.{AreLinked, AreReached, HasOneName, IsRow, IsUnlinked, IsUnreached}
-use Rattle.checker.specs.Names.{IsAllWalked, IsFirst, IsNamedKind}
+use Rattle.checker.specs.Findings.{HasOneName, IsNamedKind, IsTreeFinding, tree_in}
+use Rattle.checker.specs.Links.{AreLinked, AreReached, IsRow, IsUnlinked, IsUnreached}
+use Rattle.checker.specs.Names.{IsAllWalked, IsFirst}
 use Rattle.checker.proofs.WalkLaws.{some_place}
 use Rattle.checker.specs.declared.fault.Fault.{Fault}
 use Rattle.checker.specs.declared.names.NumberRow.{NumberRow}
@@ -291,17 +291,32 @@ HasWalked s t table = (e : Entries) × (found : List ℕ) × IsAllWalked s t e f
 module _ (r : Root) (t : HeldTree) (known : IsKnown r.geometry t) (table : List NumberRow) (walked : HasWalked r.geometry t table) where
   pub unreached_finding : (fault : Fault) → IsUnreached table fault → IsTreeFinding r t fault
   unreached_finding fault none =
-      subst (IsTreeFinding r t) (sym none.5) (λ (g : HoldsNames r.geometry.inodes t). unreached r.geometry t known walked.0 walked.1 table walked.2 g.volume g.holds fault none g.naming)
+      let row = walked.2.counted.rows.each none.0 none.1 (omega (arith, none.2.0)) none.2.1 in
+      subst (IsTreeFinding r t) (sym none.5) (
+        λ (g : HoldsNames r.geometry.inodes t).
+            unreached r.geometry t known walked.0 walked.1 table walked.2 g.volume g.holds fault
+            none g.naming,
+        subst HasOneName row.0 none.3,
+      )
 
   module _ (are : AreReached table) where
+    abbrev held_volume : Volume
+    held_volume n = (object r.geometry t known walked.0 walked.1 table walked.2 are n).0
+
+    held_is : HoldsVolume r.geometry.inodes (tree_contents t) held_volume
+    held_is = λ n. (object r.geometry t known walked.0 walked.1 table walked.2 are n).1
+
     pub unlinked_finding : (fault : Fault) → IsUnlinked table fault → IsTreeFinding r t fault
     unlinked_finding fault (n, row, is_row, file, differ, is) =
-        subst (IsTreeFinding r t) (sym is) (λ v holds. unlinked r.geometry t known walked.0 walked.1 table walked.2 v holds are n row is_row file differ)
+        let told = unlinked r.geometry t known walked.0 walked.1 table walked.2 held_volume
+        held_is are n row is_row file differ in
+        subst (IsTreeFinding r t) (sym is)
+        (held_volume, held_is, told.0, told.1, told.2, told.3, told.4)
 
     pub holds_graph : AreLinked table → HoldsGraph r.geometry.inodes t
     holds_graph linked =
-        let v : Volume = λ n. (object r.geometry t known walked.0 walked.1 table walked.2 are n).0 in
-        let holds : HoldsVolume r.geometry.inodes (tree_contents t) v = λ n. (object r.geometry t known walked.0 walked.1 table walked.2 are n).1 in
+        let v = held_volume in
+        let holds = held_is in
         record {
           names = record {
             readable = λ n kind. (walked.2.names n (is_found r.geometry t known walked.0 walked.1 table walked.2 are n kind)).0;

@@ -1,5 +1,5 @@
 -- Records that were replayed, as the log has them.
-use Rattle.std.proofs.Common.{◌≡◌, ◌⊎◌, ◌∙◌, ◌<◌, ◌≤◌, ◌^◌, ℕ, Bool, true, false, List, [], ◌∷◌, ◌++◌, Result, Ok, Err, length, refl, sym, ap, subst, inl, inr}
+use Rattle.std.proofs.Common.{◌≡◌, ◌⊎◌, ◌∙◌, ◌<◌, ◌≤◌, ◌^◌, ℕ, Bool, true, false, List, [], ◌∷◌, ◌++◌, Result, Ok, Err, length, length-append, arith, ◌+◌, ◌*◌, refl, sym, ap, subst, inl, inr}
 use Rattle.std.specs.Prelude.{All, IfErr, IsSome, MatchResult, if◌then◌else◌}
 use Rattle.std.specs.Result.{IsErrAnd}
 use Rattle.std.proofs.lemmas.List.Elements.{All-cons, All-head, All-tail}
@@ -10,10 +10,10 @@ use Rattle.layout.specs.Places.{Blocks}
 use Rattle.layout.specs.Log.{HoldsBodies, LogHolds, record_of}
 use Rattle.layout.specs.Record.{Change, IsChange}
 use Rattle.layout.specs.declared.root.Root.{Root}
-use Rattle.model.specs.Records.{applied}
+use Rattle.model.specs.Records.{applied, costs, count_nameless, pledged_for}
 use Rattle.model.specs.Volumes.{IsGraph, Volume}
 use Rattle.images.specs.Contents.{tree_contents}
-use Rattle.images.specs.Faults.{HasLog}
+use Rattle.images.specs.Faults.{HasLog, IsFaultless}
 use Rattle.images.specs.Replaying.{ReplaysWithin}
 use Rattle.images.specs.Nodes.{held}
 use Rattle.images.specs.Roots.{Whole, whole}
@@ -27,15 +27,16 @@ use Rattle.loading.specs.Images.{AreInodesIn, inodes_of}
 use Rattle.model.specs.declared.limits.TheConstants.{FIRST_NUMBER, ROOT_NUMBER}
 use Rattle.replay.specs.Volumes.{AppliesIn, HasVolumeIn, LeadTo, ReplaysIn, SpellsRecord, bodies_of}
 use Rattle.replay.proofs.RecordLaws.{none_behind, one_in_front}
-use Rattle.replay.proofs.SavedLaws.{LeadOn, joined_bodies, lead_on}
+use Rattle.replay.proofs.SavedLaws.{LeadOn, costs_joined, joined_bodies, lead_on}
 use Rattle.checker.specs.Checks.{Passes}
 use Rattle.checker.specs.Errors.{IsHaltFault, OrFault}
 use Rattle.checker.specs.Findings.{IsFindingUnder}
-use Rattle.checker.specs.Logs.{IsRecordFault, TellsRecords}
+use Rattle.checker.specs.Logs.{IsLogged, IsRecordFault, TellsRecords}
 use Rattle.checker.specs.declared.error.Halt.{Halt}
 use Rattle.checker.specs.declared.error.Halt.TheVariants as halts
 use Rattle.checker.specs.declared.fault.Fault.{Fault}
 use Rattle.checker.specs.declared.fault.TreeName.TheVariants.{Image}
+use Rattle.checker.specs.declared.log.Logged.{Logged}
 
 -- a record in front of others that lead on
 pub in_front : (inodes : ℕ) (rest body after : List ℕ) (change : Change) (more : List Change) (now w : Volume) → length body < 2 ^ 32 → rest ≡ record_of body ++ after → SpellsRecord body change
@@ -77,23 +78,47 @@ all_more (c ∷ one) two first second = All-cons IsChange c (one ++ two) (All-he
 module _ (r : Root) (w : Whole) (nvram : List ℕ) (saved : Saved) (half : saved.half ≡ r.geometry.half) (generation : saved.generation ≡ r.generation) (tells : TellsLog nvram saved)
     (v : Volume) (holds : HoldsVolumeIn by_sizes r.geometry.inodes (tree_contents w.active) v) where
   pub has_log : (one two : List Change) (mid last : Volume) → LeadTo by_sizes r.geometry.inodes saved.first.records one v mid → LeadTo by_sizes r.geometry.inodes saved.second.records two mid last
-      → HasLog r w nvram (one ++ two)
+      → (log : HasLog r w nvram (one ++ two)) × (log.first ≡ v)
   has_log one two mid last leads leads_on =
       let first = leaving (bodies_of one) saved.first.records leads.held in
       let second = leaving (bodies_of two) saved.second.records leads_on.held in
       let stands = tells.ends (bodies_of one) (bodies_of two) first.0 second.0 first.1 second.1 in
-      let all : all_bodies stands.bodies ≡ bodies_of (one ++ two) = stands.all ∙ sym (joined_bodies (one ++ two) one two refl) in
-      record {
-        first = v;
-        last = last;
-        holds = holds;
-        log = record {
-          are = all_more one two leads.are leads_on.are;
-          log = subst (λ (n : ℕ). LogHolds n r.generation nvram (bodies_of (one ++ two))) (end_half saved first.0 second.0 ∙ half)
-              (subst (λ (n : ℕ). LogHolds (end_of saved first.0 second.0).half n nvram (bodies_of (one ++ two))) generation
-              (subst (LogHolds (end_of saved first.0 second.0).half saved.generation nvram) all stands.stands.holds));
-        };
-        replays = within_more r.geometry.inodes one two v mid last leads.replays leads_on.replays;
+      let all : all_bodies stands.bodies ≡ bodies_of (one ++ two) = stands.all ∙ sym (joined_bodies (one ++ two) one two refl) in (
+        record {
+          first = v;
+          last = last;
+          holds = holds;
+          log = record {
+            are = all_more one two leads.are leads_on.are;
+            log = subst (λ (n : ℕ). LogHolds n r.generation nvram (bodies_of (one ++ two))) (end_half saved first.0 second.0 ∙ half)
+                (subst (λ (n : ℕ). LogHolds (end_of saved first.0 second.0).half n nvram (bodies_of (one ++ two))) generation
+                (subst (LogHolds (end_of saved first.0 second.0).half saved.generation nvram) all stands.stands.holds));
+          };
+          replays = within_more r.geometry.inodes one two v mid last leads.replays leads_on.replays;
+        },
+        refl,
+      )
+
+  -- what both halves tell is told of the log
+  pub is_logged : (one two : List Change) (mid last : Volume) (nameless : ℕ) (l a b : Logged)
+      → LeadTo by_sizes r.geometry.inodes saved.first.records one v mid
+      → LeadTo by_sizes r.geometry.inodes saved.second.records two mid last
+      → nameless ≡ count_nameless r.geometry.inodes v
+      → a.records ≡ length one → b.records ≡ length two
+      → a.pledged ≡ costs v one → b.pledged ≡ costs mid two
+      → l.records ≡ a.records + b.records → l.pledged ≡ 4 * nameless + a.pledged + b.pledged
+      → IsLogged r w nvram l
+  is_logged one two mid last nameless l a b leads leads_on counted few more cost other records pledged =
+      let has = has_log one two mid last leads leads_on in
+      let all = costs_joined by_sizes r.geometry.inodes one two v mid leads.replays in record {
+        changes = one ++ two;
+        log = has.0;
+        records_are = omega (arith, records, few, more, length-append one two);
+        pledged_is =
+            let is : l.pledged ≡ pledged_for r.geometry.inodes v (one ++ two) =
+            omega (arith, pledged, counted, cost, other, all) in
+            subst (λ (u : Volume). l.pledged ≡ pledged_for r.geometry.inodes u (one ++ two))
+            (sym has.1) is;
       }
 
 pub log_leads : (r : Root) (w : Whole) (nvram : List ℕ) (saved : Saved) → saved.half ≡ r.geometry.half → saved.generation ≡ r.generation → TellsLog nvram saved
@@ -144,15 +169,17 @@ has_volume disk r count inodes v is are holds graph numbers = record {
 
 -- ---- a half that has a fault
 
-pub failed : (r : Root) (w : Whole) (nvram : List ℕ) (q : Result ℕ Halt) (h : Halt) → IsErrAnd q (λ f. f ≡ h) → Passes {T = ℕ} (λ _. Unit {0}) IsRecordFault (Err h)
-    → ((changes : List Change) → HasLog r w nvram changes → Passes {T = ℕ} (λ _. Unit {0}) (λ _. ⊥) (Err h)) → TellsRecords r w nvram q
-failed r w nvram (Ok count) h passed faults refutes = absurd passed
-failed r w nvram (Err halts.NoMemory) h passed faults refutes = tt
-failed r w nvram (Err halts.Device) h passed faults refutes = tt
-failed r w nvram (Err (halts.Fault fault)) h passed faults refutes =
-    let is : IsRecordFault fault = subst (λ (e : Halt). Passes {T = ℕ} (λ _. Unit {0}) IsRecordFault (Err e)) (sym passed) faults in
+pub failed : (r : Root) (w : Whole) (nvram : List ℕ) (q : Result Logged Halt) (h : Halt)
+    → IsFaultless r.geometry w.active → IsErrAnd q (λ f. f ≡ h)
+    → Passes {T = Logged} (λ _. Unit {0}) IsRecordFault (Err h)
+    → ((changes : List Change) → HasLog r w nvram changes → Passes {T = Logged} (λ _. Unit {0}) (λ _. ⊥) (Err h)) → TellsRecords r w nvram q
+failed r w nvram (Ok count) h faultless passed faults refutes = absurd passed
+failed r w nvram (Err halts.NoMemory) h faultless passed faults refutes = tt
+failed r w nvram (Err halts.Device) h faultless passed faults refutes = tt
+failed r w nvram (Err (halts.Fault fault)) h faultless passed faults refutes =
+    let is : IsRecordFault fault = subst (λ (e : Halt). Passes {T = Logged} (λ _. Unit {0}) IsRecordFault (Err e)) (sym passed) faults in
     subst (IsFindingUnder r w nvram Image) (sym is.2)
-    (λ changes log. subst (λ (e : Halt). Passes {T = ℕ} (λ _. Unit {0}) (λ _. ⊥) (Err e)) (sym passed) (refutes changes log))
+    (faultless, λ changes log. subst (λ (e : Halt). Passes {T = Logged} (λ _. Unit {0}) (λ _. ⊥) (Err e)) (sym passed) (refutes changes log))
 
 -- records by the sizes and the bytes that they are read by
 pub lead_over : (s t : Sizes) (records bytes : List ℕ) (changes : List Change) (v w : Volume) → s ≡ t → records ≡ bytes → LeadTo by_sizes t.inodes bytes changes v w → LeadTo by_sizes s.inodes records changes v w
@@ -160,7 +187,8 @@ lead_over s t records bytes changes v w sizes same leads =
     subst (λ (x : Sizes). LeadTo by_sizes x.inodes records changes v w) (sym sizes) (subst (λ (b : List ℕ). LeadTo by_sizes t.inodes b changes v w) (sym same) leads)
 
 -- what is true of a fault's answer says nothing of other ones
-pub refuted : (Is : ℕ → Type 0) (h : Halt) → Passes Is (λ _. ⊥) (Err h) → Passes {T = ℕ} (λ _. Unit {0}) (λ _. ⊥) (Err h)
+pub refuted : (Is : Logged → Type 0) (h : Halt) → Passes Is (λ _. ⊥) (Err h)
+    → Passes {T = Logged} (λ _. Unit {0}) (λ _. ⊥) (Err h)
 refuted Is halts.NoMemory told = tt
 refuted Is halts.Device told = tt
 refuted Is (halts.Fault fault) told = told

@@ -1,14 +1,13 @@
 -- The trees of a root, slot by slot.
 use Rattle.std.proofs.Common.{◌≡◌, ◌∙◌, ◌⊎◌, ℕ, zero, suc, ◌+◌, ◌≤◌, List, [], ◌∷◌, ◌++◌, length, refl, ap, sym, subst, arith, inl, inr}
 use Rattle.std.specs.Prelude.{Contains, None, Option, Some, slice_get, slice_index_or}
-use Rattle.std.specs.Option.{option_map}
 use Rattle.std.proofs.lemmas.Bool.{cases_lt}
 use Rattle.std.proofs.lemmas.List.{get_or_past, length_push}
 use Rattle.std.proofs.lemmas.List.Elements.{Contains-append_left, Contains-push, Contains-push_cases}
 use Rattle.std.proofs.lemmas.Option.{slice_get_within}
 use Rattle.layout.specs.Inode.{IsInode}
 use Rattle.layout.specs.Places.{Blocks, pointed}
-use Rattle.layout.specs.SnapRoot.{snapshot_in}
+use Rattle.layout.specs.SnapRoot.{Snapshot, snapshot_in}
 use Rattle.layout.specs.declared.inode.Inode.{Inode}
 use Rattle.layout.specs.declared.kind.Kind.TheVariants.{InodeFile}
 use Rattle.layout.specs.declared.pointer.Pointer.{Pointer}
@@ -17,10 +16,11 @@ use Rattle.layout.specs.declared.root.Root.{Root}
 use Rattle.layout.specs.declared.version.TheConstants.{VERSION}
 use Rattle.images.specs.Nodes.{held}
 use Rattle.images.specs.Roots.{frozen_at, frozen_inode_file, inode_file_or_free, inode_under, slot, tree, whole}
-use Rattle.images.specs.Snapshots.{AreSnapshots}
-use Rattle.checker.specs.Findings.{HasTree, tree_in}
+use Rattle.images.specs.Snapshots.{AreSnapshots, HasSnapshot}
+use Rattle.checker.specs.Findings.{HasTree, IsNamedTree, name_bytes, tree_in}
 use Rattle.checker.specs.Trees.{AreTrees, TellsSnapshot}
 use Rattle.checker.specs.declared.fault.SnapshotName.{SnapshotName}
+use Rattle.checker.specs.declared.fault.TreeName.TheVariants as names
 use Rattle.checker.specs.declared.tree.Tree.{Tree}
 
 -- the trees of a root and of its first so many slots
@@ -138,6 +138,15 @@ unfolding whole tree inode_under held frozen_inode_file
 frozen_is disk r k b is = ap (λ (p : Pointer). (frozen_at disk r.geometry.inodes p 0).inode) is
 
 module _ (disk : Blocks) (r : Root) (are : AreSnapshots r (whole disk r)) where
+  -- this name and inode of an inode file are those of the snapshot in slot k
+  pub record IsOfSnapshot (k : ℕ) (f : SnapshotName × Inode) : Type 0 where
+    pub fits : IsInode VERSION r.geometry f.1
+    pub top : (tree_in (whole disk r) k 0).inode ≡ f.1
+    pub kind : f.1.kind ≡ InodeFile
+    pub snapshot : Snapshot
+    pub has : HasSnapshot r (whole disk r) k snapshot
+    pub named : snapshot.name ≡ name_bytes f.0
+
   told_none : (k : ℕ) (p : Pointer) → slot r (suc k) ≡ p → TellsSnapshot disk p None → HasTree r (suc k) → ⊥
   unfolding whole
   told_none k Hole is told has = (let there = has.1 in cc)
@@ -148,25 +157,42 @@ module _ (disk : Blocks) (r : Root) (are : AreSnapshots r (whole disk r)) where
   pub no_tree : (k : ℕ) (p : Pointer) → slice_index_or r.snapshots k Hole ≡ p → TellsSnapshot disk p None → HasTree r (k + 1) → ⊥
   no_tree k p is told has = let next : k + 1 ≡ suc k = omega arith in told_none k p is told (subst (HasTree r) next has)
 
-  told_some : (k : ℕ) (p : Pointer) (i : Inode) → slot r (suc k) ≡ p → TellsSnapshot disk p (Some i) → IsInode VERSION r.geometry i × ((tree_in (whole disk r) (suc k) 0).inode ≡ i) × (i.kind ≡ InodeFile)
+  told_some : (k : ℕ) (p : Pointer) (f : SnapshotName × Inode) → slot r (suc k) ≡ p
+      → TellsSnapshot disk p (Some f) → IsOfSnapshot (suc k) f
   unfolding whole frozen_inode_file
-  told_some k Hole i is told = absurd (let same : Some i ≡ None = told in cc)
-  told_some k (Block b) i is told =
+  told_some k Hole f is told = absurd (let same : Some f ≡ None = told in cc)
+  told_some k (Block b) f is told =
       let one = are.each (suc k) b is in
-      let at : frozen_inode_file (disk b) ≡ one.0.inode_file = ap inode_file_or_free (ap (λ (p : Pointer). snapshot_in (pointed disk p)) (sym is) ∙ one.1.read) in (
-        subst (IsInode VERSION r.geometry) (sym at ∙ told) one.2.inode_file,
-        frozen_is disk r k b is ∙ told,
-        ap (λ (x : Inode). x.kind) (sym told ∙ at) ∙ one.2.is.kind,
-      )
+      let read : snapshot_in (disk b) ≡ Some one.0 =
+      ap (λ (p : Pointer). snapshot_in (pointed disk p)) (sym is) ∙ one.1.read in
+      let inode : frozen_inode_file (disk b) ≡ f.1 =
+      ap inode_file_or_free told.1 ∙ told.3 in
+      let at : frozen_inode_file (disk b) ≡ one.0.inode_file = ap inode_file_or_free read in record {
+        fits = subst (IsInode VERSION r.geometry) (sym at ∙ inode) one.2.inode_file;
+        top = frozen_is disk r k b is ∙ inode;
+        kind = ap (λ (x : Inode). x.kind) (sym inode ∙ at) ∙ one.2.is.kind;
+        snapshot = told.0;
+        has = record {
+          block = b;
+          there = is;
+          read = ap (λ (p : Pointer). snapshot_in (pointed disk p)) is ∙ told.1;
+        };
+        named = told.2;
+      }
 
-  pub snapshot_tree : (k : ℕ) (p : Pointer) (i : Inode) → slice_index_or r.snapshots k Hole ≡ p → TellsSnapshot disk p (Some i)
-      → IsInode VERSION r.geometry i × ((tree_in (whole disk r) (k + 1) 0).inode ≡ i) × (i.kind ≡ InodeFile)
-  snapshot_tree k p i is told = let next : suc k ≡ k + 1 = omega arith in
-      subst (λ (m : ℕ). IsInode VERSION r.geometry i × ((tree_in (whole disk r) m 0).inode ≡ i) × (i.kind ≡ InodeFile)) next (told_some k p i is told)
+  pub snapshot_tree : (k : ℕ) (p : Pointer) (f : SnapshotName × Inode)
+      → slice_index_or r.snapshots k Hole ≡ p → TellsSnapshot disk p (Some f)
+      → IsOfSnapshot (k + 1) f
+  snapshot_tree k p f is told =
+      let next : suc k ≡ k + 1 = omega arith in
+      subst (λ (m : ℕ). IsOfSnapshot m f) next (told_some k p f is told)
+
+  -- so its tree has this name
+  pub tree_named : (k : ℕ) (f : SnapshotName × Inode) → IsOfSnapshot k f
+      → IsNamedTree r (whole disk r) (names.Snapshot k f.0) k
+  tree_named k f of = (refl, of.snapshot, of.has, of.named)
 
 -- what was read of a slot
-pub snapshot_some : (disk : Blocks) (p : Pointer) (o : Option (SnapshotName × Inode)) (x : SnapshotName × Inode) → o ≡ Some x → TellsSnapshot disk p (option_map (λ f. f.1) o) → TellsSnapshot disk p (Some x.1)
-snapshot_some disk p o x is told = subst (λ (y : Option (SnapshotName × Inode)). TellsSnapshot disk p (option_map (λ f. f.1) y)) is told
-
-pub snapshot_none : (disk : Blocks) (p : Pointer) (o : Option (SnapshotName × Inode)) → o ≡ None → TellsSnapshot disk p (option_map (λ f. f.1) o) → TellsSnapshot disk p None
-snapshot_none disk p o is told = subst (λ (y : Option (SnapshotName × Inode)). TellsSnapshot disk p (option_map (λ f. f.1) y)) is told
+pub told_of : (disk : Blocks) (p : Pointer) (o x : Option (SnapshotName × Inode)) → o ≡ x
+    → TellsSnapshot disk p o → TellsSnapshot disk p x
+told_of disk p o x is told = subst (TellsSnapshot disk p) is told

@@ -18,7 +18,8 @@ use Rattle.model.proofs.WalkLemmas.{edge_from, edge_here, edge_other, number_at-
 use Rattle.images.specs.Contents.{Content, StandsAs, content_of}
 use Rattle.images.specs.Faults.{HoldsNames}
 use Rattle.images.specs.Roots.{HeldTree}
-use Rattle.checker.specs.Names.{IsFirst, IsNamedKind, IsUsed}
+use Rattle.checker.specs.Findings.{HasOneName, IsNamedKind}
+use Rattle.checker.specs.Names.{IsFirst, IsUsed}
 use Rattle.checker.specs.Walks.{IsOnWay}
 use Rattle.checker.specs.declared.names.NumberRow.{NumberRow}
 use Rattle.checker.proofs.EachLaws.{get_others, get_set}
@@ -77,6 +78,13 @@ no_file kinds.InodeFile inodes c o never is = ap is_file_node is
 no_file kinds.InodeMap inodes c o never is = ap is_file_node is
 no_file kinds.BlockMap inodes c o never is = ap is_file_node is
 
+-- what may have a name, and isn't a file, has one
+one_if : (k : Kind) → IsNamedKind k → k ≢ kinds.File → HasOneName k
+one_if kinds.File named other = absurd (other refl)
+one_if kinds.Directory named other = tt
+one_if kinds.Link named other = tt
+one_if _ named other = absurd named
+
 pub some_place : {A : Type 0} (P : A → Type 0) (count : ℕ) → count ≢ 0 → Counts P count → (a : A) × P a
 some_place P zero some counts = absurd (some refl)
 some_place P (suc count) some counts = (counts.0, counts.1)
@@ -97,6 +105,14 @@ found_more n IsOne found one = record {
   there = λ _. (length found, omega (arith, length-append found (n ∷ [])), get_last found n);
 }
 
+-- one of the directories that were found is one
+pub first_directory : (s : Sizes) (t : HeldTree) (e : Entries) (count : ℕ) (found : List ℕ)
+    (table : List NumberRow) (d : ℕ) → IsOnWay s t e count found table → IsFirst found count d
+    → (t d).inode.kind ≡ kinds.Directory
+first_directory s t e count found table d way among =
+    let below = slice_get_within found among.0 d among.2 in
+    (way.counted.reached d (among.0, below, among.2)).0
+
 -- a name of a directory that leads to a number, which isn't counted yet
 module _ (s : Sizes) (t : HeldTree) (e : Entries) (count : ℕ) (found : List ℕ) (table : List NumberRow) (d n : ℕ) (x : Name) (row : NumberRow)
     (way : IsOnWay s t e count found table) (among : IsFirst found count d) (free : e d x ≡ None) (entry : IsEntry s.inodes (record { number = n; name = x })) (there : slice_get table n ≡ Some row) where
@@ -105,6 +121,12 @@ module _ (s : Sizes) (t : HeldTree) (e : Entries) (count : ℕ) (found : List �
 
   kind_is : row.kind ≡ (t n).inode.kind
   kind_is = (way.counted.rows.each n row some there).0
+
+  pub unnamed_kind : (IsNamedKind row.kind → ⊥) → IsNamedKind (t n).inode.kind → ⊥
+  unnamed_kind never named = never (subst IsNamedKind (sym kind_is) named)
+
+  pub one_name : IsNamedKind row.kind → row.kind ≢ kinds.File → HasOneName (t n).inode.kind
+  one_name named other = subst HasOneName kind_is (one_if row.kind named other)
 
   -- the two faults
   pub unused : (IsNamedKind row.kind → ⊥) → (g : HoldsNames s.inodes t) → entries g.volume d x ≡ Some n → ⊥

@@ -1,16 +1,18 @@
 -- What a check comes to.
-use Rattle.std.specs.Prelude.{ℕ, ◌≡◌, ◌⊎◌, Bool, true, false, List, length, count_by, Option, Some, None, Result, Ok, Err}
+use Rattle.std.specs.Prelude.{ℕ, ◌≡◌, ◌⊎◌, ◌↔◌, IsTrue, Bool, true, false, List, length, count_by, Option, Some, None, Result, Ok, Err}
 use Rattle.station.specs.Moments.{HasGrown, Meaning}
 use Rattle.layout.specs.Places.{blocks_of}
 use Rattle.layout.specs.Record.{Change}
 use Rattle.layout.specs.declared.pointer.Pointer.{Pointer}
 use Rattle.layout.specs.declared.pointer.Pointer.TheVariants.{Block, Hole}
 use Rattle.layout.specs.declared.root.Root.{Root}
+use Rattle.model.specs.Volumes.{Volume}
 use Rattle.images.specs.BlockMap.{IsExact}
 use Rattle.images.specs.Faults.{HasRoots, IsFaultless, IsFaultlessUnder}
 use Rattle.images.specs.Room.{free_under}
 use Rattle.images.specs.Roots.{Whole, whole}
 use Rattle.images.specs.Soundness.{IsReadable, IsWithin}
+use Rattle.images.specs.States.{HasReserve}
 use Rattle.checker.specs.Findings.{HasTree, IsFinding, IsFindingUnder, tree_in}
 use Rattle.checker.specs.declared.error.Halt.{Halt}
 use Rattle.checker.specs.declared.error.Halt.TheVariants as halts
@@ -32,12 +34,13 @@ abbrev pub is_block : Pointer → Bool
 is_block Hole = false
 is_block (Block block) = true
 
--- the figures of an image without faults, under its newest root and with these records
-pub record TellsSummary (r : Root) (w : Whole) (changes : List Change) (s : Summary) : Type 0 where
+-- the figures of an image without faults, under its newest root, of this volume and with these records over it
+pub record TellsSummary (r : Root) (w : Whole) (first : Volume) (changes : List Change) (s : Summary) : Type 0 where
   pub generation_is : s.generation ≡ r.generation
   pub snapshots_are : s.snapshots ≡ count_by is_block r.snapshots
   pub records_are : s.records ≡ length changes
   pub free_is : s.free ≡ free_under w.active r.geometry.blocks
+  pub reserve_is : IsTrue s.has_reserve ↔ HasReserve r w first changes
 
 abbrev pub IsGood : Report → Type 0
 IsGood (Good summary) = Unit {0}
@@ -49,7 +52,7 @@ pub record IsGoodBy (sectors : ℕ) (disk : ℕ → List ℕ) (nvram : List ℕ)
   pub changes : List Change
   pub roots : HasRoots root sectors disk nvram
   pub under : IsFaultlessUnder root (whole (blocks_of disk) root) nvram changes
-  pub figures : TellsSummary root (whole (blocks_of disk) root) changes s
+  pub figures : TellsSummary root (whole (blocks_of disk) root) under.log.first changes s
 
 -- A report of a disk of so many sectors and an NVRAM is true.
 abbrev pub Reports : ℕ → (ℕ → List ℕ) → List ℕ → Report → Type 0
@@ -64,7 +67,13 @@ HasFailed old new = HasGrown old.failed_reads new.failed_reads ⊎ HasGrown old.
 abbrev pub report_of : Option Finding → Option Summary → Report
 report_of (Some finding) summary = Bad finding
 report_of None (Some summary) = Good summary
-report_of None None = Good (record { generation = 0; snapshots = 0; records = 0; free = 0 })
+report_of None None =
+    Good (record { generation = 0; snapshots = 0; records = 0; free = 0; has_reserve = false })
+
+-- the fault that a report tells
+abbrev pub found_in : Report → Option Finding
+found_in (Good summary) = None
+found_in (Bad finding) = Some finding
 
 -- what was found first stands under a root
 abbrev pub AreFindings : Root → Whole → List ℕ → Option Finding → Type 0
@@ -75,7 +84,7 @@ AreFindings r w nvram (Some finding) = IsFindingUnder r w nvram finding.tree fin
 pub record IsFaultlessBy (r : Root) (w : Whole) (nvram : List ℕ) (s : Summary) : Type 0 where
   pub changes : List Change
   pub under : IsFaultlessUnder r w nvram changes
-  pub figures : TellsSummary r w changes s
+  pub figures : TellsSummary r w under.log.first changes s
 
 -- no fault stands in the trees of a root, whose files are no larger than its version allows, and in its block map, which can be read and
 -- has so many free blocks

@@ -1,18 +1,12 @@
 -- The rows of a table, with the names of each number and the links that its inode has.
 use Rattle.std.specs.Prelude.{ℕ, ◌≡◌, ◌≢◌, ◌≤◌, List, slice_get, Some}
-use Rattle.layout.specs.declared.kind.Kind.{Kind}
-use Rattle.layout.specs.declared.kind.Kind.TheVariants.{Directory, File, Link}
+use Rattle.layout.specs.declared.kind.Kind.TheVariants.{File}
 use Rattle.model.specs.declared.limits.TheConstants.{FIRST_NUMBER}
+use Rattle.checker.specs.Findings.{HasOneName}
 use Rattle.checker.specs.declared.fault.DirectoryFault.TheVariants.{Unreached}
 use Rattle.checker.specs.declared.fault.Fault.{Fault}
 use Rattle.checker.specs.declared.fault.Fault.TheVariants as faults
 use Rattle.checker.specs.declared.names.NumberRow.{NumberRow}
-
--- the kinds of objects that have one name
-abbrev pub HasOneName : Kind → Type 0
-HasOneName Directory = Unit {0}
-HasOneName Link = Unit {0}
-HasOneName _ = ⊥
 
 -- the row of an ordinary number
 abbrev pub IsRow : List NumberRow → ℕ → NumberRow → Type 0

@@ -1,14 +1,14 @@
 -- The directories of a tree.
 use Rattle.std.specs.Prelude.{ℕ, ◌≡◌, ◌<◌, ◌≤◌, List, length, slice_get, Some}
 use Rattle.layout.specs.Limits.{Sizes}
-use Rattle.layout.specs.declared.kind.Kind.{Kind}
-use Rattle.layout.specs.declared.kind.Kind.TheVariants.{Directory, File, Link}
+use Rattle.layout.specs.declared.kind.Kind.TheVariants.{Directory, File}
 use Rattle.model.specs.Paths.{IsName, Name, Path}
 use Rattle.model.specs.Volumes.{Entries, HasNames, number_at}
 use Rattle.model.specs.declared.limits.TheConstants.{FIRST_NUMBER, ROOT_NUMBER}
 use Rattle.images.specs.Contents.{IsDirectoryOf, content_of}
 use Rattle.images.specs.Roots.{HeldTree}
 use Rattle.images.specs.Soundness.{IsReadable}
+use Rattle.checker.specs.Findings.{IsNamedKind}
 use Rattle.checker.specs.declared.names.NumberRow.{NumberRow}
 
 -- a table has what a tree has of each number
@@ -20,13 +20,6 @@ pub record IsTable (s : Sizes) (t : HeldTree) (table : List NumberRow) : Type 0 
 -- no number has a name yet
 abbrev pub IsUnnamed : List NumberRow → Type 0
 IsUnnamed table = (n : ℕ) (row : NumberRow) → slice_get table n ≡ Some row → row.names ≡ 0
-
--- what a name may lead to
-abbrev pub IsNamedKind : Kind → Type 0
-IsNamedKind File = Unit {0}
-IsNamedKind Directory = Unit {0}
-IsNamedKind Link = Unit {0}
-IsNamedKind _ = ⊥
 
 -- a name that leads to a number is a name, and the number one of these inodes that may have a name
 pub record IsUsed (s : Sizes) (t : HeldTree) (x : Name) (n : ℕ) : Type 0 where

@@ -8,7 +8,7 @@ use Rattle.layout.specs.Limits.{Sizes}
 use Rattle.layout.specs.Version.{greatest_size}
 use Rattle.layout.specs.declared.TheConstants.{BLOCK_BYTES, INODE_BYTES, INODES_PER_BLOCK}
 use Rattle.layout.specs.declared.kind.Kind.TheVariants.{Free, InodeFile}
-use Rattle.layout.specs.SnapRoot.{IsSnapshot, Snapshot, snapshot_bytes}
+use Rattle.layout.specs.SnapRoot.{IsSnapshot, Snapshot, snapshot_bytes, snapshot_in}
 use Rattle.layout.specs.declared.inode.Inode.{Inode}
 use Rattle.layout.specs.declared.pointer.Pointer.{Pointer}
 use Rattle.layout.specs.declared.pointer.Pointer.TheVariants.{Block, Hole}
@@ -19,16 +19,17 @@ use Rattle.images.specs.BlockMap.{HasBit, NamesOnce}
 use Rattle.images.specs.Contents.{content_bytes, content_of}
 use Rattle.images.specs.Faults.{IsMapGrammar, IsTreeGrammar, MapsWithin}
 use Rattle.images.specs.Nodes.{Held, IsOnce, Names, file_block}
-use Rattle.images.specs.Roots.{HeldTree, Reach, frozen_inode_file, inode_bytes_at, whole}
+use Rattle.images.specs.Roots.{HeldTree, Reach, inode_bytes_at, whole}
 use Rattle.images.specs.Soundness.{IsFileGrammar, IsReadable, IsWithin, MapsNumbers}
 use Rattle.loading.specs.Images.{IsFileOfInode}
 use Rattle.loading.specs.InodeBlocks.{IsInodeAt}
 use Rattle.loading.specs.Snapshots.{AreApartAt, IsSnapshotAt}
-use Rattle.checker.specs.Findings.{HasTree, IsFindingUnder, IsNamedTree, IsTreeFinding, StandsIn, tree_in}
+use Rattle.checker.specs.Findings.{HasTree, IsFindingUnder, IsNamedTree, IsTreeFinding, StandsIn, name_bytes, tree_in}
 use Rattle.checker.specs.Nodes.{SharesNone}
 use Rattle.checker.specs.declared.nodes.Shared.{Shared}
 use Rattle.checker.specs.declared.fault.Fault.{Fault}
 use Rattle.checker.specs.declared.fault.FileNode.{FileNode}
+use Rattle.checker.specs.declared.fault.SnapshotName.{SnapshotName}
 use Rattle.checker.specs.declared.fault.TreeName.TheVariants.{Image}
 use Rattle.checker.specs.declared.fault.Fault.TheVariants as faults
 use Rattle.checker.specs.declared.tree.Tree.{Tree}
@@ -36,7 +37,7 @@ use Rattle.checker.specs.declared.tree.Tree.{Tree}
 -- what memory has of a tree of a root: its number, its name, the inode of its inode file, and that file
 pub record IsTreeOf (disk : Blocks) (r : Root) (t : Tree) : Type 0 where
   pub has : HasTree r t.plane
-  pub named : IsNamedTree r t.name t.plane
+  pub named : IsNamedTree r (whole disk r) t.name t.plane
   pub top : (tree_in (whole disk r) t.plane 0).inode ≡ t.top
   pub fits : IsInode VERSION r.geometry t.top
   pub kind : t.top.kind ≡ InodeFile
@@ -149,11 +150,13 @@ TellsSlot disk r k None =
     × ((l : ℕ) → l < k → AreApartAt disk (slice_index_or r.snapshots l Hole) (slice_index_or r.snapshots k Hole))
 TellsSlot disk r k (Some fault) = (nvram : List ℕ) → IsFindingUnder r (whole disk r) nvram Image fault
 
--- the inode of a snapshot's inode file, where one stands at a pointer
-abbrev pub TellsSnapshot : Blocks → Pointer → Option Inode → Type 0
+-- the name of a snapshot and the inode of its inode file, where one stands at a pointer
+abbrev pub TellsSnapshot : Blocks → Pointer → Option (SnapshotName × Inode) → Type 0
 TellsSnapshot disk Hole found = found ≡ None
 TellsSnapshot disk (Block b) None = (s : Snapshot) → IsSnapshot s → disk b ≡ snapshot_bytes s → ⊥
-TellsSnapshot disk (Block b) (Some inode) = frozen_inode_file (disk b) ≡ inode
+TellsSnapshot disk (Block b) (Some found) =
+    (s : Snapshot) × (snapshot_in (disk b) ≡ Some s)
+    × (s.name ≡ name_bytes found.0) × (s.inode_file ≡ found.1)
 
 -- a tree's inode file and maps were read
 pub record IsOpened (disk : Blocks) (r : Root) (marks : List ℕ) (shared : List (Option Shared)) (t : Tree) : Type 0 where

@@ -1,13 +1,14 @@
 //! A check of an image.
 
-ghost use Rattle.std.specs.Prelude.{◌≡◌, ◌*◌, ℕ, List, Err, IfErr, IfOk, IfSome, IsOk, IsSome, IsTrue, MatchResult, None, OnOk, Some, slice_get};
+ghost use Rattle.std.specs.Prelude.{◌≡◌, ◌↔◌, ◌+◌, ◌*◌, ◌≤◌, ℕ, List, [], Err, IfErr, IfOk, IfSome, IsOk, IsSome, IsTrue, MatchResult, None, OnOk, Some, slice_get};
 ghost use Rattle.std.specs.Int.{div_ceil};
 ghost use Rattle.station.specs.Images.{Unchanged};
-ghost use Rattle.station.specs.Moments.{Goes, HasGrown, IsSameStation, MayGrow};
+ghost use Rattle.station.specs.Moments.{Goes, HasGrown, IsSameStation, LeavesJust, MayGrow};
 ghost use Rattle.layout.specs.Opens.{IsNewest};
 ghost use Rattle.layout.specs.Root.{IsRoot};
 ghost use Rattle.layout.specs.declared.TheConstants.{INODES_PER_BLOCK, SLOT_A, SLOT_B};
 ghost use Rattle.layout.specs.declared.root.Root.{Root};
+ghost use Rattle.model.specs.Room.{fixed_of};
 ghost use Rattle.model.specs.States.{State};
 ghost use Rattle.buffers.specs.Disks.{ReadsOn, ShowsDisk};
 ghost use Rattle.images.specs.Faults.{IsFaultless};
@@ -16,16 +17,16 @@ ghost use Rattle.images.specs.Roots.{whole};
 ghost use Rattle.images.specs.Snapshots.{AreSnapshots};
 ghost use Rattle.images.specs.States.{Opens};
 ghost use Rattle.loading.specs.Slots.{FitsStation};
-ghost use Rattle.checker.specs.Checks.{AreFaultless, AreFindings, HasFailed, IsFaultlessBy, IsGood, Reports, report_of};
+ghost use Rattle.checker.specs.Checks.{AreFaultless, AreFindings, HasFailed, IsFaultlessBy, IsGood, Reports, found_in, report_of};
 ghost use Rattle.checker.specs.Errors.{IsFault, Looks};
-ghost use Rattle.checker.specs.Findings.{IsFinding, IsFindingUnder, tree_in};
+ghost use Rattle.checker.specs.Findings.{IsFinding, IsFindingUnder, IsFirstTold, tree_in};
 ghost use Rattle.checker.specs.Rows.{AreSeenTo, KeepsTrees};
 ghost use Rattle.checker.specs.Tables.{IsKnown};
 ghost use Rattle.checker.specs.Trees.{IsApart, IsSeen, IsSeenTo};
 
 use crate::error::{Halt, fault_of};
 use crate::findings::Findings;
-use crate::log::check_log;
+use crate::log::{Logged, check_log};
 use crate::map::{compare_map, mark_system};
 use crate::marks::Marks;
 use crate::names::check_names;
@@ -39,7 +40,7 @@ use crate::trees::open_trees;
 use crate::{CheckError, Fault, Finding, LetsGo, Report, RootsFault, Summary, TreeName, Watch};
 use buffers::Buffers;
 use images::{
-    blocks_are_where_pointers_lead, images_that_open_have_no_fault,
+    blocks_are_where_pointers_lead, files_hold_one_volume, images_that_open_have_no_fault,
     inline_bytes_are_the_first_block, inodes_are_what_their_bytes_spell,
     snapshots_are_what_their_bytes_spell,
 };
@@ -49,8 +50,8 @@ use station::Station;
 use std::alloc::Global;
 
 /// Looks for faults in the image of a station. It settles what reads give, and writes nothing. `Good` says that none of the nine faults
-/// stands in the image, with its figures; `Bad` tells one that does, and comes for no image that opens to a state. Each tree with a fault is
-/// told to the watch. Err comes for want of memory and where a device call failed. No data of files and no link's text is read, but a block
+/// stands in the image, with its figures; `Bad` tells one that does, and comes for no image that opens to a state. It is the first of those
+/// that were told to the watch, of which there are none behind `Good`. Err comes for want of memory and where a device call failed. No data of files and no link's text is read, but a block
 /// into a part of which a record of the log writes: whether others can be read isn't known of a good image.
 pub fn check<S: Station, W: Watch>(
     alloc: Global,
@@ -63,6 +64,10 @@ pub fn check<S: Station, W: Watch>(
         (λ e. Goes Unchanged (S.meaning station) (S.meaning e.1)) }
     ensures device { IfErr result (λ e. e.0 ≡ CheckError.Device
         → HasFailed (S.meaning station) (S.meaning e.1)) }
+    ensures settled { IfOk result (λ r.
+        LeavesJust (S.meaning r.1) (S.meaning station).seen) }
+    ensures told { W.told watch.old ≡ Some [] → IfOk result (λ r.
+        IsFirstTold (W.told watch.new) (found_in r.0)) }
     ensures reports { (S.meaning station).is_honest → IfOk result (λ r.
         Reports (S.meaning station).sectors (S.meaning station).seen.disk
         (S.meaning station).seen.nvram r.0) }
@@ -71,6 +76,7 @@ pub fn check<S: Station, W: Watch>(
         (S.meaning station).seen.nvram s → IfOk result (λ r. IsGood r.0) }
 {
     images_that_open_have_no_fault();
+    files_hold_one_volume();
     let mut findings = Findings::new(watch);
     let root = match find_root(&mut station, &mut findings) {
         Ok(Some(root)) => root,
@@ -96,6 +102,23 @@ fn report(first: Option<Finding>, summary: Option<Summary>) -> Report
     }
 }
 
+/// Settles what reads give: a cut may have left writes that a later one could take back.
+fn settle<S: Station>(station: &mut S) -> Result<(), CheckError>
+    ensures same { IsSameStation (S.meaning station.old) (S.meaning station.new) }
+    ensures goes { Goes Unchanged (S.meaning station.old) (S.meaning station.new) }
+    ensures device { IfErr result (λ e. (e ≡ CheckError.Device)
+        × HasFailed (S.meaning station.old) (S.meaning station.new)) }
+    ensures reads { (S.meaning station.new).failed_reads
+        ≡ (S.meaning station.old).failed_reads }
+    ensures settled { OnOk result
+        (LeavesJust (S.meaning station.new) (S.meaning station.old).seen) }
+{
+    let Ok(()) = station.sync() else {
+        return Err(CheckError::Device);
+    };
+    Ok(())
+}
+
 /// Settles what reads give, and finds the newest root; None where the roots have a fault.
 fn find_root<S: Station, W: Watch>(
     station: &mut S,
@@ -113,14 +136,17 @@ fn find_root<S: Station, W: Watch>(
     ensures some { IfOk result (λ found. found ≡ None → IsSome findings.new.first) }
     ensures kept { IfOk result (λ found. IfSome found (λ _. findings.new.first ≡ findings.old.first)) }
     ensures grown { MayGrow (S.meaning station.old).failed_reads (S.meaning station.new).failed_reads }
+    ensures settled { IfOk result (λ _.
+        LeavesJust (S.meaning station.new) (S.meaning station.old).seen) }
+    ensures watch { findings.new.watch.ghost_name ≡ findings.old.watch.ghost_name }
+    ensures tells { IsFirstTold (W.told findings.old.watch.now) findings.old.first
+        → IsFirstTold (W.told findings.new.watch.now) findings.new.first }
     ensures none { (S.meaning station.old).is_honest → findings.old.first ≡ None
         → IfOk result (λ found. found ≡ None → IfSome findings.new.first
         (IsFinding (S.meaning station.old).sectors (S.meaning station.old).seen.disk
         (S.meaning station.old).seen.nvram)) }
 {
-    let Ok(()) = station.sync() else {
-        return Err(CheckError::Device);
-    };
+    settle(station)?;
     match newest_root(station) {
         Ok(newest) => Ok(Some(newest.root)),
         Err(RootError::Device) => Err(CheckError::Device),
@@ -149,6 +175,9 @@ fn check_image<S: Station, W: Watch>(
     ensures device { result ≡ Err CheckError.Device → HasGrown
         (S.meaning blocks.old.station).failed_reads (S.meaning blocks.new.station).failed_reads }
     ensures some { IfOk result (λ summary. findings.new.first ≡ None → IsSome summary) }
+    ensures watch { findings.new.watch.ghost_name ≡ findings.old.watch.ghost_name }
+    ensures tells { IsFirstTold (W.told findings.old.watch.now) findings.old.first
+        → IsFirstTold (W.told findings.new.watch.now) findings.new.first }
     ensures found { (disk : ℕ → List ℕ)
         → ShowsDisk (S.meaning blocks.old.station) blocks.old.kept disk → IfOk result (λ _.
         IfSome findings.new.first (λ f. IsFindingUnder root.now (whole disk root.now)
@@ -167,11 +196,12 @@ fn check_image<S: Station, W: Watch>(
         return Ok(None);
     }
     match check_log(alloc, blocks, root) {
-        Ok(records) if findings.first.is_none() => Ok(Some(Summary {
+        Ok(logged) if findings.first.is_none() => Ok(Some(Summary {
             generation: root.generation.get(),
             snapshots: count_snapshots(root),
-            records,
+            records: logged.records,
             free,
+            has_reserve: has_reserve(&logged, root.geometry.blocks(), free),
         })),
         Ok(_) => Ok(None),
         Err(Halt::Fault(fault)) => {
@@ -181,6 +211,15 @@ fn check_image<S: Station, W: Watch>(
         Err(Halt::NoMemory) => Err(CheckError::NoMemory),
         Err(Halt::Device) => Err(CheckError::Device),
     }
+}
+
+/// Whether so many free blocks are as many as the next consistency point may store: for what the log has, and whatever changed.
+fn has_reserve(logged: &Logged, blocks: u32, free: u32) -> bool
+    ensures { IsTrue result ↔ (logged.now.pledged + fixed_of blocks ≤ free) }
+{
+    let fixed = u64::from(blocks.div_ceil(1024)) + 4;
+    let free = u64::from(free);
+    fixed <= free && logged.pledged <= free - fixed
 }
 
 /// Tests the snapshots' root blocks.
@@ -197,6 +236,9 @@ fn check_snapshots<B: LetsGo, W: Watch>(
         → OnOk result (AreFindings root.now (whole disk root.now) nvram findings.new.first) }
     ensures none { (disk : ℕ → List ℕ) → B.Shows blocks.old disk
         → OnOk result (findings.new.first ≡ None → AreSnapshots root.now (whole disk root.now)) }
+    ensures watch { findings.new.watch.ghost_name ≡ findings.old.watch.ghost_name }
+    ensures tells { IsFirstTold (W.told findings.old.watch.now) findings.old.first
+        → IsFirstTold (W.told findings.new.watch.now) findings.new.first }
 {
     snapshots_are_what_their_bytes_spell();
     for k in 0..SNAPSHOT_SLOTS {
@@ -226,6 +268,9 @@ fn check_trees<B: LetsGo, W: Watch>(
         → IsFaultless root.now.geometry (whole disk root.now).active
         × IsWithin root.now.version (whole disk root.now).active) }
     ensures told { IfOk result (λ t. findings.new.first ≡ None → IsTrue t.0) }
+    ensures watch { findings.new.watch.ghost_name ≡ findings.old.watch.ghost_name }
+    ensures tells { IsFirstTold (W.told findings.old.watch.now) findings.old.first
+        → IsFirstTold (W.told findings.new.watch.now) findings.new.first }
     ensures faultless { (disk : ℕ → List ℕ) → B.Shows blocks.old disk
         → AreSnapshots root.now (whole disk root.now)
         → IfOk result (λ t. findings.new.first ≡ None
@@ -281,6 +326,9 @@ fn check_each<B: LetsGo, W: Watch>(
     ensures told { OnOk result (findings.new.first ≡ None → (i : ℕ) (t : Tree)
         → slice_get trees.new.items i ≡ Some t → t.fault ≡ None) }
     ensures all { IfOk result (λ apart. findings.new.first ≡ None → IsTrue apart) }
+    ensures watch { findings.new.watch.ghost_name ≡ findings.old.watch.ghost_name }
+    ensures tells { IsFirstTold (W.told findings.old.watch.now) findings.old.first
+        → IsFirstTold (W.told findings.new.watch.now) findings.new.first }
 {
     let parts = trees.len().min(PLANES) as u32 + 1;
     let mut are_apart = true;

@@ -139,15 +139,22 @@ pub struct Finding {
 }
 
 impl SnapshotName {
+    ghost use Rattle.std.specs.Prelude.{◌≡◌, take};
+    ghost use Rattle.checker.specs.Findings.{name_bytes};
+
     /// The name with these bytes; of a longer one its first 63.
-    pub fn new(name: &[u8]) -> SnapshotName {
+    pub fn new(name: &[u8]) -> SnapshotName
+        ensures { name_bytes result ≡ take SNAPSHOT_NAME_BYTES name.now }
+    {
         let length = name.len().min(SNAPSHOT_NAME_BYTES);
         let mut bytes = [0; SNAPSHOT_NAME_BYTES];
         bytes[..length].copy_from_slice(&name[..length]);
         SnapshotName { bytes, length }
     }
 
-    pub fn bytes(&self) -> &[u8] {
+    pub fn bytes(&self) -> &[u8]
+        ensures { result.now ≡ name_bytes self.now }
+    {
         &self.bytes[..self.length]
     }
 }

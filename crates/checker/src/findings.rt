@@ -1,17 +1,23 @@
 //! The faults that a check found so far.
 
-ghost use Rattle.std.specs.Prelude.{◌≡◌, Some, None, IsNone, IfSome};
-ghost use Rattle.checker.specs.Findings.{first_fault, first_of};
+ghost use Rattle.std.specs.Prelude.{◌≡◌, List, Option, Some, None};
+ghost use Rattle.checker.specs.Findings.{AddsTold, IsFirstTold, first_fault, first_of};
+ghost use Rattle.checker.specs.declared.fault.Finding.{Finding};
 
 use crate::{Fault, Finding, TreeName};
 
 /// Who is told how far a check is, and each fault that it finds.
 pub trait Watch {
+    /// What it was told so far, in order; None where nobody knows.
+    ghost told: { Self → Option (List Finding) } = { λ _. None };
+
     /// So many of the check's parts are done.
-    fn goes_on(&mut self, done: u32, of: u32);
+    fn goes_on(&mut self, done: u32, of: u32)
+        ensures { told self.new ≡ told self.old };
 
     /// A tree, or the image itself, has this fault.
-    fn finds(&mut self, finding: &Finding);
+    fn finds(&mut self, finding: &Finding)
+        ensures { AddsTold finding.now (told self.old) (told self.new) };
 }
 
 /// The first fault so far, in the order of their numbers. Each is told to a watch as it is found.
@@ -51,14 +57,19 @@ fn earlier_finding(before: Option<Finding>, finding: Finding) -> Finding
 
 impl<'w, W: Watch> Findings<'w, W> {
     pub(crate) fn new(watch: &'w mut W) -> Findings<'w, W>
-        ensures { result.first ≡ None }
+        ensures first { result.first ≡ None }
+        ensures watch { result.watch.ghost_name ≡ watch.entry.ghost_name }
+        ensures same { result.watch.now ≡ watch.old }
     {
         Findings { watch, first: None }
     }
 
     /// A fault is found.
     pub(crate) fn find(&mut self, tree: TreeName, fault: Fault)
-        ensures { self.new.first ≡ Some (first_of self.old.first (record { tree = tree; fault = fault })) }
+        ensures watch { self.new.watch.ghost_name ≡ self.old.watch.ghost_name }
+        ensures told { IsFirstTold (W.told self.old.watch.now) self.old.first
+            → IsFirstTold (W.told self.new.watch.now) self.new.first }
+        ensures first { self.new.first ≡ Some (first_of self.old.first (record { tree = tree; fault = fault })) }
     {
         let finding = Finding { tree, fault };
         self.watch.finds(&finding);
@@ -68,7 +79,9 @@ impl<'w, W: Watch> Findings<'w, W> {
 
     /// So many of the check's parts are done.
     pub(crate) fn goes_on(&mut self, done: u32, of: u32)
-        ensures { self.new.first ≡ self.old.first }
+        ensures watch { self.new.watch.ghost_name ≡ self.old.watch.ghost_name }
+        ensures told { W.told self.new.watch.now ≡ W.told self.old.watch.now }
+        ensures first { self.new.first ≡ self.old.first }
     {
         self.watch.goes_on(done, of);
     }

@@ -1,11 +1,12 @@
 //! The log over the newest root.
 
-ghost use Rattle.std.specs.Prelude.{◌≡◌, ◌≤◌, ℕ, Err, List, IfOk, length};
+ghost use Rattle.std.specs.Prelude.{◌≡◌, ◌≤◌, ◌*◌, ℕ, Err, List, IfOk, length};
 ghost use Rattle.station.specs.Moments.{HasGrown};
 ghost use Rattle.layout.specs.Record.{Change};
 ghost use Rattle.layout.specs.Root.{IsRoot};
 ghost use Rattle.layout.specs.declared.geometry.TheConstants.{MOST_HALF};
 ghost use Rattle.layout.specs.declared.inode.Inode.{Inode};
+ghost use Rattle.model.specs.Records.{costs};
 ghost use Rattle.model.specs.Volumes.{Volume};
 ghost use Rattle.buffers.specs.Disks.{ReadsOn, ShowsDisk};
 ghost use Rattle.images.specs.Faults.{IsFaultless};
@@ -14,6 +15,7 @@ ghost use Rattle.images.specs.Soundness.{IsWithin, by_sizes};
 ghost use Rattle.loading.specs.Slots.{FitsStation};
 ghost use Rattle.oplog.specs.SavedLog.{TellsLog};
 ghost use Rattle.replay.specs.Volumes.{HasVolumeIn, LeadTo};
+ghost use Rattle.replay.specs.declared.costs.TheConstants.{MOST_COST};
 ghost use Rattle.checker.specs.Checks.{Passes};
 ghost use Rattle.checker.specs.Errors.{IsHaltFault, Looks};
 ghost use Rattle.checker.specs.Logs.{IsRecordFault, TellsRecords};
@@ -27,9 +29,21 @@ use inofile::InodeFile;
 use layout::{FIRST_GATE, Gate, Root, read_gate};
 use loading::load_inodes;
 use oplog::{SavedLog, SavedLogError};
-use replay::replay_record;
+use replay::{count_nameless, replay_record};
 use station::Station;
 use std::alloc::Global;
+
+/// The blocks that a consistency point may store for a file without a name.
+const NAMELESS_COST: u64 = 4;
+
+/// What a log has over a root.
+#[derive(Clone, Copy, Debug)]
+pub(crate) struct Logged {
+    /// How many records.
+    pub(crate) records: u64,
+    /// How many blocks a consistency point may store for them, and for the root's files without names.
+    pub(crate) pledged: u64,
+}
 
 /// Replays the log over the newest root's tree in memory, and counts its records. A record that writes into a part of a block that can't
 /// be read is a fault.
@@ -37,7 +51,7 @@ pub(crate) fn check_log<S: Station>(
     alloc: Global,
     blocks: &mut Buffers<S>,
     root: &Root,
-) -> Result<u64, Halt>
+) -> Result<Logged, Halt>
     requires root { IsRoot root.now }
     requires fits { FitsStation root.now (S.meaning blocks.old.station) }
     ensures reads { ReadsOn (S.meaning blocks.old.station) (S.meaning blocks.new.station) }
@@ -59,13 +73,13 @@ pub(crate) fn check_log<S: Station>(
     replay_saved(alloc, blocks, root, &saved)
 }
 
-/// Replays what was saved over the newest root's tree in memory, and counts the records.
+/// Replays what was saved over the newest root's tree in memory, and counts the records and what they cost.
 fn replay_saved<B: LetsGo>(
     alloc: Global,
     blocks: &mut B,
     root: &Root,
     saved: &SavedLog,
-) -> Result<u64, Halt>
+) -> Result<Logged, Halt>
     requires root { IsRoot root.now }
     requires size { B.count blocks.old ≡ root.now.geometry.blocks }
     requires half { saved.now.half ≡ root.now.geometry.half }
@@ -80,24 +94,30 @@ fn replay_saved<B: LetsGo>(
     let fault = Fault::Tree(TreeFault::InodeMap);
     let loaded = load_inodes(alloc, blocks, root.version, root.geometry, root.inode_file);
     let mut inodes = or_fault(loaded, fault)?;
+    let counted = count_nameless(&inodes, blocks);
+    let nameless = or_fault(counted, fault)?;
     let half = (root.generation.epoch_after(1).get() % 2) as u32;
     let first = replay_half(alloc, &mut inodes, blocks, saved.first_records(), half)?;
     let second = replay_half(alloc, &mut inodes, blocks, saved.second_records(), 1 - half)?;
-    Ok(first + second)
+    Ok(Logged {
+        records: first.records + second.records,
+        pledged: NAMELESS_COST * u64::from(nameless) + first.pledged + second.pledged,
+    })
 }
 
-/// Replays the records of a half over the inodes in memory, and counts them.
+/// Replays the records of a half over the inodes in memory, and counts them and what they cost.
 fn replay_half<B: LetsGo>(
     alloc: Global,
     inodes: &mut InodeFile,
     blocks: &mut B,
     records: &[u8],
     half: u32,
-) -> Result<u64, Halt>
+) -> Result<Logged, Halt>
     requires { length records.now ≤ MOST_HALF }
     ensures reads { Looks B.Blocks IsHaltFault blocks.old blocks.new result }
     ensures geometry { inodes.new.geometry ≡ inodes.old.geometry }
-    ensures few { IfOk result (λ count. count ≤ length records.now) }
+    ensures few { IfOk result (λ l. l.records ≤ length records.now) }
+    ensures cheap { IfOk result (λ l. l.pledged ≤ MOST_COST * l.records) }
     ensures faults { Passes (λ _. Unit {0}) IsRecordFault result }
     ensures replays { (disk : ℕ → List ℕ) (settled : ℕ → Inode) (v w : Volume)
         (changes : List Change) → B.Shows blocks.old disk
@@ -108,22 +128,29 @@ fn replay_half<B: LetsGo>(
     ensures applies { (disk : ℕ → List ℕ) (settled : ℕ → Inode) (v : Volume)
         → B.Shows blocks.old disk
         → HasVolumeIn by_sizes (B.count blocks.old) disk settled inodes.old v
-        → IfOk result (λ count. (changes : List Change) × (w : Volume)
+        → IfOk result (λ l. (changes : List Change) × (w : Volume)
         × LeadTo by_sizes inodes.old.geometry.inodes records.now changes v w
-        × (count ≡ length changes)
-        × HasVolumeIn by_sizes (B.count blocks.old) disk settled inodes.new w) }
+        × (l.records ≡ length changes)
+        × HasVolumeIn by_sizes (B.count blocks.old) disk settled inodes.new w
+        × (l.pledged ≡ costs v changes)) }
 {
     let mut rest = records;
     let mut count = 0;
+    let mut cost = 0;
     loop {
         let at = FIRST_GATE + (records.len() - rest.len()) as u32;
         let fault = Halt::Fault(Fault::Log(LogFault::Record { half, at }));
         match read_gate(rest) {
-            Gate::Closed => return Ok(count),
+            Gate::Closed => {
+                return Ok(Logged {
+                    records: count,
+                    pledged: cost,
+                });
+            }
             Gate::Malformed => return Err(fault),
             Gate::Open { body, rest: after } => {
                 match replay_record(alloc, inodes, blocks, body) {
-                    Ok(_cost) => {}
+                    Ok(more) => cost += more,
                     Err(ReadError::NoMemory) => return Err(Halt::NoMemory),
                     Err(ReadError::Device) => return Err(Halt::Device),
                     Err(ReadError::Damaged) => return Err(fault),

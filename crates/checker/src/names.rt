@@ -9,7 +9,7 @@ ghost use Rattle.images.specs.Faults.{HoldsGraph, HoldsNames, IsTreeGrammar};
 ghost use Rattle.images.specs.Roots.{whole};
 ghost use Rattle.checker.specs.Checks.{Passes};
 ghost use Rattle.checker.specs.Errors.{IsHaltFault, Looks};
-ghost use Rattle.checker.specs.Findings.{IsTreeFinding, tree_in};
+ghost use Rattle.checker.specs.Findings.{IsNamedKind, IsTreeFinding, tree_in};
 ghost use Rattle.checker.specs.Trees.{IsSeen, IsTreeOf};
 ghost use Rattle.std.specs.Prelude.{◌+◌, ◌/◌, IsFalse, OnOk, Some, slice_get};
 ghost use Rattle.blocktree.specs.Trees.{IsSoundAt};
@@ -26,7 +26,7 @@ ghost use Rattle.checker.specs.Links.{AreLinked, AreReached, IsUnlinked, IsUnrea
 ghost use Rattle.checker.specs.Rows.{LeadsToRow, LeadsToRows};
 ghost use Rattle.checker.specs.Seen.{KnowsSeen};
 ghost use Rattle.checker.specs.Tables.{IsKnown};
-ghost use Rattle.checker.specs.Names.{IsAllWalked, IsFirst, IsNamedKind, IsTable, IsUnnamed};
+ghost use Rattle.checker.specs.Names.{IsAllWalked, IsFirst, IsTable, IsUnnamed};
 ghost use Rattle.checker.specs.Walks.{GoesOn, HasCounted, HasCountedRows, HasFile, IsAwaited, IsOnWay, IsToCount, IsTreeAt, LooksInto};
 
 use crate::error::{Halt, or_fault};

@@ -1,7 +1,6 @@
 //! The snapshots' root blocks.
 
 ghost use Rattle.std.specs.Prelude.{◌≡◌, ◌↔◌, ◌+◌, ◌<◌, ℕ, List, IfOk, IfSome, IsTrue, count_by, slice_index_or};
-ghost use Rattle.std.specs.Option.{option_map};
 ghost use Rattle.layout.specs.Pointer.{PointsBelow};
 ghost use Rattle.layout.specs.Root.{IsRoot};
 ghost use Rattle.layout.specs.declared.pointer.Pointer.TheVariants.{Block, Hole};
@@ -89,7 +88,7 @@ pub(crate) fn snapshot_at<B: LetsGo>(
     requires { PointsBelow (B.count blocks.old) pointer }
     ensures reads { Looks B.Blocks IsFault blocks.old blocks.new result }
     ensures tells { (disk : ℕ → List ℕ) → B.Shows blocks.old disk
-        → IfOk result (λ found. TellsSnapshot disk pointer (option_map (λ f. f.1) found)) }
+        → IfOk result (TellsSnapshot disk pointer) }
     ensures there { IfOk result
         (λ found. IfSome found (λ _. (block : ℕ) × (pointer ≡ Block block))) }
 {

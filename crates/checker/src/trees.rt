@@ -112,7 +112,7 @@ fn open_tree<B: LetsGo>(
         → StaysFor k marks.old marks.new shared.old.of shared.new.of }
     ensures plane { IfOk result (λ t. t.plane ≡ plane) }
     ensures tree { (disk : ℕ → List ℕ) (r : Root) → B.Shows blocks.old disk → IsRoot r
-        → r.geometry ≡ geometry → HasTree r plane → IsNamedTree r name plane
+        → r.geometry ≡ geometry → HasTree r plane → IsNamedTree r (whole disk r) name plane
         → (tree_in (whole disk r) plane 0).inode ≡ top.now → top.now.kind ≡ InodeFile
         → ((b : ℕ) → HasBit plane (slice_index marks.old b) → ⊥) → SharesNone shared.old.of plane
         → IfOk result (IsSeenTo disk r 0 0 marks.new shared.new.of) }

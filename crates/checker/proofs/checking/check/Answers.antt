@@ -1,24 +1,25 @@
 use Rattle.std.proofs.Common.{◌∙◌, Err, ap, inl, refl, sym, subst}
 use Rattle.station.specs.Images.{Images}
-use Rattle.station.specs.Moments.{HasGrown}
+use Rattle.station.specs.Moments.{HasGrown, LeavesJust}
 use Rattle.layout.specs.Places.{blocks_of}
 use Rattle.checker.specs.Checks.{Reports}
 use Rattle.checker.proofs.CheckLaws.{has_roots, reports_roots, reports_under}
+use Rattle.checker.proofs.FindingLaws.{still_left}
 use Rattle.checker.proofs.GoodLaws.{is_good}
 use Rattle.checker.proofs.ReadLaws.{grown_last}
 use Rattle.checker.proofs.checking.check.Goals as goal
 
 pub check_image-requires-clause-none : goal.check_image-requires-clause-none
 check_image-requires-clause-none g c =
-    (rw c.in-Ok-Some.field-0-is at c.in-Ok-Some.ensures.kept) ∙ c.new-findings.ensures
+    (rw c.in-Ok-Some.field-0-is at c.in-Ok-Some.ensures.kept) ∙ c.new-findings.ensures.first
 
 pub returns-in-Ok-None-clause-opens : goal.returns-in-Ok-None-clause-opens
 returns-in-Ok-None-clause-opens g c honest s opens =
     let m = g.S.Station.meaning c.args.station in
     let none = c.images_that_open_have_no_fault.ensures.under m.sectors m.seen.disk m.seen.nvram s opens in
-    is_good m.sectors m.seen.disk m.seen.nvram opens.root none.0 opens.changes none.1 c.report.result
+    is_good c.files_hold_one_volume.ensures m.sectors m.seen.disk m.seen.nvram opens.root none.0 opens.changes none.1 c.report.result
     (subst (Reports m.sectors m.seen.disk m.seen.nvram) (sym c.report.ensures)
-    (reports_roots m.sectors m.seen.disk m.seen.nvram c.find_root.new.findings.first (c.in-Ok-None.ensures.some c.in-Ok-None.field-0-is) (c.in-Ok-None.ensures.none honest c.new-findings.ensures c.in-Ok-None.field-0-is)))
+    (reports_roots m.sectors m.seen.disk m.seen.nvram c.find_root.new.findings.first (c.in-Ok-None.ensures.some c.in-Ok-None.field-0-is) (c.in-Ok-None.ensures.none honest c.new-findings.ensures.first c.in-Ok-None.field-0-is)))
 
 pub returns-in-Ok-clause-reports : goal.returns-in-Ok-clause-reports
 returns-in-Ok-clause-reports g c honest =
@@ -40,7 +41,7 @@ pub returns-in-Ok-clause-opens : goal.returns-in-Ok-clause-opens
 returns-in-Ok-clause-opens g c honest s opens =
     let m = g.S.Station.meaning c.args.station in
     let none = c.images_that_open_have_no_fault.ensures.under m.sectors m.seen.disk m.seen.nvram s opens in
-    is_good m.sectors m.seen.disk m.seen.nvram opens.root none.0 opens.changes none.1 c.report-in-Ok.result
+    is_good c.files_hold_one_volume.ensures m.sectors m.seen.disk m.seen.nvram opens.root none.0 opens.changes none.1 c.report-in-Ok.result
     (returns-in-Ok-clause-reports g c honest)
 
 pub returns-in-Err-check_image-clause-device : goal.returns-in-Err-check_image-clause-device
@@ -51,3 +52,13 @@ returns-in-Err-check_image-clause-device g c is =
     inl (grown_last (failed c.args.station) (failed c.find_root.new.station) (failed last) c.find_root.ensures.grown
     (subst (λ (s : g.row.S.Denot). HasGrown (failed s) (failed last)) c.new-blocks.ensures.station
     (subst (λ (s : g.row.S.Denot). HasGrown (failed c.new-blocks.result.station) (failed s)) (sym c.into_station-in-Err-check_image.ensures) grown)))
+
+pub returns-in-Ok-clause-settled : goal.returns-in-Ok-clause-settled
+returns-in-Ok-clause-settled g c =
+    let images = (g.S.Station.meaning c.args.station).seen in
+    let Leaves = λ (s : g.row.S.Denot). LeavesJust (g.S.Station.meaning s) images in
+    let reads = c.check_image.ensures.reads in
+    let first = subst Leaves (sym c.new-blocks.ensures.station) c.in-Ok-Some.ensures.settled in
+    subst Leaves (sym c.into_station.ensures)
+    (still_left (g.S.Station.meaning c.new-blocks.result.station)
+    (g.S.Station.meaning c.check_image.new.blocks.station) images reads.same reads.goes first)

@@ -3,13 +3,14 @@ use Rattle.std.specs.Prelude.{slice_get}
 use Rattle.std.proofs.lemmas.Option.{slice_get_within}
 use Rattle.images.specs.Roots.{whole}
 use Rattle.checker.specs.Checks.{AreFindings}
-use Rattle.checker.specs.Findings.{fault_number}
+use Rattle.checker.specs.Findings.{IsFirstTold, fault_number}
 use Rattle.checker.specs.Trees.{IsApart}
 use Rattle.checker.specs.declared.findings.Findings.{Findings}
 use Rattle.checker.specs.declared.tree.Tree.{Tree}
 use Rattle.checker.proofs.EachLaws.{Each, contains, each_all, each_set, get_at, some_at}
 use Rattle.checker.proofs.EachTreeLaws.{Tells, is_above, set_more, tells_apart, tells_found, tells_none}
 use Rattle.checker.proofs.EndLaws.{IsEnded, seen_finding}
+use Rattle.checker.proofs.FindingLaws.{same_told}
 use Rattle.checker.proofs.ReadLaws.{HasLooked, looked, looked_more}
 use Rattle.checker.proofs.checking.check_each.Goals as goal
 use Rattle.checker.proofs.checking.check_each.Goals.{in-Some+then-are_apart, in-Some+else-are_apart, in_default}
@@ -38,28 +39,46 @@ loop-k-preserved g c =
       | in_default w ↦ ap (λ (v : Vec Tree Global). v.items) w.trees-is
     ] in
     let tells : Tells c.goes_on.new.self.first c.match-tree.findings.first c.loop-k.are_apart c.match-tree.are_apart y = elim c.match-tree.branch [
-      | in-Some+then-are_apart w ↦ inr (w.in-Some.fault, w.in-Some.is, ap first w.findings-is ∙ w.find.ensures, λ on. (w.if-are_apart.true, is_above w.number.result (fault_number w.in-Some.fault) (sym w.are_apart-is ∙ on) w.number.ensures))
-      | in-Some+else-are_apart w ↦ inr (w.in-Some.fault, w.in-Some.is, ap first w.findings-is ∙ w.find.ensures, λ on. (let no : false ≡ true = sym w.if-are_apart.false ∙ sym w.are_apart-is ∙ on in absurd (cc)))
+      | in-Some+then-are_apart w ↦ inr (w.in-Some.fault, w.in-Some.is, ap first w.findings-is ∙ w.find.ensures.first, λ on. (w.if-are_apart.true, is_above w.number.result (fault_number w.in-Some.fault) (sym w.are_apart-is ∙ on) w.number.ensures))
+      | in-Some+else-are_apart w ↦ inr (w.in-Some.fault, w.in-Some.is, ap first w.findings-is ∙ w.find.ensures.first, λ on. (let no : false ≡ true = sym w.if-are_apart.false ∙ sym w.are_apart-is ∙ on in absurd (cc)))
       | in_default w ↦ inl (ap first w.findings-is, w.in_default.is, w.are_apart-is)
     ] in
+    let name = λ (f : Findings g.row.W.Denot). f.watch.ghost_name in
+    let Told = λ (f : Findings g.row.W.Denot). IsFirstTold (g.W.Watch.told f.watch.now) f.first in
+    let on = λ (is : Told c.args.findings.now).
+    same_told (g.W.Watch.told c.loop-k.findings.watch.now)
+    (g.W.Watch.told c.goes_on.new.self.watch.now) c.loop-k.findings.first
+    c.goes_on.new.self.first c.goes_on.ensures.told c.goes_on.ensures.first (inv.tells is) in
     record {
+      watch = elim c.match-tree.branch [
+        | in-Some+then-are_apart w ↦
+            ap name w.findings-is ∙ w.find.ensures.watch ∙ c.goes_on.ensures.watch ∙ inv.watch
+        | in-Some+else-are_apart w ↦
+            ap name w.findings-is ∙ w.find.ensures.watch ∙ c.goes_on.ensures.watch ∙ inv.watch
+        | in_default w ↦ ap name w.findings-is ∙ c.goes_on.ensures.watch ∙ inv.watch
+      ];
+      tells = λ is. elim c.match-tree.branch [
+        | in-Some+then-are_apart w ↦ subst Told (sym w.findings-is) (w.find.ensures.told (on is))
+        | in-Some+else-are_apart w ↦ subst Told (sym w.findings-is) (w.find.ensures.told (on is))
+        | in_default w ↦ subst Told (sym w.findings-is) (on is)
+      ];
       look = looked_more inv.look (looked_more looks forgot);
       knows = λ disk shows. c.check_tree.ensures.known disk (inv.look.same disk shows) (inv.knows disk shows);
       each = subst (Each (IsEnded g.B.Blocks.Shows c.args.blocks.now c.args.geometry c.args.shared.now.of) (k + 1) old) (sym items)
           (each_set (IsEnded g.B.Blocks.Shows c.args.blocks.now c.args.geometry c.args.shared.now.of) k old xs x y inv.each lt here ended);
       found = λ disk r marks nvram shows root same are found.
           tells_found c.goes_on.new.self.first c.match-tree.findings.first c.loop-k.are_apart c.match-tree.are_apart y r (whole disk r) nvram
-          (subst (AreFindings r (whole disk r) nvram) (sym c.goes_on.ensures) (inv.found disk r marks nvram shows root same are found))
+          (subst (AreFindings r (whole disk r) nvram) (sym c.goes_on.ensures.first) (inv.found disk r marks nvram shows root same are found))
           (λ fault is. seen_finding disk r marks nvram y fault (ended.seen disk r marks shows root same (are.each x (contains old k x was))).0 is) tells;
       apart = λ on i t low is.
           let told = tells_apart c.goes_on.new.self.first c.match-tree.findings.first c.loop-k.are_apart c.match-tree.are_apart y tells on in
           set_more (λ (q : Tree). IsApart q.fault) xs k y lt (λ j q less at. inv.apart told.0 j q less at) told.1 i t low (ap (λ (l : _). slice_get l i) (sym items) ∙ is);
       told = λ none i t low is.
           let told = tells_none c.goes_on.new.self.first c.match-tree.findings.first c.loop-k.are_apart c.match-tree.are_apart y tells none in
-          set_more (λ (q : Tree). q.fault ≡ None) xs k y lt (λ j q less at. inv.told (sym c.goes_on.ensures ∙ told.0) j q less at) told.1 i t low (ap (λ (l : _). slice_get l i) (sym items) ∙ is);
+          set_more (λ (q : Tree). q.fault ≡ None) xs k y lt (λ j q less at. inv.told (sym c.goes_on.ensures.first ∙ told.0) j q less at) told.1 i t low (ap (λ (l : _). slice_get l i) (sym items) ∙ is);
       all = λ none.
           let told = tells_none c.goes_on.new.self.first c.match-tree.findings.first c.loop-k.are_apart c.match-tree.are_apart y tells none in
-          told.2 ∙ inv.all (sym c.goes_on.ensures ∙ told.0);
+          told.2 ∙ inv.all (sym c.goes_on.ensures.first ∙ told.0);
     }
 
 pub returns-clause-seen : goal.returns-clause-seen

@@ -5,6 +5,7 @@ use Rattle.layout.specs.Root.{IsRoot}
 use Rattle.layout.specs.declared.root.Root.{Root}
 use Rattle.images.specs.Roots.{whole}
 use Rattle.checker.specs.Checks.{AreFindings}
+use Rattle.checker.specs.Findings.{IsFirstTold}
 use Rattle.checker.specs.Rows.{AreSeenTo}
 use Rattle.checker.specs.Tables.{IsKnown}
 use Rattle.checker.specs.Trees.{IsApart}
@@ -22,6 +23,9 @@ invariant-loop-k g l = record {
   found : (disk : ℕ → List ℕ) (r : Root) (marks nvram : List ℕ) → g.B.Blocks.Shows l.fn.blocks disk → IsRoot r → r.geometry ≡ l.geometry
       → AreSeenTo disk r (div_ceil l.geometry.inodes 21) marks l.shared.of l.fn.trees.items
       → AreFindings r (whole disk r) nvram l.fn.findings.first → AreFindings r (whole disk r) nvram l.findings.first;
+  watch : l.findings.watch.ghost_name ≡ l.fn.findings.watch.ghost_name;
+  tells : IsFirstTold (g.W.Watch.told l.fn.findings.watch.now) l.fn.findings.first
+      → IsFirstTold (g.W.Watch.told l.findings.watch.now) l.findings.first;
   apart : IsTrue l.are_apart → (i : ℕ) (t : Tree) → i < l.k → slice_get l.trees.items i ≡ Some t → IsApart t.fault;
   told : l.findings.first ≡ None → (i : ℕ) (t : Tree) → i < l.k → slice_get l.trees.items i ≡ Some t → t.fault ≡ None;
   all : l.findings.first ≡ None → IsTrue l.are_apart;

@@ -1,14 +1,33 @@
-use Rattle.std.proofs.Common.{◌≡◌, None, rules, sym, subst}
+use Rattle.std.proofs.Common.{◌≡◌, ◌∙◌, ◌+◌, ◌≤◌, ℕ, None, rules, sym, subst}
+use Rattle.std.specs.Prelude.{◌↔◌, IsTrue}
+use Rattle.model.specs.Room.{fixed_of}
 use Rattle.station.specs.Images.{Images}
 use Rattle.buffers.specs.Readings.{reads_none, reads_twice}
-use Rattle.images.specs.Faults.{HasLog}
 use Rattle.images.specs.Roots.{whole}
 use Rattle.checker.specs.Checks.{AreFindings}
 use Rattle.checker.specs.Findings.{IsFindingUnder}
+use Rattle.checker.specs.Logs.{IsLogged}
 use Rattle.checker.specs.declared.fault.TreeName.TheVariants.{Image}
 use Rattle.checker.proofs.CheckLaws.{faultless_by}
 use Rattle.checker.proofs.FindingLaws.{if_found, more_found}
 use Rattle.checker.proofs.checking.check_image.Goals as goal
+
+pub returns-in_err-check_snapshots-clause-reads : goal.returns-in_err-check_snapshots-clause-reads
+returns-in_err-check_snapshots-clause-reads g c =
+    c.check_snapshots.ensures.reads.reads c.args.blocks.now (reads_none _)
+
+pub returns-then-is_some-clause-reads : goal.returns-then-is_some-clause-reads
+returns-then-is_some-clause-reads g c =
+    c.check_snapshots.ensures.reads.reads c.args.blocks.now (reads_none _)
+
+pub check_log-requires-clause-fits : goal.check_log-requires-clause-fits
+check_log-requires-clause-fits g c =
+    let first = c.check_snapshots.ensures.reads.reads c.args.blocks.now (reads_none _) in
+    let same = (c.check_trees.ensures.reads.reads c.args.blocks.now first).same in
+    record {
+      sectors = same.sectors ∙ c.requires.fits.sectors;
+      nvram = same.nvram_bytes ∙ c.requires.fits.nvram;
+    }
 
 pub returns-then-is_some-clause-found : goal.returns-then-is_some-clause-found
 returns-then-is_some-clause-found g c disk shows =
@@ -85,8 +104,13 @@ returns-in-Ok-clause-faultless g c disk shows clear =
     let active = c.in_ok-is_faultless.ensures.newest disk shows1 snapshots (search rules) in
     let shows2 = c.check_trees.ensures.reads.same disk shows1 in
     let told = c.in-Ok.ensures.passes disk shows2 active.0 active.1 in
-    faultless_by r w nvram _ c.in_ok-is_faultless.free c.in-Ok.records told.0 snapshots (c.in_ok-is_faultless.ensures.faultless disk shows1 snapshots clear)
-    (subst (λ (i : Images). HasLog r w i.nvram told.0) seen told.1) told.2 (search rules) c.count_snapshots.ensures (search rules) (search rules)
+    faultless_by r w nvram _ c.in_ok-is_faultless.free c.in-Ok.logged snapshots
+    (c.in_ok-is_faultless.ensures.faultless disk shows1 snapshots clear)
+    (subst (λ (i : Images). IsLogged r w i.nvram c.in-Ok.logged) seen told) (search rules)
+    c.count_snapshots.ensures (search rules) (search rules)
+    (subst (λ (n : ℕ). IsTrue c.has_reserve.result
+    ↔ (c.in-Ok.logged.pledged + fixed_of n ≤ c.in_ok-is_faultless.free))
+    c.blocks-in-Ok.ensures.value c.has_reserve.ensures)
 
 pub returns-in-Err-Fault-clause-found : goal.returns-in-Err-Fault-clause-found
 returns-in-Err-Fault-clause-found g c disk shows =
@@ -104,5 +128,5 @@ returns-in-Err-Fault-clause-found g c disk shows =
     let shows2 = c.check_trees.ensures.reads.same disk shows1 in
     let told = rw c.in-Err-Fault.field-0-is at (c.in-Err-Fault.ensures.passes disk shows2 active.0 active.1) in
     if_found r w nvram c.find.new.self.first
-    (more_found r w nvram c.check_trees.new.findings.first c.find.new.self.first (record { tree = Image; fault = c.in-Err-Fault.fault }) c.find.ensures second
+    (more_found r w nvram c.check_trees.new.findings.first c.find.new.self.first (record { tree = Image; fault = c.in-Err-Fault.fault }) c.find.ensures.first second
     (subst (λ (i : Images). IsFindingUnder r w i.nvram Image c.in-Err-Fault.fault) seen told))

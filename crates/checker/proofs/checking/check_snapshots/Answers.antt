@@ -2,6 +2,7 @@ use Rattle.std.proofs.Common.{◌≡◌, ◌∙◌, ◌≤◌, ℕ, None, inl, i
 use Rattle.std.proofs.Math.Nat.{eq-or-lt_of_le}
 use Rattle.images.specs.Roots.{whole}
 use Rattle.checker.specs.Checks.{AreFindings}
+use Rattle.checker.specs.Findings.{IsFirstTold}
 use Rattle.checker.specs.Trees.{TellsSlot}
 use Rattle.checker.specs.declared.fault.TreeName.TheVariants.{Image}
 use Rattle.checker.specs.declared.findings.Findings.{Findings}
@@ -15,17 +16,27 @@ pub loop-k-preserved : goal.loop-k-preserved
 loop-k-preserved g c =
     let r = c.args.root.now in
     let before = c.loop-k.invariant in
-    let first = λ (f : Findings g.row.W.Denot). f.first in record {
+    let first = λ (f : Findings g.row.W.Denot). f.first in
+    let name = λ (f : Findings g.row.W.Denot). f.watch.ghost_name in
+    let Told = λ (f : Findings g.row.W.Denot). IsFirstTold (g.W.Watch.told f.watch.now) f.first in record {
       look = looked_more before.look (looked c.fault_in_slot.ensures.reads);
       found = λ disk nvram shows are. elim c.match-branch-2.branch [
         | in-Some w ↦
             more_found r (whole disk r) nvram c.loop-k.findings.first c.match-branch-2.findings.first (record { tree = Image; fault = w.in-Some.fault })
-            (ap first w.findings-is ∙ w.find.ensures) (before.found disk nvram shows are)
+            (ap first w.findings-is ∙ w.find.ensures.first) (before.found disk nvram shows are)
             (subst (TellsSlot disk r c.loop-k.k) w.in-Some.is (c.in_ok-fault.ensures.tells disk (before.look.same disk shows)) nvram)
         | in_default w ↦ subst (AreFindings r (whole disk r) nvram) (sym (ap first w.findings-is)) (before.found disk nvram shows are)
       ];
+      watch = elim c.match-branch-2.branch [
+        | in-Some w ↦ ap name w.findings-is ∙ w.find.ensures.watch ∙ before.watch
+        | in_default w ↦ ap name w.findings-is ∙ before.watch
+      ];
+      tells = λ is. elim c.match-branch-2.branch [
+        | in-Some w ↦ subst Told (sym w.findings-is) (w.find.ensures.told (before.tells is))
+        | in_default w ↦ subst Told (sym w.findings-is) (before.tells is)
+      ];
       none = λ disk shows none j low. elim c.match-branch-2.branch [
-        | in-Some w ↦ (let e : w.find.new.self.first ≡ None = sym (ap first w.findings-is) ∙ none in absurd (cc (e, w.find.ensures)))
+        | in-Some w ↦ (let e : w.find.new.self.first ≡ None = sym (ap first w.findings-is) ∙ none in absurd (cc (e, w.find.ensures.first)))
         | in_default w ↦
             let most : j ≤ c.loop-k.k = omega (arith, low) in
             elim (eq-or-lt_of_le most) [

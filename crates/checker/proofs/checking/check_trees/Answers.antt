@@ -179,18 +179,18 @@ returns-in-Err-Fault-clause-found g c disk nvram shows snapshots are =
     let clean = stays_clean r c.in_ok-trees.trees.items _ c.open_trees.new.marks c.check_numbers.new.marks opened (λ t known. known.tree.has)
     (λ k none b. (c.in_ok-check_numbers.ensures.others k none).marks b) (λ k b none. c.in_ok-trees.ensures.clean c.in_ok-marks.ensures.none k b none) in
     let exact = should disk r c.check_numbers.new.marks c.check_numbers.new.trees.items c.check_each.new.trees.items _ numbered c.in_ok-are_apart.ensures.trees ended c.mark_system.new.marks apart c.requires.root.slots clean c.mark_system.ensures.system c.mark_system.ensures.others in
-    more_found r w nvram c.check_each.new.findings.first c.find.new.self.first (record { tree = Image; fault = c.in-Err-Fault.fault }) c.find.ensures
+    more_found r w nvram c.check_each.new.findings.first c.find.new.self.first (record { tree = Image; fault = c.in-Err-Fault.fault }) c.find.ensures.first
     (c.in_ok-are_apart.ensures.found disk r c.check_numbers.new.marks nvram (two.same disk shows) c.requires.root refl numbered are)
     (subst (λ (h : Halt). Passes (λ free. IsReadable (w.active 2) × IsExact r w × (free ≡ free_under w.active r.geometry.blocks)) (IsFindingUnder r w nvram Image) (Err h)) c.in-Err-Fault.field-0-is
     (c.in-Err-Fault.ensures.passes disk r nvram (three.same disk shows) c.requires.root refl newest.tree newest.plane newest.grammar exact))
 
 pub returns-in-Err-Fault-clause-told : goal.returns-in-Err-Fault-clause-told
 returns-in-Err-Fault-clause-told g c none =
-    absurd (cc (c.find.ensures, none))
+    absurd (cc (c.find.ensures.first, none))
 
 pub returns-in-Err-Fault-clause-faultless : goal.returns-in-Err-Fault-clause-faultless
 returns-in-Err-Fault-clause-faultless g c disk shows snapshots none =
-    absurd (cc (c.find.ensures, none))
+    absurd (cc (c.find.ensures.first, none))
 
 pub returns-in-Err-NoMemory-clause-reads : goal.returns-in-Err-NoMemory-clause-reads
 returns-in-Err-NoMemory-clause-reads g c =

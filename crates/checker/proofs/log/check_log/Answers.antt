@@ -4,7 +4,8 @@ use Rattle.buffers.proofs.DiskLaws.{still_shows}
 use Rattle.checker.proofs.log.check_log.Goals as goal
 
 pub returns-in-Err-Damaged-clause-passes : goal.returns-in-Err-Damaged-clause-passes
-returns-in-Err-Damaged-clause-passes g c disk shows faultless within = λ changes log. c.in-Err-Damaged.ensures.damaged (search rules) shows.honest _ log.log.log
+returns-in-Err-Damaged-clause-passes g c disk shows faultless within =
+    (faultless, λ changes log. c.in-Err-Damaged.ensures.damaged (search rules) shows.honest _ log.log.log)
 
 pub returns-clause-passes : goal.returns-clause-passes
 returns-clause-passes g c disk shows faultless within =

@@ -20,6 +20,7 @@ loop-body-preserved g c =
       look = looked_more before.look (looked_of g.met.B.Blocks.reads_nothing g.met.B.LetsGo.grows c.replay_record.ensures.reads);
       geometry = c.replay_record.ensures.geometry ∙ before.geometry;
       few = omega (arith, before.few, ap length c.in-Open.ensures.1, length-append (record_of c.in-Open.body.now) c.in-Open.after.now);
+      cheap = omega (arith, before.cheap, c.in-Ok.ensures.few);
       leads = λ disk settled v w changes shows has leads.
           let back = before.leads disk settled v w changes shows has leads in
           let next = step by_sizes inodes c.loop-body.rest.now c.in-Open.body.now c.in-Open.after.now back.0 back.1 w c.in-Open.ensures.0 c.in-Open.ensures.1 back.3 in
@@ -30,14 +31,17 @@ loop-body-preserved g c =
       led = λ disk settled v shows has.
           let back = before.led disk settled v shows has in
           let did = c.in-Ok.ensures.applies by_sizes disk settled back.0 (before.look.same disk shows)
-          (subst (λ (n : ℕ). HasVolumeIn by_sizes n disk settled c.loop-body.inodes back.0) (sym before.look.count) back.1) in (
+          (subst (λ (n : ℕ). HasVolumeIn by_sizes n disk settled c.loop-body.inodes back.0) (sym before.look.count) back.1) in
+          let paid = c.in-Ok.ensures.replays by_sizes disk settled back.0 did.0 (before.look.same disk shows)
+          (subst (λ (n : ℕ). HasVolumeIn by_sizes n disk settled c.loop-body.inodes back.0) (sym before.look.count) back.1)
+          did.1 did.2 in (
             applied did.0 back.0,
             subst (λ (n : ℕ). HasVolumeIn by_sizes n disk settled c.replay_record.new.inodes (applied did.0 back.0)) before.look.count did.3,
             λ more w leads.
                 let all = back.2 (did.0 ∷ more) w
                 (in_front inodes c.loop-body.rest.now c.in-Open.body.now c.in-Open.after.now did.0 more back.0 w c.in-Open.ensures.0 c.in-Open.ensures.1 did.1
                 (subst (λ (s : Sizes). AppliesIn by_sizes s.inodes back.0 did.0) before.geometry did.2) leads) in
-                (all.0, all.1, omega (arith, all.2)),
+                (all.0, all.1, omega (arith, all.2), omega (arith, all.3, paid.0)),
           );
     }
 
@@ -51,7 +55,7 @@ pub returns-in-Closed-clause-applies : goal.returns-in-Closed-clause-applies
 returns-in-Closed-clause-applies g c disk settled v shows has =
     let back = c.loop-body.invariant.led disk settled v shows has in
     let all = back.2 [] back.0 (record { are = All-nil IsChange; held = c.in-Closed.ensures; replays = refl }) in
-    (all.0, back.0, all.1, omega (arith, all.2), back.1)
+    (all.0, back.0, all.1, omega (arith, all.2), back.1, omega (arith, all.3))
 
 pub returns-in-Malformed-clause-replays : goal.returns-in-Malformed-clause-replays
 returns-in-Malformed-clause-replays g c disk settled v w changes shows has leads =

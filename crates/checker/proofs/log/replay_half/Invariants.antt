@@ -1,9 +1,11 @@
-use Rattle.std.proofs.Common.{◌≡◌, ◌+◌, ◌≤◌, ℕ, List, length}
+use Rattle.std.proofs.Common.{◌≡◌, ◌+◌, ◌*◌, ◌≤◌, ℕ, List, length}
 use Rattle.layout.specs.Record.{Change}
 use Rattle.layout.specs.declared.inode.Inode.{Inode}
+use Rattle.model.specs.Records.{costs}
 use Rattle.model.specs.Volumes.{Volume}
 use Rattle.images.specs.Soundness.{by_sizes}
 use Rattle.replay.specs.Volumes.{HasVolumeIn, LeadTo}
+use Rattle.replay.specs.declared.costs.TheConstants.{MOST_COST}
 use Rattle.checker.proofs.ReadLaws.{HasLooked}
 use Rattle.checker.proofs.log.replay_half.Given as goal
 
@@ -12,6 +14,7 @@ invariant-loop-body g l = record {
   look : HasLooked g.B.Blocks l.fn.blocks l.blocks;
   geometry : l.inodes.geometry ≡ l.fn.inodes.geometry;
   few : l.count + length l.rest ≤ length l.records;
+  cheap : l.cost ≤ MOST_COST * l.count;
   leads : (disk : ℕ → List ℕ) (settled : ℕ → Inode) (v w : Volume) (changes : List Change) → g.B.Blocks.Shows l.fn.blocks disk
       → HasVolumeIn by_sizes (g.B.Blocks.count l.fn.blocks) disk settled l.fn.inodes v → LeadTo by_sizes l.fn.inodes.geometry.inodes l.records changes v w
       → (more : List Change) × (now : Volume) × HasVolumeIn by_sizes (g.B.Blocks.count l.fn.blocks) disk settled l.inodes now
@@ -20,7 +23,8 @@ invariant-loop-body g l = record {
       → HasVolumeIn by_sizes (g.B.Blocks.count l.fn.blocks) disk settled l.fn.inodes v
       → (now : Volume) × HasVolumeIn by_sizes (g.B.Blocks.count l.fn.blocks) disk settled l.inodes now
       × ((more : List Change) (w : Volume) → LeadTo by_sizes l.fn.inodes.geometry.inodes l.rest more now w
-      → (all : List Change) × LeadTo by_sizes l.fn.inodes.geometry.inodes l.records all v w × (length all ≡ l.count + length more));
+      → (all : List Change) × LeadTo by_sizes l.fn.inodes.geometry.inodes l.records all v w × (length all ≡ l.count + length more)
+      × (costs v all ≡ l.cost + costs now more));
 }
 
 abbrev pub decreases-loop-body : goal.decreases-loop-body

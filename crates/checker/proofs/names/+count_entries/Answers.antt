@@ -6,6 +6,7 @@ use Rattle.checker.specs.Findings.{IsTreeFinding}
 use Rattle.checker.proofs.FoundLaws.{goes_more, goes_none}
 use Rattle.checker.proofs.HaltLaws.{passes_residual}
 use Rattle.checker.proofs.NameLaws.{awaited_behind, counted_more, counted_none}
+use Rattle.checker.proofs.WalkLaws.{first_directory}
 use Rattle.checker.proofs.names.+count_entries.Goals as goal
 
 pub returns-in-End-clause-goes : goal.returns-in-End-clause-goes
@@ -19,9 +20,13 @@ pub returns-in-Malformed-clause-goes : goal.returns-in-Malformed-clause-goes
 returns-in-Malformed-clause-goes t c = goes_none _ _
 
 pub returns-in-Malformed-clause-counted : goal.returns-in-Malformed-clause-counted
-returns-in-Malformed-clause-counted t c = λ r h e count inodes way among knows awaited g.
-    let a = awaited g in
-    c.in-Malformed.ensures a.awaited (subst (λ (n : ℕ). HoldsEntries n c.args.bytes.now a.awaited) inodes a.holds)
+returns-in-Malformed-clause-counted t c = λ r h e count inodes way among knows awaited. (
+  λ g.
+      let a = awaited g in
+      c.in-Malformed.ensures a.awaited (subst (λ (n : ℕ). HoldsEntries n c.args.bytes.now a.awaited) inodes a.holds),
+  first_directory r.geometry h e count c.args.found.now.items c.args.table.now.items
+      c.args.directory way among,
+)
 
 pub returns-in_err-count_entry-in-Entry-clause-counted : goal.returns-in_err-count_entry-in-Entry-clause-counted
 returns-in_err-count_entry-in-Entry-clause-counted t c = λ r h e count inodes way among knows awaited.

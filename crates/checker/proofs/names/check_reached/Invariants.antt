@@ -1,5 +1,6 @@
 use Rattle.std.proofs.Common.{ℕ, ◌<◌, ◌≤◌}
-use Rattle.checker.specs.Links.{HasOneName, IsRow}
+use Rattle.checker.specs.Findings.{HasOneName}
+use Rattle.checker.specs.Links.{IsRow}
 use Rattle.checker.specs.declared.names.NumberRow.{NumberRow}
 use Rattle.checker.proofs.names.check_reached.Given as goal
 

@@ -81,10 +81,12 @@ returns-in_err-location-clause-counted g c = λ disk r t e count shows same file
     let fault = faults.Directory (directory_faults.Entries c.args.directory c.loop-i.i) in
     passes_residual (λ (_ : Location). Unit {0}) _ (IsTreeFinding r t) c.from_residual.result _ c.from_residual.ensures.1
     (passes_or_fault (λ (_ : Location). Unit {0}) (IsTreeFinding r t) fault c.locate.result _ c.in_err-location.ensures
-    (λ damaged names.
-    let kind : (t c.args.directory).inode.kind ≡ Directory = (start.way.counted.reached c.args.directory (start.among.0, slice_get_within _ start.among.0 c.args.directory start.among.2, start.among.2)).0 in
-    c.locate.ensures.damaged disk (c.loop-i.invariant.looked.same disk shows) damaged
-    (subst (λ (n : ℕ). IsSoundAt n disk c.args.file.now.tree c.loop-i.i) (sym c.loop-i.invariant.looked.count) (file.sound (names.readable c.args.directory kind) c.loop-i.i))))
+    (λ damaged.
+    let kind : (t c.args.directory).inode.kind ≡ Directory = (start.way.counted.reached c.args.directory (start.among.0, slice_get_within _ start.among.0 c.args.directory start.among.2, start.among.2)).0 in (
+      λ names. c.locate.ensures.damaged disk (c.loop-i.invariant.looked.same disk shows) damaged
+          (subst (λ (n : ℕ). IsSoundAt n disk c.args.file.now.tree c.loop-i.i) (sym c.loop-i.invariant.looked.count) (file.sound (names.readable c.args.directory kind) c.loop-i.i)),
+      kind,
+    )))
 
 pub returns-in_err-count_entries-clause-reads : goal.returns-in_err-count_entries-clause-reads
 returns-in_err-count_entries-clause-reads g c =

@@ -7,6 +7,7 @@ use Rattle.checker.specs.declared.error.CheckError.TheVariants as check
 use Rattle.checker.proofs.FoundLaws.{goes_none}
 use Rattle.checker.proofs.SeenNames.{edge_adds}
 use Rattle.checker.proofs.StepLaws.{not_none, passes_halt, passes_then}
+use Rattle.checker.proofs.WalkLaws.{first_directory}
 use Rattle.checker.proofs.names.count_entry.Goals as goal
 
 pub returns-in_err-is_new-clause-goes : goal.returns-in_err-is_new-clause-goes
@@ -19,8 +20,12 @@ pub returns-then-not-is_new-clause-goes : goal.returns-then-not-is_new-clause-go
 returns-then-not-is_new-clause-goes c = goes_none _ _
 
 pub returns-then-not-is_new-clause-counted : goal.returns-then-not-is_new-clause-counted
-returns-then-not-is_new-clause-counted c = λ r t e count way among knows is truth g.
-    not_none (e c.args.directory c.args.entry.now.name.now) (c.in_ok-is_new.ensures.again c.if-not-is_new.true (e c.args.directory) knows) (truth g).1
+returns-then-not-is_new-clause-counted c = λ r t e count way among knows is truth.
+    let d = c.args.directory in
+    let again = c.in_ok-is_new.ensures.again c.if-not-is_new.true (e d) knows in (
+      λ g. not_none (e d c.args.entry.now.name.now) again (truth g).1,
+      first_directory r.geometry t e count c.args.found.now.items c.args.table.now.items d way among,
+    )
 
 pub returns-clause-counted : goal.returns-clause-counted
 returns-clause-counted c = λ r t e count way among knows is truth.

@@ -2,11 +2,12 @@ use Rattle.std.proofs.Common.{◌≡◌, ◌∙◌, ℕ, List, ◌++◌, ◌∷�
 use Rattle.std.proofs.lemmas.Bool.{false≢true}
 use Rattle.layout.specs.declared.kind.Kind.TheVariants as kinds
 use Rattle.model.specs.Volumes.{with_edge}
+use Rattle.checker.specs.Findings.{IsNamedKind}
 use Rattle.checker.specs.Walks.{GoesOn, IsOnWay}
 use Rattle.checker.specs.declared.error.CheckError.TheVariants as check
 use Rattle.checker.proofs.FoundLaws.{goes_found, goes_named, goes_none}
 use Rattle.checker.proofs.StepLaws.{both, passes_halt, row_at}
-use Rattle.checker.proofs.WalkLaws.{found_more, found_none, on_way, twice, unused}
+use Rattle.checker.proofs.WalkLaws.{first_directory, found_more, found_none, on_way, one_name, twice, unnamed_kind, unused}
 use Rattle.checker.proofs.names.count_name.Goals as goal
 
 pub returns-then-not-may_be_named-clause-goes : goal.returns-then-not-may_be_named-clause-goes
@@ -16,15 +17,34 @@ pub returns-then-not-takes_name-clause-goes : goal.returns-then-not-takes_name-c
 returns-then-not-takes_name-clause-goes c = goes_none _ _
 
 pub returns-then-not-may_be_named-clause-counted : goal.returns-then-not-may_be_named-clause-counted
-returns-then-not-may_be_named-clause-counted c = λ r t e count x way among free is leads g.
-    unused r.geometry t e count c.args.found.now.items c.args.table.now.items c.args.directory c.args.number x c.index-row.result.now way among free is (row_at c.args.table.now.items c.args.number c.index-row.result.now (omega arith) c.index-row.ensures)
-    (λ named. false≢true (c.if-not-may_be_named.ensures.1 named)) g (leads g)
+returns-then-not-may_be_named-clause-counted c = λ r t e count x way among free is leads.
+    let found = c.args.found.now.items in
+    let table = c.args.table.now.items in
+    let d = c.args.directory in
+    let n = c.args.number in
+    let row = c.index-row.result.now in
+    let there = row_at table n row (omega arith) c.index-row.ensures in
+    let never = λ (named : IsNamedKind row.kind). false≢true (c.if-not-may_be_named.ensures.1 named) in (
+      λ g. unused r.geometry t e count found table d n x row way among free is there never g (leads g),
+      (
+        first_directory r.geometry t e count found table d way among,
+        unnamed_kind r.geometry t e count found table d n x row way among free is there never,
+      ),
+    )
 
 pub returns-then-not-takes_name-clause-counted : goal.returns-then-not-takes_name-clause-counted
-returns-then-not-takes_name-clause-counted c = λ r t e count x way among free is leads g.
+returns-then-not-takes_name-clause-counted c = λ r t e count x way among free is leads.
     let no = c.if-not-takes_name.ensures.no refl in
-    twice r.geometry t e count c.args.found.now.items c.args.table.now.items c.args.directory c.args.number x c.index-row.result.now way among free is (row_at c.args.table.now.items c.args.number c.index-row.result.now (omega arith) c.index-row.ensures)
-    no.0 no.1 g (leads g)
+    let found = c.args.found.now.items in
+    let table = c.args.table.now.items in
+    let d = c.args.directory in
+    let n = c.args.number in
+    let row = c.index-row.result.now in
+    let there = row_at table n row (omega arith) c.index-row.ensures in
+    let named = c.if-not-may_be_named.ensures.0 refl in (
+      λ g. twice r.geometry t e count found table d n x row way among free is there no.0 no.1 g (leads g),
+      one_name r.geometry t e count found table d n x row way among free is there named no.0,
+    )
 
 pub returns-in_default-clause-goes : goal.returns-in_default-clause-goes
 returns-in_default-clause-goes c = goes_none _ _

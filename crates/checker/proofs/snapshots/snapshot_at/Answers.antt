@@ -1,7 +1,7 @@
-use Rattle.std.proofs.Common.{◌∙◌, length, None, Some, ap, rules, sym, subst}
-use Rattle.layout.specs.SnapRoot.{snapshot_of}
+use Rattle.std.proofs.Common.{◌≡◌, ◌∙◌, length, take, None, Some, ap, refl, rules, sym, subst}
+use Rattle.std.proofs.lemmas.List.{take_all}
+use Rattle.layout.specs.SnapRoot.{snapshot_in, snapshot_of}
 use Rattle.layout.specs.declared.pointer.Pointer.{Pointer}
-use Rattle.images.specs.Roots.{frozen_inode_file}
 use Rattle.loading.proofs.SnapshotLaws.{length-snapshot}
 use Rattle.checker.specs.Trees.{TellsSnapshot}
 use Rattle.checker.proofs.ReadLaws.{looked, looks_ok}
@@ -20,7 +20,15 @@ returns-in-Some-clause-tells g c disk shows =
     let at = c.bytes.ensures disk (c.read_block.ensures.reads.same disk shows) in
     let v = snapshot_of c.in-Some.snapshot in
     let found = c.in-Some.ensures.found in
-    subst (λ (p : Pointer). TellsSnapshot disk p (Some c.in-Some.snapshot.inode_file)) (sym c.in-Block.is) (ap frozen_inode_file (sym at ∙ found.1) ∙ (c.snapshots_are_what_their_bytes_spell.ensures v found.0).1)
+    let name : take 63 v.name ≡ v.name = take_all 63 v.name found.0.short in
+    subst (λ (p : Pointer). TellsSnapshot disk p (Some (c.new.result, c.in-Some.snapshot.inode_file)))
+    (sym c.in-Block.is) (
+      v,
+      ap snapshot_in (sym at ∙ found.1)
+          ∙ (c.snapshots_are_what_their_bytes_spell.ensures v found.0).0,
+      sym (c.new.ensures ∙ name),
+      refl,
+    )
 
 pub bytes-requires : goal.bytes-requires
 bytes-requires g c = c.in_ok-read_block.ensures.resident (search rules)

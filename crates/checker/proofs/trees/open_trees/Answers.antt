@@ -7,7 +7,7 @@ use Rattle.checker.specs.Findings.{HasTree}
 use Rattle.checker.specs.Nodes.{StaysFor}
 use Rattle.checker.specs.Trees.{IsSeenTo}
 use Rattle.checker.proofs.HaltLaws.{if_some}
-use Rattle.checker.proofs.PlaneLaws.{active_top, no_tree, snapshot_none, snapshot_some, snapshot_tree, tree_at, trees_end, trees_push, trees_skip, trees_start}
+use Rattle.checker.proofs.PlaneLaws.{active_top, no_tree, snapshot_tree, told_of, tree_at, tree_named, trees_end, trees_push, trees_skip, trees_start}
 use Rattle.checker.proofs.ReadLaws.{looked, looked_more}
 use Rattle.checker.proofs.SeenLaws.{seen_stays, stays_more}
 use Rattle.checker.proofs.trees.open_trees.Goals as goal
@@ -47,12 +47,12 @@ loop-k-preserved g c =
           (c.in_ok-tree.ensures.others q (λ same. other (omega (arith, same), subst (HasTree r) (sym same) has)));
       trees = λ disk shows are unmarked none.
           let shows1 = c.loop-k.invariant.read.same disk shows in
-          let told = snapshot_some disk p c.in_ok-name.field-0 _ c.in-Some.is (c.in_ok-name.ensures.tells disk shows1) in
-          let top = snapshot_tree disk r are k p c.in-Some.inode_file there told in
+          let told = told_of disk p c.in_ok-name.field-0 _ c.in-Some.is (c.in_ok-name.ensures.tells disk shows1) in
+          let top = snapshot_tree disk r are k p (c.in-Some.name, c.in-Some.inode_file) there told in
           let before : StaysFor (k + 1) c.args.marks.now c.loop-k.marks c.args.shared.now.of c.loop-k.shared.of = c.loop-k.invariant.stays (k + 1) (λ both. omega (arith, both.0)) in
           trees_push r k c.loop-k.trees.items (IsSeenTo disk r 0 0 c.loop-k.marks c.loop-k.shared.of) (c.loop-k.invariant.trees disk shows are unmarked none)
           (IsSeenTo disk r 0 0 c.open_tree-in-loop-k.new.marks c.open_tree-in-loop-k.new.shared.of) c.push-in-loop-k.new.self.items c.in_ok-tree.tree c.in_ok-push-2.ensures.items c.in_ok-tree.ensures.plane
-          (c.in_ok-tree.ensures.tree disk r (c.in_ok-name.ensures.reads.same disk shows1) c.requires.root refl has (refl, has) top.1 top.2
+          (c.in_ok-tree.ensures.tree disk r (c.in_ok-name.ensures.reads.same disk shows1) c.requires.root refl has (tree_named disk r are (k + 1) (c.in-Some.name, c.in-Some.inode_file) top) top.top top.kind
           (λ b bit. unmarked (k + 1) b ((before.marks b).0 bit)) (before.shared ∙ none (k + 1)))
           (λ q below known. seen_stays disk r 0 0 c.loop-k.marks c.open_tree-in-loop-k.new.marks c.loop-k.shared.of c.open_tree-in-loop-k.new.shared.of q
           (c.in_ok-tree.ensures.others q.plane (λ same. omega (arith, below, same))) known);
@@ -71,7 +71,7 @@ loop-k-preserved-in_default g c =
       trees = λ disk shows are unmarked none.
           trees_skip r c.loop-k.k c.loop-k.trees.items (IsSeenTo disk r 0 0 c.loop-k.marks c.loop-k.shared.of) (c.loop-k.invariant.trees disk shows are unmarked none)
           (no_tree disk r are c.loop-k.k p there
-          (snapshot_none disk p c.in_ok-name.field-0 c.in_default.is (c.in_ok-name.ensures.tells disk (c.loop-k.invariant.read.same disk shows))));
+          (told_of disk p c.in_ok-name.field-0 _ c.in_default.is (c.in_ok-name.ensures.tells disk (c.loop-k.invariant.read.same disk shows))));
     }
 
 pub loop-k-preserved-then-not-fits : goal.loop-k-preserved-then-not-fits
@@ -85,9 +85,9 @@ loop-k-preserved-then-not-fits g c =
       size = c.loop-k.invariant.size;
       stays = λ q other. c.loop-k.invariant.stays q (λ both. other (omega (arith, both.0), both.1));
       trees = λ disk shows are unmarked none.
-          let told = snapshot_some disk p c.in_ok-name.field-0 _ c.in-Some.is (c.in_ok-name.ensures.tells disk (c.loop-k.invariant.read.same disk shows)) in
-          let top = snapshot_tree disk r are c.loop-k.k p c.in-Some.inode_file there told in
-          let yes : c.fits.result ≡ true = c.fits.ensures.1 top.0 in
+          let told = told_of disk p c.in_ok-name.field-0 _ c.in-Some.is (c.in_ok-name.ensures.tells disk (c.loop-k.invariant.read.same disk shows)) in
+          let top = snapshot_tree disk r are c.loop-k.k p (c.in-Some.name, c.in-Some.inode_file) there told in
+          let yes : c.fits.result ≡ true = c.fits.ensures.1 top.fits in
           let unfit = c.if-not-fits.true in
           trees_skip r c.loop-k.k c.loop-k.trees.items (IsSeenTo disk r 0 0 c.loop-k.marks c.loop-k.shared.of) (c.loop-k.invariant.trees disk shows are unmarked none) (λ _. first_of (cc, search rules));
     }
