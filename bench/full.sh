@@ -1,7 +1,8 @@
 #!/bin/sh
 # Fills the host's file system under `run`, `shell` and `put`, on images with holes, and looks whether what was answered is there: the
 # first write that the host refuses is answered EIO and all later commands FAILED, and behind a mount, which needs no room, the tree is
-# the one after the answered commands, or one command further. A file that a `put` was to replace has its old bytes.
+# the one after the answered commands, or one command further. A file that a `put` was to replace has its old bytes. Each of the three
+# says which call of the host failed, in its words.
 #
 #   sh bench/full.sh        over ./wafl; WAFL=path takes another program
 #
@@ -63,13 +64,20 @@ kept() {
     lost "$1: the tree isn't the one after $answered answered commands"
 }
 
+# told NAME : what the program said on standard error names the host's call.
+told() {
+    grep -q '^wafl: host/[a-z]*: [a-z]*: no space left on device$' told || lost "$1: the host's call isn't told: $(cat told)"
+}
+
 refill
 commands > script
-"$wafl" run "$disk" "$nvram" script > replies || lost "run ends with $?"
+"$wafl" run "$disk" "$nvram" script > replies 2> told || lost "run ends with $?"
+told run
 kept run replies
 
 refill
-commands | "$wafl" shell "$disk" "$nvram" > replies || lost "shell ends with $?"
+commands | "$wafl" shell "$disk" "$nvram" > replies 2> told || lost "shell ends with $?"
+told shell
 kept shell replies
 
 refill
@@ -77,7 +85,8 @@ head -c 1000 /dev/urandom > old
 "$wafl" put "$disk" "$nvram" old /file
 dd if=/dev/zero of=host/filler bs=4096 2> /dev/null || true
 head -c 2000000 /dev/urandom 2> /dev/null | "$wafl" put "$disk" "$nvram" - /file 2> told && lost 'put: nothing was refused'
+told put
 rm host/filler
 "$wafl" get "$disk" "$nvram" /file now
 cmp old now || lost 'put: neither the old file nor the new one is there'
-echo "put: $(cat told); the old file is there"
+echo "put: $(tail -n 1 told); the old file is there"

@@ -6,7 +6,7 @@ command is done and no file is half there.
 
 The kills go by turns to `run`, to `shell` with one line sent at a time, to `shell` with all lines sent at once, and to `put`; KINDS, as
 `run,put` or `shell at once`, leaves some out. Behind each the tree has to be the one after the answered commands, or one command further.
-A file that a `put` was to replace has its old bytes or the new ones, whole. A `put` that is then let run has to leave no name `.put-NUMBER`.
+A file that a `put` was to replace has its old bytes or the new ones, whole. A `put` that is then let run has to leave no name `.wafl-put`.
 Prints a table, and ends with 1 where anything was lost."""
 import os
 import random
@@ -229,12 +229,12 @@ def of_commands(image, kind, delay, chance):
 
 
 def put_stands(image):
-    """The bytes of the file that `put` writes, or None where none is there, and the other names beside it."""
-    names = image.answers(["list /puts"])[0].split()[1:]
+    """The bytes of the file that `put` writes, or None where none is there, and the names that it should have taken away."""
+    names, root = (it.split()[1:] for it in image.answers(["list /puts", "list /"]))
+    left = [it for it in names if it != "file"] + [it for it in root if it == ".wafl-put"]
     if "file" not in names:
-        return None, names
-    names.remove("file")
-    return subprocess.run([WAFL, "get", "disk", "nvram", "/puts/file", "-"], capture_output=True, check=True).stdout, names
+        return None, left
+    return subprocess.run([WAFL, "get", "disk", "nvram", "/puts/file", "-"], capture_output=True, check=True).stdout, left
 
 
 def of_put(image, delay, chance):

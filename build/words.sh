@@ -9,6 +9,8 @@ helps=$root/crates/rows/data/help
 answer() {
     [ -f "$helps/wafl.txt" ] || return 0
     case ${1-} in
+        # The program itself takes it out of the words.
+        --wait | --wait=*) return 0 ;;
         --help | -h) show wafl ;;
         --version | -V) [ ! -f "$helps/version.txt" ] || show version ;;
         help)
@@ -91,6 +93,8 @@ judge() {
         }
         # Takes the option in the word at `at`, and returns where its last word is.
         function take(at, word, name, equals) {
+            # The program itself takes it out of the words first, and judges its number.
+            if (word ~ /^--wait(=|$)/) return at
             equals = word ~ /^--/ ? index(word, "=") : 0
             name = equals ? substr(word, 1, equals - 1) : word
             if (!(name in has_value)) {

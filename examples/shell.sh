@@ -25,7 +25,7 @@ ask() {
 ask mkdir /desk
 ask open /desk/notes rwc
 ask write 0 6669727374
-ask mkdir /desk 0755
+ask mkdri /desk
 ask mkdir /desk
 ask snap take monday
 ask pread 0 0 100

@@ -1,3 +1,4 @@
 pub mod Simple
 pub mod ValueLemmas
 pub mod ReadingLemmas
+pub mod WaitLemmas

@@ -13,6 +13,10 @@ use Rattle.clap.specs.declared.builder.value_parser.ValueParser.TheVariants.{Sig
 abbrev pub place_rule : Text → Rule
 place_rule id = record (new_rule id) { value_names = 1; required = true }
 
+-- an argument known by its place, which words may lack
+abbrev pub last_place_rule : Text → Rule
+last_place_rule id = record (new_rule id) { value_names = 1 }
+
 -- an option without a value
 abbrev pub flag_rule : Text → Rule
 flag_rule id = record (new_rule id) { long = Some id; action = Some SetTrue }
@@ -43,6 +47,12 @@ all_others id = record (place_rule id) {
 abbrev pub explain : Rule
 explain = flag_rule (codes "explain")
 
+abbrev pub encoded : Rule
+encoded = flag_rule (codes "encoded")
+
+abbrev pub salvage : Rule
+salvage = flag_rule (codes "salvage")
+
 -- a command with these arguments behind the two files of an image
 abbrev pub on_image : Text → List Rule → App
 on_image name rules =
@@ -50,7 +60,8 @@ on_image name rules =
 
 abbrev pub make_app : App
 make_app = on_image (codes "make")
-    (size_rule (codes "blocks") ∷ size_rule (codes "inodes") ∷ size_rule (codes "half") ∷ flag_rule (codes "new") ∷ [])
+    (size_rule (codes "blocks") ∷ size_rule (codes "inodes") ∷ size_rule (codes "half")
+    ∷ flag_rule (codes "new") ∷ flag_rule (codes "force") ∷ [])
 
 abbrev pub run_app : App
 run_app = on_image (codes "run") (place_rule (codes "script") ∷ flag_rule (codes "stop")
@@ -62,20 +73,26 @@ abbrev pub shell_app : App
 shell_app = on_image (codes "shell") (explain ∷ [])
 
 abbrev pub do_app : App
-do_app = on_image (codes "do") (all_others (codes "words") ∷ explain ∷ [])
+do_app = on_image (codes "do") (all_others (codes "words") ∷ encoded ∷ salvage ∷ explain ∷ [])
 
 abbrev pub df_app : App
-df_app = on_image (codes "df") (explain ∷ [])
+df_app = on_image (codes "df") (flag_rule (codes "human") ∷ salvage ∷ explain ∷ [])
 
 abbrev pub check_app : App
 check_app = on_image (codes "check") []
 
 abbrev pub put_app : App
-put_app = on_image (codes "put") (place_rule (codes "file") ∷ place_rule (codes "path") ∷ explain ∷ [])
+put_app = on_image (codes "put")
+    (place_rule (codes "file") ∷ place_rule (codes "path") ∷ encoded ∷ explain ∷ [])
 
 abbrev pub get_app : App
 get_app = on_image (codes "get")
-    (place_rule (codes "path") ∷ place_rule (codes "file") ∷ option_rule (codes "in") ∷ explain ∷ [])
+    (place_rule (codes "path") ∷ place_rule (codes "file") ∷ option_rule (codes "in") ∷ encoded
+    ∷ salvage ∷ explain ∷ [])
+
+abbrev pub restore_app : App
+restore_app = on_image (codes "restore") (place_rule (codes "snapshot") ∷ place_rule (codes "path")
+    ∷ last_place_rule (codes "newpath") ∷ encoded ∷ explain ∷ [])
 
 -- the program, which has a version and requires one of its commands
 abbrev pub program : App
@@ -85,7 +102,7 @@ program = record (new_app (codes "wafl")) {
 
 unfoldable pub wafl_app : App
 wafl_app = fold (λ a sub. with_subcommand a sub.top) program (make_app ∷ run_app ∷ shell_app
-    ∷ do_app ∷ df_app ∷ check_app ∷ put_app ∷ get_app ∷ [])
+    ∷ do_app ∷ df_app ∷ check_app ∷ put_app ∷ get_app ∷ restore_app ∷ [])
 
 -- an argument that is given these rules, and counts for its own command alone
 abbrev pub IsArg : Rule → Arg → Type 0

@@ -1,3 +1,4 @@
 pub mod Arguments
 pub mod Values
 pub mod Lines
+pub mod Waiting

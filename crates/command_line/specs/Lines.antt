@@ -1,5 +1,5 @@
 -- What the program's words ask for, as a function of them.
-use Rattle.std.specs.Prelude.{ℕ, ◌≡◌, ◌⊎◌, ◌==◌, ◌&&◌, Bool, nat_le, nat_lt, List, [], ◌∷◌, length, map}
+use Rattle.std.specs.Prelude.{ℕ, ◌≡◌, ◌⊎◌, ◌&&◌, Bool, nat_le, nat_lt, List, [], ◌∷◌, length, map}
 use Rattle.std.specs.Prelude.{Option, Some, None, option_map, if◌then◌else◌, codes, Result, Ok, Err}
 use Rattle.std.specs.List.{list_all}
 use Rattle.std.specs.Str.{bytes_eq}
@@ -16,7 +16,10 @@ use Rattle.command_line.specs.declared.line.Line.{Line}
 use Rattle.command_line.specs.declared.line.Line.TheVariants as line
 use Rattle.command_line.specs.declared.line.LineError.{LineError}
 use Rattle.command_line.specs.declared.line.LineError.TheVariants as error
+use Rattle.command_line.specs.declared.line.Options.{Options}
 use Rattle.command_line.specs.declared.line.RunFaults.{RunFaults}
+use Rattle.command_line.specs.declared.waiting.Wait.{Wait}
+use Rattle.command_line.specs.Waiting.{others_of, wait_of}
 
 -- ---- the values of the types
 
@@ -43,12 +46,13 @@ pub data LineValue : Type 0 where
   check : (disk nvram : Text) → LineValue
   put : (disk nvram file path : Text) → LineValue
   get : (disk nvram path file : Text) → (snapshot : Option Text) → LineValue
+  restore : (disk nvram snapshot path : Text) → (new_path : Option Text) → LineValue
   help : LineValue
 
--- a line, and whether it is explained on no terminal too
+-- a line, and how it is done and told
 pub record AskedValue : Type 0 where
   pub line : LineValue
-  pub explains : Bool
+  pub options : Options
 
 abbrev pub keep_value : Kept → KeptValue
 keep_value kept.Nothing = nothing
@@ -75,10 +79,12 @@ line_value (line.Check disk nvram) = check disk.now nvram.now
 line_value (line.Put disk nvram file path) = put disk.now nvram.now file.now path.now
 line_value (line.Get disk nvram path file snapshot) =
     get disk.now nvram.now path.now file.now (option_map (λ s. s.now) snapshot)
+line_value (line.Restore disk nvram snapshot path new_path) =
+    restore disk.now nvram.now snapshot.now path.now (option_map (λ p. p.now) new_path)
 line_value (line.Help text) = help
 
 abbrev pub asked_value : Asked → AskedValue
-asked_value a = record { line = line_value a.line; explains = a.explains }
+asked_value a = record { line = line_value a.line; options = a.options }
 
 -- ---- what was found for the arguments of each command
 
@@ -139,6 +145,11 @@ get_line rows = with_image rows (λ disk nvram. given (text_at (codes "path") ro
     given (text_at (codes "file") rows) (λ file.
     Ok (get disk nvram path file (first_of (codes "in") rows)))))
 
+abbrev pub restore_line : List Row → Result LineValue Refusal
+restore_line rows = with_image rows (λ disk nvram. given (text_at (codes "snapshot") rows) (λ snapshot.
+    given (text_at (codes "path") rows) (λ path.
+    Ok (restore disk nvram snapshot path (first_of (codes "newpath") rows)))))
+
 -- the line of the command of a name
 abbrev pub named_line : Text → List Row → Result LineValue Refusal
 named_line name rows = if bytes_eq name (codes "make") then make_line rows
@@ -148,15 +159,27 @@ named_line name rows = if bytes_eq name (codes "make") then make_line rows
     else (if bytes_eq name (codes "df") then df_line rows
     else (if bytes_eq name (codes "check") then check_line rows
     else (if bytes_eq name (codes "put") then put_line rows
-    else (if bytes_eq name (codes "get") then get_line rows else Err not_understood)))))))
+    else (if bytes_eq name (codes "get") then get_line rows
+    else (if bytes_eq name (codes "restore") then restore_line rows else Err not_understood))))))))
 
 -- ---- the words
 
--- the line of a command, and whether `--explain` is there
-abbrev pub asked_at : Text → List Row → Result AskedValue Refusal
-asked_at name rows = given (named_line name rows) (λ l. Ok (record {
-  line = l;
+-- the flags of a command, where so long is waited
+abbrev pub options_at : List Row → Wait → Options
+options_at rows wait = record {
   explains = is_set (codes "explain") rows;
+  is_encoded = is_set (codes "encoded") rows;
+  is_human = is_set (codes "human") rows;
+  salvages = is_set (codes "salvage") rows;
+  forces = is_set (codes "force") rows;
+  wait = wait;
+}
+
+-- the line of a command, and its flags
+abbrev pub asked_at : Text → List Row → Wait → Result AskedValue Refusal
+asked_at name rows wait = given (named_line name rows) (λ l. Ok (record {
+  line = l;
+  options = options_at rows wait;
 }))
 
 -- what clap finds wrong with the words, or what help they ask for
@@ -172,13 +195,22 @@ abbrev pub unless : {V : Type 0} → Kinds → Result V Refusal → Result V Ref
 unless [] r = r
 unless (k ∷ ks) r = Err not_understood
 
--- what the words ask for, where nothing is wrong with them: the line that clap's matches name
+-- what words ask for that clap reads, where nothing is wrong with them: the line that clap's matches name
+abbrev pub asked_by : List Text → Wait → Result AskedValue Refusal
+asked_by words wait =
+    unless (faults_of words) (given (needed (command_of words)) (λ sub. asked_at sub.0 sub.1 wait))
+
+-- what the words ask for: clap reads those that don't say how long is waited
 abbrev pub asked_of : List Text → Result AskedValue Refusal
-asked_of words = unless (faults_of words) (given (needed (command_of words)) (λ sub. asked_at sub.0 sub.1))
+asked_of words = given (wait_of words) (asked_by (others_of words))
+
+-- words that clap reads ask for the help or the version
+abbrev pub ShowsHelp : List Text → Type 0
+ShowsHelp words = IsAmong DisplayHelp (faults_of words) ⊎ IsAmong DisplayVersion (faults_of words)
 
 -- the words ask for the help or the version
 abbrev pub AskForHelp : List Text → Type 0
-AskForHelp words = IsAmong DisplayHelp (faults_of words) ⊎ IsAmong DisplayVersion (faults_of words)
+AskForHelp words = ShowsHelp (others_of words)
 
 -- why there is no value, but where an error is of memory and says nothing of the words
 abbrev pub Refuses : {V : Type 0} → Result V Refusal → LineError → Type 0

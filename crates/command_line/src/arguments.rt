@@ -5,70 +5,16 @@ ghost use Rattle.clap.specs.Words.{App, Rule, new_app, with_rule, with_subcomman
 ghost use Rattle.command_line.specs.Arguments as spec;
 ghost use Rattle.command_line.specs.Arguments.{GrowsTo, IsArg, MakesCommand};
 
-use crate::options::{bytes, command_words, count, explain, flag, keep, option, place, size};
+use crate::help_texts::{
+    CHECK_NOTES, COMMAND_NOTES, DF_NOTES, FIRST_STEPS, GET_NOTES, MAKE_NOTES, PUT_NOTES,
+    RESTORE_NOTES,
+};
+use crate::options::{
+    bytes, command_words, count, encoded, explain, flag, keep, last_place, option, place, salvage,
+    size,
+};
 use clap::{Arg, Command};
 use std::alloc::{AllocError, Global};
-
-/// What the help of `wafl` says behind its commands.
-const FIRST_STEPS: &str = "What to type first:
-  wafl make disk nvram --new --blocks 1024 --inodes 128 --half 128k
-  wafl do disk nvram mkdir /notes
-  wafl put disk nvram notes.txt /notes/monday
-  wafl do disk nvram list /notes
-  wafl do disk nvram snap take monday
-  wafl get disk nvram /notes/monday - --in monday
-  wafl shell disk nvram
-
-What was answered is kept: whatever stops the program or the machine, the next run finds it.
-wafl shell --help names all commands, with an example of each.
-
-The script ./wafl proves the program before it runs it for the first time. With WAFL_UNPROVED=1 in the environment it runs a build without proofs instead.";
-
-/// What the help of `run`, `shell` and `do` says of commands: a line for each.
-const COMMAND_NOTES: &str = "Commands, one a line, with an example of each:
-  list PATH               names in a directory: list /
-  stat PATH               what the path leads to, its number, kind, mode, links, size: stat /d/f
-  lstat PATH              the same of a last symbolic link itself: lstat /l
-  readlink PATH           the text of a symbolic link: readlink /l
-  get PATH OFFSET COUNT   bytes of a file: get /f 0 65536
-  mkdir PATH [MODE]       makes a directory, of mode 0755 or this one: mkdir /d 0700
-  rmdir PATH              takes an empty directory away: rmdir /d
-  unlink PATH             takes a file's name or a symbolic link away: unlink /f
-  link PATH NEW           gives a file one more name: link /f /g
-  symlink TEXT PATH       makes a symbolic link: symlink d/f /l
-  rename PATH NEW         gives an object another name: rename /f /d/f
-  chmod PATH MODE         changes the mode: chmod /f 0600
-  truncate PATH SIZE      gives a file another size: truncate /f 100
-  open PATH FLAGS [MODE]  opens a file and tells its descriptor: open /f rwc 0600
-  close FD                gives a descriptor back: close 0
-  read FD COUNT           bytes from the offset on: read 0 65536
-  write FD DATA           puts bytes at the offset: write 0 616263
-  pread FD OFFSET COUNT   bytes from another place on: pread 0 2 9
-  pwrite FD OFFSET DATA   puts bytes at another place: pwrite 0 4 64
-  lseek FD FROM OFFSET    moves the offset: lseek 0 set 1
-  ftruncate FD SIZE       gives an open file another size: ftruncate 0 2
-  fstat FD                what stat tells, of an open file: fstat 0
-  fsync FD                done at once, as what was answered is kept: fsync 0
-  sync                    makes a consistency point: sync
-  df                      tells the room of the disk: df
-  snap take NAME          keeps the tree as it stands under this name: snap take monday
-  snap list               names the snapshots, oldest first: snap list
-  snap delete NAME        takes a snapshot away: snap delete monday
-  snap restore NAME       makes the tree what it was under this name: snap restore monday
-  in NAME ..              list, stat, lstat, readlink or get in a snapshot: in monday get /f 0 9
-
-FLAGS is r, w or rw, then some of: c makes a file where none is, x refuses one that is,
-t cuts it to no bytes, a has each write go behind the last byte. A new file has mode 0644 or this one.
-FROM is set, cur or end. DATA is two hexadecimal digits a byte, - for none.
-A default mode isn't written. Words stand one space apart; in a path a space is %20, a % is %25,
-and so each byte but 0x21 to 0x7e is % and two lower-case hexadecimal digits.
-
-Examples:
-  wafl run disk nvram script
-  wafl run disk nvram - --stop < script
-  wafl run disk nvram - --cut 5 --bytes 1 < script
-  wafl shell disk nvram
-  wafl do disk nvram stat /d/f";
 
 /// `wafl` with its subcommands.
 pub fn wafl_command<'a>(alloc: Global) -> Result<Command<'a>, AllocError>
@@ -83,6 +29,7 @@ pub fn wafl_command<'a>(alloc: Global) -> Result<Command<'a>, AllocError>
         .subcommand(check_command(alloc))
         .subcommand(put_command(alloc))
         .subcommand(get_command(alloc))
+        .subcommand(restore_command(alloc))
         .command
 }
 
@@ -171,28 +118,28 @@ fn named<'a>(alloc: Global, name: &'a str, about: &'a str, after: &'a str) -> Co
 fn make_command<'a>(alloc: Global) -> Growing<'a>
     ensures { GrowsTo spec.make_app result.command }
 {
-    on_image(
-        alloc,
-        "make",
-        "Make an empty image",
-        "N is a decimal number. With k, M or G behind it, it is as many times 1024, 1024 k or 1024 M; --blocks then is the disk's size in bytes, whole blocks of 4096. Files that are there are replaced, once the new ones are whole; with --new they aren't. Nothing is printed.\n\nExamples:\n  wafl make disk nvram --new --blocks 64 --inodes 32 --half 131072\n  wafl make disk nvram --new --blocks 4G --inodes 64k --half 1M",
-    )
-    .arg(size(
-        alloc,
-        "blocks",
-        "Blocks of the disk: 64 to 1048576, as in --blocks 64 or --blocks 256k",
-    ))
-    .arg(size(
-        alloc,
-        "inodes",
-        "Inodes, four of them the system's own: 32 to 65536, as in --inodes 32",
-    ))
-    .arg(size(
-        alloc,
-        "half",
-        "Bytes of each half of the NVRAM: 131072 to 8388608, as in --half 128k",
-    ))
-    .arg(flag(alloc, "new", "Replace no file that is there and has a byte"))
+    on_image(alloc, "make", "Make an empty image", MAKE_NOTES)
+        .arg(size(
+            alloc,
+            "blocks",
+            "Blocks of the disk: 64 to 1048576, as in --blocks 64 or --blocks 256k",
+        ))
+        .arg(size(
+            alloc,
+            "inodes",
+            "Inodes, four of them the system's own: 32 to 65536, as in --inodes 32",
+        ))
+        .arg(size(
+            alloc,
+            "half",
+            "Bytes of each half of the NVRAM: 131072 to 8388608, as in --half 128k",
+        ))
+        .arg(flag(alloc, "new", "Replace no file that is there and has a byte"))
+        .arg(flag(
+            alloc,
+            "force",
+            "Replace what is there without asking, on a terminal too",
+        ))
 }
 
 fn run_command<'a>(alloc: Global) -> Growing<'a>
@@ -252,6 +199,8 @@ fn do_command<'a>(alloc: Global) -> Growing<'a>
         COMMAND_NOTES,
     )
     .arg(command_words(alloc))
+    .arg(encoded(alloc))
+    .arg(salvage(alloc))
     .arg(explain(alloc))
 }
 
@@ -262,20 +211,21 @@ fn df_command<'a>(alloc: Global) -> Growing<'a>
         alloc,
         "df",
         "Mount an image and tell the room of its disk",
-        "Prints the disk's blocks, those that are free, and those that are pledged for what the newest root doesn't hold. The image stays as it is.\n\nExample:\n  wafl df disk nvram",
+        DF_NOTES,
     )
+    .arg(flag(
+        alloc,
+        "human",
+        "Tell the room in bytes and in inodes, too, for people",
+    ))
+    .arg(salvage(alloc))
     .arg(explain(alloc))
 }
 
 fn check_command<'a>(alloc: Global) -> Growing<'a>
     ensures { GrowsTo spec.check_app result.command }
 {
-    on_image(
-        alloc,
-        "check",
-        "Look for faults in an image",
-        "Prints ok, the newest root's generation, how many snapshots it has, how many records of the log it doesn't hold, and how many blocks are free; or bad, the number and the name of the first fault, with status 6. Standard error tells of each tree with a fault what was found. The image stays as it is.\n\nFaults: 1 ROOTS, 2 SNAPROOT, 3 TREE, 4 SHARED, 5 MAPBIT, 6 INODEMAP, 7 DIR, 8 LINKS, 9 LOG.\n\nExample:\n  wafl check disk nvram",
-    )
+    on_image(alloc, "check", "Look for faults in an image", CHECK_NOTES)
 }
 
 fn put_command<'a>(alloc: Global) -> Growing<'a>
@@ -285,7 +235,7 @@ fn put_command<'a>(alloc: Global) -> Growing<'a>
         alloc,
         "put",
         "Store a file of the host's in a file of the image, whole or not at all",
-        "A file that PATH leads to loses its bytes and gets these in their place; where nothing is there, one is made, of mode 0644. Whole blocks of zeros become holes. Where a call is refused that file stays as it was, and standard error tells the path, the refusal and the byte at which it came. On a terminal it tells how many MiB were written.\n\nExamples:\n  wafl put disk nvram notes.txt /notes\n  wafl put disk nvram - /notes < notes.txt",
+        PUT_NOTES,
     )
     .arg(place(
         alloc,
@@ -297,8 +247,9 @@ fn put_command<'a>(alloc: Global) -> Growing<'a>
         alloc,
         "path",
         "PATH",
-        "The path in the image, as in /d/notes",
+        "The path in the image, as in /d/notes or '/a b'",
     ))
+    .arg(encoded(alloc))
     .arg(explain(alloc))
 }
 
@@ -309,13 +260,13 @@ fn get_command<'a>(alloc: Global) -> Growing<'a>
         alloc,
         "get",
         "Bring a file of the image back, whole or not at all",
-        "A file FILE that is there is replaced once the new one is whole, in which whole blocks of zeros are holes; where a call is refused it stays as it was, or none is made, and standard error tells the path, the refusal and the byte at which it came. The image stays as it is. On a terminal it tells how many MiB were read.\n\nExamples:\n  wafl get disk nvram /notes notes.txt\n  wafl get disk nvram /notes - --in monday | wc -c",
+        GET_NOTES,
     )
     .arg(place(
         alloc,
         "path",
         "PATH",
-        "The path in the image, as in /d/notes",
+        "The path in the image, as in /d/notes or '/a b'",
     ))
     .arg(place(
         alloc,
@@ -329,5 +280,38 @@ fn get_command<'a>(alloc: Global) -> Growing<'a>
         "SNAPSHOT",
         "Read the file as this snapshot has it, as in --in monday",
     ))
+    .arg(encoded(alloc))
+    .arg(salvage(alloc))
+    .arg(explain(alloc))
+}
+
+fn restore_command<'a>(alloc: Global) -> Growing<'a>
+    ensures { GrowsTo spec.restore_app result.command }
+{
+    on_image(
+        alloc,
+        "restore",
+        "Bring a file of a snapshot back into the running tree, whole or not at all",
+        RESTORE_NOTES,
+    )
+    .arg(place(
+        alloc,
+        "snapshot",
+        "SNAPSHOT",
+        "The snapshot's name, as in monday",
+    ))
+    .arg(place(
+        alloc,
+        "path",
+        "PATH",
+        "The path in the snapshot, as in /d/notes or '/a b'",
+    ))
+    .arg(last_place(
+        alloc,
+        "newpath",
+        "NEWPATH",
+        "The path that it gets, in place of PATH",
+    ))
+    .arg(encoded(alloc))
     .arg(explain(alloc))
 }

@@ -28,6 +28,7 @@ pub fn line_of_command<'a>(
         "check" => check_line(alloc, matches),
         "put" => put_line(alloc, matches),
         "get" => get_line(alloc, matches),
+        "restore" => restore_line(alloc, matches),
         _ => Err(not_understood(alloc, "error: no command\n")),
     }
 }
@@ -164,5 +165,17 @@ fn get_line<'a>(alloc: Global, matches: &ArgMatches<'a>) -> Result<Line<'a>, Lin
         path: needed_text(alloc, matches, "path")?,
         file: needed_text(alloc, matches, "file")?,
         snapshot: text(matches, "in"),
+    })
+}
+
+fn restore_line<'a>(alloc: Global, matches: &ArgMatches<'a>) -> Result<Line<'a>, LineError>
+    ensures { Yields line_value (spec.restore_line (rows_in matches.now)) result }
+{
+    Ok(Line::Restore {
+        disk: needed_text(alloc, matches, "disk")?,
+        nvram: needed_text(alloc, matches, "nvram")?,
+        snapshot: needed_text(alloc, matches, "snapshot")?,
+        path: needed_text(alloc, matches, "path")?,
+        new_path: text(matches, "newpath"),
     })
 }

@@ -4,14 +4,20 @@
 
 mod arguments;
 mod commands;
+mod forms;
+mod help_texts;
 mod line;
+mod near_misses;
 mod numbers;
 mod options;
 mod script_lines;
 mod script_words;
 mod spelled_line;
 mod values;
+mod waiting;
 
-pub use line::{Asked, Kept, Line, LineError, RunFaults, read_line};
-pub use script_lines::explain_line;
-pub use spelled_line::{are_words, line_of_words};
+pub use help_texts::COMMAND_NOTES;
+pub use line::{Asked, Kept, Line, LineError, Options, RunFaults, read_line};
+pub use script_lines::{explain_line, reason_of};
+pub use spelled_line::{are_words, line_of_typed, line_of_words, typed_line};
+pub use waiting::Wait;

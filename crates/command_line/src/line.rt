@@ -3,31 +3,48 @@
 ghost use Rattle.std.specs.Prelude.{◌≡◌, ◌⊎◌, IfOk, IfErr, [], map};
 ghost use Rattle.clap.specs.Words.{IsAmong, kind_of, subcommand_rows_of};
 ghost use Rattle.clap.specs.declared.error.kind.ErrorKind.TheVariants as kind;
-ghost use Rattle.command_line.specs.Lines.{AskForHelp, IsMisunderstood, Refuses, asked_of, asked_value, command_of};
-ghost use Rattle.command_line.specs.Lines.{faults_of, help, line_value};
+ghost use Rattle.command_line.specs.Lines.{AskForHelp, IsMisunderstood, Refuses, ShowsHelp, asked_by, asked_of, asked_value};
+ghost use Rattle.command_line.specs.Lines.{command_of, faults_of, help, line_value, options_at};
+ghost use Rattle.command_line.specs.Values.{rows_in};
 ghost use Rattle.command_line.specs.declared.line.LineError.TheVariants.{NoMemory};
 
 use crate::arguments::wafl_command;
 use crate::commands::line_of_command;
 use crate::values::is_set;
+use crate::waiting::{Wait, take_wait};
 use clap::ArgMatches;
 use clap::error::ErrorKind;
 use std::alloc::{AllocError, AllocFailed, Global};
 use std::convert::AsStr;
 use thiserror::Error;
 
-/// What a command line asks for, and how it is told.
+/// What a command line asks for, and how it is done and told.
 #[derive(Debug, Drop)]
 pub struct Asked<'a> {
     pub line: Line<'a>,
+    pub options: Options,
+}
+
+/// How what a command line asks for is done and told: the flags, each of the commands that have it.
+#[derive(Clone, Copy, Debug)]
+pub struct Options {
     /// `--explain`: what is wrong with a script or an image is told in a second line, on no terminal too.
     pub explains: bool,
+    /// `--encoded`: paths, names and words are spelled as in a script.
+    pub is_encoded: bool,
+    /// `--human`: the room is told for people, too.
+    pub is_human: bool,
+    /// `--salvage`: of an image that can't be mounted what can be read is read.
+    pub salvages: bool,
+    /// `--force`: what is replaced isn't asked about.
+    pub forces: bool,
+    pub wait: Wait,
 }
 
 /// What a command line asks for.
 #[derive(Debug, Drop)]
 pub enum Line<'a> {
-    /// `wafl make DISK NVRAM --blocks N --inodes N --half N [--new]`: makes both files and an empty image on them.
+    /// `wafl make DISK NVRAM --blocks N --inodes N --half N [--new] [--force]`: makes both files and an empty image on them.
     Make {
         disk: &'a str,
         nvram: &'a str,
@@ -58,7 +75,7 @@ pub enum Line<'a> {
     Do {
         disk: &'a str,
         nvram: &'a str,
-        /// The command's words, spelled as in a script.
+        /// The command's words, as a user types them, or with `--encoded` as a script spells them.
         words: Vec<&'a str>,
     },
     /// `wafl df DISK NVRAM`: mounts the image and tells the room of its disk.
@@ -90,6 +107,16 @@ pub enum Line<'a> {
         file: &'a str,
         /// The snapshot that it is read from, in place of the running tree.
         snapshot: Option<&'a str>,
+    },
+    /// `wafl restore DISK NVRAM SNAPSHOT PATH [NEWPATH]`: brings a file or a link of a snapshot into the running tree.
+    Restore {
+        disk: &'a str,
+        nvram: &'a str,
+        snapshot: &'a str,
+        /// The path of the file in the snapshot.
+        path: &'a str,
+        /// The path that it gets in the running tree, in place of the same one.
+        new_path: Option<&'a str>,
     },
     /// `--help`, `--version` and the like: this text is asked for.
     Help(String),
@@ -141,39 +168,73 @@ impl From<AllocError> for LineError {
     }
 }
 
-/// What the words ask for. The first is the program's name, as in `env::args`.
-pub fn read_line<'a, S: AsStr>(alloc: Global, words: &'a [S]) -> Result<Asked<'a>, LineError>
+/// What the words ask for. The first is the program's name, as in `env::args`. The words that clap reads come into `others`.
+pub fn read_line<'w, 'a, S: AsStr>(
+    alloc: Global,
+    words: &'w [S],
+    others: &'a mut Vec<&'w str>,
+) -> Result<Asked<'a>, LineError>
     ensures line { IfOk result (λ asked. (asked_of (map S.text words.entry.now)
         ≡ Ok (asked_value asked)) ⊎ (line_value asked.line ≡ help)) }
     ensures help { IfOk result (λ asked. line_value asked.line ≡ help
         → AskForHelp (map S.text words.entry.now)) }
     ensures refusal { IfErr result (Refuses (asked_of (map S.text words.entry.now))) }
 {
+    let wait = take_wait(alloc, words, others)?;
+    read_others(alloc, others.as_slice(), wait)
+}
+
+/// What words ask for among which none says how long is waited, where so long is waited.
+fn read_others<'a>(alloc: Global, words: &'a [&'a str], wait: Wait) -> Result<Asked<'a>, LineError>
+    ensures line { IfOk result (λ asked. (asked_by (map (λ w. w.now) words.entry.now) wait
+        ≡ Ok (asked_value asked)) ⊎ (line_value asked.line ≡ help)) }
+    ensures help { IfOk result (λ asked. line_value asked.line ≡ help
+        → ShowsHelp (map (λ w. w.now) words.entry.now)) }
+    ensures refusal { IfErr result (Refuses (asked_by (map (λ w. w.now) words.entry.now) wait)) }
+{
     let matches = match matches_of(alloc, words) {
         Ok(matches) => matches,
-        Err(error) => return answer_without_matches(alloc, &error),
+        Err(error) => return answer_without_matches(alloc, &error, wait),
     };
     let Some((name, matches)) = matches.subcommand() else {
         return Err(not_understood(alloc, "error: no command\n"));
     };
     Ok(Asked {
         line: line_of_command(alloc, name, matches)?,
-        explains: is_set(matches, "explain"),
+        options: options_of(matches, wait),
     })
 }
 
+/// The flags that clap found, and how long is waited.
+fn options_of(matches: &ArgMatches<'_>, wait: Wait) -> Options
+    ensures { result ≡ options_at (rows_in matches.now) wait }
+{
+    Options {
+        explains: is_set(matches, "explain"),
+        is_encoded: is_set(matches, "encoded"),
+        is_human: is_set(matches, "human"),
+        salvages: is_set(matches, "salvage"),
+        forces: is_set(matches, "force"),
+        wait,
+    }
+}
+
 /// What clap finds in the words.
-fn matches_of<'a, S: AsStr>(alloc: Global, words: &'a [S]) -> Result<ArgMatches<'a>, clap::Error>
-    ensures fit { IfOk result (λ m. (faults_of (map S.text words.entry.now) ≡ [])
-        × (subcommand_rows_of m ≡ command_of (map S.text words.entry.now))) }
+fn matches_of<'a>(alloc: Global, words: &'a [&'a str]) -> Result<ArgMatches<'a>, clap::Error>
+    ensures fit { IfOk result (λ m. (faults_of (map (λ w. w.now) words.entry.now) ≡ [])
+        × (subcommand_rows_of m ≡ command_of (map (λ w. w.now) words.entry.now))) }
     ensures fault { IfErr result (λ e. (kind_of e ≡ kind.OutOfMemory)
-        ⊎ IsAmong (kind_of e) (faults_of (map S.text words.entry.now))) }
+        ⊎ IsAmong (kind_of e) (faults_of (map (λ w. w.now) words.entry.now))) }
 {
     wafl_command(alloc)?.try_get_matches_from(words)
 }
 
 /// Help where it was asked for, and else why the words aren't understood.
-fn answer_without_matches<'a>(alloc: Global, error: &clap::Error) -> Result<Asked<'a>, LineError>
+fn answer_without_matches<'a>(
+    alloc: Global,
+    error: &clap::Error,
+    wait: Wait,
+) -> Result<Asked<'a>, LineError>
     ensures help { IfOk result (λ asked. (line_value asked.line ≡ help)
         × ((kind_of error.now ≡ kind.DisplayHelp) ⊎ (kind_of error.now ≡ kind.DisplayVersion))) }
     ensures memory { kind_of error.now ≡ kind.OutOfMemory
@@ -184,7 +245,14 @@ fn answer_without_matches<'a>(alloc: Global, error: &clap::Error) -> Result<Aske
         ErrorKind::OutOfMemory => Err(LineError::NoMemory),
         ErrorKind::DisplayHelp | ErrorKind::DisplayVersion => Ok(Asked {
             line: Line::Help(error.to_string(alloc)?),
-            explains: false,
+            options: Options {
+                explains: false,
+                is_encoded: false,
+                is_human: false,
+                salvages: false,
+                forces: false,
+                wait,
+            },
         }),
         _ => Err(LineError::NotUnderstood(error.to_string(alloc)?)),
     }

@@ -19,6 +19,8 @@ pub struct Limits {
     option: &'static str,
     least: u32,
     most: u32,
+    /// What is counted, and which sizes these are.
+    unit_text: &'static str,
     /// What a number with a suffix counts is so many times smaller than what the option counts.
     unit: u64,
 }
@@ -28,6 +30,7 @@ pub const BLOCKS: Limits = Limits {
     option: "blocks",
     least: LEAST_BLOCKS,
     most: MOST_BLOCKS,
+    unit_text: "blocks (256 KiB to 4 GiB)",
     unit: BLOCK_BYTES as u64,
 };
 
@@ -36,6 +39,7 @@ pub const INODES: Limits = Limits {
     option: "inodes",
     least: LEAST_INODES,
     most: MOST_INODES,
+    unit_text: "inodes",
     unit: 1,
 };
 
@@ -44,6 +48,7 @@ pub const HALF: Limits = Limits {
     option: "half",
     least: LEAST_HALF,
     most: MOST_HALF,
+    unit_text: "bytes (128 KiB to 8 MiB)",
     unit: 1,
 };
 
@@ -96,8 +101,8 @@ fn in_range(
     let count = number / size;
     if count < u64::from(limits.least) || count > u64::from(limits.most) {
         return Err(LineError::OutOfRange(format!(in alloc;
-            "wafl: --{option} {word}: from {} to {}\n",
-            limits.least, limits.most
+            "wafl: --{option} {word}: from {} to {} {}\n",
+            limits.least, limits.most, limits.unit_text
         )?));
     }
     Ok(count as u32)
@@ -107,7 +112,14 @@ fn in_range(
 fn read_number(word: &str) -> Option<u32>
     ensures { result ≡ spelled_number (digits_in word.now) }
 {
-    digits(word).parse().ok()
+    whole_number(digits(word))
+}
+
+/// The number of 32 bits that a text spells, in decimal digits.
+pub fn whole_number(text: &str) -> Option<u32>
+    ensures { result ≡ spelled_number text.now }
+{
+    text.parse().ok()
 }
 
 /// What stands before a suffix.

@@ -17,6 +17,13 @@ pub fn place<'a>(alloc: Global, id: &'a str, name: &'a str, help: &'a str) -> Ar
         .help(help)
 }
 
+/// An argument known by its place, the last one, which a line may lack.
+pub fn last_place<'a>(alloc: Global, id: &'a str, name: &'a str, help: &'a str) -> Arg<'a>
+    ensures { IsArg (spec.last_place_rule id.entry.now) result }
+{
+    Arg::new(alloc, id).value_name(name).help(help)
+}
+
 /// An option without a value.
 pub fn flag<'a>(alloc: Global, name: &'a str, help: &'a str) -> Arg<'a>
     ensures { IsArg (spec.flag_rule name.entry.now) result }
@@ -35,6 +42,28 @@ pub fn explain<'a>(alloc: Global) -> Arg<'a>
         alloc,
         "explain",
         "Tell what is wrong with a line or an image in a second line, as on a terminal",
+    )
+}
+
+/// `--encoded`, which all commands have whose words name something of the image.
+pub fn encoded<'a>(alloc: Global) -> Arg<'a>
+    ensures { IsArg spec.encoded result }
+{
+    flag(
+        alloc,
+        "encoded",
+        "Read paths, names and words as a script spells them, as /a%20b for /a b",
+    )
+}
+
+/// `--salvage`, which commands have that only read.
+pub fn salvage<'a>(alloc: Global) -> Arg<'a>
+    ensures { IsArg spec.salvage result }
+{
+    flag(
+        alloc,
+        "salvage",
+        "Read what can be read of an image that can't be mounted, and write nothing",
     )
 }
 
@@ -102,7 +131,7 @@ pub fn command_words<'a>(alloc: Global) -> Arg<'a>
         alloc,
         "words",
         "WORDS",
-        "The command's words, spelled as in a script, as in mkdir /a 0700",
+        "The command's words, as you type them, as in mkdir '/a b' 700",
     )
     .num_args(1..)
     .trailing_var_arg(true)

@@ -1,45 +1,10 @@
 //! Why a line is no command: found anew from its text, for those who wrote it.
 
+use crate::forms::{call_form, command_form, is_field};
+use crate::near_misses::unknown_reason;
 use crate::script_words::{shown, word_reason};
 use std::alloc::{AllocError, Global};
 use std::io::Write;
-
-/// The calls that name a path, with their fields in capitals; one that may be left out stands in brackets.
-const CALLS: [&str; 13] = [
-    "list PATH",
-    "stat PATH",
-    "lstat PATH",
-    "readlink PATH",
-    "get PATH OFFSET COUNT",
-    "mkdir PATH [MODE]",
-    "rmdir PATH",
-    "unlink PATH",
-    "link PATH NEW",
-    "symlink TEXT PATH",
-    "rename PATH NEW",
-    "chmod PATH MODE",
-    "truncate PATH SIZE",
-];
-
-/// The other commands, but `in`, which stands before a call.
-const OTHERS: [&str; 16] = [
-    "open PATH FLAGS [MODE]",
-    "close FD",
-    "read FD COUNT",
-    "write FD DATA",
-    "pread FD OFFSET COUNT",
-    "pwrite FD OFFSET DATA",
-    "lseek FD FROM OFFSET",
-    "ftruncate FD SIZE",
-    "fstat FD",
-    "fsync FD",
-    "sync",
-    "df",
-    "snap take NAME",
-    "snap list",
-    "snap delete NAME",
-    "snap restore NAME",
-];
 
 /// Tells the text of a script's line of this number, counted from 1, and why it is no command. Where there is no memory for
 /// that, nothing.
@@ -54,13 +19,13 @@ pub fn explain_line<E: Write>(alloc: Global, script: &[u8], number: usize, err: 
 }
 
 fn line_text(alloc: Global, line: &[u8]) -> Result<String, AllocError> {
-    let reason = reason(alloc, line)?;
+    let reason = reason_of(alloc, line)?;
     let line = shown(alloc, line)?;
     format!(in alloc; "wafl: {line}: {reason}\n")
 }
 
-/// Why a line is no command.
-fn reason(alloc: Global, line: &[u8]) -> Result<String, AllocError> {
+/// Why a line, without its line feed, is no command.
+pub fn reason_of(alloc: Global, line: &[u8]) -> Result<String, AllocError> {
     if let Some(text) = blank_reason(line) {
         return String::from_str(alloc, text);
     }
@@ -103,7 +68,7 @@ fn within_reason(alloc: Global, name: &[u8], call: &[&[u8]]) -> Result<String, A
     if let Some(reason) = word_reason(alloc, "in", "NAME", name)? {
         return Ok(reason);
     }
-    match CALLS.iter().find(|form| has_name(form, call)) {
+    match call_form(call) {
         Some(form) => form_reason(alloc, form, call),
         None => String::from_str(alloc, "in NAME stands before a call that names a path"),
     }
@@ -111,23 +76,11 @@ fn within_reason(alloc: Global, name: &[u8], call: &[&[u8]]) -> Result<String, A
 
 /// Why words are no command that isn't in a snapshot.
 fn command_reason(alloc: Global, words: &[&[u8]]) -> Result<String, AllocError> {
-    let mut forms = CALLS.iter().chain(OTHERS.iter());
-    match forms.find(|form| has_name(form, words)) {
-        Some(form) => form_reason(alloc, form, words),
-        None => String::from_str(alloc, "unknown command"),
+    match (command_form(words), words) {
+        (Some(form), _) => form_reason(alloc, form, words),
+        (None, [first, ..]) => unknown_reason(alloc, first),
+        (None, []) => String::from_str(alloc, "no command"),
     }
-}
-
-/// Whether words begin as this form does, as far as they go.
-fn has_name(form: &str, words: &[&[u8]]) -> bool {
-    !words.is_empty()
-        && form.split(' ').zip(words.iter()).all(|(field, word)| is_field(field)
-            || field.as_bytes() == *word)
-}
-
-/// Whether a word of a form stands for others: it is in capitals.
-fn is_field(field: &str) -> bool {
-    field.bytes().any(|byte| byte.is_ascii_uppercase())
 }
 
 /// Why words that begin as this form does are no command.

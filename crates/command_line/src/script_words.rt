@@ -1,5 +1,6 @@
 //! Why a word isn't what stands in its place, and how it would be spelled.
 
+use crate::forms::default_mode;
 use script::read_command;
 use std::alloc::{AllocError, Global};
 
@@ -17,8 +18,7 @@ pub fn word_reason(
         "COUNT" | "FD" => number_reason(alloc, word, 0, i64::from(u32::MAX)),
         "OFFSET" | "SIZE" => number_reason(alloc, word, i64::MIN, i64::MAX),
         "MODE" => mode_reason(alloc, word, b""),
-        "[MODE]" if form.starts_with("mkdir") => mode_reason(alloc, word, b"0755"),
-        "[MODE]" => mode_reason(alloc, word, b"0644"),
+        "[MODE]" => mode_reason(alloc, word, default_mode(form)),
         "DATA" => data_reason(alloc, word),
         "FLAGS" => flags_reason(alloc, word),
         "FROM" => whence_reason(alloc, word),
@@ -77,6 +77,18 @@ fn text_word(alloc: Global, word: &[u8]) -> Result<Vec<u8>, AllocError> {
         };
         push_byte(alloc, &mut spelling, byte)?;
         rest = behind;
+    }
+    Ok(spelling)
+}
+
+/// The text word of a script that spells these bytes.
+pub fn encoded(alloc: Global, bytes: &[u8]) -> Result<Vec<u8>, AllocError> {
+    let mut spelling = Vec::new(alloc);
+    for byte in bytes {
+        push_byte(alloc, &mut spelling, *byte)?;
+    }
+    if spelling.is_empty() {
+        spelling.push(b'%')?;
     }
     Ok(spelling)
 }

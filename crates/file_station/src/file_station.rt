@@ -66,6 +66,13 @@ impl<M: ImageFiles + Drop> FileStation<M> {
         })
     }
 
+    /// The files, which have no station over them then.
+    pub fn into_files(self) -> M
+        ensures { result ≡ self.files }
+    {
+        self.files
+    }
+
     /// Syncs both files, as `sync` does, and answers with the error. It isn't counted.
     pub fn sync_both(&mut self) -> io::Result<()>
         ensures same { AreSameFiles (M.meaning self.old.files) (M.meaning self.new.files) }

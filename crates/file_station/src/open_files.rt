@@ -5,18 +5,21 @@ ghost use Rattle.file_station.specs.Files.{claims_nothing};
 ghost use Rattle.file_station.specs.Stations.{FitStation};
 ghost use Rattle.file_station.specs.declared.image_files.Part.TheVariants.{Disk, Nvram};
 
-use crate::{FileStation, ImageFiles, Part, SizeError};
+use crate::file_fault::kept;
+use crate::{FileCall, FileFault, FileStation, ImageFiles, Part, SizeError};
 use std::fs::OpenFile;
 use std::io;
 use std::os::unix::fs::FileExt;
 
-/// Two open files, of the lengths that they had when they were given.
+/// Two open files, of the lengths that they had when they were given. A station tells of a call only that it failed, so the
+/// first one that the system let fail is kept here.
 #[derive(Drop)]
 pub struct OpenFiles<F> {
     disk: F,
     nvram: F,
     disk_bytes: u64,
     nvram_bytes: u64,
+    fault: Option<FileFault>,
 }
 
 impl<F: FileExt + OpenFile + Drop> FileStation<OpenFiles<F>> {
@@ -36,11 +39,19 @@ impl<F: FileExt + OpenFile + Drop> FileStation<OpenFiles<F>> {
             nvram,
             disk_bytes,
             nvram_bytes,
+            fault: None,
         })
+    }
+
+    /// The first call that the system let fail on one of the files, if one did.
+    pub fn into_fault(self) -> Option<FileFault>
+        ensures { result ≡ self.files.fault }
+    {
+        self.into_files().fault
     }
 }
 
-fn size_of_file<F: OpenFile>(file: &F) -> Result<u64, SizeError> {
+pub(crate) fn size_of_file<F: OpenFile>(file: &F) -> Result<u64, SizeError> {
     match file.metadata() {
         Ok(metadata) => Ok(metadata.len()),
         Err(_) => Err(SizeError::Unreadable),
@@ -65,23 +76,26 @@ impl<F: FileExt + OpenFile + Drop> ImageFiles for OpenFiles<F> {
     }
 
     fn read(&mut self, part: Part, at: u64, out: &mut [u8]) -> io::Result<()> {
-        match part {
+        let done = match part {
             Part::Disk => self.disk.read_exact_at(out, at),
             Part::Nvram => self.nvram.read_exact_at(out, at),
-        }
+        };
+        kept(&mut self.fault, part, FileCall::Read, done)
     }
 
     fn write(&mut self, part: Part, at: u64, bytes: &[u8]) -> io::Result<()> {
-        match part {
+        let done = match part {
             Part::Disk => self.disk.write_all_at(bytes, at),
             Part::Nvram => self.nvram.write_all_at(bytes, at),
-        }
+        };
+        kept(&mut self.fault, part, FileCall::Write, done)
     }
 
     fn sync(&mut self, part: Part) -> io::Result<()> {
-        match part {
+        let done = match part {
             Part::Disk => self.disk.sync_data(),
             Part::Nvram => self.nvram.sync_data(),
-        }
+        };
+        kept(&mut self.fault, part, FileCall::Sync, done)
     }
 }

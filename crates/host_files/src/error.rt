@@ -55,6 +55,14 @@ pub enum FileError<'a> {
         least: u32,
         sectors: u32,
     },
+    /// This file may not be written, and an image with a list of sectors that can't be read is written even where it is only to be
+    /// read.
+    #[error("{path}: {error}; it has to be written, since {bad} is there")]
+    IsListed {
+        path: &'a str,
+        bad: &'a str,
+        error: io::Error,
+    },
     /// The NVRAM has the name of the disk's list of sectors that can't be read.
     #[error("{path}: the name of the list of sectors that can't be read; the NVRAM needs another")]
     IsList {

@@ -8,16 +8,16 @@ ghost use Rattle.memory_station.specs.Sim.{plan_of, was_cut};
 use crate::bad_list::read_list;
 use crate::error::{FileError, on};
 use crate::image::Image;
-use crate::locking::{Purpose, open_locked};
+use crate::locking::{Patience, Purpose, open_locked, pause};
 use crate::places::is_one_file;
 use file_station::{FileStation, OpenFiles};
 use memory_station::Sim;
 use station::SECTOR_BYTES;
 use std::alloc::Global;
-use std::fs;
 use std::fs::File;
 use std::io::{ErrorKind, Read};
-use std::rt::Files;
+use std::rt::{Clock, Files};
+use std::{fs, io};
 
 /// Both files of an image, open and under their locks as long as this lives, and the sectors of its disk that couldn't be
 /// read when they were loaded.
@@ -38,8 +38,27 @@ pub enum Opened {
     Memory(Sim, Held),
 }
 
-/// Opens both files of an image, which are there and two, the disk first.
-fn open_both<'a, R: Files<File = File>>(
+/// Opens both files of an image, which are there and two. Between two tries neither is held, so that nobody waits for a file
+/// of this program's while this one waits for one of theirs.
+fn open_both<'a, R: Files<File = File> + Clock>(
+    rt: &R,
+    image: Image<'a>,
+    purpose: Purpose,
+    patience: Patience,
+) -> Result<(File, File), FileError<'a>>
+    ensures { HasOneName image.entry → IsErr result }
+{
+    for _ in 0..patience.pauses() {
+        match try_both(rt, image, purpose) {
+            Err(FileError::InUse { .. }) => pause(rt),
+            opened => return opened,
+        }
+    }
+    try_both(rt, image, purpose)
+}
+
+/// Opens both files of an image, the disk first, where no other program's lock is in the way.
+fn try_both<'a, R: Files<File = File>>(
     rt: &R,
     image: Image<'a>,
     purpose: Purpose,
@@ -55,14 +74,26 @@ fn open_both<'a, R: Files<File = File>>(
     Ok((disk_file, nvram_file))
 }
 
-/// An image whose files are there, for one who writes: open for reading and writing, under exclusive locks.
-pub fn open_image<'a, R: Files<File = File> + AllocGlobal>(
+/// Both files of an image, open for reading alone under shared locks, whatever list there is.
+pub fn open_shared<'a, R: Files<File = File> + Clock>(
     rt: &R,
     image: Image<'a>,
+    patience: Patience,
+) -> Result<(File, File), FileError<'a>>
+    ensures { HasOneName image.entry → IsErr result }
+{
+    open_both(rt, image, Purpose::Reading, patience)
+}
+
+/// An image whose files are there, for one who writes: open for reading and writing, under exclusive locks.
+pub fn open_image<'a, R: Files<File = File> + AllocGlobal + Clock>(
+    rt: &R,
+    image: Image<'a>,
+    patience: Patience,
 ) -> Result<Opened, FileError<'a>>
     ensures { HasOneName image.entry → IsErr result }
 {
-    let (disk, nvram) = open_both(rt, image, Purpose::Writing)?;
+    let (disk, nvram) = open_both(rt, image, Purpose::Writing, patience)?;
     match list_text(rt, image)? {
         None => Ok(Opened::Files(station_over(image, disk, nvram)?)),
         Some(text) => {
@@ -74,26 +105,54 @@ pub fn open_image<'a, R: Files<File = File> + AllocGlobal>(
 
 /// An image whose files are there, for one who reads: open for reading alone, so that every write to it fails, under shared
 /// locks. Where there is a list of sectors that can't be read, it is as for one who writes, since it is stored again.
-pub fn open_to_read<'a, R: Files<File = File> + AllocGlobal>(
+pub fn open_to_read<'a, R: Files<File = File> + AllocGlobal + Clock>(
     rt: &R,
     image: Image<'a>,
+    patience: Patience,
 ) -> Result<Opened, FileError<'a>>
     ensures { HasOneName image.entry → IsErr result }
 {
-    if let Some(station) = read_files(rt, image)? {
+    if let Some(station) = read_files(rt, image, patience)? {
         return Ok(Opened::Files(station));
     }
-    open_image(rt, image)
+    tell_why_written(image, open_image(rt, image, patience))
+}
+
+/// Says of a file that may not be written why it has to be, where it was only to be read.
+fn tell_why_written<'a>(
+    image: Image<'a>,
+    opened: Result<Opened, FileError<'a>>,
+) -> Result<Opened, FileError<'a>>
+    ensures { IsErr opened.entry → IsErr result }
+{
+    match opened {
+        Err(FileError::Io { path, error }) if may_not_be_written(error) => {
+            Err(FileError::IsListed {
+                path,
+                bad: image.bad,
+                error,
+            })
+        }
+        opened => opened,
+    }
+}
+
+fn may_not_be_written(error: io::Error) -> bool {
+    matches!(
+        error.kind(),
+        ErrorKind::PermissionDenied | ErrorKind::ReadOnlyFilesystem
+    )
 }
 
 /// A station over the files themselves, open for reading. None where there is a list.
-fn read_files<'a, R: Files<File = File> + AllocGlobal>(
+fn read_files<'a, R: Files<File = File> + AllocGlobal + Clock>(
     rt: &R,
     image: Image<'a>,
+    patience: Patience,
 ) -> Result<Option<FileStation<OpenFiles<File>>>, FileError<'a>>
     ensures { HasOneName image.entry → IsErr result }
 {
-    let (disk, nvram) = open_both(rt, image, Purpose::Reading)?;
+    let (disk, nvram) = open_both(rt, image, Purpose::Reading, patience)?;
     match list_text(rt, image)? {
         None => Ok(Some(station_over(image, disk, nvram)?)),
         Some(_) => Ok(None),
@@ -135,15 +194,16 @@ fn list_text<'a, R: Files + AllocGlobal>(
 
 /// A station in memory with what two files that are there hold, of which the sectors of the list can't be read, and what
 /// holds these files until the image is stored again. Its power is on, and no call of it is to fail.
-pub fn load_station<'a, R: Files<File = File> + AllocGlobal>(
+pub fn load_station<'a, R: Files<File = File> + AllocGlobal + Clock>(
     rt: &R,
     image: Image<'a>,
+    patience: Patience,
 ) -> Result<(Sim, Held), FileError<'a>>
     ensures one { HasOneName image.entry → IsErr result }
     ensures power { IfOk result (λ loaded. was_cut loaded.0 ≡ false) }
     ensures plan { IfOk result (λ loaded. plan_of loaded.0 ≡ no_plan) }
 {
-    let (disk, nvram) = open_both(rt, image, Purpose::Writing)?;
+    let (disk, nvram) = open_both(rt, image, Purpose::Writing, patience)?;
     let text = list_text(rt, image)?.unwrap_or(Vec::new(rt.alloc()));
     load_files(rt.alloc(), image, disk, nvram, &text)
 }
@@ -203,9 +263,27 @@ pub fn read_script<'a, R: Files + AllocGlobal, I: Read>(
     on(path, fs::read(rt, path))
 }
 
-/// Holds both files of an image where they are there and are to be replaced, the disk first. With `is_new` refuses those that
-/// have bytes, and a list of sectors that can't be read, too.
-pub fn hold_both<'a, R: Files<File = File> + AllocGlobal>(
+/// Holds both files of an image where they are there and are to be replaced. With `is_new` refuses those that have bytes, and
+/// a list of sectors that can't be read, too. Between two tries neither is held.
+pub fn hold_both<'a, R: Files<File = File> + AllocGlobal + Clock>(
+    rt: &R,
+    image: Image<'a>,
+    is_new: bool,
+    patience: Patience,
+) -> Result<Held, FileError<'a>>
+    ensures { HasOneName image.entry → IsErr result }
+{
+    for _ in 0..patience.pauses() {
+        match try_to_hold(rt, image, is_new) {
+            Err(FileError::InUse { .. }) => pause(rt),
+            held => return held,
+        }
+    }
+    try_to_hold(rt, image, is_new)
+}
+
+/// Holds both files, the disk first, where no other program's lock is in the way.
+fn try_to_hold<'a, R: Files<File = File> + AllocGlobal>(
     rt: &R,
     image: Image<'a>,
     is_new: bool,

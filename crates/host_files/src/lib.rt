@@ -4,6 +4,7 @@
 
 mod bad_list;
 mod error;
+mod faults;
 mod image;
 mod image_files;
 mod locking;
@@ -16,12 +17,14 @@ mod storing;
 
 pub use bad_list::{read_list, write_list};
 pub use error::{FileError, on};
+pub use faults::tell_fault;
 pub use image::{Image, list_name};
 pub use image_files::{
-    Held, Opened, hold_both, load_station, open_image, open_to_read, read_script,
+    Held, Opened, hold_both, load_station, open_image, open_shared, open_to_read, read_script,
 };
+pub use locking::Patience;
 pub use new_list::NewList;
-pub use places::{Found, Place, find_place, is_one_file};
+pub use places::{Found, Place, find_place, is_one_file, place_in};
 pub use replacement::{NewFile, Replacement, make_beside, remove};
 pub use sparse::Sparse;
 pub use stand_ins::open_descriptors;

@@ -5,11 +5,42 @@ use crate::error::{FileError, on};
 use std::fs::{File, Metadata, OpenOptions, TryLockError};
 use std::io::ErrorKind;
 use std::os::unix::fs::{FileTypeExt, MetadataExt};
-use std::rt::Files;
-use std::{fs, io};
+use std::rt::{Clock, Files};
+use std::time::Duration;
+use std::{fs, io, thread};
 
 /// So many times a file is opened in whose place another one is put meanwhile.
 const TRIES: u32 = 16;
+
+/// So many milliseconds pass before a lock is tried again.
+const PAUSE_MILLISECONDS: u64 = 50;
+
+/// How long this program waits for another one to let go of its locks.
+#[derive(Clone, Copy, Debug, PartialEq, Eq)]
+pub enum Patience {
+    /// Not at all.
+    None,
+    /// So many seconds.
+    Seconds(u32),
+    /// As long as it takes.
+    Forever,
+}
+
+impl Patience {
+    /// So many pauses are made, with a try behind each.
+    pub(crate) fn pauses(self) -> u64 {
+        match self {
+            Patience::None => 0,
+            Patience::Seconds(seconds) => u64::from(seconds) * (1000 / PAUSE_MILLISECONDS),
+            Patience::Forever => u64::MAX,
+        }
+    }
+}
+
+/// Waits before a lock is tried again.
+pub(crate) fn pause<R: Clock>(rt: &R) {
+    thread::sleep(rt, Duration::from_millis(PAUSE_MILLISECONDS));
+}
 
 /// What a file is opened for.
 #[derive(Clone, Copy, Debug, PartialEq, Eq)]

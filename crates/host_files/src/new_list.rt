@@ -4,7 +4,7 @@ use crate::bad_list::write_list;
 use crate::error::{FileError, on};
 use crate::image::Image;
 use crate::places::Place;
-use crate::replacement::{find_file_place, make_beside, remove};
+use crate::replacement::{find_file_place, make_beside, remove, sync_folder};
 use std::fs::{File, OpenFile};
 use std::io::{ErrorKind, Write};
 use std::rt::Files;
@@ -29,7 +29,7 @@ impl<'a> NewList<'a> {
             return Ok(NewList { place, new: None });
         }
         let text = write_list(rt.alloc(), list)?;
-        let mut new = make_beside(rt, &place, image.disk, image.nvram)?;
+        let mut new = make_beside(rt, &place, None, image.disk, image.nvram)?;
         if let Err(error) = on(image.bad, fill(&mut new.file, &text)) {
             remove(rt, new.path.as_str());
             return Err(error);
@@ -56,11 +56,15 @@ impl<'a> NewList<'a> {
     }
 }
 
-/// Removes a file, where one is there.
+/// Removes a file, where one is there, and syncs its folder.
 fn remove_old<R: Files>(rt: &R, path: &str) -> io::Result<()> {
     match fs::remove_file(rt, path) {
-        Err(error) if error.kind() != ErrorKind::NotFound => Err(error),
-        _ => Ok(()),
+        Ok(()) => {
+            sync_folder(rt, path);
+            Ok(())
+        }
+        Err(error) if error.kind() == ErrorKind::NotFound => Ok(()),
+        Err(error) => Err(error),
     }
 }
 

@@ -1,6 +1,8 @@
 //! Where names lead to, through symbolic links.
 
-ghost use Rattle.std.specs.Prelude.{◌≡◌, IsTrue};
+ghost use Rattle.std.specs.Prelude.{◌≡◌, IfOk, IsTrue};
+ghost use Rattle.std.specs.Path.{path_join};
+ghost use Rattle.std.specs.String.{string_bytes};
 
 use crate::error::{FileError, on};
 use std::alloc::Global;
@@ -60,6 +62,26 @@ pub fn find_place<'a, R: Files + AllocGlobal>(
         Some(_) => Found::Stream,
     };
     Ok(Place { name, path, found })
+}
+
+/// The path of a name in a folder. An error of kind `InvalidInput` where the name isn't UTF-8, and so has no path here.
+pub fn place_in<'a, R: AllocGlobal>(
+    rt: &R,
+    folder: &'a str,
+    name: &[u8],
+) -> Result<String, FileError<'a>>
+    ensures { IfOk result (λ path. string_bytes path ≡ path_join folder.now name.now) }
+{
+    let Ok(name) = std::str::from_utf8(name) else {
+        return Err(FileError::Io {
+            path: folder,
+            error: io::Error::new(
+                ErrorKind::InvalidInput,
+                "the name in it is to be UTF-8, and isn't",
+            ),
+        });
+    };
+    Ok(Path::new(folder).join(rt.alloc(), name)?.into_string())
 }
 
 /// The path behind the links at a path's end, and whether one of them leads to an open file.

@@ -10,9 +10,10 @@ use crate::image::Image;
 use crate::new_list::NewList;
 use crate::places::{Found, Place, find_place, is_one_file};
 use std::alloc::{AllocError, Global};
-use std::fs::{File, Metadata, OpenOptions, Permissions};
+use std::fs::{File, Metadata, OpenFile, OpenOptions, Permissions};
 use std::io::ErrorKind;
 use std::os::unix::fs::{MetadataExt, OpenOptionsExt, PermissionsExt, fchown};
+use std::path::Path;
 use std::rt::Files;
 use std::{fs, io};
 
@@ -31,7 +32,7 @@ const OWNER: u32 = 0o1700;
 /// The mode of a new file until it has that of the one which it will replace: nobody else may use it.
 const OWN: u32 = 0o600;
 
-/// The mode that a new file in an empty place is made with, less the bits of the process's mask.
+/// The mode that a new file in an empty place is made with where none is asked for, less the bits of the process's mask.
 const NEW: u32 = 0o666;
 
 /// Both new files, which lie beside those that they will replace.
@@ -65,7 +66,7 @@ impl<'a> Replacement<'a> {
         }
         let disk = find_file_place(rt, image.disk)?;
         let nvram = find_file_place(rt, image.nvram)?;
-        let first = make_beside(rt, &disk, disk.path.as_str(), nvram.path.as_str())?;
+        let first = make_beside(rt, &disk, None, disk.path.as_str(), nvram.path.as_str())?;
         match make_second(rt, &first, &disk, &nvram) {
             Ok(second) => {
                 let new = Replacement {
@@ -83,8 +84,8 @@ impl<'a> Replacement<'a> {
         }
     }
 
-    /// Puts both new files in place, which are whole and synced, and the list that belongs to the new disk behind that. Where
-    /// the disk's can't be put there, removes them all.
+    /// Puts both new files in place, which are whole and synced, and the list that belongs to the new disk behind that. Each is
+    /// settled in its folder before the next one is put. Where the disk's can't be put there, removes them all.
     pub fn finish<R: Files>(self, rt: &R, list: NewList<'a>) -> Result<(), FileError<'a>> {
         match self.disk.replace(rt, self.new_disk.as_str()) {
             Ok(()) => {
@@ -109,7 +110,10 @@ impl<'a> Replacement<'a> {
     /// Puts the new NVRAM in place, behind the disk. Where that fails it stays where it is, so that nothing is lost.
     fn replace_nvram<R: Files>(self, rt: &R) -> Result<(), FileError<'a>> {
         match fs::rename(rt, self.new_nvram.as_str(), self.nvram.path.as_str()) {
-            Ok(()) => Ok(()),
+            Ok(()) => {
+                sync_folder(rt, self.nvram.path.as_str());
+                Ok(())
+            }
             Err(error) => Err(FileError::HalfReplaced {
                 disk: self.disk.name,
                 nvram: self.nvram.name,
@@ -121,10 +125,29 @@ impl<'a> Replacement<'a> {
 }
 
 impl<'a> Place<'a> {
-    /// Puts a new file in this place.
+    /// Puts a new file in this place, and syncs its folder.
     pub fn replace<R: Files>(&self, rt: &R, new: &str) -> Result<(), FileError<'a>> {
-        on(self.name, fs::rename(rt, new, self.path.as_str()))
+        on(self.name, fs::rename(rt, new, self.path.as_str()))?;
+        sync_folder(rt, self.path.as_str());
+        Ok(())
     }
+}
+
+/// Syncs the folder that a path stands in, so that a power cut of the host leaves this name as it is now, where it leaves one
+/// that is changed later. A folder that can't be synced is no error: all that was asked for is done.
+pub(crate) fn sync_folder<R: Files>(rt: &R, path: &str) {
+    if let Ok(folder) = fs::open(rt, folder_of(path)) {
+        let _ = folder.sync_all();
+    }
+}
+
+/// The folder that a path stands in.
+fn folder_of(path: &str) -> Path<'_> {
+    let folder = Path::new(path).parent().unwrap_or(Path::new("/"));
+    if folder.as_os_str().is_empty() {
+        return Path::new(".");
+    }
+    folder
 }
 
 /// The place that a name leads to, where a file may be put: one is there, or nothing is.
@@ -151,20 +174,22 @@ fn make_second<'a, R: Files<File = File> + AllocGlobal>(
     if is_one_file(rt, first.path.as_str(), same_letters.as_str()) {
         return Err(FileError::OneFile { path: disk.name });
     }
-    make_beside(rt, nvram, disk.path.as_str(), nvram.path.as_str())
+    make_beside(rt, nvram, None, disk.path.as_str(), nvram.path.as_str())
 }
 
 /// Makes an empty file beside a place, under a name that nothing has and that leads to neither of two files. Where a file is
-/// in that place, the new one gets its owner, its group and its mode.
+/// in that place, the new one gets its owner, its group and its mode; else the mode that is asked for, less the bits of the
+/// process's mask.
 pub fn make_beside<'a, R: Files<File = File> + AllocGlobal>(
     rt: &R,
     place: &Place<'a>,
+    mode: Option<u32>,
     disk: &str,
     nvram: &str,
 ) -> Result<NewFile, FileError<'a>> {
     for attempt in 0..TRIES {
         let path = new_name(rt.alloc(), place.path.as_str(), attempt)?;
-        match make_file(rt, path.as_str(), &place.found) {
+        match make_file(rt, path.as_str(), &place.found, mode) {
             Ok(file) => {
                 if !is_one_file(rt, path.as_str(), disk) && !is_one_file(rt, path.as_str(), nvram) {
                     return Ok(NewFile {
@@ -197,7 +222,12 @@ fn new_name(alloc: Global, beside: &str, attempt: u32) -> Result<String, AllocEr
 }
 
 /// Makes a file and opens it. An error of kind `AlreadyExists` says that something has this name.
-fn make_file<R: Files<File = File>>(rt: &R, path: &str, old: &Found) -> io::Result<File> {
+fn make_file<R: Files<File = File>>(
+    rt: &R,
+    path: &str,
+    old: &Found,
+    mode: Option<u32>,
+) -> io::Result<File> {
     let mut options = OpenOptions::new();
     options.read(true).write(true).create_new(true);
     match old {
@@ -209,7 +239,9 @@ fn make_file<R: Files<File = File>>(rt: &R, path: &str, old: &Found) -> io::Resu
             }
             Ok(file)
         }
-        _ => options.mode(NEW).open(rt, path),
+        _ => options
+            .mode(mode.unwrap_or(NEW) & PERMISSIONS)
+            .open(rt, path),
     }
 }
 

@@ -10,7 +10,7 @@ use crate::image_verbs::{Images, looks_at_bad};
 use crate::obeying::Obeyed;
 use crate::run::Run;
 use crate::text::{is_one_of, random_bytes};
-use command_line::{Asked, LineError, read_line};
+use command_line::{Asked, LineError, Options, Wait, read_line};
 use memory_station::Sim;
 use mount::make;
 use std::alloc::{AllocError, Global};
@@ -250,7 +250,8 @@ fn line_of(alloc: Global, text: &str) -> Result<String, Fault> {
 }
 
 fn shown_line(alloc: Global, words: &[&str]) -> Result<String, Fault> {
-    match read_line(alloc, words) {
+    let mut others = Vec::new(alloc);
+    match read_line(alloc, words, &mut others) {
         Ok(asked) => shown_asked(alloc, &asked),
         Err(LineError::NotUnderstood(_)) => Ok(String::from_str(alloc, "nothing")?),
         Err(LineError::OutOfRange(text)) => Ok(String::from_str(alloc, text.trim_end())?),
@@ -258,10 +259,29 @@ fn shown_line(alloc: Global, words: &[&str]) -> Result<String, Fault> {
     }
 }
 
+/// A line, and behind it which options are set.
 fn shown_asked(alloc: Global, asked: &Asked<'_>) -> Result<String, Fault> {
     let line = &asked.line;
-    if asked.explains {
-        return Ok(format!(in alloc; "{line:?}, explained")?);
+    let mut text = format!(in alloc; "{line:?}")?;
+    for (is_set, name) in flags_of(asked.options) {
+        if is_set {
+            write!(text, ", {name}")?;
+        }
     }
-    Ok(format!(in alloc; "{line:?}")?)
+    match asked.options.wait {
+        Wait::No => {}
+        Wait::Seconds(seconds) => write!(text, ", waits {seconds} seconds")?,
+        Wait::Forever => write!(text, ", waits")?,
+    }
+    Ok(text)
+}
+
+fn flags_of(options: Options) -> [(bool, &'static str); 5] {
+    [
+        (options.explains, "explained"),
+        (options.is_encoded, "encoded"),
+        (options.is_human, "human"),
+        (options.salvages, "salvaged"),
+        (options.forces, "forced"),
+    ]
 }

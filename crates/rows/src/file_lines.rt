@@ -4,7 +4,7 @@ use crate::fault::Fault;
 use crate::guards::obey_guard;
 use crate::text::{bytes_of, is_one_of};
 use crate::transfers::obey_transfer;
-use host_files::{Image, list_name};
+use host_files::{Image, Patience, list_name};
 use std::fs;
 use std::os::unix::fs::symlink;
 use tool::make_image;
@@ -14,6 +14,7 @@ pub fn obey_file(rt: &HostRuntime, verb: &str, words: &str) -> Result<Option<boo
     let (name, rest) = words.split_once(' ').unwrap_or((words, ""));
     match verb {
         "file" => Ok(Some(fs::write(rt, name, bytes_of(rt.alloc(), rest)?.as_slice()).is_ok())),
+        "copy" => Ok(Some(fs::copy(rt, name, rest).is_ok())),
         "folder" => Ok(Some(fs::create_dir(rt, name).is_ok())),
         "link" => Ok(Some(fs::hard_link(rt, name, rest).is_ok())),
         "symlink" => Ok(Some(symlink(rt, name, rest).is_ok())),
@@ -54,7 +55,7 @@ fn make_files(rt: &HostRuntime, text: &str) -> Result<bool, Fault> {
         nvram,
         bad: bad.as_str(),
     };
-    let came = match make_image(rt, image, blocks, inodes, half, false) {
+    let came = match make_image(rt, image, blocks, inodes, half, false, Patience::None) {
         Ok(()) => String::from_str(rt.alloc(), "done")?,
         Err(error) => format!(in rt.alloc(); "{error}")?,
     };

@@ -1,10 +1,11 @@
 //! What guards files: locks, modes and links.
 
 use crate::fault::Fault;
+use crate::text::bytes_of;
 use std::alloc::Global;
 use std::fs;
 use std::fs::{File, OpenOptions, Permissions};
-use std::os::unix::fs::{MetadataExt, PermissionsExt};
+use std::os::unix::fs::{FileExt, MetadataExt, PermissionsExt};
 
 /// The bits of a file's mode that `chmod` sets.
 const MODE_BITS: u32 = 0o7777;
@@ -61,13 +62,15 @@ impl<'a> Locks<'a> {
     }
 }
 
-/// Does what a line about modes, links or holes says. None where it is about none, false where its words aren't understood.
+/// Does what a line about modes, links, holes or bytes says. None where it is about none, false where its words aren't understood.
 pub fn obey_guard(rt: &HostRuntime, verb: &str, words: &str) -> Result<Option<bool>, Fault> {
     match verb {
         "chmod" => Ok(Some(set_mode(rt, words))),
         "mode" => compare_mode(rt, words).map(Some),
         "islink" => compare_link(rt, words).map(Some),
         "holes" => compare_holes(rt, words).map(Some),
+        "poke" => poke(rt, words).map(Some),
+        "crop" => Ok(Some(crop(rt, words)?)),
         _ => Ok(None),
     }
 }
@@ -106,6 +109,39 @@ fn compare_link(rt: &HostRuntime, name: &str) -> Result<bool, Fault> {
     if !fs::symlink_metadata(rt, name)?.is_symlink() {
         return Err(Fault::differs(rt.alloc(), name, b"something else", "a link"));
     }
+    Ok(true)
+}
+
+/// A name and a number.
+fn name_and_number(words: &str) -> Option<(&str, u64)> {
+    let (name, number) = words.split_once(' ')?;
+    Some((name, number.parse().ok()?))
+}
+
+/// `crop NAME N`: cuts the file to N bytes, or makes it longer by a hole.
+fn crop(rt: &HostRuntime, words: &str) -> Result<bool, Fault> {
+    let Some((name, size)) = name_and_number(words) else {
+        return Ok(false);
+    };
+    let file = OpenOptions::new().write(true).open(rt, name)?;
+    file.set_len(size)?;
+    Ok(true)
+}
+
+/// `poke NAME AT TEXT`: the bytes of the text stand in the file from byte AT on.
+fn poke(rt: &HostRuntime, words: &str) -> Result<bool, Fault> {
+    let Some((name, rest)) = words.split_once(' ') else {
+        return Ok(false);
+    };
+    let Some((at, text)) = rest.split_once(' ') else {
+        return Ok(false);
+    };
+    let Ok(at) = at.parse() else {
+        return Ok(false);
+    };
+    let bytes = bytes_of(rt.alloc(), text)?;
+    let file = OpenOptions::new().write(true).open(rt, name)?;
+    file.write_all_at(bytes.as_slice(), at)?;
     Ok(true)
 }
 

@@ -8,13 +8,6 @@ use std::io::Write;
 use std::{fs, io};
 use tool::{Terminals, obey};
 
-/// No stream of a row is a terminal.
-const NO_TERMINALS: Terminals = Terminals {
-    input: false,
-    out: false,
-    err: false,
-};
-
 /// A command line that is being read.
 #[derive(Drop)]
 pub struct Obeyed<'a> {
@@ -26,6 +19,8 @@ pub struct Obeyed<'a> {
     same: Option<&'a str>,
     /// How many bytes standard output takes.
     room: usize,
+    /// Standard input is a pipe.
+    is_pipe: bool,
     /// The exit statuses that may come.
     statuses: &'a str,
 }
@@ -61,14 +56,19 @@ impl<'a> Obeyed<'a> {
             err: Expected::new(alloc),
             same: None,
             room: usize::MAX,
+            is_pipe: false,
             statuses: "0",
         }
     }
 
-    /// Adds a line about its streams: `< TEXT`, or `<- TEXT` without its end, on standard input; `> TEXT` on standard
+    /// Adds a line about its streams: `< TEXT`, or `<- TEXT` without its end, on standard input, which `<pipe` makes a pipe; `> TEXT` on standard
     /// output, which `>room N` has fail behind N bytes and `>file NAME` expects to be just this file; `! TEXT` on standard
     /// error.
     pub fn add_line(&mut self, alloc: Global, line: &'a str) -> Result<(), Fault> {
+        if line == "<pipe" {
+            self.is_pipe = true;
+            return Ok(());
+        }
         if let Some(text) = line.strip_prefix("<- ") {
             return push_text(alloc, &mut self.input, text);
         }
@@ -125,6 +125,16 @@ impl<'a> Obeyed<'a> {
         Ok(())
     }
 
+    /// No stream of a row is a terminal.
+    fn terminals(&self) -> Terminals {
+        Terminals {
+            input: false,
+            out: false,
+            err: false,
+            is_pipe: self.is_pipe,
+        }
+    }
+
     /// Has the program obey it, and compares what that gives.
     pub fn finish(&self, rt: &HostRuntime) -> Result<(), Fault> {
         let alloc = rt.alloc();
@@ -138,7 +148,7 @@ impl<'a> Obeyed<'a> {
         let status = obey(
             rt,
             words.as_slice(),
-            NO_TERMINALS,
+            self.terminals(),
             &mut input,
             &mut out,
             &mut err,

@@ -2,7 +2,7 @@
 
 use crate::fault::Fault;
 use crate::text::{is_one_of, random_bytes};
-use host_files::{Image, list_name};
+use host_files::{Image, Patience, list_name};
 use std::fs;
 use std::io::sink;
 use transfer::{Progress, Transfer, TransferError, get_file, put_file};
@@ -61,8 +61,8 @@ fn put(rt: &HostRuntime, text: &str) -> Result<bool, Fault> {
         words.fourth,
         words.third,
     );
-    let came = put_file(rt, what, &mut rt.reader(), &mut progress);
-    compare_end(rt, &came, expected)
+    let ended = put_file(rt, what, &mut rt.reader(), false, &mut progress);
+    compare_end(rt, &ended.done, expected)
 }
 
 /// `get DISK NVRAM PATH FILE -> DONE`: brings a file back. What goes to standard output is stored in the file `shown`.
@@ -88,11 +88,11 @@ fn get(rt: &HostRuntime, text: &str) -> Result<bool, Fault> {
 fn bring_back(rt: &HostRuntime, what: Transfer<'_>, expected: &str) -> Result<bool, Fault> {
     let mut shown = Vec::new(rt.alloc());
     let mut progress = Progress::new(sink(), false);
-    let came = get_file(rt, what, None, &mut shown, &mut progress);
+    let ended = get_file(rt, what, None, &mut shown, &mut progress);
     if what.file == "-" {
         fs::write(rt, "shown", shown.as_slice())?;
     }
-    compare_end(rt, &came, expected)
+    compare_end(rt, &ended.done, expected)
 }
 
 fn transfer_of<'a>(
@@ -103,7 +103,13 @@ fn transfer_of<'a>(
     file: &'a str,
 ) -> Transfer<'a> {
     let image = Image { disk, nvram, bad };
-    Transfer { image, path, file }
+    Transfer {
+        image,
+        path: path.as_bytes(),
+        name: path,
+        file,
+        patience: Patience::None,
+    }
 }
 
 /// The words of a line about a transfer.

@@ -1,10 +1,12 @@
-//! Why nothing was run, in a line for people behind the one that programs read.
+//! Why nothing was run, and what a refusal means, in a line for people behind the one that programs read.
 
 mod mounting;
+mod refusals;
 
 use command_line::explain_line;
 use host_files::Image;
-pub(crate) use mounting::explain_mount;
+pub(crate) use mounting::{explain_mount, geometry_in};
+pub(crate) use refusals::tell_refusal;
 use session::{Ending, Fault};
 use std::io::Write;
 
@@ -21,12 +23,4 @@ pub(crate) fn explain_ending<E: Write>(
         Ending::Unrun(Fault::Mount(error), _) => explain_mount(rt, image, error, err),
         _ => {}
     }
-}
-
-/// Tells why some of the program's own words are no line of a script.
-pub(crate) fn explain_words<E: Write>(err: &mut E) {
-    let _ = writeln!(
-        err,
-        "wafl: a word is empty, has a blank or a line's end in it, or begins a comment"
-    );
 }

@@ -6,25 +6,26 @@ ghost use Rattle.layout.specs.Limits.{AreSizes};
 
 use crate::image_error::ImageError;
 use file_station::FileStation;
-use host_files::{FileError, Image, NewList, Replacement, hold_both, on};
+use host_files::{FileError, Image, NewList, Patience, Replacement, hold_both, on};
 use layout::Geometry;
 use mount::{MakeError, make};
 use station::{SECTOR_BYTES, Station};
 use std::alloc::Global;
 use std::fs::{File, OpenFile};
 use std::os::unix::fs::FileExt;
-use std::rt::Files;
+use std::rt::{Clock, Files};
 
 /// Makes an empty image on two new files, which then replace those of these names, unless another program holds a lock on one of
 /// them; a list of sectors that can't be read goes behind that. With `is_new` nothing is replaced or removed that has bytes.
 /// Numbers out of their range are told before any file is looked at.
-pub fn make_image<'a, R: Files<File = File> + AllocGlobal>(
+pub fn make_image<'a, R: Files<File = File> + AllocGlobal + Clock>(
     rt: &R,
     image: Image<'a>,
     blocks: u32,
     inodes: u32,
     half: u32,
     is_new: bool,
+    patience: Patience,
 ) -> Result<(), ImageError<'a>>
     ensures bad_size { ¬ AreSizes (record { blocks = blocks; inodes = inodes; half = half })
         → result ≡ Err (ImageError.Make MakeError.BadSize) }
@@ -33,7 +34,7 @@ pub fn make_image<'a, R: Files<File = File> + AllocGlobal>(
     let Some(geometry) = Geometry::new(blocks, inodes, half) else {
         return Err(ImageError::Make(MakeError::BadSize));
     };
-    let _held = hold_both(rt, image, is_new)?;
+    let _held = hold_both(rt, image, is_new, patience)?;
     let (new, disk, nvram) = Replacement::begin(rt, image)?;
     match make_files(rt, image, disk, nvram, geometry) {
         Ok(list) => Ok(new.finish(rt, list)?),

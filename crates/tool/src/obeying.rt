@@ -2,26 +2,37 @@
 
 mod checking;
 mod faults;
+mod new_image;
+mod reading;
+mod room;
 mod sessions;
+mod shells;
 mod transfers;
 
-use crate::image_making::make_image;
+use crate::salvaging::SalvageError;
 use crate::statuses::{status_of_file, status_of_line};
+use crate::warnings::{warn_of_image, warn_of_list};
 use checking::check_files;
-use command_line::{Line, read_line};
-use host_files::{FileError, Image, list_name};
+pub(crate) use checking::find_faults;
+use command_line::{Asked, Line, Options, Wait, read_line};
+use host_files::{FileError, Image, Patience, list_name, open_shared};
+use new_image::make_files;
+use reading::run_one;
+use room::show_room;
 use session::Status;
-use sessions::{run_one, run_script, run_shell, show_room};
+use sessions::run_script;
+use shells::run_shell;
 use std::io::{Read, Write};
-use transfer::Transfer;
-use transfers::{get, put};
+use transfers::{get, put, restore};
 
-/// Which of the standard streams are terminals.
+/// What the standard streams are.
 #[derive(Clone, Copy, Debug)]
 pub struct Terminals {
     pub input: bool,
     pub out: bool,
     pub err: bool,
+    /// Standard input is a pipe, which another program writes.
+    pub is_pipe: bool,
 }
 
 /// The standard streams, and what is told on them.
@@ -31,8 +42,10 @@ pub(crate) struct Streams<I, O, E> {
     pub(crate) out: O,
     pub(crate) err: E,
     pub(crate) terminals: Terminals,
+    pub(crate) options: Options,
     /// What is wrong with a script or an image is told in a second line.
     pub(crate) explains: bool,
+    pub(crate) patience: Patience,
 }
 
 /// Does what the program's words ask for, and gives its exit status. The first word is the program's name. What it reads and
@@ -45,14 +58,17 @@ pub fn obey<I: Read, O: Write, E: Write>(
     out: &mut O,
     err: &mut E,
 ) -> u8 {
-    let status = match read_line(rt.alloc(), words) {
+    let mut others = Vec::new(rt.alloc());
+    let status = match read_line(rt.alloc(), words, &mut others) {
         Ok(asked) => {
             let mut streams = Streams {
                 input,
                 out,
                 err,
                 terminals,
-                explains: asked.explains || terminals.err,
+                options: asked.options,
+                explains: explains(&asked, terminals),
+                patience: patience_of(asked.options.wait),
             };
             obey_line(rt, &asked.line, &mut streams)
         }
@@ -62,6 +78,19 @@ pub fn obey<I: Read, O: Write, E: Write>(
         }
     };
     status.number()
+}
+
+/// Whether a second line is told: on a terminal, or where the words ask for it, and always where one command is done.
+fn explains(asked: &Asked<'_>, terminals: Terminals) -> bool {
+    asked.options.explains || terminals.err || matches!(asked.line, Line::Do { .. })
+}
+
+fn patience_of(wait: Wait) -> Patience {
+    match wait {
+        Wait::No => Patience::None,
+        Wait::Seconds(seconds) => Patience::Seconds(seconds),
+        Wait::Forever => Patience::Forever,
+    }
 }
 
 /// Does what a line asks for.
@@ -80,6 +109,7 @@ fn obey_line<I: Read, O: Write, E: Write>(
         Line::Check { disk, nvram } => (*disk, *nvram),
         Line::Put { disk, nvram, .. } => (*disk, *nvram),
         Line::Get { disk, nvram, .. } => (*disk, *nvram),
+        Line::Restore { disk, nvram, .. } => (*disk, *nvram),
     };
     let Ok(bad) = list_name(rt.alloc(), disk) else {
         return tell(&FileError::NoMemory, &mut streams.err);
@@ -89,7 +119,37 @@ fn obey_line<I: Read, O: Write, E: Write>(
         nvram,
         bad: bad.as_str(),
     };
-    obey_on(rt, image, line, streams)
+    let mut warnings = Vec::new(rt.alloc());
+    if speaks_of_image(line, streams) {
+        warn(rt, image, streams.patience, &mut warnings);
+    }
+    if let Line::Shell { .. } = line {
+        // Whoever types lines is told before the first one.
+        let _ = streams.err.write_all(warnings.as_slice());
+        warnings.clear();
+    }
+    let status = obey_on(rt, image, line, streams);
+    let _ = streams.err.write_all(warnings.as_slice());
+    status
+}
+
+/// Whether what a look at the image's files shows is told: not where one is made, and of a script's run only where it is
+/// explained, since programs read its standard error.
+fn speaks_of_image<I, O, E>(line: &Line<'_>, streams: &Streams<I, O, E>) -> bool {
+    match line {
+        Line::Help(_) | Line::Make { .. } => false,
+        Line::Run { .. } => streams.explains,
+        _ => true,
+    }
+}
+
+/// Tells what a look at an image's files shows that the command won't. It looks before the command, which may write over what
+/// shows it. An image that can't be opened says nothing here.
+fn warn<E: Write>(rt: &HostRuntime, image: Image<'_>, patience: Patience, err: &mut E) {
+    if let Ok(_held) = open_shared(rt, image, patience) {
+        warn_of_list(rt, image, err);
+        warn_of_image(rt, image, err);
+    }
 }
 
 /// Does what a line asks for on these files.
@@ -107,13 +167,7 @@ fn obey_on<I: Read, O: Write, E: Write>(
             half,
             is_new,
             ..
-        } => match make_image(rt, image, *blocks, *inodes, *half, *is_new) {
-            Ok(()) => Status::Done,
-            Err(error) => {
-                let _ = writeln!(streams.err, "wafl: {error}");
-                Status::FileFault
-            }
-        },
+        } => make_files(rt, image, (*blocks, *inodes, *half), *is_new, streams),
         Line::Run {
             script,
             stops,
@@ -124,13 +178,19 @@ fn obey_on<I: Read, O: Write, E: Write>(
         Line::Do { words, .. } => run_one(rt, image, words.as_slice(), streams),
         Line::Df { .. } => show_room(rt, image, streams),
         Line::Check { .. } => check_files(rt, image, streams),
-        Line::Put { file, path, .. } => put(rt, Transfer { image, path, file }, streams),
+        Line::Put { file, path, .. } => put(rt, image, file, path, streams),
         Line::Get {
             path,
             file,
             snapshot,
             ..
-        } => get(rt, Transfer { image, path, file }, *snapshot, streams),
+        } => get(rt, image, path, file, *snapshot, streams),
+        Line::Restore {
+            snapshot,
+            path,
+            new_path,
+            ..
+        } => restore(rt, image, snapshot, path, *new_path, streams),
     }
 }
 
@@ -138,6 +198,17 @@ fn show_text<O: Write>(text: &str, out: &mut O) -> Status {
     match out.write_all(text.as_bytes()) {
         Ok(()) => Status::Done,
         Err(_) => Status::FileFault,
+    }
+}
+
+/// Says on standard error why nothing of an image can be read.
+fn tell_salvage<E: Write>(error: &SalvageError<'_>, err: &mut E) -> Status {
+    match error {
+        SalvageError::File(error) => tell(error, err),
+        SalvageError::Mount(error) => {
+            let _ = writeln!(err, "wafl: mount {error}");
+            Status::NotMounted
+        }
     }
 }
 

@@ -1,66 +1,144 @@
 //! Bringing a file of an image back.
 
 use crate::error::{TransferError, at};
+use crate::looking::{Tree, stat};
+use crate::missing::found;
 use crate::progress::Progress;
-use crate::steps::{Source, find_source, mount_station, read_part};
-use crate::what::Transfer;
+use crate::steps::{Source, find_source, read_source};
+use crate::target::split_last;
+use crate::what::{Ended, Transfer, is_of_image};
+use crate::working::{Over, end_in_memory, end_on_files, give_back, mount_station};
 use host_files::{
     FileError, Found, NewFile, Opened, Place, Sparse, find_place, make_beside, on, open_to_read,
-    remove, store_image,
+    place_in, remove,
 };
+use model::Mode;
 use mount::Fs;
 use station::Station;
-use std::alloc::Global;
+use std::alloc::{AllocError, Global};
 use std::fs::{File, OpenOptions};
 use std::io::{Write, sink};
-use std::rt::Files;
+use std::rt::{Clock, Files};
 
 /// The names of standard output.
 const STANDARD_OUTPUT: [&str; 4] = ["-", "/dev/stdout", "/dev/fd/1", "/proc/self/fd/1"];
 
 /// Brings a file of an image back, as it is or as it was in a snapshot, and leaves the image as it is. The bytes go to `out`
 /// where the host's file is a name of standard output. Else they go, whole or not at all, to a new file, which then replaces
-/// the one that the name leads to; what is there and isn't a file, such as a FIFO or a device, is written into.
-pub fn get_file<'a, R: Files<File = File> + AllocGlobal, O: Write, E: Write>(
+/// the one that the name leads to, and has the mode of that one or else of the image's file; a folder means the image's file's
+/// own name in it. What is there and is neither, such as a FIFO or a device, is written into.
+pub fn get_file<'a, R: Files<File = File> + AllocGlobal + Clock, O: Write, E: Write>(
     rt: &R,
     what: Transfer<'a>,
-    snapshot: Option<&'a str>,
+    snapshot: Option<&'a [u8]>,
     out: &mut O,
     progress: &mut Progress<E>,
-) -> Result<(), TransferError<'a>> {
-    match open_to_read(rt, what.image)? {
-        Opened::Files(station) => {
-            get_from(rt, station, what, snapshot, out, progress)?;
-        }
+) -> Ended<'a> {
+    let told = match told_of(rt.alloc(), snapshot) {
+        Ok(told) => told,
+        Err(_) => return Ended::before(TransferError::File(FileError::NoMemory)),
+    };
+    let opened = match open_to_read(rt, what.image, what.patience) {
+        Ok(opened) => opened,
+        Err(error) => return Ended::before(TransferError::File(error)),
+    };
+    let mut get = Get {
+        rt,
+        what,
+        snapshot,
+        told,
+        out,
+        progress,
+    };
+    match opened {
+        Opened::Files(station) => end_on_files(get_on(rt.alloc(), station, &mut get)),
         Opened::Memory(sim, held) => {
-            let sim = get_from(rt, sim, what, snapshot, out, progress)?;
-            store_image(rt, what.image, &sim, &held)?;
+            let over = get_on(rt.alloc(), sim, &mut get);
+            end_in_memory(rt, what.image, over, &held)
         }
     }
-    Ok(())
 }
 
-/// Brings a file back from a station, and gives that back.
-fn get_from<'a, R: Files<File = File> + AllocGlobal, S: Station + Drop, O: Write, E: Write>(
+/// The same from a station, which it gives back.
+pub fn get_from<'a, R: Files<File = File> + AllocGlobal, S: Station + Drop, O: Write, E: Write>(
     rt: &R,
     station: S,
     what: Transfer<'a>,
-    snapshot: Option<&'a str>,
+    snapshot: Option<&'a [u8]>,
     out: &mut O,
     progress: &mut Progress<E>,
-) -> Result<S, TransferError<'a>> {
-    let mut fs = mount_station(rt.alloc(), station)?;
-    let source = find_source(rt.alloc(), &mut fs, what.path, snapshot);
-    let source = at(what.path, 0, source)?;
-    bring(rt, &mut fs, source, what, out, progress)?;
-    Ok(fs.into_station())
+) -> (Result<(), TransferError<'a>>, S) {
+    let told = match told_of(rt.alloc(), snapshot) {
+        Ok(told) => told,
+        Err(_) => return (Err(TransferError::File(FileError::NoMemory)), station),
+    };
+    let mut get = Get {
+        rt,
+        what,
+        snapshot,
+        told,
+        out,
+        progress,
+    };
+    get_on(rt.alloc(), station, &mut get)
 }
 
-/// Brings what a source holds to where it is to go.
+/// Brings a file back from a station.
+fn get_on<'a, R: Files<File = File> + AllocGlobal, S: Station, O: Write, E: Write>(
+    alloc: Global,
+    station: S,
+    get: &mut Get<'a, '_, '_, R, O, E>,
+) -> Over<'a, S> {
+    let mut fs = match mount_station(alloc, station) {
+        Ok(fs) => fs,
+        Err(over) => return over,
+    };
+    let done = get.go_on(alloc, &mut fs);
+    give_back(fs, done)
+}
+
+/// A snapshot's name as it is told.
+fn told_of(alloc: Global, snapshot: Option<&[u8]>) -> Result<String, AllocError> {
+    String::from_utf8_lossy(alloc, snapshot.unwrap_or(b""))
+}
+
+/// Bringing a file back.
+#[derive(Drop)]
+struct Get<'a, 'r, 'w, R, O, E> {
+    rt: &'r R,
+    what: Transfer<'a>,
+    snapshot: Option<&'a [u8]>,
+    /// The snapshot as it is told.
+    told: String,
+    out: &'w mut O,
+    progress: &'w mut Progress<E>,
+}
+
+impl<'a, R: Files<File = File> + AllocGlobal, O: Write, E: Write> Get<'a, '_, '_, R, O, E> {
+    fn go_on<S: Station>(
+        &mut self,
+        alloc: Global,
+        fs: &mut Fs<S>,
+    ) -> Result<(), TransferError<'a>> {
+        let (what, snapshot) = (self.what, self.snapshot);
+        let tree = Tree {
+            snapshot,
+            told: self.told.as_str(),
+        };
+        let source = find_source(alloc, fs, what.path, snapshot);
+        let source = found(alloc, fs, tree, what.name, what.path, source)?;
+        let there = stat(alloc, fs, tree, what.path);
+        let mode = at(what.name, 0, there)?.mode;
+        bring(self.rt, fs, source, mode, what, self.out, self.progress)
+    }
+}
+
+/// Brings what a source holds to where it is to go. A new file has this mode.
 fn bring<'a, R: Files<File = File> + AllocGlobal, S: Station, O: Write, E: Write>(
     rt: &R,
     fs: &mut Fs<S>,
     source: Source<'a>,
+    mode: Mode,
     what: Transfer<'a>,
     out: &mut O,
     progress: &mut Progress<E>,
@@ -71,17 +149,75 @@ fn bring<'a, R: Files<File = File> + AllocGlobal, S: Station, O: Write, E: Write
     if what.is_of_image(rt) {
         return Err(TransferError::IsImage { file: what.file });
     }
-    let place = find_place(rt, what.file)?;
+    let place = find_file(rt, what)?;
     match place.found {
-        Found::Folder => Err(TransferError::File(FileError::NotAFile { path: what.file })),
         Found::Stream => {
             let mut stream = on(
                 what.file,
-                OpenOptions::new().append(true).open(rt, what.file),
+                OpenOptions::new()
+                    .append(true)
+                    .open(rt, place.path.as_str()),
             )?;
             show(rt.alloc(), fs, source, what, &mut stream, progress)
         }
-        Found::Nothing | Found::File(_) => store(rt, fs, source, what, &place, progress),
+        _ => store(rt, fs, source, mode, what, &place, progress),
+    }
+}
+
+/// The place of the host's file, which is no folder: in a folder the place of the image's file's own name.
+fn find_file<'a, R: Files + AllocGlobal>(
+    rt: &R,
+    what: Transfer<'a>,
+) -> Result<Place<'a>, TransferError<'a>> {
+    let place = find_place(rt, what.file)?;
+    match place.found {
+        Found::Folder => find_in_folder(rt, what),
+        _ => Ok(place),
+    }
+}
+
+fn find_in_folder<'a, R: Files + AllocGlobal>(
+    rt: &R,
+    what: Transfer<'a>,
+) -> Result<Place<'a>, TransferError<'a>> {
+    let inside = place_in(rt, what.file, split_last(what.path).1)?;
+    if is_of_image(rt, what.image, inside.as_str()) {
+        return Err(TransferError::IsImage { file: what.file });
+    }
+    match find_place(rt, inside.as_str()) {
+        Ok(place) => place_of(rt.alloc(), what.file, place),
+        Err(error) => Err(TransferError::File(renamed(what.file, error))),
+    }
+}
+
+/// A place that the folder of this name has, which is no folder.
+fn place_of<'a>(
+    alloc: Global,
+    folder: &'a str,
+    place: Place<'_>,
+) -> Result<Place<'a>, TransferError<'a>> {
+    let Place { name, path, found } = place;
+    match found {
+        Found::Folder => Err(TransferError::NotAFile {
+            place: String::from_str(alloc, name)?,
+        }),
+        found => Ok(Place {
+            name: folder,
+            path,
+            found,
+        }),
+    }
+}
+
+/// Names a folder in place of what it has.
+fn renamed<'a>(folder: &'a str, error: FileError<'_>) -> FileError<'a> {
+    match error {
+        FileError::Io { error, .. } => FileError::Io {
+            path: folder,
+            error,
+        },
+        FileError::NoMemory => FileError::NoMemory,
+        _ => FileError::NotAFile { path: folder },
     }
 }
 
@@ -104,11 +240,13 @@ fn store<'a, R: Files<File = File> + AllocGlobal, S: Station, E: Write>(
     rt: &R,
     fs: &mut Fs<S>,
     source: Source<'a>,
+    mode: Mode,
     what: Transfer<'a>,
     place: &Place<'a>,
     progress: &mut Progress<E>,
 ) -> Result<(), TransferError<'a>> {
-    let mut new = make_beside(rt, place, what.image.disk, what.image.nvram)?;
+    let mode = Some(u32::from(mode.bits()));
+    let mut new = make_beside(rt, place, mode, what.image.disk, what.image.nvram)?;
     let stored = match fill(rt.alloc(), fs, source, what, &mut new, progress) {
         Ok(()) => place
             .replace(rt, new.path.as_str())
@@ -147,7 +285,7 @@ fn read_to<'a, S: Station, W: Write, E: Write>(
 ) -> Result<(), TransferError<'a>> {
     let mut offset = 0_u64;
     for _ in 0..u64::MAX {
-        let part = at(what.path, offset, read_part(alloc, fs, source, offset))?;
+        let part = at(what.name, offset, read_source(alloc, fs, source, offset))?;
         let bytes = part.as_bytes();
         if bytes.is_empty() {
             break;

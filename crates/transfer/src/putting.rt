@@ -1,253 +1,213 @@
 //! Storing a file of the host's in an image.
 
-use crate::error::{TransferError, at};
+use crate::error::TransferError;
 use crate::input::{HostFile, Input, Stream};
+use crate::looking::RUNNING;
+use crate::missing::found;
 use crate::progress::Progress;
-use crate::runs::{count_blocks, next_run};
-use crate::steps::{
-    NAMING_COST, SIZING_COST, Shortage, close, find_shortage, make_file, mount_station, remove,
-    rename, set_size, write_at, writing_cost,
-};
-use crate::target::{Target, find_target};
-use crate::what::Transfer;
-use host_files::{FileError, Opened, on, open_image, store_image};
-use layout::INLINE_BYTES;
-use model::{Errno, GREATEST_FILE};
+use crate::steps::NEW_FILE;
+use crate::storing::{Goal, check_blocks, check_known_size, store, take_left_away};
+use crate::target::{Target, find_target, is_unfinished};
+use crate::what::{Ended, Transfer};
+use crate::working::{Over, end_in_memory, end_on_files, give_back, mount_station};
+use host_files::{FileError, Opened, on, open_image};
+use model::{MODE_BITS, Mode};
 use mount::Fs;
-use station::{BLOCK_BYTES, Station};
+use station::Station;
 use std::alloc::Global;
 use std::fs;
-use std::fs::File;
+use std::fs::{File, Metadata};
 use std::io::{Read, Write};
-use std::rt::Files;
+use std::os::unix::fs::{FileTypeExt, MetadataExt};
+use std::path::Path;
+use std::rt::{Clock, Files};
 
 /// Stores what a file of the host's holds in a file of an image, on the files of the image themselves, whole or not at all: the
-/// bytes are collected in a new file beside the one of that path, and when all are there that one gets its name. So wherever
-/// the power is cut, the old bytes are there or the new ones; what a cut left beside is taken away by the next file that is
-/// stored there. A symbolic link at the path's end is followed and stays, the mode of an old file too. Further names of an old
-/// file keep its old bytes. There has to be room for the new bytes beside the old ones.
+/// bytes are collected in a new file of a name that is put's own, and when all are there that one gets its name. So wherever
+/// the power is cut, the old bytes are there or the new ones; what a cut left is taken away by the next transfer into the
+/// image. A symbolic link at the path's end is followed and stays, and a directory means the host's file's own name in it. An
+/// old file's mode stays, and a new one has the host's file's. Further names of an old file keep its old bytes. There has to be
+/// room for the new bytes beside the old ones.
+///
+/// The host's file `-` is standard input, which `reader` reads, and which may be a pipe. No byte is read before the image is
+/// locked and mounted. A pipe that gives none, as where the program before it failed, empties no file.
 ///
 /// Blocks of zeros aren't stored: they are holes of the file, as they may be of the host's. Of a host's file whose size is known,
 /// what is too large or has no room for its other blocks is refused before a byte is stored.
-pub fn put_file<'a, R: Files<File = File> + AllocGlobal, I: Read, E: Write>(
+pub fn put_file<'a, R: Files<File = File> + AllocGlobal + Clock, I: Read, E: Write>(
     rt: &R,
     what: Transfer<'a>,
-    input: &mut I,
+    reader: &mut I,
+    is_pipe: bool,
     progress: &mut Progress<E>,
-) -> Result<(), TransferError<'a>> {
+) -> Ended<'a> {
     if what.file == "-" {
-        return put_from(rt, what, &mut Stream::new(input), progress);
+        return put_stream(rt, what, reader, is_pipe, progress);
     }
-    let mut file = on(what.file, fs::open(rt, what.file))?;
-    let metadata = on(what.file, file.metadata())?;
-    if metadata.is_dir() {
-        return Err(TransferError::File(FileError::NotAFile { path: what.file }));
+    match open_file(rt, what.file) {
+        Ok((file, metadata)) => put_host_file(rt, what, file, &metadata, progress),
+        Err(error) => Ended::before(TransferError::File(error)),
     }
-    if !metadata.is_file() {
-        return put_from(rt, what, &mut Stream::new(&mut file), progress);
-    }
-    let mut file = HostFile::new(file, metadata.len());
-    put_from(rt, what, &mut file, progress)
 }
 
-/// Stores what an input gives.
-fn put_from<'a, R: Files<File = File> + AllocGlobal, N: Input, E: Write>(
+/// Opens a file of the host's, which is no folder. Nothing is read of it.
+fn open_file<'a, R: Files<File = File>>(
+    rt: &R,
+    path: &'a str,
+) -> Result<(File, Metadata), FileError<'a>> {
+    let file = on(path, fs::open(rt, path))?;
+    let metadata = on(path, file.metadata())?;
+    if metadata.is_dir() {
+        return Err(FileError::NotAFile { path });
+    }
+    Ok((file, metadata))
+}
+
+/// Stores an open file of the host's.
+fn put_host_file<'a, R: Files<File = File> + AllocGlobal + Clock, E: Write>(
     rt: &R,
     what: Transfer<'a>,
-    input: &mut N,
+    mut file: File,
+    metadata: &Metadata,
     progress: &mut Progress<E>,
-) -> Result<(), TransferError<'a>> {
-    let opened = open_image(rt, what.image)?;
+) -> Ended<'a> {
+    if metadata.is_file() {
+        let mut input: Input<'_, '_, File> = Input::File(HostFile {
+            name: what.file,
+            file,
+            size: metadata.len(),
+        });
+        return put_from(rt, what, Some(metadata.mode()), &mut input, progress);
+    }
+    let is_pipe = metadata.file_type().is_fifo();
+    put_stream(rt, what, &mut file, is_pipe, progress)
+}
+
+/// Stores what a pipe, a device or the like gives.
+fn put_stream<'a, R: Files<File = File> + AllocGlobal + Clock, I: Read, E: Write>(
+    rt: &R,
+    what: Transfer<'a>,
+    reader: &mut I,
+    is_pipe: bool,
+    progress: &mut Progress<E>,
+) -> Ended<'a> {
+    let mut input = Input::Stream(Stream {
+        name: what.file,
+        reader,
+        is_pipe,
+    });
+    put_from(rt, what, None, &mut input, progress)
+}
+
+/// Stores what an input gives. A file of the host's has this mode.
+fn put_from<'a, R: Files<File = File> + AllocGlobal + Clock, I: Read, E: Write>(
+    rt: &R,
+    what: Transfer<'a>,
+    mode: Option<u32>,
+    input: &mut Input<'a, '_, I>,
+    progress: &mut Progress<E>,
+) -> Ended<'a> {
+    let opened = match open_image(rt, what.image, what.patience) {
+        Ok(opened) => opened,
+        Err(error) => return Ended::before(TransferError::File(error)),
+    };
     if what.file != "-" && what.is_of_image(rt) {
         // What is written would be read again.
-        return Err(TransferError::IsImage { file: what.file });
+        return Ended::before(TransferError::IsImage { file: what.file });
     }
+    let mode = new_mode(mode);
     match opened {
         Opened::Files(station) => {
-            put_on(rt.alloc(), station, what, input, progress)?;
+            end_on_files(put_on(rt.alloc(), station, what, mode, input, progress))
         }
         Opened::Memory(sim, held) => {
-            let sim = put_on(rt.alloc(), sim, what, input, progress)?;
-            store_image(rt, what.image, &sim, &held)?;
+            let over = put_on(rt.alloc(), sim, what, mode, input, progress);
+            end_in_memory(rt, what.image, over, &held)
         }
     }
-    Ok(())
 }
 
-/// Stores what an input gives on a station, and gives that back.
-fn put_on<'a, S: Station + Drop, N: Input, E: Write>(
+/// Stores what an input gives on a station. A new file has this mode.
+fn put_on<'a, S: Station, I: Read, E: Write>(
     alloc: Global,
     station: S,
     what: Transfer<'a>,
-    input: &mut N,
+    mode: Mode,
+    input: &mut Input<'a, '_, I>,
     progress: &mut Progress<E>,
-) -> Result<S, TransferError<'a>> {
-    check_known_size(what.path, input.size())?;
-    let mut fs = mount_station(alloc, station)?;
-    let target = at(what.path, 0, find_target(alloc, &mut fs, what.path))?;
-    let left = remove(alloc, &mut fs, target.unfinished.as_slice());
-    at(what.path, 0, left)?;
-    check_blocks(alloc, &mut fs, what, input)?;
-    let stored = store(alloc, &mut fs, &target, what, input, progress);
-    if stored.is_err() {
-        // Where it can't be taken away, the next file that is stored here does it.
-        let _ = remove(alloc, &mut fs, target.unfinished.as_slice());
-    }
-    stored?;
-    Ok(fs.into_station())
+) -> Over<'a, S> {
+    let mut fs = match mount_station(alloc, station) {
+        Ok(fs) => fs,
+        Err(over) => return over,
+    };
+    let done = put_in(alloc, &mut fs, what, mode, input, progress);
+    give_back(fs, done)
 }
 
-/// Refuses a file that is larger than one may be, at its first byte that is too many.
-fn check_size<'a>(path: &'a str, size: u64) -> Result<(), TransferError<'a>> {
-    if size > GREATEST_FILE {
-        return at(path, GREATEST_FILE, Err(Errno::EFBIG));
+/// Stores what an input gives in a mounted image.
+fn put_in<'a, S: Station, I: Read, E: Write>(
+    alloc: Global,
+    fs: &mut Fs<S>,
+    what: Transfer<'a>,
+    mode: Mode,
+    input: &mut Input<'a, '_, I>,
+    progress: &mut Progress<E>,
+) -> Result<(), TransferError<'a>> {
+    let Transfer { path, name, .. } = what;
+    check_known_size(name, input.size())?;
+    take_left_away(alloc, fs)?;
+    let target = find_target(alloc, fs, path, own_name(what.file));
+    let target = found(alloc, fs, RUNNING, name, path, target)?;
+    check_name(alloc, fs, what, &target)?;
+    check_blocks(alloc, fs, name, input)?;
+    let mode = mode_of(&target, mode);
+    let goal = Goal {
+        name,
+        path,
+        target,
+        mode,
+    };
+    store(alloc, fs, &goal, input, progress)
+}
+
+/// The mode of a new file in the image: that of the host's file, or 0644.
+fn new_mode(mode: Option<u32>) -> Mode {
+    let bits = match mode {
+        Some(mode) => u16::try_from(mode & u32::from(MODE_BITS)).unwrap_or(NEW_FILE),
+        None => NEW_FILE,
+    };
+    Mode::new(bits).unwrap_or(Mode::new(NEW_FILE).unwrap())
+}
+
+/// The mode of what is stored: that of the file that is there, else this one.
+fn mode_of(target: &Target, new: Mode) -> Mode {
+    match target.there {
+        Some(there) => there.mode,
+        None => new,
+    }
+}
+
+/// The name that a file of the host's has in a directory of the image.
+fn own_name(file: &str) -> Option<&[u8]> {
+    if file == "-" {
+        return None;
+    }
+    match Path::new(file).file_name() {
+        Some(name) => Some(name.as_bytes()),
+        None => None,
+    }
+}
+
+/// Refuses a target whose directory isn't there, or whose name is put's own.
+pub fn check_name<'a, S: Station>(
+    alloc: Global,
+    fs: &mut Fs<S>,
+    what: Transfer<'a>,
+    target: &Target,
+) -> Result<(), TransferError<'a>> {
+    let is_own = is_unfinished(alloc, fs, target.path.as_slice());
+    if found(alloc, fs, RUNNING, what.name, what.path, is_own)? {
+        return Err(TransferError::IsUnfinished { path: what.name });
     }
     Ok(())
-}
-
-/// The same where the size is known.
-fn check_known_size<'a>(path: &'a str, size: Option<u64>) -> Result<(), TransferError<'a>> {
-    match size {
-        Some(size) => check_size(path, size),
-        None => Ok(()),
-    }
-}
-
-/// The blocks that a file's bytes take: none where they stand in its inode.
-fn blocks_of(size: u64) -> u64 {
-    if size <= INLINE_BYTES as u64 {
-        0
-    } else {
-        size.div_ceil(BLOCK_BYTES as u64)
-    }
-}
-
-/// Refuses an input of known size whose blocks have no room. Its name comes behind them; what tells where they are, and the
-/// writes, may need more. Which of them are zeros alone is looked at only where there is no room for all.
-fn check_blocks<'a, S: Station, N: Input>(
-    alloc: Global,
-    fs: &mut Fs<S>,
-    what: Transfer<'a>,
-    input: &mut N,
-) -> Result<(), TransferError<'a>> {
-    let Some(size) = input.size() else {
-        return Ok(());
-    };
-    let all = blocks_of(size);
-    let shortage = find_shortage(fs, all.saturating_add(NAMING_COST));
-    if at(what.path, 0, shortage)?.is_none() {
-        return Ok(());
-    }
-    let stored = on(what.file, count_blocks(alloc, input))?.min(all);
-    check_room(fs, what.path, 0, stored.saturating_add(NAMING_COST))
-}
-
-/// Refuses what has no room from this byte on, where a call needs so many blocks beside what is pledged.
-fn check_room<'a, S: Station>(
-    fs: &mut Fs<S>,
-    path: &'a str,
-    offset: u64,
-    call: u64,
-) -> Result<(), TransferError<'a>> {
-    match at(path, offset, find_shortage(fs, call))? {
-        Some(Shortage { free, needed }) => Err(TransferError::NoRoom {
-            path,
-            offset,
-            free,
-            needed,
-        }),
-        None => Ok(()),
-    }
-}
-
-/// Names the place of a call that was refused, and where that is for want of room, how much this call needs.
-fn with_room<'a, S: Station, T>(
-    fs: &mut Fs<S>,
-    path: &'a str,
-    offset: u64,
-    call: u64,
-    answer: Result<T, Errno>,
-) -> Result<T, TransferError<'a>> {
-    if let Err(Errno::ENOSPC) = answer {
-        check_room(fs, path, offset, call)?;
-    }
-    at(path, offset, answer)
-}
-
-/// Collects what an input gives in a new file, and gives that its name.
-fn store<'a, S: Station, N: Input, E: Write>(
-    alloc: Global,
-    fs: &mut Fs<S>,
-    target: &Target,
-    what: Transfer<'a>,
-    input: &mut N,
-    progress: &mut Progress<E>,
-) -> Result<(), TransferError<'a>> {
-    let unfinished = target.unfinished.as_slice();
-    let made = make_file(alloc, fs, unfinished, target.mode);
-    let fd = with_room(fs, what.path, 0, NAMING_COST, made)?;
-    let written = write_all(alloc, fs, fd, what, input, progress);
-    let closed = close(fs, fd);
-    let bytes = written?;
-    at(what.path, bytes, closed)?;
-    let named = rename(alloc, fs, unfinished, target.path.as_slice());
-    with_room(fs, what.path, bytes, NAMING_COST, named)
-}
-
-/// Writes what an input gives, in parts as large as one call writes, and tells how many bytes these are.
-fn write_all<'a, S: Station, N: Input, E: Write>(
-    alloc: Global,
-    fs: &mut Fs<S>,
-    fd: u32,
-    what: Transfer<'a>,
-    input: &mut N,
-    progress: &mut Progress<E>,
-) -> Result<u64, TransferError<'a>> {
-    let mut size = 0_u64;
-    let mut stored = 0;
-    for _ in 0..u64::MAX {
-        let start = size;
-        let part = on(what.file, input.read_part(alloc))?;
-        size = start.saturating_add(part.len() as u64);
-        check_size(what.path, size)?;
-        if part.is_empty() {
-            break;
-        }
-        if let Some(end) = write_runs(alloc, fs, fd, what.path, start, &part)? {
-            stored = end;
-        }
-        progress.note(size);
-    }
-    if stored < size {
-        // It ends in zeros.
-        let sized = set_size(fs, fd, size);
-        with_room(fs, what.path, size, SIZING_COST, sized)?;
-    }
-    Ok(size)
-}
-
-/// Writes those blocks of a part that aren't zeros alone, run by run. The part begins at this byte of the file. Tells the byte
-/// behind them, where there are any.
-fn write_runs<'a, S: Station>(
-    alloc: Global,
-    fs: &mut Fs<S>,
-    fd: u32,
-    path: &'a str,
-    start: u64,
-    part: &[u8],
-) -> Result<Option<u64>, TransferError<'a>> {
-    let mut stored = None;
-    let mut from = 0;
-    for _ in 0..part.len() {
-        let Some(run) = next_run(part, from) else {
-            break;
-        };
-        let offset = start.saturating_add(run.start as u64);
-        let count = run.bytes.len();
-        let written = write_at(alloc, fs, fd, offset, run.bytes);
-        with_room(fs, path, offset, writing_cost(offset, count), written)?;
-        stored = Some(offset.saturating_add(count as u64));
-        from = run.end();
-    }
-    Ok(stored)
 }

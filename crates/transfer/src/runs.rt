@@ -1,9 +1,11 @@
-//! What of a file of the host's isn't zeros, by blocks.
+//! What of a file isn't zeros, by blocks.
 
+use crate::error::TransferError;
 use crate::input::Input;
-use station::BLOCK_BYTES;
+use mount::Fs;
+use station::{BLOCK_BYTES, Station};
 use std::alloc::Global;
-use std::io;
+use std::io::Read;
 
 /// Blocks of a part that stand in a row, none of them zeros alone.
 #[derive(Clone, Copy, Debug)]
@@ -40,10 +42,14 @@ pub fn next_run(part: &[u8], from: usize) -> Option<Run<'_>> {
 }
 
 /// How many blocks an input of known size has that aren't zeros alone. It begins anew then.
-pub fn count_blocks<N: Input>(alloc: Global, input: &mut N) -> io::Result<u64> {
+pub fn count_blocks<'a, S: Station, I: Read>(
+    alloc: Global,
+    fs: &mut Fs<S>,
+    input: &mut Input<'a, '_, I>,
+) -> Result<u64, TransferError<'a>> {
     let mut count = 0_u64;
     for _ in 0..u64::MAX {
-        let part = input.read_part(alloc)?;
+        let part = input.read_part(alloc, fs)?;
         if part.is_empty() {
             break;
         }

@@ -1,11 +1,9 @@
 //! The calls of a transfer, one by one.
 
-use crate::error::TransferError;
-use model::{
-    Access, Command, Errno, Flags, Mode, PathCall, Reply, SINGLE_FILE, Stat, TRANSFER_BYTES, Text,
-};
-use mount::{Fs, mount};
-use station::{BLOCK_BYTES, Station};
+use crate::looking::look_at;
+use model::{Access, Command, Errno, FileType, Flags, Mode, PathCall, Reply, TRANSFER_BYTES, Text};
+use mount::Fs;
+use station::Station;
 use std::alloc::Global;
 
 /// The mode of a file that is made in an empty place, as in a script: 0644.
@@ -29,36 +27,8 @@ const NEW_BYTES: Flags = Flags {
     appends: false,
 };
 
-/// Blocks that stay free behind a record, so that files can still be taken away.
-const KEPT: u64 = 16;
-
-/// Blocks that have to be free to make a file, and to give it its name: what the record may cost, and what stays free behind it.
-pub const NAMING_COST: u64 = 24 + KEPT;
-
-/// The same of a greater size that a file gets.
-pub const SIZING_COST: u64 = 6 + KEPT;
-
-/// The same of a write of so many bytes at a block's first one, which ends behind all others of its file.
-pub fn writing_cost(offset: u64, bytes: usize) -> u64 {
-    let touched = bytes.div_ceil(BLOCK_BYTES) as u64;
-    let is_single = offset.saturating_add(bytes as u64) <= SINGLE_FILE;
-    let beside = if is_single { 6 } else { 8 };
-    touched.saturating_mul(2).saturating_add(beside + KEPT)
-}
-
-/// Mounts a station, which is let go where that fails.
-pub fn mount_station<'a, S: Station + Drop>(
-    alloc: Global,
-    station: S,
-) -> Result<Fs<S>, TransferError<'a>> {
-    match mount(alloc, station) {
-        Ok(fs) => Ok(fs),
-        Err((error, _station)) => Err(TransferError::Mount(error)),
-    }
-}
-
 /// The reply to a command.
-fn answer<S: Station>(fs: &mut Fs<S>, command: Command) -> Reply {
+pub fn answer<S: Station>(fs: &mut Fs<S>, command: Command) -> Reply {
     fs.apply(&command)
 }
 
@@ -68,56 +38,73 @@ pub enum Source<'a> {
     /// An open file of the running tree, by its descriptor.
     Open(u32),
     /// The file of a path in a snapshot.
-    Kept { snapshot: &'a str, path: &'a str },
+    Kept { snapshot: &'a [u8], path: &'a [u8] },
 }
 
 /// Finds the file of a path: in the running tree, or in a snapshot.
 pub fn find_source<'a, S: Station>(
     alloc: Global,
     fs: &mut Fs<S>,
-    path: &'a str,
-    snapshot: Option<&'a str>,
+    path: &'a [u8],
+    snapshot: Option<&'a [u8]>,
 ) -> Result<Source<'a>, Errno> {
     let Some(snapshot) = snapshot else {
         let mode = Mode::new(NEW_FILE).unwrap();
-        let fd = open_path(alloc, fs, path.as_bytes(), ITS_BYTES, mode)?;
-        return Ok(Source::Open(fd));
+        return Ok(Source::Open(open_path(alloc, fs, path, ITS_BYTES, mode)?));
     };
     // Nothing is read yet, but this call is refused where a later one would be.
-    read_kept(alloc, fs, snapshot, path, 0, 0)?;
+    read_in(alloc, fs, snapshot, path, 0, 0)?;
     Ok(Source::Kept { snapshot, path })
 }
 
 /// The bytes from this one on: as many as one call reads, fewer at the file's end.
-pub fn read_part<S: Station>(
+pub fn read_source<S: Station>(
     alloc: Global,
     fs: &mut Fs<S>,
     source: Source<'_>,
     offset: u64,
 ) -> Result<Text, Errno> {
+    match source {
+        Source::Open(fd) => read_open(fs, fd, offset),
+        Source::Kept { snapshot, path } => read_kept(alloc, fs, snapshot, path, offset),
+    }
+}
+
+/// Bytes of an open file.
+fn read_open<S: Station>(fs: &mut Fs<S>, fd: u32, offset: u64) -> Result<Text, Errno> {
     let Ok(offset) = i64::try_from(offset) else {
         return Err(Errno::EINVAL);
     };
     let count = TRANSFER_BYTES as u32;
-    match source {
-        Source::Open(fd) => data_of(answer(fs, Command::Pread { fd, offset, count })),
-        Source::Kept { snapshot, path } => read_kept(alloc, fs, snapshot, path, offset, count),
-    }
+    data_of(answer(fs, Command::Pread { fd, offset, count }))
 }
 
-/// Bytes of a file in a snapshot.
-fn read_kept<S: Station>(
+/// Bytes of a file in a snapshot: as many as one call reads.
+pub fn read_kept<S: Station>(
     alloc: Global,
     fs: &mut Fs<S>,
-    snapshot: &str,
-    path: &str,
+    snapshot: &[u8],
+    path: &[u8],
+    offset: u64,
+) -> Result<Text, Errno> {
+    let Ok(offset) = i64::try_from(offset) else {
+        return Err(Errno::EINVAL);
+    };
+    read_in(alloc, fs, snapshot, path, offset, TRANSFER_BYTES as u32)
+}
+
+fn read_in<S: Station>(
+    alloc: Global,
+    fs: &mut Fs<S>,
+    snapshot: &[u8],
+    path: &[u8],
     offset: i64,
     count: u32,
 ) -> Result<Text, Errno> {
     let read = Command::Within {
-        name: text_of(alloc, snapshot.as_bytes())?,
+        name: text_of(alloc, snapshot)?,
         call: PathCall::Get {
-            path: text_of(alloc, path.as_bytes())?,
+            path: text_of(alloc, path)?,
             offset,
             count,
         },
@@ -166,27 +153,18 @@ pub fn close<S: Station>(fs: &mut Fs<S>, fd: u32) -> Result<(), Errno> {
     done(answer(fs, Command::Close { fd }))
 }
 
-/// What has a name, a symbolic link too; None where nothing has it.
-pub fn look_at<S: Station>(
+/// Makes a symbolic link where nothing is.
+pub fn make_link<S: Station>(
     alloc: Global,
     fs: &mut Fs<S>,
+    text: &[u8],
     path: &[u8],
-) -> Result<Option<Stat>, Errno> {
-    let path = text_of(alloc, path)?;
-    match answer(fs, Command::Path(PathCall::Lstat { path })) {
-        Reply::Stat(stat) => Ok(Some(stat)),
-        Reply::Refused(Errno::ENOENT) => Ok(None),
-        reply => Err(refusal(&reply)),
-    }
-}
-
-/// The text of a symbolic link.
-pub fn link_text<S: Station>(alloc: Global, fs: &mut Fs<S>, path: &[u8]) -> Result<Text, Errno> {
-    let path = text_of(alloc, path)?;
-    match answer(fs, Command::Path(PathCall::Readlink { path })) {
-        Reply::Text(text) => Ok(text),
-        reply => Err(refusal(&reply)),
-    }
+) -> Result<(), Errno> {
+    let make = PathCall::Symlink {
+        text: text_of(alloc, text)?,
+        path: text_of(alloc, path)?,
+    };
+    done(answer(fs, Command::Path(make)))
 }
 
 /// Gives a file the name of another one, which is gone then.
@@ -203,15 +181,23 @@ pub fn rename<S: Station>(
     done(answer(fs, Command::Path(rename)))
 }
 
-/// Takes a name of a file away, where it is there. For want of room its blocks are given back first.
+/// Takes a name of a file or of a link away, where it is there. For want of room a file's blocks are given back first.
 pub fn remove<S: Station>(alloc: Global, fs: &mut Fs<S>, path: &[u8]) -> Result<(), Errno> {
     match unlink(alloc, fs, path) {
         Err(Errno::ENOENT) => Ok(()),
         Err(Errno::ENOSPC) => {
-            truncate(alloc, fs, path)?;
+            give_back(alloc, fs, path)?;
             unlink(alloc, fs, path)
         }
         answer => answer,
+    }
+}
+
+/// Gives the blocks of a file back. A link isn't followed.
+fn give_back<S: Station>(alloc: Global, fs: &mut Fs<S>, path: &[u8]) -> Result<(), Errno> {
+    match look_at(alloc, fs, path)? {
+        Some(there) if there.kind == FileType::File => truncate(alloc, fs, path),
+        _ => Ok(()),
     }
 }
 
@@ -227,42 +213,8 @@ fn truncate<S: Station>(alloc: Global, fs: &mut Fs<S>, path: &[u8]) -> Result<()
 }
 
 /// Makes a consistency point, behind which the blocks are free that were given up before.
-fn settle<S: Station>(fs: &mut Fs<S>) -> Result<(), Errno> {
+pub fn settle<S: Station>(fs: &mut Fs<S>) -> Result<(), Errno> {
     done(answer(fs, Command::Sync))
-}
-
-/// What the room of a disk is short of.
-#[derive(Drop)]
-pub struct Shortage {
-    /// Blocks that are free.
-    pub free: u64,
-    /// Blocks that are needed at the least.
-    pub needed: u64,
-}
-
-/// Tells where so many blocks aren't free for a call beside what is pledged, not even behind a consistency point.
-pub fn find_shortage<S: Station>(fs: &mut Fs<S>, call: u64) -> Result<Option<Shortage>, Errno> {
-    if lack_of(fs, call)?.is_none() {
-        return Ok(None);
-    }
-    settle(fs)?;
-    lack_of(fs, call)
-}
-
-fn lack_of<S: Station>(fs: &mut Fs<S>, call: u64) -> Result<Option<Shortage>, Errno> {
-    match answer(fs, Command::Df) {
-        Reply::Space {
-            blocks: all,
-            free,
-            pledged,
-        } => {
-            let fixed = u64::from(all.div_ceil(1024)) + 4;
-            let needed = call.saturating_add(pledged).saturating_add(fixed);
-            let free = u64::from(free);
-            Ok((free < needed).then_some(Shortage { free, needed }))
-        }
-        reply => Err(refusal(&reply)),
-    }
 }
 
 fn done(reply: Reply) -> Result<(), Errno> {
@@ -299,7 +251,7 @@ pub fn set_size<S: Station>(fs: &mut Fs<S>, fd: u32, size: u64) -> Result<(), Er
 }
 
 /// A word of a command.
-fn text_of(alloc: Global, word: &[u8]) -> Result<Text, Errno> {
+pub fn text_of(alloc: Global, word: &[u8]) -> Result<Text, Errno> {
     match Vec::from_slice(alloc, word) {
         Ok(bytes) => Ok(Text::new(bytes)),
         Err(_) => Err(Errno::ENOMEM),
@@ -307,7 +259,7 @@ fn text_of(alloc: Global, word: &[u8]) -> Result<Text, Errno> {
 }
 
 /// Why a call has another reply than the one it is made for: it was refused, or what stands on the disk isn't in its format.
-fn refusal(reply: &Reply) -> Errno {
+pub fn refusal(reply: &Reply) -> Errno {
     match reply {
         Reply::Refused(errno) => *errno,
         _ => Errno::DAMAGED,

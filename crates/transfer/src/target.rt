@@ -1,41 +1,110 @@
-//! Where in an image a file is to be stored.
+//! Where in an image something is to be stored.
 
-use crate::steps::{NEW_FILE, link_text, look_at};
-use md5::{Digest, Md5};
-use model::{Errno, FileType, LINKS_FOLLOWED, Mode, PATH_BYTES};
+use crate::looking::{RUNNING, link_text, look_at, stat};
+use model::{Errno, FileType, LINKS_FOLLOWED, ROOT_NUMBER, Stat};
 use mount::Fs;
 use station::Station;
 use std::alloc::{AllocError, Global};
 
-/// Where a file is to be stored.
+/// The path of what isn't whole yet, in the root directory: put's own, so that a later transfer finds what a power cut left.
+pub const UNFINISHED: &str = "/.wafl-put";
+
+/// Where something is to be stored.
 #[derive(Drop)]
 pub struct Target {
-    /// Its path, which no symbolic link has.
     pub path: Vec<u8>,
-    /// Its name while it isn't whole: `.put-` and a number that only its last name decides, mostly in the same directory. So a
-    /// later one for this target finds what a power cut left of it, and no name of a user's is hit by chance.
-    pub unfinished: Vec<u8>,
-    /// The mode of the file that is there, else 0644.
-    pub mode: Mode,
+    /// What is there.
+    pub there: Option<Stat>,
 }
 
-/// Follows the symbolic links that a path ends in, to a file or to where nothing is. EISDIR where a directory is there.
-pub fn find_target<S: Station>(alloc: Global, fs: &mut Fs<S>, path: &str) -> Result<Target, Errno> {
-    let mut path = in_memory(Vec::from_slice(alloc, path.as_bytes()))?;
-    for _ in 0..=LINKS_FOLLOWED {
-        let Some(there) = look_at(alloc, fs, path.as_slice())? else {
-            return in_memory(target_at(alloc, path, Mode::new(NEW_FILE).unwrap()));
-        };
-        match there.kind {
-            FileType::File => return in_memory(target_at(alloc, path, there.mode)),
-            FileType::Dir => return Err(Errno::EISDIR),
-            FileType::Link => {
-                let text = link_text(alloc, fs, path.as_slice())?;
-                path = in_memory(from_link(alloc, path.as_slice(), text.as_bytes()))?;
-            }
-        }
+/// Follows the symbolic links that a path ends in, to a file or to where nothing is. A directory that is there means this name in
+/// it, and is EISDIR where no name is given.
+pub fn find_target<S: Station>(
+    alloc: Global,
+    fs: &mut Fs<S>,
+    path: &[u8],
+    own_name: Option<&[u8]>,
+) -> Result<Target, Errno> {
+    let path = in_memory(Vec::from_slice(alloc, path))?;
+    let target = follow(alloc, fs, path)?;
+    let (true, Some(name)) = (is_directory(&target), own_name) else {
+        return not_directory(target);
+    };
+    let path = in_memory(join(alloc, target.path, name))?;
+    not_directory(follow(alloc, fs, path)?)
+}
+
+/// The same without following a link that the path ends in.
+pub fn find_place<S: Station>(
+    alloc: Global,
+    fs: &mut Fs<S>,
+    path: &[u8],
+    own_name: &[u8],
+) -> Result<Target, Errno> {
+    let path = in_memory(Vec::from_slice(alloc, path))?;
+    let target = at_path(alloc, fs, path)?;
+    if !is_directory(&target) {
+        return Ok(target);
     }
-    Err(Errno::ELOOP)
+    let path = in_memory(join(alloc, target.path, own_name))?;
+    not_directory(at_path(alloc, fs, path)?)
+}
+
+fn is_directory(target: &Target) -> bool {
+    match target.there {
+        Some(there) => there.kind == FileType::Dir,
+        None => false,
+    }
+}
+
+fn not_directory(target: Target) -> Result<Target, Errno> {
+    if is_directory(&target) {
+        return Err(Errno::EISDIR);
+    }
+    Ok(target)
+}
+
+fn at_path<S: Station>(alloc: Global, fs: &mut Fs<S>, path: Vec<u8>) -> Result<Target, Errno> {
+    let there = look_at(alloc, fs, path.as_slice())?;
+    Ok(Target { path, there })
+}
+
+/// Follows the symbolic links that a path ends in.
+fn follow<S: Station>(alloc: Global, fs: &mut Fs<S>, path: Vec<u8>) -> Result<Target, Errno> {
+    let mut target = at_path(alloc, fs, path)?;
+    for _ in 0..LINKS_FOLLOWED {
+        if !is_link(&target) {
+            return Ok(target);
+        }
+        let text = link_text(alloc, fs, RUNNING, target.path.as_slice())?;
+        let path = in_memory(from_link(alloc, target.path.as_slice(), text.as_bytes()))?;
+        target = at_path(alloc, fs, path)?;
+    }
+    if is_link(&target) {
+        return Err(Errno::ELOOP);
+    }
+    Ok(target)
+}
+
+fn is_link(target: &Target) -> bool {
+    match target.there {
+        Some(there) => there.kind == FileType::Link,
+        None => false,
+    }
+}
+
+/// Whether a path is the one of what isn't whole yet, however it is spelled. Refused where its directory isn't there.
+pub fn is_unfinished<S: Station>(
+    alloc: Global,
+    fs: &mut Fs<S>,
+    path: &[u8],
+) -> Result<bool, Errno> {
+    let (directory, name) = split_last(path);
+    let directory = stat(alloc, fs, RUNNING, without_slashes(directory))?;
+    if directory.kind != FileType::Dir {
+        return Err(Errno::ENOTDIR);
+    }
+    Ok(directory.number == ROOT_NUMBER && name == split_last(UNFINISHED.as_bytes()).1)
 }
 
 fn in_memory<T>(made: Result<T, AllocError>) -> Result<T, Errno> {
@@ -45,24 +114,13 @@ fn in_memory<T>(made: Result<T, AllocError>) -> Result<T, Errno> {
     }
 }
 
-fn target_at(alloc: Global, path: Vec<u8>, mode: Mode) -> Result<Target, AllocError> {
-    let (directory, name) = split_last(path.as_slice());
-    let unfinished = unfinished_name(alloc, directory, name)?;
-    Ok(Target {
-        path,
-        unfinished,
-        mode,
-    })
-}
-
-/// The path of a file that isn't whole. Where it would be longer than a path may be, it stands in the root directory.
-fn unfinished_name(alloc: Global, directory: &[u8], name: &[u8]) -> Result<Vec<u8>, AllocError> {
-    let [a, b, c, d, e, f, g, h, ..] = Md5::digest(name);
-    let number = u64::from_be_bytes([a, b, c, d, e, f, g, h]);
-    let name = format!(in alloc; ".put-{number}")?;
-    let is_long = directory.len().saturating_add(name.len()) > PATH_BYTES;
-    let mut path = Vec::from_slice(alloc, if is_long { b"/" } else { directory })?;
-    path.extend_from_slice(name.as_bytes())?;
+/// The path of a name in a directory.
+fn join(alloc: Global, directory: Vec<u8>, name: &[u8]) -> Result<Vec<u8>, AllocError> {
+    let mut path = Vec::from_slice(alloc, directory.as_slice())?;
+    if !path.as_slice().ends_with(b"/") {
+        path.push(b'/')?;
+    }
+    path.extend_from_slice(name)?;
     Ok(path)
 }
 
@@ -75,17 +133,23 @@ fn from_link(alloc: Global, link: &[u8], text: &[u8]) -> Result<Vec<u8>, AllocEr
         path.extend_from_slice(directory)?;
     }
     path.extend_from_slice(text)?;
-    for _ in 1..path.len() {
-        if !path.as_slice().ends_with(b"/") {
+    Vec::from_slice(alloc, without_slashes(path.as_slice()))
+}
+
+/// A path without slashes at its end, but for its first byte.
+fn without_slashes(path: &[u8]) -> &[u8] {
+    let mut end = path.len();
+    for byte in path.iter().rev() {
+        if *byte != b'/' || end <= 1 {
             break;
         }
-        path.pop();
+        end = end.saturating_sub(1);
     }
-    Ok(path)
+    path.get(..end).unwrap_or(path)
 }
 
 /// The path of a directory, with the slash at its end, and the name behind it.
-fn split_last(path: &[u8]) -> (&[u8], &[u8]) {
+pub fn split_last(path: &[u8]) -> (&[u8], &[u8]) {
     let mut at = path.len();
     for byte in path.iter().rev() {
         if *byte == b'/' {

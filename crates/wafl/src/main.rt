@@ -4,9 +4,13 @@
 use host_files::open_descriptors;
 use session::Status;
 use std::io::{ErrorKind, IsTerminal};
+use std::os::unix::fs::FileTypeExt;
 use std::process::ExitCode;
-use std::{env, io};
+use std::{env, fs, io};
 use tool::{Terminals, obey};
+
+/// The name of standard input among the host's files.
+const STANDARD_INPUT: &str = "/dev/stdin";
 
 fn main(rt: HostRuntime) -> ExitCode {
     // Before any file is opened, so that none gets the number of a standard stream.
@@ -24,6 +28,7 @@ fn obey_words(rt: &HostRuntime) -> io::Result<u8> {
         input: rt.stdin().is_terminal(),
         out: rt.stdout().is_terminal(),
         err: rt.stderr().is_terminal(),
+        is_pipe: is_pipe(rt, STANDARD_INPUT),
     };
     Ok(obey(
         rt,
@@ -33,6 +38,14 @@ fn obey_words(rt: &HostRuntime) -> io::Result<u8> {
         &mut rt.stdout(),
         &mut rt.stderr(),
     ))
+}
+
+/// Whether a file is one that another program writes while it is read. Where that can't be seen it isn't.
+fn is_pipe(rt: &HostRuntime, path: &str) -> bool {
+    match fs::metadata(rt, path) {
+        Ok(found) => found.file_type().is_fifo(),
+        Err(_) => false,
+    }
 }
 
 /// Says why the words can't be had, and what the program ends with.

@@ -1,5 +1,6 @@
 //! Why an image isn't mounted: what a look at its files shows.
 
+use crate::obeying::find_faults;
 use host_files::Image;
 use layout::{BLOCK_BYTES, Geometry, ROOT_BYTES, Root};
 use mount::MountError;
@@ -33,6 +34,13 @@ pub(crate) fn explain_mount<E: Write>(
         MountError::NoRoot => writeln!(err, "wafl: {disk}: no image of wafl: it holds no root"),
         MountError::Damaged => explain_damage(rt, image, err),
     };
+    if error == MountError::Damaged {
+        find_faults(rt, image, err);
+        let _ = writeln!(
+            err,
+            "wafl: what can be read still can by get, df and do with --salvage"
+        );
+    }
 }
 
 /// Tells why files that hold a root aren't mounted.
@@ -70,7 +78,7 @@ fn is_there(rt: &HostRuntime, path: &str) -> bool {
 }
 
 /// The sizes that a root in one of a file's slots tells.
-fn geometry_in(rt: &HostRuntime, path: &str) -> Option<Geometry> {
+pub(crate) fn geometry_in(rt: &HostRuntime, path: &str) -> Option<Geometry> {
     let mut file = fs::open(rt, path).ok()?;
     for slot in SLOTS {
         if let Some(root) = root_at(&mut file, slot) {

@@ -3,7 +3,7 @@
 use super::{Streams, tell};
 use crate::statuses::{status_of_check, status_of_report};
 use checker::{CheckError, Finding, Report, Watch, check};
-use host_files::{Image, Opened, open_to_read, store_image};
+use host_files::{Image, Opened, Patience, open_to_read, store_image, tell_fault};
 use session::Status;
 use station::Station;
 use std::io::{Read, Write};
@@ -47,8 +47,12 @@ pub(super) fn check_files<I: Read, O: Write, E: Write>(
     image: Image<'_>,
     streams: &mut Streams<I, O, E>,
 ) -> Status {
-    match open_to_read(rt, image) {
-        Ok(Opened::Files(station)) => check_on(rt, station, image, streams).0,
+    match open_to_read(rt, image, streams.patience) {
+        Ok(Opened::Files(station)) => {
+            let (status, station) = check_on(rt, station, image, streams);
+            tell_fault(image, station.into_fault().as_ref(), &mut streams.err);
+            status
+        }
         Ok(Opened::Memory(sim, held)) => {
             let (status, sim) = check_on(rt, sim, image, streams);
             match store_image(rt, image, &sim, &held) {
@@ -75,8 +79,42 @@ fn check_on<S: Station, I: Read, O: Write, E: Write>(
     let checked = check(rt.alloc(), station, &mut teller);
     teller.end();
     match checked {
-        Ok((report, station)) => (show(&report, &mut streams.out), station),
+        Ok((report, station)) => {
+            tell_reserve(&report, &mut streams.err);
+            (show(&report, &mut streams.out), station)
+        }
         Err((error, station)) => (refuse(error, image, &mut streams.err), station),
+    }
+}
+
+/// Tells what a check of an image finds that isn't mounted. It stores nothing, and waits for no lock.
+pub(crate) fn find_faults<E: Write>(rt: &HostRuntime, image: Image<'_>, err: &mut E) {
+    match open_to_read(rt, image, Patience::None) {
+        Ok(Opened::Files(station)) => find_on(rt, station, err),
+        Ok(Opened::Memory(sim, _held)) => find_on(rt, sim, err),
+        Err(_) => {}
+    }
+}
+
+/// Tells what a check of a station finds.
+fn find_on<S: Station + Drop, E: Write>(rt: &HostRuntime, station: S, err: &mut E) {
+    let mut teller = Teller {
+        to: err,
+        has_terminal: false,
+        is_open: false,
+    };
+    let _ = check(rt.alloc(), station, &mut teller);
+}
+
+/// Tells where an image without a fault has too little room for a consistency point, as one may that another program wrote.
+fn tell_reserve<E: Write>(report: &Report, err: &mut E) {
+    if let Report::Good(summary) = report {
+        if !summary.has_reserve {
+            let _ = writeln!(
+                err,
+                "wafl: fewer blocks are free than a consistency point may need"
+            );
+        }
     }
 }
 

@@ -4,7 +4,7 @@ ghost use Rattle.std.specs.Prelude.{◌≡◌, IfOk};
 ghost use Rattle.tool.specs.Words.{IsToFail, KeepsAsTold, mark_told};
 
 use command_line::{Kept, RunFaults};
-use host_files::{FileError, Held, Image, Opened, load_station};
+use host_files::{FileError, Held, Image, Opened, Patience, load_station};
 use memory_station::{Keep, Mark, Sim};
 use std::alloc::{AllocError, Global};
 
@@ -13,8 +13,9 @@ pub(super) fn failing_image<'a>(
     rt: &HostRuntime,
     image: Image<'a>,
     faults: RunFaults<'_>,
+    patience: Patience,
 ) -> Result<Opened, FileError<'a>> {
-    let (sim, held) = failing_station(rt, image, faults)?;
+    let (sim, held) = failing_station(rt, image, faults, patience)?;
     Ok(Opened::Memory(sim, held))
 }
 
@@ -23,10 +24,11 @@ fn failing_station<'a>(
     rt: &HostRuntime,
     image: Image<'a>,
     faults: RunFaults<'_>,
+    patience: Patience,
 ) -> Result<(Sim, Held), FileError<'a>>
     ensures { IfOk result (λ run. IsToFail faults.entry run.0) }
 {
-    let (mut sim, held) = load_station(rt, image)?;
+    let (mut sim, held) = load_station(rt, image, patience)?;
     if let Some(cut) = faults.cut {
         sim.cut_at(cut, keep_of(rt.alloc(), faults.keep)?, faults.bytes);
     }

@@ -1,14 +1,14 @@
-//! Commands on an image: a script's, standard input's line by line, or one of the program's own words.
+//! A script's commands on an image.
 
 use super::faults::failing_image;
 use super::{Streams, tell};
-use crate::explain::{explain_ending, explain_words};
-use command_line::{RunFaults, are_words, line_of_words};
+use crate::explain::explain_ending;
+use command_line::RunFaults;
 use host_files::{
-    FileError, Held, Image, Opened, open_image, open_to_read, read_script, store_image,
+    FileError, Held, Image, Opened, open_image, read_script, store_image, tell_fault,
 };
 use memory_station::Sim;
-use session::{Ending, Status, session, shell};
+use session::{Ending, Status, session};
 use station::Station;
 use std::io::{Read, Write};
 
@@ -30,8 +30,8 @@ pub(super) fn run_script<I: Read, O: Write, E: Write>(
             cut: None,
             fail_sync: None,
             ..
-        } => open_image(rt, image),
-        _ => failing_image(rt, image, faults),
+        } => open_image(rt, image, streams.patience),
+        _ => failing_image(rt, image, faults, streams.patience),
     };
     match run_on(rt, image, opened, script.as_slice(), stops, streams) {
         Ok(ending) => explain(rt, image, script.as_slice(), ending, streams),
@@ -39,86 +39,7 @@ pub(super) fn run_script<I: Read, O: Write, E: Write>(
     }
 }
 
-/// Does one command, which words spell.
-pub(super) fn run_one<I: Read, O: Write, E: Write>(
-    rt: &HostRuntime,
-    image: Image<'_>,
-    words: &[&str],
-    streams: &mut Streams<I, O, E>,
-) -> Status {
-    let Ok(script) = line_of_words(rt.alloc(), words) else {
-        return tell(&FileError::NoMemory, &mut streams.err);
-    };
-    let opened = open_image(rt, image);
-    match run_on(rt, image, opened, script.as_slice(), true, streams) {
-        Ok(ending) if streams.explains && !are_words(words) => {
-            explain_words(&mut streams.err);
-            ending.status()
-        }
-        Ok(ending) => explain(rt, image, script.as_slice(), ending, streams),
-        Err(error) => tell(&error, &mut streams.err),
-    }
-}
-
-/// Tells the room of the image's disk.
-pub(super) fn show_room<I: Read, O: Write, E: Write>(
-    rt: &HostRuntime,
-    image: Image<'_>,
-    streams: &mut Streams<I, O, E>,
-) -> Status {
-    let opened = open_to_read(rt, image);
-    match run_on(rt, image, opened, b"df\n", false, streams) {
-        Ok(ending) => explain(rt, image, b"df\n", ending, streams),
-        Err(error) => tell(&error, &mut streams.err),
-    }
-}
-
-/// Answers each line of standard input at once.
-pub(super) fn run_shell<I: Read, O: Write, E: Write>(
-    rt: &HostRuntime,
-    image: Image<'_>,
-    streams: &mut Streams<I, O, E>,
-) -> Status {
-    match answer_on(rt, image, streams) {
-        Ok(ending) => explain(rt, image, b"", ending, streams),
-        Err(error) => tell(&error, &mut streams.err),
-    }
-}
-
-/// Answers each line of standard input on an image.
-fn answer_on<'a, I: Read, O: Write, E: Write>(
-    rt: &HostRuntime,
-    image: Image<'a>,
-    streams: &mut Streams<I, O, E>,
-) -> Result<Ending, FileError<'a>> {
-    match open_image(rt, image)? {
-        Opened::Files(station) => Ok(answer_lines(rt, station, streams).0),
-        Opened::Memory(sim, held) => {
-            let (ending, sim) = answer_lines(rt, sim, streams);
-            store(rt, image, ending, &sim, &held)
-        }
-    }
-}
-
-/// Answers each line of standard input on a station whose power isn't cut, and gives that back.
-fn answer_lines<S: Station, I: Read, O: Write, E: Write>(
-    rt: &HostRuntime,
-    station: S,
-    streams: &mut Streams<I, O, E>,
-) -> (Ending, S) {
-    let prompts = streams.terminals.input && streams.terminals.out;
-    shell(
-        rt.alloc(),
-        station,
-        prompts,
-        &mut streams.input,
-        |_| false,
-        &mut streams.out,
-        &mut streams.err,
-    )
-}
-
-/// Runs a script's bytes on an image that was opened.
+/// Runs a script's bytes on an image that was opened, and tells which call of the host failed, if one did.
 fn run_on<'a, I, O: Write, E: Write>(
     rt: &HostRuntime,
     image: Image<'a>,
@@ -128,7 +49,11 @@ fn run_on<'a, I, O: Write, E: Write>(
     streams: &mut Streams<I, O, E>,
 ) -> Result<Ending, FileError<'a>> {
     match opened? {
-        Opened::Files(station) => Ok(run_bytes(rt, station, script, stops, streams)),
+        Opened::Files(station) => {
+            let (ending, station) = run_bytes(rt, station, script, stops, streams);
+            tell_fault(image, station.into_fault().as_ref(), &mut streams.err);
+            Ok(ending)
+        }
         Opened::Memory(sim, held) => {
             let (ending, sim) = run_until_cut(rt, sim, script, stops, streams);
             store(rt, image, ending, &sim, &held)
@@ -137,7 +62,7 @@ fn run_on<'a, I, O: Write, E: Write>(
 }
 
 /// Stores what a run in memory left, where it came to one.
-fn store<'a>(
+pub(super) fn store<'a>(
     rt: &HostRuntime,
     image: Image<'a>,
     ending: Ending,
@@ -151,14 +76,14 @@ fn store<'a>(
 }
 
 /// Runs a script's bytes on a station whose power isn't cut, and gives that back.
-fn run_bytes<S: Station + Drop, I, O: Write, E: Write>(
+pub(super) fn run_bytes<S: Station, I, O: Write, E: Write>(
     rt: &HostRuntime,
     station: S,
     script: &[u8],
     stops: bool,
     streams: &mut Streams<I, O, E>,
-) -> Ending {
-    let (ending, _station) = session(
+) -> (Ending, S) {
+    session(
         rt.alloc(),
         station,
         script,
@@ -166,8 +91,7 @@ fn run_bytes<S: Station + Drop, I, O: Write, E: Write>(
         |_| false,
         &mut streams.out,
         &mut streams.err,
-    );
-    ending
+    )
 }
 
 /// Runs a script's bytes on a station in memory until its power is cut, and gives that back.
@@ -190,7 +114,7 @@ fn run_until_cut<I, O: Write, E: Write>(
 }
 
 /// Tells in a second line, where that is wanted, why nothing was run.
-fn explain<I, O, E: Write>(
+pub(super) fn explain<I, O, E: Write>(
     rt: &HostRuntime,
     image: Image<'_>,
     script: &[u8],

@@ -26,8 +26,8 @@ fault_is words (Ok m) fails = tt
 fault_is words (Err e) fails = fails
 
 pub returns : goal.returns
-returns g c =
-    let words = map g.S.AsStr.text c.args.words.now in
+returns c =
+    let words = map (λ w. w.now) c.args.words.now in
     let r = c.try_get_matches_from.result in
     let app = c.in_ok-wafl_command.ensures.0 in
     let has = subst (λ (a : App). IfOk r (HasMatchesOf a words)) app c.try_get_matches_from.ensures.matches in

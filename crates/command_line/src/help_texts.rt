@@ -1,0 +1,147 @@
+//! What the help of each command says behind its options.
+
+/// What the help of `wafl` says behind its commands.
+pub const FIRST_STEPS: &str = "What to type first:
+  wafl make disk nvram --new --blocks 1024 --inodes 128 --half 128k
+  wafl do disk nvram mkdir /notes
+  wafl put disk nvram notes.txt /notes/monday
+  wafl do disk nvram list /notes
+  wafl do disk nvram snap take monday
+  wafl get disk nvram /notes/monday - --in monday
+  wafl restore disk nvram monday /notes/monday
+  wafl shell disk nvram
+
+What was answered is kept: whatever stops the program or the machine, the next run finds it.
+disk and nvram are one image: keep and copy them together, while nothing writes them.
+
+wafl shell --help names all commands, with an example of each, and wafl put --help what put
+does, and so of each. Paths are typed as they are, as in '/a b'; with --encoded they are spelled
+as in a script, as in /a%20b. --wait waits for an image that another program has in use,
+--wait=5 for 5 seconds at most; it stands anywhere before --, and for do before the command.
+
+Where an image can't be mounted, wafl check tells the faults, and --salvage of get, df and do
+reads what can be read.
+
+The script ./wafl answers by a build without proofs until the program is proved, which goes on in the
+background; ./wafl prove waits for that. With WAFL_UNPROVED=1 in the environment it proves nothing.";
+
+/// What the help of `run`, `shell` and `do` says of commands: a line for each.
+pub const COMMAND_NOTES: &str = "Commands, one a line, with an example of each:
+  list PATH               names in a directory: list /
+  stat PATH               what the path leads to, its number, kind, mode, links, size: stat /d/f
+  lstat PATH              the same of a last symbolic link itself: lstat /l
+  readlink PATH           the text of a symbolic link: readlink /l
+  get PATH OFFSET COUNT   bytes of a file: get /f 0 65536
+  mkdir PATH [MODE]       makes a directory, of mode 0755 or this one: mkdir /d 0700
+  rmdir PATH              takes an empty directory away: rmdir /d
+  unlink PATH             takes a file's name or a symbolic link away: unlink /f
+  link PATH NEW           gives a file one more name: link /f /g
+  symlink TEXT PATH       makes a symbolic link: symlink d/f /l
+  rename PATH NEW         gives an object another name: rename /f /d/f
+  chmod PATH MODE         changes the mode: chmod /f 0600
+  truncate PATH SIZE      gives a file another size: truncate /f 100
+  open PATH FLAGS [MODE]  opens a file and tells its descriptor: open /f rwc 0600
+  close FD                gives a descriptor back: close 0
+  read FD COUNT           bytes from the offset on: read 0 65536
+  write FD DATA           puts bytes at the offset: write 0 616263
+  pread FD OFFSET COUNT   bytes from another place on: pread 0 2 9
+  pwrite FD OFFSET DATA   puts bytes at another place: pwrite 0 4 64
+  lseek FD FROM OFFSET    moves the offset: lseek 0 set 1
+  ftruncate FD SIZE       gives an open file another size: ftruncate 0 2
+  fstat FD                what stat tells, of an open file: fstat 0
+  fsync FD                done at once, as what was answered is kept: fsync 0
+  sync                    makes a consistency point: sync
+  df                      tells the room of the disk: df
+  snap take NAME          keeps the tree as it stands under this name: snap take monday
+  snap list               names the snapshots, oldest first: snap list
+  snap delete NAME        takes a snapshot away: snap delete monday
+  snap restore NAME       makes the tree what it was under this name: snap restore monday
+  in NAME ..              list, stat, lstat, readlink or get in a snapshot: in monday get /f 0 9
+
+FLAGS is r, w or rw, then some of: c makes a file where none is, x refuses one that is,
+t cuts it to no bytes, a has each write go behind the last byte. A new file has mode 0644 or this one.
+FROM is set, cur or end. DATA is two hexadecimal digits a byte, - for none.
+Words stand one space apart; in a path a space is %20, a % is %25, and so each byte
+but 0x21 to 0x7e is % and two lower-case hexadecimal digits. A default mode isn't written.
+
+do takes paths, texts and names as you type them, as in wafl do disk nvram mkdir '/a b' 755;
+with --encoded, before the command, its words are spelled as in a script, as in mkdir /a%20b.
+Lines of shell are spelled as in a script, but for modes and carriage returns, which are taken
+as you type them; help and quit are words of shell alone.
+
+With --wait they wait while another program has the image in use, with --wait=5 for 5 seconds
+at most; for do it stands before the command, as in wafl do --wait disk nvram list /.
+
+Examples:
+  wafl run disk nvram script
+  wafl run disk nvram - --stop < script
+  wafl run disk nvram - --cut 5 --bytes 1 < script
+  wafl shell disk nvram
+  wafl do disk nvram stat /d/f
+  wafl do disk nvram in monday list '/a b'";
+
+/// What the help of `make` says behind its options.
+pub const MAKE_NOTES: &str =
+    "N is a decimal number. With k, M or G behind it, it is as many times 1024, 1024 k or 1024 M; --blocks then is the disk's size in bytes, whole blocks of 4096. Files that are there are replaced, once the new ones are whole; on a terminal make says before what they are and asks, but with --force. With --new they aren't replaced. Nothing is printed.
+
+With --wait it waits while another program has the files in use, with --wait=5 for 5 seconds at most.
+
+Examples:
+  wafl make disk nvram --new --blocks 64 --inodes 32 --half 131072
+  wafl make disk nvram --new --blocks 4G --inodes 64k --half 1M";
+
+/// What the help of `df` says behind its options.
+pub const DF_NOTES: &str =
+    "Prints the disk's blocks, those that are free, and those that are pledged for what the newest root doesn't hold. The image stays as it is, but where DISK.bad names sectors that can't be read: these become zeros in DISK.
+
+With --wait it waits while another program has the image in use, with --wait=5 for 5 seconds at most.
+
+Examples:
+  wafl df disk nvram
+  wafl df disk nvram --human";
+
+/// What the help of `check` says behind its options.
+pub const CHECK_NOTES: &str =
+    "Prints ok, the newest root's generation, how many snapshots it has, how many records of the log it doesn't hold, and how many blocks are free; or bad, the number and the name of the first fault, with status 6. Standard error tells of each tree with a fault what was found. The image stays as it is, but where DISK.bad names sectors that can't be read: these become zeros in DISK.
+
+Faults: 1 ROOTS, 2 SNAPROOT, 3 TREE, 4 SHARED, 5 MAPBIT, 6 INODEMAP, 7 DIR, 8 LINKS, 9 LOG.
+
+With --wait it waits while another program has the image in use, with --wait=5 for 5 seconds at most.
+
+Example:
+  wafl check disk nvram";
+
+/// What the help of `put` says behind its options.
+pub const PUT_NOTES: &str =
+    "A file that PATH leads to loses its bytes and gets these in their place, and keeps its mode; where nothing is there, one is made, of FILE's mode, or of 0644 from standard input. Where PATH leads to a directory, FILE's own name in it is meant. Whole blocks of zeros become holes. A pipe that gives no bytes empties no file that has some; an empty file does, and /dev/null. Where a call is refused that file stays as it was, and standard error tells the path, the refusal and the byte at which it came. On a terminal it tells how many MiB were written.
+
+PATH is typed as it is, as in '/a b'; with --encoded it is spelled as in a script, as in /a%20b.
+With --wait it waits while another program has the image in use, with --wait=5 for 5 seconds at most.
+
+Examples:
+  wafl put disk nvram notes.txt /notes
+  wafl put disk nvram - /notes < notes.txt
+  tar c folder | wafl put disk nvram - /folder.tar";
+
+/// What the help of `get` says behind its options.
+pub const GET_NOTES: &str =
+    "A file FILE that is there is replaced once the new one is whole, in which whole blocks of zeros are holes, and keeps its mode; a new one gets the mode that the file has in the image. Where FILE is a folder, the file's own name in it is meant. Where a call is refused FILE stays as it was, or none is made, and standard error tells the path, the refusal and the byte at which it came. The image stays as it is, but where DISK.bad names sectors that can't be read: these become zeros in DISK. On a terminal it tells how many MiB were read.
+
+PATH is typed as it is, as in '/a b'; with --encoded it and SNAPSHOT are spelled as in a script, as in /a%20b.
+With --wait it waits while another program has the image in use, with --wait=5 for 5 seconds at most.
+
+Examples:
+  wafl get disk nvram /notes notes.txt
+  wafl get disk nvram /notes - --in monday | wc -c
+  wafl get disk nvram /notes notes.txt --salvage";
+
+/// What the help of `restore` says behind its options.
+pub const RESTORE_NOTES: &str =
+    "Brings the file or the symbolic link that PATH names in SNAPSHOT into the running tree, under the same path or under NEWPATH, with its mode and its holes. What has that name there is gone, once the new one is whole; where it is a directory, the file's own name in it is meant. A directory of the snapshot is refused. Where a call is refused all stays as it was, and standard error tells the path, the refusal and the byte at which it came. On a terminal it tells how many MiB were written.
+
+Paths are typed as they are, as in '/a b'; with --encoded they and SNAPSHOT are spelled as in a script, as in /a%20b.
+With --wait it waits while another program has the image in use, with --wait=5 for 5 seconds at most.
+
+Examples:
+  wafl restore disk nvram monday /notes
+  wafl restore disk nvram monday /notes /notes.of.monday";

@@ -1,0 +1,144 @@
+//! Bringing back what a snapshot has into the running tree.
+
+use crate::error::{TransferError, at};
+use crate::input::{Input, KeptFile};
+use crate::looking::{RUNNING, Tree, link_text, lstat};
+use crate::missing::found;
+use crate::progress::Progress;
+use crate::putting::check_name;
+use crate::storing::{Goal, check_blocks, store, store_link, take_left_away};
+use crate::target::{find_place, split_last};
+use crate::what::{Ended, Transfer};
+use crate::working::{Over, end_in_memory, end_on_files, give_back, mount_station};
+use host_files::{Opened, open_image};
+use model::{FileType, Stat};
+use mount::Fs;
+use station::Station;
+use std::alloc::Global;
+use std::fs::File;
+use std::io::Write;
+use std::rt::{Clock, Files};
+
+/// Brings the file or the symbolic link that a path names in a snapshot into the running tree, whole or not at all, as
+/// `put_file` stores a file: to the same path, or to a new one. What is there goes; a link there isn't followed, and a directory
+/// means the old name in it. The mode is as in the snapshot, and blocks of zeros are holes. No file of the host's takes part.
+pub fn restore_file<'a, R: Files<File = File> + AllocGlobal + Clock, E: Write>(
+    rt: &R,
+    what: Transfer<'a>,
+    snapshot: &'a [u8],
+    snapshot_name: &'a str,
+    new_path: Option<&'a [u8]>,
+    new_name: Option<&'a str>,
+    progress: &mut Progress<E>,
+) -> Ended<'a> {
+    let opened = match open_image(rt, what.image, what.patience) {
+        Ok(opened) => opened,
+        Err(error) => return Ended::before(TransferError::File(error)),
+    };
+    let mut restore = Restore {
+        what,
+        snapshot,
+        tree: Tree {
+            snapshot: Some(snapshot),
+            told: snapshot_name,
+        },
+        goal: Transfer {
+            path: new_path.unwrap_or(what.path),
+            name: new_name.unwrap_or(what.name),
+            ..what
+        },
+        progress,
+    };
+    match opened {
+        Opened::Files(station) => end_on_files(restore_on(rt.alloc(), station, &mut restore)),
+        Opened::Memory(sim, held) => {
+            let over = restore_on(rt.alloc(), sim, &mut restore);
+            end_in_memory(rt, what.image, over, &held)
+        }
+    }
+}
+
+/// Brings back what a path names in a snapshot of a station.
+fn restore_on<'a, S: Station, E: Write>(
+    alloc: Global,
+    station: S,
+    restore: &mut Restore<'a, '_, E>,
+) -> Over<'a, S> {
+    let mut fs = match mount_station(alloc, station) {
+        Ok(fs) => fs,
+        Err(over) => return over,
+    };
+    let done = restore.go_on(alloc, &mut fs);
+    give_back(fs, done)
+}
+
+/// Bringing back what a path names in a snapshot.
+#[derive(Drop)]
+struct Restore<'a, 'w, E> {
+    what: Transfer<'a>,
+    snapshot: &'a [u8],
+    tree: Tree<'a>,
+    /// What it becomes.
+    goal: Transfer<'a>,
+    progress: &'w mut Progress<E>,
+}
+
+impl<'a, E: Write> Restore<'a, '_, E> {
+    fn go_on<S: Station>(
+        &mut self,
+        alloc: Global,
+        fs: &mut Fs<S>,
+    ) -> Result<(), TransferError<'a>> {
+        let Transfer { path, name, .. } = self.what;
+        let old = lstat(alloc, fs, self.tree, path);
+        let old = found(alloc, fs, self.tree, name, path, old)?;
+        if old.kind == FileType::Dir {
+            return Err(TransferError::IsTree { path: name });
+        }
+        take_left_away(alloc, fs)?;
+        let goal = self.find_goal(alloc, fs, old)?;
+        if old.kind == FileType::Link {
+            return self.bring_link(alloc, fs, &goal);
+        }
+        let mut input: Input<'_, '_, File> = Input::Kept(KeptFile {
+            snapshot: self.snapshot,
+            path,
+            name,
+            size: old.size,
+            offset: 0,
+        });
+        check_blocks(alloc, fs, goal.name, &mut input)?;
+        store(alloc, fs, &goal, &mut input, self.progress)
+    }
+
+    /// Where in the running tree something goes that has this mode.
+    fn find_goal<S: Station>(
+        &self,
+        alloc: Global,
+        fs: &mut Fs<S>,
+        old: Stat,
+    ) -> Result<Goal<'a>, TransferError<'a>> {
+        let Transfer { path, name, .. } = self.goal;
+        let target = find_place(alloc, fs, path, split_last(self.what.path).1);
+        let target = found(alloc, fs, RUNNING, name, path, target)?;
+        check_name(alloc, fs, self.goal, &target)?;
+        Ok(Goal {
+            name,
+            path,
+            target,
+            mode: old.mode,
+        })
+    }
+
+    /// Brings a symbolic link back.
+    fn bring_link<S: Station>(
+        &self,
+        alloc: Global,
+        fs: &mut Fs<S>,
+        goal: &Goal<'a>,
+    ) -> Result<(), TransferError<'a>> {
+        let text = link_text(alloc, fs, self.tree, self.what.path);
+        let text = at(self.what.name, 0, text)?;
+        store_link(alloc, fs, goal, text.as_bytes())
+    }
+}

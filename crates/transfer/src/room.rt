@@ -1,0 +1,174 @@
+//! The room of a disk, and what a call needs of it.
+
+use crate::error::{TransferError, at};
+use crate::steps::{answer, refusal, settle};
+use model::{Command, Errno, Reply, SINGLE_FILE};
+use mount::Fs;
+use station::{BLOCK_BYTES, Station};
+use std::fmt;
+
+/// Blocks that stay free behind a record, so that files can still be taken away.
+const KEPT: u64 = 16;
+
+/// Blocks that a call may cost. Some more have to stay free behind it.
+#[derive(Clone, Copy, Debug)]
+pub struct Cost {
+    /// For bytes, and for what tells where they are.
+    bytes: u64,
+    /// For a name.
+    name: u64,
+    /// For a size.
+    size: u64,
+}
+
+/// To make a file, or to give one its name.
+pub const NAMING: Cost = Cost {
+    bytes: 0,
+    name: 24,
+    size: 0,
+};
+
+/// To give a file a greater size.
+pub const SIZING: Cost = Cost {
+    bytes: 0,
+    name: 0,
+    size: 6,
+};
+
+/// To write so many bytes at a block's first one, behind all others of their file.
+pub fn writing(offset: u64, bytes: usize) -> Cost {
+    let touched = bytes.div_ceil(BLOCK_BYTES) as u64;
+    let is_single = offset.saturating_add(bytes as u64) <= SINGLE_FILE;
+    let beside = if is_single { 6 } else { 8 };
+    Cost {
+        bytes: touched.saturating_mul(2).saturating_add(beside),
+        name: 0,
+        size: 0,
+    }
+}
+
+/// To store so many blocks of a file, and then to give it its name.
+pub fn storing(blocks: u64) -> Cost {
+    Cost {
+        bytes: blocks,
+        ..NAMING
+    }
+}
+
+/// What blocks are needed for.
+#[derive(Clone, Copy, Debug)]
+pub struct Needs {
+    cost: Cost,
+    /// For the next consistency point, whatever changed.
+    point: u64,
+    /// For what was answered and isn't stored in blocks yet.
+    pledged: u64,
+}
+
+impl Needs {
+    fn sum(&self) -> u64 {
+        let Cost { bytes, name, size } = self.cost;
+        bytes
+            .saturating_add(name)
+            .saturating_add(size)
+            .saturating_add(KEPT)
+            .saturating_add(self.point)
+            .saturating_add(self.pledged)
+    }
+}
+
+impl fmt::Display for Needs {
+    fn fmt<W: fmt::Write>(&self, f: &mut fmt::Formatter<W>) -> fmt::Result {
+        let Cost { bytes, name, size } = self.cost;
+        let Needs { point, pledged, .. } = self;
+        if bytes > 0 {
+            write!(f, "{bytes} for its bytes, ")?;
+        }
+        if name > 0 {
+            write!(f, "{name} for its name, ")?;
+        }
+        if size > 0 {
+            write!(f, "{size} for its size, ")?;
+        }
+        if *pledged > 0 {
+            write!(f, "{pledged} for what was answered before, ")?;
+        }
+        write!(
+            f,
+            "{point} for the next consistency point, {KEPT} that stay free"
+        )
+    }
+}
+
+/// What the room of a disk is short of.
+#[derive(Clone, Copy)]
+struct Shortage {
+    free: u64,
+    needs: Needs,
+}
+
+/// Whether a call lacks room, even behind a consistency point.
+pub fn lacks_room<S: Station>(fs: &mut Fs<S>, cost: Cost) -> Result<bool, Errno> {
+    Ok(find_shortage(fs, cost)?.is_some())
+}
+
+/// Tells where a call has no room beside what is pledged, not even behind a consistency point.
+fn find_shortage<S: Station>(fs: &mut Fs<S>, cost: Cost) -> Result<Option<Shortage>, Errno> {
+    if shortage_now(fs, cost)?.is_none() {
+        return Ok(None);
+    }
+    settle(fs)?;
+    shortage_now(fs, cost)
+}
+
+fn shortage_now<S: Station>(fs: &mut Fs<S>, cost: Cost) -> Result<Option<Shortage>, Errno> {
+    match answer(fs, Command::Df) {
+        Reply::Space {
+            blocks,
+            free,
+            pledged,
+        } => {
+            let needs = Needs {
+                cost,
+                point: u64::from(blocks.div_ceil(1024)) + 4,
+                pledged,
+            };
+            let free = u64::from(free);
+            Ok((free < needs.sum()).then_some(Shortage { free, needs }))
+        }
+        reply => Err(refusal(&reply)),
+    }
+}
+
+/// Refuses what has no room from this byte on.
+pub fn check_room<'a, S: Station>(
+    fs: &mut Fs<S>,
+    path: &'a str,
+    offset: u64,
+    cost: Cost,
+) -> Result<(), TransferError<'a>> {
+    match at(path, offset, find_shortage(fs, cost))? {
+        Some(Shortage { free, needs }) => Err(TransferError::NoRoom {
+            path,
+            offset,
+            free,
+            needed: needs.sum(),
+            needs,
+        }),
+        None => Ok(()),
+    }
+}
+
+/// Names the place of a call that was refused, and where that is for want of room, how much this call needs.
+pub fn with_room<'a, S: Station, T>(
+    fs: &mut Fs<S>,
+    path: &'a str,
+    offset: u64,
+    cost: Cost,
+    answer: Result<T, Errno>,
+) -> Result<T, TransferError<'a>> {
+    if let Err(Errno::ENOSPC) = answer {
+        check_room(fs, path, offset, cost)?;
+    }
+    at(path, offset, answer)
+}

@@ -1,0 +1,240 @@
+//! Storing in an image, whole or not at all: under a name of its own, which it changes for the one that it is to have.
+
+use crate::error::{TransferError, at};
+use crate::input::Input;
+use crate::missing::spell;
+use crate::progress::Progress;
+use crate::room::{NAMING, SIZING, check_room, lacks_room, storing, with_room, writing};
+use crate::runs::{count_blocks, next_run};
+use crate::steps::{close, make_file, make_link, remove, rename, set_size, write_at};
+use crate::target::{Target, UNFINISHED};
+use layout::INLINE_BYTES;
+use model::{Errno, GREATEST_FILE, Mode};
+use mount::Fs;
+use station::{BLOCK_BYTES, Station};
+use std::alloc::Global;
+use std::io::{Read, Write};
+
+/// Where bytes go.
+#[derive(Drop)]
+pub struct Goal<'a> {
+    /// The path as the user spells it and as it is.
+    pub name: &'a str,
+    pub path: &'a [u8],
+    pub target: Target,
+    /// The mode of what is stored.
+    pub mode: Mode,
+}
+
+/// Takes away what a cut left of an earlier transfer.
+pub fn take_left_away<'a, S: Station>(
+    alloc: Global,
+    fs: &mut Fs<S>,
+) -> Result<(), TransferError<'a>> {
+    match remove(alloc, fs, UNFINISHED.as_bytes()) {
+        Err(Errno::EPERM) => Err(TransferError::IsInTheWay { path: UNFINISHED }),
+        answer => at(UNFINISHED, 0, answer),
+    }
+}
+
+/// Refuses a file that is larger than one may be, at its first byte that is too many.
+fn check_size<'a>(path: &'a str, size: u64) -> Result<(), TransferError<'a>> {
+    if size > GREATEST_FILE {
+        return at(path, GREATEST_FILE, Err(Errno::EFBIG));
+    }
+    Ok(())
+}
+
+/// The same where the size is known.
+pub fn check_known_size<'a>(path: &'a str, size: Option<u64>) -> Result<(), TransferError<'a>> {
+    match size {
+        Some(size) => check_size(path, size),
+        None => Ok(()),
+    }
+}
+
+/// The blocks that a file's bytes take: none where they stand in its inode.
+fn blocks_of(size: u64) -> u64 {
+    if size <= INLINE_BYTES as u64 {
+        0
+    } else {
+        size.div_ceil(BLOCK_BYTES as u64)
+    }
+}
+
+/// Refuses an input of known size whose blocks have no room. Its name comes behind them; what tells where they are, and the
+/// writes, may need more. Which of them are zeros alone is looked at only where there is no room for all.
+pub fn check_blocks<'a, S: Station, I: Read>(
+    alloc: Global,
+    fs: &mut Fs<S>,
+    path: &'a str,
+    input: &mut Input<'a, '_, I>,
+) -> Result<(), TransferError<'a>> {
+    let Some(size) = input.size() else {
+        return Ok(());
+    };
+    let all = blocks_of(size);
+    if !at(path, 0, lacks_room(fs, storing(all)))? {
+        return Ok(());
+    }
+    let stored = count_blocks(alloc, fs, input)?.min(all);
+    check_room(fs, path, 0, storing(stored))
+}
+
+/// Stores what an input gives in a new file, which takes the place of what is there once all is in it.
+pub fn store<'a, S: Station, I: Read, E: Write>(
+    alloc: Global,
+    fs: &mut Fs<S>,
+    goal: &Goal<'a>,
+    input: &mut Input<'a, '_, I>,
+    progress: &mut Progress<E>,
+) -> Result<(), TransferError<'a>> {
+    let stored = store_bytes(alloc, fs, goal, input, progress);
+    give_up_where_refused(alloc, fs, &stored);
+    stored
+}
+
+/// Takes away what isn't whole. Where that is refused, the next transfer does it.
+fn give_up_where_refused<S: Station>(
+    alloc: Global,
+    fs: &mut Fs<S>,
+    stored: &Result<(), TransferError<'_>>,
+) {
+    if stored.is_err() {
+        let _ = remove(alloc, fs, UNFINISHED.as_bytes());
+    }
+}
+
+/// Collects what an input gives in a new file, and gives that its name.
+fn store_bytes<'a, S: Station, I: Read, E: Write>(
+    alloc: Global,
+    fs: &mut Fs<S>,
+    goal: &Goal<'a>,
+    input: &mut Input<'a, '_, I>,
+    progress: &mut Progress<E>,
+) -> Result<(), TransferError<'a>> {
+    let made = make_file(alloc, fs, UNFINISHED.as_bytes(), goal.mode);
+    let fd = with_room(fs, goal.name, 0, NAMING, made)?;
+    let written = write_all(alloc, fs, fd, goal.name, input, progress);
+    let closed = close(fs, fd);
+    let bytes = written?;
+    at(goal.name, bytes, closed)?;
+    if bytes == 0 {
+        check_pipe(alloc, goal, input.pipe())?;
+    }
+    give_name(alloc, fs, goal, bytes)
+}
+
+/// Gives what is whole its name, behind so many bytes.
+fn give_name<'a, S: Station>(
+    alloc: Global,
+    fs: &mut Fs<S>,
+    goal: &Goal<'a>,
+    bytes: u64,
+) -> Result<(), TransferError<'a>> {
+    let new = goal.target.path.as_slice();
+    let named = rename(alloc, fs, UNFINISHED.as_bytes(), new);
+    with_room(fs, goal.name, bytes, NAMING, named)
+}
+
+/// Refuses to empty a file because a pipe, which has this name, gave nothing.
+fn check_pipe<'a>(
+    alloc: Global,
+    goal: &Goal<'a>,
+    pipe: Option<&'a str>,
+) -> Result<(), TransferError<'a>> {
+    let bytes = match goal.target.there {
+        Some(there) => there.size,
+        None => 0,
+    };
+    match pipe {
+        Some(file) if bytes > 0 => Err(TransferError::NothingCame {
+            file,
+            path: spell(alloc, goal.name, goal.path, goal.target.path.as_slice())?,
+            bytes,
+        }),
+        _ => Ok(()),
+    }
+}
+
+/// Writes what an input gives, in parts as large as one call writes, and tells how many bytes these are.
+fn write_all<'a, S: Station, I: Read, E: Write>(
+    alloc: Global,
+    fs: &mut Fs<S>,
+    fd: u32,
+    path: &'a str,
+    input: &mut Input<'a, '_, I>,
+    progress: &mut Progress<E>,
+) -> Result<u64, TransferError<'a>> {
+    let mut size = 0_u64;
+    let mut stored = 0;
+    for _ in 0..u64::MAX {
+        let start = size;
+        let part = input.read_part(alloc, fs)?;
+        size = start.saturating_add(part.len() as u64);
+        check_size(path, size)?;
+        if part.is_empty() {
+            break;
+        }
+        if let Some(end) = write_runs(alloc, fs, fd, path, start, &part)? {
+            stored = end;
+        }
+        progress.note(size);
+    }
+    if stored < size {
+        // It ends in zeros.
+        let sized = set_size(fs, fd, size);
+        with_room(fs, path, size, SIZING, sized)?;
+    }
+    Ok(size)
+}
+
+/// Writes those blocks of a part that aren't zeros alone, run by run. The part begins at this byte of the file. Tells the byte
+/// behind them, where there are any.
+fn write_runs<'a, S: Station>(
+    alloc: Global,
+    fs: &mut Fs<S>,
+    fd: u32,
+    path: &'a str,
+    start: u64,
+    part: &[u8],
+) -> Result<Option<u64>, TransferError<'a>> {
+    let mut stored = None;
+    let mut from = 0;
+    for _ in 0..part.len() {
+        let Some(run) = next_run(part, from) else {
+            break;
+        };
+        let offset = start.saturating_add(run.start as u64);
+        let count = run.bytes.len();
+        let written = write_at(alloc, fs, fd, offset, run.bytes);
+        with_room(fs, path, offset, writing(offset, count), written)?;
+        stored = Some(offset.saturating_add(count as u64));
+        from = run.end();
+    }
+    Ok(stored)
+}
+
+/// Stores a symbolic link of this text, which takes the place of what is there.
+pub fn store_link<'a, S: Station>(
+    alloc: Global,
+    fs: &mut Fs<S>,
+    goal: &Goal<'a>,
+    text: &[u8],
+) -> Result<(), TransferError<'a>> {
+    let stored = name_link(alloc, fs, goal, text);
+    give_up_where_refused(alloc, fs, &stored);
+    stored
+}
+
+/// Makes a link, and gives it its name.
+fn name_link<'a, S: Station>(
+    alloc: Global,
+    fs: &mut Fs<S>,
+    goal: &Goal<'a>,
+    text: &[u8],
+) -> Result<(), TransferError<'a>> {
+    let made = make_link(alloc, fs, text, UNFINISHED.as_bytes());
+    with_room(fs, goal.name, 0, NAMING, made)?;
+    give_name(alloc, fs, goal, 0)
+}
