@@ -1,6 +1,6 @@
 //! The whole block map.
 
-ghost use Rattle.std.specs.Prelude.{◌≡◌, ◌≢◌, ℕ, ◌*◌, ◌/◌, ◌<◌, ◌≤◌, false, IsTrue, OnOk, IfSome, IfNone, length, ◌+◌, ◌↔◌, ◌⊎◌};
+ghost use Rattle.std.specs.Prelude.{◌≡◌, ◌≢◌, ℕ, ◌*◌, ◌/◌, ◌<◌, ◌≤◌, IsTrue, OnOk, IfSome, IfNone, length, ◌+◌, ◌↔◌, ◌⊎◌};
 ghost use Rattle.layout.specs.declared.geometry.TheConstants.{MOST_BLOCKS};
 ghost use Rattle.std.specs.Int.{bit_at};
 ghost use Rattle.blockmap.specs.declared.map.TheConstants.{FIRST_BLOCK, SYSTEM_SET};
@@ -148,15 +148,6 @@ impl BlockMap {
     {
         self.parts[j].touch()?;
         Ok(())
-    }
-
-    /// Takes a block out of set 0: the active tree doesn't name it any more. There is room in the map.
-    pub fn release(&mut self, block: BlockNumber)
-        requires within { block < self.old.count }
-        requires room { IsTouched self.old.parts.items (block / 1024) }
-        ensures { PutsBlock 0 block false self.old self.new }
-    {
-        self.mark(block, false);
     }
 
     /// Puts a block into set 0 or takes it out. There is room in the map.

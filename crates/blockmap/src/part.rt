@@ -1,6 +1,6 @@
 //! One block of the block map.
 
-ghost use Rattle.std.specs.Prelude.{◌≡◌, ℕ, ◌+◌, ◌<◌, ◌≤◌, true, false, IsTrue, IfOk, OnOk, IfSome, IfNone, slice_index, slice_set, ◌↔◌, length};
+ghost use Rattle.std.specs.Prelude.{◌≡◌, ℕ, ◌<◌, ◌≤◌, true, false, IsTrue, IfOk, OnOk, IfSome, IfNone, slice_index, slice_set, ◌↔◌, length};
 ghost use Rattle.std.specs.Int.{bit_at};
 ghost use Rattle.blockmap.specs.Bits.{SetsPlane};
 ghost use Rattle.blockmap.specs.Parts.{HasSet, Spells, free_entries};

@@ -68,10 +68,8 @@ fn zero_block() -> &'static [u8; BLOCK_BYTES]
 
 impl BlockTree {
     ghost use Rattle.std.specs.Prelude.{if◌then◌else◌, ◌==◌, ◌≢◌, ◌↔◌, min, nat_lt, IfSome, IfNone, IsTrue, IsFalse, Contains};
-    ghost use Rattle.std.specs.Ordering.{nat_cmp};
-    ghost use Rattle.std.specs.BTreeMap as tree;
     ghost use Rattle.buffers.specs.Positions.{laid, with_bytes_at};
-    ghost use Rattle.blocktree.specs.Trees.{AreSound, tree_block, slot_bytes, settled_block, HasRoom, KeepsRoom, SameBlocks, SameSettled, IsChanged, IsSoundAt, KeepsSound, IsAtLocation, OnDisk};
+    ghost use Rattle.blocktree.specs.Trees.{AreSound, tree_block, settled_block, HasRoom, KeepsRoom, SameBlocks, SameSettled, IsChanged, IsSoundAt, KeepsSound, IsAtLocation, OnDisk};
 
     /// The blocks of a settled file of this size with these pointers in its inode.
     pub fn settled(alloc: Global, pointers: [Pointer; BODY_POINTERS], size: u64) -> BlockTree
@@ -101,13 +99,6 @@ impl BlockTree {
         ensures unchanged { (i : ℕ) → IsChanged result i → ⊥ }
     {
         BlockTree::settled(alloc, [Pointer::Hole; BODY_POINTERS], 0)
-    }
-
-    /// The pointers of the settled inode.
-    pub fn pointers(&self) -> &[Pointer; BODY_POINTERS]
-        ensures { result.now ≡ self.now.pointers }
-    {
-        &self.pointers
     }
 
     /// How many indirect blocks stand between one of these and a block.

@@ -17,10 +17,9 @@ use Rattle.model.specs.declared.limits.TheConstants.{DIRECTORY_NAMES}
 use Rattle.model.specs.declared.reply.Reply.{Reply}
 use Rattle.model.specs.declared.reply.Reply.TheVariants.{Refused}
 use Rattle.model.proofs.LeadLemmas.{AnswersWell}
-use Rattle.model.proofs.MountedLemmas.{node_directory}
 use Rattle.calls.proofs.LeadLaws.{trail_end}
 use Rattle.calls.proofs.MakeLaws.{listing}
-use Rattle.model.proofs.ObjectLaws.{directory_of}
+use Rattle.model.proofs.ObjectLaws.{directory_object, directory_of}
 
 module _ (inodes : ℕ) (v : Volume) (table : ℕ → Option Description) (volume : IsVolume inodes v) (mounted : IsMounted v table) (tree : IsTree inodes (tree_of v table)) where
   abbrev t : Tree
@@ -50,7 +49,7 @@ module _ (inodes : ℕ) (v : Volume) (table : ℕ → Option Description) (volum
 
   module _ (d : ℕ) (x : Name) (r : Resolution) (gap : FindsGap r d x) where
     pub gap_parent : t.objects gap.path ≡ Some (trees.directory d)
-    gap_parent = ap (object_at v) gap.at ∙ node_directory d (v d) gap.parent
+    gap_parent = ap (object_at v) gap.at ∙ directory_object d (v d) gap.parent
 
     gap_takes : (count : ℕ) → Counts (λ y. IsSome (entries v d y)) count → count < DIRECTORY_NAMES → TakesName v d x
     gap_takes count counts room = record {

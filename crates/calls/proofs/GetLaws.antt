@@ -71,13 +71,13 @@ module _ (v : Volume) (table : ℕ → Option Description) (text : List ℕ) (of
   at_object : (n : ℕ) (o : Option Node) → v n ≡ o → found_in o ≢ found.Link → (p : Path) (x : Object) → object_of n o ≡ Some x → (r : Result (List ℕ) Errno) → GetsNumber v n (nat_abs offset) count r
       → there p x (data_reply r) t nothing
   at_object n None is plain p x object r got = none_some object
-  at_object n (Some (directory_node mode names)) is plain p x object (Ok bytes) got = absurd (false≢true (sym (ap is_file_node is) ∙ got.0))
-  at_object n (Some (directory_node mode names)) is plain p x object (Err errno) got =
+  at_object n (Some (directory_node attributes names)) is plain p x object (Ok bytes) got = absurd (false≢true (sym (ap is_file_node is) ∙ got.0))
+  at_object n (Some (directory_node attributes names)) is plain p x object (Err errno) got =
       subst (λ (y : Object). there p y (Refused errno) t nothing) (some_same object) (ap Refused got.1, refl, refl)
-  at_object n (Some (file_node mode links bytes)) is plain p x object (Ok list) got =
+  at_object n (Some (file_node attributes links bytes)) is plain p x object (Ok list) got =
       subst (λ (y : Object). there p y (Data list) t nothing) (some_same object) (ap Data got.1, refl, refl)
-  at_object n (Some (file_node mode links bytes)) is plain p x object (Err errno) got = absurd (false≢true (sym got.0 ∙ ap is_file_node is))
-  at_object n (Some (link_node link)) is plain p x object r got = absurd (plain refl)
+  at_object n (Some (file_node attributes links bytes)) is plain p x object (Err errno) got = absurd (false≢true (sym got.0 ∙ ap is_file_node is))
+  at_object n (Some (link_node attributes link)) is plain p x object r got = absurd (plain refl)
 
   pub get_led : (n : ℕ) (r : Result (List ℕ) Errno) → IsLed tests v (resolve t true text) (Ok n) → found_in (v n) ≢ found.Link → GetsNumber v n (nat_abs offset) count r
       → gets t text offset count (data_reply r) t nothing

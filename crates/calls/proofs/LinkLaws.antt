@@ -3,6 +3,7 @@ use Rattle.std.proofs.Common.{◌≡◌, ◌≢◌, inl, inr, ℕ, ◌+◌, ◌<
 use Rattle.std.specs.Prelude.{nat_le, ◌||◌}
 use Rattle.std.proofs.Math.Path.{fun_ext}
 use Rattle.std.proofs.lemmas.Bool.{cases_Bool, cases_eq, cond-true, cond-false, false≢true, lt-leb, le-leb}
+use Rattle.model.specs.declared.attributes.Attributes.{Attributes}
 use Rattle.model.specs.Changes.{ChangesTree}
 use Rattle.model.specs.Changing.{links}
 use Rattle.model.specs.Edits.{with_object}
@@ -51,18 +52,18 @@ first_front (test ∷ tests) more passed =
     ]
 
 -- a file that has names isn't swept
-file_stays : (open_now : Bool) (mode links : ℕ) (bytes : List ℕ) → swept_node open_now (Some (file_node mode (links + 1) bytes)) ≡ Some (file_node mode (links + 1) bytes)
-file_stays open_now mode links bytes =
-    subst (λ (n : ℕ). swept_node open_now (Some (file_node mode n bytes)) ≡ Some (file_node mode n bytes)) (sym (add-one links)) refl
+file_stays : (open_now : Bool) (attributes : Attributes) (links : ℕ) (bytes : List ℕ) → swept_node open_now (Some (file_node attributes (links + 1) bytes)) ≡ Some (file_node attributes (links + 1) bytes)
+file_stays open_now attributes links bytes =
+    subst (λ (n : ℕ). swept_node open_now (Some (file_node attributes n bytes)) ≡ Some (file_node attributes n bytes)) (sym (add-one links)) refl
 
 directory_stays : (open_now : Bool) (x : Name) (to : Option ℕ) (o : Option Node) → is_directory_node o ≡ true → swept_node open_now (set_name x to o) ≡ set_name x to o
 directory_stays open_now x to None is = absurd (false≢true is)
-directory_stays open_now x to (Some (directory_node mode names)) is = refl
-directory_stays open_now x to (Some (file_node mode links bytes)) is = absurd (false≢true is)
-directory_stays open_now x to (Some (link_node text)) is = absurd (false≢true is)
+directory_stays open_now x to (Some (directory_node attributes names)) is = refl
+directory_stays open_now x to (Some (file_node attributes links bytes)) is = absurd (false≢true is)
+directory_stays open_now x to (Some (link_node attributes text)) is = absurd (false≢true is)
 
-object_file : (n : ℕ) (o : Option Node) (y : Object) (mode count : ℕ) (bytes : List ℕ) → o ≡ Some (file_node mode count bytes) → object_of n o ≡ Some y → trees.file n ≡ y
-object_file n o y mode count bytes is object = some_same (sym (ap (object_of n) is) ∙ object)
+object_file : (n : ℕ) (o : Option Node) (y : Object) (attributes : Attributes) (count : ℕ) (bytes : List ℕ) → o ≡ Some (file_node attributes count bytes) → object_of n o ≡ Some y → trees.file n ≡ y
+object_file n o y attributes count bytes is object = some_same (sym (ap (object_of n) is) ∙ object)
 
 -- ---- kinds
 
@@ -71,12 +72,12 @@ file_found None is = other is
   where
     other : {X : Type 0} → found.Nothing ≡ found.File → X
     other e = cc
-file_found (Some (directory_node mode names)) is = other is
+file_found (Some (directory_node attributes names)) is = other is
   where
     other : {X : Type 0} → found.Directory ≡ found.File → X
     other e = cc
-file_found (Some (file_node mode count bytes)) is = (count, (mode, bytes, refl))
-file_found (Some (link_node text)) is = other is
+file_found (Some (file_node attributes count bytes)) is = (count, (attributes, bytes, refl))
+file_found (Some (link_node attributes text)) is = other is
   where
     other : {X : Type 0} → found.Link ≡ found.File → X
     other e = cc
@@ -117,20 +118,20 @@ module _ (inodes : ℕ) (v : Volume) (table : ℕ → Option Description) (volum
 
     no_file : (n : ℕ) (o : Option Node) (p : Path) (y : Object) → is_file_node o ≡ false → object_of n o ≡ Some y → there p y (Refused EPERM) t nothing
     no_file n None p y other object = none_some object
-    no_file n (Some (directory_node mode names)) p y other object = subst (λ (z : Object). there p z (Refused EPERM) t nothing) (some_same object) (refl, refl, refl)
-    no_file n (Some (file_node mode count bytes)) p y other object = absurd (false≢true (sym other))
-    no_file n (Some (link_node text)) p y other object = subst (λ (z : Object). there p z (Refused EPERM) t nothing) (some_same object) (refl, refl, refl)
+    no_file n (Some (directory_node attributes names)) p y other object = subst (λ (z : Object). there p z (Refused EPERM) t nothing) (some_same object) (refl, refl, refl)
+    no_file n (Some (file_node attributes count bytes)) p y other object = absurd (false≢true (sym other))
+    no_file n (Some (link_node attributes text)) p y other object = subst (λ (z : Object). there p z (Refused EPERM) t nothing) (some_same object) (refl, refl, refl)
 
     pub link_no_file : (n : ℕ) → LeadsTo v from (Ok n) → is_file_node (v n) ≡ false → links t old path (Refused EPERM) t nothing
     link_no_file n leads other =
         led (Refused EPERM) t nothing (leads_there v table there n (Refused EPERM) t nothing (λ p y at object. no_file n (v n) p y other object) from leads)
 
-    module _ (n mode count : ℕ) (bytes : List ℕ) (is : v n ≡ Some (file_node mode count bytes)) (leads_from : LeadsTo v from (Ok n)) where
+    module _ (n : ℕ) (attributes : Attributes) (count : ℕ) (bytes : List ℕ) (is : v n ≡ Some (file_node attributes count bytes)) (leads_from : LeadsTo v from (Ok n)) where
       at_target : (reply : Reply) (new : Tree) (need : Need) → leads t target (λ q r. refuses t EEXIST) (λ q x. gone n q x) reply new need → links t old path reply new need
       at_target reply new need done =
           led reply new need
           (leads_there v table there n reply new need (λ p y at object.
-          subst (λ (z : Object). there p z reply new need) (object_file n (v n) y mode count bytes is object) done) from leads_from)
+          subst (λ (z : Object). there p z reply new need) (object_file n (v n) y attributes count bytes is object) done) from leads_from)
 
       pub link_target_refused : (errno : Errno) → IsPlaceOf v (at_refusal errno) target → links t old path (Refused errno) t nothing
       link_target_refused errno place = at_target (Refused errno) t nothing (by target place)
@@ -184,7 +185,7 @@ module _ (inodes : ℕ) (v : Volume) (table : ℕ → Option Description) (volum
                   elim (cases_eq k n) [
                     | inl is_n ↦
                         let f = e ∙ node_here n k (with_name_more (v n)) v is_n ∙ ap with_name_more is in
-                        ap (swept_node open_now) f ∙ file_stays open_now mode count bytes ∙ sym f
+                        ap (swept_node open_now) f ∙ file_stays open_now attributes count bytes ∙ sym f
                     | inr not_n ↦
                         let f = e ∙ node_other n k (with_name_more (v n)) v not_n in
                         ap (swept_node open_now) f ∙ mounted.is_swept k ∙ sym f
@@ -230,7 +231,7 @@ module _ (inodes : ℕ) (v : Volume) (table : ℕ → Option Description) (volum
               here.still_mounted,
               in_gap Done after (logs adds_name) (
                 applies.links,
-                tell inodes v table n applies.mode applies.links applies.bytes volume applies.file,
+                tell inodes v table n applies.attributes applies.links applies.bytes volume applies.file,
                 few_names applies.links applies.few _ Done after (logs adds_name)
                     (place_free inodes v table volume mounted tree d x target gap applies.takes (changes Done made (logs adds_name)) Done after (logs adds_name) (refl, here.gives, refl)),
               ),

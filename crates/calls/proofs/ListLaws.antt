@@ -60,11 +60,11 @@ module _ (inodes : ℕ) (v : Volume) (table : ℕ → Option Description) (volum
     comes : (p : Path) → number_at (entries v) p ≡ Some n → (r : Result (List Name) Errno) → ListsNumber v n r → (node : Option Node) → v n ≡ node
         → (o : Object) → object_of n node ≡ Some o → there p o (names_reply r) t nothing
     comes p at r told None is o made = none_some made
-    comes p at r told (Some (directory_node mode names)) is o made =
+    comes p at r told (Some (directory_node attributes names)) is o made =
         subst (λ (x : Object). there p x (names_reply r) t nothing) (some_same made) (in_directory p at r (ap is_directory_node is) told)
-    comes p at r told (Some (file_node mode links bytes)) is o made =
+    comes p at r told (Some (file_node attributes links bytes)) is o made =
         subst (λ (x : Object). there p x (names_reply r) t nothing) (some_same made) (in_other r (ap is_directory_node is) told)
-    comes p at r told (Some (link_node link)) is o made =
+    comes p at r told (Some (link_node attributes link)) is o made =
         subst (λ (x : Object). there p x (names_reply r) t nothing) (some_same made) (in_other r (ap is_directory_node is) told)
 
     pub list_answers : (text : List ℕ) (r : Result (List Name) Errno) → IsLed (text_tests text) v (resolve t true text) (Ok n) → ListsNumber v n r

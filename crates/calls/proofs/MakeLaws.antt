@@ -75,7 +75,7 @@ module _ (table : ℕ → Option Description) (v : Volume) (n d : ℕ) (x : Name
   stays open_now to None is = absurd (false≢true is)
   stays open_now to (Some (directory_node m names)) is = refl
   stays open_now to (Some (file_node m links bytes)) is = absurd (false≢true is)
-  stays open_now to (Some (link_node text)) is = absurd (false≢true is)
+  stays open_now to (Some (link_node attributes text)) is = absurd (false≢true is)
 
   abbrev put : Volume
   put = with_node n (Some node) v

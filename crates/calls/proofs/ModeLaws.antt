@@ -37,14 +37,14 @@ mode_swept false mode (Some (file_node old zero bytes)) stays = gone stays
     gone : {X : Type 0} → None ≡ Some (file_node old zero bytes) → X
     gone e = cc
 mode_swept open_now mode (Some (file_node old (suc links) bytes)) stays = refl
-mode_swept open_now mode (Some (link_node text)) stays = refl
+mode_swept open_now mode (Some (link_node attributes text)) stays = refl
 
 -- what isn't a link has a mode
 has_mode : (o : Option Node) → IsSome o → found_in o ≢ found.Link → (is_file_node o || is_directory_node o) ≡ true
 has_mode None some other = absurd (false≢true some)
-has_mode (Some (directory_node mode names)) some other = refl
-has_mode (Some (file_node mode links bytes)) some other = refl
-has_mode (Some (link_node text)) some other = absurd (other refl)
+has_mode (Some (directory_node attributes names)) some other = refl
+has_mode (Some (file_node attributes links bytes)) some other = refl
+has_mode (Some (link_node attributes text)) some other = absurd (other refl)
 
 module _ (inodes : ℕ) (v : Volume) (table : ℕ → Option Description) (text : List ℕ) (mode : ℕ) where
   abbrev t : Tree
@@ -92,7 +92,7 @@ module _ (inodes : ℕ) (v : Volume) (table : ℕ → Option Description) (text 
         subst (λ (y : Object). there p y Done (tree_of new table) (logs changes_bits)) (some_same object) (refl, same, refl)
     done (Some (file_node old links bytes)) p x is object same =
         subst (λ (y : Object). there p y Done (tree_of new table) (logs changes_bits)) (some_same object) (refl, same, refl)
-    done (Some (link_node text)) p x is object same = absurd (false≢true is)
+    done (Some (link_node attributes text)) p x is object same = absurd (false≢true is)
 
     pub mode_comes : (r : Result Changing Errno) → IsLed (text_tests text) v (resolve t true text) (Ok n) → found_in (v n) ≢ found.Link → Decides inodes v change r
         → Comes (changes_mode t text mode) inodes v table r

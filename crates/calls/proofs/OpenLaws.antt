@@ -2,6 +2,8 @@
 use Rattle.std.proofs.Common.{◌≡◌, ◌≢◌, ◌≤◌, ◌<◌, ◌==◌, inl, inr, ℕ, List, [], ◌∷◌, ◌++◌, length, Bool, true, false, not, ◌&&◌, Option, Some, None, IsSome, is_some, Result, Ok, Err, unwrap_or, refl, sym, ap, subst, ◌∙◌}
 use Rattle.std.proofs.Math.Path.{fun_ext}
 use Rattle.std.proofs.lemmas.Bool.{cases_eq, cond-true, cond-false, false≢true, ne_eqb, not-true, not-false}
+use Rattle.model.specs.declared.attributes.Attributes.{Attributes}
+use Rattle.model.specs.Attributes.{new_attributes}
 use Rattle.model.specs.Changes.{ChangesTree}
 use Rattle.model.specs.Changing.{cut_to, need_of_cut}
 use Rattle.model.specs.Descriptors.{described_by, opens_new, opens_object}
@@ -140,16 +142,16 @@ module _ (inodes : ℕ) (v : Volume) (table : ℕ → Option Description) (n : �
     opens_no_file other plain fd = past fd (Refused EISDIR) tree nothing (by told.0 told.1 told.2)
       where
         by : (o : Node) → v n ≡ Some o → stat ≡ stat_in n o → case fd y (Refused EISDIR) tree nothing
-        by (directory_node mode names) is same =
-            subst (λ (z : Object). case fd z (Refused EISDIR) tree nothing) (object_by n v (directory_node mode names) (trees.directory n) y is refl object) (refl, refl, refl)
-        by (file_node mode links bytes) is same = absurd (other (ap (λ (s : Stat). s.kind) same))
-        by (link_node text) is same = absurd (plain (ap found_in is))
+        by (directory_node attributes names) is same =
+            subst (λ (z : Object). case fd z (Refused EISDIR) tree nothing) (object_by n v (directory_node attributes names) (trees.directory n) y is refl object) (refl, refl, refl)
+        by (file_node attributes links bytes) is same = absurd (other (ap (λ (s : Stat). s.kind) same))
+        by (link_node attributes text) is same = absurd (plain (ap found_in is))
 
     module _ (kind : stat.kind ≡ File) where
       record TellsFile : Type 0 where
-        mode : ℕ
+        attributes : Attributes
         bytes : List ℕ
-        is : v n ≡ Some (file_node mode stat.links bytes)
+        is : v n ≡ Some (file_node attributes stat.links bytes)
         size : stat.size ≡ length bytes
 
       dir_file : {X : Type 0} → Dir ≡ File → X
@@ -162,19 +164,19 @@ module _ (inodes : ℕ) (v : Volume) (table : ℕ → Option Description) (n : �
       f = by told.0 told.1 told.2
         where
           by : (o : Node) → v n ≡ Some o → stat ≡ stat_in n o → TellsFile
-          by (directory_node mode names) is same = dir_file (sym (ap (λ (s : Stat). s.kind) same) ∙ kind)
-          by (file_node mode links bytes) is same = record {
-            mode = mode;
+          by (directory_node attributes names) is same = dir_file (sym (ap (λ (s : Stat). s.kind) same) ∙ kind)
+          by (file_node attributes links bytes) is same = record {
+            attributes = attributes;
             bytes = bytes;
-            is = is ∙ ap (λ (k : ℕ). Some (file_node mode k bytes)) (sym (ap (λ (s : Stat). s.links) same));
+            is = is ∙ ap (λ (k : ℕ). Some (file_node attributes k bytes)) (sym (ap (λ (s : Stat). s.links) same));
             size = ap (λ (s : Stat). s.size) same;
           }
-          by (link_node text) is same = link_file (sym (ap (λ (s : Stat). s.kind) same) ∙ kind)
+          by (link_node attributes text) is same = link_file (sym (ap (λ (s : Stat). s.kind) same) ∙ kind)
 
       at_file : (fd : ℕ) (new : Tree) (need : Need) → case fd (trees.file n) (Fd fd) new need → opens_object tree y flags fd (Fd fd) new need
       at_file fd new need done =
           past fd (Fd fd) new need
-          (subst (λ (z : Object). case fd z (Fd fd) new need) (object_by n v (file_node f.mode stat.links f.bytes) (trees.file n) y f.is refl object) done)
+          (subst (λ (z : Object). case fd z (Fd fd) new need) (object_by n v (file_node f.attributes stat.links f.bytes) (trees.file n) y f.is refl object) done)
 
       pub is_file_at : is_file_node (v n) ≡ true
       is_file_at = ap is_file_node f.is
@@ -190,7 +192,7 @@ module _ (inodes : ℕ) (v : Volume) (table : ℕ → Option Description) (n : �
 
       pub opens_whole : not flags.truncates ≡ true → OpensOver (opens_object tree y flags) inodes flags v table (opened stat.size None) None
       opens_whole keeps = (
-        (f.mode, f.bytes, f.is, f.size),
+        (f.attributes, f.bytes, f.is, f.size),
         λ fd. at_file fd (put fd tree) nothing (subst (λ (b : Bool). file_case b fd (Fd fd) (put fd tree) nothing) (sym (not-true flags.truncates keeps)) (refl, refl, refl)),
       )
 
@@ -218,14 +220,14 @@ module _ (inodes : ℕ) (v : Volume) (table : ℕ → Option Description) (n : �
 
         cut_now : (changing : Option Changing) → IsOpened after (opened 0 changing)
         cut_now changing = (
-          f.mode,
+          f.attributes,
           resized 0 f.bytes,
           node_here n n (with_file_bytes (resized 0) (v n)) v refl ∙ ap (with_file_bytes (resized 0)) f.is,
           sym (length-resized 0 f.bytes),
         )
 
         pub opens_cut : (changing : Option Changing) → CutsFile inodes v table n 0 changing → OpensOver (opens_object tree y flags) inodes flags v table (opened 0 changing) changing
-        opens_cut None (done, is, needs) = ((f.mode, f.bytes, f.is, no_bytes needs), λ fd. cut_at fd tree nothing is needs)
+        opens_cut None (done, is, needs) = ((f.attributes, f.bytes, f.is, no_bytes needs), λ fd. cut_at fd tree nothing is needs)
         opens_cut (Some c) (says, (over, (done, is, needs))) =
             let o = opened 0 (Some c) in
             let whole : swept table after ≡ after = fun_ext {f = swept table after} {g = after} over.1.is_swept in
@@ -323,7 +325,7 @@ module _ (inodes : ℕ) (v : Volume) (table : ℕ → Option Description) (volum
               no_file : {X : Type 0} → trees.directory d ≡ trees.file d → X
               no_file e = cc
 
-          is_made : swept table made n ≡ Some (file_node mode 1 [])
+          is_made : swept table made n ≡ Some (file_node (new_attributes mode) 1 [])
           is_made =
               let between = with_node n (Some (node_of (file mode))) v in
               ap (λ (w : Volume). w n) unswept
@@ -341,9 +343,9 @@ module _ (inodes : ℕ) (v : Volume) (table : ℕ → Option Description) (volum
         new_made o (Some c) ((n, says, good, can, free), told, one, empty) =
             let same : n ≡ o.number = same_number (sym says ∙ told) in
             let is : IsOpened (swept table (made n good can free)) o = (
-              mode,
+              new_attributes mode,
               [],
-              ap (swept table (made n good can free)) (sym same) ∙ is_made n good can free ∙ ap (λ (k : ℕ). Some (file_node mode k [])) (sym one),
+              ap (swept table (made n good can free)) (sym same) ∙ is_made n good can free ∙ ap (λ (k : ℕ). Some (file_node (new_attributes mode) k [])) (sym one),
               empty,
             ) in
             subst (OpensByRecord outcome inodes flags v table o) (sym says) (

@@ -31,9 +31,9 @@ module _ (v : Volume) where
 
     at_node : (n : ℕ) (o : Option Node) → entries v (here trail) part ≡ Some n → TurnTells (turn_at n o)
     at_node n None is = tt
-    at_node n (Some (directory_node mode names)) is = is
-    at_node n (Some (file_node mode links bytes)) is = is
-    at_node n (Some (link_node text)) is = is
+    at_node n (Some (directory_node attributes names)) is = is
+    at_node n (Some (file_node attributes links bytes)) is = is
+    at_node n (Some (link_node attributes text)) is = is
 
     by_name : (o : Option ℕ) → entries v (here trail) part ≡ o → TurnTells (turn_by v o)
     by_name None is = is

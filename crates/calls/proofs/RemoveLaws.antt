@@ -19,7 +19,6 @@ use Rattle.model.specs.declared.errno.Errno.TheVariants.{ENOENT, ENOTDIR, EPERM,
 use Rattle.model.specs.declared.reply.Reply.{Reply}
 use Rattle.model.specs.declared.reply.Reply.TheVariants.{Done, Refused}
 use Rattle.model.proofs.LooseLemmas.{some_same}
-use Rattle.model.proofs.MountedLemmas.{node_directory}
 use Rattle.model.proofs.VolumeLemmas.{enters_directory}
 use Rattle.model.proofs.WalkLemmas.{number_at-push}
 use Rattle.paths.specs.Steps.{found_in}
@@ -31,7 +30,7 @@ use Rattle.calls.specs.Unlink.{UnlinksEntry}
 use Rattle.calls.specs.declared.changed.Changing.{Changing}
 use Rattle.calls.proofs.LeadLaws.{leads_refused, leads_there, trail_end}
 use Rattle.calls.proofs.MakeLaws.{child_some, listing, tested_some, tested_none}
-use Rattle.model.proofs.ObjectLaws.{node_object}
+use Rattle.model.proofs.ObjectLaws.{directory_object, node_object}
 use Rattle.model.proofs.OptionLaws.{none_some}
 use Rattle.model.proofs.TestLaws.{first_append, first_in_front}
 
@@ -40,30 +39,30 @@ use Rattle.model.proofs.TestLaws.{first_append, first_in_front}
 -- what isn't a directory has no names
 pub no_names : (o : Option Node) → found_in o ≢ found.Directory → (x : Name) → names_in o x ≡ None
 no_names None other x = refl
-no_names (Some (directory_node mode names)) other x = absurd (other refl)
-no_names (Some (file_node mode links bytes)) other x = refl
-no_names (Some (link_node text)) other x = refl
+no_names (Some (directory_node attributes names)) other x = absurd (other refl)
+no_names (Some (file_node attributes links bytes)) other x = refl
+no_names (Some (link_node attributes text)) other x = refl
 
 object_is : (n : ℕ) (o : Option Node) (x : Object) → found_in o ≡ found.Directory → object_of n o ≡ Some x → x ≡ trees.directory n
 object_is n None x is object = not_found is
   where
     not_found : {X : Type 0} → found.Nothing ≡ found.Directory → X
     not_found e = cc
-object_is n (Some (directory_node mode names)) x is object = sym (some_same object)
-object_is n (Some (file_node mode links bytes)) x is object = not_found is
+object_is n (Some (directory_node attributes names)) x is object = sym (some_same object)
+object_is n (Some (file_node attributes links bytes)) x is object = not_found is
   where
     not_found : {X : Type 0} → found.File ≡ found.Directory → X
     not_found e = cc
-object_is n (Some (link_node text)) x is object = not_found is
+object_is n (Some (link_node attributes text)) x is object = not_found is
   where
     not_found : {X : Type 0} → found.Link ≡ found.Directory → X
     not_found e = cc
 
 object_other : (n : ℕ) (o : Option Node) (x : Object) → found_in o ≢ found.Directory → object_of n o ≡ Some x → is_directory (Some x) ≡ false
 object_other n None x other object = none_some object
-object_other n (Some (directory_node mode names)) x other object = absurd (other refl)
-object_other n (Some (file_node mode links bytes)) x other object = ap (λ (y : Object). is_directory (Some y)) (sym (some_same object))
-object_other n (Some (link_node text)) x other object = ap (λ (y : Object). is_directory (Some y)) (sym (some_same object))
+object_other n (Some (directory_node attributes names)) x other object = absurd (other refl)
+object_other n (Some (file_node attributes links bytes)) x other object = ap (λ (y : Object). is_directory (Some y)) (sym (some_same object))
+object_other n (Some (link_node attributes text)) x other object = ap (λ (y : Object). is_directory (Some y)) (sym (some_same object))
 
 -- ---- an entry that a path leads to
 
@@ -119,7 +118,7 @@ module _ (inodes : ℕ) (v : Volume) (table : ℕ → Option Description) (volum
     after = tree_of (swept table (applied change v)) table
 
     parent_is : t.objects finds.path ≡ Some (trees.directory d)
-    parent_is = ap (object_at v) finds.at ∙ node_directory d (v d) (enters_directory (v d) x n finds.edge)
+    parent_is = ap (object_at v) finds.at ∙ directory_object d (v d) (enters_directory (v d) x n finds.edge)
 
     -- the record takes away what stands there
     record Unnames : Type 0 where
@@ -237,9 +236,9 @@ module _ (inodes : ℕ) (v : Volume) (table : ℕ → Option Description) (volum
 
         no_directory : (o : Option Node) (y : Object) → found_in o ≢ found.Directory → object_of n o ≡ Some y → taken_away at y (Refused ENOTDIR) t nothing
         no_directory None y other object = none_some object
-        no_directory (Some (directory_node mode names)) y other object = absurd (other refl)
-        no_directory (Some (file_node mode links bytes)) y other object = subst (λ (z : Object). taken_away at z (Refused ENOTDIR) t nothing) (some_same object) (refl, refl, refl)
-        no_directory (Some (link_node link)) y other object = subst (λ (z : Object). taken_away at z (Refused ENOTDIR) t nothing) (some_same object) (refl, refl, refl)
+        no_directory (Some (directory_node attributes names)) y other object = absurd (other refl)
+        no_directory (Some (file_node attributes links bytes)) y other object = subst (λ (z : Object). taken_away at z (Refused ENOTDIR) t nothing) (some_same object) (refl, refl, refl)
+        no_directory (Some (link_node attributes link)) y other object = subst (λ (z : Object). taken_away at z (Refused ENOTDIR) t nothing) (some_same object) (refl, refl, refl)
 
         -- the names in it
         child : (y : Name) → IsSome (t.objects (at ++ y ∷ [])) ↔ IsSome (entries v n y)

@@ -16,14 +16,13 @@ use Rattle.model.specs.declared.errno.Errno.TheVariants.{EBUSY, EINVAL, ENAMETOO
 use Rattle.model.specs.declared.reply.Reply.{Reply}
 use Rattle.model.specs.declared.reply.Reply.TheVariants.{Done, Refused}
 use Rattle.model.proofs.LeadLemmas.{AnswersWell, resolves_well}
-use Rattle.model.proofs.VolumeLemmas.{directory_no_file}
+use Rattle.model.proofs.VolumeLemmas.{directory_no_file, enters_directory}
 use Rattle.model.proofs.WalkLemmas.{number_at-push}
 use Rattle.calls.specs.Changing.{ComesOrStays, ComesSweptBy}
 use Rattle.calls.specs.Leading.{LeadsTo}
 use Rattle.calls.specs.Rename.{MovesAlong, MovesName, PassTests}
 use Rattle.calls.specs.declared.changed.Changing.{Changing}
 use Rattle.records.specs.Obstacles.{BarsMove}
-use Rattle.records.proofs.FileLaws.{named_directory}
 use Rattle.calls.proofs.GapLaws.{finds_gap}
 use Rattle.calls.proofs.LeadLaws.{leads_refused, trail_end}
 use Rattle.calls.proofs.MakeLaws.{tested_none, tested_some}
@@ -92,7 +91,7 @@ module _ (inodes : ℕ) (v : Volume) (table : ℕ → Option Description) (volum
         is = inr (finds.is, some);
         at = finds.at;
         good = volume.graph.naming.names (here trail) y some;
-        directory = named_directory (v (here trail)) y m finds.edge;
+        directory = enters_directory (v (here trail)) y m finds.edge;
       }
 
   pub ends_gap : (trail : List ℕ) (y : Name) (r : Resolution) → AnswersWell t r → IsPlaceOf v (at_gap trail y) r → EndsAt r (here trail) y
@@ -148,7 +147,7 @@ module _ (inodes : ℕ) (v : Volume) (table : ℕ → Option Description) (volum
 
     pub along_entry : (trail : List ℕ) (y : Name) (m : ℕ) (s : Resolution) → m ≢ n → IsPlaceOf v (at_entry trail y m) s → MovesAlong v n trail y
     along_entry trail y m (named q) apart (w, trails, same, to) =
-        along w trail y trails (named_directory (v (here trail)) y m to) (volume.graph.naming.names (here trail) y (ap is_some to)) (λ is. apart (some_same (sym to ∙ is)))
+        along w trail y trails (enters_directory (v (here trail)) y m to) (volume.graph.naming.names (here trail) y (ap is_some to)) (λ is. apart (some_same (sym to ∙ is)))
     along_entry trail y m (missing w z) apart is = absurd is
     along_entry trail y m (refused errno) apart is = absurd is
 

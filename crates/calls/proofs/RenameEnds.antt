@@ -77,19 +77,19 @@ module _ (inodes : ℕ) (v : Volume) (table : ℕ → Option Description) (volum
         where
           by : (b : Option Node) → is_directory_node b ≡ false → (z : Name) → names_in b z ≡ None
           by None is_not z = refl
-          by (Some (directory_node mode names)) is_not z = absurd (false≢true (sym is_not))
-          by (Some (file_node mode links bytes)) is_not z = refl
-          by (Some (link_node text)) is_not z = refl
+          by (Some (directory_node attributes names)) is_not z = absurd (false≢true (sym is_not))
+          by (Some (file_node attributes links bytes)) is_not z = refl
+          by (Some (link_node attributes text)) is_not z = refl
 
       not_replaced : (a : Option Node) → IsSome a → v m ≡ a → with_target t p q (object_of m a) rest (Refused ENOTEMPTY) t nothing
       not_replaced None some at = absurd (false≢true some)
-      not_replaced (Some (directory_node mode names)) some at =
+      not_replaced (Some (directory_node attributes names)) some at =
           let (count, counts, most) = volume.limits.children m in
           let here = at_q inodes v table volume mounted tree front d x n at_old edge w k y at_new o object ∙ is in
           let (all, are, many) = listing inodes v table volume mounted tree q m here count counts in
           (all, are, not_empty q m here filled rest all are)
-      not_replaced (Some (file_node mode links bytes)) some at = absurd (no_names (Some (file_node mode links bytes)) refl at)
-      not_replaced (Some (link_node text)) some at = absurd (no_names (Some (link_node text)) refl at)
+      not_replaced (Some (file_node attributes links bytes)) some at = absurd (no_names (Some (file_node attributes links bytes)) refl at)
+      not_replaced (Some (link_node attributes text)) some at = absurd (no_names (Some (link_node attributes text)) refl at)
 
     -- the target as it stands in the tree
     at_target : (a : Option ℕ) → target ≡ a → (reply : Reply) → with_target t p q (object_at v a) rest reply t nothing → with_target t p q (t.objects q) rest reply t nothing

@@ -25,11 +25,11 @@ use Rattle.model.specs.declared.reply.Reply.TheVariants.{Done, Refused}
 use Rattle.model.proofs.KeptLemmas.{is_apart}
 use Rattle.model.proofs.LeadLemmas.{parent-push}
 use Rattle.model.proofs.RenameLemmas.{rename_done}
-use Rattle.model.proofs.VolumeLemmas.{directory_no_file}
+use Rattle.model.proofs.VolumeLemmas.{directory_no_file, enters_directory}
 use Rattle.model.proofs.WalkLemmas.{behind-append, behind-is, number_at-push, path_eq-same, same_path}
 use Rattle.calls.proofs.MakeLaws.{child_some, listing, tested_none, tested_some}
 use Rattle.calls.proofs.RenameTests.{above_directory}
-use Rattle.records.proofs.FileLaws.{named_directory, same_some}
+use Rattle.records.proofs.FileLaws.{same_some}
 use Rattle.model.proofs.ObjectLaws.{directory_object, directory_of, node_object, object_number}
 use Rattle.model.proofs.OptionLaws.{none_some}
 
@@ -43,9 +43,9 @@ not_same_file : (o : Object) (m : ℕ) (node : Option Node) → m ≢ number_of_
 not_same_file (trees.directory n) m found other = refl
 not_same_file (trees.symlink n text) m found other = refl
 not_same_file (trees.file n) m None other = refl
-not_same_file (trees.file n) m (Some (directory_node mode names)) other = refl
-not_same_file (trees.file n) m (Some (file_node mode links bytes)) other = ne_eqb n m (λ e. other (sym e))
-not_same_file (trees.file n) m (Some (link_node text)) other = refl
+not_same_file (trees.file n) m (Some (directory_node attributes names)) other = refl
+not_same_file (trees.file n) m (Some (file_node attributes links bytes)) other = ne_eqb n m (λ e. other (sym e))
+not_same_file (trees.file n) m (Some (link_node attributes text)) other = refl
 
 none_sorted : IsStrictlySortedBy (slice_cmp nat_cmp) []
 unfolding IsStrictlySortedBy
@@ -253,7 +253,7 @@ module _ (inodes : ℕ) (v : Volume) (table : ℕ → Option Description) (volum
             → outcome Done (tree_of (swept table (applied (rename d x k y) v)) table) (logs adds_name)
         move_done passed takes =
             rename_done v volume.graph table mounted.bounded mounted.files front w x y d k n at_old at_new edge
-            (named_directory (v d) x n edge) directory emptied above_only (paths_differ other) other can.name
+            (enters_directory (v d) x n edge) directory emptied above_only (paths_differ other) other can.name
             o (other_there other) passed takes
 
         -- its target can take it
@@ -263,7 +263,7 @@ module _ (inodes : ℕ) (v : Volume) (table : ℕ → Option Description) (volum
           where
             at_node : (m : ℕ) (a : Option Node) → IsSome a → v m ≡ a → target ≡ Some m → with_target t p q (object_of m a) rest reply new need
             at_node m None some is at = absurd (false≢true some)
-            at_node m (Some (directory_node mode names)) some is at = (
+            at_node m (Some (directory_node attributes names)) some is at = (
               [],
               record {
                 sorted = none_sorted;
@@ -274,8 +274,8 @@ module _ (inodes : ℕ) (v : Volume) (table : ℕ → Option Description) (volum
               },
               done,
             )
-            at_node m (Some (file_node mode links bytes)) some is at = done
-            at_node m (Some (link_node text)) some is at = done
+            at_node m (Some (file_node attributes links bytes)) some is at = done
+            at_node m (Some (link_node attributes text)) some is at = done
 
             free : CanReplace v d k y can.number None → with_target t p q None rest reply new need
             free may = place (path_eq (parent p) (parent q)) refl
@@ -297,7 +297,7 @@ module _ (inodes : ℕ) (v : Volume) (table : ℕ → Option Description) (volum
                         ]
                       where
                         old_stands : t.objects front ≡ Some (trees.directory d)
-                        old_stands = ap (object_at v) at_old ∙ directory_object d (v d) (named_directory (v d) x n edge)
+                        old_stands = ap (object_at v) at_old ∙ directory_object d (v d) (enters_directory (v d) x n edge)
 
                         new_stands : t.objects w ≡ Some (trees.directory k)
                         new_stands = ap (object_at v) at_new ∙ directory_object k (v k) directory

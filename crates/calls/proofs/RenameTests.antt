@@ -10,9 +10,9 @@ use Rattle.model.specs.Paths.{Name, Path}
 use Rattle.model.specs.Records.{IsBelow}
 use Rattle.model.specs.Volumes.{Volume, enter, entries, is_directory_node, number_at}
 use Rattle.model.proofs.OptionLaws.{none_some, some_same}
+use Rattle.model.proofs.VolumeLemmas.{enters_directory}
 use Rattle.model.specs.declared.limits.TheConstants.{ROOT_NUMBER}
 use Rattle.paths.specs.Numbers.{AreNumbers, IsNumber}
-use Rattle.records.proofs.FileLaws.{named_directory}
 use Rattle.calls.specs.Rename.{MovesAlong}
 use Rattle.calls.proofs.LeadLaws.{trail_end}
 
@@ -32,7 +32,7 @@ above_directory v n k (x ∷ p) is directory = by (entries v n x) refl is
 
     by : (o : Option ℕ) → entries v n x ≡ o → fold (enter (entries v)) o p ≡ Some k → IsTrue (is_directory_node (v n))
     by None at walk = none_some (sym (nowhere p) ∙ walk)
-    by (Some m) at walk = named_directory (v n) x m at
+    by (Some m) at walk = enters_directory (v n) x m at
 
 -- what lies on a trail has the directory at its end below it
 pub below_trail : (v : Volume) (w : Path) (trail : List ℕ) (n : ℕ) → Trails (entries v) w trail → Contains trail n → IsBelow (entries v) n (here trail)

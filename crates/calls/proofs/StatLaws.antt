@@ -14,6 +14,7 @@ use Rattle.images.specs.Contents.{StandsAs, content_bytes}
 use Rattle.inode.specs.declared.object.Object.{Object as MemoryObject}
 use Rattle.inofile.specs.Objects.{IsObject, IsObjectKind}
 use Rattle.inofile.specs.Settled.{content_of_object}
+use Rattle.model.specs.declared.attributes.Attributes.{Attributes}
 use Rattle.model.specs.Laws.{VolumesTellLinks}
 use Rattle.model.specs.Outcomes.{Outcome, answers, refuses}
 use Rattle.model.specs.Paths.{Path, text_tests}
@@ -41,7 +42,7 @@ use Rattle.model.proofs.OptionLaws.{none_some}
 
 -- the text of the link with this number, or that it is none
 abbrev pub TellsText : Volume → ℕ → Result (List ℕ) Errno → Type 0
-TellsText v n (Ok text) = v n ≡ Some (link_node text)
+TellsText v n (Ok text) = (attributes : Attributes) × (v n ≡ Some (link_node attributes text))
 TellsText v n (Err errno) = (found_in (v n) ≢ found.Link) × (errno ≡ EINVAL)
 
 -- what is no object isn't there
@@ -59,24 +60,24 @@ module _ (v : Volume) (table : ℕ → Option Description) where
 
   module _ (inodes : ℕ) (volume : IsVolume inodes v) (tell_links : VolumesTellLinks) (n : ℕ) where
     pub told : (o : Node) (x : Object) → v n ≡ Some o → object_of n (v n) ≡ Some x → tells_stat t x (replies.Stat (stat_in n o)) t nothing
-    told (directory_node mode names) x is object =
-        subst (λ (y : Object). tells_stat t y (replies.Stat (stat_in n (directory_node mode names))) t nothing)
-        (object_by n v (directory_node mode names) (trees.directory n) x is refl object)
+    told (directory_node attributes names) x is object =
+        subst (λ (y : Object). tells_stat t y (replies.Stat (stat_in n (directory_node attributes names))) t nothing)
+        (object_by n v (directory_node attributes names) (trees.directory n) x is refl object)
         (1, refl, (ap (λ (m : ℕ). replies.Stat (record { number = n; kind = Dir; mode = m; links = 1; size = 0 })) (sym (ap (λ (o : Option Node). unwrap_or (mode_of o) 0) is)), refl, refl))
-    told (file_node mode links bytes) x is object =
-        subst (λ (y : Object). tells_stat t y (replies.Stat (stat_in n (file_node mode links bytes))) t nothing)
-        (object_by n v (file_node mode links bytes) (trees.file n) x is refl object) (
+    told (file_node attributes links bytes) x is object =
+        subst (λ (y : Object). tells_stat t y (replies.Stat (stat_in n (file_node attributes links bytes))) t nothing)
+        (object_by n v (file_node attributes links bytes) (trees.file n) x is refl object) (
           links,
-          tell_links inodes v table n mode links bytes volume is,
+          tell_links inodes v table n attributes links bytes volume is,
           (
             ap (λ (o : Option Node). replies.Stat (record { number = n; kind = File; mode = unwrap_or (mode_of o) 0; links = links; size = length (unwrap_or (bytes_of_node o) []) })) (sym is),
             refl,
             refl,
           ),
         )
-    told (link_node text) x is object =
-        subst (λ (y : Object). tells_stat t y (replies.Stat (stat_in n (link_node text))) t nothing)
-        (object_by n v (link_node text) (trees.symlink n text) x is refl object)
+    told (link_node attributes text) x is object =
+        subst (λ (y : Object). tells_stat t y (replies.Stat (stat_in n (link_node attributes text))) t nothing)
+        (object_by n v (link_node attributes text) (trees.symlink n text) x is refl object)
         (1, refl, (refl, refl, refl))
 
     pub stat_answers : (follow : Bool) (text : List ℕ) (r : Result Stat Errno) → IsLed (text_tests text) v (resolve t follow text) (Ok n) → TellsStat v n r
@@ -102,15 +103,15 @@ module _ (v : Volume) (table : ℕ → Option Description) where
 
   no_link : (n : ℕ) (o : Option Node) (p : Path) (x : Object) → found_in o ≢ found.Link → object_of n o ≡ Some x → there p x (replies.Refused EINVAL) t nothing
   no_link n None p x other is = none_some is
-  no_link n (Some (directory_node mode names)) p x other is = subst (λ (y : Object). there p y (replies.Refused EINVAL) t nothing) (some_same is) (refl, refl, refl)
-  no_link n (Some (file_node mode links bytes)) p x other is = subst (λ (y : Object). there p y (replies.Refused EINVAL) t nothing) (some_same is) (refl, refl, refl)
-  no_link n (Some (link_node text)) p x other is = absurd (other refl)
+  no_link n (Some (directory_node attributes names)) p x other is = subst (λ (y : Object). there p y (replies.Refused EINVAL) t nothing) (some_same is) (refl, refl, refl)
+  no_link n (Some (file_node attributes links bytes)) p x other is = subst (λ (y : Object). there p y (replies.Refused EINVAL) t nothing) (some_same is) (refl, refl, refl)
+  no_link n (Some (link_node attributes text)) p x other is = absurd (other refl)
 
   pub link_answers : (text : List ℕ) (n : ℕ) (r : Result (List ℕ) Errno) → IsLed (text_tests text) v (resolve t false text) (Ok n) → TellsText v n r
       → reads_link t text (text_reply r) t nothing
-  link_answers text n (Ok told) led is =
+  link_answers text n (Ok told) led (attributes, is) =
       led_there v table there n (replies.Text told) t nothing
-      (λ p x at object. subst (λ (y : Object). there p y (replies.Text told) t nothing) (object_by n v (link_node told) (trees.symlink n told) x is refl object) (refl, refl, refl))
+      (λ p x at object. subst (λ (y : Object). there p y (replies.Text told) t nothing) (object_by n v (link_node attributes told) (trees.symlink n told) x is refl object) (refl, refl, refl))
       (text_tests text) (resolve t false text) led
   link_answers text n (Err errno) led (other, is) =
       led_there v table there n (replies.Refused errno) t nothing
@@ -126,47 +127,47 @@ pub none_there : (o : Option Node) → o ≡ None → (x : Node) → o ≡ Some 
 none_there o none x some = cc
 
 -- the text of what is a link
-pub link_text : (o : Option Node) (f : Found) (text : List ℕ) → f ≡ found_in o → f ≡ found.Link → text ≡ text_in o → o ≡ Some (link_node text)
+pub link_text : (o : Option Node) (f : Found) (text : List ℕ) → f ≡ found_in o → f ≡ found.Link → text ≡ text_in o → (attributes : Attributes) × (o ≡ Some (link_node attributes text))
 link_text None f text are is told = absurd (no_directory are is)
   where
     no_directory : f ≡ found.Nothing → f ≡ found.Link → ⊥
     no_directory a b = cc
-link_text (Some (directory_node mode names)) f text are is told = absurd (no_directory are is)
+link_text (Some (directory_node attributes names)) f text are is told = absurd (no_directory are is)
   where
     no_directory : f ≡ found.Directory → f ≡ found.Link → ⊥
     no_directory a b = cc
-link_text (Some (file_node mode links bytes)) f text are is told = absurd (no_file are is)
+link_text (Some (file_node attributes links bytes)) f text are is told = absurd (no_file are is)
   where
     no_file : f ≡ found.File → f ≡ found.Link → ⊥
     no_file a b = cc
-link_text (Some (link_node link)) f text are is told = ap (λ (t : List ℕ). Some (link_node t)) (sym told)
+link_text (Some (link_node attributes link)) f text are is told = (attributes, ap (λ (t : List ℕ). Some (link_node attributes t)) (sym told))
 
 -- ---- an object in memory
 
 module _ (disk : ℕ → List ℕ) (inodes : ℕ) (settled : Inode) (o : MemoryObject) (node : Option Node) (is_object : IsObject disk inodes settled o node) (n : ℕ) where
-  stands : (kind : LayoutKind) → o.attributes.kind ≡ kind → StandsAs kind inodes (content_of_object disk o) node
+  stands : (kind : LayoutKind) → o.status.kind ≡ kind → StandsAs kind inodes (content_of_object disk o) node
   stands kind is = subst (λ (k : LayoutKind). StandsAs k inodes (content_of_object disk o) node) is is_object.stands
 
-  pub stat_directory : o.attributes.kind ≡ kinds.Directory → IsStatOf n node (record { number = n; kind = Dir; mode = o.attributes.mode; links = 1; size = 0 })
+  pub stat_directory : o.status.kind ≡ kinds.Directory → IsStatOf n node (record { number = n; kind = Dir; mode = o.status.attributes.mode; links = 1; size = 0 })
   stat_directory is =
       let d = stands kinds.Directory is in
-      (directory_node o.attributes.mode d.0, d.2, refl)
+      (directory_node o.status.attributes d.0, d.2, refl)
 
-  pub stat_file : (size : ℕ) → size ≡ o.file.size → o.attributes.kind ≡ kinds.File
-      → IsStatOf n node (record { number = n; kind = File; mode = o.attributes.mode; links = o.attributes.links; size = size })
+  pub stat_file : (size : ℕ) → size ≡ o.file.size → o.status.kind ≡ kinds.File
+      → IsStatOf n node (record { number = n; kind = File; mode = o.status.attributes.mode; links = o.status.links; size = size })
   stat_file size same is = (
-    file_node o.attributes.mode o.attributes.links (content_bytes (content_of_object disk o)),
+    file_node o.status.attributes o.status.links (content_bytes (content_of_object disk o)),
     stands kinds.File is,
-    ap (λ (s : ℕ). record { number = n; kind = File; mode = o.attributes.mode; links = o.attributes.links; size = s })
+    ap (λ (s : ℕ). record { number = n; kind = File; mode = o.status.attributes.mode; links = o.status.links; size = s })
         (same ∙ sym (length-map-range_with_len (byte_in (content_of_object disk o).block) 0 o.file.size)),
   )
 
-  pub stat_link : (size : ℕ) → size ≡ o.file.size → o.attributes.kind ≡ kinds.Link
-      → IsStatOf n node (record { number = n; kind = Link; mode = o.attributes.mode; links = 1; size = size })
+  pub stat_link : (size : ℕ) → size ≡ o.file.size → o.status.kind ≡ kinds.Link
+      → IsStatOf n node (record { number = n; kind = Link; mode = o.status.attributes.mode; links = 1; size = size })
   stat_link size same is =
       let some : Sizes = record { blocks = LEAST_BLOCKS; inodes = LEAST_INODES; half = LEAST_HALF } in
-      let fits = subst (λ (k : LayoutKind). FitsKind k some o.attributes.mode o.attributes.links o.file.size) is (is_object.fits some) in (
-        link_node (content_bytes (content_of_object disk o)),
+      let fits = subst (λ (k : LayoutKind). FitsKind k some o.status.attributes o.status.links o.file.size) is (is_object.fits some) in (
+        link_node o.status.attributes (content_bytes (content_of_object disk o)),
         stands kinds.Link is,
         ap (λ (m : ℕ). record { number = n; kind = Link; mode = m; links = 1; size = size }) fits.0
             ∙ ap (λ (s : ℕ). record { number = n; kind = Link; mode = LINK_MODE; links = 1; size = s })

@@ -32,15 +32,15 @@ use Rattle.model.proofs.OptionLaws.{none_some}
 
 pub found_file : (o : Option Node) → found_in o ≡ found.File → is_file_node o ≡ true
 found_file None e = cc
-found_file (Some (directory_node mode names)) e = cc
-found_file (Some (file_node mode links bytes)) e = refl
-found_file (Some (link_node text)) e = cc
+found_file (Some (directory_node attributes names)) e = cc
+found_file (Some (file_node attributes links bytes)) e = refl
+found_file (Some (link_node attributes text)) e = cc
 
 pub found_other : (o : Option Node) → found_in o ≢ found.File → is_file_node o ≡ false
 found_other None other = refl
-found_other (Some (directory_node mode names)) other = refl
-found_other (Some (file_node mode links bytes)) other = absurd (other refl)
-found_other (Some (link_node text)) other = refl
+found_other (Some (directory_node attributes names)) other = refl
+found_other (Some (file_node attributes links bytes)) other = absurd (other refl)
+found_other (Some (link_node attributes text)) other = refl
 
 -- a file with this number is cut, or it is none
 abbrev pub CutsNumber : ℕ → Volume → (ℕ → Option Description) → ℕ → ℕ → Result (Option Changing) Errno → Type 0
@@ -80,15 +80,15 @@ module _ (inodes : ℕ) (v : Volume) (table : ℕ → Option Description) (text 
   at_file : (n : ℕ) (o : Option Node) → is_file_node o ≡ true → (p : Path) (x : Object) → object_of n o ≡ Some x
       → (reply : Reply) (new : Tree) (need : Need) → cuts t n (nat_abs size) reply new need → there p x reply new need
   at_file n None is p x object reply new need cut = none_some object
-  at_file n (Some (directory_node mode names)) is p x object reply new need cut = absurd (false≢true is)
-  at_file n (Some (file_node mode links bytes)) is p x object reply new need cut = subst (λ (y : Object). there p y reply new need) (some_same object) cut
-  at_file n (Some (link_node link)) is p x object reply new need cut = absurd (false≢true is)
+  at_file n (Some (directory_node attributes names)) is p x object reply new need cut = absurd (false≢true is)
+  at_file n (Some (file_node attributes links bytes)) is p x object reply new need cut = subst (λ (y : Object). there p y reply new need) (some_same object) cut
+  at_file n (Some (link_node attributes link)) is p x object reply new need cut = absurd (false≢true is)
 
   at_other : (n : ℕ) (o : Option Node) → is_file_node o ≡ false → found_in o ≢ found.Link → (p : Path) (x : Object) → object_of n o ≡ Some x → there p x (Refused EISDIR) t nothing
   at_other n None is plain p x object = none_some object
-  at_other n (Some (directory_node mode names)) is plain p x object = subst (λ (y : Object). there p y (Refused EISDIR) t nothing) (some_same object) (refl, refl, refl)
-  at_other n (Some (file_node mode links bytes)) is plain p x object = absurd (false≢true (sym is))
-  at_other n (Some (link_node link)) is plain p x object = absurd (plain refl)
+  at_other n (Some (directory_node attributes names)) is plain p x object = subst (λ (y : Object). there p y (Refused EISDIR) t nothing) (some_same object) (refl, refl, refl)
+  at_other n (Some (file_node attributes links bytes)) is plain p x object = absurd (false≢true (sym is))
+  at_other n (Some (link_node attributes link)) is plain p x object = absurd (plain refl)
 
   abbrev cut_change : ℕ → Change
   cut_change n = records.cut n (nat_abs size)

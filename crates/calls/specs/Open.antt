@@ -1,5 +1,6 @@
 -- What opening a file over a path comes to.
 use Rattle.std.specs.Prelude.{ℕ, ◌≡◌, ◌⊎◌, ◌≤◌, not, ◌&&◌, IsFalse, IsTrue, List, length, Option, Some, None, Result, Ok, Err}
+use Rattle.model.specs.declared.attributes.Attributes.{Attributes}
 use Rattle.model.specs.Descriptors.{described_by, opens_new, opens_object}
 use Rattle.model.specs.Edits.{with_descriptor}
 use Rattle.model.specs.Outcomes.{Outcome, leads}
@@ -27,7 +28,9 @@ opens_along inodes t path flags mode fd =
 
 -- the number, the names and the size are those of a file of the volume
 abbrev pub IsOpened : Volume → Opened → Type 0
-IsOpened v o = (mode : ℕ) × (bytes : List ℕ) × (v o.number ≡ Some (file_node mode o.links bytes)) × (o.size ≡ length bytes)
+IsOpened v o =
+    (attributes : Attributes) × (bytes : List ℕ) × (v o.number ≡ Some (file_node attributes o.links bytes))
+    × (o.size ≡ length bytes)
 
 -- a number and a size that are told keep to the limits
 abbrev pub KeepsOpenedBounds : ℕ → Opened → Type 0

@@ -10,9 +10,11 @@ use Rattle.model.specs.declared.reply.Stat.{Stat}
 
 -- what is told of an object with a number: a directory shows 1 link and no size, a link the mode of links, 1 link and its text's length
 abbrev pub stat_in : ℕ → Node → Stat
-stat_in n (directory_node mode names) = record { number = n; kind = Dir; mode = mode; links = 1; size = 0 }
-stat_in n (file_node mode links bytes) = record { number = n; kind = File; mode = mode; links = links; size = length bytes }
-stat_in n (link_node text) = record { number = n; kind = Link; mode = LINK_MODE; links = 1; size = length text }
+stat_in n (directory_node attributes names) = record { number = n; kind = Dir; mode = attributes.mode; links = 1; size = 0 }
+stat_in n (file_node attributes links bytes) =
+    record { number = n; kind = File; mode = attributes.mode; links = links; size = length bytes }
+stat_in n (link_node attributes text) =
+    record { number = n; kind = Link; mode = LINK_MODE; links = 1; size = length text }
 
 -- it is told of this object
 abbrev pub IsStatOf : ℕ → Option Node → Stat → Type 0

@@ -10,9 +10,9 @@ use Rattle.layout.specs.declared.root.Root.{Root}
 use Rattle.layout.specs.declared.version.TheConstants.{SNAPSHOT_SLOTS}
 use Rattle.images.specs.BlockMap.{HasBit, IsSystem}
 use Rattle.images.specs.Faults.{IsFaultless, IsTreeGrammar}
-use Rattle.images.specs.Roots.{Reach, frozen_at, slot, whole}
+use Rattle.images.specs.Roots.{Reach, slot, whole}
 use Rattle.images.specs.Soundness.{IsWithin}
-use Rattle.images.proofs.EmptyLaws.{free_named}
+use Rattle.images.proofs.PointLaws.{frozen_drops}
 use Rattle.checker.specs.Findings.{HasTree, ShouldHave, tree_in}
 use Rattle.checker.specs.Rows.{KeepsTrees, PlaneAt}
 use Rattle.checker.specs.Trees.{AreTrees, IsApart, IsOut, IsSeen, IsTreeOf}
@@ -28,12 +28,6 @@ has_or_not r (suc k) = at (slot r (suc k)) refl
     at : (p : Pointer) → slot r (suc k) ≡ p → HasTree r (suc k) ⊎ ((slot r (suc k) ≡ Hole) × (1 ≤ suc k))
     at Hole is = inr (is, omega arith)
     at (Block block) is = inl (block, is)
-
-no_tree_reach : (disk : Blocks) (r : Root) (k b : ℕ) → slot r k ≡ Hole → Reach ((whole disk r).frozen k) b → ⊥
-unfolding whole
-no_tree_reach disk r k b hole reach =
-    let free = subst (λ t. Reach t b) (ap (frozen_at disk r.geometry.inodes) hole) reach in
-    free_named disk b free.names
 
 no_tree : (r : Root) (k : ℕ) → slot r k ≡ Hole → 1 ≤ k → HasTree r k → ⊥
 no_tree r zero hole some has = omega (arith, some)
@@ -116,7 +110,7 @@ module _ (disk : Blocks) (r : Root) (marks : List ℕ) (old new : List Tree) (Kn
       | inl has ↦ of_tree (suc k) b has other
       | inr hole ↦ (
         λ bit. absurd (clean (suc k) b (no_tree r (suc k) hole.0 some) ((others (suc k) b other).0 bit)),
-        λ reach. absurd (no_tree_reach disk r (suc k) b hole.0 reach),
+        λ reach. absurd (frozen_drops disk r (suc k) b hole.0 reach),
       )
     ]
 

@@ -1,23 +1,14 @@
 -- Trees that are changed one after the other.
-use Rattle.std.proofs.Common.{◌≡◌, ◌≢◌, ◌∙◌, ℕ, ◌+◌, ◌<◌, ◌≤◌, List, length, get_or, set, arith, ap, sym, subst, refl, inl, inr, get_or-set_other, get_or-set_same, length-set}
+use Rattle.std.proofs.Common.{◌≡◌, ◌≢◌, ◌∙◌, ℕ, ◌+◌, ◌<◌, ◌≤◌, List, length, get_or, set, arith, ap, sym, subst, refl, inl, inr, get_or-set_same, length-set}
 use Rattle.std.specs.Prelude.{Some, slice_get, Contains}
 use Rattle.std.proofs.Math.Nat.{eq-or-lt_of_le}
-use Rattle.std.proofs.lemmas.Bool.{cases_lt}
-use Rattle.std.proofs.lemmas.Option.{get_or_from_slice_get, slice_get-get_or, slice_get_cases, slice_get_past, slice_get_read, slice_get_within}
+use Rattle.std.proofs.lemmas.Option.{get_or_from_slice_get, slice_get-get_or, slice_get_cases, slice_get_read, slice_get_within}
 use Rattle.model.proofs.OptionLaws.{some_same}
+use Rattle.model.proofs.ListLaws.{get_others}
 
 -- an element that is written
 pub get_set : {X : Type 0} (xs : List X) (i : ℕ) (x : X) → i < length xs → slice_get (set xs i x) i ≡ Some x
 get_set xs i x lt = slice_get-get_or (set xs i x) i x (omega (arith, lt, length-set xs i x)) ∙ ap (λ (y : _). Some y) (get_or-set_same xs i x x lt)
-
--- the others stay
-pub get_others : {X : Type 0} (xs : List X) (i j : ℕ) (x : X) → j ≢ i → slice_get (set xs i x) j ≡ slice_get xs j
-get_others xs i j x other = elim (cases_lt j (length xs)) [
-  | inl lt ↦
-      slice_get-get_or (set xs i x) j x (omega (arith, lt, length-set xs i x)) ∙ ap (λ (y : _). Some y) (get_or-set_other xs i j x x other)
-      ∙ sym (slice_get-get_or xs j x lt)
-  | inr past ↦ slice_get_past (set xs i x) j (omega (arith, past, length-set xs i x)) ∙ sym (slice_get_past xs j past)
-]
 
 -- an element that is read, and one that a list contains
 pub get_at : {X : Type 0} (xs : List X) (i : ℕ) (x : X) → i < length xs → x ≡ get_or xs i x → slice_get xs i ≡ Some x

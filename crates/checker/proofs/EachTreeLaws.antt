@@ -14,6 +14,7 @@ use Rattle.layout.specs.declared.inode.Body.TheVariants.{Inline, Pointers}
 use Rattle.layout.specs.declared.inode.Inode.{Inode}
 use Rattle.layout.specs.declared.pointer.Pointer.{Pointer}
 use Rattle.layout.specs.declared.root.Root.{Root}
+use Rattle.model.proofs.ListLaws.{get_others}
 use Rattle.images.specs.Faults.{HoldsGraph, IsFaultless, IsTreeGrammar}
 use Rattle.images.specs.Nodes.{file_block, held}
 use Rattle.images.specs.Roots.{Whole, whole}
@@ -33,7 +34,7 @@ use Rattle.checker.specs.declared.fault.FileNode.{FileNode}
 use Rattle.checker.specs.declared.fault.Finding.{Finding}
 use Rattle.checker.specs.declared.nodes.Shared.{Shared}
 use Rattle.checker.specs.declared.tree.Tree.{Tree}
-use Rattle.checker.proofs.EachLaws.{get_others, get_set}
+use Rattle.checker.proofs.EachLaws.{get_set}
 use Rattle.checker.proofs.FindingLaws.{more_found}
 use Rattle.checker.proofs.WholeLaws.{first_told, grammar_seen, out_number, seen_with}
 

@@ -1,10 +1,9 @@
 -- Entries of the block map, compared with what the trees name.
-use Rattle.std.proofs.Common.{◌≡◌, ◌∙◌, ℕ, zero, suc, ◌+◌, ◌-◌, ◌*◌, ◌/◌, ◌%◌, ◌<◌, ◌≤◌, ◌==◌, if◌then◌else◌, List, length, slice_index, refl, ap, sym, subst, arith, inl, inr}
+use Rattle.std.proofs.Common.{◌≡◌, ◌∙◌, ℕ, zero, suc, ◌+◌, ◌-◌, ◌*◌, ◌/◌, ◌%◌, ◌<◌, ◌≤◌, ◌==◌, if◌then◌else◌, List, length, slice_index, ap, sym, subst, arith, inl, inr}
 use Rattle.std.specs.Prelude.{min}
 use Rattle.std.proofs.Math.Dec.{eqb-suc-zero}
 use Rattle.std.proofs.lemmas.Bool.{cases_lt}
-use Rattle.std.proofs.lemmas.List.{get_or-drop, get_or_past}
-use Rattle.layout.specs.Bytes.{number}
+use Rattle.std.proofs.lemmas.List.{get_or_past}
 use Rattle.layout.specs.Inode.{IsInode, inode_bytes}
 use Rattle.layout.specs.Limits.{AreSizes, Sizes}
 use Rattle.layout.specs.Maps.{map_entry}
@@ -16,6 +15,7 @@ use Rattle.layout.specs.declared.inode.Inode.{Inode}
 use Rattle.layout.specs.declared.root.Root.{Root}
 use Rattle.layout.specs.declared.version.TheConstants.{VERSION}
 use Rattle.layout.proofs.SizeLaws.{map_size}
+use Rattle.layout.proofs.ZeroLaws.{word_zero}
 use Rattle.buffers.specs.Disks.{IsWhole}
 use Rattle.blocktree.specs.PlaceMaps.{place_at}
 use Rattle.blocktree.specs.Trees.{AreSound}
@@ -106,18 +106,12 @@ few_more bytes blocks j more marks has = let few = few_free (map_entry bytes) (e
 
 -- ---- all
 
-word_zero : (bytes : List ℕ) (i : ℕ) → ((q : ℕ) → q < 4 → slice_index bytes (4 * i + q) ≡ 0) → map_entry bytes i ≡ 0
-unfolding number
-word_zero bytes i none =
-    let at = λ (q : ℕ) (lt : q < 4). get_or-drop (4 * i) bytes q 0 ∙ none q lt in
-    rw (at 0 (omega arith), at 1 (omega arith), at 2 (omega arith), at 3 (omega arith)) refl
-
 -- past the disk's end no entry is set
 entry_past : (s : Sizes) (t : HeldTree) (b : ℕ) → IsTreeGrammar s t → s.blocks ≤ b → entry t b ≡ 0
 unfolding entry
 entry_past s t b grammar past =
     let i = (t 2).inode in
-    let size : i.size ≡ 4 * s.blocks = map_size i.kind s i.mode i.links i.size (grammar.kinds 2) (grammar.files 2).inode.kind in
+    let size : i.size ≡ 4 * s.blocks = map_size i.kind s i.attributes i.links i.size (grammar.kinds 2) (grammar.files 2).inode.kind in
     word_zero (file_block (t 2) (b / 1024)) (b % 1024) (λ q lt.
     let block : (4 * b + q) / 4096 ≡ b / 1024 = omega arith in
     let place : (4 * b + q) % 4096 ≡ 4 * (b % 1024) + q = omega arith in
@@ -170,7 +164,7 @@ map_read reads spells all s disk r t i file places blocks root same is plane gra
     let two : (whole disk r).active 2 ≡ held disk i =
     map_inode reads spells s disk r t i same sizes is plane (known_tree disk r s t same plane grammar) fits spelled in
     let known : IsFileGrammar s (held disk i) = subst (IsFileGrammar s) two (map_known disk r s same grammar) in
-    let size : i.size ≡ 4 * s.blocks = map_size i.kind s i.mode i.links i.size (sym (ap (λ (h : Held). h.inode.kind) two) ∙ grammar.kinds 2) fits.kind in
+    let size : i.size ≡ 4 * s.blocks = map_size i.kind s i.attributes i.links i.size (sym (ap (λ (h : Held). h.inode.kind) two) ∙ grammar.kinds 2) fits.kind in
     let large : 128 < i.size = omega (arith, size, sizes.least_blocks) in record {
       is = two;
       grammar = known;

@@ -1,9 +1,10 @@
 -- Lists of what was found, and tables of numbers, with one more.
-use Rattle.std.proofs.Common.{◌≡◌, ◌≢◌, ◌⊎◌, ◌∙◌, inl, inr, ℕ, zero, suc, ◌+◌, ◌<◌, ◌≤◌, ◌==◌, if◌then◌else◌, List, [], ◌∷◌, ◌++◌, length, get_or, set, length-set, length-append, Some, refl, sym, ap, subst, arith}
+use Rattle.std.proofs.Common.{◌≡◌, ◌≢◌, ◌∙◌, inl, inr, ℕ, zero, suc, ◌+◌, ◌<◌, ◌≤◌, ◌==◌, if◌then◌else◌, List, [], ◌∷◌, ◌++◌, length, get_or, set, length-set, length-append, Some, refl, sym, ap, subst, arith}
 use Rattle.std.specs.Prelude.{slice_get}
 use Rattle.std.proofs.lemmas.List.Sums.{sum_by-set}
 use Rattle.std.proofs.lemmas.Bool.{cond-true, cond-false, eq-eqb, ne_eqb}
-use Rattle.model.proofs.OptionLaws.{none_some, some_same}
+use Rattle.model.proofs.OptionLaws.{none_some}
+use Rattle.model.proofs.ListLaws.{get_pushed}
 use Rattle.checker.specs.Names.{AreWithin}
 use Rattle.checker.specs.Walks.{GoesOn, nameless}
 use Rattle.checker.specs.declared.names.NumberRow.{NumberRow}
@@ -13,16 +14,6 @@ module _ {X : Type 0} where
   get_front [] ys i x is = none_some is
   get_front (y ∷ xs) ys zero x is = is
   get_front (y ∷ xs) ys (suc i) x is = get_front xs ys i x is
-
-  pub get_last : (xs : List X) (x : X) → slice_get (xs ++ x ∷ []) (length xs) ≡ Some x
-  get_last [] x = refl
-  get_last (y ∷ xs) x = get_last xs x
-
-  pub get_pushed : (xs : List X) (x : X) (i : ℕ) (y : X) → slice_get (xs ++ x ∷ []) i ≡ Some y → (slice_get xs i ≡ Some y) ⊎ ((i ≡ length xs) × (y ≡ x))
-  get_pushed [] x zero y is = inr (refl, sym (some_same is))
-  get_pushed [] x (suc i) y is = none_some is
-  get_pushed (z ∷ xs) x zero y is = inl is
-  get_pushed (z ∷ xs) x (suc i) y is = elim (get_pushed xs x i y is) [ inl old ↦ inl old | inr new ↦ inr (ap (λ (k : ℕ). suc k) new.0, new.1) ]
 
 -- ---- a table and what is found, as they go on
 

@@ -12,18 +12,17 @@ use Rattle.layout.specs.declared.kind.Kind.TheVariants.{Directory, Free}
 use Rattle.layout.specs.declared.pointer.Pointer.TheVariants.{Block}
 use Rattle.layout.specs.declared.TheConstants.{SLOT_A, SLOT_B}
 use Rattle.layout.specs.declared.root.Root.{Root}
-use Rattle.layout.specs.Opens.{IsNewest}
-use Rattle.layout.specs.Root.{IsRoot}
 use Rattle.layout.proofs.OpenLaws.{newest_once}
 use Rattle.model.specs.Paths.{Name}
 use Rattle.model.proofs.CountLemmas.{counts_once}
 use Rattle.model.proofs.ListingLemmas.{names_apart}
-use Rattle.model.specs.Volumes.{HasNames, Volume, entries, file_node}
+use Rattle.model.specs.Volumes.{HasNames, Volume, entries}
 use Rattle.images.specs.BlockMap.{HasBit, IsExact, entry}
 use Rattle.images.specs.Contents.{Content, HoldsVolume, content_bytes, content_of, tree_contents}
 use Rattle.images.specs.Faults.{HasRoots, IsFaultless, IsFaultlessUnder}
 use Rattle.images.specs.Roots.{HeldTree, Whole, slot, whole}
 use Rattle.images.specs.Soundness.{FitsNumber, IsWithin}
+use Rattle.images.proofs.StateLaws.{newest_is_root}
 use Rattle.checker.specs.Checks.{IsGood, Reports}
 use Rattle.checker.specs.Findings.{HasTree, IsFaultIn, IsFindingUnder, IsNamedTree, IsTreeFinding, ShouldHave, StandsIn, tree_in}
 use Rattle.checker.specs.declared.fault.Fault.{Fault}
@@ -86,11 +85,11 @@ module _ (one : HoldOneVolume) (r : Root) (t : HeldTree) (few : r.geometry.inode
   no_tree_finding (faults.Shared block first second) (one, other, differ) = differ (one_node block first second one other)
   no_tree_finding (faults.InodeMap number is_taken) (taken, free) = map_told number is_taken taken free
   no_tree_finding (faults.Directory found) (not, numbers) = not is.names.names
-  no_tree_finding (faults.Links number names links) (v, holds, has, differ, mode, bytes, file) =
+  no_tree_finding (faults.Links number names links) (v, holds, has, differ, attributes, bytes, file) =
       let named = is.names.names in
       let same = one r.geometry.inodes (tree_contents t) v named.volume few holds named.holds in
       let at = ap (λ (w : Volume). w number) (sym same) ∙ file in
-      let counted = is.names.counts number mode links bytes at in
+      let counted = is.names.counts number attributes links bytes at in
       differ (counts_once (λ (place : ℕ × Name). entries v place.0 place.1 ≡ Some number)
       place_apart names links has
       (subst (λ (w : Volume). HasNames (entries w) number links) (sym same) counted))
@@ -165,15 +164,11 @@ module _ (one : HoldOneVolume) (r : Root) (w : Whole) (nvram : List ℕ) (change
 
 -- ---- in images that open
 
-newest_root : (r : Root) (a b : List ℕ) → IsNewest r a b → IsRoot r
-newest_root r a b (inl first) = first.0.root
-newest_root r a b (inr second) = second.0.root
-
 module _ (one : HoldOneVolume) (sectors : ℕ) (disk : ℕ → List ℕ) (nvram : List ℕ) (root : Root) (roots : HasRoots root sectors disk nvram) (changes : List Change)
     (under : IsFaultlessUnder root (whole (blocks_of disk) root) nvram changes) where
   found_under : (tree : TreeName) (fault : Fault) → (r : Root) × HasRoots r sectors disk nvram × IsFindingUnder r (whole (blocks_of disk) r) nvram tree fault → ⊥
   found_under tree fault (r, has, told) =
-      let sizes = (newest_root root (disk SLOT_A) (disk SLOT_B) roots.newest).head.sizes in
+      let sizes = (newest_is_root root (disk SLOT_A) (disk SLOT_B) roots.newest).head.sizes in
       no_finding_under one root (whole (blocks_of disk) root) nvram changes
       (omega (arith, sizes.most_inodes)) under tree fault
       (subst (λ (x : Root). IsFindingUnder x (whole (blocks_of disk) x) nvram tree fault) (newest_once (disk SLOT_A) (disk SLOT_B) r root has.newest roots.newest) told)

@@ -10,13 +10,15 @@ use Rattle.layout.specs.declared.kind.Kind.TheVariants as kinds
 use Rattle.layout.specs.declared.pointer.Pointer.{Pointer}
 use Rattle.layout.specs.declared.pointer.Pointer.TheVariants.{Block, Hole}
 use Rattle.layout.specs.declared.root.Root.{Root}
+use Rattle.model.specs.declared.attributes.Attributes.{Attributes}
 use Rattle.model.specs.Counting.{Counts}
 use Rattle.model.specs.Paths.{IsName, Name, Path}
-use Rattle.model.specs.Volumes.{CountsNames, Entries, HasNames, IsNaming, Node, Volume, directory_node, enter, entries, file_node, is_directory_node, is_file_node, link_node, names_in, number_at}
+use Rattle.model.specs.Volumes.{CountsNames, Entries, HasNames, IsNaming, Node, Volume, directory_node, enter, entries, file_node, is_directory_node, is_file_node, names_in, number_at}
 use Rattle.model.specs.declared.limits.TheConstants.{FIRST_NUMBER, ROOT_NUMBER}
 use Rattle.model.proofs.KeptLemmas.{same_or_not}
 use Rattle.model.proofs.OptionLaws.{absent, none_some, some_same}
 use Rattle.model.proofs.WalkLemmas.{number_at-push}
+use Rattle.model.proofs.VolumeLemmas.{enters_directory}
 use Rattle.images.specs.Contents.{Content, HoldsVolume, StandsAs, content_bytes, content_of, tree_contents}
 use Rattle.images.specs.Faults.{HoldsGraph, HoldsNames, IsTreeGrammar}
 use Rattle.images.specs.Nodes.{Held, held}
@@ -33,12 +35,6 @@ use Rattle.checker.specs.declared.names.NumberRow.{NumberRow}
 
 -- ---- the kinds of objects
 
-has_names : (o : Option Node) (x : Name) (n : ℕ) → names_in o x ≡ Some n → IsTrue (is_directory_node o)
-has_names None x n is = none_some is
-has_names (Some (directory_node mode names)) x n is = refl
-has_names (Some (file_node mode links bytes)) x n is = none_some is
-has_names (Some (link_node text)) x n is = none_some is
-
 no_file : {X : Type 0} (o node : Option Node) → o ≡ node → IsFalse (is_file_node node) → IsTrue (is_file_node o) → X
 no_file o node same not is = absurd (both_ways (is_file_node node) not (sym (ap is_file_node same) ∙ is))
 
@@ -52,7 +48,7 @@ file_kind kinds.InodeMap inodes c o stands is = no_file o _ stands refl is
 file_kind kinds.BlockMap inodes c o stands is = no_file o _ stands refl is
 
 one_name : (k : Kind) (inodes : ℕ) (c : Content) (o : Option Node) → StandsAs k inodes c o → IsSome o → IsFalse (is_file_node o) → HasOneName k
-one_name kinds.File inodes c o stands some not = no_file (Some (file_node c.mode c.links (content_bytes c))) o (sym stands) not refl
+one_name kinds.File inodes c o stands some not = no_file (Some (file_node c.attributes c.links (content_bytes c))) o (sym stands) not refl
 one_name kinds.Directory inodes c o stands some not = tt
 one_name kinds.Link inodes c o stands some not = tt
 one_name kinds.Free inodes c o stands some not = absent o stands some
@@ -165,17 +161,17 @@ module _ (s : Sizes) (t : HeldTree) (known : IsKnown s t) (e : Entries) (found :
 
   module _ (v : Volume) (holds : HoldsVolume s.inodes (tree_contents t) v) where
     -- a directory that was found has these names
-    directory_at : (d : ℕ) → IsFound d → v d ≡ Some (directory_node (t d).inode.mode (e d))
+    directory_at : (d : ℕ) → IsFound d → v d ≡ Some (directory_node (t d).inode.attributes (e d))
     directory_at d is =
         let c = content_of (t d) in
-        ap (λ (w : Volume). w 0) (known.once (λ _. c) (λ _. v d) (λ _. Some (directory_node c.mode (e d))) (λ _. holds d)
-        (λ _. subst (λ (k : Kind). StandsAs k s.inodes c (Some (directory_node c.mode (e d)))) (sym (walked.counted.reached d is).0) (e d, (walked.names d is).1, refl)))
+        ap (λ (w : Volume). w 0) (known.once (λ _. c) (λ _. v d) (λ _. Some (directory_node c.attributes (e d))) (λ _. holds d)
+        (λ _. subst (λ (k : Kind). StandsAs k s.inodes c (Some (directory_node c.attributes (e d)))) (sym (walked.counted.reached d is).0) (e d, (walked.names d is).1, refl)))
 
     same_entry : (d : ℕ) (x : Name) → IsFound d → entries v d x ≡ e d x
     same_entry d x is = ap (λ (o : Option Node). names_in o x) (directory_at d is)
 
     kind_of : (d : ℕ) (x : Name) (n : ℕ) → entries v d x ≡ Some n → (t d).inode.kind ≡ kinds.Directory
-    kind_of d x n is = directory_kind (t d).inode.kind s.inodes (content_of (t d)) (v d) (holds d) (has_names (v d) x n is)
+    kind_of d x n is = directory_kind (t d).inode.kind s.inodes (content_of (t d)) (v d) (holds d) (enters_directory (v d) x n is)
 
     -- what a path leads to has a name
     path_reaches : (p : Path) (o : Option ℕ) (n : ℕ) → ((k : ℕ) → o ≡ Some k → Reaches k) → fold (enter (entries v)) o p ≡ Some n → Reaches n
@@ -213,19 +209,19 @@ module _ (s : Sizes) (t : HeldTree) (known : IsKnown s t) (e : Entries) (found :
       names_are n row at = subst (λ (f : Entries). HasNames f n row.names) (sym entries_are) (walked.counted.counts n row at)
 
       -- a file stands with its links
-      file_at : (n : ℕ) → (t n).inode.kind ≡ kinds.File → v n ≡ Some (file_node (t n).inode.mode (t n).inode.links (content_bytes (content_of (t n))))
+      file_at : (n : ℕ) → (t n).inode.kind ≡ kinds.File → v n ≡ Some (file_node (t n).inode.attributes (t n).inode.links (content_bytes (content_of (t n))))
       file_at n kind = subst (λ (k : Kind). StandsAs k s.inodes (content_of (t n)) (v n)) kind (holds n)
 
       -- where a file's names are not as many as its links, they are these
       unlinked : (n : ℕ) (row : NumberRow) → IsRow table n row → row.kind ≡ kinds.File → row.names ≢ row.links
-          → HasNames (entries v) n row.names × (row.names ≢ row.links) × (mode : ℕ) × (bytes : List ℕ) × (v n ≡ Some (file_node mode row.links bytes))
+          → HasNames (entries v) n row.names × (row.names ≢ row.links) × (attributes : Attributes) × (bytes : List ℕ) × (v n ≡ Some (file_node attributes row.links bytes))
       unlinked n row is_row file differ =
           let has = walked.counted.rows.each n row (omega (arith, is_row.0)) is_row.1 in (
             names_are n row is_row.1,
             differ,
-            (t n).inode.mode,
+            (t n).inode.attributes,
             content_bytes (content_of (t n)),
-            file_at n (sym has.0 ∙ file) ∙ ap (λ (links : ℕ). Some (file_node (t n).inode.mode links (content_bytes (content_of (t n))))) (sym has.1),
+            file_at n (sym has.0 ∙ file) ∙ ap (λ (links : ℕ). Some (file_node (t n).inode.attributes links (content_bytes (content_of (t n))))) (sym has.1),
           )
 
       entry_once : (d k n : ℕ) (x y : Name) → entries v d x ≡ Some n → entries v k y ≡ Some n → IsFalse (is_file_node (v n)) → (d ≡ k) × (x ≡ y)
@@ -263,7 +259,7 @@ module _ (s : Sizes) (t : HeldTree) (known : IsKnown s t) (e : Entries) (found :
 
       module _ (linked : AreLinked table) where
         counted : CountsNames v
-        counted n mode links bytes is =
+        counted n attributes links bytes is =
             let c = content_of (t n) in
             let kind = file_kind c.kind s.inodes c (v n) (holds n) (ap is_file_node is) in
             let file = subst IsNamedKind (sym kind) tt in
@@ -279,7 +275,7 @@ module _ (s : Sizes) (t : HeldTree) (known : IsKnown s t) (e : Entries) (found :
             no_root : kinds.File ≡ kinds.Directory → ⊥
             no_root other = cc
 
-            links_same : {a b k l : ℕ} {x y : List ℕ} → Some (file_node a k x) ≡ Some (file_node b l y) → k ≡ l
+            links_same : {a b : Attributes} {k l : ℕ} {x y : List ℕ} → Some (file_node a k x) ≡ Some (file_node b l y) → k ≡ l
             links_same same = cc
 
 -- ---- what the rows tell

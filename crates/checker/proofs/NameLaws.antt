@@ -2,17 +2,15 @@
 use Rattle.std.proofs.Common.{◌≡◌, ◌≢◌, ◌⊎◌, ◌∙◌, inl, inr, ℕ, zero, suc, ◌+◌, ◌/◌, ◌<◌, ◌≤◌, ◌^◌, ◌==◌, if◌then◌else◌, List, [], ◌∷◌, ◌++◌, length, Option, Some, None, bytes_eq, refl, sym, ap, subst, arith}
 use Rattle.std.proofs.Math.Path.{fun_ext}
 use Rattle.std.proofs.lemmas.Bool.{cases_eq, cases_lt, cond-true, cond-false, eq-eqb, ne_eqb, false_from_ne_true}
-use Rattle.std.proofs.lemmas.List.{append_cancel_left}
 use Rattle.std.proofs.lemmas.Slice.Eq.{bytes_eq-Decides}
 use Rattle.layout.specs.Bytes.{zeros}
-use Rattle.layout.specs.Directory.{HoldsEntries, IsEntry, Named, entry_bytes, entry_in}
+use Rattle.layout.specs.Directory.{HoldsEntries, IsEntry, Named, entry_bytes}
 use Rattle.layout.specs.DirectoryNames.{HasEachOnce, number_of}
 use Rattle.layout.specs.Limits.{Sizes}
 use Rattle.layout.specs.declared.TheConstants.{BLOCK_BYTES}
 use Rattle.layout.specs.declared.kind.Kind.{Kind}
 use Rattle.layout.specs.declared.kind.Kind.TheVariants.{Directory}
-use Rattle.layout.proofs.EntryLaws.{entry_again, not_zeros}
-use Rattle.layout.proofs.Formats.{some_is}
+use Rattle.layout.proofs.EntryLaws.{entries_once, one_first}
 use Rattle.model.specs.Paths.{Name}
 use Rattle.model.specs.Volumes.{Entries, Volume, entries, names_in, with_edge}
 use Rattle.model.proofs.ListingLemmas.{names_apart}
@@ -25,27 +23,7 @@ use Rattle.images.specs.Roots.{HeldTree}
 use Rattle.checker.specs.Walks.{AddsEntries, HasCounted, HasRows, IsAwaited, IsOnWay}
 use Rattle.checker.specs.declared.names.NumberRow.{NumberRow}
 
--- ---- the bytes of entries
-
--- the entries behind the first
-record Behind (inodes : ℕ) (rest : List ℕ) (e : Named) (es : List Named) : Type 0 where
-  others : List Named
-  are : es ≡ e ∷ others
-  holds : HoldsEntries inodes rest others
-
-one_first : (inodes : ℕ) (bytes rest : List ℕ) (e : Named) (es : List Named) → inodes ≤ 2 ^ 32 → IsEntry inodes e → bytes ≡ entry_bytes e ++ rest → HoldsEntries inodes bytes es → Behind inodes rest e es
-one_first inodes bytes rest e [] limit is spelled holds = absurd (not_zeros inodes bytes rest e (length bytes) limit is spelled holds)
-one_first inodes bytes rest e (f ∷ es) limit is spelled holds =
-    let same : f ≡ e = some_is f e (sym (entry_again inodes f holds.0 limit holds.1) ∙ ap entry_in (sym holds.2 ∙ spelled) ∙ entry_again inodes e rest limit is) in
-    let behind : holds.0 ≡ rest = append_cancel_left (entry_bytes e) holds.0 rest (ap (λ (n : Named). entry_bytes n ++ holds.0) (sym same) ∙ sym holds.2 ∙ spelled) in
-    record { others = es; are = ap (λ (n : Named). n ∷ es) same; holds = subst (λ (r : List ℕ). HoldsEntries inodes r es) behind holds.3 }
-
-entries_once : (inodes : ℕ) (bytes : List ℕ) (es fs : List Named) → inodes ≤ 2 ^ 32 → HoldsEntries inodes bytes es → HoldsEntries inodes bytes fs → fs ≡ es
-entries_once inodes bytes [] [] limit one other = refl
-entries_once inodes bytes [] (f ∷ fs) limit one other = absurd (not_zeros inodes bytes other.0 f (length bytes) limit other.1 other.2 one)
-entries_once inodes bytes (e ∷ es) fs limit one other =
-    let b = one_first inodes bytes one.0 e fs limit one.1 one.2 other in
-    b.are ∙ ap (λ (ns : List Named). e ∷ ns) (entries_once inodes one.0 es b.others limit one.3 b.holds)
+-- ---- the number of a name
 
 number_here : (x : Name) (e : Named) (es : List Named) → x ≡ e.name → number_of x (e ∷ es) ≡ Some e.number
 number_here x e es same = cond-true (bytes_eq x e.name) (Some e.number) (number_of x es) ((bytes_eq-Decides x e.name).1 same)
@@ -225,7 +203,7 @@ module _ (inodes : ℕ) (t : HeldTree) (d i : ℕ) (rows : ℕ → List Named) (
         | inl there ↦
             let j = there.0 in
             let before : j < i = there.1 in
-            let same = entries_once inodes (file_block (t d) j) (rows j) (stands.1.entries j) limit (has.holds j before) (stands.1.holds j (omega (arith, before, low))) in
+            let same = entries_once inodes (file_block (t d) j) (stands.1.entries j) (rows j) limit (stands.1.holds j (omega (arith, before, low))) (has.holds j before) in
             let again : i ≡ j = stands.1.are.once i j x n there.2 at (ap (number_of x) same ∙ there.3) in
             absurd (omega (arith, before, again))
       ]

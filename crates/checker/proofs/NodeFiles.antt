@@ -8,7 +8,7 @@ use Rattle.std.proofs.lemmas.List.{get_or_past}
 use Rattle.layout.specs.Inode.{FitsBody, FitsPointers, IsInode}
 use Rattle.layout.specs.Limits.{Sizes}
 use Rattle.layout.specs.Maps.{IsIndirectBlock}
-use Rattle.layout.specs.Places.{Blocks, pointed}
+use Rattle.layout.specs.Places.{Blocks}
 use Rattle.layout.specs.Version.{level_of}
 use Rattle.layout.specs.declared.inode.Body.{Body}
 use Rattle.layout.specs.declared.inode.Body.TheVariants.{Inline, Pointers}
@@ -21,7 +21,7 @@ use Rattle.layout.proofs.SizeLaws.{level_none, level_some}
 use Rattle.blocktree.specs.Names.{nodes_at}
 use Rattle.images.specs.Nodes.{held, pointers_of}
 use Rattle.images.specs.Soundness.{IsFileGrammar, nodes_of_size}
-use Rattle.images.proofs.EmptyLaws.{held_inode}
+use Rattle.images.proofs.EmptyLaws.{held_inode, node_bytes}
 use Rattle.images.proofs.OverlayLaws.{held_up}
 use Rattle.images.proofs.ReadingLaws.{highest, none_above}
 use Rattle.checker.specs.Nodes.{AreIndirect, HasNodes, IsAmong, IsAny, MarksFile, MarksFor, MarksThese}
@@ -36,11 +36,6 @@ nodes_same : (size m : ℕ) → nodes_of_size size m ≡ nodes_at (div_ceil size
 unfolding nodes_at nodes_of_size
 nodes_same size zero = refl
 nodes_same size (suc m) = ap (λ (n : ℕ). div_ceil n 1024) (nodes_same size m)
-
--- the bytes of a node that stands in a block
-node_bytes : (d : Blocks) (f : Inode) (m i b : ℕ) → (held d f).place m i ≡ Block b → (held d f).bytes m i ≡ d b
-unfolding held
-node_bytes d f m i b is = ap (pointed d) is
 
 -- what an inode with pointers has
 pub with_pointers : (s : Sizes) (f : Inode) (pointers : List Pointer) → IsInode VERSION s f → f.body ≡ Pointers pointers → FitsPointers pointers s.blocks f.size

@@ -12,7 +12,7 @@ use Rattle.checker.specs.declared.nodes.Shared.{Shared}
 
 -- WHAT TREES NAME TWICE
 
-some_or_none : (p : Option Shared) → (p ≡ None) ⊎ ((s : Shared) × (p ≡ Some s))
+pub some_or_none : (p : Option Shared) → (p ≡ None) ⊎ ((s : Shared) × (p ≡ Some s))
 some_or_none None = inl refl
 some_or_none (Some s) = inr (s, refl)
 

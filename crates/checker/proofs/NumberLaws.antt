@@ -1,16 +1,13 @@
 -- A number of a tree that is looked at.
-use Rattle.std.proofs.Common.{◌≡◌, ◌∙◌, ℕ, zero, suc, ◌+◌, ◌-◌, ◌<◌, ◌≤◌, List, drop, Bool, true, false, refl, ap, arith, sym, subst, inl, inr}
+use Rattle.std.proofs.Common.{◌≡◌, ◌∙◌, ℕ, zero, suc, ◌+◌, ◌-◌, ◌<◌, ◌≤◌, List, Bool, true, false, refl, ap, arith, sym, subst, inl, inr}
 use Rattle.std.specs.Prelude.{◌⊎◌, ◌↔◌, IsTrue, Option, Some, None, slice_index, slice_index_or}
 use Rattle.std.proofs.Math.Nat.{eq-or-lt_of_le}
 use Rattle.std.proofs.lemmas.Bool.{cases_lt}
-use Rattle.layout.specs.Bytes.{zeros}
-use Rattle.layout.specs.Inode.{FitsBody, FitsKind, IsInode, inode_bytes}
+use Rattle.layout.specs.Inode.{IsInode, inode_bytes}
 use Rattle.layout.specs.Limits.{AreSizes, Sizes}
 use Rattle.layout.specs.Maps.{IsTaken}
 use Rattle.layout.specs.Places.{Blocks}
 use Rattle.layout.specs.Version.{greatest_size}
-use Rattle.layout.specs.declared.inode.Body.{Body}
-use Rattle.layout.specs.declared.inode.Body.TheVariants.{Inline, Pointers}
 use Rattle.layout.specs.declared.inode.Inode.{Inode}
 use Rattle.layout.specs.declared.kind.Kind.{Kind}
 use Rattle.layout.specs.declared.kind.Kind.TheVariants.{Free}
@@ -22,10 +19,11 @@ use Rattle.images.specs.Faults.{IsTreeGrammar, MapsWithin}
 use Rattle.images.specs.Soundness.{IsFileGrammar, IsWithin}
 use Rattle.images.specs.Nodes.{Held, IsOnce, Names, file_block, held}
 use Rattle.images.specs.Roots.{HeldTree, free_inode, inode_bytes_at, whole}
-use Rattle.images.proofs.EmptyLaws.{free_bytes, free_fits, free_named}
+use Rattle.images.proofs.EmptyLaws.{free_bytes, free_fits, free_named, held_inode}
 use Rattle.loading.specs.InodeBlocks.{HasKindOfPlace, IsInodeAt}
 use Rattle.loading.specs.Laws.{EndTrees, SpellTrees}
 use Rattle.inofile.proofs.VersionLaws.{in_version}
+use Rattle.inofile.proofs.ObjectLaws.{free_is}
 use Rattle.model.proofs.OptionLaws.{some_same}
 use Rattle.checker.specs.Findings.{IsTreeFinding, StandsIn, tree_in}
 use Rattle.checker.specs.Nodes.{IsAny, KeepsShared, LooksUnder, MarksNodes, SharesNone}
@@ -38,18 +36,9 @@ use Rattle.checker.specs.declared.nodes.Shared.{Shared}
 use Rattle.checker.specs.declared.tree.Tree.{Tree}
 use Rattle.checker.proofs.HeldLaws.{kind_of_place, top_is, tree_is}
 use Rattle.checker.proofs.OutLaws.{tree_again}
+use Rattle.checker.proofs.NodeLaws.{some_or_none}
 
 -- ---- the inode of a number
-
-free_body : (body : Body) (blocks size : ℕ) → size ≡ 0 → FitsBody body blocks size → body ≡ Inline (zeros 128)
-free_body (Inline bytes) blocks size none fits = ap Inline (subst (λ (n : ℕ). drop n bytes ≡ zeros (128 - n)) none fits.2)
-free_body (Pointers pointers) blocks size none fits = absurd (omega (arith, none, fits.0))
-
-free_is : (s : Sizes) (i : Inode) → IsInode VERSION s i → i.kind ≡ Free → i ≡ free_inode
-free_is s i is free =
-    let fits = subst (λ (k : Kind). FitsKind k s i.mode i.links i.size) free is.kind in
-    let body = free_body i.body s.blocks i.size fits.2 is.body in
-    λ j. record { kind = free j; mode = fits.0 j; links = fits.1 j; size = fits.2 j; body = body j }
 
 free_kind : (inodes n : ℕ) → 3 < inodes → (n ≡ 0) ⊎ (inodes ≤ n) → HasKindOfPlace inodes n Free
 free_kind inodes n many (inl first) = record { number = λ some lt. absurd (omega (arith, first, some)); root = λ is. absurd (omega (arith, first, is)); none = λ is. refl; past = λ ge. refl }
@@ -92,10 +81,6 @@ numbers_of spells ends disk r t (suc n) i are is fits kind spelled = elim (cases
             ∙ ap (held disk) (sym free),
       )
 ]
-
-held_inode : (disk : Blocks) (i : Inode) → (held disk i).inode ≡ i
-unfolding held
-held_inode disk i = refl
 
 -- what hangs from it is in its grammar, where the tree is
 pub number_grammar : (disk : Blocks) (s : Sizes) (t : HeldTree) (n : ℕ) (i : Inode) → IsNumbers disk t n i → IsInode VERSION s i → IsTreeGrammar s t → IsFileGrammar s (held disk i)
@@ -289,16 +274,12 @@ module _ (disk : Blocks) (t : HeldTree) (n k : ℕ) (i : Inode) (is : IsNumbers 
 
 -- ---- what is known of a tree, at the next number
 
-none_or_some : (o : Option Shared) → (o ≡ None) ⊎ ((s : Shared) × (o ≡ Some s))
-none_or_some None = inl refl
-none_or_some (Some s) = inr (s, refl)
-
 no_some : {s : Shared} → Some s ≡ None → ⊥
 no_some is = cc
 
 module _ (disk : Blocks) (r : Root) (i n : ℕ) (old new : List ℕ) (before after : List (Option Shared)) (t : Tree) (inode : Inode) (was : IsSeenTo disk r i n old before t) (inside : IsOut t.fault → ⊥) (is : IsNumbers disk (tree_in (whole disk r) t.plane) n inode) (looks : LooksUnder (held disk inode) IsAny t.plane n old new before after) (kept : KeepsShared before after) where
   none_before : SharesNone after t.plane → SharesNone before t.plane
-  none_before none = elim (none_or_some (slice_index_or before t.plane None)) [
+  none_before none = elim (some_or_none (slice_index_or before t.plane None)) [
     | inl is_none ↦ is_none
     | inr one ↦ absurd (no_some (sym (kept t.plane one.0 one.1) ∙ none))
   ]
@@ -329,7 +310,7 @@ module _ (disk : Blocks) (r : Root) (i n : ℕ) (old new : List ℕ) (before aft
           behind = inodes.behind;
         };
         marked = λ _ none. marked_more disk (tree_in (whole disk r) t.plane) n t.plane inode is old new (was.marked inside (none_before none)) (looks.marked none);
-        shared_is = λ _ s there. elim (none_or_some (slice_index_or before t.plane None)) [
+        shared_is = λ _ s there. elim (some_or_none (slice_index_or before t.plane None)) [
           | inl none ↦ shares disk (tree_in (whole disk r) t.plane) n t.plane inode is old new before after s (was.marked inside none) looks none there
           | inr one ↦ subst (SharesBlock (tree_in (whole disk r) t.plane)) (some_same (sym (kept t.plane one.0 one.1) ∙ there)) (was.shared_is inside one.0 one.1)
         ];

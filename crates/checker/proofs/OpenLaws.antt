@@ -103,7 +103,7 @@ least version = least_of (version == 1)
 pub top_small : (version : ℕ) (s : Sizes) (d : Blocks) (top : Inode) → AreSizes s → IsInode VERSION s top → top.kind ≡ InodeFile → (held d top).inode.size ≤ greatest_size version
 unfolding held
 top_small version s d top are fits kind =
-    let size : top.size ≡ 4096 * div_ceil s.inodes 21 = (subst (λ (k : Kind). FitsKind k s top.mode top.links top.size) kind fits.kind).2 in
+    let size : top.size ≡ 4096 * div_ceil s.inodes 21 = (subst (λ (k : Kind). FitsKind k s top.attributes top.links top.size) kind fits.kind).2 in
     omega (arith, size, are.most_inodes, least version)
 
 pub top_inodes : (version : ℕ) (s : Sizes) (t : HeldTree) (h : Held) → t 0 ≡ h → IsFileGrammar s h → h.inode.size ≤ greatest_size version → HasInodes version s t 0 0

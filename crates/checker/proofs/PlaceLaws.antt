@@ -31,7 +31,7 @@ use Rattle.checker.specs.declared.tree.Tree.{Tree}
 -- an inode file has a level
 pub top_large : (disk : Blocks) (r : Root) (t : Tree) → IsTreeOf disk r t → 1 ≤ r.geometry.inodes → 128 < t.top.size
 top_large disk r t is some =
-    let fits = subst (λ (k : Kind). FitsKind k r.geometry t.top.mode t.top.links t.top.size) is.kind is.fits.kind in
+    let fits = subst (λ (k : Kind). FitsKind k r.geometry t.top.attributes t.top.links t.top.size) is.kind is.fits.kind in
     let size : t.top.size ≡ 4096 * div_ceil r.geometry.inodes 21 = fits.2 in
     omega (arith, size, some)
 

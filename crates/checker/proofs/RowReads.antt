@@ -28,8 +28,8 @@ use Rattle.checker.proofs.HeldLaws.{top_is, top_readable}
 use Rattle.checker.proofs.OwnerLaws.{AreAllSound, file_sound}
 use Rattle.checker.proofs.PlaceLaws.{places_are, stored_at, top_large, whole_at}
 use Rattle.model.proofs.OptionLaws.{some_same}
-use Rattle.checker.proofs.EachLaws.{Each, get_others, get_set, some_at}
-use Rattle.checker.proofs.FoundLaws.{get_pushed}
+use Rattle.model.proofs.ListLaws.{get_others, get_pushed}
+use Rattle.checker.proofs.EachLaws.{Each, get_set, some_at}
 use Rattle.checker.proofs.RowLaws.{IsRowOf, IsSame, known_at, trees_again}
 
 module _ (disk : Blocks) (r : Root) (i : ℕ) (t : Tree) (is : IsTreeOf disk r t) where

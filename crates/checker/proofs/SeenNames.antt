@@ -1,6 +1,6 @@
 -- The names of a directory that were seen.
-use Rattle.std.proofs.Common.{Equal, Less, ◌≡◌, ◌≢◌, ◌∙◌, ◌⊎◌, inl, inr, ℕ, ◌+◌, ◌-◌, List, ◌++◌, ◌∷◌, [], Bool, true, false, if◌then◌else◌, not, Option, Some, None, Result, Ok, Err, is_some, bytes_eq, length, take, drop, refl, sym, ap, subst, arith, length-append, length-drop, take_all}
-use Rattle.std.specs.Prelude.{◌↔◌, All, IfOk, slice_get}
+use Rattle.std.proofs.Common.{Equal, Less, ◌≡◌, ◌≢◌, ◌∙◌, ◌⊎◌, inl, inr, ℕ, ◌+◌, ◌-◌, List, ◌++◌, ◌∷◌, [], Bool, true, false, if◌then◌else◌, not, Option, Some, None, is_some, bytes_eq, length, take, drop, refl, sym, ap, subst, arith, length-append, length-drop, take_all}
+use Rattle.std.specs.Prelude.{◌↔◌, All, slice_get}
 use Rattle.std.specs.BTreeMap.{is_at}
 use Rattle.std.specs.BTreeSet.{BTreeSet, contains}
 use Rattle.std.specs.Cmp.Lexicographic.{slice_cmp}
@@ -110,10 +110,6 @@ pub both_ways : (b c : Bool) → (b ≡ true → c ≡ true) → (c ≡ true →
 both_ways true c to back = sym (to refl)
 both_ways false true to back = back refl
 both_ways false false to back = refl
-
-pub if_ok : {T E : Type 0} (r : Result T E) (P Q : T → Type 0) → ((x : T) → P x → Q x) → IfOk r P → IfOk r Q
-if_ok (Ok x) P Q to p = to x p
-if_ok (Err e) P Q to p = tt
 
 none_from : (o : Option ℕ) → (is_some o ≡ true → ⊥) → o ≡ None
 none_from None not = refl

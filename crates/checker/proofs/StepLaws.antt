@@ -170,7 +170,7 @@ module _ (disk : Blocks) (r : Root) (tree : Tree) (n blocks : ℕ) (inode : Inod
   directory_readable is grammar same kind size starts unchanged sound =
       let here : t n ≡ held disk inode = number_is disk r tree n is ∙ ap (held disk) (sym same) in
       let known : IsFileGrammar r.geometry (held disk inode) = subst (IsFileGrammar r.geometry) here (grammar.files n) in
-      let fits = subst (λ (k : Kind). FitsKind k r.geometry inode.mode inode.links inode.size) (ap (λ (i : Inode). i.kind) same ∙ kind) known.inode.kind in
+      let fits = subst (λ (k : Kind). FitsKind k r.geometry inode.attributes inode.links inode.size) (ap (λ (i : Inode). i.kind) same ∙ kind) known.inode.kind in
       subst IsReadable (sym here) (sound_readable r.geometry disk inode blocks file.tree known starts unchanged
       (λ i low. sound i (omega (arith, low, size, whole_blocks inode.size fits.1))))
 

@@ -15,6 +15,7 @@ use Rattle.buffers.specs.declared.blocks.Blocks.{Ghosts}
 use Rattle.blocktree.specs.PlaceMaps.{place_at}
 use Rattle.blocktree.specs.declared.place_map.PlaceMap.{PlaceMap}
 use Rattle.model.proofs.OptionLaws.{none_some}
+use Rattle.model.proofs.ListLaws.{get_pushed}
 use Rattle.images.specs.Faults.{IsTreeGrammar}
 use Rattle.images.specs.Nodes.{Held, file_block, held}
 use Rattle.images.specs.Roots.{inode_part, whole}
@@ -26,7 +27,6 @@ use Rattle.checker.specs.declared.error.CheckError.{CheckError}
 use Rattle.checker.specs.declared.error.CheckError.TheVariants as check
 use Rattle.checker.specs.declared.names.NumberRow.{NumberRow}
 use Rattle.checker.specs.declared.tree.Tree.{Tree}
-use Rattle.checker.proofs.FoundLaws.{get_pushed}
 use Rattle.checker.proofs.HaltLaws.{looks_failed}
 use Rattle.checker.proofs.HeldLaws.{top_grammar, top_is, top_readable}
 use Rattle.checker.proofs.PlaceLaws.{places_are, stored_at, top_large, whole_at}

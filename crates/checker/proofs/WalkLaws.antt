@@ -15,6 +15,8 @@ use Rattle.model.proofs.CountLemmas.{one_more, same_count}
 use Rattle.model.proofs.KeptLemmas.{pair_same}
 use Rattle.model.proofs.OptionLaws.{none_some, some_same}
 use Rattle.model.proofs.WalkLemmas.{edge_from, edge_here, edge_other, number_at-push}
+use Rattle.model.proofs.MountedLemmas.{nowhere}
+use Rattle.model.proofs.ListLaws.{get_last, get_others, get_pushed}
 use Rattle.images.specs.Contents.{Content, StandsAs, content_of}
 use Rattle.images.specs.Faults.{HoldsNames}
 use Rattle.images.specs.Roots.{HeldTree}
@@ -22,25 +24,21 @@ use Rattle.checker.specs.Findings.{HasOneName, IsNamedKind}
 use Rattle.checker.specs.Names.{IsFirst, IsUsed}
 use Rattle.checker.specs.Walks.{IsOnWay}
 use Rattle.checker.specs.declared.names.NumberRow.{NumberRow}
-use Rattle.checker.proofs.EachLaws.{get_others, get_set}
-use Rattle.checker.proofs.FoundLaws.{get_front, get_last, get_pushed}
+use Rattle.checker.proofs.EachLaws.{get_set}
+use Rattle.checker.proofs.FoundLaws.{get_front}
 
 -- ---- walks
-
-lost : (e : Entries) (p : Path) → fold (enter e) None p ≡ None
-lost e [] = refl
-lost e (x ∷ p) = lost e p
 
 -- a walk goes on where names come
 module _ (e f : Entries) (more : (d n : ℕ) (x : Name) → e d x ≡ Some n → f d x ≡ Some n) (n : ℕ) where
   pass : (x : Name) (p : Path) (d : ℕ) → ((o : Option ℕ) → fold (enter e) o p ≡ Some n → fold (enter f) o p ≡ Some n) → (o : Option ℕ) → e d x ≡ o
       → fold (enter e) (e d x) p ≡ Some n → fold (enter f) (f d x) p ≡ Some n
-  pass x p d rest None at is = none_some (sym (lost e p) ∙ ap (λ q. fold (enter e) q p) (sym at) ∙ is)
+  pass x p d rest None at is = none_some (sym (nowhere e p) ∙ ap (λ q. fold (enter e) q p) (sym at) ∙ is)
   pass x p d rest (Some k) at is = ap (λ q. fold (enter f) q p) (more d k x at) ∙ rest (Some k) (ap (λ q. fold (enter e) q p) (sym at) ∙ is)
 
   goes : (p : Path) (o : Option ℕ) → fold (enter e) o p ≡ Some n → fold (enter f) o p ≡ Some n
   goes [] o is = is
-  goes (x ∷ p) None is = none_some (sym (lost e p) ∙ is)
+  goes (x ∷ p) None is = none_some (sym (nowhere e p) ∙ is)
   goes (x ∷ p) (Some d) is = pass x p d (λ o. goes p o) (e d x) refl is
 
 -- where a walk ends, there it began, or a name leads there
@@ -48,7 +46,7 @@ abbrev Ends : Entries → ℕ → ℕ → Type 0
 Ends e n d = (d ≡ n) ⊎ ((k : ℕ) × (x : Name) × (e k x ≡ Some n))
 
 end_of : (e : Entries) (n : ℕ) (x : Name) (p : Path) (d : ℕ) → ((k : ℕ) → fold (enter e) (Some k) p ≡ Some n → Ends e n k) → (o : Option ℕ) → e d x ≡ o → fold (enter e) (e d x) p ≡ Some n → Ends e n d
-end_of e n x p d rest None at is = none_some (sym (lost e p) ∙ ap (λ q. fold (enter e) q p) (sym at) ∙ is)
+end_of e n x p d rest None at is = none_some (sym (nowhere e p) ∙ ap (λ q. fold (enter e) q p) (sym at) ∙ is)
 end_of e n x p d rest (Some k) at is = elim (rest k (ap (λ q. fold (enter e) q p) (sym at) ∙ is)) [
   | inl same ↦ inr (d, x, at ∙ ap (λ (j : ℕ). Some j) same)
   | inr edge ↦ inr edge

@@ -2,10 +2,9 @@
 use Rattle.std.proofs.Common.{◌≡◌, ◌⊎◌, ◌∙◌, ◌-◌, ◌*◌, ◌/◌, ◌%◌, ◌<◌, ◌≤◌, ℕ, zero, suc, Bool, true, false, List, Option, Some, None, drop, refl, sym, ap, subst, inl, inr, arith}
 use Rattle.std.specs.Prelude.{◌≢◌, ◌↔◌, if◌then◌else◌, nat_le, nat_lt, slice_index}
 use Rattle.std.specs.Int.{div_ceil}
-use Rattle.std.proofs.lemmas.Bool.{cases_lt}
-use Rattle.std.proofs.lemmas.Bool.Decides.{nat_tests}
+use Rattle.std.proofs.lemmas.Bool.{cases_lt, le-ltb}
 use Rattle.layout.specs.Bytes.{zeros}
-use Rattle.layout.specs.Inode.{FitsBody, FitsKind, IsInode, inode_bytes}
+use Rattle.layout.specs.Inode.{FitsKind, IsInode, inode_bytes}
 use Rattle.layout.specs.Limits.{AreSizes, Sizes}
 use Rattle.layout.specs.Maps.{IsTaken}
 use Rattle.layout.specs.Places.{Blocks, place, pointed}
@@ -26,6 +25,7 @@ use Rattle.images.specs.Nodes.{Held, Names, file_block, held}
 use Rattle.images.specs.Roots.{HeldTree, Reach, free_inode, frozen_at, frozen_inode_file, inode_bytes_at, inode_part, inode_under, tree, whole}
 use Rattle.images.specs.Soundness.{Detail, FitsNumber, IsFileGrammar, IsHeldFile, IsWithin, MapsNumbers, by_sizes}
 use Rattle.images.proofs.EmptyLaws.{behind_zeros, free_bytes, free_fits, free_named, part_zeros}
+use Rattle.inofile.proofs.ObjectLaws.{free_is}
 use Rattle.loading.specs.InodeBlocks.{IsInodeAt}
 use Rattle.loading.specs.Laws.{EndTrees, SpellTrees}
 use Rattle.checker.specs.Findings.{HasTree, fault_number, first_fault, tree_in}
@@ -51,20 +51,6 @@ free_kind (suc zero) le = absurd (omega (arith, le))
 free_kind (suc (suc zero)) le = absurd (omega (arith, le))
 free_kind (suc (suc (suc n))) le = tt
 
--- a free inode has nothing
-free_with : (s : Sizes) (i : Inode) (body : Body) → i.body ≡ body → i.kind ≡ Free → (i.mode ≡ 0) × (i.links ≡ 0) × (i.size ≡ 0) → FitsBody body s.blocks i.size → i ≡ free_inode
-free_with s i (Inline bytes) here free none fits =
-    let all : bytes ≡ zeros 128 = ap (λ (n : ℕ). drop n bytes) (sym none.2) ∙ fits.2 ∙ ap (λ (n : ℕ). zeros (128 - n)) none.2 in
-    let body : i.body ≡ Inline (zeros 128) = here ∙ ap (λ (b : List ℕ). Inline b) all in
-    λ j. record { kind = free j; mode = none.0 j; links = none.1 j; size = none.2 j; body = body j }
-free_with s i (Pointers pointers) here free none fits = absurd (omega (arith, fits.0, none.2))
-
-free_is : (s : Sizes) (i : Inode) → IsInode VERSION s i → i.kind ≡ Free → i ≡ free_inode
-free_is s i is free = free_with s i i.body refl free (subst (λ (k : Kind). FitsKind k s i.mode i.links i.size) free is.kind) is.body
-
-past_is : (i n : ℕ) → n ≤ i → nat_lt i n ≡ false
-past_is i n le = grind (arith, nat_tests)
-
 -- zeros behind the end of a file
 zeros_with : (s : Sizes) (d : Blocks) (f : Inode) (body : Body) (i : ℕ) → f.body ≡ body
     → ((detail : Detail) (s : Sizes) (d : Blocks) (f : Inode) (pointers : List Pointer) (i : ℕ) → IsHeldFile detail s (held d f) → f.body ≡ Pointers pointers
@@ -74,7 +60,7 @@ zeros_with : (s : Sizes) (d : Blocks) (f : Inode) (body : Body) (i : ℕ) → f.
 zeros_with s d f (Inline bytes) i here led inline grammar some past = inline d f bytes i here some
 zeros_with s d f (Pointers pointers) i here led inline grammar some past =
     led by_sizes s d f pointers i grammar here
-    ∙ ap (λ (b : Bool). if b then pointed d (place d pointers (level_of f.size - 1) i) else zeros 4096) (past_is i (div_ceil f.size 4096) past)
+    ∙ ap (λ (b : Bool). if b then pointed d (place d pointers (level_of f.size - 1) i) else zeros 4096) (le-ltb i (div_ceil f.size 4096) past)
 
 zeros_behind : (s : Sizes) (d : Blocks) (f : Inode) (i : ℕ)
     → ((detail : Detail) (s : Sizes) (d : Blocks) (f : Inode) (pointers : List Pointer) (i : ℕ) → IsHeldFile detail s (held d f) → f.body ≡ Pointers pointers
@@ -170,7 +156,7 @@ module _ (disk : Blocks) (s : Sizes) (are : AreSizes s) (top : Inode) (t : HeldT
     -- behind the last block of the inode file there are zeros
     behind_all : (i : ℕ) → div_ceil s.inodes 21 ≤ i → file_block (t 0) i ≡ zeros 4096
     behind_all i le =
-        let size : top.size ≡ 4096 * div_ceil s.inodes 21 = (subst (λ (k : Kind). FitsKind k s top.mode top.links top.size) kind fits.kind).2 in
+        let size : top.size ≡ 4096 * div_ceil s.inodes 21 = (subst (λ (k : Kind). FitsKind k s top.attributes top.links top.size) kind fits.kind).2 in
         let some : 1 ≤ i = omega (arith, le, are.least_inodes) in
         ap (λ (h : Held). file_block h i) first ∙ zeros_behind s disk top i led inline (subst (IsFileGrammar s) first (files 0)) some (omega (arith, size, le))
 

@@ -8,6 +8,7 @@ use Rattle.layout.specs.declared.kind.Kind.{Kind}
 use Rattle.layout.specs.declared.kind.Kind.TheVariants.{Directory, File, Free, Link}
 use Rattle.layout.specs.declared.pointer.Pointer.TheVariants.{Block}
 use Rattle.layout.specs.declared.root.Root.{Root}
+use Rattle.model.specs.declared.attributes.Attributes.{Attributes}
 use Rattle.model.specs.Volumes.{HasNames, Volume, entries, file_node}
 use Rattle.images.specs.BlockMap.{HasBit, IsSystem, entry}
 use Rattle.images.specs.Contents.{HoldsVolume, content_bytes, content_of, tree_contents}
@@ -132,7 +133,7 @@ IsTreeFinding r t (faults.Directory found) =
 IsTreeFinding r t (faults.Links number names links) =
     (v : Volume) × HoldsVolume r.geometry.inodes (tree_contents t) v
     × HasNames (entries v) number names × (names ≢ links)
-    × (mode : ℕ) × (bytes : List ℕ) × (v number ≡ Some (file_node mode links bytes))
+    × (attributes : Attributes) × (bytes : List ℕ) × (v number ≡ Some (file_node attributes links bytes))
 IsTreeFinding r t fault = ⊥
 
 -- the log doesn't hold records that apply

@@ -1,6 +1,6 @@
 //! A check of an image.
 
-ghost use Rattle.std.specs.Prelude.{◌≡◌, ◌↔◌, ◌+◌, ◌*◌, ◌≤◌, ℕ, List, [], Err, IfErr, IfOk, IfSome, IsOk, IsSome, IsTrue, MatchResult, None, OnOk, Some, slice_get};
+ghost use Rattle.std.specs.Prelude.{◌≡◌, ◌↔◌, ◌+◌, ◌*◌, ◌≤◌, ℕ, List, [], Err, IfErr, IfOk, IfSome, IsSome, IsTrue, MatchResult, None, OnOk, Some, slice_get};
 ghost use Rattle.std.specs.Int.{div_ceil};
 ghost use Rattle.station.specs.Images.{Unchanged};
 ghost use Rattle.station.specs.Moments.{Goes, HasGrown, IsSameStation, LeavesJust, MayGrow};
@@ -46,6 +46,7 @@ use images::{
 };
 use layout::{Geometry, Root, SNAPSHOT_SLOTS};
 use loading::{RootError, newest_root};
+use model::fixed_cost;
 use station::Station;
 use std::alloc::Global;
 
@@ -217,7 +218,7 @@ fn check_image<S: Station, W: Watch>(
 fn has_reserve(logged: &Logged, blocks: u32, free: u32) -> bool
     ensures { IsTrue result ↔ (logged.now.pledged + fixed_of blocks ≤ free) }
 {
-    let fixed = u64::from(blocks.div_ceil(1024)) + 4;
+    let fixed = fixed_cost(blocks);
     let free = u64::from(free);
     fixed <= free && logged.pledged <= free - fixed
 }

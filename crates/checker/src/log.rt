@@ -28,13 +28,11 @@ use images::faultless_trees_hold_graphs;
 use inofile::InodeFile;
 use layout::{FIRST_GATE, Gate, Root, read_gate};
 use loading::load_inodes;
+use model::NAMELESS_COST;
 use oplog::{SavedLog, SavedLogError};
 use replay::{count_nameless, replay_record};
 use station::Station;
 use std::alloc::Global;
-
-/// The blocks that a consistency point may store for a file without a name.
-const NAMELESS_COST: u64 = 4;
 
 /// What a log has over a root.
 #[derive(Clone, Copy, Debug)]

@@ -1,6 +1,6 @@
 //! The block map, against what the trees name.
 
-ghost use Rattle.std.specs.Prelude.{◌≡◌, ◌≢◌, ◌↔◌, ◌⊎◌, ◌+◌, ◌*◌, ◌^◌, ◌<◌, ◌≤◌, ℕ, IfErr, List, length, slice_index};
+ghost use Rattle.std.specs.Prelude.{◌≡◌, ◌≢◌, ◌↔◌, ◌⊎◌, ◌+◌, ◌*◌, ◌^◌, ◌<◌, ℕ, IfErr, List, length, slice_index};
 ghost use Rattle.layout.specs.Maps.{map_entry};
 ghost use Rattle.layout.specs.Root.{IsRoot};
 ghost use Rattle.layout.specs.declared.root.Root.{Root};
@@ -10,7 +10,6 @@ ghost use Rattle.images.specs.Faults.{IsTreeGrammar};
 ghost use Rattle.images.specs.Room.{free_under};
 ghost use Rattle.images.specs.Roots.{whole};
 ghost use Rattle.images.specs.Soundness.{IsReadable};
-ghost use Rattle.images.specs.Sums.{sum_below};
 ghost use Rattle.checker.specs.Checks.{Passes};
 ghost use Rattle.checker.specs.Errors.{IsHaltFault, Looks};
 ghost use Rattle.checker.specs.Findings.{IsFindingUnder, ShouldHave};

@@ -7,13 +7,12 @@ ghost use Rattle.layout.specs.Limits.{Sizes};
 ghost use Rattle.layout.specs.Maps.{IsIndirectBlock, indirect_pointer};
 ghost use Rattle.layout.specs.Pointer.{PointsBelow};
 ghost use Rattle.layout.specs.Version.{greatest_size, level_of};
-ghost use Rattle.layout.specs.declared.pointer.Pointer.TheVariants.{Hole};
 ghost use Rattle.layout.specs.declared.version.TheConstants.{VERSION};
 ghost use Rattle.blocktree.specs.Names.{nodes_at};
 ghost use Rattle.checker.specs.Errors.{IsFault, IsHaltFault, Looks};
 ghost use Rattle.images.specs.BlockMap.{HasBit};
 ghost use Rattle.images.specs.Nodes.{Held};
-ghost use Rattle.checker.specs.Nodes.{AreIndirect, HasNodes, IsAmong, IsAt, IsUnder, KeepsMarks, KeepsShared, MarksFile, MarksFor, MarksThese, SharesNone};
+ghost use Rattle.checker.specs.Nodes.{HasNodes, IsAmong, IsAt, IsUnder, KeepsMarks, KeepsShared, MarksFile, MarksFor, MarksThese, SharesNone};
 
 use crate::error::Halt;
 use crate::letting_go::read_into;

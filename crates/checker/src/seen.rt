@@ -1,7 +1,7 @@
 //! The names of a directory that were seen so far: one behind the other in one text, as long as each is greater than those before it,
 //! which most directories' are; and a set of them else.
 
-ghost use Rattle.std.specs.Prelude.{◌≡◌, ◌↔◌, ◌⊎◌, ◌<◌, ◌≤◌, All, IfOk, IsFalse, IsTrue, OnErr, OnOk, drop, length, true, is_some, not, slice_get, Some, None};
+ghost use Rattle.std.specs.Prelude.{◌≡◌, ◌↔◌, ◌⊎◌, ◌<◌, ◌≤◌, All, IfOk, IsFalse, IsTrue, OnOk, drop, length, true, is_some, slice_get, Some, None};
 ghost use Rattle.layout.specs.DirectoryNames.{NameMap};
 ghost use Rattle.model.specs.Paths.{Name};
 ghost use Rattle.checker.specs.Spans.{IsLess, IsSpan, name_in};

@@ -18,6 +18,6 @@ mod waiting;
 
 pub use help_texts::COMMAND_NOTES;
 pub use line::{Asked, Kept, Line, LineError, Options, RunFaults, read_line};
-pub use script_lines::{explain_line, reason_of};
+pub use script_lines::explain_line;
 pub use spelled_line::{are_words, line_of_typed, line_of_words, typed_line};
 pub use waiting::Wait;

@@ -1,6 +1,6 @@
 //! The numbers of `make`: decimal, or with a suffix that multiplies, each within the range that images have.
 
-ghost use Rattle.std.specs.Prelude.{◌≡◌, ◌<◌, ◌*◌, ◌==◌, if◌then◌else◌, IfOk};
+ghost use Rattle.std.specs.Prelude.{◌≡◌, ◌<◌, ◌*◌, ◌==◌, IfOk};
 ghost use Rattle.command_line.specs.Lines.{IsMisunderstood, Yields};
 ghost use Rattle.command_line.specs.Values.{amount_at, digits_in, given, rows_in, spelled_number, unit_in, unit_of, whole_count, within};
 

@@ -25,7 +25,7 @@ fn line_text(alloc: Global, line: &[u8]) -> Result<String, AllocError> {
 }
 
 /// Why a line, without its line feed, is no command.
-pub fn reason_of(alloc: Global, line: &[u8]) -> Result<String, AllocError> {
+fn reason_of(alloc: Global, line: &[u8]) -> Result<String, AllocError> {
     if let Some(text) = blank_reason(line) {
         return String::from_str(alloc, text);
     }

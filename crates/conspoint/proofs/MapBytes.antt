@@ -1,21 +1,14 @@
 -- Entries of the block map as bytes: the entry 0 is four zeros.
-use Rattle.std.proofs.Common.{◌≡◌, ℕ, zero, suc, ◌+◌, ◌*◌, ◌<◌, List, drop, get_or, refl, sym, ◌∙◌, arith}
+use Rattle.std.proofs.Common.{◌≡◌, ℕ, zero, suc, ◌+◌, ◌*◌, ◌<◌, List, drop, get_or, sym, ◌∙◌, arith}
 use Rattle.std.specs.Prelude.{slice_index}
 use Rattle.std.proofs.lemmas.List.{get_or-drop}
 use Rattle.layout.specs.Bytes.{number}
 use Rattle.layout.specs.Maps.{map_entry}
 
--- bytes of zeros spell the entry 0
-pub word_zero : (bytes : List ℕ) (i : ℕ) → ((r : ℕ) → r < 4 → slice_index bytes (4 * i + r) ≡ 0) → map_entry bytes i ≡ 0
-unfolding number
-word_zero bytes i none =
-    let at = λ (r : ℕ) (lt : r < 4). get_or-drop (4 * i) bytes r 0 ∙ none r lt in
-    rw (at 0 (omega arith), at 1 (omega arith), at 2 (omega arith), at 3 (omega arith)) refl
-
 sum_zero : (a b c d r : ℕ) → a + 256 * (b + 256 * (c + 256 * (d + 256 * 0))) ≡ 0 → (a ≡ 0) × (b ≡ 0) × (c ≡ 0) × (d ≡ 0)
 sum_zero a b c d r is = (omega (arith, is), omega (arith, is), omega (arith, is), omega (arith, is))
 
--- and no others do
+-- bytes that spell the entry 0 are zeros
 pub zero_bytes : (bytes : List ℕ) (i r : ℕ) → map_entry bytes i ≡ 0 → r < 4 → slice_index bytes (4 * i + r) ≡ 0
 unfolding number
 zero_bytes bytes i r is lt =

@@ -131,7 +131,7 @@ pub sound_stands : (s : Sizes) (d : Blocks) (f : Inode) (n : ℕ) (nodes : List 
     → (n ≤ 16 → (k : ℕ) → n ≤ k → get_or nodes k Hole ≡ Hole) → Stands n (λ k. get_or nodes k Hole) (held d f)
 unfolding held
 sound_stands s d f n nodes sound kind large most count low over end =
-    let size : f.size ≡ 4 * s.blocks = map_size f.kind s f.mode f.links f.size kind sound.inode.kind in
+    let size : f.size ≡ 4 * s.blocks = map_size f.kind s f.attributes f.links f.size kind sound.inode.kind in
     let body = body_of f.body s.blocks f.size sound.inode.body (omega arith) in
     let fit = fits s d f body.0 sound body.1 in
     let behind = λ (i : ℕ) (ge : n ≤ i). hole_behind s d f body.0 sound body.1 i (omega arith) in

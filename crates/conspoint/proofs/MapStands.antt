@@ -23,10 +23,11 @@ use Rattle.conspoint.specs.declared.draft.Draft.{Draft}
 use Rattle.conspoint.specs.Groups.{pointer_at}
 use Rattle.conspoint.specs.MapFiles.{AreTouched, node_at, IsSettledMap, IsMapOn}
 use Rattle.conspoint.proofs.MapNodes.{IsSpot, at_spot, spot_once, spot_of, named_at, spot_named, body_of, used_one, used_two}
-use Rattle.conspoint.proofs.MapBytes.{word_zero, zero_bytes}
-use Rattle.layout.proofs.PointerLaws.{no_block}
-use Rattle.layout.proofs.ZeroLaws.{zero_byte}
-use Rattle.conspoint.proofs.MapWork.{all_new, is_block, Work, own_inode, by_place, not_hole, new_node, old_node, ends, goes_on, node_past, old_stands, old_size, untouched, most_nodes, old_named, same_block, old_once, apart_from_old, node_once, node_below, new_block, spelled, new_stands}
+use Rattle.conspoint.proofs.MapBytes.{zero_bytes}
+use Rattle.layout.proofs.PointerLaws.{no_block, some_block}
+use Rattle.layout.proofs.ZeroLaws.{zero_byte, word_zero}
+use Rattle.model.proofs.AttributeLaws.{new_fit}
+use Rattle.conspoint.proofs.MapWork.{all_new, Work, own_inode, by_place, not_hole, new_node, old_node, ends, goes_on, node_past, old_stands, old_size, untouched, most_nodes, old_named, same_block, old_once, apart_from_old, node_once, node_below, new_block, spelled, new_stands}
 
 module _ {s : Sizes} {d e : Blocks} {old : Inode} {before after : Draft} {settled places tops : List Pointer} {n : ℕ} (w : Work e before after settled places tops n)
     (is : IsSettledMap s d old before.map settled) (agrees : Agrees (Names (held d old)) d e) where
@@ -84,7 +85,7 @@ module _ {s : Sizes} {d e : Blocks} {old : Inode} {before after : Draft} {settle
   pub entries_are : (b : ℕ) → map_entry (file_block (held e (own_inode tops before.map.count)) (b / 1024)) (b % 1024) ≡ entry_at after.map.parts.items b
   entries_are b = elim (cases_lt (b / 1024) n) [
     | inl lt ↦
-        let at = is_block (node_at settled places (b / 1024)) (new_block w is agrees (b / 1024) lt) in
+        let at = some_block (node_at settled places (b / 1024)) (new_block w is agrees (b / 1024) lt) in
         ap (λ (xs : List ℕ). map_entry xs (b % 1024)) (block_at (b / 1024) lt ∙ ap (pointed e) at.1) ∙ entry_in b at.0 lt at.1
     | inr ge ↦
         let none : slice_index_or after.map.parts.items (b / 1024) no_part ≡ no_part = get_or_past after.map.parts.items (b / 1024) no_part (omega (arith, w.grows.settled.count, w.parts)) in
@@ -124,7 +125,7 @@ module _ {s : Sizes} {d e : Blocks} {old : Inode} {before after : Draft} {settle
 
   inode_is : IsInode VERSION s (own_inode tops before.map.count)
   inode_is = record {
-    mode = omega arith;
+    attributes = new_fit 0 (omega arith);
     size = omega (arith, w.most);
     kind = (refl, refl, ap (λ x. 4 * x) is.blocks);
     body = (

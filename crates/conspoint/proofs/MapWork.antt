@@ -4,6 +4,7 @@ use Rattle.std.specs.Prelude.{nat_le, nat_lt, if◌then◌else◌}
 use Rattle.std.specs.Int.{div_ceil}
 use Rattle.std.proofs.lemmas.Bool.{cases_lt, cond_below, cond_above, le-leb, lt-leb}
 use Rattle.std.proofs.lemmas.List.{get_or_past}
+use Rattle.model.specs.Attributes.{no_attributes}
 use Rattle.layout.specs.Limits.{Sizes}
 use Rattle.layout.specs.Maps.{indirect_pointer}
 use Rattle.layout.specs.Pointer.{PointsBelow}
@@ -26,12 +27,12 @@ use Rattle.conspoint.specs.Groups.{pointer_at}
 use Rattle.conspoint.specs.MapFiles.{StoresPart, AreTouched, map_nodes, or_settled, node_at, IsSettledMap}
 use Rattle.conspoint.specs.Plans.{ChangesTouched}
 use Rattle.conspoint.proofs.MapNodes.{Stands, named_at, stands_direct, stands_under, sound_stands}
-use Rattle.layout.proofs.PointerLaws.{no_block}
+use Rattle.layout.proofs.PointerLaws.{no_block, some_block}
 
 -- the inode of a map of so many blocks
 abbrev pub own_inode : List Pointer → ℕ → Inode
 own_inode pointers count =
-    record { kind = kinds.BlockMap; mode = 0; links = 1; size = 4 * count; body = Pointers pointers }
+    record { kind = kinds.BlockMap; attributes = no_attributes; links = 1; size = 4 * count; body = Pointers pointers }
 
 -- On a disk with the planned blocks: the map before and after, the nodes' settled and new places, and the pointers of the inode.
 pub record Work (e : Blocks) (before after : Draft) (settled places tops : List Pointer) (n : ℕ) : Type 0 where
@@ -59,10 +60,6 @@ pub record Work (e : Blocks) (before after : Draft) (settled places tops : List 
 pub by_place : (p : Pointer) → (p ≡ Hole) ⊎ ((b : ℕ) × (p ≡ Block b))
 by_place Hole = inl refl
 by_place (Block b) = inr (b, refl)
-
-pub is_block : (p : Pointer) → p ≢ Hole → (b : ℕ) × (p ≡ Block b)
-is_block Hole some = absurd (some refl)
-is_block (Block b) some = (b, refl)
 
 pub not_hole : (p : Pointer) (b : ℕ) → p ≡ Block b → p ≢ Hole
 not_hole p b is none = no_block p b none is
@@ -101,7 +98,7 @@ module _ {s : Sizes} {d e : Blocks} {old : Inode} {before after : Draft} {settle
 
   pub old_size : old.size ≡ 4 * before.map.count
   unfolding held
-  old_size = (subst (λ k. FitsKind k s old.mode old.links old.size) is.kind is.sound.inode.kind).2 ∙ ap (λ x. 4 * x) (sym is.blocks)
+  old_size = (subst (λ k. FitsKind k s old.attributes old.links old.size) is.kind is.sound.inode.kind).2 ∙ ap (λ x. 4 * x) (sym is.blocks)
 
   -- what was touched is stored
   pub untouched : (k : ℕ) → k < n → pointer_at places k ≡ Hole → IsTouched before.map.parts.items k → ⊥
@@ -255,7 +252,7 @@ module _ {s : Sizes} {d e : Blocks} {old : Inode} {before after : Draft} {settle
         (λ k ge. node_past k (omega (arith, ends less)))
     | inl many ↦
         let t : leb n 16 ≡ false = lt-leb _ _ many in
-        let over = is_block (node_at settled places n) (over_there many) in
+        let over = some_block (node_at settled places n) (over_there many) in
         stands_under e (own_inode tops before.map.count) tops refl n over.0 (node_at settled places)
         (level_two (4 * before.map.count) (omega (arith, w.count)) (omega (arith, is.blocks, is.sizes.most_blocks)))
         (λ i. w.tops_are i ∙ ap (λ b. node_at settled places ((if b then 0 else n) + i)) t)

@@ -1,6 +1,6 @@
 //! The blocks of a changed file.
 
-ghost use Rattle.std.specs.Prelude.{◌≡◌, ◌≢◌, ℕ, List, ◌<◌, ◌≤◌, IfOk, OnOk};
+ghost use Rattle.std.specs.Prelude.{◌≡◌, ◌≢◌, ℕ, ◌<◌, ◌≤◌, IfOk, OnOk};
 ghost use Rattle.buffers.specs.Disks.{IsWhole};
 ghost use Rattle.layout.specs.Places.{pointed};
 ghost use Rattle.layout.specs.Pointer.{PointsBelow};

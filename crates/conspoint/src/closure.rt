@@ -1,6 +1,6 @@
 //! The block map's own new blocks.
 
-ghost use Rattle.std.specs.Prelude.{◌≡◌, ◌≢◌, ℕ, ◌<◌, OnOk, IfOk, IfErr, IsErrOf, IfSome, IfNone, IsTrue, ◌↔◌, length};
+ghost use Rattle.std.specs.Prelude.{◌≡◌, ◌≢◌, ℕ, ◌<◌, OnOk, IfOk, IfSome, IfNone, IsTrue, ◌↔◌, length};
 ghost use Rattle.layout.specs.declared.pointer.Pointer.TheVariants.{Hole, Block};
 ghost use Rattle.blockmap.specs.Maps.{entry_at};
 ghost use Rattle.conspoint.specs.Drafts.{WasTaken, IsReserved};

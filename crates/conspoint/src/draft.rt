@@ -1,6 +1,6 @@
 //! A plan that is being made.
 
-ghost use Rattle.std.specs.Prelude.{◌≡◌, ◌≢◌, ◌<◌, ◌≤◌, ◌*◌, ℕ, All, IfOk, IfErr, OnOk, IsErrOf, IsTrue, ◌↔◌, ◌⊎◌, length};
+ghost use Rattle.std.specs.Prelude.{◌≡◌, ◌≢◌, ◌<◌, ◌≤◌, ◌*◌, ℕ, All, IfOk, OnOk, IsTrue, ◌↔◌, ◌⊎◌, length};
 ghost use Rattle.blockmap.specs.Maps.{HasSetAt, IsFree, IsTouched, HoldsPart, entry_at, settled_at, OnlyChanges};
 ghost use Rattle.std.specs.Int.{bit_at};
 ghost use Rattle.blockmap.specs.Bits.{SetsBit, SetsPlane};

@@ -1,6 +1,6 @@
 //! Indirect blocks, made anew.
 
-ghost use Rattle.std.specs.Prelude.{◌≡◌, ℕ, ◌<◌, ◌≤◌, All, IfOk, OnOk, IfErr, IsErrOf, IsTrue, IfSome, IfNone, length, ◌↔◌};
+ghost use Rattle.std.specs.Prelude.{◌≡◌, ℕ, ◌<◌, ◌≤◌, All, IfOk, IsTrue, IfSome, IfNone, length, ◌↔◌};
 ghost use Rattle.layout.specs.Maps.{indirect_pointer};
 ghost use Rattle.layout.specs.Pointer.{PointsBelow};
 ghost use Rattle.layout.specs.declared.TheConstants.{BLOCK_BYTES, BLOCK_POINTERS};

@@ -1,6 +1,6 @@
 //! The bytes of the block map's blocks.
 
-ghost use Rattle.std.specs.Prelude.{◌≡◌, ◌≢◌, ℕ, ◌<◌, ◌≤◌, OnOk, IfErr, IsErrOf, length};
+ghost use Rattle.std.specs.Prelude.{◌≡◌, ◌≢◌, ℕ, ◌<◌, ◌≤◌, OnOk, length};
 ghost use Rattle.conspoint.specs.Drafts.{OnEach, IsReserved};
 ghost use Rattle.conspoint.specs.Groups.{pointer_at};
 ghost use Rattle.conspoint.specs.MapFiles.{StoresPart};

@@ -1,12 +1,13 @@
 //! The block map's own file: where its nodes stand after the point, and its inode.
 
-ghost use Rattle.std.specs.Prelude.{◌≡◌, ◌≢◌, ℕ, ◌+◌, ◌*◌, ◌<◌, ◌≤◌, All, IfOk, OnOk, IfErr, IsErrOf, length, nat_lt, nat_le, if◌then◌else◌};
+ghost use Rattle.std.specs.Prelude.{◌≡◌, ◌≢◌, ℕ, ◌+◌, ◌*◌, ◌<◌, ◌≤◌, All, IfOk, OnOk, length, nat_lt, nat_le, if◌then◌else◌};
 ghost use Rattle.std.specs.Int.{div_ceil};
 ghost use Rattle.layout.specs.Maps.{indirect_pointer};
 ghost use Rattle.layout.specs.Pointer.{PointsBelow};
 ghost use Rattle.layout.specs.declared.TheConstants.{BLOCK_POINTERS, BODY_POINTERS};
 ghost use Rattle.layout.specs.declared.geometry.TheConstants.{MOST_BLOCKS};
 ghost use Rattle.layout.specs.declared.pointer.Pointer.TheVariants.{Hole};
+ghost use Rattle.model.specs.Attributes.{no_attributes};
 ghost use Rattle.blockmap.specs.Maps.{IsTouched};
 ghost use Rattle.conspoint.specs.Closures.{IsInTouchedPart};
 ghost use Rattle.conspoint.specs.Drafts.{OnEach, IsReserved};
@@ -21,7 +22,7 @@ use crate::error::PlanError;
 use crate::map_file::store_map;
 use buffers::SharedBlock;
 use layout::{BLOCK_BYTES, BLOCK_POINTERS, BODY_POINTERS, Body, Inode, Kind, Pointer, set_pointer};
-use model::Mode;
+use model::Attributes;
 use std::alloc::{AllocError, Global};
 
 /// Puts the block at a node into the active tree's set, or takes it out, where the node has a new place.
@@ -180,7 +181,7 @@ fn top_pointers(settled: &[Pointer], places: &[Pointer], first: usize) -> [Point
 fn map_inode(pointers: [Pointer; BODY_POINTERS], blocks: u32) -> Inode
     ensures { result ≡ record {
       kind = Kind.BlockMap;
-      mode = 0;
+      attributes = no_attributes;
       links = 1;
       size = 4 * blocks;
       body = Body.Pointers pointers;
@@ -188,7 +189,7 @@ fn map_inode(pointers: [Pointer; BODY_POINTERS], blocks: u32) -> Inode
 {
     Inode {
         kind: Kind::BlockMap,
-        mode: Mode::new(0).unwrap(),
+        attributes: Attributes::none(),
         links: 1,
         size: 4 * blocks as u64,
         body: Body::Pointers(pointers),

@@ -1,8 +1,8 @@
 //! Set 0 of the map, the blocks of the active tree.
 
-ghost use Rattle.std.specs.Prelude.{◌≡◌, ℕ, ◌<◌, All, OnOk, IfErr, IsErrOf, length};
+ghost use Rattle.std.specs.Prelude.{◌<◌, All, OnOk, length};
 ghost use Rattle.conspoint.specs.Marks.{AreMarked};
-ghost use Rattle.conspoint.specs.Steps.{Marks, Puts};
+ghost use Rattle.conspoint.specs.Steps.{Marks};
 
 use crate::draft::Draft;
 use crate::error::PlanError;

@@ -52,18 +52,18 @@ nameless_counts (suc n) v = ap (λ (k : ℕ). k + one_if (is_nameless (v n))) (n
 -- what has figures is a file, without a name where they say so
 figured_nameless : (o : Option Node) (f : Figures) → node_figures o ≡ Some f → is_nameless o ≡ (f.links == 0)
 figured_nameless None f e = cc
-figured_nameless (Some (directory_node mode names)) f e = cc
-figured_nameless (Some (file_node mode zero bytes)) f e = ap (λ (o : Option Figures). elim o [ Some g ↦ g.links == 0 | None ↦ true ]) e
-figured_nameless (Some (file_node mode (suc links) bytes)) f e =
+figured_nameless (Some (directory_node attributes names)) f e = cc
+figured_nameless (Some (file_node attributes zero bytes)) f e = ap (λ (o : Option Figures). elim o [ Some g ↦ g.links == 0 | None ↦ true ]) e
+figured_nameless (Some (file_node attributes (suc links) bytes)) f e =
     let many : suc links ≡ f.links = ap (λ (o : Option Figures). elim o [ Some g ↦ g.links | None ↦ 0 ]) e in
     sym (ne_eqb f.links 0 (λ none. absurd (omega (arith, many, none))))
-figured_nameless (Some (link_node text)) f e = cc
+figured_nameless (Some (link_node attributes text)) f e = cc
 
 figured_some : (o : Option Node) (f : Figures) → node_figures o ≡ Some f → is_directory_node o ≡ false
 figured_some None f e = cc
-figured_some (Some (directory_node mode names)) f e = cc
-figured_some (Some (file_node mode links bytes)) f e = refl
-figured_some (Some (link_node text)) f e = refl
+figured_some (Some (directory_node attributes names)) f e = cc
+figured_some (Some (file_node attributes links bytes)) f e = refl
+figured_some (Some (link_node attributes text)) f e = refl
 
 figured_there : (o : Option Node) (f : Figures) → node_figures o ≡ Some f → IsSome o
 figured_there None f e = cc
@@ -73,14 +73,14 @@ figured_there (Some o) f e = refl
 stays_nameless : (open_now : Bool) (o : Option Node) → swept_node open_now o ≡ o → is_nameless o && open_now ≡ is_nameless o
 stays_nameless true None e = refl
 stays_nameless false None e = refl
-stays_nameless true (Some (directory_node mode names)) e = refl
-stays_nameless false (Some (directory_node mode names)) e = refl
-stays_nameless true (Some (file_node mode zero bytes)) e = refl
-stays_nameless false (Some (file_node mode zero bytes)) e = cc
-stays_nameless true (Some (file_node mode (suc links) bytes)) e = refl
-stays_nameless false (Some (file_node mode (suc links) bytes)) e = refl
-stays_nameless true (Some (link_node text)) e = refl
-stays_nameless false (Some (link_node text)) e = refl
+stays_nameless true (Some (directory_node attributes names)) e = refl
+stays_nameless false (Some (directory_node attributes names)) e = refl
+stays_nameless true (Some (file_node attributes zero bytes)) e = refl
+stays_nameless false (Some (file_node attributes zero bytes)) e = cc
+stays_nameless true (Some (file_node attributes (suc links) bytes)) e = refl
+stays_nameless false (Some (file_node attributes (suc links) bytes)) e = refl
+stays_nameless true (Some (link_node attributes text)) e = refl
+stays_nameless false (Some (link_node attributes text)) e = refl
 
 -- ---- the lowest descriptors
 

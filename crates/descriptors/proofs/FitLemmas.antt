@@ -37,9 +37,9 @@ fits_swept t v fits = fits_same t v (swept (table_of t) v) fits (λ k opened. ap
 
 pub figured_file : (o : Option Node) (figures : Figures) → node_figures o ≡ Some figures → is_file_node o ≡ true
 figured_file None figures e = cc
-figured_file (Some (directory_node mode names)) figures e = cc
-figured_file (Some (file_node mode links bytes)) figures e = refl
-figured_file (Some (link_node text)) figures e = cc
+figured_file (Some (directory_node attributes names)) figures e = cc
+figured_file (Some (file_node attributes links bytes)) figures e = refl
+figured_file (Some (link_node attributes text)) figures e = cc
 
 pub fits_mounted : (t : Descriptors) (v : Volume) → FitsVolume t v → ((n : ℕ) → swept (table_of t) v n ≡ v n) → IsMounted v (table_of t)
 fits_mounted t v fits is_swept = record {

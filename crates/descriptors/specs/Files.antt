@@ -32,9 +32,9 @@ figures_of f = record { links = f.links; size = f.size }
 
 -- the same of an object of a volume; only a file has any
 abbrev pub node_figures : Option Node → Option Figures
-node_figures (Some (file_node mode links bytes)) = Some (record { links = links; size = length bytes })
-node_figures (Some (directory_node mode names)) = None
-node_figures (Some (link_node text)) = None
+node_figures (Some (file_node attributes links bytes)) = Some (record { links = links; size = length bytes })
+node_figures (Some (directory_node attributes names)) = None
+node_figures (Some (link_node attributes text)) = None
 node_figures None = None
 
 -- figures with so many bytes

@@ -28,7 +28,7 @@ pub(crate) struct Place {
     pub(crate) number: u32,
 }
 
-ghost use Rattle.std.specs.Prelude.{◌*◌, ◌/◌, ◌≢◌, IfSome, OnErr, ◌≤◌, ◌≡◌, ◌<◌, ℕ, List, IfOk, OnOk, IsErrOf, None, length};
+ghost use Rattle.std.specs.Prelude.{◌*◌, ◌/◌, ◌≢◌, IfSome, OnErr, ◌≤◌, ◌≡◌, ◌<◌, ℕ, List, IfOk, OnOk, IsErrOf, None};
 ghost use Rattle.std.specs.Option.{option_map};
 ghost use Rattle.std.specs.Ordering.{nat_cmp};
 ghost use Rattle.std.specs.BTreeMap as tree;

@@ -4,12 +4,13 @@ use Rattle.std.proofs.lemmas.Bool.{cases_Bool}
 use Rattle.std.proofs.lemmas.List.{length-append}
 use Rattle.layout.specs.Directory.{Named, HoldsEntries, entry_bytes}
 use Rattle.layout.specs.DirectoryNames.{number_of}
+use Rattle.layout.proofs.EntryLaws.{entries_once}
 use Rattle.model.specs.Paths.{Name}
 use Rattle.model.proofs.OptionLaws.{none_some}
 use Rattle.entries.specs.Entries.{IsOneFewer, used_by, without}
 use Rattle.entries.specs.Marks.{AreMarked, HasMarks, KeepsMarks, IsTally}
 use Rattle.entries.proofs.MissingLaws.{number_of-here, number_of-behind, same_name, without-here, without-behind}
-use Rattle.entries.proofs.Once.{entries_once, keeps_name}
+use Rattle.entries.proofs.Once.{keeps_name}
 
 -- ---- one fewer
 

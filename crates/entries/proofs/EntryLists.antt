@@ -1,29 +1,10 @@
 -- What a block's bytes begin with, and the entries that they are.
-use Rattle.std.proofs.Common.{◌≡◌, ℕ, zero, suc, take, drop, zero-add, append_assoc, ◌+◌, ◌^◌, ◌≤◌, List, [], ◌∷◌, ◌++◌, length, Some, refl, sym, ap, subst, ◌∙◌, arith, true, false, bytes_eq}
-use Rattle.std.proofs.lemmas.List.{length-append, append_cancel_left, drop-drop, drop_at, length-replicate}
+use Rattle.std.proofs.Common.{◌≡◌, ℕ, zero, suc, take, drop, zero-add, append_assoc, ◌+◌, ◌≤◌, List, [], ◌∷◌, ◌++◌, length, Some, refl, sym, ap, subst, ◌∙◌, arith, true, false, bytes_eq}
+use Rattle.std.proofs.lemmas.List.{length-append, drop-drop, drop_at, length-replicate}
 use Rattle.layout.specs.Bytes.{zeros, Writes}
-use Rattle.layout.specs.Directory.{Named, entry_bytes, IsEntry, HoldsEntries, entry_in}
-use Rattle.layout.proofs.Formats.{some_is}
-use Rattle.layout.proofs.EntryLaws.{not_zeros, entry_again}
+use Rattle.layout.specs.Directory.{Named, entry_bytes, IsEntry, HoldsEntries}
 use Rattle.layout.specs.DirectoryNames.{number_of}
 use Rattle.entries.specs.Entries.{used_by, without}
-
-pub none_left : (inodes : ℕ) (bytes : List ℕ) (entries : List Named) → inodes ≤ 2 ^ 32 → HoldsEntries inodes bytes entries → bytes ≡ zeros (length bytes) → entries ≡ []
-none_left inodes bytes [] limit holds none = refl
-none_left inodes bytes (e ∷ entries) limit holds none = absurd (not_zeros inodes bytes holds.0 e (length bytes) limit holds.1 holds.2 none)
-
--- the entries behind the first
-pub record Behind (inodes : ℕ) (rest : List ℕ) (e : Named) (entries : List Named) : Type 0 where
-  pub others : List Named
-  pub are : entries ≡ e ∷ others
-  pub holds : HoldsEntries inodes rest others
-
-pub one_first : (inodes : ℕ) (bytes rest : List ℕ) (e : Named) (entries : List Named) → inodes ≤ 2 ^ 32 → IsEntry inodes e → bytes ≡ entry_bytes e ++ rest → HoldsEntries inodes bytes entries → Behind inodes rest e entries
-one_first inodes bytes rest e [] limit is spelled holds = absurd (not_zeros inodes bytes rest e (length bytes) limit is spelled holds)
-one_first inodes bytes rest e (f ∷ entries) limit is spelled holds =
-    let same : f ≡ e = some_is f e (sym (entry_again inodes f holds.0 limit holds.1) ∙ ap entry_in (sym holds.2 ∙ spelled) ∙ entry_again inodes e rest limit is) in
-    let behind : holds.0 ≡ rest = append_cancel_left (entry_bytes e) holds.0 rest (ap (λ (n : Named). entry_bytes n ++ holds.0) (sym same) ∙ sym holds.2 ∙ spelled) in
-    record { others = entries; are = ap (λ (n : Named). n ∷ entries) same; holds = subst (λ (r : List ℕ). HoldsEntries inodes r entries) behind holds.3 }
 
 -- ---- finding
 

@@ -1,11 +1,12 @@
 -- What is known of blocks, where one becomes known or unknown.
-use Rattle.std.proofs.Common.{◌≡◌, ◌≢◌, ◌∙◌, ℕ, zero, suc, ◌<◌, List, [], ◌∷◌, ◌++◌, Option, length, IfSome, inl, inr, refl, sym, subst, ap, arith, Some, None}
+use Rattle.std.proofs.Common.{◌≡◌, ◌≢◌, ◌∙◌, ℕ, zero, suc, ◌<◌, List, [], ◌∷◌, ◌++◌, Option, length, IfSome, inl, inr, sym, subst, ap, arith, Some, None}
 use Rattle.std.specs.Prelude.{Result, Ok, Err, is_ok, if◌then◌else◌, slice_get, set, take}
 use Rattle.std.proofs.lemmas.Bool.{cases_eq}
+use Rattle.model.proofs.ListLaws.{get_others, get_pushed}
 use Rattle.entries.specs.Known.{AreButOne, Summarizes}
 use Rattle.entries.specs.declared.summary.Summary.{Summary}
 
--- elements of a list of which one was set, one was added, or the first ones are left
+-- elements of a list of which one was set, or the first ones are left
 module _ {X : Type 0} where
   at_none : (x : X) → None ≡ Some x → ⊥
   at_none x e = absurd cc
@@ -14,23 +15,6 @@ module _ {X : Type 0} where
   set_here [] i y x is = absurd (at_none x is)
   set_here (z ∷ xs) zero y x is = cc
   set_here (z ∷ xs) (suc i) y x is = set_here xs i y x is
-
-  set_other : (xs : List X) (i j : ℕ) (y : X) → j ≢ i → slice_get (set xs i y) j ≡ slice_get xs j
-  set_other [] i j y apart = refl
-  set_other (z ∷ xs) zero zero y apart = absurd (apart refl)
-  set_other (z ∷ xs) zero (suc j) y apart = refl
-  set_other (z ∷ xs) (suc i) zero y apart = refl
-  set_other (z ∷ xs) (suc i) (suc j) y apart = set_other xs i j y (λ e. apart (ap suc e))
-
-  added_here : (xs : List X) (y x : X) → slice_get (xs ++ y ∷ []) (length xs) ≡ Some x → y ≡ x
-  added_here [] y x is = cc
-  added_here (z ∷ xs) y x is = added_here xs y x is
-
-  added_other : (xs : List X) (j : ℕ) (y : X) → j ≢ length xs → slice_get (xs ++ y ∷ []) j ≡ slice_get xs j
-  added_other [] zero y apart = absurd (apart refl)
-  added_other [] (suc j) y apart = refl
-  added_other (z ∷ xs) zero y apart = refl
-  added_other (z ∷ xs) (suc j) y apart = added_other xs j y (λ e. apart (ap suc e))
 
   among_first : (n : ℕ) (xs : List X) (i : ℕ) (x : X) → slice_get (take n xs) i ≡ Some x → (i < n) × (slice_get xs i ≡ Some x)
   among_first zero xs i x is = absurd (at_none x is)
@@ -61,7 +45,7 @@ module _ (inodes : ℕ) (xs ys : List (Option Summary)) where
       left : AreKnown inodes next (set xs i None)
       left j s had = elim (cases_eq j i) [
         | inl e ↦ absurd (no_summary s (set_here xs i None (Some s) (sym (ap (slice_get (set xs i None)) e) ∙ had)))
-        | inr apart ↦ subst (λ b. Summarizes inodes b s) (sym (others j apart)) (known j s (sym (set_other xs i j None apart) ∙ had))
+        | inr apart ↦ subst (λ b. Summarizes inodes b s) (sym (others j apart)) (known j s (sym (get_others xs i j None apart) ∙ had))
       ]
 
   -- there is a new one of one block
@@ -83,13 +67,15 @@ module _ (inodes : ℕ) (xs ys : List (Option Summary)) where
   known_at i summary block is known tells =
       let zs = set xs i (Some summary) in
       subst (AreKnown inodes block) (sym is)
-      (with_one inodes xs zs i summary block (λ t e. same_summary summary t (set_here xs i (Some summary) (Some t) e)) (λ k apart. set_other xs i k (Some summary) apart) known tells)
+      (with_one inodes xs zs i summary block (λ t e. same_summary summary t (set_here xs i (Some summary) (Some t) e)) (λ k apart. get_others xs i k (Some summary) apart) known tells)
 
   pub known_last : (i : ℕ) (summary : Summary) (block : ℕ → List ℕ) → ys ≡ xs ++ Some summary ∷ [] → i ≡ length xs → AreKnown inodes block xs → Summarizes inodes (block i) summary → AreKnown inodes block ys
   known_last i summary block is last known tells =
-      let zs = xs ++ Some summary ∷ [] in
-      subst (AreKnown inodes block) (sym is)
-      (with_one inodes xs zs i summary block (λ t e. same_summary summary t (added_here xs (Some summary) (Some t) (sym (ap (slice_get zs) last) ∙ e))) (λ k apart. added_other xs k (Some summary) (λ e. apart (e ∙ sym last))) known tells)
+      let longer : AreKnown inodes block (xs ++ Some summary ∷ []) = λ j s had. elim (get_pushed xs (Some summary) j (Some s) had) [
+        | inl old ↦ known j s old
+        | inr new ↦ subst (λ (k : ℕ). Summarizes inodes (block k) s) (last ∙ sym new.0) (subst (Summarizes inodes (block i)) (same_summary summary s (sym new.1)) tells)
+      ] in
+      subst (AreKnown inodes block) (sym is) longer
 
 -- nothing is known of a block that has no place
 pub none_past : (inodes : ℕ) (xs : List (Option Summary)) (i : ℕ) (block next : ℕ → List ℕ) → slice_get xs i ≡ None → AreKnown inodes block xs → AreButOne i block next → AreKnown inodes next xs

@@ -1,17 +1,10 @@
--- Bytes hold one row of entries at most, in one way.
-use Rattle.std.proofs.Common.{◌≡◌, ℕ, ◌<◌, ◌≤◌, ◌^◌, List, [], ◌∷◌, Option, Some, None, refl, sym, ap, ◌∙◌, arith}
-use Rattle.layout.specs.Directory.{Named, HoldsEntries}
+-- What is told of entries by their marks.
+use Rattle.std.proofs.Common.{◌≡◌, ℕ, ◌<◌, List, [], ◌∷◌, Option, Some, None, refl, arith}
+use Rattle.layout.specs.Directory.{Named}
 use Rattle.layout.specs.DirectoryNames.{number_of}
 use Rattle.model.specs.Paths.{Name}
 use Rattle.entries.specs.declared.TheConstants.{HASHES}
 use Rattle.entries.specs.Marks.{hash_of, print_of, AreMarked, HasMarks, KeepsMarks}
-use Rattle.entries.proofs.EntryLists.{none_left, one_first}
-
-pub entries_once : (inodes : ℕ) (bytes : List ℕ) (es fs : List Named) → inodes ≤ 2 ^ 32 → HoldsEntries inodes bytes es → HoldsEntries inodes bytes fs → es ≡ fs
-entries_once inodes bytes [] fs limit one other = sym (none_left inodes bytes fs limit other one)
-entries_once inodes bytes (e ∷ es) fs limit one other =
-    let b = one_first inodes bytes one.0 e fs limit one.1 one.2 other in
-    ap (λ (l : List Named). e ∷ l) (entries_once inodes one.0 es b.others limit one.3 b.holds) ∙ sym b.are
 
 nothing : (o : Option ℕ) → ((n : ℕ) → o ≡ Some n → ⊥) → o ≡ None
 nothing None never = refl

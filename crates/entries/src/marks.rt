@@ -1,6 +1,6 @@
 //! Marks of the names in a block: two for each name, by a hash of it.
 
-ghost use Rattle.std.specs.Prelude.{◌≡◌, ◌+◌, ◌%◌, ◌↔◌, ◌<◌, ◌≤◌, List, IsTrue, length};
+ghost use Rattle.std.specs.Prelude.{◌≡◌, ◌+◌, ◌%◌, ◌↔◌, ◌<◌, ◌≤◌, List, IsTrue};
 ghost use Rattle.layout.specs.Directory.{Named, HoldsEntries};
 ghost use Rattle.model.specs.Paths.{Name};
 ghost use Rattle.entries.specs.Marks.{AreMarked, HasMarks, IsMarkedAt, KeepsMarks, MayBe, hash_of, print_of};

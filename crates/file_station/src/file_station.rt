@@ -67,7 +67,7 @@ impl<M: ImageFiles + Drop> FileStation<M> {
     }
 
     /// The files, which have no station over them then.
-    pub fn into_files(self) -> M
+    pub(crate) fn into_files(self) -> M
         ensures { result ≡ self.files }
     {
         self.files

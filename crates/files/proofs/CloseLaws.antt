@@ -46,7 +46,7 @@ stays_any false o is = is
 
 -- a file with names isn't nameless
 not_nameless : (o : Option Node) (figures : Figures) → node_figures o ≡ Some figures → 0 < figures.links → ¬ IsNameless o
-not_nameless o figures is some (mode, bytes, same) =
+not_nameless o figures is some (attributes, bytes, same) =
     let none : 0 ≡ figures.links = ap (λ (k : Figures). k.links) (some_same (sym (ap node_figures same) ∙ is)) in omega (arith, none, some)
 
 module _ (old new : Descriptors) (fd : ℕ) (freed : table_of new ≡ put_open fd None (table_of old)) where
@@ -174,11 +174,11 @@ open_nameless table fd f v fits some none = (f, some, nameless (v f.number) (fig
   where
     nameless : (o : Option Node) (figures : Figures) → node_figures o ≡ Some figures → figures.links ≡ 0 → is_nameless o ≡ true
     nameless None figures is none = cc
-    nameless (Some (directory_node mode names)) figures is none = cc
-    nameless (Some (file_node mode zero bytes)) figures is none = refl
-    nameless (Some (file_node mode (suc links) bytes)) figures is none =
+    nameless (Some (directory_node attributes names)) figures is none = cc
+    nameless (Some (file_node attributes zero bytes)) figures is none = refl
+    nameless (Some (file_node attributes (suc links) bytes)) figures is none =
         let many : suc links ≡ figures.links = ap (λ (k : Figures). k.links) (some_same is) in absurd (omega (arith, many, none))
-    nameless (Some (link_node text)) figures is none = cc
+    nameless (Some (link_node attributes text)) figures is none = cc
 
 on_err : {T E : Type 0} {P : Type 0} (r : Result T E) → P → OnErr r P
 on_err (Ok x) is = tt

@@ -1,6 +1,7 @@
 -- A file of a volume stands at a path just where it has a name; and what is told of an open file.
 use Rattle.std.proofs.Common.{◌≡◌, ℕ, zero, suc, List, true, false, Option, Some, None, Result, Ok, Err, refl, sym, ap, subst, ◌∙◌}
 use Rattle.std.proofs.lemmas.Bool.{false≢true}
+use Rattle.model.specs.declared.attributes.Attributes.{Attributes}
 use Rattle.model.specs.Descriptors.{stats_open}
 use Rattle.model.specs.Laws.{VolumesTellLinks}
 use Rattle.model.specs.Reading.{tells_stat}
@@ -23,28 +24,28 @@ use Rattle.files.proofs.OpenLaws.{is_open}
 use Rattle.descriptors.proofs.FitLemmas.{figured_file}
 
 -- a file of a volume
-file_of : (o : Option Node) → is_file_node o ≡ true → (mode : ℕ) × (links : ℕ) × (bytes : List ℕ) × (o ≡ Some (file_node mode links bytes))
+file_of : (o : Option Node) → is_file_node o ≡ true → (attributes : Attributes) × (links : ℕ) × (bytes : List ℕ) × (o ≡ Some (file_node attributes links bytes))
 file_of None is = cc
-file_of (Some (directory_node mode names)) is = cc
-file_of (Some (file_node mode links bytes)) is = (mode, links, bytes, refl)
-file_of (Some (link_node text)) is = cc
+file_of (Some (directory_node attributes names)) is = cc
+file_of (Some (file_node attributes links bytes)) is = (attributes, links, bytes, refl)
+file_of (Some (link_node attributes text)) is = cc
 
 module _ (inodes n : ℕ) (v : Volume) (table : ℕ → Option Description) (tell_links : VolumesTellLinks) (volume : IsVolume inodes v) (a_file : is_file_node (v n) ≡ true) where
   abbrev t : Tree
   t = tree_of v table
 
-  path_by : (mode links : ℕ) (bytes : List ℕ) → v n ≡ Some (file_node mode links bytes) → is_nameless (v n) ≡ false → HasPath t n
-  path_by mode zero bytes is named = absurd (false≢true (sym named ∙ ap is_nameless is))
-  path_by mode (suc links) bytes is named = let one = tell_links inodes v table n mode (suc links) bytes volume is in (one.0, file n, one.1, refl)
+  path_by : (attributes : Attributes) (links : ℕ) (bytes : List ℕ) → v n ≡ Some (file_node attributes links bytes) → is_nameless (v n) ≡ false → HasPath t n
+  path_by attributes zero bytes is named = absurd (false≢true (sym named ∙ ap is_nameless is))
+  path_by attributes (suc links) bytes is named = let one = tell_links inodes v table n attributes (suc links) bytes volume is in (one.0, file n, one.1, refl)
 
   pub has_path : is_nameless (v n) ≡ false → HasPath t n
   has_path named = let f = file_of (v n) a_file in path_by f.0 f.1 f.2 f.3 named
 
-  name_by : (mode links : ℕ) (bytes : List ℕ) → v n ≡ Some (file_node mode links bytes) → HasPath t n → is_nameless (v n) ≡ false
-  name_by mode zero bytes is (p, o, at, same) =
+  name_by : (attributes : Attributes) (links : ℕ) (bytes : List ℕ) → v n ≡ Some (file_node attributes links bytes) → HasPath t n → is_nameless (v n) ≡ false
+  name_by attributes zero bytes is (p, o, at, same) =
       let number_is = found_number v (number_at (entries v) p) o n at same in
-      absurd (tell_links inodes v table n mode 0 bytes volume is p (ap (object_at v) number_is ∙ ap (object_of n) is))
-  name_by mode (suc links) bytes is path = ap is_nameless is
+      absurd (tell_links inodes v table n attributes 0 bytes volume is p (ap (object_at v) number_is ∙ ap (object_of n) is))
+  name_by attributes (suc links) bytes is path = ap is_nameless is
 
   pub has_name : HasPath t n → is_nameless (v n) ≡ false
   has_name path = let f = file_of (v n) a_file in name_by f.0 f.1 f.2 f.3 path

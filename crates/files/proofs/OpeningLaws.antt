@@ -61,7 +61,7 @@ module _ (inodes : ℕ) (v : Volume) (table : Descriptors) (text : List ℕ) (fl
       module _ (o : Opened) (f : OpenFile) (described : description_of f ≡ described_by o.number flags) (figures : figures_of f ≡ record { links = o.links; size = o.size }) where
         -- what is opened is a file, with its size and its links
         is_file : (w : Volume) → IsOpened w o → IsFileOf w f
-        is_file w (mode_is, bytes, is, size) =
+        is_file w (attributes, bytes, is, size) =
             ap (λ (d : Description). node_figures (w d.number)) described ∙ ap node_figures is
             ∙ ap (λ (k : ℕ). Some (record { links = o.links; size = k })) (sym size)
             ∙ ap (λ (g : Figures). Some g) (sym figures)

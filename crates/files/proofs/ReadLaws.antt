@@ -44,9 +44,9 @@ module _ (table : Descriptors) (v : Volume) (fd : ℕ) (tests : Description → 
 
 pub figured_size : (o : Option Node) (figures : Figures) → node_figures o ≡ Some figures → length (unwrap_or (bytes_of_node o) []) ≡ figures.size
 figured_size None figures e = cc
-figured_size (Some (directory_node mode names)) figures e = cc
-figured_size (Some (file_node mode links bytes)) figures e = cc
-figured_size (Some (link_node text)) figures e = cc
+figured_size (Some (directory_node attributes names)) figures e = cc
+figured_size (Some (file_node attributes links bytes)) figures e = cc
+figured_size (Some (link_node attributes text)) figures e = cc
 
 -- no offset behind what is read is past the greatest one
 place_is : (bytes : List ℕ) (offset count : ℕ) → length bytes ≤ GREATEST_FILE → offset ≤ 9223372036854775807

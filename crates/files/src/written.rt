@@ -1,6 +1,6 @@
 //! What a call writes into a file.
 
-ghost use Rattle.std.specs.Prelude.{◌≡◌, ◌≤◌};
+ghost use Rattle.std.specs.Prelude.{◌≤◌};
 ghost use Rattle.model.specs.declared.limits.TheConstants.{GREATEST_OFFSET};
 
 use layout::InodeNumber;

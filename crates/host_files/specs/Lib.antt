@@ -1,2 +1,3 @@
 pub mod BadList
+pub mod ImageStations
 pub mod Names

@@ -1,6 +1,6 @@
 //! The list of a disk's sectors that can't be read, as a text: a line for each, in rising order.
 
-ghost use Rattle.std.specs.Prelude.{◌≡◌, ◌++◌, ◌∷◌, [], IfOk, IfSome, OnOk};
+ghost use Rattle.std.specs.Prelude.{◌≡◌, IfOk, IfSome, OnOk};
 ghost use Rattle.std.specs.Fmt.{decimal};
 ghost use Rattle.host_files.specs.BadList.{EndsLine, IsBehind, IsListOf, Names, list_text};
 

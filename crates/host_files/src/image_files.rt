@@ -8,6 +8,7 @@ ghost use Rattle.memory_station.specs.Sim.{plan_of, was_cut};
 use crate::bad_list::read_list;
 use crate::error::{FileError, on};
 use crate::image::Image;
+use crate::image_station::ImageStation;
 use crate::locking::{Patience, Purpose, open_locked, pause};
 use crate::places::is_one_file;
 use file_station::{FileStation, OpenFiles};
@@ -26,16 +27,6 @@ pub struct Held {
     disk: Option<File>,
     nvram: Option<File>,
     pub(crate) bad: Vec<u32>,
-}
-
-/// What a command works on.
-#[derive(Drop)]
-pub enum Opened {
-    /// A station over the files themselves, under locks as long as it lives.
-    Files(FileStation<OpenFiles<File>>),
-    /// Where an image has a list of sectors that can't be read, a station in memory, and what holds the files until the image
-    /// is stored again. Its power is on, and no call of it is to fail.
-    Memory(Sim, Held),
 }
 
 /// Opens both files of an image, which are there and two. Between two tries neither is held, so that nobody waits for a file
@@ -90,15 +81,15 @@ pub fn open_image<'a, R: Files<File = File> + AllocGlobal + Clock>(
     rt: &R,
     image: Image<'a>,
     patience: Patience,
-) -> Result<Opened, FileError<'a>>
+) -> Result<ImageStation, FileError<'a>>
     ensures { HasOneName image.entry → IsErr result }
 {
     let (disk, nvram) = open_both(rt, image, Purpose::Writing, patience)?;
     match list_text(rt, image)? {
-        None => Ok(Opened::Files(station_over(image, disk, nvram)?)),
+        None => Ok(ImageStation::Files(station_over(image, disk, nvram)?)),
         Some(text) => {
             let (sim, held) = load_files(rt.alloc(), image, disk, nvram, &text)?;
-            Ok(Opened::Memory(sim, held))
+            Ok(ImageStation::Memory(sim, held))
         }
     }
 }
@@ -109,11 +100,11 @@ pub fn open_to_read<'a, R: Files<File = File> + AllocGlobal + Clock>(
     rt: &R,
     image: Image<'a>,
     patience: Patience,
-) -> Result<Opened, FileError<'a>>
+) -> Result<ImageStation, FileError<'a>>
     ensures { HasOneName image.entry → IsErr result }
 {
     if let Some(station) = read_files(rt, image, patience)? {
-        return Ok(Opened::Files(station));
+        return Ok(ImageStation::Files(station));
     }
     tell_why_written(image, open_image(rt, image, patience))
 }
@@ -121,8 +112,8 @@ pub fn open_to_read<'a, R: Files<File = File> + AllocGlobal + Clock>(
 /// Says of a file that may not be written why it has to be, where it was only to be read.
 fn tell_why_written<'a>(
     image: Image<'a>,
-    opened: Result<Opened, FileError<'a>>,
-) -> Result<Opened, FileError<'a>>
+    opened: Result<ImageStation, FileError<'a>>,
+) -> Result<ImageStation, FileError<'a>>
     ensures { IsErr opened.entry → IsErr result }
 {
     match opened {

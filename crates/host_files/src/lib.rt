@@ -7,6 +7,7 @@ mod error;
 mod faults;
 mod image;
 mod image_files;
+mod image_station;
 mod locking;
 mod new_list;
 mod places;
@@ -20,12 +21,12 @@ pub use error::{FileError, on};
 pub use faults::tell_fault;
 pub use image::{Image, list_name};
 pub use image_files::{
-    Held, Opened, hold_both, load_station, open_image, open_shared, open_to_read, read_script,
+    Held, hold_both, load_station, open_image, open_shared, open_to_read, read_script,
 };
+pub use image_station::ImageStation;
 pub use locking::Patience;
 pub use new_list::NewList;
 pub use places::{Found, Place, find_place, is_one_file, place_in};
 pub use replacement::{NewFile, Replacement, make_beside, remove};
 pub use sparse::Sparse;
 pub use stand_ins::open_descriptors;
-pub use storing::store_image;

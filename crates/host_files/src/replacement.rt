@@ -2,7 +2,7 @@
 //! each new file is made under a name that nothing had, and only what was made here is removed, or an image's own list of
 //! sectors that can't be read.
 
-ghost use Rattle.std.specs.Prelude.{◌≡◌, IsErr};
+ghost use Rattle.std.specs.Prelude.{IsErr};
 ghost use Rattle.host_files.specs.Names.{HasOneName};
 
 use crate::error::{FileError, on};

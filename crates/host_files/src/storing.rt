@@ -1,6 +1,6 @@
 //! Storing an image that was worked on in memory.
 
-ghost use Rattle.std.specs.Prelude.{◌≡◌, IsErr};
+ghost use Rattle.std.specs.Prelude.{IsErr};
 ghost use Rattle.host_files.specs.Names.{HasOneName};
 
 use crate::error::{FileError, on};
@@ -23,7 +23,7 @@ use std::rt::Files;
 /// where it was written since; of the new disk, all that was written can be read, and what a cut made unreadable reads as
 /// zeros. That was written since the last sync, so it is no root, or a block of no tree that a root has. The NVRAM is replaced
 /// last: the new disk's root covers what the old log holds, or has that log's epoch.
-pub fn store_image<'a, R: Files<File = File> + AllocGlobal>(
+pub(crate) fn store_image<'a, R: Files<File = File> + AllocGlobal>(
     rt: &R,
     image: Image<'a>,
     sim: &Sim,

@@ -2,12 +2,14 @@
 use Rattle.std.proofs.Common.{◌≡◌, ◌≢◌, inl, ℕ, zero, suc, true, false, eqb, List, [], ◌∷◌, fold, Option, Some, None, IsSome, IfSome, refl, ap, sym, subst, ◌∙◌, arith}
 use Rattle.std.proofs.lemmas.Bool.Decides.{nat_tests}
 use Rattle.layout.specs.DirectoryNames.{HoldNames}
+use Rattle.model.specs.declared.attributes.Attributes.{Attributes}
 use Rattle.model.specs.Paths.{Name, Path}
 use Rattle.model.specs.Records.{without_nameless, is_vacant}
 use Rattle.model.specs.States.{ForgetsOpenFiles}
 use Rattle.model.specs.Trees.{root_alone}
 use Rattle.model.specs.Volumes.{file_node, entries, enter, number_at, object_at, IsNode, IsVolume, tree_of}
 use Rattle.model.proofs.MountLemmas.{mounts_forget}
+use Rattle.model.proofs.AttributeLaws.{new_fit}
 pub use Rattle.images.specs.FirstRoots.{root_alone_volume as alone}
 
 -- ---- what the directory's file holds
@@ -39,18 +41,18 @@ is_root (suc (suc zero)) some = absurd (cc)
 is_root (suc (suc (suc zero))) some = refl
 is_root (suc (suc (suc (suc n)))) some = absurd (cc)
 
-no_file : (n mode links : ℕ) (bytes : List ℕ) → alone n ≡ Some (file_node mode links bytes) → ⊥
-no_file zero mode links bytes e = none_some e
-no_file (suc zero) mode links bytes e = none_some e
-no_file (suc (suc zero)) mode links bytes e = none_some e
-no_file (suc (suc (suc zero))) mode links bytes e = absurd (cc)
-no_file (suc (suc (suc (suc n)))) mode links bytes e = none_some e
+no_file : (n : ℕ) (attributes : Attributes) (links : ℕ) (bytes : List ℕ) → alone n ≡ Some (file_node attributes links bytes) → ⊥
+no_file zero attributes links bytes e = none_some e
+no_file (suc zero) attributes links bytes e = none_some e
+no_file (suc (suc zero)) attributes links bytes e = none_some e
+no_file (suc (suc (suc zero))) attributes links bytes e = absurd (cc)
+no_file (suc (suc (suc (suc n)))) attributes links bytes e = none_some e
 
 good_node : (n : ℕ) → IfSome (alone n) IsNode
 good_node zero = tt
 good_node (suc zero) = tt
 good_node (suc (suc zero)) = tt
-good_node (suc (suc (suc zero))) = omega arith
+good_node (suc (suc (suc zero))) = new_fit 0o755 (omega arith)
 good_node (suc (suc (suc (suc n)))) = tt
 
 some_not_none : {o : Option ℕ} → IsSome o → o ≡ None → ⊥
@@ -67,7 +69,7 @@ alone_volume inodes = record {
       names = λ d x some. absurd (some_not_none some (no_entry d x));
       reached = λ n some file. ([], ap Some (sym (is_root n some)));
     };
-    counts = λ n mode links bytes e. absurd (no_file n mode links bytes e);
+    counts = λ n attributes links bytes e. absurd (no_file n attributes links bytes e);
   };
   limits = record {
     nodes = good_node;

@@ -2,7 +2,7 @@
 use Rattle.model.specs.Records.{Change, Replays, pledged_for}
 use Rattle.model.specs.Room.{fixed_of}
 use Rattle.std.specs.Prelude.{slice_index}
-use Rattle.std.proofs.Common.{None, [], ◌≡◌, ◌≢◌, ◌⊎◌, inl, inr, ℕ, ◌+◌, ◌*◌, ◌/◌, ◌<◌, ◌≤◌, List, All, refl, ap, sym, subst, ◌∙◌, arith}
+use Rattle.std.proofs.Common.{[], ◌≡◌, ◌≢◌, ◌⊎◌, inl, inr, ℕ, ◌+◌, ◌*◌, ◌/◌, ◌<◌, ◌≤◌, List, All, refl, ap, sym, subst, ◌∙◌, arith}
 use Rattle.layout.specs.Limits.{Sizes}
 use Rattle.layout.specs.Opens.{HoldsRoot, IsNewest}
 use Rattle.layout.specs.Places.{blocks_of}

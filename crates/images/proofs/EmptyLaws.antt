@@ -9,11 +9,11 @@ use Rattle.layout.specs.Bytes.{little, zeros}
 use Rattle.layout.specs.FileBytes.{byte_in}
 use Rattle.layout.specs.Inode.{IsInode, inode_bytes}
 use Rattle.layout.specs.Limits.{Sizes}
-use Rattle.layout.specs.Places.{Blocks, place}
+use Rattle.layout.specs.Places.{Blocks, place, pointed}
 use Rattle.layout.specs.Version.{level_of}
 use Rattle.layout.specs.declared.inode.Body.TheVariants.{Inline}
 use Rattle.layout.specs.declared.inode.Inode.{Inode}
-use Rattle.layout.specs.declared.pointer.Pointer.TheVariants.{Hole}
+use Rattle.layout.specs.declared.pointer.Pointer.TheVariants.{Hole, Block}
 use Rattle.layout.specs.declared.version.TheConstants.{VERSION}
 use Rattle.layout.proofs.PointerLaws.{no_block}
 use Rattle.layout.proofs.ZeroLaws.{zero_byte}
@@ -21,6 +21,7 @@ use Rattle.images.specs.Nodes.{held, Names, body_block, file_block, place_at_hei
 use Rattle.images.specs.Roots.{free_inode, inode_part}
 use Rattle.images.specs.BlockMap.{HasBit}
 use Rattle.images.specs.FirstRoots.{empty_directory}
+use Rattle.model.proofs.AttributeLaws.{new_fit}
 use Rattle.images.specs.Soundness.{IsSoundFile}
 
 pub no_bit : (k x : ℕ) → x ≡ 0 → HasBit k x → ⊥
@@ -46,6 +47,11 @@ pub held_inode : (d : Blocks) (f : Inode) → (held d f).inode ≡ f
 unfolding held
 held_inode d f = refl
 
+-- the bytes of a node that stands in a block
+pub node_bytes : (d : Blocks) (f : Inode) (m i b : ℕ) → (held d f).place m i ≡ Block b → (held d f).bytes m i ≡ d b
+unfolding held
+node_bytes d f m i b is = ap (pointed d) is
+
 zero_ends : (d : Blocks) (f : Inode) → f.body ≡ Inline (zeros 128) → (p : ℕ) → byte_in (file_block (held d f)) p ≡ 0
 unfolding held
 zero_ends d f body p =
@@ -63,11 +69,11 @@ zero_sound s d f fits body level = record {
 
 pub free_fits : (s : Sizes) → IsInode VERSION s free_inode
 unfolding zeros
-free_fits s = record { mode = omega arith; size = omega arith; kind = (refl, refl, refl); body = (omega arith, length-replicate {A = ℕ} 128 0, refl) }
+free_fits s = record { attributes = new_fit 0 (omega arith); size = omega arith; kind = (refl, refl, refl); body = (omega arith, length-replicate {A = ℕ} 128 0, refl) }
 
 pub directory_fits : (s : Sizes) → IsInode VERSION s empty_directory
 unfolding zeros
-directory_fits s = record { mode = omega arith; size = omega arith; kind = (refl, refl); body = (omega arith, length-replicate {A = ℕ} 128 0, refl) }
+directory_fits s = record { attributes = new_fit 0o755 (omega arith); size = omega arith; kind = (refl, refl); body = (omega arith, length-replicate {A = ℕ} 128 0, refl) }
 
 pub free_sound : (s : Sizes) (d : Blocks) → IsSoundFile s (held d free_inode)
 free_sound s d = zero_sound s d free_inode (free_fits s) refl refl

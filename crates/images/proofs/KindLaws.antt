@@ -14,7 +14,7 @@ ordinary_kind (suc zero) k ge fits = absurd (omega arith)
 ordinary_kind (suc (suc zero)) k ge fits = absurd (omega arith)
 ordinary_kind (suc (suc (suc n))) k ge fits = fits
 
-no_directory : {X : Type 0} (o node : Option Node) → o ≡ node → is_directory_node node ≡ false → IsTrue (is_directory_node o) → X
+pub no_directory : {X : Type 0} (o node : Option Node) → o ≡ node → is_directory_node node ≡ false → IsTrue (is_directory_node o) → X
 no_directory o node same not is = absurd (both_ways (is_directory_node node) not (sym (ap is_directory_node same) ∙ is))
 
 -- what stands for a directory is one

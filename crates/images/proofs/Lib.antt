@@ -3,9 +3,9 @@ pub mod KindLaws
 pub mod EmptyLaws
 mod Frames
 pub mod OverlayLaws
-mod PointLaws
+pub mod PointLaws
 mod VolumeLaws
-mod StateLaws
+pub mod StateLaws
 mod LowLaws
 mod SizeLaws
 mod FaultLaws

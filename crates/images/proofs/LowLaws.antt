@@ -1,15 +1,16 @@
 -- The volume of the lowest bytes: that of the same objects, where each number in a file is its lowest byte. Records of bytes do the same to
 -- both, and each block of a file can be read in it.
-use Rattle.std.proofs.Common.{◌≡◌, ◌⊎◌, inl, inr, ℕ, zero, suc, ◌+◌, ◌-◌, ◌*◌, ◌/◌, ◌%◌, ◌<◌, ◌≢◌, List, [], ◌∷◌, ◌++◌, length, map, take, drop, replicate, slice_index, Option, Some, None, Bool, true, false, IsSome, ◌||◌, ◌==◌, if◌then◌else◌, refl, ap, sym, subst, ◌∙◌, arith}
+use Rattle.std.proofs.Common.{◌≡◌, inl, inr, ℕ, zero, suc, ◌+◌, ◌-◌, ◌*◌, ◌/◌, ◌%◌, ◌<◌, ◌≢◌, List, [], ◌∷◌, ◌++◌, length, map, take, drop, replicate, slice_index, Option, Some, None, Bool, true, false, IsSome, ◌||◌, ◌==◌, if◌then◌else◌, refl, ap, sym, subst, ◌∙◌, arith}
 use Rattle.std.proofs.Math.Path.{fun_ext}
 use Rattle.std.proofs.lemmas.List.{map-append, take-map, drop-map, length-map}
 use Rattle.layout.specs.Bytes.{IsBytes}
 use Rattle.layout.specs.Record.{IsChange}
+use Rattle.model.specs.declared.attributes.Attributes.{Attributes}
 use Rattle.model.specs.Counting.{Counts}
 use Rattle.model.specs.Edits.{resized, written}
 use Rattle.model.specs.Paths.{Name}
 use Rattle.model.specs.Records.{Applies, CanReplace, Change, IsBelow, IsEmpty, Made, TakesName, applied, change_mode, create, cut, directory, file, is_vacant, link, node_of, rename, symbolic_link, unname, with_file_bytes, with_node_mode, write}
-use Rattle.model.specs.Volumes.{Entries, Node, Volume, directory_node, entries, file_node, is_directory_node, is_file_node, link_node, names_in, released, set_name, with_entry, with_name_less, with_name_more, with_node}
+use Rattle.model.specs.Volumes.{Entries, Node, Volume, directory_node, entries, file_node, is_directory_node, is_file_node, link_node, released, set_name, with_entry, with_name_less, with_name_more, with_node}
 use Rattle.model.specs.declared.limits.TheConstants.{DIRECTORY_NAMES}
 use Rattle.model.proofs.MoveLemmas.{bytes_by, bytes_names}
 use Rattle.images.specs.Replaying.{LeavesPlace, ReadsParts, bytes_of_node}
@@ -75,37 +76,37 @@ Commutes f = (o : Option Node) → low_node (f o) ≡ f (low_node o)
 named : (x : Name) (to : Option ℕ) → Commutes (set_name x to)
 unfolding Commutes
 named x to None = refl
-named x to (Some (directory_node mode names)) = refl
-named x to (Some (file_node mode links bytes)) = refl
-named x to (Some (link_node text)) = refl
+named x to (Some (directory_node attributes names)) = refl
+named x to (Some (file_node attributes links bytes)) = refl
+named x to (Some (link_node attributes text)) = refl
 
 more : Commutes with_name_more
 unfolding Commutes
 more None = refl
-more (Some (directory_node mode names)) = refl
-more (Some (file_node mode links bytes)) = refl
-more (Some (link_node text)) = refl
+more (Some (directory_node attributes names)) = refl
+more (Some (file_node attributes links bytes)) = refl
+more (Some (link_node attributes text)) = refl
 
 less : Commutes with_name_less
 unfolding Commutes
 less None = refl
-less (Some (directory_node mode names)) = refl
-less (Some (file_node mode links bytes)) = refl
-less (Some (link_node text)) = refl
+less (Some (directory_node attributes names)) = refl
+less (Some (file_node attributes links bytes)) = refl
+less (Some (link_node attributes text)) = refl
 
 moded : (bits : ℕ) → Commutes (with_node_mode bits)
 unfolding Commutes
 moded bits None = refl
-moded bits (Some (directory_node mode names)) = refl
-moded bits (Some (file_node mode links bytes)) = refl
-moded bits (Some (link_node text)) = refl
+moded bits (Some (directory_node attributes names)) = refl
+moded bits (Some (file_node attributes links bytes)) = refl
+moded bits (Some (link_node attributes text)) = refl
 
 with_bytes : (f : List ℕ → List ℕ) → ((bytes : List ℕ) → low_bytes (f bytes) ≡ f (low_bytes bytes)) → Commutes (with_file_bytes f)
 unfolding Commutes
 with_bytes f same None = refl
-with_bytes f same (Some (directory_node mode names)) = refl
-with_bytes f same (Some (file_node mode links bytes)) = ap (λ (b : List ℕ). Some (file_node mode links b)) (same bytes)
-with_bytes f same (Some (link_node text)) = refl
+with_bytes f same (Some (directory_node attributes names)) = refl
+with_bytes f same (Some (file_node attributes links bytes)) = ap (λ (b : List ℕ). Some (file_node attributes links b)) (same bytes)
+with_bytes f same (Some (link_node attributes text)) = refl
 
 made_low : (made : Made) → low_node (Some (node_of made)) ≡ Some (node_of made)
 unfolding low_bytes
@@ -149,9 +150,9 @@ low_applied (change_mode number mode) v is = change_low (with_node_mode mode) (m
 
 -- ---- a record that applies to the one applies to the other
 
-vacant_alike : (mode links : ℕ) (a b : List ℕ) → is_vacant (Some (file_node mode links a)) ≡ is_vacant (Some (file_node mode links b))
-vacant_alike mode zero a b = refl
-vacant_alike mode (suc links) a b = refl
+vacant_alike : (attributes : Attributes) (links : ℕ) (a b : List ℕ) → is_vacant (Some (file_node attributes links a)) ≡ is_vacant (Some (file_node attributes links b))
+vacant_alike attributes zero a b = refl
+vacant_alike attributes (suc links) a b = refl
 
 module _ (v : Volume) where
   abbrev Low : (Entries → Type 0) → Type 0
@@ -161,10 +162,10 @@ module _ (v : Volume) where
   by_entries P = subst P (sym (low_entries v))
 
   is_directory : (n : ℕ) → is_directory_node (low v n) ≡ is_directory_node (v n)
-  is_directory n = bytes_by is_directory_node (λ mode links a b. refl) low_bytes (v n)
+  is_directory n = bytes_by is_directory_node (λ attributes links a b. refl) low_bytes (v n)
 
   is_file : (n : ℕ) → is_file_node (low v n) ≡ is_file_node (v n)
-  is_file n = bytes_by is_file_node (λ mode links a b. refl) low_bytes (v n)
+  is_file n = bytes_by is_file_node (λ attributes links a b. refl) low_bytes (v n)
 
   takes : (d : ℕ) (x : Name) → TakesName v d x → TakesName (low v) d x
   takes d x t = record {
@@ -188,7 +189,7 @@ module _ (v : Volume) where
   low_applies inodes (create number parent made name) c =
       record { low = c.low; high = c.high; vacant = bytes_by is_vacant vacant_alike low_bytes (v number) ∙ c.vacant; takes = takes parent name c.takes; good = c.good }
   low_applies inodes (link number parent name) c =
-      record { mode = c.mode; links = c.links; bytes = low_bytes c.bytes; file = ap low_node c.file; few = c.few; takes = takes parent name c.takes }
+      record { attributes = c.attributes; links = c.links; bytes = low_bytes c.bytes; file = ap low_node c.file; few = c.few; takes = takes parent name c.takes }
   low_applies inodes (unname parent name) c =
       record { number = c.number; there = by_entries (λ e. e parent name ≡ Some c.number) c.there; empty = empty c.number c.empty }
   low_applies inodes (rename d x k y) c = record {
@@ -202,7 +203,7 @@ module _ (v : Volume) where
   low_applies inodes (write number offset bytes) can = (is_file number ∙ can.0, can.1, can.2, can.3)
   low_applies inodes (cut number size) can = (is_file number ∙ can.0, can.1)
   low_applies inodes (change_mode number mode) can =
-      (bytes_by (λ o. is_file_node o || is_directory_node o) (λ mode links a b. refl) low_bytes (v number) ∙ can.0, can.1)
+      (bytes_by (λ o. is_file_node o || is_directory_node o) (λ attributes links a b. refl) low_bytes (v number) ∙ can.0, can.1)
 
   pub low_place : (change : Change) → LeavesPlace v change → LeavesPlace (low v) change
   low_place (create number parent made name) place = tt
@@ -216,9 +217,9 @@ module _ (v : Volume) where
 
   read : (o : Option Node) (k : ℕ) → slice_index (bytes_of_node (low_node o)) k < 256
   read None k = omega arith
-  read (Some (directory_node mode names)) k = omega arith
-  read (Some (file_node mode links bytes)) k = low_byte bytes k
-  read (Some (link_node text)) k = omega arith
+  read (Some (directory_node attributes names)) k = omega arith
+  read (Some (file_node attributes links bytes)) k = low_byte bytes k
+  read (Some (link_node attributes text)) k = omega arith
 
   pub low_reads : (change : Change) → ReadsParts (low v) change
   low_reads (create number parent made name) = tt

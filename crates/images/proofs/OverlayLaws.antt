@@ -63,7 +63,7 @@ module _ (e : Blocks) (old : Inode) (c : Overlay) (f : Inode) (taken : ℕ → B
       let block_is : (i : ℕ) → file_block (held e f) i ≡ overlaid_block (held e old) c i = λ i.
       ap (λ body. body_block body (pointed e (place_at_height e f 0 i)) i) is.body
       ∙ ap (pointed e) (laid_place 0 i (omega arith)) ∙ is.lowest i in
-      λ j. record { kind = is.says.kind j; mode = is.says.mode j; links = is.says.links j; size = is.says.size j; block = λ i. block_is i j }
+      λ j. record { kind = is.says.kind j; attributes = is.says.attributes j; links = is.says.links j; size = is.says.size j; block = λ i. block_is i j }
 
   -- a node stands below the level, and there the table has it
   in_table : (m i b : ℕ) → (held e f).place m i ≡ Block b → (m ≤ is.top) × (table m i ≡ Block b)
@@ -124,7 +124,7 @@ unfolding held
 inline_content e h c f is =
     let block_is : (i : ℕ) → file_block (held e f) i ≡ overlaid_block h c i = λ i.
     ap (λ body. body_block body (pointed e (place_at_height e f 0 i)) i) is.body ∙ inline_any is.bytes (pointed e (place_at_height e f 0 i)) [] i ∙ is.blocks i in
-    λ j. record { kind = is.says.kind j; mode = is.says.mode j; links = is.says.links j; size = is.says.size j; block = λ i. block_is i j }
+    λ j. record { kind = is.says.kind j; attributes = is.says.attributes j; links = is.says.links j; size = is.says.size j; block = λ i. block_is i j }
 
 pub inline_names : (e : Blocks) (h : Held) (c : Overlay) (f : Inode) (b : ℕ) → IsInline h c f → Names (held e f) b → ⊥
 unfolding held

@@ -5,6 +5,7 @@ use Rattle.std.specs.Int.{div_ceil}
 use Rattle.std.proofs.lemmas.Bool.{cases_eq}
 use Rattle.std.proofs.lemmas.Bool.Decides.{nat_tests}
 use Rattle.std.proofs.lemmas.Nat.Bits.{bit_at_lowest, bit_at-suc}
+use Rattle.model.specs.declared.attributes.Attributes.{Attributes}
 use Rattle.layout.specs.Bytes.{zeros}
 use Rattle.layout.specs.Inode.{FitsKind, inode_bytes}
 use Rattle.layout.specs.InodeReading.{inode_in}
@@ -87,14 +88,14 @@ top_is d r = refl
 
 -- ---- the file system's own files are as large as they were
 
-pub top_size : (k : Kind) (s : Sizes) (mode links size : ℕ) → k ≡ kinds.InodeFile → FitsKind k s mode links size → size ≡ 4096 * div_ceil s.inodes 21
-top_size k s mode links size is fits = (subst (λ x. FitsKind x s mode links size) is fits).2
+pub top_size : (k : Kind) (s : Sizes) (attributes : Attributes) (links size : ℕ) → k ≡ kinds.InodeFile → FitsKind k s attributes links size → size ≡ 4096 * div_ceil s.inodes 21
+top_size k s attributes links size is fits = (subst (λ x. FitsKind x s attributes links size) is fits).2
 
 pub map_whole : (s : Sizes) (d e : Blocks) (f g : Inode) → IsSoundFile s (held d f) → IsSoundFile s (held e g) → f.kind ≡ kinds.BlockMap → g.kind ≡ kinds.BlockMap
     → HasNoHole (held d f) → (m i b : ℕ) → (held e g).place m i ≡ Block b → (o : ℕ) × ((held d f).place m i ≡ Block o)
 unfolding held
 map_whole s d e f g old new f_is g_is whole m i b is =
-    let size : g.size ≡ f.size = map_size g.kind s g.mode g.links g.size g_is new.inode.kind ∙ sym (map_size f.kind s f.mode f.links f.size f_is old.inode.kind) in
+    let size : g.size ≡ f.size = map_size g.kind s g.attributes g.links g.size g_is new.inode.kind ∙ sym (map_size f.kind s f.attributes f.links f.size f_is old.inode.kind) in
     let span = subst (λ (n : ℕ). (m < level_of n) × (i < nodes_of_size n m)) size (within_span s e g new m i b is) in
     stands_whole s d f old whole m i span.0 span.1
 

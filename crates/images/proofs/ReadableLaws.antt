@@ -1,5 +1,5 @@
 -- An inode file whose blocks end with zeros can be read.
-use Rattle.std.proofs.Common.{◌≡◌, ℕ, ◌-◌, List, length, drop, refl, ap, sym, subst, ◌∙◌, arith, length-drop}
+use Rattle.std.proofs.Common.{◌≡◌, ℕ, ◌-◌, List, length, drop, ap, sym, ◌∙◌, arith, length-drop}
 use Rattle.layout.specs.Bytes.{zeros}
 use Rattle.layout.specs.Inode.{FitsBody}
 use Rattle.layout.specs.Limits.{Sizes}

@@ -140,8 +140,8 @@ module _ (d e : Blocks) (r new : Root) (t : HeldTree) (plane : ℕ) (files : ℕ
     unfolding held
     level_is =
         let now = sound_tree d e r new t plane files root sound base old same plan good in
-        ap level_of (top_size (plan.inode 0).kind r.geometry (plan.inode 0).mode (plan.inode 0).links (plan.inode 0).size (now.kinds 0) (now.files 0).inode.kind
-        ∙ sym (top_size (t 0).inode.kind r.geometry (t 0).inode.mode (t 0).inode.links (t 0).inode.size (old.kinds 0) (old.files 0).inode.kind))
+        ap level_of (top_size (plan.inode 0).kind r.geometry (plan.inode 0).attributes (plan.inode 0).links (plan.inode 0).size (now.kinds 0) (now.files 0).inode.kind
+        ∙ sym (top_size (t 0).inode.kind r.geometry (t 0).inode.attributes (t 0).inode.links (t 0).inode.size (old.kinds 0) (old.files 0).inode.kind))
 
     agree_down : (k : ℕ) → k < level_of (t 0).inode.size → (held e (plan.inode 0)).place k 0 ≡ (t 0).place k 0
         → (held e (plan.inode 0)).place 0 0 ≡ (t 0).place 0 0

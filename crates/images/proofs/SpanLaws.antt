@@ -10,16 +10,12 @@ use Rattle.layout.specs.declared.inode.Body.TheVariants.{Inline, Pointers}
 use Rattle.layout.specs.declared.inode.Inode.{Inode}
 use Rattle.layout.specs.declared.pointer.Pointer.{Pointer}
 use Rattle.layout.specs.declared.pointer.Pointer.TheVariants.{Hole, Block}
-use Rattle.layout.proofs.PointerLaws.{no_block}
+use Rattle.layout.proofs.PointerLaws.{no_block, some_block}
 use Rattle.layout.proofs.SizeLaws.{level_none}
 use Rattle.images.specs.Nodes.{held}
 use Rattle.images.specs.Soundness.{HasNoHole, IsSoundFile, nodes_of_size}
 use Rattle.images.proofs.OverlayLaws.{held_up}
 use Rattle.images.proofs.ReadingLaws.{node_behind, none_above}
-
-pub some_block : (p : Pointer) → p ≢ Hole → (b : ℕ) × (p ≡ Block b)
-some_block Hole some = absurd (some refl)
-some_block (Block b) some = (b, refl)
 
 pointers_in : (blocks size : ℕ) (body : Body) → FitsBody body blocks size → 1 ≤ level_of size → (pointers : List Pointer) × (body ≡ Pointers pointers)
 pointers_in blocks size (Inline bytes) fits level = absurd (omega (arith, level, level_none size fits.0))

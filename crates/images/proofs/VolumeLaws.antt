@@ -1,30 +1,15 @@
 -- Files hold one volume at most.
-use Rattle.std.proofs.Common.{◌≡◌, ◌⊎◌, inl, inr, ℕ, zero, suc, ◌<◌, ◌≤◌, ◌^◌, List, [], ◌∷◌, ◌++◌, length, Option, Some, None, refl, ap, sym, subst, ◌∙◌, arith}
+use Rattle.std.proofs.Common.{◌≡◌, ◌⊎◌, inl, inr, ℕ, zero, suc, ◌<◌, ◌≤◌, ◌^◌, List, [], Option, Some, None, refl, ap, sym, subst, ◌∙◌, arith}
 use Rattle.std.proofs.Math.Path.{fun_ext}
 use Rattle.std.proofs.lemmas.Bool.{cases_lt, cases_eq}
-use Rattle.std.proofs.lemmas.List.{append_cancel_left}
-use Rattle.layout.specs.Directory.{Named, entry_bytes, entry_in, HoldsEntries}
+use Rattle.layout.specs.Directory.{Named}
 use Rattle.layout.specs.DirectoryNames.{NameMap, number_of, AreNames, HoldNames}
 use Rattle.layout.specs.declared.kind.Kind.{Kind}
 use Rattle.layout.specs.declared.kind.Kind.TheVariants as kinds
-use Rattle.layout.proofs.EntryLaws.{entry_again, not_zeros}
-use Rattle.layout.proofs.Formats.{some_is}
+use Rattle.layout.proofs.EntryLaws.{entries_once}
 use Rattle.model.specs.Paths.{Name}
 use Rattle.model.specs.Volumes.{Node, directory_node, Volume}
 use Rattle.images.specs.Contents.{Content, StandsAs, HoldsVolume}
-
--- bytes hold one row of entries at most
-entries_once : (inodes : ℕ) (bytes : List ℕ) (es fs : List Named) → inodes ≤ 2 ^ 32 → HoldsEntries inodes bytes es → HoldsEntries inodes bytes fs → es ≡ fs
-entries_once inodes bytes [] [] limit one other = refl
-entries_once inodes bytes [] (f ∷ fs) limit one other = absurd (not_zeros inodes bytes other.0 f (length bytes) limit other.1 other.2 one)
-entries_once inodes bytes (e ∷ es) [] limit one other = absurd (not_zeros inodes bytes one.0 e (length bytes) limit one.1 one.2 other)
-entries_once inodes bytes (e ∷ es) (f ∷ fs) limit one other =
-    let read = entry_again inodes e one.0 limit one.1 in
-    let again = entry_again inodes f other.0 limit other.1 in
-    let same : e ≡ f = some_is e f (sym read ∙ ap entry_in (sym one.2 ∙ other.2) ∙ again) in
-    let behind : other.0 ≡ one.0 = append_cancel_left (entry_bytes f) other.0 one.0 (sym other.2 ∙ one.2 ∙ ap (λ (n : Named). entry_bytes n ++ one.0) same) in
-    let rest = entries_once inodes one.0 es fs limit one.3 (subst (λ (r : List ℕ). HoldsEntries inodes r fs) behind other.3) in
-    λ i. same i ∷ rest i
 
 -- a name stands in one of the first so many rows, or in none of them
 record StandsIn (name : Name) (entries : ℕ → List Named) : Type 0 where
@@ -73,7 +58,7 @@ pub stands_once : (kind : Kind) (inodes : ℕ) (c : Content) (o p : Option Node)
 stands_once kinds.Free inodes c o p limit one other = one ∙ sym other
 stands_once kinds.File inodes c o p limit one other = one ∙ sym other
 stands_once kinds.Directory inodes c o p limit one other =
-    one.2 ∙ ap (λ (names : NameMap). Some (directory_node c.mode names)) (names_once inodes _ c.block one.0 other.0 limit one.1 other.1) ∙ sym other.2
+    one.2 ∙ ap (λ (names : NameMap). Some (directory_node c.attributes names)) (names_once inodes _ c.block one.0 other.0 limit one.1 other.1) ∙ sym other.2
 stands_once kinds.Link inodes c o p limit one other = one ∙ sym other
 stands_once kinds.InodeFile inodes c o p limit one other = one ∙ sym other
 stands_once kinds.InodeMap inodes c o p limit one other = one ∙ sym other

@@ -5,13 +5,14 @@ use Rattle.layout.specs.FileBytes.{byte_in, first_bytes}
 use Rattle.layout.specs.declared.TheConstants.{BLOCK_BYTES}
 use Rattle.layout.specs.declared.kind.Kind.{Kind}
 use Rattle.layout.specs.declared.kind.Kind.TheVariants as kinds
+use Rattle.model.specs.declared.attributes.Attributes.{Attributes}
 use Rattle.model.specs.Volumes.{Node, directory_node, file_node, link_node, Volume}
 use Rattle.images.specs.Nodes.{Held, file_block}
 use Rattle.images.specs.Roots.{HeldTree}
 
 pub record Content : Type 0 where
   pub kind : Kind
-  pub mode : ℕ
+  pub attributes : Attributes
   pub links : ℕ
   pub size : ℕ
   pub block : ℕ → List ℕ
@@ -19,7 +20,7 @@ pub record Content : Type 0 where
 abbrev pub content_of : Held → Content
 content_of h = record {
   kind = h.inode.kind;
-  mode = h.inode.mode;
+  attributes = h.inode.attributes;
   links = h.inode.links;
   size = h.inode.size;
   block = file_block h;
@@ -40,10 +41,10 @@ IsDirectoryOf inodes c names = HoldNames inodes (c.size / BLOCK_BYTES) c.block n
 -- the object of this kind that a content stands for; the file system's own files are none
 abbrev pub StandsAs : Kind → ℕ → Content → Option Node → Type 0
 StandsAs kinds.Free inodes c o = o ≡ None
-StandsAs kinds.File inodes c o = o ≡ Some (file_node c.mode c.links (content_bytes c))
+StandsAs kinds.File inodes c o = o ≡ Some (file_node c.attributes c.links (content_bytes c))
 StandsAs kinds.Directory inodes c o =
-    (names : NameMap) × IsDirectoryOf inodes c names × (o ≡ Some (directory_node c.mode names))
-StandsAs kinds.Link inodes c o = o ≡ Some (link_node (content_bytes c))
+    (names : NameMap) × IsDirectoryOf inodes c names × (o ≡ Some (directory_node c.attributes names))
+StandsAs kinds.Link inodes c o = o ≡ Some (link_node c.attributes (content_bytes c))
 StandsAs kinds.InodeFile inodes c o = o ≡ None
 StandsAs kinds.InodeMap inodes c o = o ≡ None
 StandsAs kinds.BlockMap inodes c o = o ≡ None

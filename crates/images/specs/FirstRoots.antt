@@ -9,6 +9,7 @@ use Rattle.layout.specs.declared.TheConstants.{INLINE_BYTES}
 use Rattle.layout.specs.declared.inode.Body.TheVariants.{Inline}
 use Rattle.layout.specs.declared.inode.Inode.{Inode}
 use Rattle.layout.specs.declared.kind.Kind.TheVariants as kinds
+use Rattle.model.specs.Attributes.{new_attributes}
 use Rattle.model.specs.declared.limits.TheConstants.{FIRST_NUMBER, ROOT_NUMBER}
 use Rattle.layout.specs.declared.pointer.Pointer.TheVariants.{Hole}
 use Rattle.layout.specs.declared.root.Root.{Root}
@@ -23,7 +24,7 @@ use Rattle.images.specs.Soundness.{HasNoHole, IsSoundFile, SpellsInodes}
 -- an empty directory of mode 0755
 abbrev pub empty_directory : Inode
 empty_directory =
-    record { kind = kinds.Directory; mode = 0o755; links = 1; size = 0; body = Inline (zeros INLINE_BYTES) }
+    record { kind = kinds.Directory; attributes = new_attributes 0o755; links = 1; size = 0; body = Inline (zeros INLINE_BYTES) }
 
 -- the inode of each number, where these are those of the inode file, the inode map and the block map
 abbrev pub first_inodes : Inode → Inode → Inode → ℕ → Inode
@@ -41,7 +42,7 @@ abbrev pub root_alone_volume : Volume
 root_alone_volume zero = None
 root_alone_volume (suc zero) = None
 root_alone_volume (suc (suc zero)) = None
-root_alone_volume (suc (suc (suc zero))) = Some (directory_node 0o755 (λ x. None))
+root_alone_volume (suc (suc (suc zero))) = Some (directory_node (new_attributes 0o755) (λ x. None))
 root_alone_volume (suc (suc (suc (suc n)))) = None
 
 -- What a disk e has under the inode of an inode file, where these are the inodes of the two maps: the file system's own three files in

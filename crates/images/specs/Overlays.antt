@@ -1,5 +1,6 @@
 -- A changed file in memory, and the blocks that it gets at a consistency point.
 use Rattle.std.specs.Prelude.{ℕ, suc, ◌≡◌, ◌⊎◌, ◌/◌, ◌%◌, ◌<◌, ◌≤◌, List, slice_index_or, [], Option, Some, None, Bool, true, nat_lt, if◌then◌else◌}
+use Rattle.model.specs.declared.attributes.Attributes.{Attributes}
 use Rattle.layout.specs.Bytes.{zeros}
 use Rattle.layout.specs.Maps.{indirect_pointer}
 use Rattle.layout.specs.Places.{Blocks, pointed}
@@ -17,7 +18,7 @@ use Rattle.images.specs.Contents.{Content}
 -- settled blocks those below `kept` still count.
 pub record Overlay : Type 0 where
   pub kind : Kind
-  pub mode : ℕ
+  pub attributes : Attributes
   pub links : ℕ
   pub size : ℕ
   pub kept : ℕ
@@ -36,7 +37,7 @@ abbrev pub overlaid_content : Held → Overlay → Content
 overlaid_content h c =
     record {
       kind = c.kind;
-      mode = c.mode;
+      attributes = c.attributes;
       links = c.links;
       size = c.size;
       block = overlaid_block h c;
@@ -56,7 +57,7 @@ pub data Group (e : Blocks) (h : Held) (table : ℕ → ℕ → Pointer) (m j : 
 -- the inode says what the changed file says of itself
 pub record Says (f : Inode) (c : Overlay) : Type 0 where
   pub kind : f.kind ≡ c.kind
-  pub mode : f.mode ≡ c.mode
+  pub attributes : f.attributes ≡ c.attributes
   pub links : f.links ≡ c.links
   pub size : f.size ≡ c.size
 

@@ -19,7 +19,7 @@ LeavesPlace v change = Unit {0}
 
 -- the bytes of a file; other objects have none
 abbrev pub bytes_of_node : Option Node → List ℕ
-bytes_of_node (Some (file_node mode links bytes)) = bytes
+bytes_of_node (Some (file_node attributes links bytes)) = bytes
 bytes_of_node o = []
 
 -- the blocks of a file that a change leaves in part can be read

@@ -1,5 +1,6 @@
 -- What a root names, read into a value.
 use Rattle.std.specs.Prelude.{ℕ, zero, suc, ◌≡◌, ◌*◌, ◌/◌, ◌%◌, List, take, drop, slice_index_or, nat_lt, if◌then◌else◌, Option, Some, None}
+use Rattle.model.specs.Attributes.{no_attributes}
 use Rattle.layout.specs.Bytes.{zeros}
 use Rattle.layout.specs.Places.{Blocks, pointed}
 use Rattle.layout.specs.InodeReading.{inode_in}
@@ -15,7 +16,7 @@ use Rattle.images.specs.Nodes.{Held, held, Names, file_block}
 
 abbrev pub free_inode : Inode
 free_inode =
-    record { kind = kinds.Free; mode = 0; links = 0; size = 0; body = Inline (zeros INLINE_BYTES) }
+    record { kind = kinds.Free; attributes = no_attributes; links = 0; size = 0; body = Inline (zeros INLINE_BYTES) }
 
 abbrev pub or_free : Option Inode → Inode
 or_free (Some inode) = inode

@@ -25,10 +25,11 @@ CanReadBlock by_sizes block i = length (block i) ≡ BLOCK_BYTES
 abbrev pub IsSizedAs : Kind → ℕ → Content → Option Node → Type 0
 IsSizedAs kinds.File inodes c o =
     (bytes : List ℕ) × (length bytes ≡ c.size) × TellsBlocks c.block bytes
-    × (o ≡ Some (file_node c.mode c.links bytes))
+    × (o ≡ Some (file_node c.attributes c.links bytes))
 IsSizedAs kinds.Directory inodes c o =
     ((i : ℕ) → length (c.block i) ≡ BLOCK_BYTES) × StandsAs kinds.Directory inodes c o
-IsSizedAs kinds.Link inodes c o = (text : List ℕ) × (length text ≡ c.size) × (o ≡ Some (link_node text))
+IsSizedAs kinds.Link inodes c o =
+    (text : List ℕ) × (length text ≡ c.size) × (o ≡ Some (link_node c.attributes text))
 IsSizedAs kind inodes c o = StandsAs kind inodes c o
 
 -- a content of this kind stands for this object of a volume of so many inodes, or for none, in so much detail

@@ -1,6 +1,6 @@
 //! What a cut may leave of a consistency point.
 
-ghost use Rattle.std.specs.Prelude.{ℕ, ◌≡◌, ◌+◌, ◌≤◌, List};
+ghost use Rattle.std.specs.Prelude.{ℕ, ◌+◌, ◌≤◌, List};
 ghost use Rattle.layout.specs.Opens.{IsNewest};
 ghost use Rattle.layout.specs.Places.{Blocks, blocks_of};
 ghost use Rattle.layout.specs.Root.{IsRoot, root_bytes};

@@ -2,16 +2,14 @@
 use Rattle.std.proofs.Common.{◌≡◌, ℕ, ◌+◌, ◌-◌, ◌<◌, ◌≤◌, ◌++◌, List, length, take, drop, slice_index, refl, sym, ◌∙◌, ap, inl, inr, arith, min, max, Bool, true, false, ◌==◌, if◌then◌else◌}
 use Rattle.std.proofs.lemmas.Bool.{cases_lt}
 use Rattle.std.proofs.lemmas.List.{get_or_append_left, get_or-append_right, get_or-take, get_or-drop, length-take, take_all, take_min, length-drop, length-append}
-use Rattle.std.proofs.lemmas.List.FromFn.{get_or-map-range_with_len, length-map-range_with_len, fill_by_all}
+use Rattle.std.proofs.lemmas.List.FromFn.{get_or-map-range_with_len, fill_by_all}
 use Rattle.layout.specs.Bytes.{zeros}
 use Rattle.layout.specs.FileBytes.{first_bytes}
 use Rattle.buffers.specs.Positions.{with_bytes_at, cut}
 use Rattle.inode.specs.Edges.{filled, written_list}
 use Rattle.inode.proofs.BytePositions.{slice_index-zeros, written_below, written_above, written_in, cut_below}
+use Rattle.layout.proofs.PartLaws.{length-first_bytes}
 use Rattle.layout.proofs.ZeroLaws.{length-zeros}
-
-pub length-first_bytes : (f : ℕ → ℕ) (size : ℕ) → length (first_bytes f size) ≡ size
-length-first_bytes f size = length-map-range_with_len f 0 size
 
 byte_of : (f : ℕ → ℕ) (size k : ℕ) → k < size → slice_index (first_bytes f size) k ≡ f k
 byte_of f size k lt = get_or-map-range_with_len f 0 size k k 0 lt (omega arith)

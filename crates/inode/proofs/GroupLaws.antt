@@ -11,7 +11,7 @@ use Rattle.blocktree.specs.Trees.{slot_stores, IsChanged}
 use Rattle.blocktree.specs.declared.tree.BlockTree.{BlockTree}
 use Rattle.blocktree.proofs.SlotLaws.{changed_slot, slot_is}
 use Rattle.images.specs.Sums.{sum_below}
-use Rattle.images.proofs.SumLaws.{gap_counts, is_in_sum, sum_append, sum_of_none, sums_each}
+use Rattle.images.proofs.SumLaws.{gap_counts, is_in_sum, sum_of_none, sums_each}
 use Rattle.inode.specs.Room.{far_tops, more_over, top_over, tops_over, TOP_BLOCKS}
 use Rattle.inode.specs.declared.file.File.{File}
 

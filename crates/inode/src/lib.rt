@@ -16,4 +16,4 @@ pub use change::Change;
 pub use error::ChangeError;
 pub use file::File;
 pub use laws::{based_trees_are_sound, nodes_are_where_pointers_lead, settled_files_are_as_held};
-pub use object::{Attributes, Object};
+pub use object::{Object, Status};

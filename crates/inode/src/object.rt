@@ -8,22 +8,48 @@ ghost use Rattle.inode.specs.Bodies.{inode_block};
 use crate::File;
 use entries::Known;
 use layout::{Inode, Kind};
-use model::Mode;
+use model::Attributes;
 use std::alloc::{AllocError, Global};
 
 /// What an object is, beside its bytes.
 #[derive(Clone, Copy, Debug, PartialEq, Eq)]
-pub struct Attributes {
+pub struct Status {
     pub kind: Kind,
-    pub mode: Mode,
+    pub attributes: Attributes,
     /// Names of a regular file, 1 for any other object.
     pub links: u32,
+}
+
+impl Status {
+    ghost use Rattle.model.specs.Attributes.{no_attributes};
+
+    /// That of a new object of this kind, with its one name.
+    pub fn new(kind: Kind, attributes: Attributes) -> Status
+        ensures { result ≡ record { kind = kind; attributes = attributes; links = 1 } }
+    {
+        Status {
+            kind,
+            attributes,
+            links: 1,
+        }
+    }
+
+    /// That of a free inode.
+    pub fn free() -> Status
+        ensures { result ≡ record { kind = Kind.Free; attributes = no_attributes; links = 0 } }
+    {
+        Status {
+            kind: Kind::Free,
+            attributes: Attributes::none(),
+            links: 0,
+        }
+    }
 }
 
 /// An object in memory.
 #[derive(Debug, Drop)]
 pub struct Object {
-    pub attributes: Attributes,
+    pub status: Status,
     pub file: File,
     /// What is known of a directory's blocks; of another object nothing.
     pub known: Known,
@@ -40,9 +66,13 @@ impl Object {
     /// The object of a settled inode.
     pub fn load(alloc: Global, inode: Inode) -> Result<Object, AllocError>
         requires { inode.size ≤ greatest_size VERSION }
-        ensures attributes { IfOk result
-            (λ o. o.attributes
-            ≡ record { kind = inode.kind; mode = inode.mode; links = inode.links }) }
+        ensures status { IfOk result
+            (λ o. o.status
+            ≡ record {
+              kind = inode.kind;
+              attributes = inode.attributes;
+              links = inode.links;
+            }) }
         ensures size { IfOk result (λ o. o.file.size ≡ inode.size) }
         ensures blocks { IfOk result (λ o. (disk : ℕ → List ℕ) (i : ℕ)
             → file_block disk o.file i ≡ inode_block disk inode i) }
@@ -56,15 +86,15 @@ impl Object {
         ensures known { IfOk result (λ o. (inodes : ℕ) (block : ℕ → List ℕ)
             → Knows inodes block o.known) }
     {
-        let attributes = Attributes {
+        let status = Status {
             kind: inode.kind,
-            mode: inode.mode,
+            attributes: inode.attributes,
             links: inode.links,
         };
         let file = File::load(alloc, inode)?;
         let known = Known::new(alloc);
         Ok(Object {
-            attributes,
+            status,
             file,
             known,
         })

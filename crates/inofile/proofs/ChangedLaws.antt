@@ -1,14 +1,14 @@
 -- The numbers that are changed.
 use Rattle.std.proofs.Common.{◌≡◌, ◌↔◌, ℕ, zero, suc, List, [], ◌∷◌, refl, sym, ap, subst, ◌∙◌, arith, Bool, true, false, cond, Option, Some, None, IsSome}
-use Rattle.std.specs.Prelude.{Contains, IsTrue, not, ◌||◌}
-use Rattle.std.specs.List.{filter, list_any}
+use Rattle.std.specs.Prelude.{All, Contains, IsTrue, map, not, ◌||◌}
+use Rattle.std.specs.List.{AllByRecursion, filter, list_any}
 use Rattle.std.specs.Ordering.{nat_cmp}
 use Rattle.std.specs.BTreeMap as tree
 use Rattle.std.specs.BTreeMap.{BTreeMap}
 use Rattle.std.proofs.lemmas.Cmp.{nat_cmp_total}
 use Rattle.std.proofs.lemmas.Bool.{false≢true}
 use Rattle.std.proofs.lemmas.List.Folds.{list_any_none}
-use Rattle.std.proofs.lemmas.List.Elements.{All-contains, filter_passes, Contains-append_right}
+use Rattle.std.proofs.lemmas.List.Elements.{All-contains, filter_passes, recursion_from_All, Contains-append_right}
 use Rattle.std.proofs.lemmas.Map.Lookups.{exact_unsigned}
 use Rattle.std.proofs.lemmas.Map.Views.{btree_map_contains_key_iff}
 use Rattle.inofile.specs.Inodes.{is_changed_slot, IsChangedSlot, IsKnownSlot}
@@ -55,6 +55,27 @@ changed_members m n =
       (λ changed. kept p n (is_changed (tree.get nat_cmp m n) changed) (tree.keys m)
           ((btree_map_contains_key_iff nat_cmp_total exact_unsigned m n).0 (some_changed (tree.get nat_cmp m n) changed))),
     )
+
+-- ---- from entry to entry
+
+module _ (p : ℕ → Bool) (q : ℕ × ObjectSlot → Bool) where
+  keys_if : (b : Bool) (e : ℕ × ObjectSlot) (es : List (ℕ × ObjectSlot)) → map (λ x. x.0) (cond b (e ∷ es) es) ≡ cond b (e.0 ∷ map (λ x. x.0) es) (map (λ x. x.0) es)
+  keys_if true e es = refl
+  keys_if false e es = refl
+
+  kept_keys : (es : List (ℕ × ObjectSlot)) → AllByRecursion (λ e. p e.0 ≡ q e) es → map (λ e. e.0) (filter q es) ≡ filter p (map (λ e. e.0) es)
+  kept_keys [] same = refl
+  kept_keys (e ∷ es) same =
+      keys_if (q e) e (filter q es) ∙ ap (λ (ks : List ℕ). cond (q e) (e.0 ∷ ks) ks) (kept_keys es same.1)
+      ∙ ap (λ (b : Bool). cond b (e.0 ∷ filter p (map (λ x. x.0) es)) (filter p (map (λ x. x.0) es))) (sym same.0)
+
+-- the keys of the changed entries are those at which a changed one is found
+pub entries_changed : (m : BTreeMap ℕ ObjectSlot) → All (λ e. tree.get nat_cmp m e.0 ≡ Some e.1) m.entries
+    → map (λ e. e.0) (filter (λ e. is_changed_slot (Some e.1)) m.entries) ≡ filter (λ n. is_changed_slot (tree.get nat_cmp m n)) (tree.keys m)
+entries_changed m found =
+    let p : ℕ → Bool = λ n. is_changed_slot (tree.get nat_cmp m n) in
+    let q : ℕ × ObjectSlot → Bool = λ e. is_changed_slot (Some e.1) in
+    kept_keys p q m.entries (recursion_from_All (λ e. p e.0 ≡ q e) m.entries (λ k d lt. ap is_changed_slot (found k d lt)))
 
 -- ---- no change at all
 

@@ -1,5 +1,5 @@
 -- What each detail tells of an object, and of the blocks that can be read.
-use Rattle.std.proofs.Common.{◌≡◌, ℕ, ◌<◌, ◌≤◌, ◌∙◌, List, Option, Some, None, length, refl, sym, subst, ap, arith}
+use Rattle.std.proofs.Common.{◌≡◌, ℕ, ◌∙◌, List, Option, Some, None, length, refl, sym, subst, ap, arith}
 use Rattle.std.specs.Ordering.{nat_cmp}
 use Rattle.std.specs.BTreeMap as tree
 use Rattle.layout.specs.FileBytes.{byte_in}
@@ -20,13 +20,13 @@ use Rattle.images.specs.Sizes.{CanReadBlock, IsSizedAs, StandsAsIn}
 use Rattle.images.specs.Soundness.{Detail, IsHeldFile, IsReadable, IsSoundFile, by_bytes, by_sizes}
 use Rattle.inode.specs.Files.{IsFile}
 use Rattle.inode.specs.declared.file.File.{File}
-use Rattle.inode.proofs.EdgeLaws.{length-first_bytes}
+use Rattle.layout.proofs.PartLaws.{length-first_bytes}
 use Rattle.inofile.specs.Objects.{EndsIn}
 
 -- the object of this kind that a content stands for, but for the bytes of a file or link
 abbrev pub HasSizeOf : Kind → ℕ → Content → Option Node → Type 0
-HasSizeOf kinds.File inodes c o = (bytes : List ℕ) × (length bytes ≡ c.size) × (o ≡ Some (file_node c.mode c.links bytes))
-HasSizeOf kinds.Link inodes c o = (text : List ℕ) × (length text ≡ c.size) × (o ≡ Some (link_node text))
+HasSizeOf kinds.File inodes c o = (bytes : List ℕ) × (length bytes ≡ c.size) × (o ≡ Some (file_node c.attributes c.links bytes))
+HasSizeOf kinds.Link inodes c o = (text : List ℕ) × (length text ≡ c.size) × (o ≡ Some (link_node c.attributes text))
 HasSizeOf kind inodes c o = StandsAs kind inodes c o
 
 pub by_size : (detail : Detail) (k : Kind) (inodes : ℕ) (c : Content) (found : Option Node) → StandsAsIn detail k inodes c found → HasSizeOf k inodes c found

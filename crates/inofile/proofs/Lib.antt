@@ -1,7 +1,7 @@
 pub mod BitLaws
 pub mod DetailLaws
-mod ObjectLaws
-mod VolumeLaws
+pub mod ObjectLaws
+pub mod VolumeLaws
 mod SlotLaws
 pub mod VersionLaws
 mod FileLaws

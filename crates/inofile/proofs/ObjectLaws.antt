@@ -11,6 +11,8 @@ use Rattle.layout.specs.declared.kind.Kind.{Kind}
 use Rattle.layout.specs.declared.kind.Kind.TheVariants as kinds
 use Rattle.layout.specs.Version.{level_of}
 use Rattle.layout.specs.declared.version.TheConstants.{VERSION}
+use Rattle.model.specs.declared.attributes.Attributes.{Attributes}
+use Rattle.model.specs.Attributes.{AreAttributes}
 use Rattle.model.specs.Volumes.{Node}
 use Rattle.blocktree.specs.Places.{block_count, depth_of}
 use Rattle.images.specs.Contents.{Content}
@@ -22,7 +24,7 @@ use Rattle.entries.specs.Known.{Knows}
 use Rattle.inode.specs.Bases.{IsBased, StartsFrom, StartsUnchanged}
 use Rattle.inode.specs.Files.{file_block, IsAsHeld, IsFile, IsSameFile}
 use Rattle.inode.specs.declared.file.File.{File}
-use Rattle.inode.specs.declared.object.Attributes.{Attributes}
+use Rattle.inode.specs.declared.object.Status.{Status}
 use Rattle.inode.specs.declared.object.Object.{Object}
 use Rattle.inofile.specs.Objects.{EndsIn, IsAsSettled, IsObjectIn, IsObjectKind, IsObjectOrNone, IsSameObject, IsSameOrNone, IsUntouched, StaysKnown}
 use Rattle.inofile.specs.Settled.{content_of_object, held_content, unless_free, settled_content}
@@ -40,9 +42,9 @@ free_body (Pointers pointers) blocks size none fits = absurd (omega (arith, none
 
 pub free_is : (s : Sizes) (i : Inode) → IsInode VERSION s i → i.kind ≡ kinds.Free → i ≡ free_inode
 free_is s i is free =
-    let fits = subst (λ (k : Kind). FitsKind k s i.mode i.links i.size) free is.kind in
+    let fits = subst (λ (k : Kind). FitsKind k s i.attributes i.links i.size) free is.kind in
     let body = free_body i.body s.blocks i.size fits.2 is.body in
-    λ j. record { kind = free j; mode = fits.0 j; links = fits.1 j; size = fits.2 j; body = body j }
+    λ j. record { kind = free j; attributes = fits.0 j; links = fits.1 j; size = fits.2 j; body = body j }
 
 pub held_inode : {detail : Detail} (s : Sizes) (disk : ℕ → List ℕ) (i : Inode) → IsHeldFile detail s (held disk i) → IsInode VERSION s i
 unfolding held
@@ -77,18 +79,18 @@ object_kind kinds.InodeMap used is = is
 object_kind kinds.BlockMap used is = is
 
 -- the sizes of the image are no matter to an object's kind
-fits_any : (k : Kind) (s t : Sizes) (mode links size : ℕ) → IsObjectKind k → FitsKind k s mode links size → FitsKind k t mode links size
-fits_any kinds.Free s t mode links size is fits = absurd is
-fits_any kinds.File s t mode links size is fits = fits
-fits_any kinds.Directory s t mode links size is fits = fits
-fits_any kinds.Link s t mode links size is fits = fits
-fits_any kinds.InodeFile s t mode links size is fits = absurd is
-fits_any kinds.InodeMap s t mode links size is fits = absurd is
-fits_any kinds.BlockMap s t mode links size is fits = absurd is
+fits_any : (k : Kind) (s t : Sizes) (attributes : Attributes) (links size : ℕ) → IsObjectKind k → FitsKind k s attributes links size → FitsKind k t attributes links size
+fits_any kinds.Free s t attributes links size is fits = absurd is
+fits_any kinds.File s t attributes links size is fits = fits
+fits_any kinds.Directory s t attributes links size is fits = fits
+fits_any kinds.Link s t attributes links size is fits = fits
+fits_any kinds.InodeFile s t attributes links size is fits = absurd is
+fits_any kinds.InodeMap s t attributes links size is fits = absurd is
+fits_any kinds.BlockMap s t attributes links size is fits = absurd is
 
 -- an object that was loaded from an inode
 pub record IsLoaded (i : Inode) (o : Object) : Type 0 where
-  pub attributes : o.attributes ≡ record { kind = i.kind; mode = i.mode; links = i.links }
+  pub status : o.status ≡ record { kind = i.kind; attributes = i.attributes; links = i.links }
   pub size : o.file.size ≡ i.size
   pub base : IsBased i o.file.tree
   pub used : i.kind ≡ kinds.Free → ⊥
@@ -97,7 +99,7 @@ pub record IsLoaded (i : Inode) (o : Object) : Type 0 where
 pub loaded_content : (disk : ℕ → List ℕ) (i : Inode) (o : Object) → IsLoaded i o → IsAsHeld disk i o.file → content_of_object disk o ≡ held_content disk i
 unfolding held
 loaded_content disk i o is same =
-    λ j. record { kind = (is.attributes j).kind; mode = (is.attributes j).mode; links = (is.attributes j).links; size = is.size j; block = λ n. same n j }
+    λ j. record { kind = (is.status j).kind; attributes = (is.status j).attributes; links = (is.status j).links; size = is.size j; block = λ n. same n j }
 
 pub loaded_settled : (disk : ℕ → List ℕ) (i : Inode) (o : Object) → IsLoaded i o → IsAsHeld disk i o.file → Some (content_of_object disk o) ≡ settled_content disk i
 loaded_settled disk i o is same = ap Some (loaded_content disk i o is same) ∙ sym (unless i.kind (held_content disk i) is.used)
@@ -105,11 +107,11 @@ loaded_settled disk i o is same = ap Some (loaded_content disk i o is same) ∙ 
 pub loaded_object : (detail : Detail) (disk : ℕ → List ℕ) (inodes : ℕ) (s : Sizes) (i : Inode) (o : Object) (found : Option Node) → IsInode VERSION s i → IsLoaded i o → IsAsHeld disk i o.file
     → EndsIn detail disk o.file → IsOrdinary i.kind → StandsForIn detail inodes (held_content disk i) found → IsObjectIn detail disk inodes i o found
 loaded_object detail disk inodes s i o found inode is same ends ordinary stands = record {
-  kind = subst (λ (a : Attributes). IsObjectKind a.kind) (sym is.attributes) (object_kind i.kind is.used ordinary);
-  mode = subst (λ (a : Attributes). a.mode ≤ 4095) (sym is.attributes) inode.mode;
+  kind = subst (λ (a : Status). IsObjectKind a.kind) (sym is.status) (object_kind i.kind is.used ordinary);
+  attributes = subst (λ (a : Status). AreAttributes a.attributes) (sym is.status) inode.attributes;
   fits = λ t.
-      subst (λ (a : Attributes). FitsKind a.kind t a.mode a.links o.file.size) (sym is.attributes)
-      (subst (FitsKind i.kind t i.mode i.links) (sym is.size) (fits_any i.kind s t i.mode i.links i.size (object_kind i.kind is.used ordinary) inode.kind));
+      subst (λ (a : Status). FitsKind a.kind t a.attributes a.links o.file.size) (sym is.status)
+      (subst (FitsKind i.kind t i.attributes i.links) (sym is.size) (fits_any i.kind s t i.attributes i.links i.size (object_kind i.kind is.used ordinary) inode.kind));
   stands = subst (λ (c : Content). StandsForIn detail inodes c found) (sym (loaded_content disk i o is same)) stands;
   ends = ends;
   base = is.base;
@@ -120,7 +122,7 @@ loaded_object detail disk inodes s i o found inode is same ends ordinary stands 
 
 pub same_content : (disk : ℕ → List ℕ) (old new : Object) → IsSameObject old new → content_of_object disk new ≡ content_of_object disk old
 same_content disk old new same =
-    λ j. record { kind = (same.attributes j).kind; mode = (same.attributes j).mode; links = (same.attributes j).links; size = same.file.size j; block = λ n. same.file.blocks disk n j }
+    λ j. record { kind = (same.status j).kind; attributes = (same.status j).attributes; links = (same.status j).links; size = same.file.size j; block = λ n. same.file.blocks disk n j }
 
 same_file_ends : (disk : ℕ → List ℕ) (old new : File) → IsSameFile old new → IsFile disk old → IsFile disk new
 same_file_ends disk old new same ends =
@@ -138,15 +140,15 @@ same_object detail disk inodes settled None None found same stays is = is
 same_object detail disk inodes settled None (Some o) found same stays is = absurd same
 same_object detail disk inodes settled (Some o) None found same stays is = absurd same
 same_object detail disk inodes settled (Some old) (Some new) found same stays is = record {
-  kind = subst (λ (a : Attributes). IsObjectKind a.kind) (sym same.attributes) is.kind;
-  mode = subst (λ (a : Attributes). a.mode ≤ 4095) (sym same.attributes) is.mode;
+  kind = subst (λ (a : Status). IsObjectKind a.kind) (sym same.status) is.kind;
+  attributes = subst (λ (a : Status). AreAttributes a.attributes) (sym same.status) is.attributes;
   fits = λ s.
-      subst (λ (a : Attributes). FitsKind a.kind s a.mode a.links new.file.size) (sym same.attributes)
-      (subst (FitsKind old.attributes.kind s old.attributes.mode old.attributes.links) (sym same.file.size) (is.fits s));
+      subst (λ (a : Status). FitsKind a.kind s a.attributes a.links new.file.size) (sym same.status)
+      (subst (FitsKind old.status.kind s old.status.attributes old.status.links) (sym same.file.size) (is.fits s));
   stands = subst (λ (c : Content). StandsForIn detail inodes c found) (sym (same_content disk old new same)) is.stands;
   ends = same_ends detail disk old.file new.file same.file is.ends;
   base = same.file.base settled is.base;
-  known = λ directory. stays (is.known (subst (λ (a : Attributes). a.kind ≡ kinds.Directory) same.attributes directory));
+  known = λ directory. stays (is.known (subst (λ (a : Status). a.kind ≡ kinds.Directory) same.status directory));
 }
 
 same_untouched : (old new : Object) → IsSameObject old new → IsUntouched old → IsUntouched new
@@ -178,7 +180,7 @@ kind_some kinds.BlockMap inodes c found is stands = absurd is
 
 pub object_some : (detail : Detail) (disk : ℕ → List ℕ) (inodes : ℕ) (settled : Inode) (object : Option Object) (found : Option Node) → IsObjectOrNone detail disk inodes settled object found
     → IsTrue (is_some object) ↔ IsSome found
-object_some detail disk inodes settled (Some o) found is = ((λ yes. kind_some o.attributes.kind inodes (content_of_object disk o) found is.kind (by_size detail o.attributes.kind inodes (content_of_object disk o) found is.stands)), (λ some. refl))
+object_some detail disk inodes settled (Some o) found is = ((λ yes. kind_some o.status.kind inodes (content_of_object disk o) found is.kind (by_size detail o.status.kind inodes (content_of_object disk o) found is.stands)), (λ some. refl))
 object_some detail disk inodes settled None found is = ((λ yes. absurd (false≢true yes)), (λ some. absurd (false≢true (subst IsSome is some))))
 
 -- ---- objects as they are loaded

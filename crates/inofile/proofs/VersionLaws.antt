@@ -17,7 +17,7 @@ pub greatest : (version : ℕ) → greatest_size version ≤ greatest_size VERSI
 greatest version = smaller (version == FIRST_VERSION)
 
 pub newest : (version : ℕ) (s : Sizes) (i : Inode) → IsInode version s i → IsInode VERSION s i
-newest version s i is = record { mode = is.mode; size = omega (arith, is.size, greatest version); kind = is.kind; body = is.body }
+newest version s i is = record { attributes = is.attributes; size = omega (arith, is.size, greatest version); kind = is.kind; body = is.body }
 
 pub in_version : (version : ℕ) (s : Sizes) (i : Inode) → IsInode VERSION s i → i.size ≤ greatest_size version → IsInode version s i
-in_version version s i is size = record { mode = is.mode; size = size; kind = is.kind; body = is.body }
+in_version version s i is size = record { attributes = is.attributes; size = size; kind = is.kind; body = is.body }

@@ -6,7 +6,7 @@ use Rattle.layout.specs.Version.{level_of}
 use Rattle.layout.specs.declared.inode.Inode.{Inode}
 use Rattle.layout.specs.declared.kind.Kind.{Kind}
 use Rattle.layout.specs.declared.kind.Kind.TheVariants as kinds
-use Rattle.model.specs.declared.limits.TheConstants.{MODE_BITS}
+use Rattle.model.specs.Attributes.{AreAttributes}
 use Rattle.model.specs.Volumes.{Node}
 use Rattle.blocktree.specs.Places.{block_count, depth_of}
 use Rattle.blocktree.specs.Trees.{IsChanged}
@@ -39,14 +39,14 @@ IsObjectKind kinds.BlockMap = ⊥
 -- image of any sizes, it ends at its size, its tree is based on the inode that is settled under its number, and what is known of a
 -- directory's blocks is so.
 pub record IsObjectIn (detail : Detail) (disk : ℕ → List ℕ) (inodes : ℕ) (settled : Inode) (o : Object) (found : Option Node) : Type 0 where
-  pub kind : IsObjectKind o.attributes.kind
-  pub mode : o.attributes.mode ≤ MODE_BITS
+  pub kind : IsObjectKind o.status.kind
+  pub attributes : AreAttributes o.status.attributes
   pub fits : (s : Sizes)
-      → FitsKind o.attributes.kind s o.attributes.mode o.attributes.links o.file.size
+      → FitsKind o.status.kind s o.status.attributes o.status.links o.file.size
   pub stands : StandsForIn detail inodes (content_of_object disk o) found
   pub ends : EndsIn detail disk o.file
   pub base : IsBased settled o.file.tree
-  pub known : o.attributes.kind ≡ kinds.Directory → Knows inodes (file_block disk o.file) o.known
+  pub known : o.status.kind ≡ kinds.Directory → Knows inodes (file_block disk o.file) o.known
 
 abbrev pub IsObject : (ℕ → List ℕ) → ℕ → Inode → Object → Option Node → Type 0
 IsObject = IsObjectIn by_bytes
@@ -72,7 +72,7 @@ IsAsSettled disk settled None = settled ≡ free_inode
 
 -- the same object, whatever the disk
 pub record IsSameObject (old new : Object) : Type 0 where
-  pub attributes : new.attributes ≡ old.attributes
+  pub status : new.status ≡ old.status
   pub file : IsSameFile old.file new.file
 
 -- what is known of an object's blocks is so where it was

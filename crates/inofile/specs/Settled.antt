@@ -19,9 +19,9 @@ use Rattle.inode.specs.Files.{file_block}
 -- an object in memory: what it is, and its bytes block by block
 abbrev pub content_of_object : (ℕ → List ℕ) → Object → Content
 content_of_object disk o = record {
-  kind = o.attributes.kind;
-  mode = o.attributes.mode;
-  links = o.attributes.links;
+  kind = o.status.kind;
+  attributes = o.status.attributes;
+  links = o.status.links;
   size = o.file.size;
   block = file_block disk o.file;
 }

@@ -17,7 +17,7 @@ ghost use Rattle.inofile.specs.Settled.{AreSettled, content_of_object, held_cont
 use crate::{InodeFile, ObjectSlot};
 use inode::{File, Object};
 use layout::VERSION;
-use std::alloc::{AllocError, Global};
+use std::alloc::AllocError;
 
 impl InodeFile {
     ghost use Rattle.inofile.specs.Giving.{IsGiven};
@@ -142,7 +142,7 @@ impl InodeFile {
     }
 
     /// Takes in a consistency point, which settled all that was changed: this is the inode file now, in the newest version, and nothing is
-    /// in memory.
+    /// in memory. What was there is freed by `let_past_go`.
     pub fn settle(&mut self, file: File)
         ensures version { self.new.version ≡ VERSION }
         ensures geometry { self.new.geometry ≡ self.old.geometry }
@@ -160,7 +160,14 @@ impl InodeFile {
     {
         self.version = VERSION;
         self.file = file;
-        self.slots.clear();
+        self.past.take_in(&mut self.slots);
+    }
+
+    /// Frees the objects that were in memory until the last consistency point was planned, once that ends. Nothing else changes by it.
+    pub fn let_past_go(&mut self)
+        ensures { self.new ≡ self.old }
+    {
+        self.past.clear();
     }
 
     /// The least number from the first on that no object has; None where each has one.

@@ -1,6 +1,7 @@
 //! The map from numbers to objects, as it is read.
 
 use crate::Numbers;
+use crate::past::Past;
 use crate::settled::read_inode;
 use blocktree::ReadError;
 use buffers::Blocks;
@@ -30,11 +31,12 @@ pub struct InodeFile {
     pub(crate) file: File,
     pub(crate) slots: BTreeMap<u32, ObjectSlot>,
     pub(crate) numbers: Numbers,
+    pub(crate) past: Past,
     ghost same: { numbers.inodes ≡ geometry.inodes },
     ghost changes: { ChangesObjects geometry.inodes slots },
 }
 
-ghost use Rattle.std.specs.Prelude.{◌≡◌, ◌≢◌, ◌≤◌, ◌<◌, ◌*◌, ◌↔◌, ℕ, List, Option, Some, None, OnOk, IfOk, IfSome, IfNone, IsErrOf, IsTrue, IsFalse, Contains, filter, length, option_copied, vec_len};
+ghost use Rattle.std.specs.Prelude.{◌≡◌, ◌≢◌, ◌≤◌, ◌<◌, ◌*◌, ◌↔◌, ℕ, List, Option, Some, None, OnOk, IfOk, IfSome, IfNone, IsErrOf, IsTrue, IsFalse, All, Contains, filter, length, map, option_copied, vec_len};
 ghost use Rattle.std.specs.List.{list_any};
 ghost use Rattle.std.specs.Int.{div_ceil};
 ghost use Rattle.std.specs.List.Sorted.{IsStrictlyIncreasing};
@@ -56,6 +58,17 @@ ghost use Rattle.images.specs.Soundness.{Detail, IsHeldFile, IsOrdinary};
 ghost use Rattle.inofile.specs.Objects.{IsAsSettled, IsObjectIn, IsObjectOrNone, IsUntouched};
 ghost use Rattle.inofile.specs.Settled.{AreSettledIn, content_of_object, held_content, settled_content};
 ghost use Rattle.inofile.specs.Slots.{ChangesObjects};
+
+impl ObjectSlot {
+    ghost use Rattle.inofile.specs.Inodes.{is_changed_slot};
+
+    // Whether the next consistency point stores the object.
+    fn is_changed(&self) -> bool
+        ensures { result ≡ is_changed_slot (Some self.now) }
+    {
+        matches!(self, ObjectSlot::Changed(_))
+    }
+}
 
 impl InodeFile {
     ghost use Rattle.inofile.specs.Inodes.{is_changed_slot, content_at, SameObjects, IsKnown, HasRoomFor, HasNoChange, IsChanged, loaded};
@@ -92,6 +105,7 @@ impl InodeFile {
             file,
             slots: BTreeMap::new(alloc),
             numbers: Numbers::new(map, inodes),
+            past: Past::new(alloc),
         }
     }
 
@@ -201,14 +215,15 @@ impl InodeFile {
 
     fn changed_keys(&self, alloc: Global) -> Result<Vec<u32>, AllocError>
         ensures keys { IfOk result (λ numbers. numbers.items
-            ≡ filter (λ n. is_changed_slot (tree.get nat_cmp self.now.slots n))
-            (tree.keys self.now.slots)) }
+            ≡ map (λ e. e.0) (filter (λ e. is_changed_slot (Some e.1)) self.now.slots.entries)) }
+        ensures found { OnOk result (All (λ e. tree.get nat_cmp self.now.slots e.0 ≡ Some e.1)
+            self.now.slots.entries) }
         ensures ordered { OnOk result (tree.IsOrdered nat_cmp self.now.slots) }
     {
         self.slots
-            .keys()
-            .copied()
-            .filter(|n| self.is_changed(*n))
+            .iter()
+            .filter(|(_, slot)| slot.is_changed())
+            .map(|(n, _)| *n)
             .collect(alloc)
     }
 

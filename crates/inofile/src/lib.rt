@@ -6,6 +6,7 @@ mod changing;
 mod inode_file;
 mod laws;
 mod numbers;
+mod past;
 mod settled;
 
 pub use inode_file::{InodeFile, ObjectSlot};

@@ -93,3 +93,28 @@ holds_more inodes bytes rest e limit is spelled = (
       (f.entries, subst (λ (r : List ℕ). HoldsEntries inodes r f.entries) behind f.holds)),
   (λ others. (e ∷ others.0, (rest, is, spelled, others.1))),
 )
+
+-- no entries are left in zeros
+pub none_left : (inodes : ℕ) (bytes : List ℕ) (entries : List Named) → inodes ≤ 2 ^ 32 → HoldsEntries inodes bytes entries → bytes ≡ zeros (length bytes) → entries ≡ []
+none_left inodes bytes [] limit holds none = refl
+none_left inodes bytes (e ∷ entries) limit holds none = absurd (not_zeros inodes bytes holds.0 e (length bytes) limit holds.1 holds.2 none)
+
+-- the entries behind the first
+pub record Behind (inodes : ℕ) (rest : List ℕ) (e : Named) (entries : List Named) : Type 0 where
+  pub others : List Named
+  pub are : entries ≡ e ∷ others
+  pub holds : HoldsEntries inodes rest others
+
+pub one_first : (inodes : ℕ) (bytes rest : List ℕ) (e : Named) (entries : List Named) → inodes ≤ 2 ^ 32 → IsEntry inodes e → bytes ≡ entry_bytes e ++ rest → HoldsEntries inodes bytes entries → Behind inodes rest e entries
+one_first inodes bytes rest e [] limit is spelled holds = absurd (not_zeros inodes bytes rest e (length bytes) limit is spelled holds)
+one_first inodes bytes rest e (f ∷ entries) limit is spelled holds =
+    let same : f ≡ e = some_is f e (sym (entry_again inodes f holds.0 limit holds.1) ∙ ap entry_in (sym holds.2 ∙ spelled) ∙ entry_again inodes e rest limit is) in
+    let behind : holds.0 ≡ rest = append_cancel_left (entry_bytes e) holds.0 rest (ap (λ (n : Named). entry_bytes n ++ holds.0) (sym same) ∙ sym holds.2 ∙ spelled) in
+    record { others = entries; are = ap (λ (n : Named). n ∷ entries) same; holds = subst (λ (r : List ℕ). HoldsEntries inodes r entries) behind holds.3 }
+
+-- bytes hold one row of entries at most
+pub entries_once : (inodes : ℕ) (bytes : List ℕ) (es fs : List Named) → inodes ≤ 2 ^ 32 → HoldsEntries inodes bytes es → HoldsEntries inodes bytes fs → es ≡ fs
+entries_once inodes bytes [] fs limit one other = sym (none_left inodes bytes fs limit other one)
+entries_once inodes bytes (e ∷ es) fs limit one other =
+    let b = one_first inodes bytes one.0 e fs limit one.1 one.2 other in
+    ap (λ (l : List Named). e ∷ l) (entries_once inodes one.0 es b.others limit one.3 b.holds) ∙ sym b.are

@@ -5,6 +5,8 @@ use Rattle.std.proofs.lemmas.Bool.Decides.{nat_tests}
 use Rattle.std.proofs.lemmas.Bool.{eqb-true, le-leb, lt-leb}
 use Rattle.std.proofs.lemmas.List.{length-append, length-drop, drop_at}
 use Rattle.std.proofs.lemmas.List.Elements.{All-weaker}
+use Rattle.model.specs.Attributes.{new_attributes}
+use Rattle.model.specs.declared.attributes.Attributes.{Attributes}
 use Rattle.layout.specs.Bytes.{zeros, IsBytes}
 use Rattle.layout.specs.Limits.{Sizes, AreSizes}
 use Rattle.layout.specs.Pointer.{PointsBelow, pointers_bytes, pointers_in}
@@ -35,9 +37,9 @@ body_wider few many le (Pointers ps) size fits =
     (fits.0, fits.1, All-weaker (PointsBelow few) (PointsBelow many) (points_wider few many le) ps fits.2, fits.3)
 
 -- what an image of some sizes has, one of the likely sizes has
-record Likely (kind : Kind) (s : Sizes) (mode links size : ℕ) : Type 0 where
+record Likely (kind : Kind) (s : Sizes) (attributes : Attributes) (links size : ℕ) : Type 0 where
   are : AreSizes (likely_sizes kind size)
-  kind_fits : FitsKind kind (likely_sizes kind size) mode links size
+  kind_fits : FitsKind kind (likely_sizes kind size) attributes links size
   wider : s.blocks ≤ (likely_sizes kind size).blocks
 
 any_sizes : (blocks inodes : ℕ) → 64 ≤ blocks → blocks ≤ 1048576 → 32 ≤ inodes → inodes ≤ 65536 → AreSizes (record { blocks = blocks; inodes = inodes; half = 131072 })
@@ -46,25 +48,25 @@ any_sizes blocks inodes a b c d = record { least_blocks = a; most_blocks = b; le
 greatest : AreSizes (record { blocks = 1048576; inodes = 65536; half = 131072 })
 greatest = any_sizes 1048576 65536 (omega arith) (omega arith) (omega arith) (omega arith)
 
-likely : (kind : Kind) (s : Sizes) (mode links size : ℕ) → AreSizes s → FitsKind kind s mode links size → Likely kind s mode links size
-likely kinds.Free s mode links size are fits = record { are = greatest; kind_fits = fits; wider = are.most_blocks }
-likely kinds.File s mode links size are fits = record { are = greatest; kind_fits = fits; wider = are.most_blocks }
-likely kinds.Directory s mode links size are fits = record { are = greatest; kind_fits = fits; wider = are.most_blocks }
-likely kinds.Link s mode links size are fits = record { are = greatest; kind_fits = fits; wider = are.most_blocks }
-likely kinds.InodeFile s mode links size are fits =
+likely : (kind : Kind) (s : Sizes) (attributes : Attributes) (links size : ℕ) → AreSizes s → FitsKind kind s attributes links size → Likely kind s attributes links size
+likely kinds.Free s attributes links size are fits = record { are = greatest; kind_fits = fits; wider = are.most_blocks }
+likely kinds.File s attributes links size are fits = record { are = greatest; kind_fits = fits; wider = are.most_blocks }
+likely kinds.Directory s attributes links size are fits = record { are = greatest; kind_fits = fits; wider = are.most_blocks }
+likely kinds.Link s attributes links size are fits = record { are = greatest; kind_fits = fits; wider = are.most_blocks }
+likely kinds.InodeFile s attributes links size are fits =
     let is : size ≡ 4096 * div_ceil s.inodes 21 = fits.2 in
     record { are = any_sizes 1048576 _ (omega arith) (omega arith) (omega arith) (omega arith); kind_fits = (fits.0, fits.1, omega arith); wider = are.most_blocks }
-likely kinds.InodeMap s mode links size are fits =
+likely kinds.InodeMap s attributes links size are fits =
     let is : size ≡ div_ceil s.inodes 8 = fits.2 in
     record { are = any_sizes 1048576 _ (omega arith) (omega arith) (omega arith) (omega arith); kind_fits = (fits.0, fits.1, omega arith); wider = are.most_blocks }
-likely kinds.BlockMap s mode links size are fits =
+likely kinds.BlockMap s attributes links size are fits =
     let is : size ≡ 4 * s.blocks = fits.2 in
     record { are = any_sizes _ 65536 (omega arith) (omega arith) (omega arith) (omega arith); kind_fits = (fits.0, fits.1, omega arith); wider = omega arith }
 
 pub likely_inode : (version : ℕ) (i : Inode) → IsSomeInode version i → AreSizes (likely_sizes i.kind i.size) × IsInode version (likely_sizes i.kind i.size) i
 likely_inode version i some =
-    let l = likely i.kind some.sizes i.mode i.links i.size some.are_sizes some.fits.kind in
-    (l.are, record { mode = some.fits.mode; size = some.fits.size; kind = l.kind_fits; body = body_wider some.sizes.blocks (likely_sizes i.kind i.size).blocks l.wider i.body i.size some.fits.body })
+    let l = likely i.kind some.sizes i.attributes i.links i.size some.are_sizes some.fits.kind in
+    (l.are, record { attributes = some.fits.attributes; size = some.fits.size; kind = l.kind_fits; body = body_wider some.sizes.blocks (likely_sizes i.kind i.size).blocks l.wider i.body i.size some.fits.body })
 
 -- ---- what is read is spelled so
 
@@ -105,7 +107,7 @@ inode_takes bytes i fits e =
     let all = subst (λ (r : List ℕ). (i : ℕ) → get_or r i 0 < 256) t.0 fits in
     let k = bind_some (kind_of head.0) _ i w.2 in
     let b = bind_some (body_in size last) _ i k.2 in
-    let g = if_then (eqb head.1.1.1.1 (level_of size)) (Some (record { kind = k.0; mode = head.1.0; links = head.1.1.0; size = size; body = b.0 })) i b.2 in
+    let g = if_then (eqb head.1.1.1.1 (level_of size)) (Some (record { kind = k.0; attributes = new_attributes head.1.0; links = head.1.1.0; size = size; body = b.0 })) i b.2 in
     let code = kind_takes head.0 k.0 k.1 in
     let level : head.1.1.1.1 ≡ level_of size = eqb-true _ _ g.0 in
     let body = body_takes size last b.0 t.1.1.1 (IsBytes-behind (zeros 47) last (IsBytes-behind (inode_head.text head) (zeros 47 ++ last) all)) b.1 in
@@ -132,14 +134,14 @@ kind_small kinds.InodeFile = omega arith
 kind_small kinds.InodeMap = omega arith
 kind_small kinds.BlockMap = omega arith
 
-links_small : (kind : Kind) (s : Sizes) (mode links size : ℕ) → FitsKind kind s mode links size → links ≤ 1000
-links_small kinds.Free s mode links size fits = omega (arith, fits.1)
-links_small kinds.File s mode links size fits = fits
-links_small kinds.Directory s mode links size fits = omega (arith, fits.0)
-links_small kinds.Link s mode links size fits = omega (arith, fits.1)
-links_small kinds.InodeFile s mode links size fits = omega (arith, fits.1)
-links_small kinds.InodeMap s mode links size fits = omega (arith, fits.1)
-links_small kinds.BlockMap s mode links size fits = omega (arith, fits.1)
+links_small : (kind : Kind) (s : Sizes) (attributes : Attributes) (links size : ℕ) → FitsKind kind s attributes links size → links ≤ 1000
+links_small kinds.Free s attributes links size fits = omega (arith, fits.1)
+links_small kinds.File s attributes links size fits = fits
+links_small kinds.Directory s attributes links size fits = omega (arith, fits.0)
+links_small kinds.Link s attributes links size fits = omega (arith, fits.1)
+links_small kinds.InodeFile s attributes links size fits = omega (arith, fits.1)
+links_small kinds.InodeMap s attributes links size fits = omega (arith, fits.1)
+links_small kinds.BlockMap s attributes links size fits = omega (arith, fits.1)
 
 level_small : (size : ℕ) → level_of size < 256
 level_small size = grind (arith, nat_tests)
@@ -162,14 +164,14 @@ body_again (Pointers ps) blocks size limit fits =
 
 -- what stands in the head of an inode
 abbrev head_of : Inode → ℕ × (ℕ × (ℕ × (ℕ × ℕ)))
-head_of i = (kind_code i.kind, (i.mode, (i.links, (i.size, level_of i.size))))
+head_of i = (kind_code i.kind, (i.attributes.mode, (i.links, (i.size, level_of i.size))))
 
 head_fits : (s : Sizes) (i : Inode) → IsInode VERSION s i → inode_head.Fits (head_of i)
 head_fits s i fits =
     let code : kind_code i.kind < 256 ^ 2 = omega (arith, kind_small i.kind) in
-    let links : i.links < 256 ^ 4 = omega (arith, links_small i.kind s i.mode i.links i.size fits.kind) in
+    let links : i.links < 256 ^ 4 = omega (arith, links_small i.kind s i.attributes i.links i.size fits.kind) in
     let size : i.size < 256 ^ 8 = omega (arith, fits.size) in
-    (code, ((omega arith, fits.mode), (links, (size, level_small i.size))))
+    (code, ((omega arith, fits.attributes.mode), (links, (size, level_small i.size))))
 
 pub head_again : (s : Sizes) (i : Inode) → IsInode VERSION s i → kind_and_links_in (inode_bytes i) ≡ Some (i.kind, i.links)
 unfolding kind_and_links_in

@@ -9,7 +9,6 @@ pub mod RecordLengths
 pub mod WritingLaws
 pub mod LogLemmas
 pub mod WordLaws
-pub mod MapLaws
 pub mod IndirectLaws
 pub mod FieldLaws
 pub mod NodeLaws

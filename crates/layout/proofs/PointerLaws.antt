@@ -1,5 +1,5 @@
 -- Pointers, and what stands at one.
-use Rattle.std.proofs.Common.{◌≡◌, inl, inr, ℕ, ◌+◌, ◌*◌, ◌<◌, List, ◌++◌, length, get_or, refl, ap, sym, subst, ◌∙◌, arith}
+use Rattle.std.proofs.Common.{◌≡◌, ◌≢◌, inl, inr, ℕ, ◌+◌, ◌*◌, ◌<◌, List, ◌++◌, length, get_or, refl, ap, sym, subst, ◌∙◌, arith}
 use Rattle.std.specs.Prelude.{All}
 use Rattle.std.proofs.lemmas.Bool.{cases_lt}
 use Rattle.std.proofs.lemmas.List.{get_or_past}
@@ -18,6 +18,11 @@ hole_block e = cc
 
 pub block_same : (a b : ℕ) → Block a ≡ Block b → a ≡ b
 block_same a b e = cc
+
+-- no hole is a block
+pub some_block : (p : Pointer) → p ≢ Hole → (b : ℕ) × (p ≡ Block b)
+some_block Hole some = absurd (some refl)
+some_block (Block b) some = (b, refl)
 
 -- of pointers that stay on the disk, one at any place does
 pub points_below : (blocks : ℕ) (pointers : List Pointer) (i : ℕ) → All (PointsBelow blocks) pointers → PointsBelow blocks (get_or pointers i Hole)

@@ -2,6 +2,7 @@
 use Rattle.std.proofs.Common.{◌≡◌, ℕ, suc, ◌-◌, ◌*◌, ◌<◌, ◌≤◌, true, false, leb, refl, ap, subst, ◌∙◌, arith}
 use Rattle.std.proofs.lemmas.Bool.{lt-leb, le-leb}
 use Rattle.std.proofs.lemmas.Bool.Decides.{nat_tests}
+use Rattle.model.specs.declared.attributes.Attributes.{Attributes}
 use Rattle.layout.specs.Inode.{FitsKind, nodes_of_size, pointers_used}
 use Rattle.layout.specs.Limits.{Sizes}
 use Rattle.layout.specs.Version.{level_of}
@@ -42,5 +43,5 @@ used_is size top level =
     ap (λ l. nodes_of_size size (l - 1)) level ∙ ap (nodes_of_size size) one
 
 -- the block map has four bytes for each block
-pub map_size : (k : Kind) (s : Sizes) (mode links size : ℕ) → k ≡ kinds.BlockMap → FitsKind k s mode links size → size ≡ 4 * s.blocks
-map_size k s mode links size is fits = (subst (λ x. FitsKind x s mode links size) is fits).2
+pub map_size : (k : Kind) (s : Sizes) (attributes : Attributes) (links size : ℕ) → k ≡ kinds.BlockMap → FitsKind k s attributes links size → size ≡ 4 * s.blocks
+map_size k s attributes links size is fits = (subst (λ x. FitsKind x s attributes links size) is fits).2

@@ -1,13 +1,15 @@
 -- The inode: 192 bytes.
-use Rattle.std.specs.Prelude.{ℕ, zero, suc, ◌≡◌, ◌-◌, ◌*◌, ◌%◌, ◌<◌, ◌≤◌, List, ◌++◌, length, drop, All, nat_le, if◌then◌else◌}
+use Rattle.std.specs.Prelude.{ℕ, zero, suc, ◌≡◌, ◌-◌, ◌*◌, ◌%◌, ◌<◌, ◌≤◌, List, ◌++◌, length, drop, All}
 use Rattle.std.specs.Int.{div_ceil}
-use Rattle.model.specs.declared.limits.TheConstants.{FILE_NAMES, LINK_MODE, MODE_BITS, PATH_BYTES}
+use Rattle.model.specs.Attributes.{AreAttributes, no_attributes}
+use Rattle.model.specs.declared.attributes.Attributes.{Attributes}
+use Rattle.model.specs.declared.limits.TheConstants.{FILE_NAMES, LINK_MODE, PATH_BYTES}
 use Rattle.layout.specs.Bytes.{zeros}
 use Rattle.layout.specs.Format.{Format, num, part, blank, mode_bits, ◌▸◌}
 use Rattle.layout.specs.Limits.{Sizes, AreSizes}
 use Rattle.layout.specs.Version.{level_of, greatest_size}
 use Rattle.layout.specs.Pointer.{PointsBelow, pointers_bytes}
-use Rattle.layout.specs.declared.TheConstants.{BLOCK_BYTES, BLOCK_POINTERS, BODY_POINTERS, DIRECT_BYTES, INLINE_BYTES, INODES_PER_BLOCK}
+use Rattle.layout.specs.declared.TheConstants.{BLOCK_BYTES, BLOCK_POINTERS, BODY_POINTERS, INLINE_BYTES, INODES_PER_BLOCK}
 use Rattle.layout.specs.declared.kind.Kind.{Kind}
 use Rattle.layout.specs.declared.kind.Kind.TheVariants as kinds
 use Rattle.layout.specs.declared.inode.Body.{Body}
@@ -40,17 +42,17 @@ inode_fields = inode_head ▸ blank 47 ▸ part INLINE_BYTES
 -- the one spelling of each inode
 abbrev pub inode_bytes : Inode → List ℕ
 inode_bytes i =
-    inode_fields.text ((kind_code i.kind, (i.mode, (i.links, (i.size, level_of i.size)))), (tt, body_bytes i.body))
+    inode_fields.text ((kind_code i.kind, (i.attributes.mode, (i.links, (i.size, level_of i.size)))), (tt, body_bytes i.body))
 
--- mode, links and size by the kind, in an image of these sizes
-abbrev pub FitsKind : Kind → Sizes → ℕ → ℕ → ℕ → Type 0
-FitsKind kinds.Free s mode links size = (mode ≡ 0) × (links ≡ 0) × (size ≡ 0)
-FitsKind kinds.File s mode links size = links ≤ FILE_NAMES
-FitsKind kinds.Directory s mode links size = (links ≡ 1) × (size % BLOCK_BYTES ≡ 0)
-FitsKind kinds.Link s mode links size = (mode ≡ LINK_MODE) × (links ≡ 1) × (1 ≤ size) × (size ≤ PATH_BYTES)
-FitsKind kinds.InodeFile s mode links size = (mode ≡ 0) × (links ≡ 1) × (size ≡ BLOCK_BYTES * div_ceil s.inodes INODES_PER_BLOCK)
-FitsKind kinds.InodeMap s mode links size = (mode ≡ 0) × (links ≡ 1) × (size ≡ div_ceil s.inodes 8)
-FitsKind kinds.BlockMap s mode links size = (mode ≡ 0) × (links ≡ 1) × (size ≡ 4 * s.blocks)
+-- attributes, links and size by the kind, in an image of these sizes
+abbrev pub FitsKind : Kind → Sizes → Attributes → ℕ → ℕ → Type 0
+FitsKind kinds.Free s attributes links size = (attributes ≡ no_attributes) × (links ≡ 0) × (size ≡ 0)
+FitsKind kinds.File s attributes links size = links ≤ FILE_NAMES
+FitsKind kinds.Directory s attributes links size = (links ≡ 1) × (size % BLOCK_BYTES ≡ 0)
+FitsKind kinds.Link s attributes links size = (attributes.mode ≡ LINK_MODE) × (links ≡ 1) × (1 ≤ size) × (size ≤ PATH_BYTES)
+FitsKind kinds.InodeFile s attributes links size = (attributes ≡ no_attributes) × (links ≡ 1) × (size ≡ BLOCK_BYTES * div_ceil s.inodes INODES_PER_BLOCK)
+FitsKind kinds.InodeMap s attributes links size = (attributes ≡ no_attributes) × (links ≡ 1) × (size ≡ div_ceil s.inodes 8)
+FitsKind kinds.BlockMap s attributes links size = (attributes ≡ no_attributes) × (links ≡ 1) × (size ≡ 4 * s.blocks)
 
 -- how many nodes a file of so many bytes has at a height: its blocks, and over them one for each 1,024 of those below
 unfoldable pub nodes_of_size : ℕ → ℕ → ℕ
@@ -79,9 +81,9 @@ FitsBody (Pointers pointers) blocks size = FitsPointers pointers blocks size
 
 -- an inode of an image of this version and these sizes
 pub record IsInode (version : ℕ) (s : Sizes) (i : Inode) : Type 0 where
-  pub mode : i.mode ≤ MODE_BITS
+  pub attributes : AreAttributes i.attributes
   pub size : i.size ≤ greatest_size version
-  pub kind : FitsKind i.kind s i.mode i.links i.size
+  pub kind : FitsKind i.kind s i.attributes i.links i.size
   pub body : FitsBody i.body s.blocks i.size
 
 -- an inode of an image of this version and some sizes

@@ -1,5 +1,7 @@
 -- Reading an inode, before its limits are looked at.
 use Rattle.std.specs.Prelude.{ℕ, ◌+◌, ◌*◌, ◌/◌, min, List, drop, Option, Some, None, nat_le, ◌==◌, if◌then◌else◌}
+use Rattle.model.specs.Attributes.{new_attributes}
+use Rattle.model.specs.declared.attributes.Attributes.{Attributes}
 use Rattle.layout.specs.Reading.{◌>>=◌, is_zero, all_of}
 use Rattle.layout.specs.Inode.{inode_fields, inode_head}
 use Rattle.layout.specs.Limits.{Sizes}
@@ -28,18 +30,18 @@ body_in size bytes =
     if nat_le size 128 then Some (Inline bytes)
     else (if is_zero (drop 64 bytes) then Some (Pointers (pointers_in 16 bytes)) else None)
 
--- the inode of these numbers and bytes: kind, mode, links, size, level and body
-unfoldable pub inode_of : ℕ → ℕ → ℕ → ℕ → ℕ → List ℕ → Option Inode
-inode_of code mode links size level bytes =
+-- the inode of these numbers and bytes: kind, attributes, links, size, level and body
+unfoldable pub inode_of : ℕ → Attributes → ℕ → ℕ → ℕ → List ℕ → Option Inode
+inode_of code attributes links size level bytes =
     kind_of code >>= λ kind.
     body_in size bytes >>= λ body.
     if level == level_of size
-    then Some (record { kind = kind; mode = mode; links = links; size = size; body = body })
+    then Some (record { kind = kind; attributes = attributes; links = links; size = size; body = body })
     else None
 
 unfoldable pub inode_in : List ℕ → Option Inode
 inode_in bytes =
-    all_of inode_fields.at bytes >>= λ v. inode_of v.0.0 v.0.1.0 v.0.1.1.0 v.0.1.1.1.0 v.0.1.1.1.1 v.1.1
+    all_of inode_fields.at bytes >>= λ v. inode_of v.0.0 (new_attributes v.0.1.0) v.0.1.1.0 v.0.1.1.1.0 v.0.1.1.1.1 v.1.1
 
 -- the kind and the links in the head of an inode
 unfoldable pub kind_and_links_in : List ℕ → Option (Kind × ℕ)

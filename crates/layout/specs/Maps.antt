@@ -1,5 +1,5 @@
 -- The blocks of the inode map and of the block map, and indirect blocks.
-use Rattle.std.specs.Prelude.{ℕ, Bool, IsTrue, ◌↔◌, ◌≡◌, ◌≢◌, ◌+◌, ◌*◌, ◌/◌, ◌%◌, ◌^◌, ◌<◌, ◌≤◌, List, length, drop, slice_index}
+use Rattle.std.specs.Prelude.{ℕ, ◌≡◌, ◌≢◌, ◌+◌, ◌*◌, ◌/◌, ◌%◌, ◌^◌, ◌<◌, ◌≤◌, List, length, drop, slice_index}
 use Rattle.layout.specs.Bytes.{number}
 use Rattle.layout.specs.Pointer.{PointsBelow, pointer_of}
 use Rattle.layout.specs.declared.TheConstants.{BLOCK_BYTES, BLOCK_POINTERS}
@@ -10,11 +10,6 @@ use Rattle.layout.specs.declared.pointer.Pointer.TheVariants.{Hole}
 -- the number n is taken: bit n mod 8 of byte n div 8 is set
 abbrev pub IsTaken : List ℕ → ℕ → Type 0
 IsTaken bytes n = slice_index bytes (n / 8) / 2 ^ (n % 8) % 2 ≡ 1
-
--- new is old but for the bit of number n, which says whether it is taken
-pub record SetsTaken (n : ℕ) (taken : Bool) (old new : List ℕ) : Type 0 where
-  pub there : IsTaken new n ↔ IsTrue taken
-  pub others : (k : ℕ) → k ≢ n → IsTaken new k ↔ IsTaken old k
 
 -- Bytes of an inode map of so many inodes, bit i being that of number `first + i`: the numbers 0 to 3 are taken, and none from
 -- `inodes` on. A map of several blocks is one such part after the other.

@@ -21,10 +21,6 @@ level_of size =
 abbrev pub greatest_size : ℕ → ℕ
 greatest_size version = if version == FIRST_VERSION then SINGLE_BYTES else GREATEST_FILE
 
--- the greatest level of a file
-abbrev pub greatest_level : ℕ → ℕ
-greatest_level version = level_of (greatest_size version)
-
 -- the slots of snapshots that a root has; those behind them are free
 abbrev pub snapshot_slots : ℕ → ℕ
 snapshot_slots version = if version == FIRST_VERSION then FIRST_SLOTS else SNAPSHOT_SLOTS

@@ -1,6 +1,6 @@
 //! An entry of a directory's block.
 
-ghost use Rattle.std.specs.Prelude.{◌≡◌, ◌≤◌, ◌+◌, ◌++◌, ℕ, List, ◌↔◌, IsTrue, IfSome, IsSomeAnd, length};
+ghost use Rattle.std.specs.Prelude.{◌≡◌, ◌≤◌, ◌+◌, ◌↔◌, IsTrue, IfSome, IsSomeAnd, length};
 ghost use Rattle.std.specs.Option.{option_map};
 ghost use Rattle.layout.specs.Bytes.{Writes};
 ghost use Rattle.model.specs.declared.limits.TheConstants.{NAME_BYTES};

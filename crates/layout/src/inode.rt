@@ -2,7 +2,7 @@
 
 ghost use Rattle.std.specs.Prelude.{◌≡◌, ◌↔◌, ◌≤◌, ◌+◌, ◌-◌, ◌<◌, ◌++◌, IsTrue, IfSome, IfNone, Some, All, drop, length};
 ghost use Rattle.layout.specs.Bytes.{Writes, zeros};
-ghost use Rattle.layout.specs.Pointer.{PointsBelow, pointers_bytes};
+ghost use Rattle.layout.specs.Pointer.{pointers_bytes};
 ghost use Rattle.layout.specs.declared.pointer.Pointer.TheVariants.{Hole};
 ghost use Rattle.layout.specs.Inode.{IsInode, IsSomeInode, FitsKind, FitsBody, FitsInline, FitsPointers, body_bytes, inode_bytes, nodes_of_size, pointers_used};
 ghost use Rattle.layout.specs.Limits.{AreSizes, Sizes};
@@ -17,7 +17,7 @@ use crate::reading::{mode_at, part_at, u8_at, u16_at, u32_at, u64_at, zeros_at};
 use crate::version::{VERSION, greatest_size, level_of};
 use crate::writing::{put_bytes, put_u8, put_u16, put_u32, put_u64, put_zeros};
 use crate::{BODY_POINTERS, Geometry, INLINE_BYTES, INODE_BYTES, Kind, Pointer};
-use model::{FILE_NAMES, LINK_MODE, Mode, PATH_BYTES};
+use model::{Attributes, FILE_NAMES, LINK_MODE, Mode, PATH_BYTES};
 
 /// The bytes of a small object, or where a larger one's blocks are.
 #[derive(Clone, Copy, Debug)]
@@ -32,7 +32,7 @@ pub enum Body {
 #[derive(Clone, Copy, Debug)]
 pub struct Inode {
     pub kind: Kind,
-    pub mode: Mode,
+    pub attributes: Attributes,
     /// Names of a regular file, 1 for any other object.
     pub links: u32,
     /// Bytes of the object.
@@ -78,7 +78,7 @@ impl Inode {
         ensures { Writes at (at + 192) (inode_bytes self.now) out.old out.new }
     {
         put_u16(out, at, self.kind.code());
-        put_u16(out, at + 2, self.mode.bits());
+        put_u16(out, at + 2, self.attributes.mode.bits());
         put_u32(out, at + 4, self.links);
         put_u64(out, at + 8, self.size);
         put_u8(out, at + 16, level_of(self.size));
@@ -90,7 +90,7 @@ impl Inode {
     pub fn fits(&self, version: u32, geometry: Geometry) -> bool
         ensures { IsTrue result ↔ IsInode version geometry self.now }
     {
-        let _ = self.mode.bits();
+        self.attributes.fit();
         self.size <= greatest_size(version)
             && kind_fits(self, geometry)
             && body_fits(&self.body, geometry.blocks(), self.size)
@@ -162,7 +162,7 @@ pub(crate) fn read_fields(bytes: &[u8]) -> Option<Inode>
         return None;
     }
     let mode = Mode::new(mode).unwrap();
-    made_inode(kind, mode, links, size, level, body)
+    made_inode(kind, Attributes::new(mode), links, size, level, body)
 }
 
 // The kind and the links in these bytes, before the limits are looked at.
@@ -180,16 +180,23 @@ fn read_kind_and_links(bytes: &[u8]) -> Option<(Kind, u32)>
 
 // The inode of these fields.
 #[tactic(auto, unfolding(crate::specs::InodeReading::inode_of))]
-fn made_inode(kind: u16, mode: Mode, links: u32, size: u64, level: u8, body: &[u8]) -> Option<Inode>
+fn made_inode(
+    kind: u16,
+    attributes: Attributes,
+    links: u32,
+    size: u64,
+    level: u8,
+    body: &[u8],
+) -> Option<Inode>
     requires { length body.now ≡ 128 }
-    ensures { result ≡ inode_of kind mode links size level body.now }
+    ensures { result ≡ inode_of kind attributes links size level body.now }
 {
     let kind = Kind::from_code(kind)?;
     let body = read_body(size, body)?;
     if level == level_of(size) {
         Some(Inode {
             kind,
-            mode,
+            attributes,
             links,
             size,
             body,
@@ -243,23 +250,25 @@ fn put_pointer_body(out: &mut [u8], at: usize, pointers: &[Pointer; BODY_POINTER
     put_zeros(out, at + 64, 64);
 }
 
-// Whether mode, links and size are those of an object of its kind.
+// Whether attributes, links and size are those of an object of its kind.
 fn kind_fits(inode: &Inode, geometry: Geometry) -> bool
-    ensures { let i = inode.now in IsTrue result ↔ FitsKind i.kind geometry i.mode i.links i.size }
+    ensures { let i = inode.now in IsTrue result
+        ↔ FitsKind i.kind geometry i.attributes i.links i.size }
 {
-    let mode = inode.mode.bits();
+    let none = inode.attributes.are_none();
+    let mode = inode.attributes.mode.bits();
     let links = inode.links;
     let size = inode.size;
     let inodes = geometry.inodes();
     let blocks = geometry.blocks();
     match inode.kind {
-        Kind::Free => mode == 0 && links == 0 && size == 0,
+        Kind::Free => none && links == 0 && size == 0,
         Kind::File => links <= FILE_NAMES,
         Kind::Directory => links == 1 && size % 4096 == 0,
         Kind::Link => { mode == LINK_MODE && links == 1 && 1 <= size && size <= PATH_BYTES as u64 }
-        Kind::InodeFile => mode == 0 && links == 1 && size == 4096 * u64::from(inodes.div_ceil(21)),
-        Kind::InodeMap => mode == 0 && links == 1 && size == u64::from(inodes.div_ceil(8)),
-        Kind::BlockMap => mode == 0 && links == 1 && size == 4 * u64::from(blocks),
+        Kind::InodeFile => none && links == 1 && size == 4096 * u64::from(inodes.div_ceil(21)),
+        Kind::InodeMap => none && links == 1 && size == u64::from(inodes.div_ceil(8)),
+        Kind::BlockMap => none && links == 1 && size == 4 * u64::from(blocks),
     }
 }
 

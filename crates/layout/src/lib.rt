@@ -46,8 +46,8 @@ pub use record::{NewObject, Record};
 pub use root::Root;
 pub use snap_root::SnapRoot;
 pub use version::{
-    FIRST_SLOTS, FIRST_VERSION, SNAPSHOT_SLOTS, VERSION, greatest_level, greatest_size, is_version,
-    level_of, snapshot_slots,
+    FIRST_SLOTS, FIRST_VERSION, SNAPSHOT_SLOTS, VERSION, greatest_size, is_version, level_of,
+    snapshot_slots,
 };
 
 /// Bytes of a sector of the disk.

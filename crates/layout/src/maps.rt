@@ -1,8 +1,7 @@
 //! What stands in the blocks of the two maps and in indirect blocks.
 
-ghost use Rattle.std.specs.Prelude.{◌≡◌, ◌≢◌, ◌↔◌, ◌<◌, ◌≤◌, ◌+◌, ◌*◌, ◌^◌, ℕ, IsTrue, if◌then◌else◌, length};
-ghost use Rattle.layout.specs.Maps.{IsIndirectBlock, IsInodeMap, IsTaken, PointsWithin, SetsTaken, SetsWord, indirect_pointer, map_entry};
-ghost use Rattle.std.specs.Int.{bit_at};
+ghost use Rattle.std.specs.Prelude.{◌≡◌, ◌≢◌, ◌↔◌, ◌<◌, ◌≤◌, ◌+◌, ◌*◌, ◌^◌, ℕ, IsTrue, length};
+ghost use Rattle.layout.specs.Maps.{IsIndirectBlock, IsInodeMap, IsTaken, PointsWithin, SetsWord, indirect_pointer, map_entry};
 ghost use Rattle.layout.specs.Pointer.{PointsBelow, pointer_number};
 ghost use Rattle.layout.specs.declared.pointer.Pointer.TheVariants.{Hole};
 
@@ -19,28 +18,6 @@ pub fn is_taken(bytes: &[u8], number: u32) -> bool
 {
     let byte = bytes[(number / 8) as usize];
     (byte >> (number % 8)) % 2 == 1
-}
-
-/// Marks an inode number as taken or as free, in these bytes of an inode map from its beginning on.
-pub fn set_taken(bytes: &mut [u8], number: u32, taken: bool)
-    requires { number < 8 * length bytes.old }
-    ensures { SetsTaken number taken bytes.old bytes.new }
-{
-    let place = (number / 8) as usize;
-    bytes[place] = with_bit(bytes[place], number % 8, taken);
-}
-
-// The byte with this bit set or cleared.
-fn with_bit(byte: u8, bit: u32, set: bool) -> u8
-    requires { bit < 8 }
-    ensures there { bit_at result bit ≡ (if set then 1 else 0) }
-    ensures others { (i : ℕ) → i < 8 → i ≢ bit → bit_at result i ≡ bit_at byte i }
-{
-    if set {
-        byte | 1 << bit
-    } else {
-        byte & !(1 << bit)
-    }
 }
 
 /// Whether these are bytes of an inode map of so many inodes, the first bit being that of number `first`: 0 to 3 are taken,

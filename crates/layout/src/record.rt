@@ -1,6 +1,6 @@
 //! The records of the log: the calls that change something, with their numbers resolved.
 
-ghost use Rattle.std.specs.Prelude.{◌≡◌, ◌≤◌, ◌<◌, ◌+◌, ◌^◌, length};
+ghost use Rattle.std.specs.Prelude.{◌<◌};
 
 use crate::InodeNumber;
 use model::Mode;

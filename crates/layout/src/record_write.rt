@@ -1,7 +1,6 @@
 //! Records as they are written.
 
 ghost use Rattle.std.specs.Prelude.{◌≡◌, ◌≤◌, ◌+◌, length};
-ghost use Rattle.model.specs.Paths.{IsName};
 ghost use Rattle.model.specs.declared.limits.TheConstants.{NAME_BYTES, TRANSFER_BYTES};
 ghost use Rattle.layout.specs.Bytes.{Writes, little};
 ghost use Rattle.layout.specs.Record.{KeepsLimits, KeepsMadeLimits, change_bytes, change_of, create, link, unname, rename, write, cut, change_mode, made_of, kind_of_made, mode_of_made, name_bytes, body_of, text_of};

@@ -1,7 +1,7 @@
 //! What differs from one version of the layout to the next, in one place.
 
 ghost use Rattle.std.specs.Prelude.{◌≡◌, ◌↔◌, IsTrue};
-ghost use Rattle.layout.specs.Version.{IsVersion, greatest_level, greatest_size, level_of, snapshot_slots};
+ghost use Rattle.layout.specs.Version.{IsVersion, greatest_size, level_of, snapshot_slots};
 
 use crate::{DIRECT_BYTES, INLINE_BYTES, SINGLE_BYTES};
 use model::{GREATEST_FILE, SNAPSHOTS};
@@ -51,13 +51,6 @@ pub fn greatest_size(version: u32) -> u64
     } else {
         GREATEST_FILE
     }
-}
-
-/// The greatest level of a file: that of the greatest size.
-pub fn greatest_level(version: u32) -> u8
-    ensures { result ≡ greatest_level version }
-{
-    level_of(greatest_size(version))
 }
 
 /// The slots of snapshots that a root has.

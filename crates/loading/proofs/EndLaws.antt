@@ -1,9 +1,8 @@
 -- The last block of a file, and its bytes as one list.
-use Rattle.std.proofs.Common.{◌≡◌, Bool, true, false, ℕ, ◌+◌, ◌-◌, ◌*◌, ◌/◌, ◌%◌, ◌<◌, ◌≤◌, List, ◌++◌, length, map, take, drop, get_or, slice_index, replicate, refl, ap, sym, subst, ◌∙◌, arith, inl, inr, length-drop}
+use Rattle.std.proofs.Common.{◌≡◌, Bool, true, false, ℕ, ◌+◌, ◌-◌, ◌*◌, ◌/◌, ◌%◌, ◌<◌, ◌≤◌, List, length, map, drop, get_or, slice_index, replicate, refl, ap, sym, subst, ◌∙◌, arith, inl, inr, length-drop}
 use Rattle.std.specs.List.{range_with_len}
 use Rattle.std.specs.Int.{div_ceil}
 use Rattle.std.proofs.Math.Path.{fun_ext}
-use Rattle.std.proofs.Math.Seq.{take-append_seam}
 use Rattle.std.proofs.lemmas.Bool.{cases_lt}
 use Rattle.std.proofs.lemmas.List.{ext_get_or, get_or-drop, length-replicate}
 use Rattle.std.proofs.lemmas.List.FromFn.{length-map-range_with_len, get_or-map-range_with_len}
@@ -19,6 +18,7 @@ use Rattle.layout.specs.declared.inode.Body.{Body}
 use Rattle.layout.specs.declared.inode.Body.TheVariants.{Inline, Pointers}
 use Rattle.layout.specs.declared.inode.Inode.{Inode}
 use Rattle.layout.specs.declared.pointer.Pointer.{Pointer}
+use Rattle.model.specs.declared.attributes.Attributes.{Attributes}
 use Rattle.buffers.specs.Positions.{IsPart}
 use Rattle.blocktree.specs.Names.{AreNodes, nodes_at}
 use Rattle.blocktree.specs.PlaceMaps.{place_at}
@@ -84,9 +84,6 @@ ends_all disk body size last p past = elim (cases_lt (size / 4096) (p / 4096)) [
 pub part_whole : (f : ℕ → ℕ) (size : ℕ) (out : List ℕ) → length out ≡ size → IsPart f 0 out → out ≡ first_bytes f size
 part_whole f size out long part = ext_get_or 0 out (map f (range_with_len 0 size)) (long ∙ sym (length-map-range_with_len f 0 size))
     (λ i lt. part i lt ∙ sym (get_or-map-range_with_len f 0 size i (0 + i) 0 (omega (arith, lt, long)) refl))
-
-pub whole_again : (out items : List ℕ) (len : ℕ) → length out ≡ len → take len (out ++ drop (length out) items) ≡ out
-whole_again out items len long = ap (λ n. take n (out ++ drop (length out) items)) (sym long) ∙ take-append_seam out (drop (length out) items)
 
 -- ---- a loaded tree, and the inode that it starts from
 
@@ -158,8 +155,8 @@ file_ends disk inode file size same ends p past = ap (λ b. slice_index b (p % 4
 
 -- ---- sizes of the maps
 
-pub inode_map_size : (kind : Kind) (s : Sizes) (mode links size : ℕ) → kind ≡ kinds.InodeMap → FitsKind kind s mode links size → size ≡ div_ceil s.inodes 8
-inode_map_size kind s mode links size is fits = (subst (λ k. FitsKind k s mode links size) is fits).2
+pub inode_map_size : (kind : Kind) (s : Sizes) (attributes : Attributes) (links size : ℕ) → kind ≡ kinds.InodeMap → FitsKind kind s attributes links size → size ≡ div_ceil s.inodes 8
+inode_map_size kind s attributes links size is fits = (subst (λ k. FitsKind k s attributes links size) is fits).2
 
 pub same_bytes : (disk : Blocks) (inode : Inode) (file : File) → file.size ≡ inode.size → ((i : ℕ) → file_block disk file i ≡ inode_block disk inode i)
     → bytes_of_file disk file ≡ inode_bytes_of disk inode

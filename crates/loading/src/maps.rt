@@ -25,7 +25,7 @@ use blockmap::MapPart;
 use blocktree::{PlaceMap, ReadError};
 use buffers::Blocks;
 use inode::File;
-use layout::{BLOCK_BYTES, BLOCK_POINTERS, Geometry, Inode, is_inode_map};
+use layout::{BLOCK_POINTERS, Geometry, Inode, is_inode_map};
 use std::alloc::Global;
 
 /// The bytes of the inode map whose settled inode this is.

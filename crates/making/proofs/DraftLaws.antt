@@ -1,12 +1,10 @@
 -- Drafts that grow, and files that are planned over nothing.
 use Rattle.std.proofs.Common.{◌≡◌, ◌⊎◌, inl, inr, ◌↔◌, ◌≤◌, ℕ, Bool, true, false, List, length, refl, ap, sym, subst, ◌∙◌, arith}
-use Rattle.std.proofs.lemmas.Bool.{eq-eqb, eqb-true, cases_Bool}
-use Rattle.std.proofs.lemmas.List.Folds.{list_any_at}
-use Rattle.std.proofs.lemmas.List.{get_or_default}
-use Rattle.std.proofs.lemmas.Map.Views.{Contains-from_any}
-use Rattle.std.specs.Prelude.{◌==◌, slice_index}
+use Rattle.std.proofs.lemmas.Bool.{cases_Bool}
 use Rattle.std.specs.Prelude.{Err, IsErrOf, Ok, Result}
 use Rattle.std.specs.Int.{bit_at}
+use Rattle.model.specs.Attributes.{AreAttributes, no_attributes}
+use Rattle.model.proofs.AttributeLaws.{new_fit}
 use Rattle.layout.specs.Inode.{FitsKind}
 use Rattle.layout.specs.Limits.{Sizes}
 use Rattle.layout.specs.Places.{Blocks}
@@ -15,7 +13,7 @@ use Rattle.blocktree.specs.declared.tree.BlockTree.{BlockTree}
 use Rattle.blockmap.specs.Maps.{entry_at}
 use Rattle.blockmap.specs.Parts.{Part}
 use Rattle.conspoint.specs.Drafts.{Grows, IsShortage, OnEach, WasTaken}
-use Rattle.conspoint.specs.Marks.{AreMarked, IsAmong}
+use Rattle.conspoint.specs.Marks.{AreMarked}
 use Rattle.conspoint.specs.declared.error.PlanError.{PlanError}
 use Rattle.conspoint.specs.declared.error.PlanError.TheVariants.{NoMemory, Device, NoSpace, Damaged}
 use Rattle.buffers.specs.Failures.{HasGrown}
@@ -26,7 +24,7 @@ use Rattle.images.specs.Roots.{free_inode}
 use Rattle.images.specs.Soundness.{IsSoundFile}
 use Rattle.inode.specs.Bases.{IsBased, anew, over}
 use Rattle.inode.specs.Files.{IsFile}
-use Rattle.inode.specs.declared.object.Attributes.{Attributes}
+use Rattle.inode.specs.declared.object.Status.{Status}
 use Rattle.inode.specs.declared.object.Object.{Object}
 use Rattle.layout.specs.declared.kind.Kind.{Kind}
 use Rattle.placement.specs.Files.{IsBasedOn, IsChangeOf, IsPlaced, is_one, none}
@@ -38,6 +36,7 @@ use Rattle.conspoint.specs.Steps.{Takes}
 use Rattle.conspoint.proofs.StepLemmas.{no_error, same_error}
 use Rattle.placement.specs.Steps.{PlacesFile}
 use Rattle.placement.specs.declared.file.PlacedFile.{PlacedFile}
+use Rattle.placement.proofs.OneLaws.{among, one_of}
 
 -- a file of the system's own, over nothing
 based_on : (t : BlockTree) → IsBased free_inode t → IsBasedOn free_inode t
@@ -45,26 +44,20 @@ based_on t (anew count) = none refl count
 based_on t (over pointers body has) = absurd (cc)
 
 pub own_change : (s : Sizes) (d : Draft) (o : Object) (kind : Kind) → s.blocks ≡ d.map.count → IsSoundFile s (held nothing free_inode) → ((b : ℕ) → Names (held nothing free_inode) b → ⊥)
-    → IsBased free_inode o.file.tree → IsFile nothing o.file → o.attributes ≡ record { kind = kind; mode = 0; links = 1 } → FitsKind kind s 0 1 o.file.size
+    → IsBased free_inode o.file.tree → IsFile nothing o.file → o.status ≡ record { kind = kind; attributes = no_attributes; links = 1 } → FitsKind kind s no_attributes 1 o.file.size
     → IsChangeOf s d nothing free_inode o
-own_change s d o kind blocks sound none_named based ends attributes fits = record {
+own_change s d o kind blocks sound none_named based ends status fits = record {
   blocks = blocks;
   based = based_on o.file.tree based;
   sound = sound;
   once = λ m i k j b here there. absurd (none_named b (record { height = m; index = i; is = here }));
   used = λ b names free. none_named b names;
   ends = ends;
-  mode = (let is : o.attributes.mode ≡ 0 = ap (λ (a : Attributes). a.mode) attributes in omega (arith, is));
-  kind = subst (λ (a : Attributes). FitsKind a.kind s a.mode a.links o.file.size) (sym attributes) fits;
+  attributes = subst (λ (a : Status). AreAttributes a.attributes) (sym status) (new_fit 0 (omega arith));
+  kind = subst (λ (a : Status). FitsKind a.kind s a.attributes a.links o.file.size) (sym status) fits;
 }
 
 -- ---- marks
-
-among : (xs : List ℕ) (b : ℕ) → is_one xs b ≡ true → IsAmong xs (length xs) b
-among xs b is = (let at = Contains-from_any (λ x y e. eqb-true x y e) b xs is in (at.0, at.1, get_or_default xs at.0 0 b at.1 ∙ at.2))
-
-one_of : (xs : List ℕ) (b : ℕ) → IsAmong xs (length xs) b → is_one xs b ≡ true
-one_of xs b at = list_any_at (λ x. b == x) xs at.0 0 at.1 (eq-eqb b (slice_index xs at.0) (sym at.2))
 
 true_false : {t : Bool} {A : Type 0} → t ≡ true → t ≡ false → A
 true_false p q = absurd (let e = sym p ∙ q in cc)

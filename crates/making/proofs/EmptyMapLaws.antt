@@ -3,6 +3,8 @@ use Rattle.std.proofs.Common.{◌≡◌, inl, inr, ℕ, zero, suc, ◌+◌, ◌-
 use Rattle.std.specs.Prelude.{slice_index, nat_lt, if◌then◌else◌}
 use Rattle.std.proofs.lemmas.Bool.{cases_lt, cond_above, cond_below, cases_Bool}
 use Rattle.std.proofs.lemmas.List.{get_or_default, get_or-drop, get_or-replicate, get_or_past, length-replicate}
+use Rattle.model.specs.Attributes.{no_attributes}
+use Rattle.model.proofs.AttributeLaws.{new_fit}
 use Rattle.layout.specs.Bytes.{zeros}
 use Rattle.layout.specs.Inode.{IsInode, pointers_used}
 use Rattle.layout.specs.Limits.{AreSizes, Sizes}
@@ -21,20 +23,19 @@ use Rattle.conspoint.specs.Drafts.{HasAll}
 use Rattle.conspoint.specs.Groups.{pointer_at}
 use Rattle.conspoint.specs.MapFiles.{IsMapOn, IsSettledMap, PlansMap}
 use Rattle.conspoint.specs.declared.draft.Draft.{Draft}
-use Rattle.conspoint.proofs.MapBytes.{word_zero}
 use Rattle.images.specs.Nodes.{held, Names, file_block}
 use Rattle.images.specs.Soundness.{IsSoundFile}
 use Rattle.making.specs.Plans.{HasFile, IsDraftMapOn, IsPlacedOver}
 use Rattle.making.specs.Starts.{nothing, system_entry}
 use Rattle.layout.proofs.PointerLaws.{no_block}
-use Rattle.layout.proofs.ZeroLaws.{zero_byte}
+use Rattle.layout.proofs.ZeroLaws.{zero_byte, word_zero}
 
 abbrev holes : List Pointer
 holes = replicate 16 Hole
 
 -- the inode of a map of holes
 abbrev pub no_map : Sizes → Inode
-no_map s = record { kind = kinds.BlockMap; mode = 0; links = 1; size = 4 * s.blocks; body = Pointers holes }
+no_map s = record { kind = kinds.BlockMap; attributes = no_attributes; links = 1; size = 4 * s.blocks; body = Pointers holes }
 
 hole_at : (i : ℕ) → get_or holes i Hole ≡ Hole
 hole_at i = elim (cases_lt i 16) [
@@ -64,7 +65,7 @@ empty_block s i = ap (pointed nothing) (no_node s 0 i)
 
 no_map_fits : (s : Sizes) → AreSizes s → IsInode VERSION s (no_map s)
 no_map_fits s are = record {
-  mode = omega arith;
+  attributes = new_fit 0 (omega arith);
   size = omega (arith, are.most_blocks);
   kind = (refl, refl, refl);
   body = (

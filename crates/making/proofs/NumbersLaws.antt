@@ -7,6 +7,7 @@ use Rattle.std.proofs.lemmas.Nat.Bits.{bit_at-zero}
 use Rattle.std.specs.Int.{div_ceil}
 use Rattle.std.specs.List.{range_with_len}
 use Rattle.std.specs.Prelude.{slice_index, nat_lt, ◌==◌, if◌then◌else◌}
+use Rattle.model.specs.Attributes.{no_attributes}
 use Rattle.layout.specs.Bytes.{zeros}
 use Rattle.layout.specs.FileBytes.{byte_in, first_bytes}
 use Rattle.layout.specs.Maps.{IsTaken}
@@ -19,7 +20,7 @@ use Rattle.images.specs.Nodes.{held}
 use Rattle.images.specs.Soundness.{HasNoHole}
 use Rattle.inode.specs.Files.{IsFile, file_block}
 use Rattle.inode.specs.declared.file.File.{File}
-use Rattle.inode.specs.declared.object.Attributes.{Attributes}
+use Rattle.inode.specs.declared.object.Status.{Status}
 use Rattle.inode.specs.declared.object.Object.{Object}
 use Rattle.placement.specs.Files.{content_with, object_block}
 use Rattle.making.specs.Plans.{IsNumbersOn}
@@ -92,10 +93,10 @@ object_byte o blocks p lt =
     ap (λ (b : List ℕ). slice_index b (p % 4096)) (sym (cond_below (p / 4096) (block_count o.file.size) (file_block nothing o.file (p / 4096)) (zeros 4096) (omega (arith, lt))) ∙ blocks (p / 4096))
     ∙ numbers_byte p
 
-pub numbers_on : (e : Blocks) (f : Inode) (o : Object) (inodes : ℕ) → o.attributes ≡ record { kind = kinds.InodeMap; mode = 0; links = 1 } → o.file.size ≡ div_ceil inodes 8 → 32 ≤ inodes
+pub numbers_on : (e : Blocks) (f : Inode) (o : Object) (inodes : ℕ) → o.status ≡ record { kind = kinds.InodeMap; attributes = no_attributes; links = 1 } → o.file.size ≡ div_ceil inodes 8 → 32 ≤ inodes
     → ((i : ℕ) → file_block nothing o.file i ≡ numbers_block i) → content_of (held e f) ≡ content_with o (object_block nothing o) → HasNoHole (held e f) → IsNumbersOn e f
-numbers_on e f o inodes attributes size some blocks content whole = record {
-  kind = ap (λ (i : Inode). i.kind) (sym (held_inode e f)) ∙ ap (λ (c : Content). c.kind) content ∙ ap (λ (a : Attributes). a.kind) attributes;
+numbers_on e f o inodes status size some blocks content whole = record {
+  kind = ap (λ (i : Inode). i.kind) (sym (held_inode e f)) ∙ ap (λ (c : Content). c.kind) content ∙ ap (λ (a : Status). a.kind) status;
   whole = whole;
   taken = subst (λ (c : Content). (n : ℕ) → IsTaken (content_bytes c) n ↔ (n < 4)) (sym content)
       (taken_low (byte_in (object_block nothing o)) o.file.size (object_byte o blocks) (omega (arith, size, some)));

@@ -1,11 +1,12 @@
 -- Whole sectors written to a disk, and the gates of the halves closed.
-use Rattle.std.proofs.Common.{◌≡◌, ◌≢◌, inl, inr, ℕ, ◌+◌, ◌-◌, ◌*◌, ◌<◌, ◌≤◌, true, false, List, [], ◌∷◌, length, take, drop, refl, ap, sym, ◌∙◌, subst, arith, take_all}
+use Rattle.std.proofs.Common.{◌≡◌, ◌≢◌, inl, inr, ℕ, ◌+◌, ◌-◌, ◌*◌, ◌<◌, ◌≤◌, true, false, List, [], ◌∷◌, length, take, drop, ap, sym, ◌∙◌, subst, arith, take_all}
 use Rattle.std.proofs.lemmas.Bool.{cases_eq, cond-true, cond-false}
 use Rattle.std.proofs.lemmas.Bool.Decides.{nat_tests}
 use Rattle.station.specs.Images.{Images, part_of, reaches, disk_with, nvram_with, SectorsWritten}
 use Rattle.layout.specs.Log.{half_at, IsClosed}
 use Rattle.layout.specs.declared.TheConstants.{SLOT_A, SLOT_B}
 use Rattle.oplog.proofs.Halves.{same_half, other_half, length-nvram_with}
+use Rattle.oplog.proofs.Records.{header_closed}
 use Rattle.making.specs.Images.{HasClosedHalves}
 
 reaches_it : (n : ℕ) (bytes : List ℕ) → length bytes ≡ 512 → reaches n bytes n ≡ true
@@ -36,15 +37,12 @@ slots_emptied old mid new empty size first second =
       ap (λ (i : Images). i.nvram) second ∙ ap (λ (i : Images). i.nvram) first,
     )
 
-shut : (bytes : List ℕ) → IsClosed (nvram_with 0 (0 ∷ []) bytes)
-shut bytes = (drop 1 bytes, refl)
-
 -- a closed gate written to half r, at its place in the NVRAM
 closed_at : (half r place : ℕ) (nvram : List ℕ) → 1 ≤ half → length nvram ≡ 2 * half → r < 2 → place ≡ half * r → IsClosed (half_at half r (nvram_with place (0 ∷ []) nvram))
 closed_at half r place nvram some size low is =
     let at : place ≡ half * r + 0 = is ∙ omega arith in
     subst (λ (p : ℕ). IsClosed (half_at half r (nvram_with p (0 ∷ []) nvram))) (sym at)
-    (subst IsClosed (sym (same_half half 0 r nvram (0 ∷ []) size (omega arith) low)) (shut (half_at half r nvram)))
+    (subst IsClosed (sym (same_half half 0 r nvram (0 ∷ []) size (omega arith) low)) (header_closed (half_at half r nvram)))
 
 -- both gates closed
 pub both_closed : (half : ℕ) (nvram : List ℕ) → 1 ≤ half → length nvram ≡ 2 * half → HasClosedHalves half (nvram_with half (0 ∷ []) (nvram_with 0 (0 ∷ []) nvram))

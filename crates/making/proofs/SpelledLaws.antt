@@ -3,6 +3,7 @@ use Rattle.std.proofs.Common.{◌≡◌, ◌≢◌, false, ℕ, zero, suc, ◌+�
 use Rattle.std.proofs.Math.Path.{fun_ext}
 use Rattle.std.proofs.lemmas.Bool.{ne_eqb}
 use Rattle.std.specs.Prelude.{Some, ◌==◌, if◌then◌else◌}
+use Rattle.model.specs.Attributes.{no_attributes}
 use Rattle.layout.specs.Bytes.{zeros}
 use Rattle.layout.specs.Inode.{inode_bytes}
 use Rattle.layout.specs.Places.{Blocks}
@@ -34,7 +35,7 @@ module _ (puts : PutsOneByOne) (numbers map : Inode) (long_numbers : length (ino
   base = held nothing free_inode
 
   abbrev c0 : Overlay
-  c0 = record { kind = kinds.InodeFile; mode = 0; links = 0; size = 0; kept = 0; block = λ i. Some (zeros 4096) }
+  c0 = record { kind = kinds.InodeFile; attributes = no_attributes; links = 0; size = 0; kept = 0; block = λ i. Some (zeros 4096) }
 
   abbrev c1 : Overlay
   c1 = with_inode base c0 1 (inode_bytes numbers)

@@ -1,6 +1,6 @@
 //! A station without a root and without records.
 
-ghost use Rattle.std.specs.Prelude.{◌≡◌, ◌≤◌, OnOk};
+ghost use Rattle.std.specs.Prelude.{◌≤◌, OnOk};
 ghost use Rattle.station.specs.Moments.{IsSameStation, CountsWrite};
 ghost use Rattle.making.specs.Images.{EmptiesSlots, HasClosedHalves, HasNoRoots, Suits};
 

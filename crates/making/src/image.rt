@@ -1,6 +1,6 @@
 //! Making an image.
 
-ghost use Rattle.std.specs.Prelude.{◌≡◌, ◌⊎◌, OnOk, IfOk, IfErr, MatchResult};
+ghost use Rattle.std.specs.Prelude.{◌≡◌, IfOk, IfErr, MatchResult};
 ghost use Rattle.station.specs.Moments.{IsSameStation, HasGrown, EachCut};
 ghost use Rattle.model.specs.States.{empty};
 ghost use Rattle.layout.specs.Limits.{sizes};

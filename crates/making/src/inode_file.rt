@@ -5,6 +5,7 @@ ghost use Rattle.std.specs.Int.{div_ceil};
 ghost use Rattle.layout.specs.Bytes.{zeros};
 ghost use Rattle.layout.specs.Inode.{inode_bytes};
 ghost use Rattle.layout.specs.declared.TheConstants.{SINGLE_BYTES};
+ghost use Rattle.model.specs.Attributes.{no_attributes};
 ghost use Rattle.images.specs.FirstRoots.{empty_directory};
 ghost use Rattle.images.specs.InodeFiles.{spliced_at};
 ghost use Rattle.images.specs.Roots.{free_inode};
@@ -13,18 +14,17 @@ ghost use Rattle.inode.specs.Bases.{IsBased};
 ghost use Rattle.inode.specs.Files.{file_block};
 ghost use Rattle.making.specs.Starts.{inodes_block};
 
-use crate::inode_map::own_attributes;
 use buffers::{Block, SharedBlock};
 use entries::Known;
-use inode::{File, Object};
+use inode::{File, Object, Status};
 use layout::{Body, Geometry, INLINE_BYTES, INODE_BYTES, Inode, Kind};
-use model::Mode;
+use model::{Attributes, Mode};
 use std::alloc::{AllocError, Global};
 
 /// The file, without blocks.
 pub(crate) fn inode_file(alloc: Global, geometry: Geometry) -> Object
-    ensures attributes { result.attributes
-        ≡ record { kind = Kind.InodeFile; mode = 0; links = 1 } }
+    ensures status { result.status
+        ≡ record { kind = Kind.InodeFile; attributes = no_attributes; links = 1 } }
     ensures size { result.file.size ≡ 4096 * div_ceil geometry.inodes 21 }
     ensures small { result.file.size ≤ SINGLE_BYTES }
     ensures base { IsBased free_inode result.file.tree }
@@ -33,10 +33,10 @@ pub(crate) fn inode_file(alloc: Global, geometry: Geometry) -> Object
 {
     let mut file = File::empty(alloc);
     file.set_size(4096 * u64::from(geometry.inodes().div_ceil(21)));
-    let attributes = own_attributes(Kind::InodeFile);
+    let status = Status::new(Kind::InodeFile, Attributes::none());
     let known = Known::new(alloc);
     Object {
-        attributes,
+        status,
         file,
         known,
     }
@@ -49,7 +49,7 @@ fn root_directory() -> Inode
 {
     Inode {
         kind: Kind::Directory,
-        mode: Mode::NEW_DIRECTORY,
+        attributes: Attributes::new(Mode::NEW_DIRECTORY),
         links: 1,
         size: 0,
         body: Body::Inline([0; INLINE_BYTES]),

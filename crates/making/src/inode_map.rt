@@ -3,6 +3,7 @@
 ghost use Rattle.std.specs.Prelude.{◌≡◌, ℕ, ◌<◌, List, IfOk};
 ghost use Rattle.std.specs.Int.{div_ceil};
 ghost use Rattle.layout.specs.declared.inode.Inode.{Inode};
+ghost use Rattle.model.specs.Attributes.{no_attributes};
 ghost use Rattle.images.specs.Roots.{free_inode};
 ghost use Rattle.inode.specs.Bases.{IsBased};
 ghost use Rattle.inode.specs.Files.{file_block};
@@ -11,21 +12,10 @@ ghost use Rattle.making.specs.Starts.{numbers_block};
 
 use buffers::{Block, SharedBlock};
 use entries::Known;
-use inode::{Attributes, File, Object};
+use inode::{File, Object, Status};
 use layout::{BLOCK_BYTES, Geometry, Kind};
-use model::Mode;
+use model::Attributes;
 use std::alloc::{AllocError, Global};
-
-/// What the file system's own files say beside their bytes.
-pub(crate) fn own_attributes(kind: Kind) -> Attributes
-    ensures { result ≡ record { kind = kind; mode = 0; links = 1 } }
-{
-    Attributes {
-        kind,
-        mode: Mode::new(0).unwrap(),
-        links: 1,
-    }
-}
 
 /// Block `i` of the map: the numbers 0 to 3 are taken.
 #[tactic(auto, unfolding(layout::specs::Bytes::zeros))]
@@ -41,8 +31,9 @@ fn map_block(alloc: Global, i: u32) -> Result<Block, AllocError>
 
 /// The map's file, with all its blocks.
 pub(crate) fn inode_map(alloc: Global, geometry: Geometry) -> Result<Object, AllocError>
-    ensures attributes { IfOk result
-        (λ o. o.attributes ≡ record { kind = Kind.InodeMap; mode = 0; links = 1 }) }
+    ensures status { IfOk result
+        (λ o. o.status
+        ≡ record { kind = Kind.InodeMap; attributes = no_attributes; links = 1 }) }
     ensures size { IfOk result (λ o. o.file.size ≡ div_ceil geometry.inodes 8) }
     ensures base { IfOk result (λ o. IsBased free_inode o.file.tree) }
     ensures changed { IfOk result AreAllChanged }
@@ -58,10 +49,10 @@ pub(crate) fn inode_map(alloc: Global, geometry: Geometry) -> Result<Object, All
         let shared = SharedBlock::new(alloc, block)?;
         file.set_block(i, shared);
     }
-    let attributes = own_attributes(Kind::InodeMap);
+    let status = Status::new(Kind::InodeMap, Attributes::none());
     let known = Known::new(alloc);
     Ok(Object {
-        attributes,
+        status,
         file,
         known,
     })

@@ -1,6 +1,6 @@
 //! The block map of a disk of which no block is in use.
 
-ghost use Rattle.std.specs.Prelude.{◌≡◌, ℕ, ◌+◌, ◌*◌, ◌<◌, ◌≤◌, IfOk};
+ghost use Rattle.std.specs.Prelude.{◌≡◌, ◌+◌, ◌*◌, ◌<◌, ◌≤◌, IfOk};
 ghost use Rattle.layout.specs.declared.geometry.TheConstants.{LEAST_BLOCKS, MOST_BLOCKS};
 ghost use Rattle.making.specs.Starts.{IsEmptyMap, IsEmptyPart};
 ghost use Rattle.making.specs.Starts as starts;

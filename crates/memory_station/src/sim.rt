@@ -292,7 +292,7 @@ impl Sim {
 /// Each call also follows the plan: it fails, or the power is cut within it, just where that was planned, or where the
 /// power was off before or there is no memory to keep it.
 impl Station for Sim {
-    ghost use Rattle.std.specs.Prelude.{ℕ, take, drop, OnOk, IfOk};
+    ghost use Rattle.std.specs.Prelude.{take, drop, OnOk, IfOk};
     ghost use Rattle.station.specs.Images.{Unchanged, SectorsWritten, SomeSectorsWritten, NvramWritten, NvramPrefixWritten, Tells};
     ghost use Rattle.station.specs.Moments.{Shows, LeavesJust, SeenGoes, LeftGoes};
     ghost use Rattle.station.specs.Calls.{ReadCall, WriteCall};

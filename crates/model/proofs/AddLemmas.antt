@@ -2,6 +2,7 @@
 use Rattle.std.proofs.Common.{◌≡◌, ◌≢◌, ◌⊎◌, inl, inr, ℕ, zero, suc, ◌+◌, List, [], ◌∷◌, ◌++◌, Bool, true, false, Option, Some, None, is_some, IsSome, refl, sym, ap, subst, ◌∙◌, arith}
 use Rattle.std.proofs.Math.Path.{fun_ext}
 use Rattle.std.proofs.lemmas.Bool.{cases_eq, cond-true, cond-false, false≢true, false_from_ne_true}
+use Rattle.model.specs.declared.attributes.Attributes.{Attributes}
 use Rattle.model.specs.Paths.{Name, Path, IsName, path_eq}
 use Rattle.model.specs.Trees.{Description}
 use Rattle.model.specs.Volumes.{Node, directory_node, file_node, link_node, Volume, Entries, names_in, entries, enter, number_at, with_edge, with_node, is_file_node, is_directory_node, IsGraph, HasNames, with_name_more, created, linked, is_open, swept_node, swept}
@@ -17,8 +18,8 @@ use Rattle.model.proofs.ObjectLaws.{node_other}
 -- The name b of the directory k at w, which led to nothing, comes to lead to n, which has no names itself and has one link
 -- more; all else is kept.
 module _ (v new : Volume) (graph : IsGraph v) (w : Path) (b : Name) (k n : ℕ) (at_k : number_at (entries v) w ≡ Some k) (k_is : is_directory_node (v k) ≡ true) (free : entries v k b ≡ None) (good : IsName b) (apart : n ≢ k) (no_root : n ≢ 3) (bare : (x : Name) → entries v n x ≡ None)
-    (edges : entries new ≡ with_edge k b (Some n) (entries v)) (others : (m : ℕ) → m ≢ n → Kept (v m) (new m)) (files : (m mode links : ℕ) (bytes : List ℕ) → m ≢ n → new m ≡ Some (file_node mode links bytes) → v m ≡ Some (file_node mode links bytes))
-    (n_some : IsSome (new n)) (n_once : is_file_node (new n) ≡ false → (j : ℕ) (y : Name) → entries v j y ≢ Some n) (n_counts : (mode links : ℕ) (bytes : List ℕ) → new n ≡ Some (file_node mode links bytes) → (before : ℕ) × (links ≡ suc before) × HasNames (entries v) n before) where
+    (edges : entries new ≡ with_edge k b (Some n) (entries v)) (others : (m : ℕ) → m ≢ n → Kept (v m) (new m)) (files : (m : ℕ) (attributes : Attributes) (links : ℕ) (bytes : List ℕ) → m ≢ n → new m ≡ Some (file_node attributes links bytes) → v m ≡ Some (file_node attributes links bytes))
+    (n_some : IsSome (new n)) (n_once : is_file_node (new n) ≡ false → (j : ℕ) (y : Name) → entries v j y ≢ Some n) (n_counts : (attributes : Attributes) (links : ℕ) (bytes : List ℕ) → new n ≡ Some (file_node attributes links bytes) → (before : ℕ) × (links ≡ suc before) × HasNames (entries v) n before) where
   abbrev e : Entries
   e = entries v
 
@@ -70,11 +71,11 @@ module _ (v new : Volume) (graph : IsGraph v) (w : Path) (b : Name) (k n : ℕ) 
         ]
       ]
 
-  count_new : (m mode links : ℕ) (bytes : List ℕ) → new m ≡ Some (file_node mode links bytes) → HasNames (entries new) m links
-  count_new m mode links bytes is =
+  count_new : (m : ℕ) (attributes : Attributes) (links : ℕ) (bytes : List ℕ) → new m ≡ Some (file_node attributes links bytes) → HasNames (entries new) m links
+  count_new m attributes links bytes is =
       elim (cases_eq m n) [
         | inl same ↦
-            let before = n_counts mode links bytes (ap new (sym same) ∙ is) in
+            let before = n_counts attributes links bytes (ap new (sym same) ∙ is) in
             subst (λ l. HasNames (entries new) l links) (sym same)
             (subst (HasNames (entries new) n) (sym before.1)
             (one_more (λ (c : ℕ × Name). e c.0 c.1 ≡ Some n) (λ (c : ℕ × Name). entries new c.0 c.1 ≡ Some n) (k, b) before.0 (ap (λ f. f k b) edges ∙ edge_here k b (Some n) e)
@@ -86,7 +87,7 @@ module _ (v new : Volume) (graph : IsGraph v) (w : Path) (b : Name) (k n : ℕ) 
             same_count (λ (c : ℕ × Name). e c.0 c.1 ≡ Some m) (λ (c : ℕ × Name). entries new c.0 c.1 ≡ Some m) links (λ (j, y). (
               (λ old. edge_stays j y (old_place j y m old) ∙ old),
               (λ now. elim (edge_of j y m now) [ inl (same, name, to) ↦ absurd (other to) | inr old ↦ old.1 ]),
-            )) (graph.counts m mode links bytes (files m mode links bytes other is))
+            )) (graph.counts m attributes links bytes (files m attributes links bytes other is))
       ]
 
   reached_new : (m : ℕ) → IsSome (new m) → is_file_node (new m) ≡ false → (r : Path) × (number_at (entries new) r ≡ Some m)
@@ -133,14 +134,14 @@ edges-linked v k b n k_is =
     ∙ ap (with_edge k b (Some n)) (entries-node n (with_name_more (v n)) v (more_names (v n)))
 
 -- a file has one more name
-pub graph-linked : (v : Volume) → IsGraph v → (w : Path) (b : Name) (k n mode links : ℕ) (bytes : List ℕ) → number_at (entries v) w ≡ Some k → is_directory_node (v k) ≡ true → entries v k b ≡ None → IsName b → v n ≡ Some (file_node mode links bytes) → IsGraph (linked n k b v)
-graph-linked v graph w b k n mode links bytes at_k k_is free good a_file =
+pub graph-linked : (v : Volume) → IsGraph v → (w : Path) (b : Name) (k n : ℕ) (attributes : Attributes) (links : ℕ) (bytes : List ℕ) → number_at (entries v) w ≡ Some k → is_directory_node (v k) ≡ true → entries v k b ≡ None → IsName b → v n ≡ Some (file_node attributes links bytes) → IsGraph (linked n k b v)
+graph-linked v graph w b k n attributes links bytes at_k k_is free good a_file =
     graph-added v (linked n k b v) graph w b k n at_k k_is free good apart
     (λ e. false≢true (sym (ap is_directory_node a_file) ∙ ap (λ m. is_directory_node (v m)) e ∙ graph.naming.root))
     (λ x. file_no_names (v n) (ap is_file_node a_file) x) (edges-linked v k b n k_is) (λ m other. all m) files
     ((all n).some ∙ ap is_some a_file)
     (λ no_file. absurd (false≢true (sym no_file ∙ (all n).file ∙ ap is_file_node a_file)))
-    (λ mode_now now bytes_now is. (links, same_links mode_now now bytes_now is, graph.counts n mode links bytes a_file))
+    (λ given now bytes_now is. (links, same_links given now bytes_now is, graph.counts n attributes links bytes a_file))
   where
     apart : n ≢ k
     apart e = false≢true (sym (ap is_directory_node a_file) ∙ ap (λ m. is_directory_node (v m)) e ∙ k_is)
@@ -148,12 +149,12 @@ graph-linked v graph w b k n mode links bytes at_k k_is free good a_file =
     all : (j : ℕ) → Kept (v j) (linked n k b v j)
     all j = kept_through (v j) (with_node n (with_name_more (v n)) v j) (linked n k b v j) (more_kept v n j) (entry_keeps k b (Some n) (with_node n (with_name_more (v n)) v) j)
 
-    files : (m mode links : ℕ) (bytes : List ℕ) → m ≢ n → linked n k b v m ≡ Some (file_node mode links bytes) → v m ≡ Some (file_node mode links bytes)
-    files m mode links bytes other is = sym (node_other n m (with_name_more (v n)) v other) ∙ entry_was mode links bytes k b (Some n) (with_node n (with_name_more (v n)) v) m is
+    files : (m : ℕ) (attributes : Attributes) (links : ℕ) (bytes : List ℕ) → m ≢ n → linked n k b v m ≡ Some (file_node attributes links bytes) → v m ≡ Some (file_node attributes links bytes)
+    files m attributes links bytes other is = sym (node_other n m (with_name_more (v n)) v other) ∙ entry_was attributes links bytes k b (Some n) (with_node n (with_name_more (v n)) v) m is
 
-    same_links : (mode_now now : ℕ) (bytes_now : List ℕ) → linked n k b v n ≡ Some (file_node mode_now now bytes_now) → now ≡ suc links
-    same_links mode_now now bytes_now is =
-        let was : Some (file_node mode (links + 1) bytes) ≡ Some (file_node mode_now now bytes_now) = ap with_name_more (sym a_file) ∙ sym (node-here n (with_name_more (v n)) v) ∙ entry_was mode_now now bytes_now k b (Some n) (with_node n (with_name_more (v n)) v) n is in
+    same_links : (given : Attributes) (now : ℕ) (bytes_now : List ℕ) → linked n k b v n ≡ Some (file_node given now bytes_now) → now ≡ suc links
+    same_links given now bytes_now is =
+        let was : Some (file_node attributes (links + 1) bytes) ≡ Some (file_node given now bytes_now) = ap with_name_more (sym a_file) ∙ sym (node-here n (with_name_more (v n)) v) ∙ entry_was given now bytes_now k b (Some n) (with_node n (with_name_more (v n)) v) n is in
         let same : links + 1 ≡ now = cc in omega (arith, same)
 
 -- nothing leads to a vacant number
@@ -162,22 +163,22 @@ vacant_unnamed v graph n vacant j y is = by_node (v n) refl vacant
   where
     by_node : (o : Option Node) → v n ≡ o → is_vacant o ≡ true → ⊥
     by_node None there e = false≢true (sym (ap is_some there) ∙ graph.naming.used j n y is)
-    by_node (Some (directory_node mode names)) there e = false≢true e
-    by_node (Some (link_node text)) there e = false≢true e
-    by_node (Some (file_node mode (suc links) bytes)) there e = false≢true e
-    by_node (Some (file_node mode zero bytes)) there e = graph.counts n mode 0 bytes there (j, y) is
+    by_node (Some (directory_node attributes names)) there e = false≢true e
+    by_node (Some (link_node attributes text)) there e = false≢true e
+    by_node (Some (file_node attributes (suc links) bytes)) there e = false≢true e
+    by_node (Some (file_node attributes zero bytes)) there e = graph.counts n attributes 0 bytes there (j, y) is
 
 vacant_bare : (o : Option Node) → is_vacant o ≡ true → (x : Name) → names_in o x ≡ None
 vacant_bare None e x = refl
-vacant_bare (Some (directory_node mode names)) e x = absurd (false≢true e)
-vacant_bare (Some (file_node mode links bytes)) e x = refl
-vacant_bare (Some (link_node text)) e x = refl
+vacant_bare (Some (directory_node attributes names)) e x = absurd (false≢true e)
+vacant_bare (Some (file_node attributes links bytes)) e x = refl
+vacant_bare (Some (link_node attributes text)) e x = refl
 
 vacant_other : (o : Option Node) → is_vacant o ≡ true → is_directory_node o ≡ false
 vacant_other None e = refl
-vacant_other (Some (directory_node mode names)) e = absurd (false≢true e)
-vacant_other (Some (file_node mode links bytes)) e = refl
-vacant_other (Some (link_node text)) e = refl
+vacant_other (Some (directory_node attributes names)) e = absurd (false≢true e)
+vacant_other (Some (file_node attributes links bytes)) e = refl
+vacant_other (Some (link_node attributes text)) e = refl
 
 vacant_apart : (v : Volume) (n k : ℕ) → is_vacant (v n) ≡ true → is_directory_node (v k) ≡ true → n ≢ k
 vacant_apart v n k vacant k_is e = false≢true (sym (vacant_other (v n) vacant) ∙ ap (λ m. is_directory_node (v m)) e ∙ k_is)
@@ -188,20 +189,20 @@ edges-created v graph k b n node k_is vacant leaf =
     ∙ ap (with_edge k b (Some n)) (entries-node n (Some node) v (λ x. leaf x ∙ sym (vacant_bare (v n) vacant x)))
 
 -- a new object, whose node has no names and, of a file, one link
-pub graph-created : (v : Volume) → IsGraph v → (w : Path) (b : Name) (k n : ℕ) (node : Node) → number_at (entries v) w ≡ Some k → is_directory_node (v k) ≡ true → entries v k b ≡ None → IsName b → is_vacant (v n) ≡ true → ((x : Name) → names_in (Some node) x ≡ None) → ((mode links : ℕ) (bytes : List ℕ) → Some node ≡ Some (file_node mode links bytes) → links ≡ 1) → IsGraph (created n k b node v)
+pub graph-created : (v : Volume) → IsGraph v → (w : Path) (b : Name) (k n : ℕ) (node : Node) → number_at (entries v) w ≡ Some k → is_directory_node (v k) ≡ true → entries v k b ≡ None → IsName b → is_vacant (v n) ≡ true → ((x : Name) → names_in (Some node) x ≡ None) → ((attributes : Attributes) (links : ℕ) (bytes : List ℕ) → Some node ≡ Some (file_node attributes links bytes) → links ≡ 1) → IsGraph (created n k b node v)
 graph-created v graph w b k n node at_k k_is free good vacant leaf one_link =
     graph-added v (created n k b node v) graph w b k n at_k k_is free good (vacant_apart v n k vacant k_is)
     (λ e. false≢true (sym (vacant_other (v n) vacant) ∙ ap (λ m. is_directory_node (v m)) e ∙ graph.naming.root))
     (vacant_bare (v n) vacant) (edges-created v graph k b n node k_is vacant leaf)
     (λ m other. kept_through (v m) (with_node n (Some node) v m) (created n k b node v m) (subst (Kept (v m)) (sym (node_other n m (Some node) v other)) (kept (v m))) (entry_keeps k b (Some n) (with_node n (Some node) v) m))
-    (λ m mode links bytes other is. sym (node_other n m (Some node) v other) ∙ entry_was mode links bytes k b (Some n) (with_node n (Some node) v) m is)
+    (λ m attributes links bytes other is. sym (node_other n m (Some node) v other) ∙ entry_was attributes links bytes k b (Some n) (with_node n (Some node) v) m is)
     ((entry_keeps k b (Some n) (with_node n (Some node) v) n).some ∙ ap is_some (node-here n (Some node) v))
     (λ no_file j y. vacant_unnamed v graph n vacant j y)
-    (λ mode links bytes is. (0, one_link mode links bytes (sym (node-here n (Some node) v) ∙ entry_was mode links bytes k b (Some n) (with_node n (Some node) v) n is), λ (j, y) there. vacant_unnamed v graph n vacant j y there))
+    (λ attributes links bytes is. (0, one_link attributes links bytes (sym (node-here n (Some node) v) ∙ entry_was attributes links bytes k b (Some n) (with_node n (Some node) v) n is), λ (j, y) there. vacant_unnamed v graph n vacant j y there))
 
 -- a file as it was but for its mode and its bytes
 abbrev pub SameLinks : Option Node → Option Node → Type 0
-SameLinks old new = (mode links : ℕ) (bytes : List ℕ) → new ≡ Some (file_node mode links bytes) → (m : ℕ) × (b : List ℕ) × (old ≡ Some (file_node m links b))
+SameLinks old new = (attributes : Attributes) (links : ℕ) (bytes : List ℕ) → new ≡ Some (file_node attributes links bytes) → (a : Attributes) × (b : List ℕ) × (old ≡ Some (file_node a links b))
 
 -- one object changes but for its kind, its names and its links
 module _ (v : Volume) (graph : IsGraph v) (n : ℕ) (o : Option Node) (names : (x : Name) → names_in o x ≡ names_in (v n) x) (file : is_file_node o ≡ is_file_node (v n)) (directory : is_directory_node o ≡ is_directory_node (v n)) (some : is_some o ≡ is_some (v n)) (same_links : SameLinks (v n) o) where
@@ -222,7 +223,7 @@ module _ (v : Volume) (graph : IsGraph v) (n : ℕ) (o : Option Node) (names : (
   was_file m =
       elim (cases_eq m n) [
         | inl is ↦ subst (λ k. SameLinks (v k) (altered k)) (sym is) (subst (SameLinks (v n)) (sym (node-here n o v)) same_links)
-        | inr other ↦ subst (SameLinks (v m)) (sym (node_other n m o v other)) (λ mode links bytes is. (mode, bytes, is))
+        | inr other ↦ subst (SameLinks (v m)) (sym (node_other n m o v other)) (λ attributes links bytes is. (attributes, bytes, is))
       ]
 
   pub graph-altered : IsGraph altered
@@ -235,7 +236,7 @@ module _ (v : Volume) (graph : IsGraph v) (n : ℕ) (o : Option Node) (names : (
       names = λ d x is. graph.naming.names d x (ap (λ e. is_some (e d x)) (sym same_entries) ∙ is);
       reached = λ m is no_file. let old = graph.naming.reached m (sym (same_by is_some some m) ∙ is) (sym (same_by is_file_node file m) ∙ no_file) in (old.0, ap (λ e. number_at e old.0) same_entries ∙ old.1);
     };
-    counts = λ m mode links bytes is. let old = was_file m mode links bytes is in subst (λ e. HasNames e m links) (sym same_entries) (graph.counts m old.0 links old.1 old.2);
+    counts = λ m attributes links bytes is. let old = was_file m attributes links bytes is in subst (λ e. HasNames e m links) (sym same_entries) (graph.counts m old.0 links old.1 old.2);
   }
 
 -- what a sweep drops has no names and none leads to it
@@ -245,24 +246,24 @@ module _ (v : Volume) (graph : IsGraph v) (table : ℕ → Option Description) w
 
   swept_was : (b : Bool) (o : Option Node) → IsSome (swept_node b o) → swept_node b o ≡ o
   swept_was b None some = refl
-  swept_was b (Some (directory_node mode names)) some = refl
-  swept_was true (Some (file_node mode zero bytes)) some = refl
-  swept_was false (Some (file_node mode zero bytes)) some = absurd (false≢true some)
-  swept_was b (Some (file_node mode (suc links) bytes)) some = refl
-  swept_was b (Some (link_node text)) some = refl
+  swept_was b (Some (directory_node attributes names)) some = refl
+  swept_was true (Some (file_node attributes zero bytes)) some = refl
+  swept_was false (Some (file_node attributes zero bytes)) some = absurd (false≢true some)
+  swept_was b (Some (file_node attributes (suc links) bytes)) some = refl
+  swept_was b (Some (link_node attributes text)) some = refl
 
   pub swept_is : (n : ℕ) → IsSome (swept table v n) → swept table v n ≡ v n
   swept_is n some = swept_was (is_open table 32 n) (v n) some
 
   -- what has a name stays
   named_stays : (d n : ℕ) (x : Name) → entries v d x ≡ Some n → swept table v n ≡ v n
-  named_stays d n x there = stays_named (is_open table 32 n) (v n) (λ (mode, bytes, is). graph.counts n mode 0 bytes is (d, x) there)
+  named_stays d n x there = stays_named (is_open table 32 n) (v n) (λ (attributes, bytes, is). graph.counts n attributes 0 bytes is (d, x) there)
 
   root_stays : (b : Bool) (o : Option Node) → is_directory_node o ≡ true → is_directory_node (swept_node b o) ≡ true
   root_stays b None e = e
-  root_stays b (Some (directory_node mode names)) e = refl
-  root_stays b (Some (file_node mode links bytes)) e = absurd (false≢true e)
-  root_stays b (Some (link_node text)) e = e
+  root_stays b (Some (directory_node attributes names)) e = refl
+  root_stays b (Some (file_node attributes links bytes)) e = absurd (false≢true e)
+  root_stays b (Some (link_node attributes text)) e = e
 
   pub graph-swept : IsGraph (swept table v)
   graph-swept = record {
@@ -279,5 +280,5 @@ module _ (v : Volume) (graph : IsGraph v) (table : ℕ → Option Description) w
           let old = graph.naming.reached m (ap is_some (sym same) ∙ is) (ap is_file_node (sym same) ∙ no_file) in
           (old.0, ap (λ e. number_at e old.0) same_swept ∙ old.1);
     };
-    counts = λ m mode links bytes is. subst (λ e. HasNames e m links) (sym same_swept) (graph.counts m mode links bytes (sym (swept_is m (ap is_some is)) ∙ is));
+    counts = λ m attributes links bytes is. subst (λ e. HasNames e m links) (sym same_swept) (graph.counts m attributes links bytes (sym (swept_is m (ap is_some is)) ∙ is));
   }

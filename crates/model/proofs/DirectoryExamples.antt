@@ -15,13 +15,13 @@ use Rattle.model.specs.Changing.{makes_directory, makes_symlink, removes_directo
 use Rattle.model.specs.Descriptors.{opens, closes, stats_open}
 use Rattle.model.proofs.ToldLemmas.{Told, told_root, told_object, told_descriptor, told_directory, told_file, told_moved, moved_paths, told_dropped, dropped, listing_told, fresh_told, swept_told, links_told, used_below}
 
-abbrev fresh : Tree
+abbrev pub fresh : Tree
 fresh = root_alone 0o755
 
 fresh_is : Told fresh ([] ∷ []) [] (3 ∷ [])
 fresh_is = told_root 0o755
 
-abbrev at_a : Path
+abbrev pub at_a : Path
 at_a = codes "a" ∷ []
 
 abbrev at_c : Path
@@ -56,10 +56,10 @@ at_c_b = codes "c" ∷ codes "b" ∷ []
 
 -- `mkdir /a`, `list /`, `mkdir /a` again
 
-abbrev with_a : Tree
+abbrev pub with_a : Tree
 with_a = with_directory at_a 4 0o755 fresh
 
-with_a_is : Told with_a (at_a ∷ [] ∷ []) [] (4 ∷ 3 ∷ [])
+pub with_a_is : Told with_a (at_a ∷ [] ∷ []) [] (4 ∷ 3 ∷ [])
 with_a_is = told_directory fresh_is at_a 4 0o755
 
 makes_a : makes_directory 32 fresh (codes "/a") 0o755 reply.Done with_a (logs adds_name)

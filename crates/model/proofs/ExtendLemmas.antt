@@ -16,9 +16,9 @@ use Rattle.model.proofs.OptionLaws.{some_or_none}
 -- what has no object has no names, whatever stands for it
 vacant_names : (o : Option Node) (x : Name) → IsTrue (is_vacant o) → names_in o x ≡ None
 vacant_names None x vacant = refl
-vacant_names (Some (directory_node mode names)) x vacant = absurd (false≢true vacant)
-vacant_names (Some (file_node mode links bytes)) x vacant = refl
-vacant_names (Some (link_node text)) x vacant = refl
+vacant_names (Some (directory_node attributes names)) x vacant = absurd (false≢true vacant)
+vacant_names (Some (file_node attributes links bytes)) x vacant = refl
+vacant_names (Some (link_node attributes text)) x vacant = refl
 
 nameless_vacant : (o : Option Node) → IsTrue (is_nameless o) → IsTrue (is_vacant o)
 nameless_vacant None nameless = refl
@@ -101,11 +101,11 @@ module _ (v w : Volume) (extends : Extends v w) where
     where
       swept_or_stays : (b : Bool) (o : Option Node) → (swept_node b o ≡ o) ⊎ ((swept_node b o ≡ None) × IsTrue (is_nameless o))
       swept_or_stays b None = inl refl
-      swept_or_stays b (Some (directory_node mode names)) = inl refl
-      swept_or_stays true (Some (file_node mode zero bytes)) = inl refl
-      swept_or_stays false (Some (file_node mode zero bytes)) = inr (refl, refl)
-      swept_or_stays b (Some (file_node mode (suc links) bytes)) = inl refl
-      swept_or_stays b (Some (link_node text)) = inl refl
+      swept_or_stays b (Some (directory_node attributes names)) = inl refl
+      swept_or_stays true (Some (file_node attributes zero bytes)) = inl refl
+      swept_or_stays false (Some (file_node attributes zero bytes)) = inr (refl, refl)
+      swept_or_stays b (Some (file_node attributes (suc links) bytes)) = inl refl
+      swept_or_stays b (Some (link_node attributes text)) = inl refl
 
   -- one object, changed in both in the same way
   pub with_both : (k : ℕ) (f : Option Node → Option Node) → f None ≡ None → ((o : Option Node) → IsTrue (is_vacant o) → IsTrue (is_vacant (f o))) → Extends (with_node k (f (v k)) v) (with_node k (f (w k)) w)
@@ -137,9 +137,9 @@ module _ (v w : Volume) (extends : Extends v w) where
     where
       vacant_kind : (o : Option Node) → IsTrue (is_vacant o) → is_directory_node o ≡ false
       vacant_kind None vacant = refl
-      vacant_kind (Some (directory_node mode names)) vacant = absurd (false≢true vacant)
-      vacant_kind (Some (file_node mode links bytes)) vacant = refl
-      vacant_kind (Some (link_node text)) vacant = refl
+      vacant_kind (Some (directory_node attributes names)) vacant = absurd (false≢true vacant)
+      vacant_kind (Some (file_node attributes links bytes)) vacant = refl
+      vacant_kind (Some (link_node attributes text)) vacant = refl
 
   replaces_too : (d k : ℕ) (y : Name) (n : ℕ) (o : Option ℕ) → CanReplace v d k y n o → CanReplace w d k y n o
   replaces_too d k y n None (inl same) = inl same
@@ -155,7 +155,7 @@ module _ (v w : Volume) (extends : Extends v w) where
     good = can.good;
   }
   applies_too inodes (link number parent name) can = record {
-    mode = can.mode;
+    attributes = can.attributes;
     links = can.links;
     bytes = can.bytes;
     file = extends.kept number (ap is_some can.file) ∙ can.file;
@@ -186,38 +186,38 @@ module _ (v w : Volume) (extends : Extends v w) where
     where
       vacant_gone : (o : Option Node) → IsTrue (is_vacant o) → swept_node false o ≡ None
       vacant_gone None vacant = refl
-      vacant_gone (Some (directory_node mode names)) vacant = absurd (false≢true vacant)
-      vacant_gone (Some (file_node mode zero bytes)) vacant = refl
-      vacant_gone (Some (file_node mode (suc links) bytes)) vacant = absurd (false≢true vacant)
-      vacant_gone (Some (link_node text)) vacant = absurd (false≢true vacant)
+      vacant_gone (Some (directory_node attributes names)) vacant = absurd (false≢true vacant)
+      vacant_gone (Some (file_node attributes zero bytes)) vacant = refl
+      vacant_gone (Some (file_node attributes (suc links) bytes)) vacant = absurd (false≢true vacant)
+      vacant_gone (Some (link_node attributes text)) vacant = absurd (false≢true vacant)
 
 -- what changes an object leaves a vacant number vacant
 set_vacant : (x : Name) (to : Option ℕ) (o : Option Node) → IsTrue (is_vacant o) → IsTrue (is_vacant (set_name x to o))
 set_vacant x to None vacant = refl
-set_vacant x to (Some (directory_node mode names)) vacant = absurd (false≢true vacant)
-set_vacant x to (Some (file_node mode links bytes)) vacant = vacant
-set_vacant x to (Some (link_node text)) vacant = vacant
+set_vacant x to (Some (directory_node attributes names)) vacant = absurd (false≢true vacant)
+set_vacant x to (Some (file_node attributes links bytes)) vacant = vacant
+set_vacant x to (Some (link_node attributes text)) vacant = vacant
 
 less_vacant : (o : Option Node) → IsTrue (is_vacant o) → IsTrue (is_vacant (with_name_less o))
 less_vacant None vacant = refl
-less_vacant (Some (directory_node mode names)) vacant = refl
-less_vacant (Some (file_node mode zero bytes)) vacant = refl
-less_vacant (Some (file_node mode (suc links) bytes)) vacant = absurd (false≢true vacant)
-less_vacant (Some (link_node text)) vacant = refl
+less_vacant (Some (directory_node attributes names)) vacant = refl
+less_vacant (Some (file_node attributes zero bytes)) vacant = refl
+less_vacant (Some (file_node attributes (suc links) bytes)) vacant = absurd (false≢true vacant)
+less_vacant (Some (link_node attributes text)) vacant = refl
 
 bytes_vacant : (f : List ℕ → List ℕ) (o : Option Node) → IsTrue (is_vacant o) → IsTrue (is_vacant (with_file_bytes f o))
 bytes_vacant f None vacant = refl
-bytes_vacant f (Some (directory_node mode names)) vacant = vacant
-bytes_vacant f (Some (file_node mode zero bytes)) vacant = refl
-bytes_vacant f (Some (file_node mode (suc links) bytes)) vacant = vacant
-bytes_vacant f (Some (link_node text)) vacant = vacant
+bytes_vacant f (Some (directory_node attributes names)) vacant = vacant
+bytes_vacant f (Some (file_node attributes zero bytes)) vacant = refl
+bytes_vacant f (Some (file_node attributes (suc links) bytes)) vacant = vacant
+bytes_vacant f (Some (link_node attributes text)) vacant = vacant
 
 mode_vacant : (bits : ℕ) (o : Option Node) → IsTrue (is_vacant o) → IsTrue (is_vacant (with_node_mode bits o))
 mode_vacant bits None vacant = refl
-mode_vacant bits (Some (directory_node mode names)) vacant = vacant
-mode_vacant bits (Some (file_node mode zero bytes)) vacant = refl
-mode_vacant bits (Some (file_node mode (suc links) bytes)) vacant = vacant
-mode_vacant bits (Some (link_node text)) vacant = vacant
+mode_vacant bits (Some (directory_node attributes names)) vacant = vacant
+mode_vacant bits (Some (file_node attributes zero bytes)) vacant = refl
+mode_vacant bits (Some (file_node attributes (suc links) bytes)) vacant = vacant
+mode_vacant bits (Some (link_node attributes text)) vacant = vacant
 
 with_name : (v w : Volume) → Extends v w → (d : ℕ) (x : Name) (to : Option ℕ) → Extends (with_entry d x to v) (with_entry d x to w)
 with_name v w extends d x to = with_both v w extends d (set_name x to) refl (set_vacant x to)

@@ -82,9 +82,9 @@ module _ (v : Volume) (used : (d n : ℕ) (x : Name) → entries v d x ≡ Some 
   module _ (trail : List ℕ) (p : Path) (x : Name) (trails : Trails (entries v) p trail) where
     turn_number : (n : ℕ) → entries v (here trail) x ≡ Some n → (o : Option Node) → IsSome o → IsTurnOf trail p x (turn_at n o) (tree.found (p ++ x ∷ []) (object_of n o))
     turn_number n edge None some = absurd (false≢true some)
-    turn_number n edge (Some (directory_node mode names)) some = (refl, edge, trails_push (entries v) p trail x n trails edge)
-    turn_number n edge (Some (file_node mode links bytes)) some = (refl, edge)
-    turn_number n edge (Some (link_node text)) some = (refl, edge)
+    turn_number n edge (Some (directory_node attributes names)) some = (refl, edge, trails_push (entries v) p trail x n trails edge)
+    turn_number n edge (Some (file_node attributes links bytes)) some = (refl, edge)
+    turn_number n edge (Some (link_node attributes text)) some = (refl, edge)
 
     turn_entry : (o : Option ℕ) → entries v (here trail) x ≡ o → IsTurnOf trail p x (turn_by v o) (tree.found (p ++ x ∷ []) (object_at v o))
     turn_entry None edge = edge

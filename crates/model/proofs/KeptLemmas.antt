@@ -5,6 +5,7 @@ use Rattle.std.proofs.Math.Path.{fun_ext}
 use Rattle.std.proofs.lemmas.Bool.{cases_Bool, cases_eq, cond_both, cond-true, cond-false, eqb-true, eq-eqb, false≢true}
 use Rattle.std.proofs.lemmas.List.{same_from_push}
 use Rattle.std.proofs.lemmas.List.Sums.{fold-append}
+use Rattle.model.specs.declared.attributes.Attributes.{Attributes}
 use Rattle.model.specs.Paths.{Name, Path, IsName, behind}
 use Rattle.model.specs.Trees.{Description}
 use Rattle.model.specs.Edits.{relocate, relocated, moved}
@@ -31,21 +32,21 @@ kept_through a b c k l = record { object = λ n. l.object n ∙ k.object n; byte
 
 set_keeps : (x : Name) (to : Option ℕ) (o : Option Node) → Kept o (set_name x to o)
 set_keeps x to None = kept None
-set_keeps x to (Some (directory_node mode names)) = record { object = λ n. refl; bytes = refl; mode = refl; directory = refl; file = refl; some = refl }
-set_keeps x to (Some (file_node mode links bytes)) = kept (Some (file_node mode links bytes))
-set_keeps x to (Some (link_node text)) = kept (Some (link_node text))
+set_keeps x to (Some (directory_node attributes names)) = record { object = λ n. refl; bytes = refl; mode = refl; directory = refl; file = refl; some = refl }
+set_keeps x to (Some (file_node attributes links bytes)) = kept (Some (file_node attributes links bytes))
+set_keeps x to (Some (link_node attributes text)) = kept (Some (link_node attributes text))
 
 less_keeps : (o : Option Node) → is_file_node o ≡ true → Kept o (with_name_less o)
 less_keeps None e = cc
-less_keeps (Some (directory_node mode names)) e = cc
-less_keeps (Some (file_node mode links bytes)) e = record { object = λ n. refl; bytes = refl; mode = refl; directory = refl; file = refl; some = refl }
-less_keeps (Some (link_node text)) e = cc
+less_keeps (Some (directory_node attributes names)) e = cc
+less_keeps (Some (file_node attributes links bytes)) e = record { object = λ n. refl; bytes = refl; mode = refl; directory = refl; file = refl; some = refl }
+less_keeps (Some (link_node attributes text)) e = cc
 
 less_names : (o : Option Node) (x : Name) → names_in (with_name_less o) x ≡ None
 less_names None x = refl
-less_names (Some (directory_node mode names)) x = refl
-less_names (Some (file_node mode links bytes)) x = refl
-less_names (Some (link_node text)) x = refl
+less_names (Some (directory_node attributes names)) x = refl
+less_names (Some (file_node attributes links bytes)) x = refl
+less_names (Some (link_node attributes text)) x = refl
 
 pub node-here : (n : ℕ) (o : Option Node) (v : Volume) → with_node n o v n ≡ o
 node-here n o v = cond-true (n == n) o (v n) (eq-eqb n n refl)
@@ -66,9 +67,9 @@ released_keeps (Some m) v j file =
 
 set_names : (o : Option Node) (x y : Name) (to : Option ℕ) → is_directory_node o ≡ true → names_in (set_name x to o) y ≡ (if bytes_eq y x then to else names_in o y)
 set_names None x y to e = cc
-set_names (Some (directory_node mode names)) x y to e = refl
-set_names (Some (file_node mode links bytes)) x y to e = cc
-set_names (Some (link_node text)) x y to e = cc
+set_names (Some (directory_node attributes names)) x y to e = refl
+set_names (Some (file_node attributes links bytes)) x y to e = cc
+set_names (Some (link_node attributes text)) x y to e = cc
 
 pub entries-entry : (d : ℕ) (x : Name) (to : Option ℕ) (v : Volume) → is_directory_node (v d) ≡ true → entries (with_entry d x to v) ≡ with_edge d x to (entries v)
 entries-entry d x to v directory =
@@ -138,30 +139,30 @@ pair_same d k x y same name = ap (λ j. (j, x)) same ∙ ap (λ z. (k, z)) name
 
 pub less_none : (o : Option Node) → is_file_node o ≡ false → with_name_less o ≡ None
 less_none None e = refl
-less_none (Some (directory_node mode names)) e = refl
-less_none (Some (file_node mode links bytes)) e = cc
-less_none (Some (link_node text)) e = refl
+less_none (Some (directory_node attributes names)) e = refl
+less_none (Some (file_node attributes links bytes)) e = cc
+less_none (Some (link_node attributes text)) e = refl
 
-module _ (mode links : ℕ) (bytes : List ℕ) where
-  set_was : (x : Name) (to : Option ℕ) (o : Option Node) → set_name x to o ≡ Some (file_node mode links bytes) → o ≡ Some (file_node mode links bytes)
+module _ (attributes : Attributes) (links : ℕ) (bytes : List ℕ) where
+  set_was : (x : Name) (to : Option ℕ) (o : Option Node) → set_name x to o ≡ Some (file_node attributes links bytes) → o ≡ Some (file_node attributes links bytes)
   set_was x to None e = e
   set_was x to (Some (directory_node m names)) e = cc
   set_was x to (Some (file_node m l b)) e = e
-  set_was x to (Some (link_node text)) e = e
+  set_was x to (Some (link_node attributes text)) e = e
 
   -- a file after a change of a name was that file before
-  pub entry_was : (d : ℕ) (x : Name) (to : Option ℕ) (v : Volume) (j : ℕ) → with_entry d x to v j ≡ Some (file_node mode links bytes) → v j ≡ Some (file_node mode links bytes)
+  pub entry_was : (d : ℕ) (x : Name) (to : Option ℕ) (v : Volume) (j : ℕ) → with_entry d x to v j ≡ Some (file_node attributes links bytes) → v j ≡ Some (file_node attributes links bytes)
   entry_was d x to v j is =
       elim (cases_Bool (j == d)) [
         | inl e ↦ ap v (eqb-true j d e) ∙ set_was x to (v d) (sym (cond-true (j == d) (set_name x to (v d)) (v j) e) ∙ is)
         | inr e ↦ sym (cond-false (j == d) (set_name x to (v d)) (v j) e) ∙ is
       ]
 
-  pub less_was : (o : Option Node) → with_name_less o ≡ Some (file_node mode links bytes) → (l : ℕ) × (o ≡ Some (file_node mode l bytes)) × (links ≡ l - 1)
+  pub less_was : (o : Option Node) → with_name_less o ≡ Some (file_node attributes links bytes) → (l : ℕ) × (o ≡ Some (file_node attributes l bytes)) × (links ≡ l - 1)
   less_was None e = cc
   less_was (Some (directory_node m names)) e = cc
   less_was (Some (file_node m l b)) e = (l, cc, cc)
-  less_was (Some (link_node text)) e = cc
+  less_was (Some (link_node attributes text)) e = cc
 
 pub released_other : (o : Option ℕ) (v : Volume) (j : ℕ) → o ≢ Some j → released o v j ≡ v j
 released_other None v j other = refl
@@ -319,22 +320,22 @@ module _ (v : Volume) (volume : IsGraph v) (u w : Path) (a b : Name) (d k n : �
     new_edge : (j : ℕ) (y : Name) → (j ≡ d → y ≢ a) → (j ≡ k → y ≢ b) → entries new j y ≡ e j y
     new_edge j y not_a not_b = ap (λ f. f j y) entries-renamed ∙ edge_other k j b y (Some n) (with_edge d a None e) not_b ∙ edge_other d j a y None e not_a
 
-    count_new : (m mode links : ℕ) (bytes : List ℕ) → new m ≡ Some (file_node mode links bytes) → HasNames (entries new) m links
-    count_new m mode links bytes is =
-        let was : without m ≡ Some (file_node mode links bytes) = entry_was mode links bytes d a None without m (entry_was mode links bytes k b (entries v d a) (with_entry d a None without) m is) in
+    count_new : (m : ℕ) (attributes : Attributes) (links : ℕ) (bytes : List ℕ) → new m ≡ Some (file_node attributes links bytes) → HasNames (entries new) m links
+    count_new m attributes links bytes is =
+        let was : without m ≡ Some (file_node attributes links bytes) = entry_was attributes links bytes d a None without m (entry_was attributes links bytes k b (entries v d a) (with_entry d a None without) m is) in
         elim (is_or_not (e k b) m) [
           | inl target ↦
               let not_n : m ≢ n = λ same. distinct (target ∙ ap (λ i. Some i) same) in
-              let before = less_was mode links bytes (v m) (sym (released_here (e k b) v m target) ∙ was) in
-              let less = one_less (λ (c : ℕ × Name). e c.0 c.1 ≡ Some m) (k, b) before.0 same_or_not target (volume.counts m mode before.0 bytes before.1) in
+              let before = less_was attributes links bytes (v m) (sym (released_here (e k b) v m target) ∙ was) in
+              let less = one_less (λ (c : ℕ × Name). e c.0 c.1 ≡ Some m) (k, b) before.0 same_or_not target (volume.counts m attributes before.0 bytes before.1) in
               subst (HasNames (entries new) m) (omega (arith, before.2, less.1))
               (same_count (λ (c : ℕ × Name). (e c.0 c.1 ≡ Some m) × (c ≢ (k, b))) (λ (c : ℕ × Name). entries new c.0 c.1 ≡ Some m) less.0 (λ (j, y). (
                 (λ old. new_edge j y (λ same name. not_n (let one : Some m ≡ Some n = sym old.0 ∙ ap (λ i. e i y) same ∙ ap (λ x. e d x) name ∙ there in cc)) (λ same name. old.1 (pair_same j k y b same name)) ∙ old.0),
                 (λ now. elim (edge_of j y m now) [ inl (same, name, to) ↦ absurd (not_n to) | inr old ↦ (old.0, λ is. old.2 (ap (λ (c : ℕ × Name). c.0) is) (ap (λ (c : ℕ × Name). c.1) is)) ]),
               )) less.2)
           | inr other ↦
-              let before : v m ≡ Some (file_node mode links bytes) = sym (released_other (e k b) v m other) ∙ was in
-              let names = volume.counts m mode links bytes before in
+              let before : v m ≡ Some (file_node attributes links bytes) = sym (released_other (e k b) v m other) ∙ was in
+              let names = volume.counts m attributes links bytes before in
               elim (cases_eq m n) [
                 | inl same_n ↦
                     let less = one_less (λ (c : ℕ × Name). e c.0 c.1 ≡ Some m) (d, a) links same_or_not (there ∙ ap (λ i. Some i) (sym same_n)) names in

@@ -4,7 +4,9 @@ mod DirectoryExamples
 mod LargeExamples
 mod SnapshotExamples
 mod RestoreExamples
+pub mod AttributeLaws
 pub mod OptionLaws
+pub mod ListLaws
 pub mod ObjectLaws
 pub mod TestLaws
 pub mod EditLaws

@@ -25,18 +25,18 @@ good_node v n o good here = λ k. cond_both (k == n) o (v k) (λ r. IfSome r IsN
 
 set_good : (x : Name) (to : Option ℕ) (o : Option Node) → IfSome o IsNode → IfSome (set_name x to o) IsNode
 set_good x to None good = tt
-set_good x to (Some (directory_node mode names)) good = good
-set_good x to (Some (file_node mode links bytes)) good = good
-set_good x to (Some (link_node text)) good = good
+set_good x to (Some (directory_node attributes names)) good = good
+set_good x to (Some (file_node attributes links bytes)) good = good
+set_good x to (Some (link_node attributes text)) good = good
 
 pub good_entry : (v : Volume) (d : ℕ) (x : Name) (to : Option ℕ) → HasGoodNodes v → HasGoodNodes (with_entry d x to v)
 good_entry v d x to good = good_node v d (set_name x to (v d)) good (set_good x to (v d) (good d))
 
 less_good : (o : Option Node) → IfSome o IsNode → IfSome (with_name_less o) IsNode
 less_good None good = tt
-less_good (Some (directory_node mode names)) good = tt
-less_good (Some (file_node mode links bytes)) good = (good.0, omega (arith, good.1), good.2)
-less_good (Some (link_node text)) good = tt
+less_good (Some (directory_node attributes names)) good = tt
+less_good (Some (file_node attributes links bytes)) good = (good.0, omega (arith, good.1), good.2)
+less_good (Some (link_node attributes text)) good = tt
 
 pub good_released : (o : Option ℕ) (v : Volume) → HasGoodNodes v → HasGoodNodes (released o v)
 good_released None v good = good
@@ -53,9 +53,9 @@ numbers_node inodes v n o numbers here k some =
 
 set_some : (x : Name) (to : Option ℕ) (o : Option Node) → is_some (set_name x to o) ≡ is_some o
 set_some x to None = refl
-set_some x to (Some (directory_node mode names)) = refl
-set_some x to (Some (file_node mode links bytes)) = refl
-set_some x to (Some (link_node text)) = refl
+set_some x to (Some (directory_node attributes names)) = refl
+set_some x to (Some (file_node attributes links bytes)) = refl
+set_some x to (Some (link_node attributes text)) = refl
 
 pub numbers_entry : (inodes : ℕ) (v : Volume) (d : ℕ) (x : Name) (to : Option ℕ) → HasGoodNumbers inodes v → HasGoodNumbers inodes (with_entry d x to v)
 numbers_entry inodes v d x to numbers = numbers_node inodes v d (set_name x to (v d)) numbers (λ some. numbers d (sym (set_some x to (v d)) ∙ some))
@@ -144,11 +144,11 @@ limits_swept inodes v table same limits = record {
   where
     swept_good : (b : Bool) (o : Option Node) → IfSome o IsNode → IfSome (swept_node b o) IsNode
     swept_good b None good = tt
-    swept_good b (Some (directory_node mode names)) good = good
-    swept_good true (Some (file_node mode zero bytes)) good = good
-    swept_good false (Some (file_node mode zero bytes)) good = tt
-    swept_good b (Some (file_node mode (suc links) bytes)) good = good
-    swept_good b (Some (link_node text)) good = good
+    swept_good b (Some (directory_node attributes names)) good = good
+    swept_good true (Some (file_node attributes zero bytes)) good = good
+    swept_good false (Some (file_node attributes zero bytes)) good = tt
+    swept_good b (Some (file_node attributes (suc links) bytes)) good = good
+    swept_good b (Some (link_node attributes text)) good = good
 
     swept_some : (b : Bool) (o : Option Node) → IsSome (swept_node b o) → IsSome o
     swept_some b None some = some

@@ -14,9 +14,9 @@ use Rattle.model.proofs.CountLemmas.{count_along}
 
 number_by : (k n : ℕ) (o : Option Node) → object_of k o ≡ Some (file n) → Some k ≡ Some n
 number_by k n None e = cc
-number_by k n (Some (directory_node mode names)) e = cc
-number_by k n (Some (file_node mode links bytes)) e = cc
-number_by k n (Some (link_node text)) e = cc
+number_by k n (Some (directory_node attributes names)) e = cc
+number_by k n (Some (file_node attributes links bytes)) e = cc
+number_by k n (Some (link_node attributes text)) e = cc
 
 object_number : (v : Volume) (o : Option ℕ) (n : ℕ) → object_at v o ≡ Some (file n) → o ≡ Some n
 object_number v None n e = cc
@@ -24,15 +24,15 @@ object_number v (Some k) n e = number_by k n (v k) e
 
 file_object : (o : Option Node) (n : ℕ) → is_file_node o ≡ true → object_of n o ≡ Some (file n)
 file_object None n e = cc
-file_object (Some (directory_node mode names)) n e = cc
-file_object (Some (file_node mode links bytes)) n e = refl
-file_object (Some (link_node text)) n e = cc
+file_object (Some (directory_node attributes names)) n e = cc
+file_object (Some (file_node attributes links bytes)) n e = refl
+file_object (Some (link_node attributes text)) n e = cc
 
 no_file_object : (o : Option Node) (k n : ℕ) → is_directory_node o ≡ true → object_of k o ≢ Some (file n)
 no_file_object None k n e = cc
-no_file_object (Some (directory_node mode names)) k n e = λ is. cc
-no_file_object (Some (file_node mode links bytes)) k n e = cc
-no_file_object (Some (link_node text)) k n e = cc
+no_file_object (Some (directory_node attributes names)) k n e = λ is. cc
+no_file_object (Some (file_node attributes links bytes)) k n e = cc
+no_file_object (Some (link_node attributes text)) k n e = cc
 
 module _ (v : Volume) (volume : IsGraph v) (table : ℕ → Option Description) (n : ℕ) (a_file : is_file_node (v n) ≡ true) where
   abbrev t : Tree
@@ -92,5 +92,5 @@ module _ (v : Volume) (volume : IsGraph v) (table : ℕ → Option Description) 
       ]
 
 pub volumes_tell_links : VolumesTellLinks
-volumes_tell_links inodes v table n mode links bytes volume is =
-    links_are v volume.graph table n (ap is_file_node is) links (volume.graph.counts n mode links bytes is)
+volumes_tell_links inodes v table n attributes links bytes volume is =
+    links_are v volume.graph table n (ap is_file_node is) links (volume.graph.counts n attributes links bytes is)

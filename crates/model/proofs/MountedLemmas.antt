@@ -3,6 +3,7 @@ use Rattle.std.proofs.Common.{◌≡◌, ◌≢◌, ◌⊎◌, inl, inr, ◌↔�
 use Rattle.std.proofs.lemmas.Bool.{cases_Bool, false≢true}
 use Rattle.std.proofs.lemmas.List.Sums.{fold-append}
 use Rattle.std.proofs.lemmas.List.Elements.{All-nil, All-push}
+use Rattle.model.specs.declared.attributes.Attributes.{Attributes}
 use Rattle.model.specs.declared.limits.TheConstants.{ROOT_NUMBER, FILE_NAMES, DIRECTORY_NAMES, GREATEST_FILE, MODE_BITS}
 use Rattle.model.specs.Counting.{CountsUpTo}
 use Rattle.model.specs.Paths.{Name, Path, IsName, IsLinkText}
@@ -14,67 +15,62 @@ use Rattle.model.proofs.VolumeLemmas.{ends, alone, enters_directory, directory_n
 use Rattle.model.proofs.LinkLemmas.{links_are}
 use Rattle.model.proofs.SweepLemmas.{found_number, not_unused}
 use Rattle.model.proofs.OptionLaws.{some_same}
+use Rattle.model.proofs.ObjectLaws.{directory_object}
 
 -- what an object shows of its node
 object_directory : (n : ℕ) (o : Option Node) → is_directory (object_of n o) ≡ true → is_directory_node o ≡ true
 object_directory n None e = e
-object_directory n (Some (directory_node mode names)) e = refl
-object_directory n (Some (file_node mode links bytes)) e = e
-object_directory n (Some (link_node text)) e = e
-
-pub node_directory : (n : ℕ) (o : Option Node) → is_directory_node o ≡ true → object_of n o ≡ Some (directory n)
-node_directory n None e = cc
-node_directory n (Some (directory_node mode names)) e = refl
-node_directory n (Some (file_node mode links bytes)) e = cc
-node_directory n (Some (link_node text)) e = cc
+object_directory n (Some (directory_node attributes names)) e = refl
+object_directory n (Some (file_node attributes links bytes)) e = e
+object_directory n (Some (link_node attributes text)) e = e
 
 object_file : (n : ℕ) (o : Option Node) (k : ℕ) → object_of n o ≡ Some (file k) → is_file_node o ≡ true
 object_file n None k e = cc
-object_file n (Some (directory_node mode names)) k e = cc
-object_file n (Some (file_node mode links bytes)) k e = refl
-object_file n (Some (link_node text)) k e = cc
+object_file n (Some (directory_node attributes names)) k e = cc
+object_file n (Some (file_node attributes links bytes)) k e = refl
+object_file n (Some (link_node attributes text)) k e = cc
 
 pub node_file : (n : ℕ) (o : Option Node) → is_file_node o ≡ true → object_of n o ≡ Some (file n)
 node_file n None e = cc
-node_file n (Some (directory_node mode names)) e = cc
-node_file n (Some (file_node mode links bytes)) e = refl
-node_file n (Some (link_node text)) e = cc
+node_file n (Some (directory_node attributes names)) e = cc
+node_file n (Some (file_node attributes links bytes)) e = refl
+node_file n (Some (link_node attributes text)) e = cc
 
-object_link : (n : ℕ) (o : Option Node) (k : ℕ) (text : List ℕ) → object_of n o ≡ Some (symlink k text) → o ≡ Some (link_node text)
+object_link : (n : ℕ) (o : Option Node) (k : ℕ) (text : List ℕ) → object_of n o ≡ Some (symlink k text) → (attributes : Attributes) × (o ≡ Some (link_node attributes text))
 object_link n None k text e = cc
-object_link n (Some (directory_node mode names)) k text e = cc
-object_link n (Some (file_node mode links bytes)) k text e = cc
-object_link n (Some (link_node other)) k text e = let same : other ≡ text = cc in ap (λ t. Some (link_node t)) same
+object_link n (Some (directory_node attributes names)) k text e = cc
+object_link n (Some (file_node attributes links bytes)) k text e = cc
+object_link n (Some (link_node attributes other)) k text e = let same : other ≡ text = cc in (attributes, ap (λ t. Some (link_node attributes t)) same)
 
 object_some : (n : ℕ) (o : Option Node) → is_some (object_of n o) ≡ is_some o
 object_some n None = refl
-object_some n (Some (directory_node mode names)) = refl
-object_some n (Some (file_node mode links bytes)) = refl
-object_some n (Some (link_node text)) = refl
+object_some n (Some (directory_node attributes names)) = refl
+object_some n (Some (file_node attributes links bytes)) = refl
+object_some n (Some (link_node attributes text)) = refl
 
 file_bytes : (o : Option Node) → is_some (bytes_of_node o) ≡ is_file_node o
 file_bytes None = refl
-file_bytes (Some (directory_node mode names)) = refl
-file_bytes (Some (file_node mode links bytes)) = refl
-file_bytes (Some (link_node text)) = refl
+file_bytes (Some (directory_node attributes names)) = refl
+file_bytes (Some (file_node attributes links bytes)) = refl
+file_bytes (Some (link_node attributes text)) = refl
 
 mode_kinds : (o : Option Node) → IsSome (mode_of o) → (is_directory_node o ≡ true) ⊎ (is_file_node o ≡ true)
 mode_kinds None some = absurd (false≢true some)
-mode_kinds (Some (directory_node mode names)) some = inl refl
-mode_kinds (Some (file_node mode links bytes)) some = inr refl
-mode_kinds (Some (link_node text)) some = absurd (false≢true some)
+mode_kinds (Some (directory_node attributes names)) some = inl refl
+mode_kinds (Some (file_node attributes links bytes)) some = inr refl
+mode_kinds (Some (link_node attributes text)) some = absurd (false≢true some)
 
 directory_mode : (o : Option Node) → is_directory_node o ≡ true → IsSome (mode_of o)
 directory_mode None e = e
-directory_mode (Some (directory_node mode names)) e = refl
-directory_mode (Some (file_node mode links bytes)) e = refl
-directory_mode (Some (link_node text)) e = e
+directory_mode (Some (directory_node attributes names)) e = refl
+directory_mode (Some (file_node attributes links bytes)) e = refl
+directory_mode (Some (link_node attributes text)) e = e
 
 file_mode : (o : Option Node) → is_file_node o ≡ true → IsSome (mode_of o)
 file_mode None e = e
-file_mode (Some (directory_node mode names)) e = refl
-file_mode (Some (file_node mode links bytes)) e = refl
-file_mode (Some (link_node text)) e = e
+file_mode (Some (directory_node attributes names)) e = refl
+file_mode (Some (file_node attributes links bytes)) e = refl
+file_mode (Some (link_node attributes text)) e = e
 
 file_some : (o : Option Node) → is_file_node o ≡ true → IsSome o
 file_some None e = e
@@ -83,18 +79,18 @@ file_some (Some o) e = refl
 -- the limits of one object
 size_kept : (o : Option Node) → IfSome o IsNode → IfSome (bytes_of_node o) (λ bytes. length bytes ≤ GREATEST_FILE)
 size_kept None good = tt
-size_kept (Some (directory_node mode names)) good = tt
-size_kept (Some (file_node mode links bytes)) good = good.2
-size_kept (Some (link_node text)) good = tt
+size_kept (Some (directory_node attributes names)) good = tt
+size_kept (Some (file_node attributes links bytes)) good = good.2
+size_kept (Some (link_node attributes text)) good = tt
 
 bits_kept : (o : Option Node) → IfSome o IsNode → IfSome (mode_of o) (λ mode. mode ≤ MODE_BITS)
 bits_kept None good = tt
-bits_kept (Some (directory_node mode names)) good = good
-bits_kept (Some (file_node mode links bytes)) good = good.0
-bits_kept (Some (link_node text)) good = tt
+bits_kept (Some (directory_node attributes names)) good = good.mode
+bits_kept (Some (file_node attributes links bytes)) good = good.0.mode
+bits_kept (Some (link_node attributes text)) good = tt
 
 -- a walk that got nowhere stays there
-nowhere : (e : Entries) (q : Path) → fold (enter e) None q ≡ None
+pub nowhere : (e : Entries) (q : Path) → fold (enter e) None q ≡ None
 nowhere e [] = refl
 nowhere e (x ∷ q) = nowhere e q
 
@@ -119,7 +115,7 @@ module _ (inodes : ℕ) (v : Volume) (volume : IsVolume inodes v) (table : ℕ �
     where
       by_entry : (r : Option ℕ) → entries v d x ≡ r → is_directory (object_of d (v d)) ≡ true
       by_entry None is = absurd (false≢true (sym (ap (λ r. is_some (object_at v (fold (enter (entries v)) r q))) is ∙ ap (λ r. is_some (object_at v r)) (nowhere (entries v) q)) ∙ some))
-      by_entry (Some m) is = ap is_directory (node_directory d (v d) (enters_directory (v d) x m is))
+      by_entry (Some m) is = ap is_directory (directory_object d (v d) (enters_directory (v d) x m is))
 
   above_is : (p q : Path) → q ≢ [] → IsSome (t.objects (p ++ q)) → is_directory (t.objects p) ≡ true
   above_is p [] longer some = absurd (longer refl)
@@ -170,7 +166,7 @@ module _ (inodes : ℕ) (v : Volume) (volume : IsVolume inodes v) (table : ℕ �
   bytes_are n = (λ some. file_used n (sym (file_bytes (v n)) ∙ some), λ used. file_bytes (v n) ∙ used_file n used)
 
   directory_stands : (n : ℕ) → is_directory_node (v n) ≡ true → StandsAtPath t directory n
-  directory_stands n is = let path = volume.graph.naming.reached n (directory_some (v n) is) (directory_no_file (v n) is) in (path.0, object_is path.0 n path.1 ∙ node_directory n (v n) is)
+  directory_stands n is = let path = volume.graph.naming.reached n (directory_some (v n) is) (directory_no_file (v n) is) in (path.0, object_is path.0 n path.1 ∙ directory_object n (v n) is)
 
   modes_are : (n : ℕ) → IsSome (t.mode n) ↔ (StandsAtPath t directory n ⊎ StandsAtPath t file n ⊎ IsOpen t n)
   modes_are n = (
@@ -195,8 +191,8 @@ module _ (inodes : ℕ) (v : Volume) (volume : IsVolume inodes v) (table : ℕ �
 
   texts_are : (p : Path) (n : ℕ) (text : List ℕ) → t.objects p ≡ Some (symlink n text) → IsLinkText text
   texts_are p n text is =
-      let o_is : v n ≡ Some (link_node text) = object_link n (v n) n text (sym (object_is p n (at_path p (symlink n text) is)) ∙ is) in
-      let good : IfSome (Some (link_node text)) IsNode = subst (λ o. IfSome o IsNode) o_is (volume.limits.nodes n) in
+      let link = object_link n (v n) n text (sym (object_is p n (at_path p (symlink n text) is)) ∙ is) in
+      let good : IfSome (Some (link_node link.0 text)) IsNode = subst (λ o. IfSome o IsNode) link.1 (volume.limits.nodes n) in
       good
 
   entry_some : (o : Option ℕ) → ((n : ℕ) → o ≡ Some n → IsSome (v n)) → is_some (object_at v o) ≡ is_some o
@@ -221,16 +217,16 @@ module _ (inodes : ℕ) (v : Volume) (volume : IsVolume inodes v) (table : ℕ �
   no_links n other = (0, (λ p is. false≢true (sym other ∙ used_file n (inl (p, is)))), lit≤ tt)
 
   links_of : (n : ℕ) (o : Option Node) → v n ≡ o → CountsUpTo FILE_NAMES (λ p. t.objects p ≡ Some (file n))
-  links_of n (Some (file_node mode links bytes)) is =
-      let good : IfSome (Some (file_node mode links bytes)) IsNode = subst (λ o. IfSome o IsNode) is (volume.limits.nodes n) in
-      (links, links_are v volume.graph table n (ap is_file_node is) links (volume.graph.counts n mode links bytes is), good.1)
+  links_of n (Some (file_node attributes links bytes)) is =
+      let good : IfSome (Some (file_node attributes links bytes)) IsNode = subst (λ o. IfSome o IsNode) is (volume.limits.nodes n) in
+      (links, links_are v volume.graph table n (ap is_file_node is) links (volume.graph.counts n attributes links bytes is), good.1)
   links_of n None is = no_links n (ap is_file_node is)
-  links_of n (Some (directory_node mode names)) is = no_links n (ap is_file_node is)
-  links_of n (Some (link_node text)) is = no_links n (ap is_file_node is)
+  links_of n (Some (directory_node attributes names)) is = no_links n (ap is_file_node is)
+  links_of n (Some (link_node attributes text)) is = no_links n (ap is_file_node is)
 
   pub tree_of_is_tree : IsTree inodes t
   tree_of_is_tree = record {
-    root = node_directory ROOT_NUMBER (v ROOT_NUMBER) volume.graph.naming.root;
+    root = directory_object ROOT_NUMBER (v ROOT_NUMBER) volume.graph.naming.root;
     above = above_is;
     names = names_are;
     single = single_is;

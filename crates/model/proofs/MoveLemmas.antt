@@ -3,6 +3,7 @@ use Rattle.std.proofs.Common.{◌≡◌, ◌≢◌, inl, inr, ℕ, ◌≤◌, �
 use Rattle.std.proofs.lemmas.Bool.{cases_eq}
 use Rattle.std.proofs.lemmas.List.{same_from_push}
 use Rattle.std.proofs.lemmas.List.Sums.{fold-append}
+use Rattle.model.specs.declared.attributes.Attributes.{Attributes}
 use Rattle.model.specs.declared.limits.TheConstants.{ROOT_NUMBER, FILE_NAMES, GREATEST_FILE, MODE_BITS}
 use Rattle.model.specs.Counting.{Counts}
 use Rattle.model.specs.Paths.{Name, Path, IsName, behind}
@@ -11,6 +12,7 @@ use Rattle.model.specs.Edits.{written, resized}
 use Rattle.model.specs.Volumes.{Node, directory_node, file_node, link_node, Volume, Entries, names_in, entries, enter, number_at, with_node, with_edge, with_entry, is_file_node, is_directory_node, IsGraph, IsNode, IsVolume, with_name_more, released, created, linked, unnamed, renamed, swept}
 use Rattle.model.specs.Records.{Made, file, directory, symbolic_link, create, link, unname, rename, write, cut, change_mode, node_of, with_file_bytes, with_node_mode, IsMade, CanReplace, CanRename}
 use Rattle.model.specs.Laws.{RecordsKeepVolumes, SweepsKeepVolumes}
+use Rattle.model.proofs.AttributeLaws.{new_fit, set_fit}
 use Rattle.model.proofs.WalkLemmas.{behind-is, edge_other}
 use Rattle.model.proofs.VolumeLemmas.{directory_some, directory_no_file, enters_directory}
 use Rattle.model.proofs.KeptLemmas.{volume-renamed, entries-renamed}
@@ -136,8 +138,8 @@ module _ (v : Volume) (graph : IsGraph v) (d : ℕ) (a : Name) (k : ℕ) (b : Na
 
 -- the limits of what is made and of what changes
 made_good : (made : Made) → IsMade made → IsNode (node_of made)
-made_good (file mode) good = (good, lit≤ tt, lit≤ tt)
-made_good (directory mode) good = good
+made_good (file mode) good = (new_fit mode good, lit≤ tt, lit≤ tt)
+made_good (directory mode) good = new_fit mode good
 made_good (symbolic_link text) good = good
 
 pub made_bare : (made : Made) (x : Name) → names_in (Some (node_of made)) x ≡ None
@@ -145,16 +147,16 @@ made_bare (file mode) x = refl
 made_bare (directory mode) x = refl
 made_bare (symbolic_link text) x = refl
 
-made_links : (made : Made) (mode links : ℕ) (bytes : List ℕ) → Some (node_of made) ≡ Some (file_node mode links bytes) → links ≡ 1
-made_links (file m) mode links bytes is = cc
-made_links (directory m) mode links bytes is = cc
-made_links (symbolic_link text) mode links bytes is = cc
+pub made_links : (made : Made) (attributes : Attributes) (links : ℕ) (bytes : List ℕ) → Some (node_of made) ≡ Some (file_node attributes links bytes) → links ≡ 1
+made_links (file m) attributes links bytes is = cc
+made_links (directory m) attributes links bytes is = cc
+made_links (symbolic_link text) attributes links bytes is = cc
 
-more_good : (o : Option Node) (mode links : ℕ) (bytes : List ℕ) → o ≡ Some (file_node mode links bytes) → links < FILE_NAMES → IfSome o IsNode → IfSome (with_name_more o) IsNode
-more_good None mode links bytes is few good = tt
-more_good (Some (directory_node m names)) mode links bytes is few good = good
-more_good (Some (file_node m l b)) mode links bytes is few good = let same : l ≡ links = cc in (good.0, omega (arith, few, same), good.2)
-more_good (Some (link_node text)) mode links bytes is few good = good
+more_good : (o : Option Node) (attributes : Attributes) (links : ℕ) (bytes : List ℕ) → o ≡ Some (file_node attributes links bytes) → links < FILE_NAMES → IfSome o IsNode → IfSome (with_name_more o) IsNode
+more_good None attributes links bytes is few good = tt
+more_good (Some (directory_node m names)) attributes links bytes is few good = good
+more_good (Some (file_node m l b)) attributes links bytes is few good = let same : l ≡ links = cc in (good.0, omega (arith, few, same), good.2)
+more_good (Some (link_node a text)) attributes links bytes is few good = good
 
 -- one object changes but for its kind, its names and its links
 module _ (inodes : ℕ) (v : Volume) (volume : IsVolume inodes v) (n : ℕ) (o : Option Node) (names : (x : Name) → names_in o x ≡ names_in (v n) x) (file : is_file_node o ≡ is_file_node (v n)) (directory : is_directory_node o ≡ is_directory_node (v n)) (some : is_some o ≡ is_some (v n)) (same_links : SameLinks (v n) o) (good : IfSome o IsNode) where
@@ -170,67 +172,67 @@ module _ (inodes : ℕ) (v : Volume) (volume : IsVolume inodes v) (n : ℕ) (o :
 
 pub bytes_names : (f : List ℕ → List ℕ) (o : Option Node) (x : Name) → names_in (with_file_bytes f o) x ≡ names_in o x
 bytes_names f None x = refl
-bytes_names f (Some (directory_node mode names)) x = refl
-bytes_names f (Some (file_node mode links bytes)) x = refl
-bytes_names f (Some (link_node text)) x = refl
+bytes_names f (Some (directory_node attributes names)) x = refl
+bytes_names f (Some (file_node attributes links bytes)) x = refl
+bytes_names f (Some (link_node attributes text)) x = refl
 
-pub bytes_by : {X : Type 0} (test : Option Node → X) → ((mode links : ℕ) (a b : List ℕ) → test (Some (file_node mode links a)) ≡ test (Some (file_node mode links b))) → (f : List ℕ → List ℕ) (o : Option Node) → test (with_file_bytes f o) ≡ test o
+pub bytes_by : {X : Type 0} (test : Option Node → X) → ((attributes : Attributes) (links : ℕ) (a b : List ℕ) → test (Some (file_node attributes links a)) ≡ test (Some (file_node attributes links b))) → (f : List ℕ → List ℕ) (o : Option Node) → test (with_file_bytes f o) ≡ test o
 bytes_by test alike f None = refl
-bytes_by test alike f (Some (directory_node mode names)) = refl
-bytes_by test alike f (Some (file_node mode links bytes)) = alike mode links (f bytes) bytes
-bytes_by test alike f (Some (link_node text)) = refl
+bytes_by test alike f (Some (directory_node attributes names)) = refl
+bytes_by test alike f (Some (file_node attributes links bytes)) = alike attributes links (f bytes) bytes
+bytes_by test alike f (Some (link_node attributes text)) = refl
 
-bytes_links : (f : List ℕ → List ℕ) (o : Option Node) → SameLinks o (with_file_bytes f o)
-bytes_links f None mode links bytes is = cc
-bytes_links f (Some (directory_node m names)) mode links bytes is = cc
-bytes_links f (Some (file_node m l b)) mode links bytes is = let same : l ≡ links = cc in (m, b, ap (λ c. Some (file_node m c b)) same)
-bytes_links f (Some (link_node text)) mode links bytes is = cc
+pub bytes_links : (f : List ℕ → List ℕ) (o : Option Node) → SameLinks o (with_file_bytes f o)
+bytes_links f None attributes links bytes is = cc
+bytes_links f (Some (directory_node m names)) attributes links bytes is = cc
+bytes_links f (Some (file_node m l b)) attributes links bytes is = let same : l ≡ links = cc in (m, b, ap (λ c. Some (file_node m c b)) same)
+bytes_links f (Some (link_node a text)) attributes links bytes is = cc
 
 bytes_good : (f : List ℕ → List ℕ) (o : Option Node) → ((bytes : List ℕ) → length bytes ≤ GREATEST_FILE → length (f bytes) ≤ GREATEST_FILE) → IfSome o IsNode → IfSome (with_file_bytes f o) IsNode
 bytes_good f None short good = tt
-bytes_good f (Some (directory_node mode names)) short good = good
-bytes_good f (Some (file_node mode links bytes)) short good = (good.0, good.1, short bytes good.2)
-bytes_good f (Some (link_node text)) short good = good
+bytes_good f (Some (directory_node attributes names)) short good = good
+bytes_good f (Some (file_node attributes links bytes)) short good = (good.0, good.1, short bytes good.2)
+bytes_good f (Some (link_node attributes text)) short good = good
 
 volume-bytes : (inodes : ℕ) (v : Volume) → IsVolume inodes v → (n : ℕ) (f : List ℕ → List ℕ) → ((bytes : List ℕ) → length bytes ≤ GREATEST_FILE → length (f bytes) ≤ GREATEST_FILE) → IsVolume inodes (with_node n (with_file_bytes f (v n)) v)
 volume-bytes inodes v volume n f short =
-    volume-altered inodes v volume n (with_file_bytes f (v n)) (bytes_names f (v n)) (bytes_by is_file_node (λ mode links a b. refl) f (v n)) (bytes_by is_directory_node (λ mode links a b. refl) f (v n)) (bytes_by is_some (λ mode links a b. refl) f (v n)) (bytes_links f (v n)) (bytes_good f (v n) short (volume.limits.nodes n))
+    volume-altered inodes v volume n (with_file_bytes f (v n)) (bytes_names f (v n)) (bytes_by is_file_node (λ attributes links a b. refl) f (v n)) (bytes_by is_directory_node (λ attributes links a b. refl) f (v n)) (bytes_by is_some (λ attributes links a b. refl) f (v n)) (bytes_links f (v n)) (bytes_good f (v n) short (volume.limits.nodes n))
 
 pub mode_names : (bits : ℕ) (o : Option Node) (x : Name) → names_in (with_node_mode bits o) x ≡ names_in o x
 mode_names bits None x = refl
-mode_names bits (Some (directory_node mode names)) x = refl
-mode_names bits (Some (file_node mode links bytes)) x = refl
-mode_names bits (Some (link_node text)) x = refl
+mode_names bits (Some (directory_node attributes names)) x = refl
+mode_names bits (Some (file_node attributes links bytes)) x = refl
+mode_names bits (Some (link_node attributes text)) x = refl
 
 pub mode_file : (bits : ℕ) (o : Option Node) → is_file_node (with_node_mode bits o) ≡ is_file_node o
 mode_file bits None = refl
-mode_file bits (Some (directory_node mode names)) = refl
-mode_file bits (Some (file_node mode links bytes)) = refl
-mode_file bits (Some (link_node text)) = refl
+mode_file bits (Some (directory_node attributes names)) = refl
+mode_file bits (Some (file_node attributes links bytes)) = refl
+mode_file bits (Some (link_node attributes text)) = refl
 
 pub mode_directory : (bits : ℕ) (o : Option Node) → is_directory_node (with_node_mode bits o) ≡ is_directory_node o
 mode_directory bits None = refl
-mode_directory bits (Some (directory_node mode names)) = refl
-mode_directory bits (Some (file_node mode links bytes)) = refl
-mode_directory bits (Some (link_node text)) = refl
+mode_directory bits (Some (directory_node attributes names)) = refl
+mode_directory bits (Some (file_node attributes links bytes)) = refl
+mode_directory bits (Some (link_node attributes text)) = refl
 
 pub mode_some : (bits : ℕ) (o : Option Node) → is_some (with_node_mode bits o) ≡ is_some o
 mode_some bits None = refl
-mode_some bits (Some (directory_node mode names)) = refl
-mode_some bits (Some (file_node mode links bytes)) = refl
-mode_some bits (Some (link_node text)) = refl
+mode_some bits (Some (directory_node attributes names)) = refl
+mode_some bits (Some (file_node attributes links bytes)) = refl
+mode_some bits (Some (link_node attributes text)) = refl
 
-mode_links : (bits : ℕ) (o : Option Node) → SameLinks o (with_node_mode bits o)
-mode_links bits None mode links bytes is = cc
-mode_links bits (Some (directory_node m names)) mode links bytes is = cc
-mode_links bits (Some (file_node m l b)) mode links bytes is = let same : l ≡ links = cc in (m, b, ap (λ c. Some (file_node m c b)) same)
-mode_links bits (Some (link_node text)) mode links bytes is = cc
+pub mode_links : (bits : ℕ) (o : Option Node) → SameLinks o (with_node_mode bits o)
+mode_links bits None attributes links bytes is = cc
+mode_links bits (Some (directory_node m names)) attributes links bytes is = cc
+mode_links bits (Some (file_node m l b)) attributes links bytes is = let same : l ≡ links = cc in (m, b, ap (λ c. Some (file_node m c b)) same)
+mode_links bits (Some (link_node a text)) attributes links bytes is = cc
 
 mode_good : (bits : ℕ) (o : Option Node) → bits ≤ MODE_BITS → IfSome o IsNode → IfSome (with_node_mode bits o) IsNode
 mode_good bits None few good = tt
-mode_good bits (Some (directory_node mode names)) few good = few
-mode_good bits (Some (file_node mode links bytes)) few good = (few, good.1, good.2)
-mode_good bits (Some (link_node text)) few good = good
+mode_good bits (Some (directory_node attributes names)) few good = set_fit bits attributes few good
+mode_good bits (Some (file_node attributes links bytes)) few good = (set_fit bits attributes few good.0, good.1, good.2)
+mode_good bits (Some (link_node attributes text)) few good = good
 
 resized_short : (size : ℕ) (bytes : List ℕ) → size ≤ GREATEST_FILE → length bytes ≤ GREATEST_FILE → length (resized size bytes) ≤ GREATEST_FILE
 resized_short size bytes fits short = subst (λ k. k ≤ GREATEST_FILE) (sym (length-resized size bytes)) fits
@@ -256,9 +258,9 @@ records_keep_volumes inodes v (link number parent name) volume can =
     let edges : entries (linked number parent name v) ≡ with_edge parent name (Some number) (entries v) =
     edges-linked v parent name number can.takes.directory in
     record {
-      graph = graph-linked v volume.graph path.0 name parent number can.mode can.links can.bytes path.1 can.takes.directory can.takes.missing can.takes.name can.file;
+      graph = graph-linked v volume.graph path.0 name parent number can.attributes can.links can.bytes path.1 can.takes.directory can.takes.missing can.takes.name can.file;
       limits = record {
-        nodes = good_entry (with_node number (with_name_more (v number)) v) parent name (Some number) (good_node v number (with_name_more (v number)) limits.nodes (more_good (v number) can.mode can.links can.bytes can.file can.few (limits.nodes number)));
+        nodes = good_entry (with_node number (with_name_more (v number)) v) parent name (Some number) (good_node v number (with_name_more (v number)) limits.nodes (more_good (v number) can.attributes can.links can.bytes can.file can.few (limits.nodes number)));
         numbers = numbers_entry inodes (with_node number (with_name_more (v number)) v) parent name (Some number) (numbers_node inodes v number (with_name_more (v number)) limits.numbers (λ some. limits.numbers number (ap is_some can.file)));
         children = subst HasFew (sym edges) (few_more (entries v) parent name (Some number) limits.children refl can.takes.missing can.takes.count can.takes.counts can.takes.room);
       };

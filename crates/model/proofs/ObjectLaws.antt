@@ -11,27 +11,27 @@ directory_file e = cc
 
 pub object_number : (n : ℕ) (o : Option Node) (x : Object) → object_of n o ≡ Some x → number_of_object x ≡ n
 object_number n None x is = none_some is
-object_number n (Some (directory_node mode names)) x is = ap number_of_object (sym (some_same is))
-object_number n (Some (file_node mode links bytes)) x is = ap number_of_object (sym (some_same is))
-object_number n (Some (link_node text)) x is = ap number_of_object (sym (some_same is))
+object_number n (Some (directory_node attributes names)) x is = ap number_of_object (sym (some_same is))
+object_number n (Some (file_node attributes links bytes)) x is = ap number_of_object (sym (some_same is))
+object_number n (Some (link_node attributes text)) x is = ap number_of_object (sym (some_same is))
 
 pub directory_of : (n : ℕ) (o : Option Node) → is_directory (object_of n o) ≡ is_directory_node o
 directory_of n None = refl
-directory_of n (Some (directory_node mode names)) = refl
-directory_of n (Some (file_node mode links bytes)) = refl
-directory_of n (Some (link_node text)) = refl
+directory_of n (Some (directory_node attributes names)) = refl
+directory_of n (Some (file_node attributes links bytes)) = refl
+directory_of n (Some (link_node attributes text)) = refl
 
 pub directory_object : (n : ℕ) (o : Option Node) → is_directory_node o ≡ true → object_of n o ≡ Some (directory n)
 directory_object n None is = absurd (false≢true is)
-directory_object n (Some (directory_node mode names)) is = refl
-directory_object n (Some (file_node mode links bytes)) is = absurd (false≢true is)
-directory_object n (Some (link_node text)) is = absurd (false≢true is)
+directory_object n (Some (directory_node attributes names)) is = refl
+directory_object n (Some (file_node attributes links bytes)) is = absurd (false≢true is)
+directory_object n (Some (link_node attributes text)) is = absurd (false≢true is)
 
 pub node_object : (n : ℕ) (o : Option Node) → IsSome o → IsSome (object_of n o)
 node_object n None some = absurd (false≢true some)
-node_object n (Some (directory_node mode names)) some = refl
-node_object n (Some (file_node mode links bytes)) some = refl
-node_object n (Some (link_node text)) some = refl
+node_object n (Some (directory_node attributes names)) some = refl
+node_object n (Some (file_node attributes links bytes)) some = refl
+node_object n (Some (link_node attributes text)) some = refl
 
 -- a volume in which another node stands for a number
 pub node_here : (n k : ℕ) (o : Option Node) (v : Volume) → k ≡ n → with_node n o v k ≡ o

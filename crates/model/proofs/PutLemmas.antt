@@ -52,21 +52,21 @@ module _ (v new : Volume) (volume : IsGraph v) (w : Path) (b : Name) (k : ℕ) (
 
 pub file_no_names : (o : Option Node) → is_file_node o ≡ true → (x : Name) → names_in o x ≡ None
 file_no_names None e x = refl
-file_no_names (Some (directory_node mode names)) e x = cc
-file_no_names (Some (file_node mode links bytes)) e x = refl
-file_no_names (Some (link_node text)) e x = refl
+file_no_names (Some (directory_node attributes names)) e x = cc
+file_no_names (Some (file_node attributes links bytes)) e x = refl
+file_no_names (Some (link_node attributes text)) e x = refl
 
 pub more_keeps : (o : Option Node) → Kept o (with_name_more o)
 more_keeps None = kept None
-more_keeps (Some (directory_node mode names)) = kept (Some (directory_node mode names))
-more_keeps (Some (file_node mode links bytes)) = record { object = λ n. refl; bytes = refl; mode = refl; directory = refl; file = refl; some = refl }
-more_keeps (Some (link_node text)) = kept (Some (link_node text))
+more_keeps (Some (directory_node attributes names)) = kept (Some (directory_node attributes names))
+more_keeps (Some (file_node attributes links bytes)) = record { object = λ n. refl; bytes = refl; mode = refl; directory = refl; file = refl; some = refl }
+more_keeps (Some (link_node attributes text)) = kept (Some (link_node attributes text))
 
 pub more_names : (o : Option Node) (x : Name) → names_in (with_name_more o) x ≡ names_in o x
 more_names None x = refl
-more_names (Some (directory_node mode names)) x = refl
-more_names (Some (file_node mode links bytes)) x = refl
-more_names (Some (link_node text)) x = refl
+more_names (Some (directory_node attributes names)) x = refl
+more_names (Some (file_node attributes links bytes)) x = refl
+more_names (Some (link_node attributes text)) x = refl
 
 -- an object without names in place of one without names leaves the entries
 pub entries-node : (n : ℕ) (o : Option Node) (v : Volume) → ((x : Name) → names_in o x ≡ names_in (v n) x) → entries (with_node n o v) ≡ entries v

@@ -20,36 +20,36 @@ use Rattle.model.proofs.RenameLemmas.{renamed_swept}
 use Rattle.model.proofs.OnceLemmas.{trees_same}
 use Rattle.model.proofs.AddLemmas.{more_kept, vacant_unnamed}
 use Rattle.model.proofs.MoveLemmas.{path_to, from_path, to_path, is_move, made_bare, bytes_names, bytes_by, mode_names, mode_file}
-use Rattle.model.proofs.MountedLemmas.{tree_of_is_tree, node_directory, node_file}
-use Rattle.model.proofs.ObjectLaws.{node_other}
+use Rattle.model.proofs.MountedLemmas.{tree_of_is_tree, node_file}
+use Rattle.model.proofs.ObjectLaws.{directory_object, node_other}
 
 -- what stays swept
 
 swept_as : (b : Bool) (o r : Option Node) → is_nameless r ≡ is_nameless o → swept_node b o ≡ o → swept_node b r ≡ r
 swept_as b o None same is = refl
-swept_as b o (Some (directory_node mode names)) same is = refl
-swept_as true o (Some (file_node mode zero bytes)) same is = refl
-swept_as false o (Some (file_node mode zero bytes)) same is = absurd (gone o (sym same) is)
+swept_as b o (Some (directory_node attributes names)) same is = refl
+swept_as true o (Some (file_node attributes zero bytes)) same is = refl
+swept_as false o (Some (file_node attributes zero bytes)) same is = absurd (gone o (sym same) is)
   where
     gone : (o : Option Node) → is_nameless o ≡ true → swept_node false o ≡ o → ⊥
     gone None nameless is = false≢true nameless
-    gone (Some (directory_node mode names)) nameless is = false≢true nameless
-    gone (Some (file_node mode zero bytes)) nameless is = cc
-    gone (Some (file_node mode (suc links) bytes)) nameless is = false≢true nameless
-    gone (Some (link_node text)) nameless is = false≢true nameless
-swept_as b o (Some (file_node mode (suc links) bytes)) same is = refl
-swept_as b o (Some (link_node text)) same is = refl
+    gone (Some (directory_node attributes names)) nameless is = false≢true nameless
+    gone (Some (file_node attributes zero bytes)) nameless is = cc
+    gone (Some (file_node attributes (suc links) bytes)) nameless is = false≢true nameless
+    gone (Some (link_node attributes text)) nameless is = false≢true nameless
+swept_as b o (Some (file_node attributes (suc links) bytes)) same is = refl
+swept_as b o (Some (link_node attributes text)) same is = refl
 
 stays_named : (b : Bool) (o : Option Node) → is_nameless o ≡ false → swept_node b o ≡ o
 stays_named b o named = swept_as b None o named refl
 
 pub swept_twice : (b : Bool) (o : Option Node) → swept_node b (swept_node b o) ≡ swept_node b o
 swept_twice b None = refl
-swept_twice b (Some (directory_node mode names)) = refl
-swept_twice true (Some (file_node mode zero bytes)) = refl
-swept_twice false (Some (file_node mode zero bytes)) = refl
-swept_twice b (Some (file_node mode (suc links) bytes)) = refl
-swept_twice b (Some (link_node text)) = refl
+swept_twice b (Some (directory_node attributes names)) = refl
+swept_twice true (Some (file_node attributes zero bytes)) = refl
+swept_twice false (Some (file_node attributes zero bytes)) = refl
+swept_twice b (Some (file_node attributes (suc links) bytes)) = refl
+swept_twice b (Some (link_node attributes text)) = refl
 
 -- where each object is swept, so is the volume
 same_volume : (v w : Volume) → ((n : ℕ) → v n ≡ w n) → v ≡ w
@@ -57,10 +57,10 @@ same_volume v w same = fun_ext {f = v} {g = w} same
 
 set_nameless : (x : Name) (to : Option ℕ) (o : Option Node) → is_nameless (set_name x to o) ≡ is_nameless o
 set_nameless x to None = refl
-set_nameless x to (Some (directory_node mode names)) = refl
-set_nameless x to (Some (file_node mode zero bytes)) = refl
-set_nameless x to (Some (file_node mode (suc links) bytes)) = refl
-set_nameless x to (Some (link_node text)) = refl
+set_nameless x to (Some (directory_node attributes names)) = refl
+set_nameless x to (Some (file_node attributes zero bytes)) = refl
+set_nameless x to (Some (file_node attributes (suc links) bytes)) = refl
+set_nameless x to (Some (link_node attributes text)) = refl
 
 entry_nameless : (v : Volume) (d : ℕ) (x : Name) (to : Option ℕ) (m : ℕ) → is_nameless (with_entry d x to v m) ≡ is_nameless (v m)
 entry_nameless v d x to m =
@@ -71,13 +71,13 @@ entry_nameless v d x to m =
 
 more_named : (o : Option Node) → is_nameless (with_name_more o) ≡ false
 more_named None = refl
-more_named (Some (directory_node mode names)) = refl
-more_named (Some (file_node mode links bytes)) = named (links + 1) (omega arith)
+more_named (Some (directory_node attributes names)) = refl
+more_named (Some (file_node attributes links bytes)) = named (links + 1) (omega arith)
   where
-    named : (n : ℕ) → 1 ≤ n → is_nameless (Some (file_node mode n bytes)) ≡ false
+    named : (n : ℕ) → 1 ≤ n → is_nameless (Some (file_node attributes n bytes)) ≡ false
     named zero low = absurd (omega (arith, low))
     named (suc n) low = refl
-more_named (Some (link_node text)) = refl
+more_named (Some (link_node attributes text)) = refl
 
 made_named : (made : Made) → is_nameless (Some (node_of made)) ≡ false
 made_named (file mode) = refl
@@ -86,17 +86,17 @@ made_named (symbolic_link text) = refl
 
 bytes_nameless : (f : List ℕ → List ℕ) (o : Option Node) → is_nameless (with_file_bytes f o) ≡ is_nameless o
 bytes_nameless f None = refl
-bytes_nameless f (Some (directory_node mode names)) = refl
-bytes_nameless f (Some (file_node mode zero bytes)) = refl
-bytes_nameless f (Some (file_node mode (suc links) bytes)) = refl
-bytes_nameless f (Some (link_node text)) = refl
+bytes_nameless f (Some (directory_node attributes names)) = refl
+bytes_nameless f (Some (file_node attributes zero bytes)) = refl
+bytes_nameless f (Some (file_node attributes (suc links) bytes)) = refl
+bytes_nameless f (Some (link_node attributes text)) = refl
 
 mode_nameless : (bits : ℕ) (o : Option Node) → is_nameless (with_node_mode bits o) ≡ is_nameless o
 mode_nameless bits None = refl
-mode_nameless bits (Some (directory_node mode names)) = refl
-mode_nameless bits (Some (file_node mode zero bytes)) = refl
-mode_nameless bits (Some (file_node mode (suc links) bytes)) = refl
-mode_nameless bits (Some (link_node text)) = refl
+mode_nameless bits (Some (directory_node attributes names)) = refl
+mode_nameless bits (Some (file_node attributes zero bytes)) = refl
+mode_nameless bits (Some (file_node attributes (suc links) bytes)) = refl
+mode_nameless bits (Some (link_node attributes text)) = refl
 
 -- a choice by a test, through a function
 chosen : {X Y : Type 0} (f : X → Y) (b : Bool) (x y : X) → f (if b then x else y) ≡ (if b then f x else f y)
@@ -136,7 +136,7 @@ module _ (inodes : ℕ) (v : Volume) (volume : IsVolume inodes v) (table : ℕ �
 
   -- a directory stands at its path
   is_at : (p : Path) (d : ℕ) → number_at (entries v) p ≡ Some d → is_directory_node (v d) ≡ true → IsAt t p d
-  is_at p d at_d d_is = ap (object_at v) at_d ∙ node_directory d (v d) d_is
+  is_at p d at_d d_is = ap (object_at v) at_d ∙ directory_object d (v d) d_is
 
   -- a new object
   module _ (number parent : ℕ) (made : Made) (name : Name) (can : CanCreate inodes v number parent made name) (free : v number ≡ None) where
@@ -258,16 +258,16 @@ module _ (inodes : ℕ) (v : Volume) (volume : IsVolume inodes v) (table : ℕ �
     altered_swept = unswept v altered table mounted (λ m. inr (by_node is_nameless nameless m))
 
   bytes_object : (f : List ℕ → List ℕ) (o : Option Node) (m : ℕ) → object_of m (with_file_bytes f o) ≡ object_of m o
-  bytes_object f o m = bytes_by (object_of m) (λ mode links a b. refl) f o
+  bytes_object f o m = bytes_by (object_of m) (λ attributes links a b. refl) f o
 
   bytes_here : (f : List ℕ → List ℕ) (o : Option Node) → is_file_node o ≡ true → bytes_of_node (with_file_bytes f o) ≡ Some (f (unwrap_or (bytes_of_node o) []))
   bytes_here f None is = absurd (false≢true is)
-  bytes_here f (Some (directory_node mode names)) is = absurd (false≢true is)
-  bytes_here f (Some (file_node mode links bytes)) is = refl
-  bytes_here f (Some (link_node text)) is = absurd (false≢true is)
+  bytes_here f (Some (directory_node attributes names)) is = absurd (false≢true is)
+  bytes_here f (Some (file_node attributes links bytes)) is = refl
+  bytes_here f (Some (link_node attributes text)) is = absurd (false≢true is)
 
   bytes_mode : (f : List ℕ → List ℕ) (o : Option Node) → mode_of (with_file_bytes f o) ≡ mode_of o
-  bytes_mode f o = bytes_by mode_of (λ mode links a b. refl) f o
+  bytes_mode f o = bytes_by mode_of (λ attributes links a b. refl) f o
 
   -- a file's bytes change
   module _ (n : ℕ) (f : List ℕ → List ℕ) (is : is_file_node (v n) ≡ true) where
@@ -283,21 +283,21 @@ module _ (inodes : ℕ) (v : Volume) (volume : IsVolume inodes v) (table : ℕ �
 
   mode_object : (bits : ℕ) (o : Option Node) (m : ℕ) → object_of m (with_node_mode bits o) ≡ object_of m o
   mode_object bits None m = refl
-  mode_object bits (Some (directory_node mode names)) m = refl
-  mode_object bits (Some (file_node mode links bytes)) m = refl
-  mode_object bits (Some (link_node text)) m = refl
+  mode_object bits (Some (directory_node attributes names)) m = refl
+  mode_object bits (Some (file_node attributes links bytes)) m = refl
+  mode_object bits (Some (link_node attributes text)) m = refl
 
   mode_here : (bits : ℕ) (o : Option Node) → (is_file_node o || is_directory_node o) ≡ true → mode_of (with_node_mode bits o) ≡ Some bits
   mode_here bits None is = absurd (false≢true is)
-  mode_here bits (Some (directory_node mode names)) is = refl
-  mode_here bits (Some (file_node mode links bytes)) is = refl
-  mode_here bits (Some (link_node text)) is = absurd (false≢true is)
+  mode_here bits (Some (directory_node attributes names)) is = refl
+  mode_here bits (Some (file_node attributes links bytes)) is = refl
+  mode_here bits (Some (link_node attributes text)) is = absurd (false≢true is)
 
   mode_bytes : (bits : ℕ) (o : Option Node) → bytes_of_node (with_node_mode bits o) ≡ bytes_of_node o
   mode_bytes bits None = refl
-  mode_bytes bits (Some (directory_node mode names)) = refl
-  mode_bytes bits (Some (file_node mode links bytes)) = refl
-  mode_bytes bits (Some (link_node text)) = refl
+  mode_bytes bits (Some (directory_node attributes names)) = refl
+  mode_bytes bits (Some (file_node attributes links bytes)) = refl
+  mode_bytes bits (Some (link_node attributes text)) = refl
 
   -- a mode changes
   module _ (n bits : ℕ) (is : (is_file_node (v n) || is_directory_node (v n)) ≡ true) where
@@ -354,9 +354,9 @@ module _ (inodes : ℕ) (v : Volume) (volume : IsVolume inodes v) (table : ℕ �
       let m = is_move v graph parent name new_parent new_name can in
       (keeps v graph from.0 to.0 name new_name parent new_parent can.number m.at_d m.at_k m.there m.d_is m.k_is m.empty m.outside m.other n (λ there. is)).file ∙ is
   files_stay (write number offset bytes) can free n is =
-      by_node number (with_file_bytes (written offset bytes) (v number)) (bytes_names (written offset bytes) (v number)) (bytes_object (written offset bytes) (v number)) (bytes_nameless (written offset bytes) (v number)) is_file_node (bytes_by is_file_node (λ mode links a b. refl) (written offset bytes) (v number)) n ∙ is
+      by_node number (with_file_bytes (written offset bytes) (v number)) (bytes_names (written offset bytes) (v number)) (bytes_object (written offset bytes) (v number)) (bytes_nameless (written offset bytes) (v number)) is_file_node (bytes_by is_file_node (λ attributes links a b. refl) (written offset bytes) (v number)) n ∙ is
   files_stay (cut number size) can free n is =
-      by_node number (with_file_bytes (resized size) (v number)) (bytes_names (resized size) (v number)) (bytes_object (resized size) (v number)) (bytes_nameless (resized size) (v number)) is_file_node (bytes_by is_file_node (λ mode links a b. refl) (resized size) (v number)) n ∙ is
+      by_node number (with_file_bytes (resized size) (v number)) (bytes_names (resized size) (v number)) (bytes_object (resized size) (v number)) (bytes_nameless (resized size) (v number)) is_file_node (bytes_by is_file_node (λ attributes links a b. refl) (resized size) (v number)) n ∙ is
   files_stay (change_mode number mode) can free n is =
       by_node number (with_node_mode mode (v number)) (mode_names mode (v number)) (mode_object mode (v number)) (mode_nameless mode (v number)) is_file_node (mode_file mode (v number)) n ∙ is
 

@@ -8,23 +8,15 @@ use Rattle.model.specs.declared.command.Command.TheVariants as command
 use Rattle.model.specs.declared.command.PathCall.TheVariants as call
 use Rattle.model.specs.Paths.{Name, Path}
 use Rattle.model.specs.Trees.{Tree, root_alone}
-use Rattle.model.specs.Edits.{without_object, with_bytes, with_directory, with_file}
+use Rattle.model.specs.Edits.{without_object, with_bytes, with_file}
 use Rattle.model.specs.Room.{Room, nothing, logs, a_snapshot, removes_name}
 use Rattle.model.specs.States.{State, empty, with_tree, with_snapshots}
 use Rattle.model.specs.Steps.{WouldStep}
-use Rattle.model.proofs.ToldLemmas.{Told, told_root, told_object, told_bytes, told_directory, told_file, told_dropped, dropped, listing_told, swept_told, links_told, forgets_told}
+use Rattle.model.proofs.DirectoryExamples.{at_a, with_a, with_a_is}
+use Rattle.model.proofs.ToldLemmas.{Told, told_root, told_object, told_bytes, told_file, told_dropped, dropped, listing_told, swept_told, links_told, forgets_told}
 
 abbrev room : Room
 room = record { blocks = 64; free = 60; pledged = 0; is_covered = true; nameless_of = λ name. 0 }
-
-abbrev at_a : Path
-at_a = codes "a" ∷ []
-
-abbrev with_a : Tree
-with_a = with_directory at_a 4 0o755 (root_alone 0o755)
-
-with_a_is : Told with_a (at_a ∷ [] ∷ []) [] (4 ∷ 3 ∷ [])
-with_a_is = told_directory (told_root 0o755) at_a 4 0o755
 
 -- `mkdir /a`, `snap take s1`, `rmdir /a`: the snapshot has `/a`, and the tree hasn't
 

@@ -2,6 +2,7 @@
 use Rattle.std.proofs.Common.{◌≡◌, ◌≢◌, inl, inr, ℕ, zero, suc, ◌≤◌, ◌<◌, List, [], ◌∷◌, ◌++◌, Bool, true, false, ◌||◌, Option, Some, None, is_some, IsSome, refl, sym, ap, ◌∙◌, arith}
 use Rattle.std.proofs.Math.Path.{fun_ext}
 use Rattle.std.proofs.lemmas.Bool.{cases_Bool, cases_eq, cases_lt, or_left, or_right, eq-eqb, eqb-true, false≢true, cond-false}
+use Rattle.model.specs.declared.attributes.Attributes.{Attributes}
 use Rattle.model.specs.Paths.{Name, Path}
 use Rattle.model.specs.Trees.{Tree, Object, number_of_object, Description, IsUsed}
 use Rattle.model.specs.Edits.{IsSwept}
@@ -13,21 +14,21 @@ use Rattle.model.proofs.OptionLaws.{some_same}
 
 -- a file without names
 abbrev pub IsNameless : Option Node → Type 0
-IsNameless o = (mode : ℕ) × (bytes : List ℕ) × (o ≡ Some (file_node mode 0 bytes))
+IsNameless o = (attributes : Attributes) × (bytes : List ℕ) × (o ≡ Some (file_node attributes 0 bytes))
 
 pub stays_named : (open_now : Bool) (o : Option Node) → ¬ IsNameless o → swept_node open_now o ≡ o
 stays_named open_now None named = refl
-stays_named open_now (Some (directory_node mode names)) named = refl
-stays_named open_now (Some (file_node mode zero bytes)) named = absurd (named (mode, bytes, refl))
-stays_named open_now (Some (file_node mode (suc links) bytes)) named = refl
-stays_named open_now (Some (link_node text)) named = refl
+stays_named open_now (Some (directory_node attributes names)) named = refl
+stays_named open_now (Some (file_node attributes zero bytes)) named = absurd (named (attributes, bytes, refl))
+stays_named open_now (Some (file_node attributes (suc links) bytes)) named = refl
+stays_named open_now (Some (link_node attributes text)) named = refl
 
 pub stays_open : (o : Option Node) → swept_node true o ≡ o
 stays_open None = refl
-stays_open (Some (directory_node mode names)) = refl
-stays_open (Some (file_node mode zero bytes)) = refl
-stays_open (Some (file_node mode (suc links) bytes)) = refl
-stays_open (Some (link_node text)) = refl
+stays_open (Some (directory_node attributes names)) = refl
+stays_open (Some (file_node attributes zero bytes)) = refl
+stays_open (Some (file_node attributes (suc links) bytes)) = refl
+stays_open (Some (link_node attributes text)) = refl
 
 pub found_open : (table : ℕ → Option Description) (bound d n : ℕ) (f : Description) → d < bound → table d ≡ Some f → f.number ≡ n → is_open table bound n ≡ true
 found_open table zero d n f below is same = absurd (omega (arith, below))
@@ -52,9 +53,9 @@ opened_by table (suc bound) n e =
 
 named_object : (n : ℕ) (o : Option Node) → IsSome o → (r : Object) × (object_of n o ≡ Some r) × (number_of_object r ≡ n)
 named_object n None some = absurd (false≢true some)
-named_object n (Some (directory_node mode names)) some = (_, refl, refl)
-named_object n (Some (file_node mode links bytes)) some = (_, refl, refl)
-named_object n (Some (link_node text)) some = (_, refl, refl)
+named_object n (Some (directory_node attributes names)) some = (_, refl, refl)
+named_object n (Some (file_node attributes links bytes)) some = (_, refl, refl)
+named_object n (Some (link_node attributes text)) some = (_, refl, refl)
 
 pub found_number : (v : Volume) (o : Option ℕ) (r : Object) (n : ℕ) → object_at v o ≡ Some r → number_of_object r ≡ n → o ≡ Some n
 found_number v None r n e same = cc
@@ -65,11 +66,11 @@ count_some e n links ((d, x), is, rest) = (d, x, is)
 
 pub swept_names : (b : Bool) (o : Option Node) (x : Name) → names_in (swept_node b o) x ≡ names_in o x
 swept_names b None x = refl
-swept_names b (Some (directory_node mode names)) x = refl
-swept_names true (Some (file_node mode zero bytes)) x = refl
-swept_names false (Some (file_node mode zero bytes)) x = refl
-swept_names b (Some (file_node mode (suc links) bytes)) x = refl
-swept_names b (Some (link_node text)) x = refl
+swept_names b (Some (directory_node attributes names)) x = refl
+swept_names true (Some (file_node attributes zero bytes)) x = refl
+swept_names false (Some (file_node attributes zero bytes)) x = refl
+swept_names b (Some (file_node attributes (suc links) bytes)) x = refl
+swept_names b (Some (link_node attributes text)) x = refl
 
 pub none_from : (o : Option Node) → ¬ (o ≢ None) → o ≡ None
 none_from None e = refl
@@ -78,15 +79,15 @@ none_from (Some o) e = absurd (e (λ is. cc))
 module _ (v : Volume) (volume : IsGraph v) (table : ℕ → Option Description) (bounded : (d : ℕ) → 32 ≤ d → table d ≡ None) where
   -- what is reached has a name
   not_nameless : (r : Path) (n : ℕ) → number_at (entries v) r ≡ Some n → ¬ IsNameless (v n)
-  not_nameless r n at_r (mode, bytes, is) =
+  not_nameless r n at_r (attributes, bytes, is) =
       elim (ends r) [
         | inl e ↦
             let three : 3 ≡ n = some_same (ap (number_at (entries v)) (sym e) ∙ at_r) in
-            let root : is_directory_node (Some (file_node mode 0 bytes)) ≡ true = ap is_directory_node (sym is ∙ ap v (sym three)) ∙ volume.naming.root in
+            let root : is_directory_node (Some (file_node attributes 0 bytes)) ≡ true = ap is_directory_node (sym is ∙ ap v (sym three)) ∙ volume.naming.root in
             false≢true root
         | inr (u, x, e) ↦
             let last = last_step (entries v) u x n (ap (number_at (entries v)) (sym e) ∙ at_r) in
-            volume.counts n mode 0 bytes is (last.0, x) last.2
+            volume.counts n attributes 0 bytes is (last.0, x) last.2
       ]
 
   object_stays : (r : Path) (o : Option ℕ) → number_at (entries v) r ≡ o → object_at (swept table v) o ≡ object_at v o
@@ -113,14 +114,14 @@ module _ (v : Volume) (volume : IsGraph v) (table : ℕ → Option Description) 
   -- what a sweep leaves is used
   used_by : (n : ℕ) (o : Option Node) → v n ≡ o → swept_node (is_open table 32 n) o ≢ None → IsUsed (tree_of v table) n
   used_by n None is stays = absurd (stays refl)
-  used_by n (Some (directory_node mode names)) is stays = let path = volume.naming.reached n (ap is_some is) (ap is_file_node is) in at_path n path.0 path.1 (ap is_some is)
-  used_by n (Some (link_node text)) is stays = let path = volume.naming.reached n (ap is_some is) (ap is_file_node is) in at_path n path.0 path.1 (ap is_some is)
-  used_by n (Some (file_node mode (suc links) bytes)) is stays =
-      let name = count_some (entries v) n links (volume.counts n mode (suc links) bytes is) in
+  used_by n (Some (directory_node attributes names)) is stays = let path = volume.naming.reached n (ap is_some is) (ap is_file_node is) in at_path n path.0 path.1 (ap is_some is)
+  used_by n (Some (link_node attributes text)) is stays = let path = volume.naming.reached n (ap is_some is) (ap is_file_node is) in at_path n path.0 path.1 (ap is_some is)
+  used_by n (Some (file_node attributes (suc links) bytes)) is stays =
+      let name = count_some (entries v) n links (volume.counts n attributes (suc links) bytes is) in
       let a_directory = enters_directory (v name.0) name.1 n name.2 in
       let path = volume.naming.reached name.0 (directory_some (v name.0) a_directory) (directory_no_file (v name.0) a_directory) in
       at_path n (path.0 ++ name.1 ∷ []) (number_at-push (entries v) path.0 name.1 ∙ ap (λ o. enter (entries v) o name.1) path.1 ∙ name.2) (ap is_some is)
-  used_by n (Some (file_node mode zero bytes)) is stays =
+  used_by n (Some (file_node attributes zero bytes)) is stays =
       elim (cases_Bool (is_open table 32 n)) [
         | inl t ↦ inr (opened_by table 32 n t)
         | inr f ↦ absurd (stays (cond-false (is_open table 32 n) _ _ f))

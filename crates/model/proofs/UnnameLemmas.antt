@@ -1,6 +1,7 @@
 -- A volume stays one where a name is taken away.
 use Rattle.std.proofs.Common.{◌≡◌, ◌≢◌, ◌⊎◌, inl, inr, ℕ, List, [], ◌∷◌, ◌++◌, true, false, Option, Some, None, is_some, IsSome, refl, sym, ap, subst, ◌∙◌, arith}
 use Rattle.std.proofs.lemmas.Bool.{cases_Bool, cases_eq, cond-false, false≢true, false_from_ne_true}
+use Rattle.model.specs.declared.attributes.Attributes.{Attributes}
 use Rattle.model.specs.Paths.{Name, Path, path_eq}
 use Rattle.model.specs.Trees.{Description, IsUsed}
 use Rattle.model.specs.Volumes.{file_node, Volume, tree_of, Entries, entries, enter, number_at, with_edge, is_file_node, is_directory_node, IsGraph, HasNames, released, unnamed}
@@ -54,14 +55,14 @@ module _ (v : Volume) (volume : IsGraph v) (w : Path) (b : Name) (k n : ℕ) (at
   new_edge : (j : ℕ) (y : Name) → (j ≡ k → y ≢ b) → entries new j y ≡ e j y
   new_edge j y other = ap (λ f. f j y) edges ∙ edge_other k j b y None e other
 
-  count_new : (m mode links : ℕ) (bytes : List ℕ) → new m ≡ Some (file_node mode links bytes) → HasNames (entries new) m links
-  count_new m mode links bytes is =
-      let was : less m ≡ Some (file_node mode links bytes) = entry_was mode links bytes k b None less m is in
+  count_new : (m : ℕ) (attributes : Attributes) (links : ℕ) (bytes : List ℕ) → new m ≡ Some (file_node attributes links bytes) → HasNames (entries new) m links
+  count_new m attributes links bytes is =
+      let was : less m ≡ Some (file_node attributes links bytes) = entry_was attributes links bytes k b None less m is in
       elim (cases_eq m n) [
         | inl same ↦
             let target : e k b ≡ Some m = there ∙ ap (λ i. Some i) (sym same) in
-            let before = less_was mode links bytes (v m) (sym (released_here (e k b) v m target) ∙ was) in
-            let fewer = one_less (λ (c : ℕ × Name). e c.0 c.1 ≡ Some m) (k, b) before.0 same_or_not target (volume.counts m mode before.0 bytes before.1) in
+            let before = less_was attributes links bytes (v m) (sym (released_here (e k b) v m target) ∙ was) in
+            let fewer = one_less (λ (c : ℕ × Name). e c.0 c.1 ≡ Some m) (k, b) before.0 same_or_not target (volume.counts m attributes before.0 bytes before.1) in
             subst (HasNames (entries new) m) (omega (arith, before.2, fewer.1))
             (same_count (λ (c : ℕ × Name). (e c.0 c.1 ≡ Some m) × (c ≢ (k, b))) (λ (c : ℕ × Name). entries new c.0 c.1 ≡ Some m) fewer.0 (λ (j, y). (
               (λ old. new_edge j y (λ is_k name. old.1 (pair_same j k y b is_k name)) ∙ old.0),
@@ -72,7 +73,7 @@ module _ (v : Volume) (volume : IsGraph v) (w : Path) (b : Name) (k n : ℕ) (at
             same_count (λ (c : ℕ × Name). e c.0 c.1 ≡ Some m) (λ (c : ℕ × Name). entries new c.0 c.1 ≡ Some m) links (λ (j, y). (
               (λ old. new_edge j y (λ is_k name. target (ap (λ i. e i b) (sym is_k) ∙ ap (λ x. e j x) (sym name) ∙ old)) ∙ old),
               (λ now. (edge_of j y m now).1),
-            )) (volume.counts m mode links bytes (sym (released_other (e k b) v m target) ∙ was))
+            )) (volume.counts m attributes links bytes (sym (released_other (e k b) v m target) ∙ was))
       ]
 
   nothing_below : (x : Name) → number_at e ((w ++ b ∷ []) ++ x ∷ []) ≡ None

@@ -12,15 +12,15 @@ ends (x ∷ p) = elim (ends p) [ inl e ↦ inr ([], x, ap (λ q. x ∷ q) e) | i
 -- where a name leads somewhere, it is a directory's
 pub enters_directory : (o : Option Node) (x : Name) (n : ℕ) → names_in o x ≡ Some n → is_directory_node o ≡ true
 enters_directory None x n e = cc
-enters_directory (Some (directory_node mode names)) x n e = refl
-enters_directory (Some (file_node mode links bytes)) x n e = cc
-enters_directory (Some (link_node text)) x n e = cc
+enters_directory (Some (directory_node attributes names)) x n e = refl
+enters_directory (Some (file_node attributes links bytes)) x n e = cc
+enters_directory (Some (link_node attributes text)) x n e = cc
 
 pub directory_no_file : (o : Option Node) → is_directory_node o ≡ true → is_file_node o ≡ false
 directory_no_file None e = refl
-directory_no_file (Some (directory_node mode names)) e = refl
-directory_no_file (Some (file_node mode links bytes)) e = cc
-directory_no_file (Some (link_node text)) e = refl
+directory_no_file (Some (directory_node attributes names)) e = refl
+directory_no_file (Some (file_node attributes links bytes)) e = cc
+directory_no_file (Some (link_node attributes text)) e = refl
 
 pub directory_some : (o : Option Node) → is_directory_node o ≡ true → IsSome o
 directory_some None e = cc

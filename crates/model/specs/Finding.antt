@@ -36,9 +36,9 @@ pub data Turn : Type 0 where
 -- the turn at a number that a name leads to, by the object that has it
 abbrev pub turn_at : ℕ → Option Node → Turn
 turn_at n None = finds_damage
-turn_at n (Some (directory_node mode names)) = enters n
-turn_at n (Some (file_node mode links bytes)) = ends_at n
-turn_at n (Some (link_node text)) = follows n text
+turn_at n (Some (directory_node attributes names)) = enters n
+turn_at n (Some (file_node attributes links bytes)) = ends_at n
+turn_at n (Some (link_node attributes text)) = follows n text
 
 -- the turn by a name, which leads to a number or to none
 abbrev pub turn_by : Volume → Option ℕ → Turn

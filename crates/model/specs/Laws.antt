@@ -1,5 +1,6 @@
 -- Laws of the definitions, which the functions of `laws.rt` name.
 use Rattle.std.specs.Prelude.{ℕ, ◌≡◌, ◌↔◌, ◌≤◌, ◌<◌, Bool, true, false, IsTrue, IsFalse, IsSome, Contains, List, [], length, Option, Some, None}
+use Rattle.model.specs.declared.attributes.Attributes.{Attributes}
 use Rattle.model.specs.declared.limits.TheConstants.{LINKS_FOLLOWED, FIRST_NUMBER, MODE_BITS}
 use Rattle.model.specs.declared.errno.Errno.{Errno}
 use Rattle.model.specs.declared.errno.Errno.TheVariants.{ENOSPC, ENOMEM, EIO, DAMAGED, FAILED}
@@ -143,8 +144,8 @@ VolumesTellFresh =
 -- in a volume, a file's count of names is its count of paths
 abbrev pub VolumesTellLinks : Type 0
 VolumesTellLinks =
-    (inodes : ℕ) (v : Volume) (table : ℕ → Option Description) (n mode links : ℕ) (bytes : List ℕ) → IsVolume inodes v
-    → v n ≡ Some (file_node mode links bytes) → HasLinks (tree_of v table) (file n) links
+    (inodes : ℕ) (v : Volume) (table : ℕ → Option Description) (n : ℕ) (attributes : Attributes) (links : ℕ) (bytes : List ℕ) → IsVolume inodes v
+    → v n ≡ Some (file_node attributes links bytes) → HasLinks (tree_of v table) (file n) links
 
 -- a record costs the same in a replay as when it was logged
 abbrev pub ReplaysCostTheSame : Type 0

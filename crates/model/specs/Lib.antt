@@ -1,3 +1,4 @@
+pub mod Attributes
 pub mod Errnos
 pub mod Counting
 pub mod Paths
@@ -7,6 +8,7 @@ pub mod Resolution
 pub mod Room
 pub mod Outcomes
 pub mod Reading
+pub mod Replies
 pub mod Changing
 pub mod Descriptors
 pub mod States

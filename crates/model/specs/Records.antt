@@ -1,6 +1,9 @@
 -- What the records of the log do to a volume, and when each applies.
 use Rattle.std.specs.Prelude.{ℕ, zero, suc, ◌≡◌, ◌≢◌, ◌⊎◌, ◌+◌, ◌*◌, ◌≤◌, ◌<◌, IsSome, Bool, true, false, IsTrue, ◌||◌, if◌then◌else◌, List, [], ◌∷◌, length, fold, unwrap_or, Option, Some, None}
-use Rattle.model.specs.declared.limits.TheConstants.{FIRST_NUMBER, FILE_NAMES, DIRECTORY_NAMES, TRANSFER_BYTES, GREATEST_FILE, MODE_BITS}
+use Rattle.model.specs.declared.costs.TheConstants.{NAMELESS_COST}
+use Rattle.model.specs.declared.limits.TheConstants.{FIRST_NUMBER, FILE_NAMES, DIRECTORY_NAMES, TRANSFER_BYTES, GREATEST_FILE, LINK_MODE, MODE_BITS}
+use Rattle.model.specs.declared.attributes.Attributes.{Attributes}
+use Rattle.model.specs.Attributes.{new_attributes, set_mode}
 use Rattle.model.specs.Counting.{Counts}
 use Rattle.model.specs.Paths.{Name, Path, IsName, IsLinkText}
 use Rattle.model.specs.Edits.{written, resized}
@@ -25,19 +28,19 @@ pub data Change : Type 0 where
 
 -- the object that a record makes, with its one name; a file has no bytes and a directory no names
 abbrev pub node_of : Made → Node
-node_of (file mode) = file_node mode 1 []
-node_of (directory mode) = directory_node mode (λ x. None)
-node_of (symbolic_link text) = link_node text
+node_of (file mode) = file_node (new_attributes mode) 1 []
+node_of (directory mode) = directory_node (new_attributes mode) (λ x. None)
+node_of (symbolic_link text) = link_node (new_attributes LINK_MODE) text
 
 -- an object with its bytes changed, where it is a file
 abbrev pub with_file_bytes : (List ℕ → List ℕ) → Option Node → Option Node
-with_file_bytes f (Some (file_node mode links bytes)) = Some (file_node mode links (f bytes))
+with_file_bytes f (Some (file_node attributes links bytes)) = Some (file_node attributes links (f bytes))
 with_file_bytes f o = o
 
 -- an object with this mode, where it is a directory or a file
 abbrev pub with_node_mode : ℕ → Option Node → Option Node
-with_node_mode mode (Some (directory_node old names)) = Some (directory_node mode names)
-with_node_mode mode (Some (file_node old links bytes)) = Some (file_node mode links bytes)
+with_node_mode mode (Some (directory_node attributes names)) = Some (directory_node (set_mode mode attributes) names)
+with_node_mode mode (Some (file_node attributes links bytes)) = Some (file_node (set_mode mode attributes) links bytes)
 with_node_mode mode o = o
 
 -- the volume that a record leaves, where a file stays that has no name any more
@@ -89,10 +92,10 @@ pub record CanCreate (inodes : ℕ) (v : Volume) (number parent : ℕ) (made : M
 -- the record of a link applies: its number is that of a file with fewer names than the limit, and its name can be put
 -- into a directory
 pub record CanLink (v : Volume) (number parent : ℕ) (name : Name) : Type 0 where
-  pub mode : ℕ
+  pub attributes : Attributes
   pub links : ℕ
   pub bytes : List ℕ
-  pub file : v number ≡ Some (file_node mode links bytes)
+  pub file : v number ≡ Some (file_node attributes links bytes)
   pub few : links < FILE_NAMES
   pub takes : TakesName v parent name
 
@@ -169,10 +172,10 @@ abbrev pub count_nameless : ℕ → Volume → ℕ
 count_nameless zero v = 0
 count_nameless (suc n) v = count_nameless n v + (if is_nameless (v n) then 1 else 0)
 
--- the blocks that a consistency point may store for what the settled root doesn't cover: these records, and 4 for each
--- file without names in the settled root's volume
+-- the blocks that a consistency point may store for what the settled root doesn't cover: these records, and each file
+-- without names in the settled root's volume
 abbrev pub pledged_for : ℕ → Volume → List Change → ℕ
-pledged_for inodes settled changes = 4 * count_nameless inodes settled + costs settled changes
+pledged_for inodes settled changes = NAMELESS_COST * count_nameless inodes settled + costs settled changes
 
 -- the settled root has the volume as it is now, and covers every record
 abbrev pub CoversAll : Volume → Volume → List Change → Type 0

@@ -1,5 +1,6 @@
 -- The room of the disk: what a call asks of the blocks that are left.
 use Rattle.std.specs.Prelude.{ℕ, List, ◌+◌, ◌-◌, ◌*◌, ◌/◌, ◌<◌, max, nat_lt, if◌then◌else◌, Bool, IsTrue}
+use Rattle.model.specs.declared.costs.TheConstants.{NAMES_COST, FILE_COST, GREAT_FILE_COST, MODE_COST, NAMELESS_COST, POINT_COST, KEPT_BLOCKS}
 use Rattle.model.specs.declared.limits.TheConstants.{SINGLE_FILE}
 
 -- the kind of work that a record of the log makes for a consistency point
@@ -17,27 +18,27 @@ touched offset count = (offset + count + 4095) / 4096 - offset / 4096
 -- the most blocks that a write stores beside its own and those that lead to them: with a third height over the blocks of a
 -- file that is or becomes as large, two more
 abbrev pub beside : ℕ → ℕ
-beside size = if nat_lt SINGLE_FILE size then 8 else 6
+beside size = if nat_lt SINGLE_FILE size then GREAT_FILE_COST else FILE_COST
 
 -- the most blocks that a consistency point stores for a record
 abbrev pub cost : Work → ℕ
-cost adds_name = 24
-cost removes_name = 24
+cost adds_name = NAMES_COST
+cost removes_name = NAMES_COST
 cost (puts_bytes size offset count) = 2 * touched offset count + beside (max size (offset + count))
-cost (changes_size size to) = 6
-cost changes_bits = 2
+cost (changes_size size to) = FILE_COST
+cost changes_bits = MODE_COST
 
 -- the blocks that stay free behind a record, so that files can still be taken away
 abbrev pub keep : Work → ℕ
-keep adds_name = 16
+keep adds_name = KEPT_BLOCKS
 keep removes_name = 0
-keep (puts_bytes size offset count) = 16
-keep (changes_size size to) = if nat_lt size to then 16 else 0
+keep (puts_bytes size offset count) = KEPT_BLOCKS
+keep (changes_size size to) = if nat_lt size to then KEPT_BLOCKS else 0
 keep changes_bits = 0
 
 -- the blocks that each consistency point stores whatever changed, on a disk of so many blocks
 abbrev pub fixed_of : ℕ → ℕ
-fixed_of blocks = (blocks + 1023) / 1024 + 4
+fixed_of blocks = (blocks + 1023) / 1024 + POINT_COST
 
 -- what a call asks of the room that is left
 pub data Need : Type 0 where
@@ -60,4 +61,4 @@ IsShort room nothing = ⊥
 IsShort room (logs work) = IsTrue room.is_covered × (room.free < room.pledged + cost work + fixed_of room.blocks + keep work)
 IsShort room a_snapshot = IsTrue room.is_covered × (room.free < room.pledged + 2 * fixed_of room.blocks + 1)
 IsShort room (a_restore nameless) =
-    IsTrue room.is_covered × (room.free < room.pledged + 2 * fixed_of room.blocks + 1 + 4 * nameless)
+    IsTrue room.is_covered × (room.free < room.pledged + 2 * fixed_of room.blocks + 1 + NAMELESS_COST * nameless)

@@ -1,16 +1,18 @@
 -- The tree as numbered objects: what the file system has, and the tree that it stands for.
 use Rattle.std.specs.Prelude.{ℕ, zero, suc, ◌||◌, ◌≡◌, ◌≢◌, ◌⊎◌, ◌+◌, ◌-◌, ◌≤◌, ◌<◌, ◌==◌, ◌&&◌, if◌then◌else◌, IsSome, IfSome, Bool, true, false, IsTrue, IsFalse, List, length, fold, bytes_eq, Option, Some, None}
-use Rattle.model.specs.declared.limits.TheConstants.{ROOT_NUMBER, FIRST_NUMBER, FILE_NAMES, DIRECTORY_NAMES, GREATEST_FILE, GREATEST_OFFSET, MODE_BITS, OPEN_FILES}
+use Rattle.model.specs.declared.limits.TheConstants.{ROOT_NUMBER, FIRST_NUMBER, FILE_NAMES, DIRECTORY_NAMES, GREATEST_FILE, GREATEST_OFFSET, OPEN_FILES}
+use Rattle.model.specs.declared.attributes.Attributes.{Attributes}
+use Rattle.model.specs.Attributes.{AreAttributes}
 use Rattle.model.specs.Counting.{Counts, CountsUpTo}
 use Rattle.model.specs.Paths.{Name, Path, IsName, IsLinkText}
 use Rattle.model.specs.Trees.{Tree, Object, directory, symlink, file, Description}
 
--- an object: a directory with its mode and the numbers of its names, a file with its mode, its count of names and its
--- bytes, or a link with its text
+-- an object with its attributes: a directory with the numbers of its names, a file with its count of names and its
+-- bytes, or a link with its text. The count stands beside the attributes, since the names of the volume give it.
 pub data Node : Type 0 where
-  directory_node : ℕ → (Name → Option ℕ) → Node
-  file_node : ℕ → ℕ → List ℕ → Node
-  link_node : List ℕ → Node
+  directory_node : Attributes → (Name → Option ℕ) → Node
+  file_node : Attributes → ℕ → List ℕ → Node
+  link_node : Attributes → List ℕ → Node
 
 -- each number's object
 abbrev pub Volume : Type 0
@@ -22,7 +24,7 @@ Entries = ℕ → Name → Option ℕ
 
 -- the number that an object has at a name: only a directory has any
 abbrev pub names_in : Option Node → Name → Option ℕ
-names_in (Some (directory_node mode names)) x = names x
+names_in (Some (directory_node attributes names)) x = names x
 names_in _ x = None
 
 -- the entries of a volume's directories
@@ -41,9 +43,9 @@ number_at e p = fold (enter e) (Some ROOT_NUMBER) p
 -- what a number stands for in a tree of paths, by its object
 abbrev pub object_of : ℕ → Option Node → Option Object
 object_of n None = None
-object_of n (Some (directory_node mode names)) = Some (directory n)
-object_of n (Some (file_node mode links bytes)) = Some (file n)
-object_of n (Some (link_node text)) = Some (symlink n text)
+object_of n (Some (directory_node attributes names)) = Some (directory n)
+object_of n (Some (file_node attributes links bytes)) = Some (file n)
+object_of n (Some (link_node attributes text)) = Some (symlink n text)
 
 -- what stands where this number is found, if one is
 abbrev pub object_at : Volume → Option ℕ → Option Object
@@ -52,13 +54,13 @@ object_at v (Some n) = object_of n (v n)
 
 -- a file's bytes; no other object has any
 abbrev pub bytes_of_node : Option Node → Option (List ℕ)
-bytes_of_node (Some (file_node mode links bytes)) = Some bytes
+bytes_of_node (Some (file_node attributes links bytes)) = Some bytes
 bytes_of_node _ = None
 
--- the mode of a directory or a file; a link has none
+-- the mode of a directory or a file; that of a link isn't told
 abbrev pub mode_of : Option Node → Option ℕ
-mode_of (Some (directory_node mode names)) = Some mode
-mode_of (Some (file_node mode links bytes)) = Some mode
+mode_of (Some (directory_node attributes names)) = Some attributes.mode
+mode_of (Some (file_node attributes links bytes)) = Some attributes.mode
 mode_of _ = None
 
 -- the tree that a volume stands for, with these descriptors
@@ -80,7 +82,7 @@ with_edge d x to e n y = if n == d && bytes_eq y x then to else e n y
 
 -- a directory with another number, or none, at a name
 abbrev pub set_name : Name → Option ℕ → Option Node → Option Node
-set_name x to (Some (directory_node mode names)) = Some (directory_node mode (λ y. if bytes_eq y x then to else names y))
+set_name x to (Some (directory_node attributes names)) = Some (directory_node attributes (λ y. if bytes_eq y x then to else names y))
 set_name x to o = o
 
 -- the volume with another number, or none, at a name of a directory
@@ -89,12 +91,12 @@ with_entry d x to v = with_node d (set_name x to (v d)) v
 
 -- the object is a file
 abbrev pub is_file_node : Option Node → Bool
-is_file_node (Some (file_node mode links bytes)) = true
+is_file_node (Some (file_node attributes links bytes)) = true
 is_file_node _ = false
 
 -- the object is a directory
 abbrev pub is_directory_node : Option Node → Bool
-is_directory_node (Some (directory_node mode names)) = true
+is_directory_node (Some (directory_node attributes names)) = true
 is_directory_node _ = false
 
 -- so many names lead to the number n
@@ -115,7 +117,7 @@ pub record IsNaming (v : Volume) : Type 0 where
 -- each file counts its names
 abbrev pub CountsNames : Volume → Type 0
 CountsNames v =
-    (n mode links : ℕ) (bytes : List ℕ) → v n ≡ Some (file_node mode links bytes) → HasNames (entries v) n links
+    (n : ℕ) (attributes : Attributes) (links : ℕ) (bytes : List ℕ) → v n ≡ Some (file_node attributes links bytes) → HasNames (entries v) n links
 
 -- both
 pub record IsGraph (v : Volume) : Type 0 where
@@ -124,9 +126,9 @@ pub record IsGraph (v : Volume) : Type 0 where
 
 -- the limits that one object keeps
 abbrev pub IsNode : Node → Type 0
-IsNode (directory_node mode names) = mode ≤ MODE_BITS
-IsNode (file_node mode links bytes) = (mode ≤ MODE_BITS) × (links ≤ FILE_NAMES) × (length bytes ≤ GREATEST_FILE)
-IsNode (link_node text) = IsLinkText text
+IsNode (directory_node attributes names) = AreAttributes attributes
+IsNode (file_node attributes links bytes) = AreAttributes attributes × (links ≤ FILE_NAMES) × (length bytes ≤ GREATEST_FILE)
+IsNode (link_node attributes text) = IsLinkText text
 
 -- the limits that all objects keep, with so many inodes
 pub record KeepsNodeLimits (inodes : ℕ) (v : Volume) : Type 0 where
@@ -142,12 +144,12 @@ pub record IsVolume (inodes : ℕ) (v : Volume) : Type 0 where
 
 -- an object with one name fewer: a file stays, another object is gone with its name
 abbrev pub with_name_less : Option Node → Option Node
-with_name_less (Some (file_node mode links bytes)) = Some (file_node mode (links - 1) bytes)
+with_name_less (Some (file_node attributes links bytes)) = Some (file_node attributes (links - 1) bytes)
 with_name_less _ = None
 
 -- an object with one name more, which only a file counts
 abbrev pub with_name_more : Option Node → Option Node
-with_name_more (Some (file_node mode links bytes)) = Some (file_node mode (links + 1) bytes)
+with_name_more (Some (file_node attributes links bytes)) = Some (file_node attributes (links + 1) bytes)
 with_name_more o = o
 
 -- the volume in which what a name led to, if anything, has a name less
@@ -183,12 +185,12 @@ is_open table (suc d) n = is_numbered (table d) n || is_open table d n
 
 -- the object is a file without names
 abbrev pub is_nameless : Option Node → Bool
-is_nameless (Some (file_node mode zero bytes)) = true
+is_nameless (Some (file_node attributes zero bytes)) = true
 is_nameless _ = false
 
 -- an object, or none where it is a file without names that isn't open
 abbrev pub swept_node : Bool → Option Node → Option Node
-swept_node open_now (Some (file_node mode zero bytes)) = if open_now then Some (file_node mode zero bytes) else None
+swept_node open_now (Some (file_node attributes zero bytes)) = if open_now then Some (file_node attributes zero bytes) else None
 swept_node open_now o = o
 
 -- the volume without the files that have neither name nor descriptor

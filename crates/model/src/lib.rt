@@ -2,7 +2,9 @@
 //! `specs/`.
 #![tactic(auto)]
 
+mod attributes;
 mod command;
+mod costs;
 mod errno;
 mod laws;
 mod limits;
@@ -10,7 +12,12 @@ mod mode;
 mod reply;
 mod text;
 
+pub use attributes::Attributes;
 pub use command::{Access, Command, Flags, PathCall, Whence};
+pub use costs::{
+    FILE_COST, GREAT_FILE_COST, KEPT_BLOCKS, MODE_COST, NAMELESS_COST, NAMES_COST, POINT_COST,
+    fixed_cost,
+};
 pub use errno::Errno;
 pub use laws::{
     commands_are_bounded, commands_have_one_outcome, commands_refuse_by_their_own,
@@ -27,4 +34,4 @@ pub use limits::{
 };
 pub use mode::Mode;
 pub use reply::{FileType, Reply, Stat};
-pub use text::{Names, Text};
+pub use text::{Bytes, Names, Text};

@@ -1,6 +1,6 @@
 -- What a file system promises of a command, by the way that it is answered.
 use Rattle.std.proofs.Common.{◌≡◌, ◌≢◌, ◌⊎◌, inl, inr, ℕ, ◌+◌, ◌*◌, ◌≤◌, ◌^◌, List, [], ◌∷◌, Option, Some, None, Bool, false, Result, Ok, Err, refl, ap, sym, subst, ◌∙◌, arith}
-use Rattle.std.specs.Prelude.{IsFalse, IsTrue, is_none}
+use Rattle.std.specs.Prelude.{IsErrOf, IsFalse, IsTrue, is_none}
 use Rattle.std.proofs.lemmas.Bool.{cases_lt, false≢true}
 use Rattle.station.specs.Calls.{Uses}
 use Rattle.station.specs.Moments.{EachCut, Meaning}
@@ -9,6 +9,7 @@ use Rattle.station.proofs.Calls.{uses_none, uses_twice}
 use Rattle.station.proofs.Moments.{same_none, unchanged_none}
 use Rattle.model.specs.Circumstances.{IsShortFor, IsSure}
 use Rattle.model.specs.Paths.{Name, first_refusal}
+use Rattle.model.specs.Replies.{IsReplyTo}
 use Rattle.model.specs.Room.{Need, Room, a_restore, a_snapshot, cost, fixed_of, keep, logs, nothing}
 use Rattle.model.specs.Steps.{Step, frozen, has_open_below, passing, restores, says, take_tests, takes}
 use Rattle.model.specs.declared.limits.TheConstants.{OPEN_FILES}
@@ -16,7 +17,7 @@ use Rattle.model.specs.declared.command.Command.TheVariants as commands
 use Rattle.model.specs.States.{State}
 use Rattle.model.specs.declared.command.Command.{Command}
 use Rattle.model.specs.declared.errno.Errno.{Errno}
-use Rattle.model.specs.declared.errno.Errno.TheVariants.{EBUSY, EIO, ENOSPC, NOSNAP}
+use Rattle.model.specs.declared.errno.Errno.TheVariants.{EBUSY, EIO, ENOSPC, FAILED, NOSNAP}
 use Rattle.model.specs.declared.reply.Reply.{Reply}
 use Rattle.model.specs.declared.reply.Reply.TheVariants.{Refused}
 use Rattle.system.specs.Counting.{AgesBy, Counted, Failed, LogsNothing, beside_reads, call_error_failed, perhaps_reads}
@@ -32,10 +33,11 @@ use Rattle.system.specs.declared.system.System.{System}
 use Rattle.system.proofs.CountingLaws.{logged_twice, none_logged}
 use Rattle.mount.specs.Applying.{AnswersCommand, Attempts, IsAppliedAt, KeepsStates, MakesRoom}
 use Rattle.mount.specs.Refusals.{errno_of_call, fails_call}
-use Rattle.mount.specs.Systems.{HasPoints, Serves, mounted}
+use Rattle.mount.specs.Systems.{HasGenerations, HasPoints, Serves, mounted}
 use Rattle.mount.specs.declared.fs.Fs.{Fs}
 use Rattle.mount.proofs.AttemptLemmas.{IsRoomOf, after_stay, answered_as, called, not_answered, short, stays_by, stays_read, still_going}
-use Rattle.mount.proofs.CountLemmas.{call_eio, call_refuses, call_written, failed_after, refused_same}
+use Rattle.mount.proofs.CountLemmas.{call_eio, call_not_failed, call_refuses, call_written, failed_after, refused_same}
+use Rattle.mount.proofs.LogLemmas.{LogsOf, call_logs, refused_logs}
 
 -- an epoch that stays, and one behind the next
 pub ages_same : (n old new : ℕ) → new ≡ old → AgesBy n old new
@@ -53,6 +55,9 @@ off_or_not : (P : Type 0) (e : CallError) → (e ≢ failure.NotWritten → P) �
 off_or_not P failure.NotWritten other off = off refl
 off_or_not P e other off = other (λ is. cc)
 
+lasts_left : (n j k old mid : ℕ) → j + k ≤ n → old ≤ mid → mid ≤ old + j → 1 ≤ old → old + n ≤ 2 ^ 62 → (1 ≤ mid) × (mid + k ≤ 2 ^ 62)
+lasts_left n j k old mid le ages one first young = (omega (arith, ages, first), omega (arith, le, one, young))
+
 points_left : (n j k old mid : ℕ) → j + k ≤ n → mid ≤ old + j → old + n ≤ 2 ^ 62 → mid + k ≤ 2 ^ 62
 points_left n j k old mid le one young = omega (arith, le, one, young)
 
@@ -66,26 +71,17 @@ module _ {S : Type 0} {G : Ghosts S} (n : ℕ) (P : State → Type 0) (old new :
   abbrev AppliedWith : Reply → Type 0
   AppliedWith reply = (s : State) → Serves (mounted old s) → HasPoints n old → P s → IsAppliedAt old s new command reply
 
-  -- no device was called
-  pub at_once : (reply : Reply) → reply ≢ Refused EIO → behind ≡ before → new.system.log.epoch ≡ old.system.log.epoch
-      → new.system.blocks.buffers.station ≡ old.system.blocks.buffers.station → AppliedWith reply → AnswersCommand n P old new command reply
-  at_once reply own same epoch station applied = record {
-    uses = subst (λ (m : Meaning). Uses before m) (sym same) (uses_none before);
-    eio = λ is. absurd (own is);
-    written = λ _. ap (λ (m : Meaning). m.failed_writes) same;
-    unlogged = λ errno is other. subst (λ (m : Meaning). LogsNothing before m) (sym same) (none_logged before);
-    epoch = ages_same n old.system.log.epoch new.system.log.epoch epoch;
-    still = λ s serves p sure. station;
-    applied = applied;
-  }
-
   -- a call was answered
   pub attempted : (reply : Reply) → AgesBy n old.system.log.epoch new.system.log.epoch → Attempts old new command (Ok reply) → AnswersCommand n P old new command reply
   attempted reply ages made = record {
+    kind = made.kind;
     uses = made.counted.uses;
-    eio = λ is. absurd (made.no_fault is);
+    eio = λ is. absurd (made.no_fault.0 is);
     written = λ _. made.counted.writes;
     unlogged = λ errno is other. made.refused errno (ap Ok is);
+    logs = λ s serves p accepted served. made.logs s served;
+    fails = λ lasts stopped. absurd (false≢true (sym made.going ∙ stopped));
+    failed = λ lasts is. absurd (made.no_fault.1 is);
     epoch = ages;
     still = λ s serves p sure. made.sure s serves sure;
     applied = λ s serves young p. made.applied s serves;
@@ -95,6 +91,7 @@ module _ {S : Type 0} {G : Ghosts S} (n : ℕ) (P : State → Type 0) (old new :
   pub not_attempted : (e : CallError) (errno : Errno) → errno ≡ errno_of_call e → AgesBy n old.system.log.epoch new.system.log.epoch → Attempts old new command (Err e)
       → ((s : State) → Serves (mounted old s) → P s → IsAppliedAt old s new command (Refused (errno_of_call e))) → AnswersCommand n P old new command (Refused errno)
   not_attempted e errno is ages made applied = record {
+    kind = tt;
     uses = made.counted.uses;
     eio = λ same. call_eio before behind e made.counted (sym is ∙ refused_same same);
     written = λ why. call_written before behind e made.counted (elim why [
@@ -105,6 +102,9 @@ module _ {S : Type 0} {G : Ghosts S} (n : ℕ) (P : State → Type 0) (old new :
       | inl other ↦ made.kept (call_refuses e (λ fault. other (sym (refused_same same) ∙ is ∙ fault)))
       | inr runs_on ↦ off_or_not (LogsNothing before behind) e made.kept (λ fault. made.unlogged (ap (λ y. Err y) fault) runs_on)
     ];
+    logs = refused_logs P old new command errno;
+    fails = λ lasts stopped. inr (ap Refused (is ∙ off_or_not (errno_of_call e ≡ EIO) e (λ other. absurd (false≢true (sym (made.going other) ∙ stopped))) (λ fault. ap errno_of_call fault)));
+    failed = λ lasts same. absurd (call_not_failed e (sym is ∙ refused_same same));
     epoch = ages;
     still = λ s serves p sure. absurd (made.sure s serves sure);
     applied = λ s serves young p. answered_as old new s command (errno_of_call e) errno is (applied s serves p);
@@ -113,10 +113,14 @@ module _ {S : Type 0} {G : Ghosts S} (n : ℕ) (P : State → Type 0) (old new :
   -- a consistency point wasn't made that had to come first
   pub no_room : (errno : Errno) → 1 ≤ n → MakesRoom old new (Err errno) → ((s : State) → P s → ¬ IsSure s command) → AnswersCommand n P old new command (Refused errno)
   no_room errno le made needs = record {
+    kind = tt;
     uses = made.uses;
     eio = λ is. made.eio (ap (λ e. Err e) (refused_same is));
     written = λ why. made.written (elim why [ inl other ↦ inl (λ is. other (ap Refused is)) | inr runs_on ↦ inr runs_on ]);
     unlogged = λ x is other. made.unlogged;
+    logs = refused_logs P old new command errno;
+    fails = λ lasts stopped. inr (ap Refused (told_errno (made.fails (lasts.0, points_one n old.system.log.epoch le lasts.1) stopped)));
+    failed = λ lasts is. absurd (made.failed (lasts.0, points_one n old.system.log.epoch le lasts.1) (ap (λ e. Err e) (refused_same is)));
     epoch = ages_within n 1 old.system.log.epoch new.system.log.epoch le made.epoch;
     still = λ s serves p sure. absurd (needs s p sure);
     applied = λ s serves young p. made.applied command s serves (points_one n old.system.log.epoch le young) (needs s p);
@@ -124,6 +128,27 @@ module _ {S : Type 0} {G : Ghosts S} (n : ℕ) (P : State → Type 0) (old new :
     where
       points_one : (n a : ℕ) → 1 ≤ n → a + n ≤ 2 ^ 62 → a + 1 ≤ 2 ^ 62
       points_one n a le young = omega (arith, le, young)
+
+      told_errno : {x y : Errno} → IsErrOf {T = Unit {0}} (Err x) y → x ≡ y
+      told_errno is = cc
+
+-- no device was called, and nothing changed
+module _ {S : Type 0} {G : Ghosts S} (n : ℕ) (P : State → Type 0) (f : Fs S G) (command : Command) where
+  pub at_once : (reply : Reply) → IsReplyTo command reply → reply ≢ Refused EIO → (reply ≡ Refused FAILED → IsTrue f.has_failed) → LogsOf P f f command reply
+      → ((s : State) → Serves (mounted f s) → HasPoints n f → P s → IsAppliedAt f s f command reply) → AnswersCommand n P f f command reply
+  at_once reply kind own failed logging applied = record {
+    kind = kind;
+    uses = uses_none (systems.meaning_of f.system);
+    eio = λ is. absurd (own is);
+    written = λ _. refl;
+    unlogged = λ errno is other. none_logged (systems.meaning_of f.system);
+    logs = logging;
+    fails = λ lasts stopped. inl stopped;
+    failed = λ lasts is. failed is;
+    epoch = ages_same n f.system.log.epoch f.system.log.epoch refl;
+    still = λ s serves p sure. refl;
+    applied = applied;
+  }
 
 -- what a system has no room for it is short for, where its root covers all
 pub short_by : {S : Type 0} {G : Ghosts S} (f : System S G) (s : State) (command : Command) → LacksRoom f s command
@@ -207,24 +232,33 @@ pub no_room_left : {S : Type 0} {G : Ghosts S} (n : ℕ) (P : State → Type 0) 
     → (room : Room) → IsRoomOf f.system room → IsShortFor room s command)
     → AnswersCommand n P f f command (Refused ENOSPC)
 no_room_left n P f command runs opens not_sure covered is_short =
-    at_once n P f f command (Refused ENOSPC) (λ is. cc) refl refl refl (λ s serves young p.
+    at_once n P f command (Refused ENOSPC) tt (λ is. cc) (λ is. cc) (refused_logs P f f command ENOSPC) (λ s serves young p.
     let here = serves.kept (still_going f s serves runs) in
     short f f s serves runs command (not_sure s serves p)
     (stays_read f f s serves runs (same_none (systems.meaning_of f.system)) runs here (unchanged_none (systems.meaning_of f.system)) (opens s here)) (covered s serves p) (inl refl) refl (is_short s serves p))
 
 -- a command behind what left each state as it was, with no device call where the command is sure
 pub behind_still : {S : Type 0} {G : Ghosts S} (n j k : ℕ) (P Q : State → Type 0) (old mid new : Fs S G) (command : Command) (reply : Reply) → j + k ≤ n → IsFalse old.has_failed → KeepsStates j old mid
-    → AnswersCommand k Q mid new command reply → ((s : State) → Serves (mounted old s) → P s → Q s)
+    → AnswersCommand k Q mid new command reply → LogsOf P old new command reply → ((s : State) → Serves (mounted old s) → P s → Q s)
     → ((s : State) → Serves (mounted old s) → P s → IsSure s command → mid.system.blocks.buffers.station ≡ old.system.blocks.buffers.station) → AnswersCommand n P old new command reply
-behind_still n j k P Q old mid new command reply le runs keeps then leads still =
+behind_still n j k P Q old mid new command reply le runs keeps then logging leads still =
     let m = systems.meaning_of old.system in
     let i = systems.meaning_of mid.system in
     let l = systems.meaning_of new.system in
+    let later = λ (lasts : HasGenerations n old).
+    lasts_left n j k old.system.log.epoch mid.system.log.epoch le keeps.epoch.ages keeps.epoch.lasts lasts.0 lasts.1 in
     record {
+      kind = then.kind;
       uses = uses_twice m i l keeps.counted.uses then.uses;
       eio = λ is. failed_after m i l keeps.counted.uses (then.eio is);
       written = λ other. then.written other ∙ keeps.counted.writes;
       unlogged = λ errno is other. logged_twice m i l keeps.unlogged (then.unlogged errno is other);
+      logs = logging;
+      fails = λ lasts stopped. elim (then.fails (later lasts) stopped) [
+        | inl before ↦ absurd (false≢true (sym keeps.going ∙ before))
+        | inr told ↦ inr told
+      ];
+      failed = λ lasts is. absurd (false≢true (sym keeps.going ∙ then.failed (later lasts) is));
       epoch = ages_more n j k old.system.log.epoch mid.system.log.epoch new.system.log.epoch le keeps.epoch then.epoch;
       still = λ s serves p sure. then.still s (keeps.stays s serves).serves (leads s serves p) sure ∙ still s serves p sure;
       applied = λ s serves young p.
@@ -235,18 +269,23 @@ behind_still n j k P Q old mid new command reply le runs keeps then leads still 
 
 -- a command that isn't sure
 pub behind_that : {S : Type 0} {G : Ghosts S} (n j k : ℕ) (P Q : State → Type 0) (old mid new : Fs S G) (command : Command) (reply : Reply) → j + k ≤ n → IsFalse old.has_failed → KeepsStates j old mid
-    → AnswersCommand k Q mid new command reply → ((s : State) → Serves (mounted old s) → P s → Q s) → ((s : State) → Serves (mounted old s) → P s → ¬ IsSure s command) → AnswersCommand n P old new command reply
-behind_that n j k P Q old mid new command reply le runs keeps then leads not_sure =
-    behind_still n j k P Q old mid new command reply le runs keeps then leads (λ s serves p sure. absurd (not_sure s serves p sure))
+    → AnswersCommand k Q mid new command reply → LogsOf P old new command reply → ((s : State) → Serves (mounted old s) → P s → Q s) → ((s : State) → Serves (mounted old s) → P s → ¬ IsSure s command)
+    → AnswersCommand n P old new command reply
+behind_that n j k P Q old mid new command reply le runs keeps then logging leads not_sure =
+    behind_still n j k P Q old mid new command reply le runs keeps then logging leads (λ s serves p sure. absurd (not_sure s serves p sure))
 
 -- the same promise for fewer states, and for more points
 pub answers_more : {S : Type 0} {G : Ghosts S} (n k : ℕ) (P Q : State → Type 0) (old new : Fs S G) (command : Command) (reply : Reply) → k ≤ n → AnswersCommand k Q old new command reply
     → ((s : State) → Serves (mounted old s) → P s → Q s) → AnswersCommand n P old new command reply
 answers_more n k P Q old new command reply le then leads = record {
+  kind = then.kind;
   uses = then.uses;
   eio = then.eio;
   written = then.written;
   unlogged = then.unlogged;
+  logs = λ s serves p. then.logs s serves (leads s serves p);
+  fails = λ lasts. then.fails (lasts.0, fewer old.system.log.epoch k n le lasts.1);
+  failed = λ lasts. then.failed (lasts.0, fewer old.system.log.epoch k n le lasts.1);
   epoch = ages_within n k old.system.log.epoch new.system.log.epoch le then.epoch;
   still = λ s serves p. then.still s serves (leads s serves p);
   applied = λ s serves young p. then.applied s serves (fewer old.system.log.epoch k n le young) (leads s serves p);
@@ -292,6 +331,7 @@ module _ {S : Type 0} {G : Ghosts S} (old new : Fs S G) (call : Command) (runs :
   attempts reply is_call told runs_on opens = record {
     counted = told.counted;
     no_fault = told.no_fault;
+    kind = told.kind;
     refused = told.refused;
     kept = tt;
     unlogged = λ is. cc;
@@ -302,7 +342,8 @@ module _ {S : Type 0} {G : Ghosts S} (old new : Fs S G) (call : Command) (runs :
     applied = λ s serves.
         called old new s serves runs told.counted.uses.same call reply is_call (elim (told.sure s (served s serves)) [ inl on ↦ inl on.sure | inr not ↦ inr not ]) runs_on
         told.counted.uses.reads told.counted.writes (told.done s (served s serves)) opens;
-    going = tt;
+    logs = λ s served. call_logs old.system new.system s served call reply (told.done s served);
+    going = runs_on;
     failed = λ is. cc;
     waits = λ s serves. tt;
     fits = λ s serves is. cc;
@@ -316,6 +357,7 @@ module _ {S : Type 0} {G : Ghosts S} (old new : Fs S G) (call : Command) (runs :
       record {
         counted = counted;
         no_fault = tt;
+        kind = tt;
         refused = λ errno is. cc;
         kept = told.kept;
         unlogged = told.unlogged;
@@ -326,6 +368,7 @@ module _ {S : Type 0} {G : Ghosts S} (old new : Fs S G) (call : Command) (runs :
         applied = λ s serves room full.
             not_answered old new s serves runs call e (told.sure s (served s serves)) room full (λ is. told.own (ap (λ x. Err x) is)) flag counted
             (λ is. told.damaged s (served s serves) (ap (λ x. Err x) is)) (told.stays s (served s serves)) (λ is. told.broken s (served s serves) (ap (λ x. Err x) is));
+        logs = λ s served. tt;
         going = λ other. flag ∙ fails_none e other;
         failed = λ is. flag ∙ fails_by (Err e) e refl is;
         waits = λ s serves is.
@@ -348,5 +391,6 @@ waiting_keeps old new call e is made = record {
   counted = subst (λ (why : Failed). Counted (systems.meaning_of old.system) (systems.meaning_of new.system) why) (waits_counted e is) made.counted;
   unlogged = made.kept (waits_written e is);
   epoch = made.epoch;
+  going = made.going (waits_written e is);
   stays = λ s serves. (made.waits s serves is).0;
 }

@@ -43,7 +43,6 @@ use Rattle.system.proofs.RoomLaws.{free_is}
 use Rattle.mount.specs.Applying.{IsAppliedAt, Stays, TellsOfFault, HasRoomAtPoint}
 use Rattle.mount.specs.Refusals.{errno_of_call, errno_of_point, fails_call, fails_point}
 use Rattle.mount.specs.Systems.{OpensToSome, mounted, HasPoints, Serves}
-use Rattle.mount.specs.declared.fs.TheConstants.{POINTS}
 use Rattle.mount.specs.declared.fs.Fs.{Fs}
 use Rattle.mount.proofs.ApplyLemmas.{is_going, not_both, allowed_by, allowed_surely, no_room, done, stayed, broken, applied_after}
 use Rattle.mount.proofs.CallLemmas.{not_settling}
@@ -97,10 +96,6 @@ pub answered_as : {S : Type 0} {G : Ghosts S} (old new : Fs S G) (s : State) (co
     → IsAppliedAt old s new command (Refused y)
 answered_as old new s command x y is applied = subst (λ (z : Errno). IsAppliedAt old s new command (Refused z)) (sym is) applied
 
--- after so many commands a further one of all of them is young
-pub young_at : (a b i n : ℕ) → b ≤ a + POINTS * i → i < n → a + POINTS * n < 2 ^ 62 → b + POINTS ≤ 2 ^ 62
-young_at a b i n le below lasts = omega arith
-
 -- no failed read fails a system
 pub reads_fail_nothing : (e : CallError) (flag : Bool) → e ≢ call.NotWritten → IsFalse flag → flag ≡ fails_call e
 reads_fail_nothing call.NotWritten flag other runs = absurd (other refl)
@@ -149,7 +144,7 @@ module _ {S : Type 0} {G : Ghosts S} (old new : Fs S G) (s : State) where
 
       -- a call that was answered
       pub called : (c : Command) (reply : Reply) → IsCall c → IsSure s c ⊎ ¬ IsSure s c → IsFalse new.has_failed → MayGrow before.failed_reads behind.failed_reads → behind.failed_writes ≡ before.failed_writes
-          → IsFulfilled old.system new.system s c reply → ((t : State) → ServesState new.system t → EachCut behind (OpensTo behind t)) → IsAppliedAt old s new c reply
+          → {here : ServesState old.system s} → IsFulfilled old.system new.system s here c reply → ((t : State) → ServesState new.system t → EachCut behind (OpensTo behind t)) → IsAppliedAt old s new c reply
       called c reply is_call sure runs_on reads writes is opens =
           let does = is.done in
           let t = does.after in

@@ -5,6 +5,8 @@ mod CallLemmas
 mod NamelessLemmas
 mod AttemptLemmas
 mod CountLemmas
+mod LogLemmas
 mod AnswerLemmas
 mod PointLemmas
 mod RunLemmas
+mod ReplyLemmas

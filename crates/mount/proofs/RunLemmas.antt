@@ -1,7 +1,5 @@
 -- A run of commands, one after the other.
-use Rattle.std.proofs.Common.{◌≡◌, ℕ, ◌+◌, ◌<◌, List, [], ◌∷◌, ◌++◌, length, take, get_or, refl, sym, ap, subst, ◌∙◌, arith}
-use Rattle.std.specs.List.{zip}
-use Rattle.std.proofs.lemmas.List.{take_more, length-take-le}
+use Rattle.std.proofs.Common.{◌≡◌, List, [], ◌∷◌, ◌++◌, refl, arith}
 use Rattle.station.specs.Images.{Images}
 use Rattle.station.specs.declared.station.Station.{Ghosts}
 use Rattle.station.specs.Moments.{Meaning, MayLeave, LeftBetween, IsSameStation}
@@ -16,12 +14,6 @@ use Rattle.mount.specs.Applying.{Between, IsApplied, IsAppliedAt, HasRun, ReadsC
 use Rattle.mount.specs.declared.fs.Fs.{Fs}
 use Rattle.mount.proofs.StationLemmas.{on_none, on_twice, moved}
 use Rattle.mount.proofs.SpanLemmas.{spans_later, spans_push, spans_prefix, spans_failed}
-
-zip_push : {X Y : Type 0} (xs : List X) (ys : List Y) (x : X) (y : Y) → length xs ≡ length ys → zip (xs ++ x ∷ []) (ys ++ y ∷ []) ≡ zip xs ys ++ (x, y) ∷ []
-zip_push [] [] x y same = refl
-zip_push [] (w ∷ ys) x y same = absurd (omega arith)
-zip_push (v ∷ xs) [] x y same = absurd (omega arith)
-zip_push {X} {Y} (v ∷ xs) (w ∷ ys) x y same = ap (λ (l : List (X × Y)). (v, w) ∷ l) (zip_push xs ys x y (omega arith))
 
 module _ {S : Type 0} {G : Ghosts S} where
   -- no command so far
@@ -51,14 +43,6 @@ module _ {S : Type 0} {G : Ghosts S} where
     serves = applied.1.serves;
     ran = run_push (mounted first s) (mounted fs so_far.last) (mounted next applied.0) steps command reply so_far.ran same applied.1 now;
   }
-
-  -- the command at place i
-  pub run_more : (first next : Fs S G) (s : State) (commands : List Command) (replies : List Reply) (i : ℕ) (command : Command) (reply : Reply) → i < length commands → length replies ≡ i → command ≡ get_or commands i command
-      → RunsAt first s next (zip (take i commands) replies ++ (command, reply) ∷ []) → RunsAt first s next (zip (take (i + 1) commands) (replies ++ reply ∷ []))
-  run_more first next s commands replies i command reply below count is ran =
-      let front : take (i + 1) commands ≡ take i commands ++ command ∷ [] = take_more commands i command below ∙ ap (λ (x : Command). take i commands ++ x ∷ []) (sym is) in
-      let long : length (take i commands) ≡ length replies = length-take-le i commands (omega arith) ∙ sym count in
-      subst (RunsAt first s next) (sym (ap (λ (l : List Command). zip l (replies ++ reply ∷ [])) front ∙ zip_push (take i commands) replies command reply long)) ran
 
   -- a second station that reads what a cut within a run might have left opens to a prefix of it
   pub run_opens : (old new : Mounted S G) (steps : List (Command × Reply)) (other : Meaning) → old.state.mark ≡ going → HasRun old new steps → ReadsCut (file_system_meaning old) (file_system_meaning new) other

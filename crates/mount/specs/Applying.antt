@@ -1,37 +1,44 @@
 -- What applying commands comes to.
-use Rattle.std.specs.Prelude.{ℕ, ◌≡◌, ◌≢◌, ◌⊎◌, ◌↔◌, ◌≤◌, List, Bool, true, false, IsFalse, IsTrue, None, Result, Ok, IfErr, IfOk, IsErrOf, MatchResult, OnOk}
+use Rattle.std.specs.Prelude.{[], ◌∷◌, ◌++◌, ℕ, ◌≡◌, ◌≢◌, ◌⊎◌, ◌↔◌, ◌≤◌, List, map, Bool, true, false, IsFalse, IsTrue, None, Result, Ok, Err, IfErr, IfOk, IsErrOf, MatchResult, OnOk}
 use Rattle.station.specs.Calls.{Uses}
 use Rattle.station.specs.Images.{Images}
 use Rattle.station.specs.Moments.{Meaning, LeftBetween, HasGrown, IsSameStation, LeavesOnly}
 use Rattle.station.specs.declared.station.Station.{Ghosts}
 use Rattle.model.specs.declared.command.Command.{Command}
+use Rattle.model.specs.declared.command.Command.TheVariants.{Df}
 use Rattle.model.specs.declared.errno.Errno.{Errno}
-use Rattle.model.specs.declared.errno.Errno.TheVariants.{EIO}
+use Rattle.model.specs.declared.errno.Errno.TheVariants.{EIO, FAILED}
 use Rattle.model.specs.declared.reply.Reply.{Reply}
-use Rattle.model.specs.declared.reply.Reply.TheVariants.{Refused}
+use Rattle.model.specs.declared.reply.Reply.TheVariants as replies
+use Rattle.model.specs.declared.reply.Reply.TheVariants.{Done, Refused}
 use Rattle.model.specs.States.{State, going}
-use Rattle.model.specs.Room.{Room}
-use Rattle.model.specs.Records.{TellsRoom, count_nameless}
-use Rattle.model.specs.Volumes.{Volume}
+use Rattle.model.specs.Replies.{IsAnswerTo, IsReplyTo}
+use Rattle.model.specs.Room.{Need, Room}
+use Rattle.model.specs.Records.{Change, TellsRoom, count_nameless}
+use Rattle.model.specs.Steps.{WouldStep}
+use Rattle.model.specs.Volumes.{Volume, tree_of}
 use Rattle.model.specs.Circumstances.{Circumstances, IsSure}
 use Rattle.model.specs.Runs.{MayStand, MayRemain, Leads, LeavesOf, Spans}
 use Rattle.layout.specs.Places.{blocks_of}
+use Rattle.layout.specs.Record.{change_bytes}
 use Rattle.images.specs.Contents.{HoldsVolume, tree_contents}
 use Rattle.images.specs.Roots.{whole}
 use Rattle.images.specs.Snapshots.{HasSnapshot}
+use Rattle.oplog.specs.LogEnd.{all_bodies}
 use Rattle.layout.specs.SnapRoot.{Snapshot}
 use Rattle.system.specs.Counting.{AgesBy, Counted, LogsNothing, beside_reads, call_failed, perhaps_reads}
 use Rattle.system.specs.Images.{OpensTo}
 use Rattle.system.specs.Opening.{HasFailed}
 use Rattle.images.specs.Room.{free_under}
-use Rattle.system.specs.Serving.{AnswersAtOnce, HasEmptyLog, IsAtOnce, LacksRoom, ServesState, TellsNoFault}
+use Rattle.system.specs.Serving.{AnswersAtOnce, HasEmptyLog, HasLogged, IsAccepted, IsAtOnce, LacksRoom, ServesState, TellsNoFault}
 use Rattle.system.specs.Systems as systems
-use Rattle.system.specs.Systems.{IsCovered}
+use Rattle.system.specs.Systems.{AreLeft, IsCovered}
 use Rattle.system.specs.declared.error.CallError.{CallError}
 use Rattle.system.specs.declared.error.CallError.TheVariants.{LogFull, NoRoom, NotWritten}
+use Rattle.system.specs.declared.space.Space.{Space}
 use Rattle.system.specs.declared.system.System.{System}
 use Rattle.mount.specs.Refusals.{errno_of_call}
-use Rattle.mount.specs.Systems.{HasPoints, Mounted, mounted, file_system_meaning, moment_of, shown_state, Serves}
+use Rattle.mount.specs.Systems.{HasGenerations, HasPoints, IsYoung, Mounted, mounted, file_system_meaning, moment_of, shown_state, Serves}
 use Rattle.mount.specs.declared.fs.Fs.{Fs}
 use Rattle.mount.specs.declared.fs.TheConstants.{POINTS}
 
@@ -97,15 +104,37 @@ pub record IsApplied {S : Type 0} {G : Ghosts S} (old new : Mounted S G) (comman
 abbrev pub IsAppliedAt : {S : Type 0} {G : Ghosts S} → Fs S G → State → Fs S G → Command → Reply → Type 0
 IsAppliedAt old s new command reply = (t : State) × IsApplied (mounted old s) (mounted new t) command reply
 
--- What a command does to a file system at a state with P, and over any bytes: all that is promised of it. It makes so many
--- consistency points at most. EIO comes only where a device call failed, and nothing else where a write failed, which fails the system; a refusal
--- logged nothing, but where EIO came for a record, which stops the log; and a sure command calls no device.
+-- What an accepted command logged on a system at a state, beside whose root stood records with these bodies: behind it stand those of
+-- them that the newest root doesn't cover, and then one record of its work where the command needed one, and nothing else.
+pub record LogsItsNeed {S : Type 0} {G : Ghosts S} (before : List (List ℕ)) (s : State) (new : System S G)
+    (command : Command) (reply : Reply) : Type 0 where
+  pub room : Room
+  pub after : State
+  pub need : Need
+  pub step : WouldStep room s command reply after need
+  pub serves : ServesState new after
+  pub running : Volume
+  pub tree : s.tree ≡ tree_of running s.tree.descriptors
+  pub uncovered : List Change
+  pub left : AreLeft before (map change_bytes uncovered)
+  pub logged : HasLogged need running uncovered serves.lasts.replayed.changes
+
+-- What a command does to a file system at a state with P, and over any bytes: all that is promised of it. Its reply is of its own kind, or a
+-- refusal. It makes so many consistency points at most. EIO comes only where a device call failed, and nothing else where a write failed, which fails the system; a refusal
+-- logged nothing, but where EIO came for a record, which stops the log; and a sure command calls no device. Nothing but a failed write
+-- fails the system, and FAILED tells only of one that had failed before, as long as the generations last.
 pub record AnswersCommand {S : Type 0} {G : Ghosts S} (points : ℕ) (P : State → Type 0) (old new : Fs S G) (command : Command) (reply : Reply) : Type 0 where
+  pub kind : IsReplyTo command reply
   pub uses : Uses (systems.meaning_of old.system) (systems.meaning_of new.system)
   pub eio : reply ≡ Refused EIO → HasFailed (systems.meaning_of old.system) (systems.meaning_of new.system)
   pub written : (reply ≢ Refused EIO) ⊎ IsFalse new.has_failed → NoWriteFailed (systems.meaning_of old.system) (systems.meaning_of new.system)
   pub unlogged : (errno : Errno) → reply ≡ Refused errno → (errno ≢ EIO) ⊎ IsFalse new.system.log.is_stopped
       → LogsNothing (systems.meaning_of old.system) (systems.meaning_of new.system)
+  pub logs : (s : State) → Serves (mounted old s) → P s → IsAccepted reply → (served : ServesState old.system s)
+      → LogsItsNeed (all_bodies served.lasts.bodies) s new.system command reply
+  pub fails : HasGenerations points old → IsTrue new.has_failed
+      → IsTrue old.has_failed ⊎ (reply ≡ Refused EIO)
+  pub failed : HasGenerations points old → reply ≡ Refused FAILED → IsTrue old.has_failed
   pub epoch : AgesBy points old.system.log.epoch new.system.log.epoch
   pub still : (s : State) → Serves (mounted old s) → P s → IsSure s command
       → new.system.blocks.buffers.station ≡ old.system.blocks.buffers.station
@@ -144,18 +173,20 @@ pub record ReadsCut (old new other : Meaning) : Type 0 where
   pub left : LeftBetween new old.moment new.moment other.seen
   pub sectors : other.sectors ≡ new.sectors
 
--- From one file system to another no write failed and nothing was logged, by so many consistency points at most, and each state that the
--- first one serves stays.
+-- From one file system to another, which goes on, no write failed and nothing was logged, by so many consistency points at most, and each
+-- state that the first one serves stays.
 pub record KeepsStates {S : Type 0} {G : Ghosts S} (points : ℕ) (old new : Fs S G) : Type 0 where
   pub counted : Counted (systems.meaning_of old.system) (systems.meaning_of new.system) perhaps_reads
   pub unlogged : LogsNothing (systems.meaning_of old.system) (systems.meaning_of new.system)
   pub epoch : AgesBy points old.system.log.epoch new.system.log.epoch
+  pub going : IsFalse new.has_failed
   pub stays : (s : State) → Serves (mounted old s) → Stays old new s
 
 -- What a call with no whole consistency point does to a file system that goes on.
 pub record Attempts {S : Type 0} {G : Ghosts S} (old new : Fs S G) (call : Command) (result : Result Reply CallError) : Type 0 where
   pub counted : Counted (systems.meaning_of old.system) (systems.meaning_of new.system) (beside_reads (call_failed false result))
   pub no_fault : IfOk result TellsNoFault
+  pub kind : IfOk result (IsReplyTo call)
   pub refused : (errno : Errno) → result ≡ Ok (Refused errno) → LogsNothing (systems.meaning_of old.system) (systems.meaning_of new.system)
   pub kept : IfErr result (λ e. e ≢ NotWritten → LogsNothing (systems.meaning_of old.system) (systems.meaning_of new.system))
   pub unlogged : IsErrOf result NotWritten → IsFalse new.system.log.is_stopped → LogsNothing (systems.meaning_of old.system) (systems.meaning_of new.system)
@@ -166,7 +197,9 @@ pub record Attempts {S : Type 0} {G : Ghosts S} (old new : Fs S G) (call : Comma
   pub at_once : IsAtOnce old.system.files call → MatchResult result (AnswersAtOnce old.system new.system) (λ _. ⊥)
   pub applied : (s : State) → Serves (mounted old s) → MatchResult result (IsAppliedAt old s new call)
       (λ e. e ≢ NoRoom → e ≢ LogFull → IsAppliedAt old s new call (Refused (errno_of_call e)))
-  pub going : IfErr result (λ e. e ≢ NotWritten → IsFalse new.has_failed)
+  pub logs : (s : State) (served : ServesState old.system s)
+      → IfOk result (LogsItsNeed (all_bodies served.lasts.bodies) s new.system call)
+  pub going : MatchResult result (λ _. IsFalse new.has_failed) (λ e. e ≢ NotWritten → IsFalse new.has_failed)
   pub failed : IsErrOf result NotWritten → IsTrue new.has_failed
   pub waits : (s : State) → Serves (mounted old s)
       → IfErr result (λ e. (e ≡ NoRoom) ⊎ (e ≡ LogFull) → Stays old new s × WaitsForPoint new s call)
@@ -177,7 +210,6 @@ pub record Attempts {S : Type 0} {G : Ghosts S} (old new : Fs S G) (call : Comma
 -- All is in the newest root.
 pub record HasSettled {S : Type 0} {G : Ghosts S} (old new : Fs S G) : Type 0 where
   pub keeps : KeepsStates 1 old new
-  pub going : IsFalse new.has_failed
   pub rests : new.system.blocks.laid ≡ None
   pub empty : HasEmptyLog new.system
   pub covered : (s : State) → Serves (mounted old s) → IsCovered new.system s.tree.descriptors s
@@ -188,7 +220,36 @@ pub record MakesRoom {S : Type 0} {G : Ghosts S} (old new : Fs S G) (result : Re
   pub eio : IsErrOf result EIO → HasFailed (systems.meaning_of old.system) (systems.meaning_of new.system)
   pub written : IfErr result (λ errno. (errno ≢ EIO) ⊎ IsFalse new.has_failed → NoWriteFailed (systems.meaning_of old.system) (systems.meaning_of new.system))
   pub unlogged : LogsNothing (systems.meaning_of old.system) (systems.meaning_of new.system)
+  pub fails : HasGenerations 1 old → IsTrue new.has_failed → IsErrOf result EIO
+  pub failed : HasGenerations 1 old → IsErrOf result FAILED → ⊥
   pub epoch : AgesBy 1 old.system.log.epoch new.system.log.epoch
   pub made : OnOk result (HasSettled old new)
   pub applied : (command : Command) (s : State) → Serves (mounted old s) → HasPoints 1 old → ¬ IsSure s command
       → IfErr result (λ errno. IsAppliedAt old s new command (Refused errno))
+
+-- What is promised of a command that is applied, with its reply, whatever the images hold.
+pub record AppliesCommand {S : Type 0} {G : Ghosts S} (old new : Fs S G) (command : Command) (reply : Reply) : Type 0 where
+  pub answers : AnswersAlways old new command reply
+  pub at_once : IsAtOnce old.system.files command → AnswersAtOnce old.system new.system reply
+  pub quiet : command ≡ Df → new ≡ old
+  pub failed : IsTrue old.has_failed → (reply ≡ Refused FAILED) × (new ≡ old)
+  -- a run that led here goes on by this command
+  pub goes_on : (first : Fs S G) (s : State) (steps : List (Command × Reply)) → RunsAt first s old steps → IsYoung old
+      → RunsAt first s new (steps ++ (command, reply) ∷ [])
+
+-- the reply that a result stands for: this one of its value, or a refusal
+abbrev pub reply_of : {T : Type 0} → (T → Reply) → Result T Errno → Reply
+reply_of answer (Ok it) = answer it
+reply_of answer (Err errno) = Refused errno
+
+-- what is told of a command that is done
+abbrev pub done_reply : Unit {0} → Reply
+done_reply it = Done
+
+-- and of the room of the disk
+abbrev pub space_reply : Space → Reply
+space_reply room = replies.Space room.blocks room.free room.pledged
+
+-- a reply to the command that is no refusal is such a one
+abbrev pub IsAnsweredBy : Command → (Reply → Type 0) → Type 0
+IsAnsweredBy command P = (reply : Reply) → IsAnswerTo command reply → P reply

@@ -61,6 +61,10 @@ pub record Serves {S : Type 0} {G : Ghosts S} (m : Mounted S G) : Type 0 where
 abbrev pub HasPoints : {S : Type 0} {G : Ghosts S} → ℕ → Fs S G → Type 0
 HasPoints n fs = fs.system.log.epoch + n ≤ 2 ^ 62
 
+-- so they have, whatever the images hold: a log's epoch may be any number then
+abbrev pub HasGenerations : {S : Type 0} {G : Ghosts S} → ℕ → Fs S G → Type 0
+HasGenerations n fs = (1 ≤ fs.system.log.epoch) × HasPoints n fs
+
 -- those of a command have
 abbrev pub IsYoung : {S : Type 0} {G : Ghosts S} → Fs S G → Type 0
 IsYoung fs = HasPoints POINTS fs

@@ -19,13 +19,6 @@ pub enum MountError {
     Damaged = 4,
 }
 
-/// Why `run` refused: no memory for the replies. No command was run.
-#[derive(Clone, Copy, Debug, PartialEq, Eq, Error)]
-pub enum RunError {
-    #[error("no memory")]
-    NoMemory = 1,
-}
-
 impl From<OpenError> for MountError {
     ghost use Rattle.std.specs.Prelude.{◌≡◌};
     ghost use Rattle.mount.specs.Refusals.{mount_error};

@@ -2,9 +2,8 @@
 
 ghost use Rattle.std.specs.Prelude.{◌≡◌, IsFalse};
 
-use crate::RunError;
 use crate::refusals::{errno_of_call, errno_of_point, fails_call, fails_point};
-use model::{Command, Errno, Reply, Text};
+use model::{Bytes, Command, Errno, Reply};
 use station::Station;
 use std::alloc::Global;
 use system::{CallError, Space, System, served_states_open};
@@ -25,38 +24,27 @@ pub struct Fs<S: Station> {
 }
 
 impl<S: Station> Fs<S> {
-    ghost use Rattle.std.specs.Prelude.{◌≡◌, ◌≢◌, IsTrue, IsFalse, IfOk, None, OnErr, List, [], ◌∷◌, ◌++◌, length, vec_len, ◌*◌};
-    ghost use Rattle.std.specs.List.{Contains, zip};
-    ghost use Rattle.station.specs.Calls.{Uses};
+    ghost use Rattle.std.specs.Prelude.{◌≡◌, ◌≢◌, ℕ, IsTrue, IsFalse, None, List, [], ◌∷◌, ◌++◌};
     ghost use Rattle.station.specs.Moments.{MayLeave};
     ghost use Rattle.model.specs.declared.command.Command.{Command};
     ghost use Rattle.model.specs.declared.errno.Errno.{Errno};
     ghost use Rattle.model.specs.declared.reply.Reply.{Reply};
+    ghost use Rattle.model.specs.Replies.{IsReplyTo};
     ghost use Rattle.model.specs.States.{State};
-    ghost use Rattle.system.specs.Counting.{AgesBy};
-    ghost use Rattle.system.specs.Opening.{HasFailed};
-    ghost use Rattle.system.specs.Serving.{AnswersAtOnce, IsAtOnce, IsCall, WouldChange};
-    ghost use Rattle.system.specs.Systems.{IsCovered, meaning_of};
-    ghost use Rattle.mount.specs.Applying.{AnswersCommand, AnswersAlways, Attempts, IsAppliedAt, MakesRoom, NoWriteFailed, RunsAt, WaitsForPoint};
-    ghost use Rattle.mount.specs.Systems.{mounted, Serves, IsYoung, LastsFor, LeavesState};
+    ghost use Rattle.oplog.specs.LogEnd.{all_bodies};
+    ghost use Rattle.system.specs.Serving.{AnswersAtOnce, IsAccepted, IsAtOnce, IsCall, ServesState, WouldChange};
+    ghost use Rattle.system.specs.Systems.{IsCovered};
+    ghost use Rattle.mount.specs.Applying.{AppliesCommand, AnswersCommand, AnswersAlways, Attempts, IsAppliedAt, LogsItsNeed, MakesRoom, RunsAt, WaitsForPoint};
+    ghost use Rattle.mount.specs.Systems.{mounted, Serves, IsYoung, LeavesState};
     ghost use Rattle.mount.specs.declared.fs.Fs.{Fs};
 
-    /// Applies a command and answers it. A command that changes the image is logged before it is answered; a refused one
-    /// is not logged. EIO comes only where a device call failed, and where a write or a sync failed nothing else comes; after
-    /// that every command answers FAILED, with no device call. ENOMEM comes where there was no memory, ENOSPC where
-    /// the disk has no room although its newest root covers all, and then nothing changed; none of these comes to `lseek`, `fsync`, `df`,
-    /// or `close` but of a file that has no name: they take no memory and call no device, whatever the images hold.
-    pub fn apply(&mut self, command: &Command) -> Reply
-        ensures answers { AnswersAlways self.old self.new command.now result }
-        ensures at_once { IsAtOnce self.old.system.files command.now
-            → AnswersAtOnce self.old.system self.new.system result }
-        ensures quiet { command.now ≡ Command.Df → self.new ≡ self.old }
-        ensures failed { IsTrue self.old.has_failed
-            → (result ≡ Reply.Refused Errno.FAILED) × (self.new ≡ self.old) }
-        // A run that led here goes on by this command.
-        ensures goes_on { (first : Fs S S.Station) (s : State) (steps : List (Command × Reply))
-            → RunsAt first s self.old steps → IsYoung self.old
-            → RunsAt first s self.new (steps ++ (command.now, result) ∷ []) }
+    /// Applies a command and answers it. A command that changes the image is logged before it is answered, by just one record; a
+    /// refused one is not logged. EIO comes only where a device call failed, and where a write or a sync failed nothing else comes; after
+    /// that, and only then as long as the generations last, every command answers FAILED, with no device call. ENOMEM comes where there
+    /// was no memory, ENOSPC where the disk has no room although its newest root covers all, and then nothing changed. `lseek`, `fsync`,
+    /// `df`, and `close` but of a file that has no name call no device and tell no want of memory, whatever the images hold.
+    pub fn apply(&mut self, command: &Command<'_>) -> Reply
+        ensures { AppliesCommand self.old self.new command.now result }
     {
         let reply = self.answer(command);
         served_states_open(&self.system);
@@ -64,7 +52,7 @@ impl<S: Station> Fs<S> {
     }
 
     /// The same, of one command alone.
-    fn answer(&mut self, command: &Command) -> Reply
+    fn answer(&mut self, command: &Command<'_>) -> Reply
         ensures answers { AnswersAlways self.old self.new command.now result }
         ensures at_once { IsAtOnce self.old.system.files command.now
             → AnswersAtOnce self.old.system self.new.system result }
@@ -82,7 +70,7 @@ impl<S: Station> Fs<S> {
     }
 
     /// The same of a command that may read or write: it lets go of the blocks that the last one read.
-    fn answer_anew(&mut self, command: &Command) -> Reply
+    fn answer_anew(&mut self, command: &Command<'_>) -> Reply
         requires going { IsFalse self.old.has_failed }
         requires other { command.now ≢ Command.Df }
         ensures answers { AnswersAlways self.old self.new command.now result }
@@ -92,7 +80,7 @@ impl<S: Station> Fs<S> {
         served_states_open(&self.system);
         self.system.let_go();
         match command {
-            Command::Sync => self.sync(),
+            Command::Sync => self.sync_all(),
             Command::SnapTake { name } => self.take(name),
             Command::SnapDelete { name } => self.delete(name),
             Command::SnapRestore { name } => self.restore(name),
@@ -102,7 +90,10 @@ impl<S: Station> Fs<S> {
 
     /// `df`: the room of the disk, with no device call.
     fn space(&self) -> Reply
+        ensures kind { IsReplyTo Command.Df result }
         ensures answers { (errno : Errno) → result ≡ Reply.Refused errno → ⊥ }
+        ensures logs { (s : State) (served : ServesState self.now.system s)
+            → LogsItsNeed (all_bodies served.lasts.bodies) s self.now.system Command.Df result }
         ensures applied { (s : State) → Serves (mounted self.now s) → IsFalse self.now.has_failed
             → IsAppliedAt self.now s self.now Command.Df result }
     {
@@ -121,7 +112,7 @@ impl<S: Station> Fs<S> {
 
     /// The same of a call on the tree, on a descriptor or on a snapshot's tree, or of `snap list`. Where the disk has no room for
     /// it, or its record doesn't go into the log, a consistency point runs first.
-    fn call(&mut self, call: &Command) -> Reply
+    fn call(&mut self, call: &Command<'_>) -> Reply
         requires going { IsFalse self.old.has_failed }
         requires is_call { IsCall call.now }
         ensures answers { AnswersAlways self.old self.new call.now result }
@@ -138,10 +129,15 @@ impl<S: Station> Fs<S> {
     }
 
     /// Runs a consistency point where something is uncovered, and then a call that would change something.
-    fn call_settled(&mut self, call: &Command) -> Reply
+    fn call_settled(&mut self, call: &Command<'_>) -> Reply
         requires going { IsFalse self.old.has_failed }
         requires is_call { IsCall call.now }
-        ensures { AnswersCommand 1 (λ s. WaitsForPoint self.old s call.now) self.old self.new call.now result }
+        ensures answers { AnswersCommand 1 (λ s. WaitsForPoint self.old s call.now)
+            self.old self.new call.now result }
+        // Behind its point no record of before is left.
+        ensures logs { (s : State) → Serves (mounted self.old s) → WaitsForPoint self.old s call.now
+            → IsAccepted result → (before : List (List ℕ))
+            → LogsItsNeed before s self.new.system call.now result }
     {
         served_states_open(&self.system);
         if self.system.is_covered() {
@@ -158,7 +154,7 @@ impl<S: Station> Fs<S> {
     }
 
     /// A call, with a step of a consistency point at most. The state stays where its record doesn't go into the log.
-    fn attempt(&mut self, call: &Command) -> Result<Reply, CallError>
+    fn attempt(&mut self, call: &Command<'_>) -> Result<Reply, CallError>
         requires going { IsFalse self.old.has_failed }
         requires is_call { IsCall call.now }
         ensures { Attempts self.old self.new call.now result }
@@ -177,7 +173,7 @@ impl<S: Station> Fs<S> {
     }
 
     /// `sync`: a consistency point, where something is uncovered.
-    fn sync(&mut self) -> Reply
+    fn sync_all(&mut self) -> Reply
         requires { IsFalse self.old.has_failed }
         ensures { AnswersAlways self.old self.new Command.Sync result }
     {
@@ -192,7 +188,7 @@ impl<S: Station> Fs<S> {
     }
 
     /// `snap take`: where something is uncovered a consistency point, and then one that takes the snapshot.
-    fn take(&mut self, name: &Text) -> Reply
+    fn take(&mut self, name: &Bytes<'_>) -> Reply
         requires { IsFalse self.old.has_failed }
         ensures { AnswersAlways self.old self.new (Command.SnapTake name.now) result }
     {
@@ -205,7 +201,7 @@ impl<S: Station> Fs<S> {
     }
 
     /// The same where its tests are passed.
-    fn take_tested(&mut self, name: &Text) -> Reply
+    fn take_tested(&mut self, name: &Bytes<'_>) -> Reply
         requires { IsFalse self.old.has_failed }
         ensures { AnswersCommand POINTS (λ s. WouldChange s (Command.SnapTake name.now)) self.old self.new
             (Command.SnapTake name.now) result }
@@ -220,7 +216,7 @@ impl<S: Station> Fs<S> {
     }
 
     /// The same where the newest root covers all.
-    fn take_covered(&mut self, name: &Text) -> Reply
+    fn take_covered(&mut self, name: &Bytes<'_>) -> Reply
         requires going { IsFalse self.old.has_failed }
         requires rests { self.old.system.blocks.laid ≡ None }
         ensures { AnswersCommand 1 (λ s. IsCovered self.old.system s.tree.descriptors s
@@ -244,7 +240,7 @@ impl<S: Station> Fs<S> {
     }
 
     /// `snap delete`: a consistency point that deletes the snapshot.
-    fn delete(&mut self, name: &Text) -> Reply
+    fn delete(&mut self, name: &Bytes<'_>) -> Reply
         requires { IsFalse self.old.has_failed }
         ensures { AnswersAlways self.old self.new (Command.SnapDelete name.now) result }
     {
@@ -274,34 +270,6 @@ impl<S: Station> Fs<S> {
                 Err(errno_of_point(error))
             }
         }
-    }
-
-    /// Applies commands in order and answers each. Room for all replies is taken first: `NoMemory` where there is none,
-    /// and then no command was run. Where no reply is EIO, no write and no sync failed.
-    pub fn run(&mut self, commands: &[Command]) -> Result<Vec<Reply>, RunError>
-        ensures uses { Uses (meaning_of self.old.system) (meaning_of self.new.system) }
-        ensures refused { OnErr result (self.new ≡ self.old) }
-        ensures count { IfOk result (λ replies. vec_len replies ≡ length commands.now) }
-        ensures epoch { AgesBy (POINTS * length commands.now)
-            self.old.system.log.epoch self.new.system.log.epoch }
-        ensures eio { IfOk result (λ replies. Contains replies.items (Reply.Refused Errno.EIO)
-            → HasFailed (meaning_of self.old.system) (meaning_of self.new.system)) }
-        ensures written { IfOk result (λ replies.
-            (Contains replies.items (Reply.Refused Errno.EIO) → ⊥)
-            → NoWriteFailed (meaning_of self.old.system) (meaning_of self.new.system)) }
-        ensures ran { (s : State) → Serves (mounted self.old s)
-            → LastsFor (length commands.now) self.old
-            → IfOk result (λ replies. RunsAt self.old s self.new (zip commands.now replies.items)) }
-    {
-        let mut replies = Vec::with_capacity(self.alloc, commands.len()).map_err(
-            |_| RunError::NoMemory,
-        )?;
-        self.begins();
-        for command in commands {
-            let reply = self.apply(command);
-            replies.push(reply).unwrap();
-        }
-        Ok(replies)
     }
 
     /// A state that it serves is where a run begins. It does nothing.

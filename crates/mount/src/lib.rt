@@ -1,5 +1,5 @@
 //! The file system: making an image, mounting one, and applying commands to it. A changing command is logged before it is
-//! answered, so that a power cut at any moment leaves it whole or not at all: the contracts of `make`, `mount`, `Fs::run`
+//! answered, so that a power cut at any moment leaves it whole or not at all: the contracts of `make`, `mount`, `Fs::apply`
 //! and `Fs::into_station` say so over an honest station, and the law `cut_opens_to_prefix` joins them.
 #![tactic(auto)]
 
@@ -7,13 +7,19 @@ mod error;
 mod fs;
 mod image;
 mod mounting;
+mod open_files;
+mod path_calls;
 mod prefix;
 mod refusals;
+mod replies;
 mod restoring;
+mod whole_image;
+mod within_snapshots;
 
-pub use error::{MountError, RunError};
+pub use error::MountError;
 pub use fs::{Fs, POINTS};
 pub use image::make;
 pub use making::MakeError;
 pub use mounting::mount;
 pub use prefix::cut_opens_to_prefix;
+pub use system::Space;

@@ -10,13 +10,13 @@ ghost use Rattle.mount.specs.declared.fs.TheConstants.{POINTS};
 
 use crate::Fs;
 use crate::refusals::{errno_of_call, errno_of_point, fails_point};
-use model::{Errno, Reply, Text};
+use model::{Bytes, Errno, Reply};
 use station::Station;
 use system::served_states_open;
 
 impl<S: Station> Fs<S> {
     /// `snap restore`: where something is uncovered a consistency point, and then one behind which the tree is that of the snapshot.
-    pub(crate) fn restore(&mut self, name: &Text) -> Reply
+    pub(crate) fn restore(&mut self, name: &Bytes<'_>) -> Reply
         requires { IsFalse self.old.has_failed }
         ensures { AnswersAlways self.old self.new (Command.SnapRestore name.now) result }
     {
@@ -29,7 +29,7 @@ impl<S: Station> Fs<S> {
     }
 
     /// The same where its tests are passed.
-    fn restore_tested(&mut self, name: &Text) -> Reply
+    fn restore_tested(&mut self, name: &Bytes<'_>) -> Reply
         requires { IsFalse self.old.has_failed }
         ensures { AnswersCommand POINTS (λ s. WouldChange s (Command.SnapRestore name.now)) self.old self.new
             (Command.SnapRestore name.now) result }
@@ -44,7 +44,7 @@ impl<S: Station> Fs<S> {
     }
 
     /// The same where the newest root covers all: then it is known what room it asks for.
-    fn restore_covered(&mut self, name: &Text) -> Reply
+    fn restore_covered(&mut self, name: &Bytes<'_>) -> Reply
         requires going { IsFalse self.old.has_failed }
         requires rests { self.old.system.blocks.laid ≡ None }
         ensures { AnswersCommand 1 (λ s. IsCovered self.old.system s.tree.descriptors s
@@ -62,7 +62,7 @@ impl<S: Station> Fs<S> {
     }
 
     /// The same where the disk has that room.
-    fn restore_roomy(&mut self, name: &Text) -> Reply
+    fn restore_roomy(&mut self, name: &Bytes<'_>) -> Reply
         requires going { IsFalse self.old.has_failed }
         requires rests { self.old.system.blocks.laid ≡ None }
         ensures { AnswersCommand 1 (λ s. IsCovered self.old.system s.tree.descriptors s

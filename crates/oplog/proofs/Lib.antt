@@ -1,5 +1,5 @@
 pub mod Halves
-mod Records
+pub mod Records
 mod Runs
 mod Writes
 mod Openings

@@ -1,6 +1,6 @@
 //! Reading the log back.
 
-ghost use Rattle.std.specs.Prelude.{◌≡◌, ℕ, ◌+◌, ◌*◌, ◌%◌, ◌<◌, ◌≤◌, List, length, take, drop, Some, None, IfOk, OnOk, OnErr, IsErrOf};
+ghost use Rattle.std.specs.Prelude.{◌≡◌, ℕ, ◌+◌, ◌*◌, ◌%◌, ◌<◌, ◌≤◌, List, length, take, drop, Some, None, IfOk, OnErr, IsErrOf};
 ghost use Rattle.station.specs.Moments.{Shows};
 ghost use Rattle.station.specs.Calls.{OnlyReads};
 ghost use Rattle.layout.specs.Gates.{HeaderIs};
@@ -8,7 +8,7 @@ ghost use Rattle.layout.specs.declared.geometry.TheConstants.{MOST_HALF};
 ghost use Rattle.layout.specs.declared.log.TheConstants.{FIRST_GATE, HEADER_BYTES};
 ghost use Rattle.layout.specs.Log.{half_of, EpochHolds, LogHolds};
 ghost use Rattle.oplog.specs.LogEnd.{AreHalfBytes};
-ghost use Rattle.oplog.specs.SavedLog.{SavedHalf, Saved, TellsLog, end_of};
+ghost use Rattle.oplog.specs.SavedLog.{Saved, TellsLog, end_of};
 ghost use Rattle.oplog.specs.Internal.{TellsHalf, TellsEpoch};
 
 use crate::Log;

@@ -1,22 +1,21 @@
 -- Planned blocks by their places.
-use Rattle.std.specs.Prelude.{ℕ, ◌≡◌, ◌≢◌, ◌<◌, List, Contains, Some, None, length, get_or}
-use Rattle.std.specs.Ordering.{nat_cmp}
-use Rattle.std.specs.BTreeMap.{BTreeMap, get}
+use Rattle.std.specs.Prelude.{ℕ, ◌≡◌, ◌≢◌, ◌<◌, List, All, Contains, length, get_or}
+use Rattle.std.specs.List.Sorted.{IsNonDecreasingBy}
 use Rattle.buffers.specs.declared.block.Block.{Block}
 use Rattle.conspoint.specs.declared.plan.PlannedBlock.{PlannedBlock}
+use Rattle.conspoint.specs.Finished.{IsAbsent}
+use Rattle.overlay.specs.declared.laid.Entry.{Entry}
 
 -- one of these blocks is this one, at this place
 abbrev pub IsAt : List PlannedBlock → ℕ → Block → Type 0
 IsAt blocks place block = Contains blocks (record { place = place; bytes = block })
 
--- a place leads to the one of the first n blocks that has it, and the place of none to none
-pub record IsIndexTo (n : ℕ) (index : BTreeMap ℕ ℕ) (blocks : List PlannedBlock) : Type 0 where
-  pub within : (place i : ℕ) → get nat_cmp index place ≡ Some i → i < n
-  pub found : (place i : ℕ) (d : PlannedBlock) → get nat_cmp index place ≡ Some i
-      → (get_or blocks i d).place ≡ place
-  pub none : (place : ℕ) → get nat_cmp index place ≡ None → (i : ℕ) (d : PlannedBlock) → i < n
-      → (get_or blocks i d).place ≢ place
+-- an entry leads to one of these blocks, which has its place
+abbrev pub Leads : List PlannedBlock → Entry → Type 0
+Leads blocks e = (e.nth < length blocks) × ((d : PlannedBlock) → (get_or blocks e.nth d).place ≡ e.place)
 
--- so it does for all blocks
-abbrev pub IsIndex : BTreeMap ℕ ℕ → List PlannedBlock → Type 0
-IsIndex index blocks = IsIndexTo (length blocks) index blocks
+-- entries in the order of their places, each of which leads to a block; a place that none has no block has
+pub record IsIndex (index : List Entry) (blocks : List PlannedBlock) : Type 0 where
+  pub rising : IsNonDecreasingBy (λ e. e.place) index
+  pub leads : All (Leads blocks) index
+  pub complete : (place : ℕ) → All (λ e. e.place ≢ place) index → IsAbsent blocks place

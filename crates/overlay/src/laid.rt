@@ -8,15 +8,21 @@ ghost use Rattle.conspoint.specs.Plans.{IsPlanned};
 use buffers::SharedBlock;
 use conspoint::{Plan, PlannedBlock};
 use std::alloc::{AllocError, Global};
-use std::collections::BTreeMap;
+
+/// The place of a planned block, and which block of the plan it is.
+#[derive(Debug, Drop)]
+struct Entry {
+    place: u32,
+    nth: usize,
+}
 
 /// A plan that is under way.
 #[derive(Debug, Drop)]
 pub struct Laid {
     pub(crate) plan: Plan,
-    /// Which block of the plan has a place.
-    index: BTreeMap<u32, usize>,
-    ghost indexed: { IsIndex index plan.blocks },
+    /// An entry for each of its blocks, in the order of their places.
+    index: Vec<Entry>,
+    ghost indexed: { IsIndex index.items plan.blocks },
 }
 
 impl Laid {
@@ -36,20 +42,24 @@ impl Laid {
         ensures planned { IsPlanned self.now.plan }
     {
         let blocks = self.plan.blocks();
-        match self.index.get(&place) {
-            Some(i) => Some(&blocks[*i].bytes),
-            None => None,
+        match self.index.binary_search_by_key(&place, |entry| entry.place) {
+            Ok(at) => Some(&blocks[self.index[at].nth].bytes),
+            Err(_) => None,
         }
     }
 }
 
-/// Which of these blocks has a place.
-fn index_of(alloc: Global, blocks: &[PlannedBlock]) -> Result<BTreeMap<u32, usize>, AllocError>
-    ensures { IfOk result (λ index. IsIndex index blocks.now) }
+/// An entry for each of these blocks, in the order of their places. The sort takes one pass where they rise already.
+fn index_of(alloc: Global, blocks: &[PlannedBlock]) -> Result<Vec<Entry>, AllocError>
+    ensures { IfOk result (λ index. IsIndex index.items blocks.now) }
 {
-    let mut index = BTreeMap::new(alloc);
+    let mut index = Vec::with_capacity(alloc, blocks.len())?;
     for i in 0..blocks.len() {
-        index.insert(blocks[i].place.get(), i)?;
+        index.push(Entry {
+            place: blocks[i].place.get(),
+            nth: i,
+        })?;
     }
+    index.sort_by_key(|entry| entry.place)?;
     Ok(index)
 }

@@ -14,9 +14,9 @@ use Rattle.paths.specs.declared.lookup.Found.TheVariants as found
 
 pub found_directory : (o : Option Node) → IsTrue (is_directory_node o) → found_in o ≡ found.Directory
 found_directory None is = absurd (false≢true is)
-found_directory (Some (directory_node mode names)) is = refl
-found_directory (Some (file_node mode links bytes)) is = absurd (false≢true is)
-found_directory (Some (link_node text)) is = absurd (false≢true is)
+found_directory (Some (directory_node attributes names)) is = refl
+found_directory (Some (file_node attributes links bytes)) is = absurd (false≢true is)
+found_directory (Some (link_node attributes text)) is = absurd (false≢true is)
 
 not_followed : {X : Type 0} (a follow : Bool) → (a && not follow) ≡ true → follow ≡ true → X
 not_followed true true e is = absurd (false≢true e)
@@ -47,9 +47,9 @@ module _ (v : Volume) (root : found_in (v 3) ≡ found.Directory) where
 
   at_node : (n : ℕ) (o : Option Node) → v n ≡ o → TurnsWell (turn_at n o)
   at_node n None is = tt
-  at_node n (Some (directory_node mode names)) is = ap found_in is
-  at_node n (Some (file_node mode links bytes)) is = ap found_in is
-  at_node n (Some (link_node text)) is = tt
+  at_node n (Some (directory_node attributes names)) is = ap found_in is
+  at_node n (Some (file_node attributes links bytes)) is = ap found_in is
+  at_node n (Some (link_node attributes text)) is = tt
 
   by_name : (o : Option ℕ) → TurnsWell (turn_by v o)
   by_name None = tt
@@ -121,9 +121,9 @@ TurnsByName part _ = Unit {0}
 module _ (v : Volume) where
   at_number : (part : Name) (n : ℕ) (o : Option Node) → TurnsByName part (turn_at n o)
   at_number part n None = tt
-  at_number part n (Some (directory_node mode names)) = tt
-  at_number part n (Some (file_node mode links bytes)) = tt
-  at_number part n (Some (link_node text)) = tt
+  at_number part n (Some (directory_node attributes names)) = tt
+  at_number part n (Some (file_node attributes links bytes)) = tt
+  at_number part n (Some (link_node attributes text)) = tt
 
   at_name : (part : Name) (o : Option ℕ) → TurnsByName part (turn_by v o)
   at_name part None = tt

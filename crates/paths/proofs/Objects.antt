@@ -22,26 +22,26 @@ use Rattle.paths.specs.Steps.{found_as, found_in, text_in}
 
 module _ {detail : Detail} (disk : ℕ → List ℕ) (inodes : ℕ) (settled : Inode) (o : Object) (node : Option Node) (object : IsObjectIn detail disk inodes settled o node) where
   -- it stands for what its kind says
-  sized : HasSizeOf o.attributes.kind inodes (content_of_object disk o) node
-  sized = by_size detail o.attributes.kind inodes (content_of_object disk o) node object.stands
+  sized : HasSizeOf o.status.kind inodes (content_of_object disk o) node
+  sized = by_size detail o.status.kind inodes (content_of_object disk o) node object.stands
 
-  stands : (kind : Kind) → o.attributes.kind ≡ kind → HasSizeOf kind inodes (content_of_object disk o) node
+  stands : (kind : Kind) → o.status.kind ≡ kind → HasSizeOf kind inodes (content_of_object disk o) node
   stands kind is = subst (λ k. HasSizeOf k inodes (content_of_object disk o) node) is sized
 
   -- a directory's names
-  pub names_of : o.attributes.kind ≡ kinds.Directory → (names : NameMap) × HoldNames inodes (o.file.size / 4096) (file_block disk o.file) names × (node ≡ Some (directory_node o.attributes.mode names))
+  pub names_of : o.status.kind ≡ kinds.Directory → (names : NameMap) × HoldNames inodes (o.file.size / 4096) (file_block disk o.file) names × (node ≡ Some (directory_node o.status.attributes names))
   names_of is = stands kinds.Directory is
 
   -- its blocks
-  pub blocks_of : o.attributes.kind ≡ kinds.Directory → AreDirectoryBlocks inodes (o.file.size / 4096) (file_block disk o.file)
+  pub blocks_of : o.status.kind ≡ kinds.Directory → AreDirectoryBlocks inodes (o.file.size / 4096) (file_block disk o.file)
   blocks_of is = λ i below. let d = names_of is in (d.1.entries i, d.1.holds i below)
 
   -- they can be read
-  pub can_read : o.attributes.kind ≡ kinds.Directory → (i : ℕ) → CanReadBlock detail (file_block disk o.file) i
-  can_read is i = directory_readable detail o.attributes.kind inodes (content_of_object disk o) node object.stands is i
+  pub can_read : o.status.kind ≡ kinds.Directory → (i : ℕ) → CanReadBlock detail (file_block disk o.file) i
+  can_read is i = directory_readable detail o.status.kind inodes (content_of_object disk o) node object.stands is i
 
   -- what is told of its names, is told of the object's
-  pub of_names : (P : NameMap → Type 0) → o.attributes.kind ≡ kinds.Directory → ((names : NameMap) → HoldNames inodes (o.file.size / 4096) (file_block disk o.file) names → P names)
+  pub of_names : (P : NameMap → Type 0) → o.status.kind ≡ kinds.Directory → ((names : NameMap) → HoldNames inodes (o.file.size / 4096) (file_block disk o.file) names → P names)
       → P (names_in node)
   of_names P is told = let d = names_of is in subst (λ n. P (names_in n)) (sym d.2) (told d.0 d.1)
 
@@ -55,8 +55,8 @@ module _ {detail : Detail} (disk : ℕ → List ℕ) (inodes : ℕ) (settled : I
   no_names kinds.InodeMap other kind is x = absurd kind
   no_names kinds.BlockMap other kind is x = absurd kind
 
-  pub without_names : (o.attributes.kind ≢ kinds.Directory) → (x : Name) → names_in node x ≡ None
-  without_names other x = no_names o.attributes.kind other object.kind sized x
+  pub without_names : (o.status.kind ≢ kinds.Directory) → (x : Name) → names_in node x ≡ None
+  without_names other x = no_names o.status.kind other object.kind sized x
 
   -- what is no link has no text
   no_text : (kind : Kind) → (kind ≢ kinds.Link) → IsObjectKind kind → HasSizeOf kind inodes (content_of_object disk o) node → text_in node ≡ []
@@ -68,12 +68,12 @@ module _ {detail : Detail} (disk : ℕ → List ℕ) (inodes : ℕ) (settled : I
   no_text kinds.InodeMap other kind is = absurd kind
   no_text kinds.BlockMap other kind is = absurd kind
 
-  pub without_text : (o.attributes.kind ≢ kinds.Link) → text_in node ≡ []
-  without_text other = no_text o.attributes.kind other object.kind sized
+  pub without_text : (o.status.kind ≢ kinds.Link) → text_in node ≡ []
+  without_text other = no_text o.status.kind other object.kind sized
 
 -- a link's text
 pub link_text : (disk : ℕ → List ℕ) (inodes : ℕ) (settled : Inode) (o : Object) (node : Option Node) → IsObject disk inodes settled o node
-    → o.attributes.kind ≡ kinds.Link → content_bytes (content_of_object disk o) ≡ text_in node
+    → o.status.kind ≡ kinds.Link → content_bytes (content_of_object disk o) ≡ text_in node
 link_text disk inodes settled o node object is = sym (ap text_in (subst (λ k. StandsAs k inodes (content_of_object disk o) node) is object.stands))
 
 -- an object is what its kind says
@@ -88,7 +88,7 @@ found_is kinds.BlockMap inodes c node is = sym (ap found_in is)
 
 -- what isn't touched is the same
 pub same_object : (x : Option Object) → IsSameOrNone x x
-same_object (Some o) = record { attributes = refl; file = same_itself o.file }
+same_object (Some o) = record { status = refl; file = same_itself o.file }
 same_object None = tt
 
 pub same_known : (inodes : ℕ) (disk : ℕ → List ℕ) (x : Option Object) → StaysKnown inodes disk x x

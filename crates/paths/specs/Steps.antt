@@ -17,9 +17,9 @@ use Rattle.paths.specs.declared.step.Step.TheVariants as step
 -- what kind of object it is
 abbrev pub found_in : Option Node → Found
 found_in None = found.Nothing
-found_in (Some (directory_node mode names)) = found.Directory
-found_in (Some (file_node mode links bytes)) = found.File
-found_in (Some (link_node text)) = found.Link
+found_in (Some (directory_node attributes names)) = found.Directory
+found_in (Some (file_node attributes links bytes)) = found.File
+found_in (Some (link_node attributes text)) = found.Link
 
 -- what an object of this kind is
 abbrev pub found_as : Kind → Found
@@ -30,7 +30,7 @@ found_as _ = found.Nothing
 
 -- the text of a link
 abbrev pub text_in : Option Node → List ℕ
-text_in (Some (link_node text)) = text
+text_in (Some (link_node attributes text)) = text
 text_in _ = []
 
 -- where a walk ends that takes a step by a part from the end of a trail, with parts left

@@ -50,7 +50,7 @@ pub fn object_at<B: Blocks>(
     let Some(object) = object(inodes, number) else {
         return Ok(Found::Nothing);
     };
-    Ok(found_by(object.attributes.kind))
+    Ok(found_by(object.status.kind))
 }
 
 // What an object of this kind is.
@@ -107,13 +107,13 @@ fn find_in<B: Blocks>(
     ensures damaged { (detail : Detail) (disk : ℕ → List ℕ) (settled : Inode) (node : Option Node) →
         B.Shows blocks.old disk → IsErrOf result ReadError.Damaged →
         IsObjectOrNone detail disk inodes settled object.old node → ((o : Object) →
-        object.old ≡ Some o → o.attributes.kind ≡ kinds.Directory → (i : ℕ) →
+        object.old ≡ Some o → o.status.kind ≡ kinds.Directory → (i : ℕ) →
         IsSoundAt (B.count blocks.old) disk o.file.tree i) → ⊥ }
 {
     let Some(object) = object else {
         return Ok(None);
     };
-    if object.attributes.kind != Kind::Directory {
+    if object.status.kind != Kind::Directory {
         return Ok(None);
     }
     dirs::find(alloc, &object.file, &mut object.known, blocks, inodes, name)
@@ -146,7 +146,7 @@ pub fn list<B: Blocks>(
     let Some(object) = object(inodes, directory) else {
         return Ok(Names::new(Vec::new(alloc)));
     };
-    if object.attributes.kind != Kind::Directory {
+    if object.status.kind != Kind::Directory {
         return Ok(Names::new(Vec::new(alloc)));
     }
     objects_stand_in_their_grammar();
@@ -168,7 +168,7 @@ pub fn text_at<B: Blocks>(
     let Some(object) = object(inodes, number) else {
         return Ok(Vec::new(alloc));
     };
-    if object.attributes.kind != Kind::Link {
+    if object.status.kind != Kind::Link {
         return Ok(Vec::new(alloc));
     }
     objects_stand_in_their_grammar();

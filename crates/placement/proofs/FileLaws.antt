@@ -91,7 +91,7 @@ module _ (s : Sizes) (old new : Draft) (d e : Blocks) (base : Inode) (o : Object
     (taken freed : List ℕ) (took : (b : ℕ) → Contains taken b ↔ HasMoved placed settled b) (left : (b : ℕ) → Contains freed b ↔ HasMoved settled placed b) where
   pub content_is : content_of (held e (inode_with o body)) ≡ content_with o block
   unfolding held
-  content_is = λ j. record { kind = o.attributes.kind; mode = o.attributes.mode; links = o.attributes.links; size = o.file.size; block = λ i. laid.blocks i j }
+  content_is = λ j. record { kind = o.status.kind; attributes = o.status.attributes; links = o.status.links; size = o.file.size; block = λ i. laid.blocks i j }
 
   -- a file's blocks are whole where it has any
   readable : (1 ≤ level_of o.file.size → (i : ℕ) → IsWhole (block i)) → (b : Body) → body ≡ b → FitsBody b s.blocks o.file.size → IsReadable (held e (inode_with o body))
@@ -104,7 +104,7 @@ module _ (s : Sizes) (old new : Draft) (d e : Blocks) (base : Inode) (o : Object
   sound_is : (1 ≤ level_of o.file.size → (i : ℕ) → IsWhole (block i)) → IsSoundFile s (held e (inode_with o body))
   unfolding held
   sound_is whole = record {
-    inode = record { mode = change.mode; size = o.file.within; kind = change.kind; body = laid.body };
+    inode = record { attributes = change.attributes; size = o.file.within; kind = change.kind; body = laid.body };
     indirect = laid.indirect;
     bytes = record {
       readable = readable whole body refl laid.body;

@@ -3,12 +3,9 @@ use Rattle.std.proofs.Common.{◌≡◌, ℕ, zero, suc, ◌-◌, ◌<◌, ◌�
 use Rattle.std.proofs.lemmas.Bool.Decides.{nat_tests}
 use Rattle.std.specs.Int.{div_ceil}
 use Rattle.std.proofs.lemmas.List.Elements.{All-from_get_or}
-use Rattle.layout.specs.Places.{Blocks, pointed}
 use Rattle.layout.specs.Version.{level_of}
-use Rattle.layout.specs.declared.inode.Inode.{Inode}
 use Rattle.layout.specs.declared.pointer.Pointer.{Pointer}
-use Rattle.layout.specs.declared.pointer.Pointer.TheVariants.{Hole, Block}
-use Rattle.images.specs.Nodes.{held}
+use Rattle.layout.specs.declared.pointer.Pointer.TheVariants.{Hole}
 use Rattle.images.specs.Soundness as images
 use Rattle.blocktree.specs.Names.{nodes_at}
 use Rattle.blocktree.specs.Places.{block_count}
@@ -19,11 +16,6 @@ not_inline size top level = grind (arith, nat_tests)
 
 pub is_inline : (size : ℕ) → level_of size ≡ 0 → size ≤ 128
 is_inline size level = grind (arith, nat_tests)
-
--- the bytes of a node that stands in a block
-pub node_bytes : (d : Blocks) (f : Inode) (m i b : ℕ) → (held d f).place m i ≡ Block b → (held d f).bytes m i ≡ d b
-unfolding held
-node_bytes d f m i b is = ap (pointed d) is
 
 pub used_holes : (xs : List Pointer) (n : ℕ) → ((i : ℕ) → n ≤ i → pointer_at xs i ≡ Hole) → All (λ p. p ≡ Hole) (drop n xs)
 used_holes xs n holes = All-from_get_or (λ p. p ≡ Hole) (drop n xs) Hole (λ i lt. get_or-drop n xs i Hole ∙ holes (n + i) (omega arith))

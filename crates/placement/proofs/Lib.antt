@@ -12,3 +12,4 @@ mod FirstLaws
 mod HoleLaws
 mod CostLaws
 mod RaiseLaws
+pub mod OneLaws

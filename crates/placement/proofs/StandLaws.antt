@@ -27,7 +27,8 @@ use Rattle.placement.specs.declared.nodes.Nodes.{Nodes}
 use Rattle.placement.specs.Files.{object_block, with_first}
 use Rattle.placement.specs.Layouts.{inode_with, StandOver, AreSettledNodes, IsLaidOut, LeadToBlocks}
 use Rattle.placement.specs.Nodes.{height_of, node, under}
-use Rattle.placement.proofs.HeldLaws.{node_bytes, used_holes, not_inline}
+use Rattle.images.proofs.EmptyLaws.{node_bytes}
+use Rattle.placement.proofs.HeldLaws.{used_holes, not_inline}
 use Rattle.placement.proofs.PlacedLaws.{node_height, node_over}
 use Rattle.layout.proofs.PointerLaws.{block_same, follow_same, hole_block, pointed_same}
 use Rattle.images.proofs.OverlayLaws.{held_up}

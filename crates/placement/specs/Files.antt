@@ -1,6 +1,7 @@
 -- What a changed file is that a consistency point places, and what its new inode comes to.
 use Rattle.std.specs.Prelude.{ℕ, suc, ◌≡◌, ◌⊎◌, ◌<◌, ◌≤◌, ◌==◌, Bool, true, List, nat_lt, if◌then◌else◌}
 use Rattle.std.specs.List.{list_any}
+use Rattle.model.specs.Attributes.{AreAttributes}
 use Rattle.layout.specs.Bytes.{zeros}
 use Rattle.layout.specs.Inode.{FitsKind}
 use Rattle.layout.specs.Limits.{Sizes}
@@ -35,9 +36,9 @@ object_block disk o i =
 -- what an object in memory is, with these blocks
 abbrev pub content_with : Object → (ℕ → List ℕ) → Content
 content_with o block = record {
-  kind = o.attributes.kind;
-  mode = o.attributes.mode;
-  links = o.attributes.links;
+  kind = o.status.kind;
+  attributes = o.status.attributes;
+  links = o.status.links;
   size = o.file.size;
   block = block;
 }
@@ -59,8 +60,8 @@ pub record IsChangeOf (s : Sizes) (d : Draft) (disk : Blocks) (base : Inode) (o 
   pub once : IsOnce (held disk base)
   pub used : (b : ℕ) → Names (held disk base) b → IsFree d.map.parts.items b → ⊥
   pub ends : IsFile disk o.file
-  pub mode : o.attributes.mode ≤ 4095
-  pub kind : FitsKind o.attributes.kind s o.attributes.mode o.attributes.links o.file.size
+  pub attributes : AreAttributes o.status.attributes
+  pub kind : FitsKind o.status.kind s o.status.attributes o.status.links o.file.size
 
 -- An object over its settled inode of which each block is stored, as large as that one and with no settled block cut off: none of its
 -- blocks becomes a hole.

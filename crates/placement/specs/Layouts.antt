@@ -24,9 +24,9 @@ use Rattle.placement.specs.Files.{object_block}
 -- an object's inode with this body
 abbrev pub inode_with : Object → Body → Inode
 inode_with o body = record {
-  kind = o.attributes.kind;
-  mode = o.attributes.mode;
-  links = o.attributes.links;
+  kind = o.status.kind;
+  attributes = o.status.attributes;
+  links = o.status.links;
   size = o.file.size;
   body = body;
 }

@@ -1,6 +1,6 @@
 //! A changed file, placed.
 
-ghost use Rattle.std.specs.Prelude.{◌≡◌, ◌≢◌, ℕ, ◌<◌, ◌≤◌, List, [], length, All, Contains, ◌↔◌, IfOk, OnOk, IsErrOf, min, nat_lt, if◌then◌else◌};
+ghost use Rattle.std.specs.Prelude.{◌≡◌, ◌≢◌, ℕ, ◌<◌, ◌≤◌, List, [], All, Contains, ◌↔◌, IfOk, OnOk, IsErrOf, min, nat_lt, if◌then◌else◌};
 ghost use Rattle.layout.specs.Limits.{Sizes};
 ghost use Rattle.layout.specs.Version.{level_of};
 ghost use Rattle.layout.specs.declared.inode.Inode.{Inode};
@@ -238,9 +238,9 @@ pub(crate) fn placed_file(
     let taken = moved(alloc, &nodes, settled, &changed, kept, count)?;
     let freed = moved(alloc, settled, &nodes, &changed, kept, tree.count())?;
     let inode = Inode {
-        kind: object.attributes.kind,
-        mode: object.attributes.mode,
-        links: object.attributes.links,
+        kind: object.status.kind,
+        attributes: object.status.attributes,
+        links: object.status.links,
         size: object.file.size(),
         body,
     };

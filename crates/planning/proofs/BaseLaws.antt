@@ -1,5 +1,5 @@
 -- The trees that a change of the snapshots lets a consistency point start from.
-use Rattle.std.proofs.Common.{◌≡◌, ◌≢◌, inl, inr, ℕ, ◌+◌, ◌*◌, ◌/◌, ◌%◌, ◌<◌, ◌≤◌, refl, ap, sym, subst, ◌∙◌, arith}
+use Rattle.std.proofs.Common.{◌≡◌, ◌≢◌, inl, inr, ℕ, ◌+◌, ◌*◌, ◌/◌, ◌%◌, ◌≤◌, refl, ap, sym, subst, ◌∙◌, arith}
 use Rattle.std.proofs.lemmas.Bool.{cases_lt}
 use Rattle.std.specs.Int.{bit_at}
 use Rattle.std.specs.Prelude.{slice_index}
@@ -13,7 +13,7 @@ use Rattle.layout.specs.declared.root.Root.{Root}
 use Rattle.conspoint.specs.Drafts.{Grows}
 use Rattle.conspoint.specs.MapFiles.{AreTouched}
 use Rattle.conspoint.specs.declared.draft.Draft.{Draft}
-use Rattle.conspoint.proofs.MapBytes.{word_zero}
+use Rattle.layout.proofs.ZeroLaws.{word_zero}
 use Rattle.images.specs.BlockMap.{entry}
 use Rattle.images.specs.Nodes.{file_block, held}
 use Rattle.images.specs.Points.{IsBase}
@@ -58,7 +58,7 @@ entries_end : (s : Sizes) (t : HeldTree) (b : ℕ) → IsSoundTree s t → s.blo
 unfolding entry
 entries_end s t b sound past =
     let file = sound.files 2 in
-    let size : (t 2).inode.size ≡ 4 * s.blocks = (subst (λ (k : Kind). FitsKind k s (t 2).inode.mode (t 2).inode.links (t 2).inode.size) (sound.kinds 2) file.inode.kind).2 in
+    let size : (t 2).inode.size ≡ 4 * s.blocks = (subst (λ (k : Kind). FitsKind k s (t 2).inode.attributes (t 2).inode.links (t 2).inode.size) (sound.kinds 2) file.inode.kind).2 in
     word_zero (file_block (t 2) (b / 1024)) (b % 1024) (λ r lt.
     let here : (4 * b + r) / 4096 ≡ b / 1024 = omega (arith, lt) in
     let place : (4 * b + r) % 4096 ≡ 4 * (b % 1024) + r = omega (arith, lt) in

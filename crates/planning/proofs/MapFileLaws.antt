@@ -42,7 +42,7 @@ level_two size is = grind (arith, nat_tests)
 -- how large the settled block map is
 blocks_size : {version : ℕ} (count : ℕ) (disk : Blocks) (s : Sizes) (top : File) (settled_of : ℕ → Inode) → AreSettled count disk version s top settled_of → (settled_of 2).size ≡ 4 * s.blocks
 blocks_size count disk s top settled_of are =
-    (subst (λ (k : Kind). FitsKind k s (settled_of 2).mode (settled_of 2).links (settled_of 2).size) (are.fits 2) (inode_is s disk (settled_of 2) (are.sound 2)).kind).2
+    (subst (λ (k : Kind). FitsKind k s (settled_of 2).attributes (settled_of 2).links (settled_of 2).size) (are.fits 2) (inode_is s disk (settled_of 2) (are.sound 2)).kind).2
 
 -- a map has just the parts that its entries need
 parts_of : (m : BlockMap) → length m.parts.items ≡ div_ceil m.count 1024

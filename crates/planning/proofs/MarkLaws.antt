@@ -1,24 +1,15 @@
 -- The map's marks of a file's blocks, which are first taken out and then put in.
 use Rattle.std.proofs.Common.{◌≡◌, ◌⊎◌, inl, inr, ℕ, true, false, List, length, ap, sym, ◌∙◌, arith}
-use Rattle.std.proofs.lemmas.Bool.{eq-eqb, eqb-true, cases_Bool}
-use Rattle.std.proofs.lemmas.List.Folds.{list_any_at}
-use Rattle.std.proofs.lemmas.Map.Views.{Contains-from_any}
-use Rattle.std.specs.Prelude.{◌==◌, slice_index}
+use Rattle.std.proofs.lemmas.Bool.{cases_Bool}
 use Rattle.std.specs.Int.{bit_at}
 use Rattle.blockmap.specs.Parts.{Part}
 use Rattle.blockmap.specs.Maps.{entry_at}
-use Rattle.conspoint.specs.Marks.{IsAmong, AreMarked}
+use Rattle.conspoint.specs.Marks.{AreMarked}
 use Rattle.images.specs.BlockMap.{HasBit}
 use Rattle.placement.specs.Files.{is_one}
+use Rattle.placement.proofs.OneLaws.{among, one_of}
 use Rattle.planning.specs.Progress.{IsMarked}
-use Rattle.planning.proofs.LoopLaws.{among_all}
 use Rattle.planning.proofs.ProgressLaws.{true_false}
-
-among : (xs : List ℕ) (b : ℕ) → is_one xs b ≡ true → IsAmong xs (length xs) b
-among xs b is = (among_all xs b).0 (Contains-from_any (λ x y e. eqb-true x y e) b xs is)
-
-one_of : (xs : List ℕ) (b : ℕ) → IsAmong xs (length xs) b → is_one xs b ≡ true
-one_of xs b at = list_any_at (λ x. b == x) xs at.0 0 at.1 (eq-eqb b (slice_index xs at.0) (sym at.2))
 
 module _ (taken freed : List ℕ) (old mid new : List Part) (out : AreMarked freed (length freed) false old mid) (came : AreMarked taken (length taken) true mid new) where
   same_out : (b : ℕ) → is_one freed b ≡ false → bit_at (entry_at mid b) 0 ≡ bit_at (entry_at old b) 0

@@ -33,7 +33,9 @@ use Rattle.inofile.specs.Inodes.{files_of, content_at, or_free_content}
 use Rattle.inofile.specs.Objects.{IsObject, IsObjectKind}
 use Rattle.inofile.specs.Settled.{content_of_object as memory_content}
 use Rattle.inofile.specs.declared.inode_file.InodeFile.{InodeFile}
+use Rattle.model.specs.Attributes.{no_attributes, AreAttributes}
 use Rattle.model.specs.Volumes.{Node, Volume}
+use Rattle.model.proofs.AttributeLaws.{new_fit}
 use Rattle.placement.specs.Files.{IsBasedOn, IsPlaced, IsChangeOf, object_content}
 use Rattle.planning.specs.Numbers.{IsCleared, IsNumberPlaced, IsObjectOver, IsOverSettled, IsSettledFile, trimmed}
 use Rattle.placement.specs.Files.IsBasedOn.{settled, none}
@@ -74,8 +76,8 @@ pub based_start : (s : Sizes) (d : Blocks) (f : Inode) (from t : BlockTree) → 
 based_start s d f from t sound starts same = started s f from t f.body refl (body_fits s d f sound) starts same
 
 -- contents are the same where all that they say is
-pub same_content : (a b : Content) → a.kind ≡ b.kind → a.mode ≡ b.mode → a.links ≡ b.links → a.size ≡ b.size → ((i : ℕ) → a.block i ≡ b.block i) → a ≡ b
-same_content a b kind mode links size block = λ i. record { kind = kind i; mode = mode i; links = links i; size = size i; block = λ n. block n i }
+pub same_content : (a b : Content) → a.kind ≡ b.kind → a.attributes ≡ b.attributes → a.links ≡ b.links → a.size ≡ b.size → ((i : ℕ) → a.block i ≡ b.block i) → a ≡ b
+same_content a b kind attributes links size block = λ i. record { kind = kind i; attributes = attributes i; links = links i; size = size i; block = λ n. block n i }
 
 -- What is placed anew, with no settled block kept, where all blocks of the settled file are left.
 pub placed_anew : (s : Sizes) (d e : Blocks) (f new left : Inode) (taken came freed gone : ℕ → Bool) → ((b : ℕ) → taken b ≡ true → Names (held d f) b → ⊥)
@@ -111,7 +113,7 @@ cut_off i bytes = past_end 0 i bytes refl
 module _ (s : Sizes) (draft : Draft) (d : Blocks) (f : Inode) (o : Object) (file : IsSettledFile s draft d f) where
   -- with all settled blocks left
   module _ (from : BlockTree) (starts : StartsFrom f.body f.size from) (same : SameSettled from o.file.tree)
-      (kind : o.attributes.kind ≡ kinds.Free) (mode : o.attributes.mode ≡ 0) (links : o.attributes.links ≡ 0) (size : o.file.size ≡ 0) (none : (i : ℕ) → object_file_block d o.file i ≡ zeros 4096) where
+      (kind : o.status.kind ≡ kinds.Free) (attributes : o.status.attributes ≡ no_attributes) (links : o.status.links ≡ 0) (size : o.file.size ≡ 0) (none : (i : ℕ) → object_file_block d o.file i ≡ zeros 4096) where
     pub cleared_change : IsChangeOf s draft d f o
     cleared_change = record {
       blocks = file.blocks;
@@ -120,8 +122,8 @@ module _ (s : Sizes) (draft : Draft) (d : Blocks) (f : Inode) (o : Object) (file
       once = file.once;
       used = file.used;
       ends = λ p le. ap (λ (b : List ℕ). slice_index b (p % 4096)) (none (p / 4096)) ∙ zero_byte (p % 4096) 4096;
-      mode = omega arith;
-      kind = subst (λ k. FitsKind k s o.attributes.mode o.attributes.links o.file.size) (sym kind) (mode, links, size);
+      attributes = subst AreAttributes (sym attributes) (new_fit 0 (omega arith));
+      kind = subst (λ k. FitsKind k s o.status.attributes o.status.links o.file.size) (sym kind) (attributes, links, size);
     }
 
     pub is_cleared : (e : Blocks) (new : Inode) (taken freed : ℕ → Bool) → IsPlaced s e (held d f) new taken freed → content_of (held e new) ≡ object_content d o
@@ -131,7 +133,7 @@ module _ (s : Sizes) (draft : Draft) (d : Blocks) (f : Inode) (o : Object) (file
       none = none_named e new (ap (λ n. level_of n) (ap (λ i. i.size) (sym (held_inode e new)) ∙ (ap (λ c. c.size) content ∙ size)));
       kind = ap (λ i. i.kind) (sym (held_inode e new)) ∙ (ap (λ c. c.kind) content ∙ kind);
       content = λ x. content ∙ same_content (object_content d o) (trimmed (content_of (held x free_inode)))
-          (kind ∙ ap (λ i. i.kind) (sym (held_inode x free_inode))) (mode ∙ ap (λ i. i.mode) (sym (held_inode x free_inode)))
+          (kind ∙ ap (λ i. i.kind) (sym (held_inode x free_inode))) (attributes ∙ ap (λ i. i.attributes) (sym (held_inode x free_inode)))
           (links ∙ ap (λ i. i.links) (sym (held_inode x free_inode))) (size ∙ ap (λ i. i.size) (sym (held_inode x free_inode)))
           (λ i. past_end o.file.size i (object_file_block d o.file i) size
           ∙ sym (past_end (held x free_inode).inode.size i (file_block (held x free_inode) i) (ap (λ i. i.size) (held_inode x free_inode))));
@@ -146,7 +148,7 @@ module _ (s : Sizes) (draft : Draft) (d : Blocks) (f : Inode) (o : Object) (file
     once = file.once;
     used = file.used;
     ends = object.ends;
-    mode = object.mode;
+    attributes = object.attributes;
     kind = object.kind;
   }
 
@@ -159,7 +161,7 @@ module _ (s : Sizes) (draft : Draft) (d : Blocks) (f : Inode) (o : Object) (file
     once = λ m i k j b here there. absurd (none_named d free_inode refl b (record { height = m; index = i; is = here }));
     used = λ b names free. none_named d free_inode refl b names;
     ends = object.ends;
-    mode = object.mode;
+    attributes = object.attributes;
     kind = object.kind;
   }
 
@@ -184,7 +186,7 @@ ordinary_kind kinds.BlockMap is = absurd is
 -- what an object of memory is, over its settled inode
 pub object_over : (s : Sizes) (inodes : ℕ) (d : Blocks) (f g : Inode) (o : Object) (found : Option Node) → f ≡ g → IsObject d inodes g o found → IsObjectOver s d f o
 object_over s inodes d f g o found now object =
-    record { based = subst (λ (x : Inode). IsBased x o.file.tree) (sym now) object.base; ends = object.ends; mode = object.mode; kind = object.fits s }
+    record { based = subst (λ (x : Inode). IsBased x o.file.tree) (sym now) object.base; ends = object.ends; attributes = object.attributes; kind = object.fits s }
 
 pub file_over : (count : ℕ) (draft : Draft) (d : Blocks) (settled_of : ℕ → Inode) (inodes : InodeFile) (v : Volume) (n : ℕ) (f : Inode) → IsOverSettled count draft d settled_of inodes v
     → f ≡ settled_of n → IsSettledFile inodes.geometry draft d f
@@ -192,11 +194,11 @@ file_over count draft d settled_of inodes v n f memory now = subst (λ (x : Inod
 
 -- an object that was placed is the number's file
 pub object_placed : (s : Sizes) (d e : Blocks) (settled_of : ℕ → Inode) (inodes : InodeFile) (n : ℕ) (f new : Inode) (o : Object) (taken freed : ℕ → Bool) → f ≡ settled_of n
-    → IsObjectKind o.attributes.kind → content_at d settled_of inodes n ≡ Some (memory_content d o)
+    → IsObjectKind o.status.kind → content_at d settled_of inodes n ≡ Some (memory_content d o)
     → IsPlaced s e (held d f) new taken freed → content_of (held e new) ≡ object_content d o → IsNumberPlaced s e (held d (settled_of n)) (trimmed (files_of d settled_of inodes n)) new taken freed
 object_placed s d e settled_of inodes n f new o taken freed now kind is placed content = record {
   placed = subst (λ (x : Inode). IsPlaced s e (held d x) new taken freed) now placed;
-  kind = subst IsOrdinary (sym (ap (λ i. i.kind) (sym (held_inode e new)) ∙ ap (λ (c : Content). c.kind) content)) (ordinary_kind o.attributes.kind kind);
+  kind = subst IsOrdinary (sym (ap (λ i. i.kind) (sym (held_inode e new)) ∙ ap (λ (c : Content). c.kind) content)) (ordinary_kind o.status.kind kind);
   content = content ∙ sym (ap (λ (x : Option Content). trimmed (or_free_content d x)) is);
 }
 

@@ -1,12 +1,12 @@
 -- The file system's own files, as a point changes them.
-use Rattle.std.proofs.Common.{◌≡◌, inl, inr, ℕ, ◌+◌, ◌-◌, ◌*◌, ◌/◌, ◌%◌, ◌<◌, ◌≤◌, min, List, ◌++◌, length, take, drop, length-take, length-drop, refl, ap, sym, subst, ◌∙◌, zero-add, arith}
+use Rattle.std.proofs.Common.{◌≡◌, inl, inr, ℕ, ◌+◌, ◌-◌, ◌*◌, ◌/◌, ◌%◌, ◌<◌, ◌≤◌, min, List, length, take, drop, length-take, length-drop, refl, ap, sym, subst, ◌∙◌, zero-add, arith}
 use Rattle.std.proofs.lemmas.Bool.{cases_lt, cond_below}
 use Rattle.std.proofs.lemmas.Bool.Decides.{nat_tests}
 use Rattle.std.proofs.lemmas.List.{get_or_past, get_or-take, get_or-drop}
-use Rattle.std.proofs.Math.Seq.{take-append_seam}
 use Rattle.std.proofs.lemmas.List.FromFn.{fill_by_all}
 use Rattle.std.specs.Int.{div_ceil}
 use Rattle.std.specs.Prelude.{slice_index}
+use Rattle.model.specs.Attributes.{AreAttributes}
 use Rattle.layout.specs.Bytes.{zeros}
 use Rattle.layout.specs.FileBytes.{byte_in}
 use Rattle.layout.specs.Inode.{FitsBody, FitsKind, IsInode}
@@ -33,7 +33,7 @@ use Rattle.images.specs.Soundness.{HasNoHole, IsSoundFile}
 use Rattle.inode.specs.Bases.{StartsFrom}
 use Rattle.inode.specs.Files.{IsAsHeld, IsFile, byte_at, file_block}
 use Rattle.inode.specs.declared.file.File.{File}
-use Rattle.inode.specs.declared.object.Attributes.{Attributes}
+use Rattle.inode.specs.declared.object.Status.{Status}
 use Rattle.inode.specs.declared.object.Object.{Object}
 use Rattle.inofile.specs.Settled.{AreSettled}
 use Rattle.placement.specs.Files.{IsBasedOn, IsChangeOf, IsWholeOver, object_block, object_content}
@@ -57,8 +57,8 @@ inode_is s disk f sound = subst (IsInode VERSION s) (held_inode disk f) sound.in
 pub own_change : {version : ℕ} (count : ℕ) (draft : Draft) (disk : Blocks) (s : Sizes) (top : File) (settled_of : ℕ → Inode) (before : Before) (n : ℕ) (f : Inode) (from : BlockTree) (o : Object)
     → AreSettled count disk version s top settled_of → NamesOnce (settled_tree disk settled_of) → IsExactPlane (settled_tree disk settled_of) before → ((b : ℕ) → settled_at draft.map.parts.items b ≡ before.entry b)
     → count ≡ draft.map.count → f ≡ settled_of n → StartsFrom f.body f.size from → SameSettled from o.file.tree
-    → o.attributes ≡ record { kind = f.kind; mode = f.mode; links = f.links } → o.file.size ≡ f.size → IsFile disk o.file → IsChangeOf s draft disk (settled_of n) o
-own_change count draft disk s top settled_of before n f from o are once exact same count_is is starts kept attributes size ends =
+    → o.status ≡ record { kind = f.kind; attributes = f.attributes; links = f.links } → o.file.size ≡ f.size → IsFile disk o.file → IsChangeOf s draft disk (settled_of n) o
+own_change count draft disk s top settled_of before n f from o are once exact same count_is is starts kept status size ends =
     let sound : IsSoundFile s (held disk f) = subst (λ (x : Inode). IsSoundFile s (held disk x)) (sym is) (are.sound n) in
     let inode : IsInode VERSION s f = inode_is s disk f sound in
     record {
@@ -68,9 +68,9 @@ own_change count draft disk s top settled_of before n f from o are once exact sa
       once = once.each n;
       used = λ b names free. used_block draft disk settled_of before exact same n b names free;
       ends = ends;
-      mode = subst (λ (a : Attributes). a.mode ≤ 4095) (sym attributes) inode.mode;
-      kind = subst (λ (z : ℕ). FitsKind o.attributes.kind s o.attributes.mode o.attributes.links z) (sym size)
-          (subst (λ (a : Attributes). FitsKind a.kind s a.mode a.links f.size) (sym attributes) inode.kind);
+      attributes = subst (λ (a : Status). AreAttributes a.attributes) (sym status) inode.attributes;
+      kind = subst (λ (z : ℕ). FitsKind o.status.kind s o.status.attributes o.status.links z) (sym size)
+          (subst (λ (a : Status). FitsKind a.kind s a.attributes a.links f.size) (sym status) inode.kind);
     }
 
 -- all settled blocks of a file that was loaded count
@@ -141,13 +141,10 @@ part_byte new block bytes k i start end lt is zero from to =
           ∙ ap (λ (b : List ℕ). slice_index b k) zero ∙ zero_byte k 4096 ∙ sym (get_or_past bytes (4096 * i + k) 0 (omega arith))
     ]
 
-pub whole_again : (out items : List ℕ) (len : ℕ) → length out ≡ len → take len (out ++ drop (length out) items) ≡ out
-whole_again out items len long = ap (λ n. take n (out ++ drop (length out) items)) (sym long) ∙ take-append_seam out (drop (length out) items)
-
 -- how large the settled inode map is
 pub map_size_is : {version : ℕ} (count : ℕ) (disk : Blocks) (s : Sizes) (top : File) (settled_of : ℕ → Inode) → AreSettled count disk version s top settled_of → (settled_of 1).size ≡ div_ceil s.inodes 8
 map_size_is count disk s top settled_of are =
-    (subst (λ (k : Kind). FitsKind k s (settled_of 1).mode (settled_of 1).links (settled_of 1).size) (are.fits 1) (inode_is s disk (settled_of 1) (are.sound 1)).kind).2
+    (subst (λ (k : Kind). FitsKind k s (settled_of 1).attributes (settled_of 1).links (settled_of 1).size) (are.fits 1) (inode_is s disk (settled_of 1) (are.sound 1)).kind).2
 
 -- a loaded file over its settled inode
 pub loaded_based : (s : Sizes) (disk : Blocks) (f : Inode) (t : BlockTree) → IsSoundFile s (held disk f) → StartsFrom f.body f.size t → IsBasedOn f t
@@ -158,13 +155,13 @@ pub record IsMapOver (s : Sizes) (draft : Draft) (disk : Blocks) (base : Inode) 
   pub change : IsChangeOf s draft disk base o
   pub whole : HasNoHole (held disk base) → IsWholeOver disk base o
   pub bytes_are : content_bytes (object_content disk o) ≡ bytes
-  pub kind : o.attributes.kind ≡ kinds.InodeMap
+  pub kind : o.status.kind ≡ kinds.InodeMap
 
 -- the inode map's file with its first blocks changed to these bytes
 module _ {version : ℕ} (count : ℕ) (draft : Draft) (disk : Blocks) (s : Sizes) (top : File) (settled_of : ℕ → Inode) (before : Before) (f : Inode) (old : File) (o : Object) (bytes : List ℕ)
     (are : AreSettled count disk version s top settled_of) (once : NamesOnce (settled_tree disk settled_of)) (exact : IsExactPlane (settled_tree disk settled_of) before)
     (same : (b : ℕ) → settled_at draft.map.parts.items b ≡ before.entry b) (count_is : count ≡ draft.map.count) (is : f ≡ settled_of 1) (old_size : old.size ≡ f.size) (old_ends : IsFile disk old)
-    (starts : StartsFrom f.body f.size old.tree) (attributes : o.attributes ≡ record { kind = f.kind; mode = f.mode; links = f.links }) (stays : SameSettled old.tree o.file.tree)
+    (starts : StartsFrom f.body f.size old.tree) (status : o.status ≡ record { kind = f.kind; attributes = f.attributes; links = f.links }) (stays : SameSettled old.tree o.file.tree)
     (kept : o.file.tree.kept ≡ old.tree.kept) (new_size : o.file.size ≡ old.size) (long : length bytes ≡ div_ceil s.inodes 8)
     (here : (i k : ℕ) → k < 4096 → i < div_ceil (length bytes) 4096 → slice_index (file_block disk o.file i) k ≡ slice_index bytes (4096 * i + k))
     (others : (j : ℕ) → div_ceil (length bytes) 4096 ≤ j → file_block disk o.file j ≡ file_block disk old j) where
@@ -179,12 +176,12 @@ module _ {version : ℕ} (count : ℕ) (draft : Draft) (disk : Blocks) (s : Size
 
   pub map_over : IsMapOver s draft disk (settled_of 1) o bytes
   map_over = record {
-    change = own_change count draft disk s top settled_of before 1 f old.tree o are once exact same count_is is starts stays attributes (new_size ∙ old_size)
+    change = own_change count draft disk s top settled_of before 1 f old.tree o are once exact same count_is is starts stays status (new_size ∙ old_size)
         (parts_end disk old o.file bytes o_size here others old_ends (old_size ∙ f_size));
     whole = λ no_hole. subst (λ (x : Inode). IsWholeOver disk x o) is
         (whole_over s disk f old.tree o sound (subst (λ (x : Inode). HasNoHole (held disk x)) (sym is) no_hole) starts (new_size ∙ old_size) kept);
     bytes_are = object_bytes disk o bytes o_size (parts_bytes disk old o.file bytes o_size here others);
-    kind = ap (λ (a : Attributes). a.kind) attributes ∙ ap (λ (i : Inode). i.kind) is ∙ are.fits 1;
+    kind = ap (λ (a : Status). a.kind) status ∙ ap (λ (i : Inode). i.kind) is ∙ are.fits 1;
   }
 
 -- the kind of an inode whose file is this

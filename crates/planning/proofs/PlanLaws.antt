@@ -28,7 +28,7 @@ use Rattle.images.specs.Contents.{Content, HoldsVolume, StandsAs, content_of, tr
 use Rattle.images.specs.Cuts.{IsPointWith, LeavesFree, Write}
 use Rattle.images.specs.Nodes.{held, Agrees, Names, file_block}
 use Rattle.images.specs.Points.{HoldObjects, IsBase, IsPlannedOn, IsSoundPlan}
-use Rattle.images.specs.Room.{IsNewHead, SharesBase, StoresOwn, TakesBelow, TakesFirst, free_under}
+use Rattle.images.specs.Room.{IsNewHead, StoresOwn, TakesBelow, TakesFirst, free_under}
 use Rattle.images.specs.Room.SharesBase.{takes, restores}
 use Rattle.images.specs.Roots.{HeldTree, Needs, Reach, Whole, free_inode, whole}
 use Rattle.images.specs.SnapshotSteps.{SnapshotStep, CanStep, HasHead, StepsSlots, base_plane, base_tree}

@@ -3,6 +3,7 @@ use Rattle.std.proofs.Common.{◌≡◌, ◌≢◌, inl, inr, ℕ, ◌*◌, ◌/
 use Rattle.std.proofs.Math.Path.{fun_ext}
 use Rattle.std.proofs.lemmas.Bool.{cases_eq, cond-true, cond-false, eq-eqb, ne_eqb}
 use Rattle.std.specs.Prelude.{Some, nat_lt, ◌==◌, if◌then◌else◌}
+use Rattle.model.specs.Attributes.{no_attributes}
 use Rattle.layout.specs.Bytes.{zeros}
 use Rattle.layout.specs.Inode.{inode_bytes}
 use Rattle.layout.specs.declared.inode.Inode.{Inode}
@@ -27,7 +28,7 @@ module _ (puts : PutsOneByOne) (inodes : ℕ) (block : ℕ → List ℕ) (inode 
   base = held (λ b. zeros 4096) f
 
   abbrev over : Overlay
-  over = record { kind = f.kind; mode = 0; links = 0; size = 0; kept = 0; block = λ i. Some (block i) }
+  over = record { kind = f.kind; attributes = no_attributes; links = 0; size = 0; kept = 0; block = λ i. Some (block i) }
 
   fits : FitsPlace base over n (inode_bytes f)
   fits = record { block = whole; inode = long }

@@ -134,7 +134,7 @@ module _ {start : Draft} (writes : WritesAll) (d : Draft) (disk : Blocks) (befor
 -- how large the inode file is
 pub top_size : (s : Sizes) (r : Root) → IsRoot r → s ≡ r.geometry → r.inode_file.size ≡ 4096 * div_ceil s.inodes 21
 top_size s r root same =
-    (subst (λ (k : Kind). FitsKind k r.geometry r.inode_file.mode r.inode_file.links r.inode_file.size) root.kind root.inode_file.kind).2 ∙ ap (λ (z : Sizes). 4096 * div_ceil z.inodes 21) (sym same)
+    (subst (λ (k : Kind). FitsKind k r.geometry r.inode_file.attributes r.inode_file.links r.inode_file.size) root.kind root.inode_file.kind).2 ∙ ap (λ (z : Sizes). 4096 * div_ceil z.inodes 21) (sym same)
 
 pub top_small : (r : Root) → IsRoot r → r.inode_file.size ≤ 67108864
 top_small r root = omega (arith, top_size r.geometry r root refl, root.head.sizes.most_inodes)
@@ -147,7 +147,7 @@ module _ {change : SnapshotChange} {count : ℕ} {d : Draft} {disk : Blocks} {ro
       let s = inodes.geometry in
       let fits = inode_is s disk (settled 0) (start.memory.volume.inodes.sound 0) in
       ap (λ (i : Inode). i.size) (sym start.top)
-      ∙ (subst (λ (k : Kind). FitsKind k s (settled 0).mode (settled 0).links (settled 0).size) (start.memory.volume.inodes.fits 0) fits.kind).2
+      ∙ (subst (λ (k : Kind). FitsKind k s (settled 0).attributes (settled 0).links (settled 0).size) (start.memory.volume.inodes.fits 0) fits.kind).2
       ∙ sym (top_size s root is same)
 
   -- and it is one of the root's sizes

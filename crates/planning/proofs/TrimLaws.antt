@@ -26,7 +26,7 @@ bytes_same c = same_first (byte_in (trimmed c).block) (byte_in c.block) c.size
 
 pub trimmed_stands : (k : Kind) (inodes : ℕ) (c : Content) (o : Option Node) → StandsAs k inodes c o → StandsAs k inodes (trimmed c) o
 trimmed_stands kinds.Free inodes c o is = is
-trimmed_stands kinds.File inodes c o is = is ∙ ap (λ (bytes : List ℕ). Some (file_node c.mode c.links bytes)) (sym (bytes_same c))
+trimmed_stands kinds.File inodes c o is = is ∙ ap (λ (bytes : List ℕ). Some (file_node c.attributes c.links bytes)) (sym (bytes_same c))
 trimmed_stands kinds.Directory inodes c o is = (
   is.0,
   record {
@@ -37,7 +37,7 @@ trimmed_stands kinds.Directory inodes c o is = (
   },
   is.2,
 )
-trimmed_stands kinds.Link inodes c o is = is ∙ ap (λ (bytes : List ℕ). Some (link_node bytes)) (sym (bytes_same c))
+trimmed_stands kinds.Link inodes c o is = is ∙ ap (λ (bytes : List ℕ). Some (link_node c.attributes bytes)) (sym (bytes_same c))
 trimmed_stands kinds.InodeFile inodes c o is = is
 trimmed_stands kinds.InodeMap inodes c o is = is
 trimmed_stands kinds.BlockMap inodes c o is = is

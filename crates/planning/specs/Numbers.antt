@@ -7,8 +7,8 @@ use Rattle.layout.specs.Places.{Blocks}
 use Rattle.layout.specs.declared.TheConstants.{BLOCK_BYTES}
 use Rattle.layout.specs.declared.inode.Inode.{Inode}
 use Rattle.layout.specs.declared.kind.Kind.TheVariants as kinds
+use Rattle.model.specs.Attributes.{AreAttributes}
 use Rattle.model.specs.Volumes.{Volume}
-use Rattle.model.specs.declared.limits.TheConstants.{MODE_BITS}
 use Rattle.blocktree.specs.Places.{block_count}
 use Rattle.images.specs.Contents.{Content, content_of}
 use Rattle.images.specs.Nodes.{Held, held, Names, IsOnce}
@@ -56,5 +56,5 @@ pub record IsCleared (s : Sizes) (e : Blocks) (old : Held) (f : Inode) (taken fr
 pub record IsObjectOver (s : Sizes) (disk : Blocks) (settled : Inode) (o : Object) : Type 0 where
   pub based : IsBased settled o.file.tree
   pub ends : IsFile disk o.file
-  pub mode : o.attributes.mode ≤ MODE_BITS
-  pub kind : FitsKind o.attributes.kind s o.attributes.mode o.attributes.links o.file.size
+  pub attributes : AreAttributes o.status.attributes
+  pub kind : FitsKind o.status.kind s o.status.attributes o.status.links o.file.size

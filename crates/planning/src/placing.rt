@@ -20,10 +20,9 @@ ghost use Rattle.placement.specs.Steps.{PlacesFile};
 use buffers::Blocks;
 use conspoint::{Draft, PlanError};
 use entries::Known;
-use inode::{Attributes, File, Object};
+use inode::{File, Object, Status};
 use inofile::InodeFile;
-use layout::{Inode, Kind, level_of};
-use model::Mode;
+use layout::{Inode, level_of};
 use placement::{PlacedFile, place_file};
 use std::alloc::Global;
 
@@ -47,14 +46,9 @@ fn clear<B: Blocks>(
 {
     let mut file = File::load(alloc, settled)?;
     file.set_size(0);
-    let attributes = Attributes {
-        kind: Kind::Free,
-        mode: Mode::new(0).unwrap(),
-        links: 0,
-    };
     let known = Known::new(alloc);
     let object = Object {
-        attributes,
+        status: Status::free(),
         file,
         known,
     };

@@ -11,6 +11,7 @@ ghost use Rattle.layout.specs.declared.version.TheConstants.{VERSION};
 ghost use Rattle.model.specs.Records.{count_nameless};
 ghost use Rattle.model.specs.Room.{fixed_of};
 ghost use Rattle.model.specs.Volumes.{Volume};
+ghost use Rattle.model.specs.declared.costs.TheConstants.{NAMELESS_COST};
 ghost use Rattle.buffers.specs.Reads.{ReadsBlocks};
 ghost use Rattle.blocktree.specs.Trees.{IsSoundAt};
 ghost use Rattle.blockmap.specs.Maps.{settled_at, entry_at};
@@ -284,7 +285,7 @@ pub fn plan<B: Blocks>(
         → (step : SnapshotStep) → IsStepOf change.now root.now step
         → CanStep step root.now (whole (blocks_of d) root.now) → (spent : ℕ)
         → memory_room base inodes.now v + fixed_of map.count
-        ≤ spent + 4 * count_nameless inodes.now.geometry.inodes v
+        ≤ spent + NAMELESS_COST * count_nameless inodes.now.geometry.inodes v
         → IfOk result.1 (λ p.
         LeavesFree spent root.now (blocks_of d) (writes_of p.plan.blocks) p.root) }
     // Where no snapshot is taken or restored, what every point stores is given back.
@@ -294,14 +295,14 @@ pub fn plan<B: Blocks>(
         → map.next ≡ 2 → (step : SnapshotStep) → IsStepOf change.now root.now step → SharesNone step
         → CanStep step root.now (whole (blocks_of d) root.now) → (spent : ℕ)
         → memory_room base inodes.now v
-        ≤ spent + 4 * count_nameless inodes.now.geometry.inodes v
+        ≤ spent + NAMELESS_COST * count_nameless inodes.now.geometry.inodes v
         → IfOk result.1 (λ p.
         LeavesFree spent root.now (blocks_of d) (writes_of p.plan.blocks) p.root) }
     ensures needs { (d : ℕ → List ℕ) (base v : Volume)
         → B.Shows blocks.old (blocks_of d)
         → IsPlannable change.now root.now d slot generation map inodes.now base v
         → IsErrOf result.1 PlanError.NoSpace
-        → left map + 4 * count_nameless inodes.now.geometry.inodes v
+        → left map + NAMELESS_COST * count_nameless inodes.now.geometry.inodes v
         < memory_room base inodes.now v + fixed_of map.count }
 {
     inodes_are_what_their_bytes_spell();

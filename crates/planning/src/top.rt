@@ -40,7 +40,7 @@ pub(crate) fn place_top<B: Blocks>(
     ensures planned { (s : Sizes) (disk : ℕ → List ℕ) (settled : ℕ → Inode) (before : Before)
         (p : PlannedInodes) → B.Shows blocks.old disk
         → IsChangeOf s draft.old disk (settled 0) top.now
-        → top.now.attributes.kind ≡ kinds.InodeFile
+        → top.now.status.kind ≡ kinds.InodeFile
         → NamesOnce (settled_tree disk settled)
         → IsExactPlane (settled_tree disk settled) before
         → ((b : ℕ) → settled_at draft.old.map.parts.items b ≡ before.entry b)

@@ -28,7 +28,8 @@ use Rattle.records.specs.Contents.{IsSoundIn, IsWholeIn, rewriting}
 use Rattle.records.specs.declared.contents.Rewrite.{Rewrite}
 use Rattle.records.specs.declared.contents.Rewrite.TheVariants.{Cut, Write}
 use Rattle.inode.proofs.BytePositions.{cut_below, cut_past, written_above, written_below, written_in}
-use Rattle.inode.proofs.EdgeLaws.{length-first_bytes, list_of_cut, list_of_write}
+use Rattle.layout.proofs.PartLaws.{length-first_bytes}
+use Rattle.inode.proofs.EdgeLaws.{list_of_cut, list_of_write}
 use Rattle.records.proofs.ContentLaws.{resized_is, written_is}
 use Rattle.records.proofs.KindLaws.{is_kind}
 
@@ -168,11 +169,11 @@ module _ (disk : ℕ → List ℕ) (inodes : ℕ) (settled : Inode) (v : Volume)
   whole_reads : (detail : Detail) (rewrite : Rewrite) → IsObjectIn detail disk inodes settled o (v n) → IsTrue (is_file_node (v n)) → IsWholeIn disk rewrite o → ReadsIn detail v (rewriting n rewrite)
   whole_reads by_bytes rewrite is file whole = tt
   whole_reads by_sizes (Write offset bytes) is file whole =
-      let kind = is_kind by_sizes o.attributes.kind inodes (content_of_object disk o) (v n) is.stands file in
+      let kind = is_kind by_sizes o.status.kind inodes (content_of_object disk o) (v n) is.stands file in
       let held = subst Sized kind is.stands in
       λ i part. subst (λ (x : Option Node). IsReadBlock (bytes_of_node x) i) (sym held.3) ((held.2 i).1 (whole kind i part))
   whole_reads by_sizes (Cut size) is file whole =
-      let kind = is_kind by_sizes o.attributes.kind inodes (content_of_object disk o) (v n) is.stands file in
+      let kind = is_kind by_sizes o.status.kind inodes (content_of_object disk o) (v n) is.stands file in
       let held = subst Sized kind is.stands in
       λ cuts. subst (λ (x : Option Node). IsReadBlock (bytes_of_node x) (size / 4096)) (sym held.3)
       ((held.2 (size / 4096)).1 (whole kind (size / 4096) (subst (λ (k : ℕ). CutsBlock k size) (size_is held) cuts, refl)))

@@ -87,18 +87,18 @@ module _ (disk : ℕ → List ℕ) (old new : File) (change : Change) (done : Is
 
 module _ (inodes size : ℕ) (block : ℕ → List ℕ) (f : List ℕ → List ℕ) (c : Content) (found : Option Node) (is : IsTrue (is_file_node found)) where
   abbrev after : Content
-  after = record { kind = c.kind; mode = c.mode; links = c.links; size = size; block = block }
+  after = record { kind = c.kind; attributes = c.attributes; links = c.links; size = size; block = block }
 
-  fits_after : (detail : Detail) (k : Kind) (s : Sizes) → StandsAsIn detail k inodes c found → FitsKind k s c.mode c.links c.size → FitsKind k s c.mode c.links size
+  fits_after : (detail : Detail) (k : Kind) (s : Sizes) → StandsAsIn detail k inodes c found → FitsKind k s c.attributes c.links c.size → FitsKind k s c.attributes c.links size
   fits_after detail k s stands fits =
       let kind = is_kind detail k inodes c found stands is in
-      subst (λ (x : Kind). FitsKind x s c.mode c.links size) (sym kind) (subst (λ (x : Kind). FitsKind x s c.mode c.links c.size) kind fits)
+      subst (λ (x : Kind). FitsKind x s c.attributes c.links size) (sym kind) (subst (λ (x : Kind). FitsKind x s c.attributes c.links c.size) kind fits)
 
   stands_after : images.content_bytes after ≡ f (images.content_bytes c) → (k : Kind) → StandsAs k inodes c found → StandsAs k inodes after (with_file_bytes f found)
   stands_after same k stands =
       let kind = is_kind by_bytes k inodes c found stands is in
       subst (λ (x : Kind). StandsAs x inodes after (with_file_bytes f found)) (sym kind)
-      (ap (with_file_bytes f) (file_stands k inodes c found stands kind) ∙ ap (λ (b : List ℕ). Some (file_node c.mode c.links b)) (sym same))
+      (ap (with_file_bytes f) (file_stands k inodes c found stands kind) ∙ ap (λ (b : List ℕ). Some (file_node c.attributes c.links b)) (sym same))
 
   sized_after : ((bytes : List ℕ) → length bytes ≡ c.size → TellsBlocks c.block bytes → (length (f bytes) ≡ size) × TellsBlocks block (f bytes)) → (k : Kind) → IsSizedAs k inodes c found
       → IsSizedAs k inodes after (with_file_bytes f found)
@@ -111,16 +111,16 @@ module _ (inodes size : ℕ) (block : ℕ → List ℕ) (f : List ℕ → List �
 -- a file in memory with other bytes
 module _ (disk : ℕ → List ℕ) (inodes : ℕ) (o : Object) (found : Option Node) (f : List ℕ → List ℕ) (change : Change) (new : File) (is : IsTrue (is_file_node found)) (done : IsCommitted o.file change new) where
   abbrev rewritten : Object
-  rewritten = record { attributes = o.attributes; file = new; known = o.known }
+  rewritten = record { status = o.status; file = new; known = o.known }
 
   stands_in : (detail : Detail) → RewritesFile detail disk f o.file change → StandsForIn detail inodes (content_of_object disk o) found
       → StandsForIn detail inodes (content_of_object disk rewritten) (with_file_bytes f found)
   stands_in by_bytes rewrites was =
-      stands_after inodes new.size (file_block disk new) f (content_of_object disk o) found is (bytes_are disk o.file new change done ∙ rewrites.bytes) o.attributes.kind was
+      stands_after inodes new.size (file_block disk new) f (content_of_object disk o) found is (bytes_are disk o.file new change done ∙ rewrites.bytes) o.status.kind was
   stands_in by_sizes rewrites was =
       sized_after inodes new.size (file_block disk new) f (content_of_object disk o) found is (λ bytes long tells.
       let now = rewrites bytes long tells in
-      (now.0 ∙ sym done.size, subst (λ (b : ℕ → List ℕ). TellsBlocks b (f bytes)) (sym (blocks_are disk o.file new change done)) now.1)) o.attributes.kind was
+      (now.0 ∙ sym done.size, subst (λ (b : ℕ → List ℕ). TellsBlocks b (f bytes)) (sym (blocks_are disk o.file new change done)) now.1)) o.status.kind was
 
   ends_in : (detail : Detail) → RewritesFile detail disk f o.file change → EndsIn detail disk new
   ends_in by_bytes rewrites = ends_there disk o.file new change done rewrites.ends
@@ -132,15 +132,15 @@ file_apart k file directory = cc
 
 pub bytes_put : (detail : Detail) (disk : ℕ → List ℕ) (inodes : ℕ) (settled : Inode) (o : Object) (found : Option Node) (f : List ℕ → List ℕ) (change : Change) (new : File)
     → IsObjectIn detail disk inodes settled o found → IsTrue (is_file_node found) → RewritesFile detail disk f o.file change → IsCommitted o.file change new
-    → IsObjectIn detail disk inodes settled (record { attributes = o.attributes; file = new; known = o.known }) (with_file_bytes f found)
+    → IsObjectIn detail disk inodes settled (record { status = o.status; file = new; known = o.known }) (with_file_bytes f found)
 bytes_put detail disk inodes settled o found f change new was is rewrites done = record {
   kind = was.kind;
-  mode = was.mode;
-  fits = λ s. fits_after inodes new.size (file_block disk new) f (content_of_object disk o) found is detail o.attributes.kind s was.stands (was.fits s);
+  attributes = was.attributes;
+  fits = λ s. fits_after inodes new.size (file_block disk new) f (content_of_object disk o) found is detail o.status.kind s was.stands (was.fits s);
   stands = stands_in disk inodes o found f change new is done detail rewrites was.stands;
   ends = ends_in disk inodes o found f change new is done detail rewrites;
   base = done.base settled was.base;
-  known = λ directory. file_apart o.attributes.kind (is_kind detail o.attributes.kind inodes (content_of_object disk o) found was.stands is) directory;
+  known = λ directory. file_apart o.status.kind (is_kind detail o.status.kind inodes (content_of_object disk o) found was.stands is) directory;
 }
 
 -- ---- the record of a change

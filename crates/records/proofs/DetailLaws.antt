@@ -9,7 +9,7 @@ use Rattle.images.specs.Contents.{Content, StandsAs, content_bytes}
 use Rattle.images.specs.Sizes.{CanReadBlock, StandsAsIn}
 use Rattle.images.specs.Soundness.{Detail, by_bytes, by_sizes}
 use Rattle.inofile.specs.Objects.{EndsIn}
-use Rattle.inode.proofs.EdgeLaws.{length-first_bytes}
+use Rattle.layout.proofs.PartLaws.{length-first_bytes}
 use Rattle.inode.specs.Files.{IsFile}
 use Rattle.inode.specs.declared.file.File.{File}
 use Rattle.records.specs.Preparing.{IsKnownVolume, IsVolumeFor}
@@ -44,8 +44,8 @@ pub directory_in : (detail : Detail) (inodes : ℕ) (c : Content) (o : Option No
 directory_in by_bytes inodes c o can stands = stands
 directory_in by_sizes inodes c o can stands = (can, stands)
 
-pub file_in : (detail : Detail) (inodes : ℕ) (c : Content) → c.size ≡ 0 → ((i : ℕ) → length (c.block i) ≡ 4096) → StandsAsIn detail kinds.File inodes c (Some (file_node c.mode c.links []))
-file_in by_bytes inodes c none whole = ap (λ (n : ℕ). Some (file_node c.mode c.links (first_bytes (byte_in c.block) n))) (sym none)
+pub file_in : (detail : Detail) (inodes : ℕ) (c : Content) → c.size ≡ 0 → ((i : ℕ) → length (c.block i) ≡ 4096) → StandsAsIn detail kinds.File inodes c (Some (file_node c.attributes c.links []))
+file_in by_bytes inodes c none whole = ap (λ (n : ℕ). Some (file_node c.attributes c.links (first_bytes (byte_in c.block) n))) (sym none)
 file_in by_sizes inodes c none whole = (
   [],
   sym none,
@@ -53,6 +53,6 @@ file_in by_sizes inodes c none whole = (
   refl,
 )
 
-pub link_in : (detail : Detail) (inodes : ℕ) (c : Content) (text : List ℕ) → content_bytes c ≡ text → StandsAsIn detail kinds.Link inodes c (Some (link_node text))
-link_in by_bytes inodes c text is = ap (λ (l : List ℕ). Some (link_node l)) (sym is)
+pub link_in : (detail : Detail) (inodes : ℕ) (c : Content) (text : List ℕ) → content_bytes c ≡ text → StandsAsIn detail kinds.Link inodes c (Some (link_node c.attributes text))
+link_in by_bytes inodes c text is = ap (λ (l : List ℕ). Some (link_node c.attributes l)) (sym is)
 link_in by_sizes inodes c text is = (text, ap length (sym is) ∙ length-first_bytes (byte_in c.block) c.size, refl)

@@ -1,5 +1,5 @@
 -- Names that directories of a volume get and lose.
-use Rattle.std.proofs.Common.{◌≡◌, ◌≢◌, inl, inr, ℕ, zero, suc, ◌==◌, ◌≤◌, List, Option, Some, None, IsTrue, IsSome, is_some, IfNone, false, refl, sym, ap, subst, ◌∙◌, arith}
+use Rattle.std.proofs.Common.{◌≡◌, ◌≢◌, inl, inr, ℕ, zero, suc, ◌==◌, ◌≤◌, List, Option, Some, None, IsTrue, IsSome, is_some, false, refl, sym, ap, subst, ◌∙◌, arith}
 use Rattle.std.proofs.Math.Path.{fun_ext}
 use Rattle.std.proofs.lemmas.Bool.{cases_Bool, cases_eq, false≢true, both_ways}
 use Rattle.std.proofs.lemmas.Bool.Decides.{nat_tests}
@@ -14,6 +14,7 @@ use Rattle.dirs.specs.Edits.{edited_block}
 use Rattle.layout.specs.declared.inode.Inode.{Inode}
 use Rattle.layout.specs.declared.kind.Kind.{Kind}
 use Rattle.layout.specs.declared.kind.Kind.TheVariants as kinds
+use Rattle.model.specs.declared.attributes.Attributes.{Attributes}
 use Rattle.model.specs.Counting.{Counts}
 use Rattle.model.specs.Paths.{Name, IsName}
 use Rattle.model.specs.Records.{TakesName, is_vacant}
@@ -21,7 +22,7 @@ use Rattle.model.specs.Volumes.{Node, directory_node, file_node, link_node, Volu
 use Rattle.model.proofs.CountLemmas.{counts_once}
 use Rattle.images.specs.Contents.{Content, IsDirectoryOf}
 use Rattle.inode.specs.declared.object.Object.{Object}
-use Rattle.inofile.specs.Objects.{IsObjectIn, IsObjectKind, IsObjectOrNone, IsSameOrNone}
+use Rattle.inofile.specs.Objects.{IsObjectKind, IsObjectOrNone}
 use Rattle.images.specs.Soundness.{Detail}
 use Rattle.inofile.specs.Settled.{content_of_object}
 use Rattle.layout.specs.declared.entry.Entry.{Entry}
@@ -32,7 +33,6 @@ use Rattle.records.specs.declared.naming.NameEdit.{NameEdit}
 use Rattle.records.specs.declared.naming.NameEdit.TheVariants as edits
 use Rattle.records.specs.Entering.{Accepts, HasPlace, IsDirectoryObject, PreparesEdit, TakesEdit, TakesEntry, names_after, pieces_of, with_node_names}
 use Rattle.records.specs.Naming.{EditsNames}
-use Rattle.inode.proofs.BaseLaws.{same_itself}
 use Rattle.model.proofs.ObjectLaws.{node_here, node_other}
 use Rattle.model.proofs.ListingLemmas.{names_apart}
 use Rattle.inofile.proofs.DetailLaws.{HasSizeOf, by_size}
@@ -40,7 +40,7 @@ use Rattle.records.proofs.KindLaws.{directory_kind}
 
 -- ---- a directory of a volume and one in memory
 
-module _ (v : Volume) (d : ℕ) (x : Name) (mode : ℕ) (names : NameMap) (is : v d ≡ Some (directory_node mode names)) where
+module _ (v : Volume) (d : ℕ) (x : Name) (attributes : Attributes) (names : NameMap) (is : v d ≡ Some (directory_node attributes names)) where
   pub takes_name : IsName x → TakesEntry names x → TakesName v d x
   takes_name name takes = record {
     directory = subst (λ (o : Option Node). IsTrue (is_directory_node o)) (sym is) refl;
@@ -62,22 +62,22 @@ module _ (v : Volume) (d : ℕ) (x : Name) (mode : ℕ) (names : NameMap) (is : 
   }
 
 -- a directory, with its mode and its names
-pub directory_is : (o : Option Node) → IsTrue (is_directory_node o) → (mode : ℕ) × (names : NameMap) × (o ≡ Some (directory_node mode names))
+pub directory_is : (o : Option Node) → IsTrue (is_directory_node o) → (attributes : Attributes) × (names : NameMap) × (o ≡ Some (directory_node attributes names))
 directory_is None is = absurd (false≢true is)
-directory_is (Some (directory_node mode names)) is = (mode, names, refl)
-directory_is (Some (file_node mode links bytes)) is = absurd (false≢true is)
-directory_is (Some (link_node text)) is = absurd (false≢true is)
+directory_is (Some (directory_node attributes names)) is = (attributes, names, refl)
+directory_is (Some (file_node attributes links bytes)) is = absurd (false≢true is)
+directory_is (Some (link_node attributes text)) is = absurd (false≢true is)
 
-pub found_directory : (o : Option Node) (mode : ℕ) (names : NameMap) → o ≡ Some (directory_node mode names) → IsTrue (is_directory_node o)
-found_directory o mode names is = ap is_directory_node is
+pub found_directory : (o : Option Node) (attributes : Attributes) (names : NameMap) → o ≡ Some (directory_node attributes names) → IsTrue (is_directory_node o)
+found_directory o attributes names is = ap is_directory_node is
 
 -- an object has its names once
-pub same_names : (mode old : ℕ) (names others : NameMap) → Some (directory_node mode names) ≡ Some (directory_node old others) → names ≡ others
-same_names mode old names others e = cc
+pub same_names : (attributes old : Attributes) (names others : NameMap) → Some (directory_node attributes names) ≡ Some (directory_node old others) → names ≡ others
+same_names attributes old names others e = cc
 
 -- what an edit of a directory's file makes of the directory
 module _ (disk : ℕ → List ℕ) (inodes : ℕ) (found : Option Node) (o : Object) (known : Known) (wanted : NameEdit) (names : NameMap)
-    (kind : o.attributes.kind ≡ kinds.Directory) (is : found ≡ Some (directory_node o.attributes.mode names)) where
+    (kind : o.status.kind ≡ kinds.Directory) (is : found ≡ Some (directory_node o.status.attributes names)) where
   -- it keeps what is known of the blocks
   pub edits_directory : (edit kept : Edit) → EditsNames inodes disk o.file known wanted names (Some edit) → piece_count edit ≤ pieces_of wanted → kept.changed ≡ edit.changed → kept.count ≡ edit.count → kept.known ≡ known
       → PreparesEdit disk inodes wanted found (Some o) (Some kept)
@@ -90,23 +90,23 @@ module _ (disk : ℕ → List ℕ) (inodes : ℕ) (found : Option Node) (o : Obj
           (subst (λ (m : BTreeMap ℕ (List ℕ)). HoldNames inodes edit.count (λ i. unwrap_or (get nat_cmp m i) (file_block disk o.file i)) (names_after wanted names)) (sym changed) edited.1);
       known = subst (Knows inodes (edited_block disk o.file kept)) (sym knows) (subst (λ (m : BTreeMap ℕ (List ℕ)). Knows inodes (λ i. unwrap_or (get nat_cmp m i) (file_block disk o.file i)) known) (sym changed) edited.2);
     },
-    record { mode = o.attributes.mode; names = names; is = is; takes = edited.0 },
+    record { attributes = o.status.attributes; names = names; is = is; takes = edited.0 },
     subst (λ (m : BTreeMap ℕ (List ℕ)). btree_map_len m ≤ pieces_of wanted) (sym changed) few,
   )
 
   -- where there is none, the directory can't be edited so
   pub no_edit : EditsNames inodes disk o.file known wanted names None → PreparesEdit disk inodes wanted found (Some o) None
-  no_edit never = λ accepts. never (subst (TakesEdit wanted) (same_names accepts.mode o.attributes.mode accepts.names names (sym accepts.is ∙ is)) accepts.takes)
+  no_edit never = λ accepts. never (subst (TakesEdit wanted) (same_names accepts.attributes o.status.attributes accepts.names names (sym accepts.is ∙ is)) accepts.takes)
 
 -- a directory that takes a name has place for its entry
 pub accepts_entry : (v : Volume) (d : ℕ) (entry : Entry) → TakesName v d entry.name.now → Accepts (edits.Add entry) (v d)
 accepts_entry v d entry takes =
     let there = directory_is (v d) takes.directory in
-    record { mode = there.0; names = there.1; is = there.2; takes = takes_entry v d entry.name.now there.0 there.1 there.2 takes }
+    record { attributes = there.0; names = there.1; is = there.2; takes = takes_entry v d entry.name.now there.0 there.1 there.2 takes }
 
 -- and the other way round
 pub takes_accepted : (v : Volume) (d : ℕ) (entry : Entry) → IsName entry.name.now → Accepts (edits.Add entry) (v d) → TakesName v d entry.name.now
-takes_accepted v d entry name accepts = takes_name v d entry.name.now accepts.mode accepts.names accepts.is name accepts.takes
+takes_accepted v d entry name accepts = takes_name v d entry.name.now accepts.attributes accepts.names accepts.is name accepts.takes
 
 -- a full directory has no place for a name
 pub full_has_no_place : (names : NameMap) (n : ℕ) → HasCount names n → 65536 ≤ n → HasPlace names → ⊥
@@ -125,7 +125,7 @@ some_directory o node some not is = both_ways (is_directory_node (Some node)) no
 
 -- a directory in memory, with its names
 pub directory_stands : (k : Kind) (inodes : ℕ) (c : Content) (o : Option Node) → k ≡ kinds.Directory → HasSizeOf k inodes c o
-    → (names : NameMap) × IsDirectoryOf inodes c names × (o ≡ Some (directory_node c.mode names))
+    → (names : NameMap) × IsDirectoryOf inodes c names × (o ≡ Some (directory_node c.attributes names))
 directory_stands k inodes c o is stands = subst (λ (x : Kind). HasSizeOf x inodes c o) is stands
 
 pub not_directory : (k : Kind) (inodes : ℕ) (c : Content) (o : Option Node) → HasSizeOf k inodes c o → (k ≡ kinds.Directory → ⊥) → false ≡ is_directory_node o
@@ -135,16 +135,16 @@ not_directory k inodes c o stands other =
 -- what stands for a directory is one in memory
 pub is_directory_object : (detail : Detail) (disk : ℕ → List ℕ) (inodes : ℕ) (settled : Inode) (x : Option Object) (found : Option Node) → IsObjectOrNone detail disk inodes settled x found
     → IsTrue (is_directory_node found) → IsDirectoryObject x
-is_directory_object detail disk inodes settled (Some o) found stands is = directory_kind o.attributes.kind inodes (content_of_object disk o) found (by_size detail o.attributes.kind inodes (content_of_object disk o) found stands.stands) is
+is_directory_object detail disk inodes settled (Some o) found stands is = directory_kind o.status.kind inodes (content_of_object disk o) found (by_size detail o.status.kind inodes (content_of_object disk o) found stands.stands) is
 is_directory_object detail disk inodes settled None found stands is = absurd (none_directory found stands is)
 
-nameless_file : (mode links : ℕ) (bytes : List ℕ) → (links == 0) ≡ is_vacant (Some (file_node mode links bytes))
-nameless_file mode zero bytes = refl
-nameless_file mode (suc links) bytes = grind (arith, nat_tests)
+nameless_file : (attributes : Attributes) (links : ℕ) (bytes : List ℕ) → (links == 0) ≡ is_vacant (Some (file_node attributes links bytes))
+nameless_file attributes zero bytes = refl
+nameless_file attributes (suc links) bytes = grind (arith, nat_tests)
 
 -- a file without links is vacant, and nothing else that stands there is
 pub file_vacancy : (inodes : ℕ) (c : Content) (o : Option Node) → HasSizeOf kinds.File inodes c o → (c.links == 0) ≡ is_vacant o
-file_vacancy inodes c o stands = nameless_file c.mode c.links _ ∙ ap is_vacant (sym stands.2)
+file_vacancy inodes c o stands = nameless_file c.attributes c.links _ ∙ ap is_vacant (sym stands.2)
 
 pub other_vacancy : (k : Kind) (inodes : ℕ) (c : Content) (o : Option Node) → (k ≡ kinds.File → ⊥) → IsObjectKind k → HasSizeOf k inodes c o → false ≡ is_vacant o
 other_vacancy kinds.Free inodes c o other kind stands = absurd kind
@@ -161,9 +161,9 @@ vacant_apart v n d vacant directory same = apart (v d) (subst (λ k. IsTrue (is_
   where
     apart : (o : Option Node) → IsTrue (is_vacant o) → IsTrue (is_directory_node o) → ⊥
     apart None vacant directory = false≢true directory
-    apart (Some (directory_node mode names)) vacant directory = false≢true vacant
-    apart (Some (file_node mode links bytes)) vacant directory = false≢true directory
-    apart (Some (link_node text)) vacant directory = false≢true directory
+    apart (Some (directory_node attributes names)) vacant directory = false≢true vacant
+    apart (Some (file_node attributes links bytes)) vacant directory = false≢true directory
+    apart (Some (link_node attributes text)) vacant directory = false≢true directory
 
 -- ---- answers
 
@@ -210,6 +210,6 @@ module _ (n d : ℕ) (x : Name) (to : Option ℕ) (node : Option Node) (v : Volu
 -- one name of a directory changed
 pub names_set : (x : Name) (to : Option ℕ) (o : Option Node) → with_node_names (with_name x to) o ≡ set_name x to o
 names_set x to None = refl
-names_set x to (Some (directory_node mode names)) = refl
-names_set x to (Some (file_node mode links bytes)) = refl
-names_set x to (Some (link_node text)) = refl
+names_set x to (Some (directory_node attributes names)) = refl
+names_set x to (Some (file_node attributes links bytes)) = refl
+names_set x to (Some (link_node attributes text)) = refl

@@ -5,9 +5,10 @@ use Rattle.std.proofs.lemmas.Bool.Decides.{nat_tests}
 use Rattle.layout.specs.Directory.{IsEntry}
 use Rattle.layout.specs.declared.kind.Kind.{Kind}
 use Rattle.layout.specs.declared.kind.Kind.TheVariants as kinds
+use Rattle.model.specs.declared.attributes.Attributes.{Attributes}
 use Rattle.model.specs.Paths.{Name, IsName}
 use Rattle.model.specs.Records.{IsEmpty}
-use Rattle.model.specs.Volumes.{Node, Volume, directory_node, file_node, link_node, entries, names_in, is_directory_node, is_file_node, with_entry, with_name_less, with_name_more, with_node}
+use Rattle.model.specs.Volumes.{Node, Volume, directory_node, file_node, link_node, entries, is_directory_node, is_file_node, with_entry, with_name_less, with_name_more, with_node}
 use Rattle.images.specs.Contents.{Content}
 use Rattle.layout.specs.DirectoryNames.{NameMap}
 use Rattle.dirs.specs.Directory.{with_name}
@@ -46,8 +47,8 @@ gone_with_name kinds.BlockMap inodes c o stands other = ap with_name_less stands
 pub file_is : (links : ℕ) (o : Option Node) → IsFileWithLinks links o → IsTrue (is_file_node o)
 file_is links o is = ap is_file_node is.2
 
-pub same_links : (mode old links others : ℕ) (bytes more : List ℕ) → Some (file_node mode links bytes) ≡ Some (file_node old others more) → links ≡ others
-same_links mode old links others bytes more e = cc
+pub same_links : (attributes old : Attributes) (links others : ℕ) (bytes more : List ℕ) → Some (file_node attributes links bytes) ≡ Some (file_node old others more) → links ≡ others
+same_links attributes old links others bytes more e = cc
 
 pub less_links : (links : ℕ) (o : Option Node) → IsFileWithLinks links o → with_name_less o ≡ with_node_links (links - 1) o
 less_links links o is = ap with_name_less is.2 ∙ sym (ap (with_node_links (links - 1)) is.2)
@@ -61,9 +62,9 @@ file_apart v n d file directory same = apart (v d) (subst (λ k. IsTrue (is_file
   where
     apart : (o : Option Node) → IsTrue (is_file_node o) → IsTrue (is_directory_node o) → ⊥
     apart None file directory = false≢true directory
-    apart (Some (directory_node mode names)) file directory = false≢true file
-    apart (Some (file_node mode links bytes)) file directory = false≢true directory
-    apart (Some (link_node text)) file directory = false≢true directory
+    apart (Some (directory_node attributes names)) file directory = false≢true file
+    apart (Some (file_node attributes links bytes)) file directory = false≢true directory
+    apart (Some (link_node attributes text)) file directory = false≢true directory
 
 -- a file of a volume has a number of the image, and a name can stand for it
 pub file_entry : (detail : Detail) (inodes : ℕ) (v : Volume) (n : ℕ) (x : Name) → IsKnownVolume detail inodes v → IsTrue (is_file_node (v n)) → IsName x → IsEntry inodes (record { number = n; name = x })
@@ -81,13 +82,6 @@ file_entry detail inodes v n x volume file name =
 
 pub same_some : {m n : ℕ} → Some m ≡ Some n → m ≡ n
 same_some e = cc
-
--- where a name is, there is a directory
-pub named_directory : (o : Option Node) (x : Name) (n : ℕ) → names_in o x ≡ Some n → IsTrue (is_directory_node o)
-named_directory None x n is = none_some is
-named_directory (Some (directory_node mode names)) x n is = refl
-named_directory (Some (file_node mode links bytes)) x n is = none_some is
-named_directory (Some (link_node text)) x n is = none_some is
 
 -- an object without names isn't the directory of its name
 pub empty_apart : (v : Volume) (n d : ℕ) (x : Name) → IsEmpty v n → entries v d x ≡ Some n → n ≢ d

@@ -33,10 +33,10 @@ use Rattle.model.proofs.ObjectLaws.{node_here, node_other}
 
 -- a file has the links and the size that its object in memory has
 pub object_figures : (disk : ℕ → List ℕ) (inodes : ℕ) (settled : Inode) (o : Object) (found : Option Node) → IsObject disk inodes settled o found → IsTrue (is_file_node found)
-    → node_figures found ≡ Some (record { links = o.attributes.links; size = o.file.size })
+    → node_figures found ≡ Some (record { links = o.status.links; size = o.file.size })
 object_figures disk inodes settled o found stands is =
-    ap node_figures (file_stands o.attributes.kind inodes (content_of_object disk o) found stands.stands (is_kind by_bytes o.attributes.kind inodes (content_of_object disk o) found stands.stands is))
-    ∙ ap (λ (s : ℕ). Some (record { links = o.attributes.links; size = s })) (length-map-range_with_len (byte_in (content_of_object disk o).block) 0 o.file.size)
+    ap node_figures (file_stands o.status.kind inodes (content_of_object disk o) found stands.stands (is_kind by_bytes o.status.kind inodes (content_of_object disk o) found stands.stands is))
+    ∙ ap (λ (s : ℕ). Some (record { links = o.status.links; size = s })) (length-map-range_with_len (byte_in (content_of_object disk o).block) 0 o.file.size)
 
 -- ---- open files with the figures noted that a number has
 
@@ -108,9 +108,9 @@ opened_file table v n opens is =
 
 file_before : (b : Bool) (o : Option Node) → IsTrue (is_file_node (swept_node b o)) → IsTrue (is_file_node o)
 file_before b None is = is
-file_before b (Some (directory_node mode names)) is = is
-file_before b (Some (file_node mode links bytes)) is = refl
-file_before b (Some (link_node text)) is = is
+file_before b (Some (directory_node attributes names)) is = is
+file_before b (Some (file_node attributes links bytes)) is = refl
+file_before b (Some (link_node attributes text)) is = is
 
 -- what is swept has its open files already
 pub swept_opens : (table : ℕ → Option Description) (w : Volume) → IsMounted (swept table w) table → OpensFiles table w

@@ -13,6 +13,7 @@ use Rattle.images.specs.Sizes.{StandsAsIn}
 use Rattle.inofile.proofs.DetailLaws.{HasSizeOf, by_size}
 use Rattle.model.specs.Volumes.{Node, Volume, bytes_of_node, file_node, is_directory_node, is_file_node}
 use Rattle.images.specs.Contents.{Content, StandsAs, content_bytes}
+use Rattle.images.proofs.KindLaws.{no_directory}
 
 no_file : {X : Type 0} (o node : Option Node) → o ≡ node → is_file_node node ≡ false → IsTrue (is_file_node o) → X
 no_file o node same not is = absurd (both_ways (is_file_node node) not (sym (ap is_file_node same) ∙ is))
@@ -28,7 +29,7 @@ file_kind kinds.InodeMap inodes c o stands is = no_file o _ stands refl is
 file_kind kinds.BlockMap inodes c o stands is = no_file o _ stands refl is
 
 -- what is a file in memory stands for one, and nothing else does
-pub file_stands : (k : Kind) (inodes : ℕ) (c : Content) (o : Option Node) → StandsAs k inodes c o → k ≡ kinds.File → o ≡ Some (file_node c.mode c.links (content_bytes c))
+pub file_stands : (k : Kind) (inodes : ℕ) (c : Content) (o : Option Node) → StandsAs k inodes c o → k ≡ kinds.File → o ≡ Some (file_node c.attributes c.links (content_bytes c))
 file_stands k inodes c o stands is = subst (λ (x : Kind). StandsAs x inodes c o) is stands
 
 module _ (detail : Detail) (k : Kind) (inodes : ℕ) (c : Content) (o : Option Node) (in_detail : StandsAsIn detail k inodes c o) where
@@ -47,9 +48,6 @@ module _ (detail : Detail) (k : Kind) (inodes : ℕ) (c : Content) (o : Option N
   pub not_file : (k ≡ kinds.File → ⊥) → is_file_node o ≡ false
   not_file other = elim (cases_Bool (is_file_node o)) [ inl is ↦ absurd (other (is_kind is)) | inr not ↦ not ]
 
-no_directory : {X : Type 0} (o node : Option Node) → o ≡ node → is_directory_node node ≡ false → IsTrue (is_directory_node o) → X
-no_directory o node same not is = absurd (both_ways (is_directory_node node) not (sym (ap is_directory_node same) ∙ is))
-
 -- what stands for a directory is one
 pub directory_kind : (k : Kind) (inodes : ℕ) (c : Content) (o : Option Node) → HasSizeOf k inodes c o → IsTrue (is_directory_node o) → k ≡ kinds.Directory
 directory_kind kinds.Free inodes c o stands is = no_directory o _ stands refl is
@@ -62,8 +60,8 @@ directory_kind kinds.BlockMap inodes c o stands is = no_directory o _ stands ref
 
 -- ---- what is read of a file
 
-pub part_read : (disk : ℕ → List ℕ) (inodes : ℕ) (o : Object) (v : Volume) (n offset count : ℕ) (bytes : List ℕ) → o.attributes.kind ≡ kinds.File
-    → StandsAs o.attributes.kind inodes (content_of_object disk o) (v n) → bytes ≡ read_at offset count (bytes_of_file disk o.file) → ReadsNumber v n offset count (Some bytes)
+pub part_read : (disk : ℕ → List ℕ) (inodes : ℕ) (o : Object) (v : Volume) (n offset count : ℕ) (bytes : List ℕ) → o.status.kind ≡ kinds.File
+    → StandsAs o.status.kind inodes (content_of_object disk o) (v n) → bytes ≡ read_at offset count (bytes_of_file disk o.file) → ReadsNumber v n offset count (Some bytes)
 part_read disk inodes o v n offset count bytes kind stands read =
-    let is = file_stands o.attributes.kind inodes (content_of_object disk o) (v n) stands kind in
+    let is = file_stands o.status.kind inodes (content_of_object disk o) (v n) stands kind in
     (ap is_file_node is, read ∙ ap (λ (node : Option Node). read_at offset count (unwrap_or (bytes_of_node node) [])) (sym is))

@@ -1,4 +1,5 @@
 pub mod DetailLaws
+pub mod NewLaws
 pub mod EnterLaws
 pub mod StandLaws
 pub mod KindLaws

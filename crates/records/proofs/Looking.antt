@@ -1,5 +1,6 @@
 -- Looking for something in an image, step by step.
 use Rattle.std.proofs.Common.{◌≡◌, ℕ, List, Option, Result, Ok, Err, IfOk}
+use Rattle.std.proofs.lemmas.Result.{IfOk-weaker}
 use Rattle.std.specs.Result.{IsErrAnd, IsErrOf}
 use Rattle.layout.specs.declared.inode.Inode.{Inode}
 use Rattle.model.specs.Volumes.{Volume}
@@ -28,11 +29,6 @@ pub passed_error : {T U : Type 0} {e d : ReadError} (q : Result T ReadError) →
 passed_error (Ok x) is bad = absurd is
 passed_error {e = e} {d = d} (Err f) is bad = same_error f e d is bad
 
--- what is true of one answer is true of it by another name
-pub ok_so : {T E : Type 0} (r : Result T E) (P Q : T → Type 0) → ((x : T) → P x → Q x) → IfOk r P → IfOk r Q
-ok_so (Ok x) P Q then is = then x is
-ok_so (Err e) P Q then is = tt
-
 module _ {B T : Type 0} {G : Ghosts B} {a b : B} {s t : InodeFile} {Known : InodeFile → Type 0} {r : Result T ReadError} where
   -- an object that came into memory is something that was found
   pub brought : Brings G a b s t Known r → Finds G a b s t (λ detail disk settled v x. Unit {0}) r
@@ -40,7 +36,7 @@ module _ {B T : Type 0} {G : Ghosts B} {a b : B} {s t : InodeFile} {Known : Inod
     looks = brings.looks;
     stays = brings.stays;
     keeps = brings.keeps;
-    found = λ disk settled v stands. ok_so r (λ x. Unit {0}) (λ x. Unit {0}) (λ x is. is) (any r);
+    found = λ disk settled v stands. IfOk-weaker r (λ x. Unit {0}) (λ x. Unit {0}) (λ x is. is) (any r);
     damaged = λ disk settled v stands is. brings.damaged disk settled v stands is;
   }
     where
@@ -102,7 +98,7 @@ module _ {B T U : Type 0} {G : Ghosts B} {a b c : B} {s t u : InodeFile} {P : Fi
     stays = λ n is. last.stays n (first.stays n is);
     keeps = λ n is. last.keeps n (first.keeps n is);
     found = λ {detail} disk settled v stands.
-        ok_so r (Q detail disk settled v) (λ y. P detail disk settled v x × Q detail disk settled v y) (λ y is. (first.found disk settled v stands, is))
+        IfOk-weaker r (Q detail disk settled v) (λ y. P detail disk settled v x × Q detail disk settled v y) (λ y is. (first.found disk settled v stands, is))
         (last.found disk settled v (first.looks.kept disk settled v stands));
     damaged = λ disk settled v stands is. last.damaged disk settled v (first.looks.kept disk settled v stands) is;
   }

@@ -59,9 +59,9 @@ node_twice a o p v = fun_ext {f = with_node a o (with_node a p v)} {g = with_nod
 -- two names of a directory changed
 pub names_set_twice : (x y : Name) (to : Option ℕ) (o : Option Node) → with_node_names (λ (names : NameMap). with_name y to (with_name x None names)) o ≡ set_name y to (set_name x None o)
 names_set_twice x y to None = refl
-names_set_twice x y to (Some (directory_node mode names)) = refl
-names_set_twice x y to (Some (file_node mode links bytes)) = refl
-names_set_twice x y to (Some (link_node text)) = refl
+names_set_twice x y to (Some (directory_node attributes names)) = refl
+names_set_twice x y to (Some (file_node attributes links bytes)) = refl
+names_set_twice x y to (Some (link_node attributes text)) = refl
 
 -- both names of a move within one directory
 pub moved_within : (d : ℕ) (x y : Name) (to : Option ℕ) (v : Volume)
@@ -225,7 +225,7 @@ module _ (detail : Detail) (disk : ℕ → List ℕ) (settled : ℕ → Inode) (
       let there : entries v k x ≡ Some n = ap (λ (j : ℕ). entries v j x) (sym same) ∙ moves.there in
       let is = directory_is (v k) (named (v k) there) in
       record {
-        mode = is.0;
+        attributes = is.0;
         names = is.1;
         is = is.2;
         takes =
@@ -236,9 +236,9 @@ module _ (detail : Detail) (disk : ℕ → List ℕ) (settled : ℕ → Inode) (
     where
       named : (o : Option Node) → names_in o x ≡ Some n → IsTrue (is_directory_node o)
       named None at = none_some at
-      named (Some (directory_node mode names)) at = refl
-      named (Some (file_node mode links bytes)) at = none_some at
-      named (Some (link_node text)) at = none_some at
+      named (Some (directory_node attributes names)) at = refl
+      named (Some (file_node attributes links bytes)) at = none_some at
+      named (Some (link_node attributes text)) at = none_some at
 
   -- and another directory takes a name for what had it, or one more
   pub accepts_other : (inodes : ℕ) (entry : Entry) → entry.name.now ≡ y → IsVolumeFor detail inodes (rename d x k y) v → d ≢ k → CanRename v d x k y → Accepts (edit_for entry step) (v k)
@@ -252,7 +252,7 @@ module _ (detail : Detail) (disk : ℕ → List ℕ) (settled : ℕ → Inode) (
       by (Some m) (Some s) is replaces may =
           let there = directory_is (v k) can.directory in
           record {
-            mode = there.0;
+            attributes = there.0;
             names = there.1;
             is = there.2;
             takes =
@@ -264,15 +264,15 @@ module _ (detail : Detail) (disk : ℕ → List ℕ) (settled : ℕ → Inode) (
 
 pub directory_found : (o : Option Node) → found_in o ≡ found.Directory → true ≡ is_directory_node o
 directory_found None is = cc
-directory_found (Some (directory_node mode names)) is = refl
-directory_found (Some (file_node mode links bytes)) is = cc
-directory_found (Some (link_node text)) is = cc
+directory_found (Some (directory_node attributes names)) is = refl
+directory_found (Some (file_node attributes links bytes)) is = cc
+directory_found (Some (link_node attributes text)) is = cc
 
 pub other_found : (o : Option Node) → (found_in o ≡ found.Directory → ⊥) → false ≡ is_directory_node o
 other_found None other = refl
-other_found (Some (directory_node mode names)) other = absurd (other refl)
-other_found (Some (file_node mode links bytes)) other = refl
-other_found (Some (link_node text)) other = refl
+other_found (Some (directory_node attributes names)) other = absurd (other refl)
+other_found (Some (file_node attributes links bytes)) other = refl
+other_found (Some (link_node attributes text)) other = refl
 
 pub same_kind : (a b : Bool) → not (beq a b) ≡ false → a ≡ b
 same_kind true true is = refl

@@ -4,6 +4,7 @@ use Rattle.std.specs.Result.{IsErrAnd, IsErrOf}
 use Rattle.std.proofs.Math.Path.{fun_ext}
 use Rattle.std.proofs.lemmas.Bool.{cases_Bool, cond-false, cond-true}
 use Rattle.std.proofs.lemmas.Slice.Eq.{bytes_eq-Decides}
+use Rattle.std.proofs.lemmas.Result.{IfOk-weaker}
 use Rattle.layout.specs.DirectoryNames.{NameMap}
 use Rattle.model.specs.Paths.{Name}
 use Rattle.dirs.specs.Directory.{with_name}
@@ -28,7 +29,7 @@ use Rattle.records.specs.declared.naming.NameEdit.{NameEdit}
 use Rattle.records.specs.declared.naming.NameEdit.TheVariants as edits
 use Rattle.records.specs.Entering.{HasPlace}
 use Rattle.layout.specs.declared.entry.Entry.{Entry}
-use Rattle.records.proofs.Looking.{ok_so, same_error}
+use Rattle.records.proofs.Looking.{same_error}
 use Rattle.records.proofs.StandLaws.{reads_err}
 use Rattle.inode.proofs.BaseLaws.{still_same}
 
@@ -102,7 +103,7 @@ module _ {B T : Type 0} {Had Then : (ℕ → List ℕ) → NameMap → Type 0} {
     fits = last.fits;
     pieces = few_more few r last.pieces;
     edited = λ disk names shows had.
-        ok_so r (EditsNames inodes disk new known more (f names)) (EditsNames inodes disk new known wanted names) (turns disk names shows had)
+        IfOk-weaker r (EditsNames inodes disk new known more (f names)) (EditsNames inodes disk new known wanted names) (turns disk names shows had)
         (last.edited disk (f names) (reads.same disk shows) (so disk names shows had));
     damaged = λ disk names shows is had grammar.
         last.damaged disk (f names) (reads.same disk shows) is (so disk names shows had)

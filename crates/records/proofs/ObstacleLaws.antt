@@ -8,11 +8,12 @@ use Rattle.model.specs.Volumes.{Volume, entries, is_directory_node, is_file_node
 use Rattle.model.specs.declared.errno.Errno.{Errno}
 use Rattle.model.specs.declared.errno.Errno.TheVariants.{DAMAGED, DIRFULL, EEXIST, EFBIG, EINVAL, EISDIR, EMLINK, ENAMETOOLONG, ENOENT, ENOTDIR, ENOTEMPTY, EPERM}
 use Rattle.model.proofs.OptionLaws.{none_some}
+use Rattle.model.proofs.VolumeLemmas.{enters_directory}
 use Rattle.records.specs.Obstacles.{BarsMove, BarsReplacing, BarsTarget, IsObstacle}
 use Rattle.images.specs.Soundness.{Detail}
 use Rattle.records.specs.Moving.{Moves, Replaces, ReplacesBy}
 use Rattle.records.specs.declared.steps.Step.{Step}
-use Rattle.records.proofs.FileLaws.{named_directory, same_links, same_some}
+use Rattle.records.proofs.FileLaws.{same_links, same_some}
 use Rattle.records.proofs.MoveLaws.{can_rename}
 
 -- ---- a record with an obstacle doesn't apply
@@ -97,4 +98,4 @@ no_place inodes detail disk settled v d x n k y step moves name outside other ne
     by None (Some s) none is so = absurd so
     by (Some m) None at is so = absurd so
     by (Some m) (Some s) at is so =
-        absurd (never (can_rename detail disk settled v d x n k y step moves (named_directory (v k) y m at) name outside (λ none. none_some (sym none ∙ is))))
+        absurd (never (can_rename detail disk settled v d x n k y step moves (enters_directory (v k) y m at) name outside (λ none. none_some (sym none ∙ is))))

@@ -4,6 +4,7 @@ use Rattle.std.proofs.lemmas.Bool.{both_ways, cases_Bool, cond-false, cond-true,
 use Rattle.std.proofs.lemmas.Slice.Eq.{bytes_eq-Decides}
 use Rattle.layout.specs.DirectoryNames.{NameMap}
 use Rattle.layout.specs.declared.entry.Entry.{Entry}
+use Rattle.model.specs.declared.attributes.Attributes.{Attributes}
 use Rattle.model.specs.Counting.{Counts}
 use Rattle.model.specs.Paths.{Name}
 use Rattle.model.specs.Records.{rename}
@@ -79,12 +80,12 @@ place_moved names x y n count is apart counts most =
 -- ---- a directory has place for what is moved there, by its limit or as it is known of the record
 
 -- where the name was in the directory itself
-pub place_inside : (detail : Detail) (inodes : ℕ) (v : Volume) (d : ℕ) (x : Name) (n k : ℕ) (y : Name) (mode : ℕ) (names : NameMap) → v k ≡ Some (directory_node mode names) → names x ≡ Some n
+pub place_inside : (detail : Detail) (inodes : ℕ) (v : Volume) (d : ℕ) (x : Name) (n k : ℕ) (y : Name) (attributes : Attributes) (names : NameMap) → v k ≡ Some (directory_node attributes names) → names x ≡ Some n
     → d ≡ k → x ≢ y → IsVolumeFor detail inodes (rename d x k y) v → HasPlace (with_name x None (with_name y None names))
-place_inside by_bytes inodes v d x n k y mode names is there same apart volume =
+place_inside by_bytes inodes v d x n k y attributes names is there same apart volume =
     let (count, counts, most) = volume.limits.children k in
     place_moved names x y n count there apart (subst (λ (o : Option Node). Counts (λ (b : Name). IsSome (names_in o b)) count) is counts) most
-place_inside by_sizes inodes v d x n k y mode names is there same apart volume =
+place_inside by_sizes inodes v d x n k y attributes names is there same apart volume =
     let (count, counts, room) = volume.1 in
     record {
       count = count;
@@ -96,12 +97,12 @@ place_inside by_sizes inodes v d x n k y mode names is there same apart volume =
     }
 
 -- where it was in another one, and the new name goes
-pub place_across : (detail : Detail) (inodes : ℕ) (v : Volume) (d : ℕ) (x : Name) (m k : ℕ) (y : Name) (mode : ℕ) (names : NameMap) → v k ≡ Some (directory_node mode names) → names y ≡ Some m
+pub place_across : (detail : Detail) (inodes : ℕ) (v : Volume) (d : ℕ) (x : Name) (m k : ℕ) (y : Name) (attributes : Attributes) (names : NameMap) → v k ≡ Some (directory_node attributes names) → names y ≡ Some m
     → d ≢ k → IsVolumeFor detail inodes (rename d x k y) v → HasPlace (with_name y None names)
-place_across by_bytes inodes v d x m k y mode names is there other volume =
+place_across by_bytes inodes v d x m k y attributes names is there other volume =
     let (count, counts, most) = volume.limits.children k in
     place_left names y m count there (subst (λ (o : Option Node). Counts (λ (b : Name). IsSome (names_in o b)) count) is counts) most
-place_across by_sizes inodes v d x m k y mode names is there other volume =
+place_across by_sizes inodes v d x m k y attributes names is there other volume =
     let (count, counts, room) = volume.1 in
     record {
       count = count;
@@ -115,9 +116,9 @@ place_across by_sizes inodes v d x m k y mode names is there other volume =
 -- ---- and what is found to have place for it is within the limits
 
 -- where the name was in the directory itself
-pub leaves_inside : (v : Volume) (d : ℕ) (x : Name) (k : ℕ) (y : Name) (mode : ℕ) (names : NameMap) → v k ≡ Some (directory_node mode names) → d ≡ k
+pub leaves_inside : (v : Volume) (d : ℕ) (x : Name) (k : ℕ) (y : Name) (attributes : Attributes) (names : NameMap) → v k ≡ Some (directory_node attributes names) → d ≡ k
     → HasPlace (with_name x None (with_name y None names)) → LeavesPlace v (rename d x k y)
-leaves_inside v d x k y mode names is same place = (
+leaves_inside v d x k y attributes names is same place = (
   place.count,
   subst (λ (o : Option Node). Counts (λ (b : Name). IsSome (names_in o b) × (b ≢ y) × (d ≡ k → b ≢ x)) place.count) (sym is)
       (same_count (λ (b : Name). IsSome (with_name x None (with_name y None names) b)) (λ (b : Name). IsSome (names b) × (b ≢ y) × (d ≡ k → b ≢ x)) place.count (λ b. (
@@ -128,9 +129,9 @@ leaves_inside v d x k y mode names is same place = (
 )
 
 -- where it was in another one, and the new name goes
-leaves_across : (v : Volume) (d : ℕ) (x : Name) (k : ℕ) (y : Name) (mode : ℕ) (names : NameMap) → v k ≡ Some (directory_node mode names) → d ≢ k
+leaves_across : (v : Volume) (d : ℕ) (x : Name) (k : ℕ) (y : Name) (attributes : Attributes) (names : NameMap) → v k ≡ Some (directory_node attributes names) → d ≢ k
     → HasPlace (with_name y None names) → LeavesPlace v (rename d x k y)
-leaves_across v d x k y mode names is other place = (
+leaves_across v d x k y attributes names is other place = (
   place.count,
   subst (λ (o : Option Node). Counts (λ (b : Name). IsSome (names_in o b) × (b ≢ y) × (d ≡ k → b ≢ x)) place.count) (sym is)
       (same_count (λ (b : Name). IsSome (with_name y None names b)) (λ (b : Name). IsSome (names b) × (b ≢ y) × (d ≡ k → b ≢ x)) place.count (λ b. (
@@ -141,12 +142,12 @@ leaves_across v d x k y mode names is other place = (
 )
 
 pub leaves_other : (v : Volume) (d : ℕ) (x : Name) (k : ℕ) (step : Option Step) (entry : Entry) → d ≢ k → Accepts (edit_for entry step) (v k) → LeavesPlace v (rename d x k entry.name.now)
-leaves_other v d x k (Some step) entry other accepts = leaves_across v d x k entry.name.now accepts.mode accepts.names accepts.is other accepts.takes
+leaves_other v d x k (Some step) entry other accepts = leaves_across v d x k entry.name.now accepts.attributes accepts.names accepts.is other accepts.takes
 leaves_other v d x k None entry other accepts =
     let y = entry.name.now in
     let names = accepts.names in
     let place = accepts.takes.place in
-    leaves_across v d x k y accepts.mode names accepts.is other (record {
+    leaves_across v d x k y accepts.attributes names accepts.is other (record {
       count = place.count;
       counts = same_count (λ (b : Name). IsSome (names b)) (λ (b : Name). IsSome (with_name y None names b)) place.count (λ b. (
         (λ some. (left_names names y b).1 (some, λ same. absent (names y) accepts.takes.missing (subst (λ (z : Name). IsSome (names z)) same some))),

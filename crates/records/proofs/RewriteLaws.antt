@@ -32,14 +32,14 @@ use Rattle.model.proofs.ObjectLaws.{node_here, node_other}
 
 swept_bytes : (f : List ℕ → List ℕ) (open_now : Bool) (o : Option Node) → swept_node open_now o ≡ o → swept_node open_now (with_file_bytes f o) ≡ with_file_bytes f o
 swept_bytes f open_now None is = refl
-swept_bytes f open_now (Some (directory_node mode names)) is = refl
-swept_bytes f true (Some (file_node mode zero bytes)) is = refl
-swept_bytes f false (Some (file_node mode zero bytes)) is = absurd (none_some is)
+swept_bytes f open_now (Some (directory_node attributes names)) is = refl
+swept_bytes f true (Some (file_node attributes zero bytes)) is = refl
+swept_bytes f false (Some (file_node attributes zero bytes)) is = absurd (none_some is)
   where
     none_some : {X Y : Type 0} {x : X} → None ≡ Some x → Y
     none_some e = cc
-swept_bytes f open_now (Some (file_node mode (suc links) bytes)) is = refl
-swept_bytes f open_now (Some (link_node text)) is = refl
+swept_bytes f open_now (Some (file_node attributes (suc links) bytes)) is = refl
+swept_bytes f open_now (Some (link_node attributes text)) is = refl
 
 module _ (v : Volume) (table : ℕ → Option Description) (n : ℕ) (f : List ℕ → List ℕ) (is_swept : (k : ℕ) → swept table v k ≡ v k) where
   abbrev changed : Volume
@@ -121,9 +121,6 @@ some_bytes xs some = grind (arith, nat_tests)
 
 pub past_limit : (m n : ℕ) → m < n → nat_lt m n ≡ true
 past_limit m n lt = grind (arith, nat_tests)
-
-pub within_limit : (m n : ℕ) → n ≤ m → nat_lt m n ≡ false
-within_limit m n le = grind (arith, nat_tests)
 
 pub other_size : (m n : ℕ) → (m ≡ n → ⊥) → (m == n) ≡ false
 other_size m n ne = grind (arith, nat_tests)

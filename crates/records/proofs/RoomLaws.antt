@@ -1,10 +1,11 @@
 -- What updates and steps add to what a consistency point may store.
-use Rattle.std.proofs.Common.{◌≡◌, ◌∙◌, ℕ, zero, suc, ◌+◌, ◌*◌, ◌≤◌, List, Bool, true, false, Option, Some, None, IsTrue, ◌||◌, if◌then◌else◌, refl, ap, sym, subst, arith}
+use Rattle.std.proofs.Common.{◌≡◌, ◌∙◌, ℕ, zero, suc, ◌+◌, ◌≤◌, List, Bool, true, false, Option, Some, None, IsTrue, ◌||◌, if◌then◌else◌, refl, ap, sym, subst, arith}
 use Rattle.std.specs.Ordering.{nat_cmp}
 use Rattle.std.specs.BTreeMap.{get}
 use Rattle.std.proofs.lemmas.Bool.{false≢true}
 use Rattle.layout.specs.DirectoryNames.{NameMap}
 use Rattle.layout.specs.declared.inode.Inode.{Inode}
+use Rattle.model.specs.Attributes.{set_mode}
 use Rattle.model.specs.Records.{with_file_bytes, with_node_mode}
 use Rattle.model.specs.Volumes.{Node, Volume, directory_node, file_node, link_node, is_directory_node, is_file_node, is_nameless}
 use Rattle.dirs.specs.Room.{piece_count}
@@ -68,45 +69,45 @@ module _ (detail : Detail) (disk : ℕ → List ℕ) (inodes : ℕ) (settled : I
       (omega (
         arith,
         room,
-        more (directory_node o.attributes.mode edits.names) (directory_node o.attributes.mode (f edits.names)) o after (edit_room (piece_count edit)) had raises (omega arith),
+        more (directory_node o.status.attributes edits.names) (directory_node o.status.attributes (f edits.names)) o after (edit_room (piece_count edit)) had raises (omega arith),
       ))
 
   -- a file or directory has another mode
   pub mode_room : (found : Option Node) (was after : Option Object) (mode k : ℕ) → IsObjectOrNone detail disk inodes settled was found → IsTrue (is_file_node found || is_directory_node found)
       → CountsObject was slot → RaisesFile was after 0 → 2 ≤ k → room_of (Some (Changed after)) base (with_node_mode mode found) ≤ room_of slot base found + k
   mode_room None was after mode k is has had raises room = absurd (false≢true has)
-  mode_room (Some (link_node text)) was after mode k is has had raises room = absurd (false≢true has)
+  mode_room (Some (link_node attributes text)) was after mode k is has had raises room = absurd (false≢true has)
   mode_room (Some (directory_node old names)) None after mode k is has had raises room = absurd cc
   mode_room (Some (directory_node old names)) (Some o) after mode k is has had raises room =
-      omega (arith, room, more (directory_node old names) (directory_node mode names) o after 0 had raises (omega arith))
+      omega (arith, room, more (directory_node old names) (directory_node (set_mode mode old) names) o after 0 had raises (omega arith))
   mode_room (Some (file_node old links bytes)) None after mode k is has had raises room = absurd cc
   mode_room (Some (file_node old zero bytes)) (Some o) after mode k is has had raises room =
-      omega (arith, room, more (file_node old zero bytes) (file_node mode zero bytes) o after 0 had raises (omega arith))
+      omega (arith, room, more (file_node old zero bytes) (file_node (set_mode mode old) zero bytes) o after 0 had raises (omega arith))
   mode_room (Some (file_node old (suc links) bytes)) (Some o) after mode k is has had raises room =
-      omega (arith, room, more (file_node old (suc links) bytes) (file_node mode (suc links) bytes) o after 0 had raises (omega arith))
+      omega (arith, room, more (file_node old (suc links) bytes) (file_node (set_mode mode old) (suc links) bytes) o after 0 had raises (omega arith))
 
   -- a file has other bytes
   pub bytes_room : (found : Option Node) (was after : Option Object) (f : List ℕ → List ℕ) (change : Change) (k : ℕ) → IsObjectOrNone detail disk inodes settled was found → IsTrue (is_file_node found)
       → CountsObject was slot → ((m : ℕ) → StoresIn was change m → RaisesFile was after m) → UpdateRoom was (updates.Bytes change) k
       → room_of (Some (Changed after)) base (with_file_bytes f found) ≤ room_of slot base found + k
   bytes_room None was after f change k is file had raises room = absurd (false≢true file)
-  bytes_room (Some (link_node text)) was after f change k is file had raises room = absurd (false≢true file)
+  bytes_room (Some (link_node attributes text)) was after f change k is file had raises room = absurd (false≢true file)
   bytes_room (Some (directory_node old names)) was after f change k is file had raises room = absurd (false≢true file)
-  bytes_room (Some (file_node mode links bytes)) None after f change k is file had raises room = absurd cc
-  bytes_room (Some (file_node mode zero bytes)) (Some o) after f change k is file had raises room =
-      omega (arith, room.1, more (file_node mode zero bytes) (file_node mode zero (f bytes)) o after room.0 had (raises room.0 room.2) (omega arith))
-  bytes_room (Some (file_node mode (suc links) bytes)) (Some o) after f change k is file had raises room =
-      omega (arith, room.1, more (file_node mode (suc links) bytes) (file_node mode (suc links) (f bytes)) o after room.0 had (raises room.0 room.2) (omega arith))
+  bytes_room (Some (file_node attributes links bytes)) None after f change k is file had raises room = absurd cc
+  bytes_room (Some (file_node attributes zero bytes)) (Some o) after f change k is file had raises room =
+      omega (arith, room.1, more (file_node attributes zero bytes) (file_node attributes zero (f bytes)) o after room.0 had (raises room.0 room.2) (omega arith))
+  bytes_room (Some (file_node attributes (suc links) bytes)) (Some o) after f change k is file had raises room =
+      omega (arith, room.1, more (file_node attributes (suc links) bytes) (file_node attributes (suc links) (f bytes)) o after room.0 had (raises room.0 room.2) (omega arith))
 
   -- a file has so many names
   pub links_room : (found : Option Node) (was after : Option Object) (links k : ℕ) → IsObjectOrNone detail disk inodes settled was found → IsTrue (is_file_node found)
       → CountsObject was slot → RaisesFile was after 0 → 6 ≤ k → room_of (Some (Changed after)) base (with_node_links links found) ≤ room_of slot base found + k
   links_room None was after links k is file had raises room = absurd (false≢true file)
-  links_room (Some (link_node text)) was after links k is file had raises room = absurd (false≢true file)
+  links_room (Some (link_node attributes text)) was after links k is file had raises room = absurd (false≢true file)
   links_room (Some (directory_node old names)) was after links k is file had raises room = absurd (false≢true file)
-  links_room (Some (file_node mode old bytes)) None after links k is file had raises room = absurd cc
-  links_room (Some (file_node mode old bytes)) (Some o) after links k is file had raises room =
-      omega (arith, room, less (file_node mode old bytes) (file_node mode links bytes) o after had raises)
+  links_room (Some (file_node attributes old bytes)) None after links k is file had raises room = absurd cc
+  links_room (Some (file_node attributes old bytes)) (Some o) after links k is file had raises room =
+      omega (arith, room, less (file_node attributes old bytes) (file_node attributes links bytes) o after had raises)
 
 -- what is in memory of a number counts the object that it has there
 pub counts_object : (detail : Detail) (count : ℕ) (disk : ℕ → List ℕ) (settled : ℕ → Inode) (s : InodeFile) (v : Volume) (n : ℕ) (o : Option Object) → IsVolumeIn detail count disk settled s v

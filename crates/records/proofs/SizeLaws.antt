@@ -19,18 +19,18 @@ use Rattle.records.proofs.KindLaws.{is_kind, not_file, sized_file}
 
 no_bytes : (o : Option Node) → is_file_node o ≡ false → 0 ≡ length (unwrap_or (bytes_of_node o) [])
 no_bytes None not = refl
-no_bytes (Some (directory_node mode names)) not = refl
-no_bytes (Some (link_node text)) not = refl
-no_bytes (Some (file_node mode links bytes)) not = cc
+no_bytes (Some (directory_node attributes names)) not = refl
+no_bytes (Some (link_node attributes text)) not = refl
+no_bytes (Some (file_node attributes links bytes)) not = cc
 
 module _ (detail : Detail) (disk : ℕ → List ℕ) (inodes : ℕ) (settled : Inode) (found : Option Node) where
-  pub file_bytes : (o : Object) → IsObjectIn detail disk inodes settled o found → o.attributes.kind ≡ kinds.File → o.file.size ≡ length (unwrap_or (bytes_of_node found) [])
+  pub file_bytes : (o : Object) → IsObjectIn detail disk inodes settled o found → o.status.kind ≡ kinds.File → o.file.size ≡ length (unwrap_or (bytes_of_node found) [])
   file_bytes o is file =
-      let held = sized_file detail o.attributes.kind inodes (content_of_object disk o) found is.stands file in
+      let held = sized_file detail o.status.kind inodes (content_of_object disk o) found is.stands file in
       sym (ap (λ (x : Option Node). length (unwrap_or (bytes_of_node x) [])) held.2 ∙ held.1)
 
-  pub other_bytes : (o : Object) → IsObjectIn detail disk inodes settled o found → (o.attributes.kind ≡ kinds.File → ⊥) → 0 ≡ length (unwrap_or (bytes_of_node found) [])
-  other_bytes o is other = no_bytes found (not_file detail o.attributes.kind inodes (content_of_object disk o) found is.stands other)
+  pub other_bytes : (o : Object) → IsObjectIn detail disk inodes settled o found → (o.status.kind ≡ kinds.File → ⊥) → 0 ≡ length (unwrap_or (bytes_of_node found) [])
+  other_bytes o is other = no_bytes found (not_file detail o.status.kind inodes (content_of_object disk o) found is.stands other)
 
   -- an object that memory has of a file's number has as many bytes as the file
   pub loaded_bytes : (slot : Option ObjectSlot) → SlotStandsFor detail disk inodes settled slot found → IsTrue (is_file_node found)
@@ -38,9 +38,9 @@ module _ (detail : Detail) (disk : ℕ → List ℕ) (inodes : ℕ) (settled : I
   loaded_bytes None stands file = tt
   loaded_bytes (Some AsSettled) stands file = tt
   loaded_bytes (Some (Loaded None)) stands file = tt
-  loaded_bytes (Some (Loaded (Some o))) stands file = file_bytes o stands.1 (is_kind detail o.attributes.kind inodes (content_of_object disk o) found stands.1.stands file)
+  loaded_bytes (Some (Loaded (Some o))) stands file = file_bytes o stands.1 (is_kind detail o.status.kind inodes (content_of_object disk o) found stands.1.stands file)
   loaded_bytes (Some (Changed None)) stands file = tt
-  loaded_bytes (Some (Changed (Some o))) stands file = file_bytes o stands (is_kind detail o.attributes.kind inodes (content_of_object disk o) found stands.stands file)
+  loaded_bytes (Some (Changed (Some o))) stands file = file_bytes o stands (is_kind detail o.status.kind inodes (content_of_object disk o) found stands.stands file)
 
 -- what a write may store of its file, and two for the inode, is within its cost
 pub write_costs : (size offset count : ℕ) → write_room size offset count + 2 ≤ cost (puts_bytes size offset count)

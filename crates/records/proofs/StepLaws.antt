@@ -6,8 +6,11 @@ use Rattle.layout.specs.Limits.{Sizes}
 use Rattle.layout.specs.declared.inode.Inode.{Inode}
 use Rattle.layout.specs.declared.kind.Kind.{Kind}
 use Rattle.layout.specs.declared.kind.Kind.TheVariants as kinds
+use Rattle.model.specs.declared.attributes.Attributes.{Attributes}
+use Rattle.model.specs.Attributes.{set_mode}
 use Rattle.model.specs.Records.{with_node_mode}
 use Rattle.model.specs.Volumes.{Node, Volume, is_directory_node, is_file_node}
+use Rattle.model.proofs.AttributeLaws.{set_fit}
 use Rattle.images.specs.Contents.{Content, StandsAs}
 use Rattle.inode.specs.declared.object.Object.{Object}
 use Rattle.inofile.specs.Inodes.{loaded}
@@ -38,9 +41,9 @@ no_mode found x same not is = absurd (both_ways (is_file_node x || is_directory_
 
 module _ (inodes mode : ℕ) (c : Content) (found : Option Node) (is : HasMode found) where
   abbrev after : Content
-  after = record { kind = c.kind; mode = mode; links = c.links; size = c.size; block = c.block }
+  after = record { kind = c.kind; attributes = set_mode mode c.attributes; links = c.links; size = c.size; block = c.block }
 
-  fits_after : (k : Kind) (s : Sizes) → HasSizeOf k inodes c found → FitsKind k s c.mode c.links c.size → FitsKind k s mode c.links c.size
+  fits_after : (k : Kind) (s : Sizes) → HasSizeOf k inodes c found → FitsKind k s c.attributes c.links c.size → FitsKind k s (set_mode mode c.attributes) c.links c.size
   fits_after kinds.Free s stands fits = no_mode found _ stands refl is
   fits_after kinds.File s stands fits = fits
   fits_after kinds.Directory s stands fits = fits
@@ -71,15 +74,19 @@ module _ (inodes mode : ℕ) (c : Content) (found : Option Node) (is : HasMode f
   in_detail_after by_bytes k stands = stands_after k stands
   in_detail_after by_sizes k stands = sized_after k stands
 
+abbrev pub with_attributes : Object → Attributes → Object
+with_attributes o attributes =
+    record { status = record { kind = o.status.kind; attributes = attributes; links = o.status.links }; file = o.file; known = o.known }
+
 -- a file or directory in memory with another mode
 pub mode_set : (detail : Detail) (disk : ℕ → List ℕ) (inodes : ℕ) (settled : Inode) (o : Object) (found : Option Node) (mode : ℕ) → mode ≤ 4095
     → IsObjectIn detail disk inodes settled o found → HasMode found
-    → IsObjectIn detail disk inodes settled (record { attributes = record { kind = o.attributes.kind; mode = mode; links = o.attributes.links }; file = o.file; known = o.known }) (with_node_mode mode found)
+    → IsObjectIn detail disk inodes settled (with_attributes o (set_mode mode o.status.attributes)) (with_node_mode mode found)
 mode_set detail disk inodes settled o found mode good was is = record {
   kind = was.kind;
-  mode = good;
-  fits = λ s. fits_after inodes mode (content_of_object disk o) found is o.attributes.kind s (by_size detail o.attributes.kind inodes (content_of_object disk o) found was.stands) (was.fits s);
-  stands = in_detail_after inodes mode (content_of_object disk o) found is detail o.attributes.kind was.stands;
+  attributes = set_fit mode o.status.attributes good was.attributes;
+  fits = λ s. fits_after inodes mode (content_of_object disk o) found is o.status.kind s (by_size detail o.status.kind inodes (content_of_object disk o) found was.stands) (was.fits s);
+  stands = in_detail_after inodes mode (content_of_object disk o) found is detail o.status.kind was.stands;
   ends = was.ends;
   base = was.base;
   known = was.known;
@@ -99,10 +106,10 @@ steps_after detail disk settled s t v w step same_sizes same steps = (
 
 module _ (inodes links : ℕ) (c : Content) (found : Option Node) (is : IsTrue (is_file_node found)) where
   abbrev counted : Content
-  counted = record { kind = c.kind; mode = c.mode; links = links; size = c.size; block = c.block }
+  counted = record { kind = c.kind; attributes = c.attributes; links = links; size = c.size; block = c.block }
 
-  fits_counted : (detail : Detail) (k : Kind) (s : Sizes) → links ≤ 1000 → StandsAsIn detail k inodes c found → FitsKind k s c.mode links c.size
-  fits_counted detail k s few stands = subst (λ (x : Kind). FitsKind x s c.mode links c.size) (sym (is_kind detail k inodes c found stands is)) few
+  fits_counted : (detail : Detail) (k : Kind) (s : Sizes) → links ≤ 1000 → StandsAsIn detail k inodes c found → FitsKind k s c.attributes links c.size
+  fits_counted detail k s few stands = subst (λ (x : Kind). FitsKind x s c.attributes links c.size) (sym (is_kind detail k inodes c found stands is)) few
 
   stands_counted : (k : Kind) → StandsAs k inodes c found → StandsAs k inodes counted (with_node_links links found)
   stands_counted k stands =
@@ -122,12 +129,12 @@ module _ (inodes links : ℕ) (c : Content) (found : Option Node) (is : IsTrue (
 -- a file in memory with another count of names
 pub links_set : (detail : Detail) (disk : ℕ → List ℕ) (inodes : ℕ) (settled : Inode) (o : Object) (found : Option Node) (links : ℕ) → links ≤ 1000
     → IsObjectIn detail disk inodes settled o found → IsTrue (is_file_node found)
-    → IsObjectIn detail disk inodes settled (record { attributes = record { kind = o.attributes.kind; mode = o.attributes.mode; links = links }; file = o.file; known = o.known }) (with_node_links links found)
+    → IsObjectIn detail disk inodes settled (record { status = record { kind = o.status.kind; attributes = o.status.attributes; links = links }; file = o.file; known = o.known }) (with_node_links links found)
 links_set detail disk inodes settled o found links few was is = record {
   kind = was.kind;
-  mode = was.mode;
-  fits = λ s. fits_counted inodes links (content_of_object disk o) found is detail o.attributes.kind s few was.stands;
-  stands = in_detail_counted inodes links (content_of_object disk o) found is detail o.attributes.kind was.stands;
+  attributes = was.attributes;
+  fits = λ s. fits_counted inodes links (content_of_object disk o) found is detail o.status.kind s few was.stands;
+  stands = in_detail_counted inodes links (content_of_object disk o) found is detail o.status.kind was.stands;
   ends = was.ends;
   base = was.base;
   known = was.known;

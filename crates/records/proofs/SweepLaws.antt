@@ -29,17 +29,17 @@ number_at_hand s (Some step) is = is
 
 nameless_goes : (o : Option Node) → is_nameless o ≡ true → swept_node false o ≡ None
 nameless_goes None is = cc
-nameless_goes (Some (directory_node mode names)) is = cc
-nameless_goes (Some (link_node text)) is = cc
-nameless_goes (Some (file_node mode zero bytes)) is = refl
-nameless_goes (Some (file_node mode (suc links) bytes)) is = cc
+nameless_goes (Some (directory_node attributes names)) is = cc
+nameless_goes (Some (link_node attributes text)) is = cc
+nameless_goes (Some (file_node attributes zero bytes)) is = refl
+nameless_goes (Some (file_node attributes (suc links) bytes)) is = cc
 
 named_stays : (o : Option Node) → is_nameless o ≡ false → swept_node false o ≡ o
 named_stays None is = refl
-named_stays (Some (directory_node mode names)) is = refl
-named_stays (Some (link_node text)) is = refl
-named_stays (Some (file_node mode zero bytes)) is = cc
-named_stays (Some (file_node mode (suc links) bytes)) is = refl
+named_stays (Some (directory_node attributes names)) is = refl
+named_stays (Some (link_node attributes text)) is = refl
+named_stays (Some (file_node attributes zero bytes)) is = cc
+named_stays (Some (file_node attributes (suc links) bytes)) is = refl
 
 -- a file without a name is dropped
 pub dropped : (n : ℕ) (v : Volume) → is_nameless (v n) ≡ true → with_node n None v ≡ with_node n (swept_node false (v n)) v

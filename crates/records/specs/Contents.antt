@@ -75,10 +75,10 @@ ArePartsWhole disk Part file = (i : ℕ) → Part i → length (file_block disk 
 
 -- the same of an object, where it is a file
 abbrev pub IsSoundIn : ℕ → (ℕ → List ℕ) → Rewrite → Object → Type 0
-IsSoundIn count disk rewrite o = o.attributes.kind ≡ kinds.File → ArePartsSound count disk (LeavesPart o.file.size rewrite) o.file
+IsSoundIn count disk rewrite o = o.status.kind ≡ kinds.File → ArePartsSound count disk (LeavesPart o.file.size rewrite) o.file
 
 abbrev pub IsWholeIn : (ℕ → List ℕ) → Rewrite → Object → Type 0
-IsWholeIn disk rewrite o = o.attributes.kind ≡ kinds.File → ArePartsWhole disk (LeavesPart o.file.size rewrite) o.file
+IsWholeIn disk rewrite o = o.status.kind ≡ kinds.File → ArePartsWhole disk (LeavesPart o.file.size rewrite) o.file
 
 -- A change of a file's bytes is prepared that makes these of them, stores so many blocks more at the most, and reads those that it leaves
 -- in part. The file stays the same until it is put in force.

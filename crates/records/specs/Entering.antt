@@ -3,6 +3,7 @@ use Rattle.std.specs.Prelude.{ℕ, ◌≡◌, ◌<◌, ◌≤◌, List, Option, 
 use Rattle.layout.specs.Directory.{IsEntry, named_of}
 use Rattle.layout.specs.DirectoryNames.{NameMap}
 use Rattle.layout.specs.declared.kind.Kind.TheVariants as kinds
+use Rattle.model.specs.declared.attributes.Attributes.{Attributes}
 use Rattle.model.specs.Paths.{Name}
 use Rattle.model.specs.Volumes.{Node, directory_node}
 use Rattle.dirs.specs.Directory.{HasCount, with_name}
@@ -49,9 +50,9 @@ names_after (edits.Move old entry) names = with_name entry.name.now (Some entry.
 
 -- an object is a directory whose names can be edited so
 pub record Accepts (wanted : NameEdit) (found : Option Node) : Type 0 where
-  pub mode : ℕ
+  pub attributes : Attributes
   pub names : NameMap
-  pub is : found ≡ Some (directory_node mode names)
+  pub is : found ≡ Some (directory_node attributes names)
   pub takes : TakesEdit wanted names
 
 -- so many blocks of the directory it changes at the most
@@ -63,15 +64,15 @@ pieces_of (edits.Move old entry) = 3
 
 -- a directory with its names changed
 abbrev pub with_node_names : (NameMap → NameMap) → Option Node → Option Node
-with_node_names f (Some (directory_node mode names)) = Some (directory_node mode (f names))
+with_node_names f (Some (directory_node attributes names)) = Some (directory_node attributes (f names))
 with_node_names f o = o
 
 -- an edit of a directory in memory makes this of its names, and what it knows of its blocks is so then; before, it stands for this object of
 -- a volume
 pub record Edits (disk : ℕ → List ℕ) (inodes : ℕ) (f : NameMap → NameMap) (found : Option Node) (o : Object) (edit : Edit) : Type 0 where
   pub names : NameMap
-  pub stands : found ≡ Some (directory_node o.attributes.mode names)
-  pub kind : o.attributes.kind ≡ kinds.Directory
+  pub stands : found ≡ Some (directory_node o.status.attributes names)
+  pub kind : o.status.kind ≡ kinds.Directory
   pub edited : HasEditedNames inodes disk o.file edit (f names)
   pub known : Knows inodes (edited_block disk o.file edit) edit.known
 
@@ -82,7 +83,7 @@ EditsIn disk inodes f found None edit = ⊥
 
 -- there is an object, and it is a directory
 abbrev pub IsDirectoryObject : Option Object → Type 0
-IsDirectoryObject (Some o) = o.attributes.kind ≡ kinds.Directory
+IsDirectoryObject (Some o) = o.status.kind ≡ kinds.Directory
 IsDirectoryObject None = ⊥
 
 -- an edit is prepared of what can be edited so, where this object of memory stands for it, and else none

@@ -59,7 +59,7 @@ abbrev pub DecidesRecord : {B : Type 0} → Ghosts B → B → B → InodeFile �
 DecidesRecord G blocks after s t change result =
     DecidesOn (λ detail disk settled v. StandsIn detail G disk settled v blocks s) (λ detail disk settled v. StandsIn detail G disk settled v blocks s) G blocks after s t change result
 
--- the same, where that the record applies, or what is told, is true of each that is known to be a volume
+-- the same, but that the record applies, or what is told, is true only of what is known to be a volume
 abbrev pub DecidesKnown : {B : Type 0} → Ghosts B → B → B → InodeFile → InodeFile → Change → Result Prepared Failure → Type 0
 DecidesKnown G blocks after s t change result =
     DecidesOn (λ detail disk settled v. StandsIn detail G disk settled v blocks s) (λ detail disk settled v. StandsIn detail G disk settled v blocks s × IsKnownVolume detail s.geometry.inodes v) G blocks after s t change result

@@ -2,6 +2,7 @@
 use Rattle.std.specs.Prelude.{ℕ, ◌≡◌, ◌≢◌, ◌+◌, ◌≤◌, ◌<◌, ◌||◌, IsTrue, List, Option, Some, None}
 use Rattle.layout.specs.declared.inode.Inode.{Inode}
 use Rattle.layout.specs.DirectoryNames.{NameMap}
+use Rattle.model.specs.declared.attributes.Attributes.{Attributes}
 use Rattle.model.specs.declared.limits.TheConstants.{FILE_NAMES, ROOT_NUMBER}
 use Rattle.model.specs.Records.{with_file_bytes, with_node_mode}
 use Rattle.model.specs.Volumes.{Node, Volume, file_node, is_directory_node, is_file_node, with_node}
@@ -71,11 +72,11 @@ IsBeside n (Some step) = step.number ≢ n
 
 -- a file that has so many names
 abbrev pub IsFileWithLinks : ℕ → Option Node → Type 0
-IsFileWithLinks links found = (mode : ℕ) × (bytes : List ℕ) × (found ≡ Some (file_node mode links bytes))
+IsFileWithLinks links found = (attributes : Attributes) × (bytes : List ℕ) × (found ≡ Some (file_node attributes links bytes))
 
 -- a file with so many names
 abbrev pub with_node_links : ℕ → Option Node → Option Node
-with_node_links links (Some (file_node mode old bytes)) = Some (file_node mode links bytes)
+with_node_links links (Some (file_node attributes old bytes)) = Some (file_node attributes links bytes)
 with_node_links links o = o
 
 -- An update makes one object of a volume of another, or of none, in so much detail; in memory it is this one, or none.

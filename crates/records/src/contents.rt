@@ -184,7 +184,7 @@ fn plan_taken<B: Blocks>(
         → IsErrOf result ReadError.Damaged
         → IsSoundIn (B.count blocks.old) disk rewrite.now object.old → ⊥ }
 {
-    match object.attributes.kind {
+    match object.status.kind {
         Kind::File => {}
         _ => return Ok(None),
     }

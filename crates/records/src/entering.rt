@@ -1,6 +1,6 @@
 //! Names that directories get and lose.
 
-ghost use Rattle.std.specs.Prelude.{◌≡◌, ◌≢◌, ◌+◌, ◌*◌, ◌↔◌, ℕ, List, Option, Some, IsTrue, IfOk, IfSome, IsErrOf};
+ghost use Rattle.std.specs.Prelude.{◌≡◌, ◌≢◌, ◌*◌, ◌↔◌, ℕ, List, Option, Some, IsTrue, IfOk, IfSome, IsErrOf};
 ghost use Rattle.layout.specs.DirectoryNames.{NameMap};
 ghost use Rattle.layout.specs.declared.inode.Inode.{Inode};
 ghost use Rattle.layout.specs.declared.kind.Kind.TheVariants as kinds;
@@ -99,7 +99,7 @@ fn edit_object<B: Blocks>(
     ensures damaged { (detail : Detail) (disk : ℕ → List ℕ) (settled : Inode) (found : Option Node)
         → B.Shows blocks.old disk → IsErrOf result ReadError.Damaged
         → IsObjectOrNone detail disk inodes settled object.old found
-        → ((o : Object) → object.old ≡ Some o → o.attributes.kind ≡ kinds.Directory
+        → ((o : Object) → object.old ≡ Some o → o.status.kind ≡ kinds.Directory
         → (i : ℕ) → IsSoundAt (B.count blocks.old) disk o.file.tree i) → ⊥ }
 {
     if !is_directory(object) {
@@ -130,7 +130,7 @@ fn is_directory(object: &Option<Object>) -> bool
     ensures { IsTrue result ↔ IsDirectoryObject object.now }
 {
     match object {
-        Some(object) => matches!(object.attributes.kind, Kind::Directory),
+        Some(object) => matches!(object.status.kind, Kind::Directory),
         None => false,
     }
 }

@@ -81,8 +81,8 @@ fn links_of(inodes: &InodeFile, number: InodeNumber) -> Option<u32>
     let Some(object) = paths::object(inodes, number) else {
         return None;
     };
-    match object.attributes.kind {
-        Kind::File => Some(object.attributes.links),
+    match object.status.kind {
+        Kind::File => Some(object.status.links),
         _ => None,
     }
 }

@@ -58,7 +58,7 @@ fn has_mode(inodes: &InodeFile, number: InodeNumber) -> bool
     let Some(object) = inodes.get(number.get()) else {
         return false;
     };
-    match object.attributes.kind {
+    match object.status.kind {
         Kind::File => true,
         Kind::Directory => true,
         _ => false,

@@ -38,7 +38,7 @@ pub fn read_bytes<B: Blocks>(
     let Some(object) = paths::object(inodes, number) else {
         return Ok(None);
     };
-    match object.attributes.kind {
+    match object.status.kind {
         Kind::File => {}
         _ => return Ok(None),
     }

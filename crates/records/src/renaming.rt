@@ -1,6 +1,6 @@
 //! Records that move a name.
 
-ghost use Rattle.std.specs.Prelude.{◌≡◌, ◌≢◌, ◌≤◌, ◌↔◌, ℕ, List, Option, None, Some, IsTrue, IfErr, IfOk, IfSome, IfNone};
+ghost use Rattle.std.specs.Prelude.{◌≡◌, ◌≢◌, ◌≤◌, ◌↔◌, Option, None, Some, IsTrue, IfErr, IfOk, IfSome, IfNone};
 ghost use Rattle.layout.specs.Directory.{IsEntry, named_of};
 ghost use Rattle.model.specs.Laws.{is_own};
 ghost use Rattle.model.specs.Paths.{Name};

@@ -98,7 +98,7 @@ fn set_mode(object: &mut Option<Object>, mode: Mode)
     // The type of a mode holds it to its bits.
     let _ = mode.bits();
     if let Some(object) = object {
-        object.attributes.mode = mode;
+        object.status.attributes = object.status.attributes.with_mode(mode);
     }
 }
 
@@ -111,6 +111,6 @@ fn set_links(object: &mut Option<Object>, links: u32)
     ensures room { RaisesFile object.old object.new 0 }
 {
     if let Some(object) = object {
-        object.attributes.links = links;
+        object.status.links = links;
     }
 }

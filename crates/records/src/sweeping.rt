@@ -135,7 +135,7 @@ fn note_figures(inodes: &InodeFile, files: &mut Descriptors, number: InodeNumber
     if let Some(object) = paths::object(inodes, number) {
         let n = number.get();
         files.resized(n, object.file.size());
-        files.relinked(n, object.attributes.links);
+        files.relinked(n, object.status.links);
     }
 }
 
@@ -148,8 +148,8 @@ pub fn is_nameless(inodes: &InodeFile, number: InodeNumber) -> bool
     let Some(object) = inodes.get(number.get()) else {
         return false;
     };
-    match object.attributes.kind {
-        Kind::File => object.attributes.links == 0,
+    match object.status.kind {
+        Kind::File => object.status.links == 0,
         _ => false,
     }
 }

@@ -128,8 +128,8 @@ fn released(inodes: &InodeFile, number: InodeNumber) -> Update
     let Some(object) = paths::object(inodes, number) else {
         return Update::Set(None);
     };
-    match object.attributes.kind {
-        Kind::File => Update::Links(object.attributes.links.saturating_sub(1)),
+    match object.status.kind {
+        Kind::File => Update::Links(object.status.links.saturating_sub(1)),
         _ => Update::Set(None),
     }
 }

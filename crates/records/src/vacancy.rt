@@ -6,7 +6,8 @@ ghost use Rattle.layout.specs.declared.inode.Inode.{Inode};
 ghost use Rattle.model.specs.Records.{IsMade, is_vacant, node_of};
 ghost use Rattle.layout.specs.LinkText.{IsLinkText};
 ghost use Rattle.model.specs.Volumes.{directory_node, file_node, link_node};
-ghost use Rattle.model.specs.declared.limits.TheConstants.{MODE_BITS};
+ghost use Rattle.model.specs.Attributes.{new_attributes};
+ghost use Rattle.model.specs.declared.limits.TheConstants.{LINK_MODE, MODE_BITS};
 ghost use Rattle.buffers.specs.Reads.{ReadsBlocks};
 ghost use Rattle.blocktree.specs.Errors.{IsFault};
 ghost use Rattle.images.specs.Soundness.{Detail};
@@ -19,10 +20,10 @@ use crate::loading::load;
 use blocktree::ReadError;
 use buffers::Blocks;
 use entries::Known;
-use inode::{Attributes, ChangeError, File, Object};
+use inode::{ChangeError, File, Object, Status};
 use inofile::InodeFile;
 use layout::{FIRST_NUMBER, InodeNumber, Kind, NewObject, is_link_text};
-use model::{LINK_MODE, MODE_BITS, Mode};
+use model::{Attributes, MODE_BITS, Mode};
 use std::alloc::Global;
 
 /// Whether nothing has a number, or a file without names.
@@ -41,8 +42,8 @@ pub fn is_vacant<B: Blocks>(
     let Some(object) = paths::object(inodes, number) else {
         return Ok(true);
     };
-    match object.attributes.kind {
-        Kind::File => Ok(object.attributes.links == 0),
+    match object.status.kind {
+        Kind::File => Ok(object.status.links == 0),
         _ => Ok(false),
     }
 }
@@ -86,14 +87,12 @@ fn new_link<B: Blocks>(alloc: Global, blocks: &mut B, text: &[u8]) -> Result<Obj
     ensures reads { ReadsBlocks B.Blocks IsFault blocks.old blocks.new result }
     ensures object { (detail : Detail) (disk : ℕ → List ℕ) → B.Shows blocks.old disk → IfOk result
         (λ o. (inodes : ℕ) (settled : Inode)
-        → IsObjectIn detail disk inodes settled o (Some (link_node text.now))) }
+        → IsObjectIn detail disk inodes settled o
+        (Some (link_node (new_attributes LINK_MODE) text.now))) }
     ensures room { IfOk result HasRoomOfNew }
     ensures damaged { (disk : ℕ → List ℕ) → B.Shows blocks.old disk
         → IsErrOf result ReadError.Damaged → ⊥ }
 {
-    let Some(mode) = Mode::new(LINK_MODE) else {
-        unreachable!()
-    };
     let mut file = File::empty(alloc);
     let change = match file.prepare_write(alloc, blocks, 0, text) {
         Ok(change) => change,
@@ -103,12 +102,10 @@ fn new_link<B: Blocks>(alloc: Global, blocks: &mut B, text: &[u8]) -> Result<Obj
         Err(ChangeError::TooBig) => unreachable!(),
     };
     file.commit(change);
+    let attributes = Attributes::of_link();
+    let status = Status::new(Kind::Link, attributes);
     Ok(Object {
-        attributes: Attributes {
-            kind: Kind::Link,
-            mode,
-            links: 1,
-        },
+        status,
         file,
         known: Known::new(alloc),
     })
@@ -117,18 +114,17 @@ fn new_link<B: Blocks>(alloc: Global, blocks: &mut B, text: &[u8]) -> Result<Obj
 // A file of one name without bytes.
 fn new_file(alloc: Global, mode: Mode) -> Object
     ensures object { (detail : Detail) (disk : ℕ → List ℕ) (inodes : ℕ) (settled : Inode)
-        → IsObjectIn detail disk inodes settled result (Some (file_node mode 1 [])) }
+        → IsObjectIn detail disk inodes settled result
+        (Some (file_node (new_attributes mode) 1 [])) }
     ensures room { file_room result.file ≡ 0 }
     ensures good { mode ≤ MODE_BITS }
 {
     // The type of a mode holds it to its bits.
     let _ = mode.bits();
+    let attributes = Attributes::new(mode);
+    let status = Status::new(Kind::File, attributes);
     Object {
-        attributes: Attributes {
-            kind: Kind::File,
-            mode,
-            links: 1,
-        },
+        status,
         file: File::empty(alloc),
         known: Known::new(alloc),
     }
@@ -138,18 +134,16 @@ fn new_file(alloc: Global, mode: Mode) -> Object
 pub(crate) fn new_directory(alloc: Global, mode: Mode) -> Object
     ensures object { (detail : Detail) (disk : ℕ → List ℕ) (inodes : ℕ) (settled : Inode)
         → IsObjectIn detail disk inodes settled result
-        (Some (directory_node mode (λ name. None))) }
+        (Some (directory_node (new_attributes mode) (λ name. None))) }
     ensures room { file_room result.file ≡ 0 }
     ensures good { mode ≤ MODE_BITS }
 {
     // The type of a mode holds it to its bits.
     let _ = mode.bits();
+    let attributes = Attributes::new(mode);
+    let status = Status::new(Kind::Directory, attributes);
     Object {
-        attributes: Attributes {
-            kind: Kind::Directory,
-            mode,
-            links: 1,
-        },
+        status,
         file: File::empty(alloc),
         known: Known::new(alloc),
     }

@@ -1,5 +1,6 @@
 -- What names and numbers keep, where the limits of objects aren't known.
 use Rattle.std.proofs.Common.{◌∙◌, ◌≡◌, inr, ℕ, List, Option, Some, None, IsSome, false, is_some, ap, sym, refl, [], ◌∷◌}
+use Rattle.model.specs.declared.attributes.Attributes.{Attributes}
 use Rattle.model.specs.Records.{Applies, Change, Made, applied, change_mode, create, cut, directory, file, link, node_of, rename, symbolic_link, unname, with_file_bytes, with_node_mode, without_nameless, write}
 use Rattle.model.specs.Edits.{resized, written}
 use Rattle.model.specs.Volumes.{IsGraph, IsVolume, Node, Volume, directory_node, entries, file_node, is_directory_node, is_file_node, link_node, released, swept_node, with_entry, with_name_more, with_node}
@@ -13,22 +14,22 @@ use Rattle.images.specs.Replaying.{LeavesPlace, ReadsIn}
 use Rattle.records.specs.Preparing.{HasGraph, IsKnownVolume, IsVolumeFor}
 use Rattle.replay.specs.Volumes.{AppliesIn, ReplaysFor, ReplaysIn}
 
-made_links : (made : Made) (mode links : ℕ) (bytes : List ℕ) → Some (node_of made) ≡ Some (file_node mode links bytes) → links ≡ 1
-made_links (file m) mode links bytes is = cc
-made_links (directory m) mode links bytes is = cc
-made_links (symbolic_link text) mode links bytes is = cc
+made_links : (made : Made) (attributes : Attributes) (links : ℕ) (bytes : List ℕ) → Some (node_of made) ≡ Some (file_node attributes links bytes) → links ≡ 1
+made_links (file m) attributes links bytes is = cc
+made_links (directory m) attributes links bytes is = cc
+made_links (symbolic_link text) attributes links bytes is = cc
 
 bytes_links : (f : List ℕ → List ℕ) (o : Option Node) → SameLinks o (with_file_bytes f o)
-bytes_links f None mode links bytes is = cc
-bytes_links f (Some (directory_node m names)) mode links bytes is = cc
-bytes_links f (Some (file_node m l b)) mode links bytes is = let same : l ≡ links = cc in (m, b, ap (λ c. Some (file_node m c b)) same)
-bytes_links f (Some (link_node text)) mode links bytes is = cc
+bytes_links f None attributes links bytes is = cc
+bytes_links f (Some (directory_node m names)) attributes links bytes is = cc
+bytes_links f (Some (file_node m l b)) attributes links bytes is = let same : l ≡ links = cc in (m, b, ap (λ c. Some (file_node m c b)) same)
+bytes_links f (Some (link_node a text)) attributes links bytes is = cc
 
 mode_links : (bits : ℕ) (o : Option Node) → SameLinks o (with_node_mode bits o)
-mode_links bits None mode links bytes is = cc
-mode_links bits (Some (directory_node m names)) mode links bytes is = cc
-mode_links bits (Some (file_node m l b)) mode links bytes is = let same : l ≡ links = cc in (m, b, ap (λ c. Some (file_node m c b)) same)
-mode_links bits (Some (link_node text)) mode links bytes is = cc
+mode_links bits None attributes links bytes is = cc
+mode_links bits (Some (directory_node m names)) attributes links bytes is = cc
+mode_links bits (Some (file_node m l b)) attributes links bytes is = let same : l ≡ links = cc in (m, b, ap (λ c. Some (file_node m c b)) same)
+mode_links bits (Some (link_node a text)) attributes links bytes is = cc
 
 module _ (inodes : ℕ) (v : Volume) (has : HasGraph inodes v) where
   -- one object changes but for its kind, its names and its links
@@ -38,9 +39,9 @@ module _ (inodes : ℕ) (v : Volume) (has : HasGraph inodes v) where
   bytes_changed : (n : ℕ) (f : List ℕ → List ℕ) → HasGraph inodes (with_node n (with_file_bytes f (v n)) v)
   bytes_changed n f =
       altered n (with_file_bytes f (v n))
-      (graph-altered v has.graph n (with_file_bytes f (v n)) (bytes_names f (v n)) (bytes_by is_file_node (λ mode links a b. refl) f (v n)) (bytes_by is_directory_node (λ mode links a b. refl) f (v n))
-      (bytes_by is_some (λ mode links a b. refl) f (v n)) (bytes_links f (v n)))
-      (bytes_by is_some (λ mode links a b. refl) f (v n))
+      (graph-altered v has.graph n (with_file_bytes f (v n)) (bytes_names f (v n)) (bytes_by is_file_node (λ attributes links a b. refl) f (v n)) (bytes_by is_directory_node (λ attributes links a b. refl) f (v n))
+      (bytes_by is_some (λ attributes links a b. refl) f (v n)) (bytes_links f (v n)))
+      (bytes_by is_some (λ attributes links a b. refl) f (v n))
 
   -- a record that applies keeps it
   pub record_kept : (change : Change) → Applies inodes v change → HasGraph inodes (applied change v)
@@ -53,7 +54,7 @@ module _ (inodes : ℕ) (v : Volume) (has : HasGraph inodes v) where
   record_kept (link n d x) can =
       let path = path_to v has.graph d can.takes.directory in
       record {
-        graph = graph-linked v has.graph path.0 x d n can.mode can.links can.bytes path.1 can.takes.directory can.takes.missing can.takes.name can.file;
+        graph = graph-linked v has.graph path.0 x d n can.attributes can.links can.bytes path.1 can.takes.directory can.takes.missing can.takes.name can.file;
         numbers = numbers_entry inodes (with_node n (with_name_more (v n)) v) d x (Some n) (numbers_node inodes v n (with_name_more (v n)) has.numbers (λ some. has.numbers n (ap is_some can.file)));
       }
   record_kept (unname d x) can =

@@ -6,6 +6,7 @@ use Rattle.std.proofs.Math.Dec.{eqb-suc-zero}
 use Rattle.std.proofs.Math.Path.{fun_ext}
 use Rattle.std.proofs.lemmas.Bool.{cases_lt, cases_eq, cond_below, cond_above}
 use Rattle.std.proofs.lemmas.Bool.Decides.{nat_tests}
+use Rattle.model.specs.declared.attributes.Attributes.{Attributes}
 use Rattle.model.specs.Records.{count_nameless, without_nameless}
 use Rattle.model.specs.Volumes.{Node, directory_node, file_node, link_node, Volume, is_directory_node, is_file_node, is_nameless, swept_node, with_node}
 use Rattle.records.specs.Preparing.{HasGraph}
@@ -29,9 +30,9 @@ dropped_below m v n = if nat_lt n m then swept_node false (v n) else v n
 
 directory_stays : (o : Option Node) → IsTrue (is_directory_node o) → swept_node false o ≡ o
 directory_stays None is = cc
-directory_stays (Some (directory_node mode names)) is = refl
-directory_stays (Some (link_node text)) is = cc
-directory_stays (Some (file_node mode links bytes)) is = cc
+directory_stays (Some (directory_node attributes names)) is = refl
+directory_stays (Some (link_node attributes text)) is = cc
+directory_stays (Some (file_node attributes links bytes)) is = cc
 
 -- none, where nothing can be
 none_where : (o : Option Node) → (IsSome o → ⊥) → swept_node false o ≡ o
@@ -93,9 +94,9 @@ ends inodes v is many = fun_ext {f = dropped_below inodes v} {g = without_namele
 
 directory_named : (o : Option Node) → IsTrue (is_directory_node o) → is_nameless o ≡ false
 directory_named None is = refl
-directory_named (Some (directory_node mode names)) is = refl
-directory_named (Some (link_node text)) is = refl
-directory_named (Some (file_node mode links bytes)) is = cc
+directory_named (Some (directory_node attributes names)) is = refl
+directory_named (Some (link_node attributes text)) is = refl
+directory_named (Some (file_node attributes links bytes)) is = cc
 
 none_here : (n : ℕ) (v : Volume) → is_nameless (v n) ≡ false → count_nameless (suc n) v ≡ count_nameless n v
 none_here n v is = let here = ap (λ (b : Bool). count_nameless n v + (if b then 1 else 0)) is in here ∙ omega arith
@@ -122,21 +123,21 @@ one_counted m count k v one so_far is here =
 
 -- ---- what a settled inode tells
 
-nameless_links : (mode links : ℕ) (bytes : List ℕ) → nat_eq links 0 ≡ is_nameless (Some (file_node mode links bytes))
-nameless_links mode zero bytes = refl
-nameless_links mode (suc links) bytes = eqb-suc-zero links
+nameless_links : (attributes : Attributes) (links : ℕ) (bytes : List ℕ) → nat_eq links 0 ≡ is_nameless (Some (file_node attributes links bytes))
+nameless_links attributes zero bytes = refl
+nameless_links attributes (suc links) bytes = eqb-suc-zero links
 
 other_named : (o : Option Node) → is_file_node o ≡ false → false ≡ is_nameless o
 other_named None is = refl
-other_named (Some (directory_node mode names)) is = refl
-other_named (Some (link_node text)) is = refl
-other_named (Some (file_node mode links bytes)) is = absurd (true≢false is)
+other_named (Some (directory_node attributes names)) is = refl
+other_named (Some (link_node attributes text)) is = refl
+other_named (Some (file_node attributes links bytes)) is = absurd (true≢false is)
 
 pub file_named : (detail : Detail) (disk : ℕ → List ℕ) (inodes : ℕ) (i : Inode) (found : Option Node) → i.kind ≡ kinds.File → StandsForIn detail inodes (held_content disk i) found → nat_eq i.links 0 ≡ is_nameless found
 unfolding held
 file_named detail disk inodes i found is stands =
     let file = sized_file detail i.kind inodes (held_content disk i) found stands is in
-    nameless_links i.mode i.links file.0 ∙ sym (ap is_nameless file.2)
+    nameless_links i.attributes i.links file.0 ∙ sym (ap is_nameless file.2)
 
 pub none_named : (detail : Detail) (disk : ℕ → List ℕ) (inodes : ℕ) (i : Inode) (found : Option Node) → (i.kind ≡ kinds.File → ⊥) → StandsForIn detail inodes (held_content disk i) found → false ≡ is_nameless found
 unfolding held

@@ -15,18 +15,8 @@ ghost use Rattle.replay.specs.declared.costs.TheConstants.{MOST_COST};
 
 use inofile::InodeFile;
 use layout::{BLOCK_BYTES, Kind, Record};
-use model::SINGLE_FILE;
+use model::{FILE_COST, GREAT_FILE_COST, KEPT_BLOCKS, MODE_COST, NAMES_COST, SINGLE_FILE};
 
-/// Blocks that a consistency point may store for a record that changes names.
-const NAMES_COST: u64 = 24;
-/// For one that changes a file's size, and for one that writes to a file, beside two for each block that it touches.
-const FILE_COST: u64 = 6;
-/// For one that writes to a file that is or becomes larger than `SINGLE_FILE`, likewise.
-const GREAT_FILE_COST: u64 = 8;
-/// For one that changes a mode.
-const MODE_COST: u64 = 2;
-/// Blocks that stay free behind a record that adds to the tree.
-const KEPT: u64 = 16;
 /// The most that it may store for one record: for 65,536 bytes, which touch 17 blocks of such a file.
 pub const MOST_COST: u64 = 42;
 
@@ -61,7 +51,7 @@ fn file_size(inodes: &InodeFile, number: u32) -> u64
         Some(object) => object,
         None => return 0,
     };
-    match object.attributes.kind {
+    match object.status.kind {
         Kind::File => object.file.size(),
         _ => 0,
     }
@@ -118,7 +108,7 @@ pub fn keep_of(logged: &Record<'_>, size: u64) -> u64
 {
     match logged {
         Record::Unname { .. } | Record::ChangeMode { .. } => 0,
-        Record::Cut { size: new, .. } => { if size < *new { KEPT } else { 0 } }
-        _ => KEPT,
+        Record::Cut { size: new, .. } => { if size < *new { KEPT_BLOCKS } else { 0 } }
+        _ => KEPT_BLOCKS,
     }
 }

@@ -17,11 +17,9 @@ use crate::sweeping::{count_nameless, drop_nameless};
 use blocktree::ReadError;
 use buffers::Blocks;
 use inofile::InodeFile;
+use model::NAMELESS_COST;
 use oplog::{Log, SavedLog};
 use std::alloc::Global;
-
-/// Blocks that a consistency point may store for a file without a name that the root has.
-const NAMELESS_COST: u64 = 4;
 
 /// What a replay finds.
 #[derive(Debug, Drop)]

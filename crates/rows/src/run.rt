@@ -5,7 +5,7 @@ use crate::fault::Fault;
 use crate::image_verbs::Images;
 use crate::text::{bytes_of, is_one_of, push_text};
 use memory_station::{Keep, Mark, Sim};
-use session::{session, shell};
+use session::{Sink, Source, session, shell};
 use std::alloc::{AllocError, Global};
 
 /// What fails in a run, by the numbers that a station counts.
@@ -140,10 +140,10 @@ impl<'a> Run<'a> {
                 alloc,
                 station,
                 false,
-                &mut self.script.as_slice(),
+                &mut Source::new(self.script.as_slice()),
                 |sim: &Sim| sim.is_cut(),
-                &mut out,
-                &mut err,
+                &mut Sink::new(&mut out),
+                &mut Sink::new(&mut err),
             )
         } else {
             session(
@@ -152,8 +152,8 @@ impl<'a> Run<'a> {
                 &self.script,
                 self.stops,
                 |sim: &Sim| sim.is_cut(),
-                &mut out,
-                &mut err,
+                &mut Sink::new(&mut out),
+                &mut Sink::new(&mut err),
             )
         };
         let images = Images::of(alloc, sim)?;

@@ -8,11 +8,11 @@ ghost use Rattle.script.specs.Verbs.{call_form, change_form, verb_name};
 use crate::ScriptError;
 use crate::fields::{End, Fields, ModeOr, Then};
 use crate::verb::Verb;
-use model::{PathCall, Text};
+use model::{Bytes, PathCall};
 use std::alloc::Global;
 
 /// The call that words spell.
-pub(crate) fn read_call(alloc: Global, words: &[&[u8]]) -> Result<PathCall, ScriptError>
+pub(crate) fn read_call(alloc: Global, words: &[&[u8]]) -> Result<PathCall<'static>, ScriptError>
     ensures { ReadsWords call_words IsPathCallInForm (map (λ word. word.now) words.now) result }
 {
     let [first, fields @ ..] = words else {
@@ -25,7 +25,11 @@ pub(crate) fn read_call(alloc: Global, words: &[&[u8]]) -> Result<PathCall, Scri
 }
 
 /// The call that a first word and those behind it spell.
-fn read_call_behind(alloc: Global, verb: Verb, words: &[&[u8]]) -> Result<PathCall, ScriptError>
+fn read_call_behind(
+    alloc: Global,
+    verb: Verb,
+    words: &[&[u8]],
+) -> Result<PathCall<'static>, ScriptError>
     ensures { ReadsWords call_words IsPathCallInForm
         (verb_name verb ∷ map (λ word. word.now) words.now) result }
 {
@@ -37,7 +41,7 @@ pub(crate) fn read_fields(
     alloc: Global,
     verb: Verb,
     words: &[&[u8]],
-) -> Result<PathCall, ScriptError>
+) -> Result<PathCall<'static>, ScriptError>
     ensures { ReadsFields (call_form verb) call_words IsPathCallInForm (verb_name verb ∷ [])
         (map (λ word. word.now) words.now) result }
 {
@@ -71,13 +75,13 @@ pub(crate) fn read_fields(
 }
 
 /// The changing call that a first word and fields spell.
-fn read_change(alloc: Global, verb: Verb, words: &[&[u8]]) -> Result<PathCall, ScriptError>
+fn read_change(alloc: Global, verb: Verb, words: &[&[u8]]) -> Result<PathCall<'static>, ScriptError>
     ensures { ReadsFields (change_form verb) call_words IsPathCallInForm (verb_name verb ∷ [])
         (map (λ word. word.now) words.now) result }
 {
     match verb {
         Verb::Mkdir => {
-            let Then(path, mode): Then<Text, ModeOr<0o755>> = Fields::read(alloc, words)?;
+            let Then(path, mode): Then<Bytes<'static>, ModeOr<0o755>> = Fields::read(alloc, words)?;
             Ok(PathCall::Mkdir { path, mode: mode.0 })
         }
         Verb::Rmdir => {

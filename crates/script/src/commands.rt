@@ -10,11 +10,11 @@ use crate::calls::{read_call, read_fields};
 use crate::fields::{Data, End, Fields, ModeOr, Then};
 use crate::verb::Verb;
 use crate::words::read_text;
-use model::{Command, Flags, Text};
+use model::{Bytes, Command, Flags};
 use std::alloc::Global;
 
 /// The command that words spell.
-pub(crate) fn read_words(alloc: Global, words: &[&[u8]]) -> Result<Command, ScriptError>
+pub(crate) fn read_words(alloc: Global, words: &[&[u8]]) -> Result<Command<'static>, ScriptError>
     ensures { ReadsWords command_words IsCommandInForm (map (λ word. word.now) words.now) result }
 {
     let [first, fields @ ..] = words else {
@@ -27,7 +27,7 @@ pub(crate) fn read_words(alloc: Global, words: &[&[u8]]) -> Result<Command, Scri
 }
 
 /// The command that a first word and those behind it spell.
-fn read_behind(alloc: Global, verb: Verb, words: &[&[u8]]) -> Result<Command, ScriptError>
+fn read_behind(alloc: Global, verb: Verb, words: &[&[u8]]) -> Result<Command<'static>, ScriptError>
     ensures { ReadsWords command_words IsCommandInForm
         (verb_name verb ∷ map (λ word. word.now) words.now) result }
 {
@@ -42,7 +42,7 @@ fn read_behind(alloc: Global, verb: Verb, words: &[&[u8]]) -> Result<Command, Sc
 }
 
 /// `in`, a snapshot's name and a call that names a path.
-fn read_within(alloc: Global, words: &[&[u8]]) -> Result<Command, ScriptError>
+fn read_within(alloc: Global, words: &[&[u8]]) -> Result<Command<'static>, ScriptError>
     ensures { ReadsWords command_words IsCommandInForm
         (verb_name Verb.In ∷ map (λ word. word.now) words.now) result }
 {
@@ -56,7 +56,7 @@ fn read_within(alloc: Global, words: &[&[u8]]) -> Result<Command, ScriptError>
 }
 
 /// `snap`, and which of its commands it is.
-fn read_snap(alloc: Global, words: &[&[u8]]) -> Result<Command, ScriptError>
+fn read_snap(alloc: Global, words: &[&[u8]]) -> Result<Command<'static>, ScriptError>
     ensures { ReadsWords command_words IsCommandInForm
         (verb_name Verb.Snap ∷ map (λ word. word.now) words.now) result }
 {
@@ -70,7 +70,11 @@ fn read_snap(alloc: Global, words: &[&[u8]]) -> Result<Command, ScriptError>
 }
 
 /// The command that `snap`, a second word and those behind it spell.
-fn read_snapping(alloc: Global, verb: Verb, words: &[&[u8]]) -> Result<Command, ScriptError>
+fn read_snapping(
+    alloc: Global,
+    verb: Verb,
+    words: &[&[u8]],
+) -> Result<Command<'static>, ScriptError>
     ensures { ReadsWords command_words IsCommandInForm
         (verb_name Verb.Snap ∷ verb_name verb ∷ map (λ word. word.now) words.now) result }
 {
@@ -93,9 +97,9 @@ fn read_snapping(alloc: Global, verb: Verb, words: &[&[u8]]) -> Result<Command, 
 }
 
 /// A command that has no fields.
-fn read_alone(command: Command, words: &[&[u8]]) -> Result<Command, ScriptError>
+fn read_alone(command: Command<'static>, words: &[&[u8]]) -> Result<Command<'static>, ScriptError>
     ensures read { IfOk result
-        (λ read. (read ≡ command) × (map (λ word. word.now) words.now ≡ [])) }
+        (λ read. (read ≡ command.entry) × (map (λ word. word.now) words.now ≡ [])) }
     ensures refused { OnErr result (map (λ word. word.now) words.now ≢ []) }
 {
     if words.is_empty() {
@@ -105,13 +109,13 @@ fn read_alone(command: Command, words: &[&[u8]]) -> Result<Command, ScriptError>
 }
 
 /// The command that a first word and its fields spell.
-fn read_plain(alloc: Global, verb: Verb, words: &[&[u8]]) -> Result<Command, ScriptError>
+fn read_plain(alloc: Global, verb: Verb, words: &[&[u8]]) -> Result<Command<'static>, ScriptError>
     ensures { ReadsFields (command_form verb) command_words IsCommandInForm (verb_name verb ∷ [])
         (map (λ word. word.now) words.now) result }
 {
     match verb {
         Verb::Open => {
-            let Then(path, Then(flags, mode)): Then<Text, Then<Flags, ModeOr<0o644>>> =
+            let Then(path, Then(flags, mode)): Then<Bytes<'static>, Then<Flags, ModeOr<0o644>>> =
                 Fields::read(alloc, words)?;
             Ok(Command::Open {
                 path,
@@ -138,7 +142,7 @@ fn read_plain(alloc: Global, verb: Verb, words: &[&[u8]]) -> Result<Command, Scr
 }
 
 /// The command that a first word and its fields spell, one that moves bytes of an open file, or its offset.
-fn read_file(alloc: Global, verb: Verb, words: &[&[u8]]) -> Result<Command, ScriptError>
+fn read_file(alloc: Global, verb: Verb, words: &[&[u8]]) -> Result<Command<'static>, ScriptError>
     ensures { ReadsFields (file_form verb) command_words IsCommandInForm (verb_name verb ∷ [])
         (map (λ word. word.now) words.now) result }
 {

@@ -9,7 +9,7 @@ use crate::ScriptError;
 use crate::flags::{read_flags, read_whence};
 use crate::numbers::{read_count, read_offset};
 use crate::words::{read_data, read_mode, read_text};
-use model::{Flags, Mode, Text, Whence};
+use model::{Bytes, Flags, Mode, Whence};
 use std::alloc::Global;
 
 /// What is spelled by one word.
@@ -48,7 +48,7 @@ pub(crate) struct ModeOr<const DEFAULT: u16>(pub(crate) Mode);
 
 /// Bytes as `write` has them.
 #[derive(Drop)]
-pub(crate) struct Data(pub(crate) Text);
+pub(crate) struct Data(pub(crate) Bytes<'static>);
 
 impl Fields for End {
     ghost form = { end };
@@ -97,12 +97,12 @@ impl<const DEFAULT: u16> Fields for ModeOr<DEFAULT> {
     }
 }
 
-impl Word for Text {
+impl Word for Bytes<'static> {
     ghost kind = { form.text };
 
     ghost value = { λ text. text };
 
-    fn read(alloc: Global, word: &[u8]) -> Result<Text, ScriptError> {
+    fn read(alloc: Global, word: &[u8]) -> Result<Bytes<'static>, ScriptError> {
         read_text(alloc, word)
     }
 }

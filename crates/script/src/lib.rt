@@ -1,7 +1,7 @@
 //! Scripts: each command and each reply is one line of words, one space apart, and has one spelling.
 #![tactic(auto)]
 
-ghost use Rattle.std.specs.Prelude.{◌≡◌, ◌⊎◌, IfOk, IfErr, OnOk};
+ghost use Rattle.std.specs.Prelude.{◌≡◌, ◌⊎◌, IfOk, IfErr};
 ghost use Rattle.model.specs.declared.command.Command.{Command};
 ghost use Rattle.script.specs.Lines.{command_line, IsCommandInForm};
 ghost use Rattle.script.specs.Replies.{reply_line};
@@ -30,7 +30,7 @@ use writing::push_command;
 
 /// The command that a line spells, without the line's end. A command has one spelling; anything else is `NotACommand`, as an
 /// empty line and one that begins with `#` are. `NoMemory` where a growth was refused.
-pub fn read_command(alloc: Global, line: &[u8]) -> Result<Command, ScriptError>
+pub fn read_command(alloc: Global, line: &[u8]) -> Result<Command<'static>, ScriptError>
     ensures spelled { IfOk result (λ command. line.now ≡ command_line command) }
     ensures bounded { IfOk result IsCommandInForm }
     ensures read { (command : Command) → IsCommandInForm command → line.now ≡ command_line command
@@ -41,7 +41,7 @@ pub fn read_command(alloc: Global, line: &[u8]) -> Result<Command, ScriptError>
 }
 
 /// The line that spells a command, without a line's end: `read_command` reads it back. `NoMemory` where a growth was refused.
-pub fn write_command(alloc: Global, command: &Command) -> Result<Vec<u8>, ScriptError>
+pub fn write_command(alloc: Global, command: &Command<'_>) -> Result<Vec<u8>, ScriptError>
     ensures line { IfOk result (λ line. line.items ≡ command_line command.now) }
     ensures error { IfErr result (λ e. e ≡ ScriptError.NoMemory) }
 {

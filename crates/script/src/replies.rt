@@ -1,6 +1,6 @@
 //! The lines of replies.
 
-ghost use Rattle.std.specs.Prelude.{◌≡◌, ◌++◌, OnOk, codes, map};
+ghost use Rattle.std.specs.Prelude.{◌≡◌, ◌++◌, OnOk, map};
 ghost use Rattle.std.specs.Fmt.{decimal};
 ghost use Rattle.script.specs.Lines.{line_of, spaced};
 ghost use Rattle.script.specs.Replies.{kind_word, kind_words, reply_line, size_words, stat_words};

@@ -1,6 +1,6 @@
 //! Writing fields: each is a word behind a space.
 
-ghost use Rattle.std.specs.Prelude.{◌++◌, ◌∷◌, OnOk};
+ghost use Rattle.std.specs.Prelude.{◌++◌, OnOk};
 ghost use Rattle.script.specs.Forms.{end, field, form_words, last_mode, word_of, Form, Kind, Value, Values};
 ghost use Rattle.script.specs.Forms as form;
 ghost use Rattle.script.specs.Lines.{spaced};
@@ -11,7 +11,7 @@ use crate::fields::{End, ModeOr, Then};
 use crate::flags::{push_flags, whence_word};
 use crate::verb::Verb;
 use crate::words::{mode_word, push_data, push_text};
-use model::{Flags, Mode, Text, Whence};
+use model::{Bytes, Flags, Mode, Whence};
 use std::alloc::{AllocError, Global};
 
 /// What one word spells.
@@ -87,7 +87,7 @@ impl<const DEFAULT: u16> SpelledFields for ModeOr<DEFAULT> {
     }
 }
 
-impl Spelled for &Text {
+impl Spelled for &Bytes<'_> {
     ghost kind = { form.text };
 
     ghost value = { λ text. text.now };
@@ -99,9 +99,9 @@ impl Spelled for &Text {
 
 /// Bytes as `write` has them.
 #[derive(Drop)]
-pub(crate) struct DataOf<'a>(pub(crate) &'a Text);
+pub(crate) struct DataOf<'a, 'b>(pub(crate) &'a Bytes<'b>);
 
-impl Spelled for DataOf<'_> {
+impl Spelled for DataOf<'_, '_> {
     ghost kind = { form.bytes };
 
     ghost value = { λ bytes. bytes.0.now };

@@ -1,6 +1,6 @@
 //! The words of a line: texts and modes, each with one spelling.
 
-ghost use Rattle.std.specs.Prelude.{◌≡◌, ◌≢◌, ℕ, List, ◌++◌, ◌<◌, ◌≤◌, ◌+◌, ◌==◌, All, IfOk, OnOk, IfSome, IfNone, IsErrOf, Ok, true, false, map};
+ghost use Rattle.std.specs.Prelude.{◌≡◌, ◌≢◌, ℕ, List, ◌++◌, ◌<◌, ◌≤◌, ◌+◌, ◌==◌, IfOk, OnOk, IfSome, IfNone, IsErrOf, Ok, false, map};
 ghost use Rattle.std.specs.Char.{is_ascii_uppercase};
 ghost use Rattle.std.specs.List.{list_any};
 ghost use Rattle.hex.specs.Hex.{decode_of, encode_lower};
@@ -10,7 +10,7 @@ ghost use Rattle.script.specs.Words.{data_word, is_plain, hex_digit, byte_word, 
 
 use crate::{ScriptError, split_at_byte};
 use hex::FromHexError;
-use model::{Mode, Text};
+use model::{Bytes, Mode};
 use std::alloc::{AllocError, Global};
 
 /// The parts of a line between its spaces.
@@ -78,7 +78,7 @@ fn hex_value(digit: u8) -> Option<u8>
 }
 
 /// The text that a word spells.
-pub(crate) fn read_text(alloc: Global, word: &[u8]) -> Result<Text, ScriptError>
+pub(crate) fn read_text(alloc: Global, word: &[u8]) -> Result<Bytes<'static>, ScriptError>
     ensures value { IfOk result (λ text. word.now ≡ text_word text) }
     ensures bytes { IfOk result AreByteValues }
     ensures refused { IsErrOf result ScriptError.NotACommand
@@ -86,7 +86,7 @@ pub(crate) fn read_text(alloc: Global, word: &[u8]) -> Result<Text, ScriptError>
 {
     let mut bytes = Vec::new(alloc);
     if word == b"%".as_slice() {
-        return Ok(Text::new(bytes));
+        return Ok(Bytes::owned(bytes));
     }
     if word.is_empty() {
         return Err(ScriptError::NotACommand);
@@ -97,7 +97,7 @@ pub(crate) fn read_text(alloc: Global, word: &[u8]) -> Result<Text, ScriptError>
         bytes.push(byte)?;
         rest = behind;
     }
-    Ok(Text::new(bytes))
+    Ok(Bytes::owned(bytes))
 }
 
 /// The byte that a word begins with, and what stands behind it.
@@ -171,16 +171,16 @@ fn octal_value(digit: u8) -> Option<u16>
 }
 
 /// The bytes that a word spells: two lower-case hexadecimal digits each, or `-` for none.
-pub(crate) fn read_data(alloc: Global, word: &[u8]) -> Result<Text, ScriptError>
+pub(crate) fn read_data(alloc: Global, word: &[u8]) -> Result<Bytes<'static>, ScriptError>
     ensures { ReadsWord bytes (λ b. b) word.now result }
 {
     if word == b"-".as_slice() {
-        return Ok(Text::new(Vec::new(alloc)));
+        return Ok(Bytes::owned(Vec::new(alloc)));
     }
     if word.is_empty() || has_capital(word) {
         return Err(ScriptError::NotACommand);
     }
-    Ok(Text::new(decode(alloc, word)?))
+    Ok(Bytes::owned(decode(alloc, word)?))
 }
 
 /// Whether one of these bytes is a capital letter.

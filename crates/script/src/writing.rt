@@ -1,6 +1,6 @@
 //! The lines of commands.
 
-ghost use Rattle.std.specs.Prelude.{◌≡◌, ◌∷◌, ◌++◌, OnOk};
+ghost use Rattle.std.specs.Prelude.{◌∷◌, OnOk};
 ghost use Rattle.script.specs.Forms.{form_words};
 ghost use Rattle.script.specs.Lines.{call_words, command_line, line_of};
 ghost use Rattle.script.specs.Verbs.{verb_name};
@@ -10,14 +10,14 @@ use crate::fields::{End, ModeOr, Then};
 use crate::spelling::{DataOf, SpelledFields, push_fields};
 use crate::verb::Verb;
 use crate::words::push_text;
-use model::{Command, PathCall, Text};
+use model::{Bytes, Command, PathCall};
 use std::alloc::{AllocError, Global};
 
 /// Adds a command's line.
 pub(crate) fn push_command(
     alloc: Global,
     line: &mut Vec<u8>,
-    command: &Command,
+    command: &Command<'_>,
 ) -> Result<(), AllocError>
     ensures { OnOk result (AddsText line.old line.new (command_line command.now)) }
 {
@@ -84,8 +84,8 @@ fn push_snap<F: SpelledFields>(
 fn push_within(
     alloc: Global,
     line: &mut Vec<u8>,
-    name: &Text,
-    call: &PathCall,
+    name: &Bytes<'_>,
+    call: &PathCall<'_>,
 ) -> Result<(), AllocError>
     ensures { OnOk result (AddsText line.old line.new
         (line_of (verb_name Verb.In ∷ text_word name.now ∷ call_words call.now))) }
@@ -97,7 +97,7 @@ fn push_within(
 }
 
 /// Adds the line of a call that names a path.
-fn push_call(alloc: Global, line: &mut Vec<u8>, call: &PathCall) -> Result<(), AllocError>
+fn push_call(alloc: Global, line: &mut Vec<u8>, call: &PathCall<'_>) -> Result<(), AllocError>
     ensures { OnOk result (AddsText line.old line.new (line_of (call_words call.now))) }
 {
     match call {

@@ -1,6 +1,6 @@
 -- Commands done one after the other, and what is shown of them.
 use Rattle.std.proofs.Common.{◌≡◌, inl, inr, ℕ, ◌+◌, ◌*◌, ◌<◌, ◌≤◌, ◌^◌, ◌-◌, Bool, true, List, [], ◌∷◌, ◌++◌, length, length-drop, take, drop, Option, Some, None, arith, refl, sym, ◌∙◌, ap, subst, append_assoc}
-use Rattle.std.specs.Io.KnownBytes.{Appends}
+use Rattle.std.specs.Io.KnownBytes.{Appends, Keeps}
 use Rattle.std.proofs.lemmas.Grind.{flat_map-append}
 use Rattle.std.proofs.lemmas.List.{length-append, append-nil, take_all}
 use Rattle.std.proofs.Math.Seq.{take-add}
@@ -27,6 +27,19 @@ appends_twice None b c xs ys first second = tt
 appends_twice (Some x) None c xs ys first second = absurd first
 appends_twice (Some x) (Some y) None xs ys first second = absurd second
 appends_twice (Some x) (Some y) (Some z) xs ys first second = second ∙ ap (λ l. l ++ ys) first ∙ append_assoc x xs ys
+
+-- a call that failed before kept known bytes
+pub appends_kept : (a b c : Option (List ℕ)) (xs : List ℕ) → Keeps a b → Appends b c xs → Appends a c xs
+appends_kept None b c xs kept appends = tt
+appends_kept (Some x) None c xs kept appends = absurd kept
+appends_kept (Some x) (Some y) None xs kept appends = absurd appends
+appends_kept (Some x) (Some y) (Some z) xs kept appends = appends ∙ ap (λ l. l ++ xs) kept
+
+pub kept_none : (a b c : Option (List ℕ)) → Keeps a b → Appends b c [] → Keeps a c
+kept_none None b c kept appends = tt
+kept_none (Some x) None c kept appends = absurd kept
+kept_none (Some x) (Some y) None kept appends = absurd appends
+kept_none (Some x) (Some y) (Some z) kept appends = appends ∙ append-nil y ∙ kept
 
 -- some of the bytes that are left were written
 pub more_written : (o a b : Option (List ℕ)) (bytes : List ℕ) (at count : ℕ) → at ≤ length bytes → count ≤ length (take (length bytes - at) (drop at bytes)) → Appends o a (take at bytes)

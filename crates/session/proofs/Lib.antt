@@ -3,4 +3,3 @@ mod AnswerLemmas
 mod ReadingLemmas
 mod RunLemmas
 mod ShellLemmas
-mod SessionLemmas

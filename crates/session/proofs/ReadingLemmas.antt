@@ -136,6 +136,21 @@ module _ (known : Option (List ℕ)) (p : List ℕ) (r : Option (List ℕ)) (is_
           inl (consumes ∙ ap (λ l. all ++ l) (ap (λ l. l ++ xs) (sym (take-append-drop i q) ∙ ap (λ l. take i q ++ l) ends) ∙ append_assoc (take i q) (10 ∷ drop (i + 1) q) xs)
           ∙ sym (append_assoc all (take i q) (10 ∷ (drop (i + 1) q ++ xs))))
 
+  -- or the input ends
+  pub skipped_all : q ≡ [] → IsAtEnd s → (line : List ℕ) × TakesLine known (prepend_known q s) line × IsHeardAs line (TooLong is_comment)
+  skipped_all none end = (
+    all,
+    record { plain = so_far.plain; loses = loses_all known s (all_gone known p r (prepend_known q s) so_far.gone so_far.consumes kept) end },
+    (so_far.long, so_far.comment),
+  )
+    where
+      loses_all : (k t : Option (List ℕ)) → Consumes k (prepend_known q t) all → IsAtEnd t → Loses k (prepend_known q t) all
+      loses_all None t consumes end = tt
+      loses_all (Some x) None consumes end = absurd consumes
+      loses_all (Some x) (Some xs) consumes end =
+          let rest : q ++ xs ≡ [] = ap (λ (l : List ℕ). l ++ xs) none ∙ end in
+          inr (consumes ∙ ap (λ (l : List ℕ). all ++ l) rest ∙ append-nil all, rest, λ is. omega (arith, some, ap (λ (l : List ℕ). length l) is))
+
 at_end : (k : Option (List ℕ)) (p : List ℕ) (r : Option (List ℕ)) → Keeps k (prepend_known p r) → IsAtEnd r → p ≡ [] → IsAtEnd k
 at_end None p r kept end none = tt
 at_end (Some x) p None kept end none = absurd kept
@@ -158,3 +173,10 @@ ends_rest k p q r (Some heard) kept end plain empty rest = (
 pub known_none : (r : Option (List ℕ)) → prepend_known [] r ≡ r
 known_none None = refl
 known_none (Some xs) = refl
+
+-- a call that failed before kept known bytes
+pub consumes_kept : (a b c : Option (List ℕ)) (bs : List ℕ) → Keeps a b → Consumes b c bs → Consumes a c bs
+consumes_kept None b c bs kept consumes = tt
+consumes_kept (Some x) None c bs kept consumes = absurd kept
+consumes_kept (Some x) (Some y) None bs kept consumes = absurd consumes
+consumes_kept (Some x) (Some y) (Some z) bs kept consumes = sym kept ∙ consumes

@@ -1,5 +1,5 @@
 -- How a session ends: what its status says of the script, of the station, of what is shown and of what is told.
-use Rattle.std.specs.Prelude.{ℕ, ◌≡◌, ◌≢◌, ◌∷◌, ◌++◌, Bool, true, false, List, [], Option, All, codes, length, map, take}
+use Rattle.std.specs.Prelude.{ℕ, ◌≡◌, ◌≢◌, ◌⊎◌, ◌∷◌, ◌++◌, Bool, true, false, IsFalse, List, [], Option, All, codes, length, map, take}
 use Rattle.std.specs.Io.KnownBytes.{Appends}
 use Rattle.model.specs.declared.command.Command.{Command}
 use Rattle.model.specs.declared.reply.Reply.{Reply}
@@ -7,9 +7,10 @@ use Rattle.model.specs.States.{State, Forgets}
 use Rattle.station.specs.Images.{Unchanged}
 use Rattle.station.specs.Moments.{Meaning, Goes}
 use Rattle.station.specs.declared.station.Station.{Ghosts}
+use Rattle.images.specs.Faults.{HasNoFault}
 use Rattle.loading.specs.Slots.{HasNoRoot}
 use Rattle.system.specs.Images.{OpensTo}
-use Rattle.system.specs.Opening.{HasFailed}
+use Rattle.system.specs.Opening.{HasFailed, HasNewest}
 use Rattle.system.specs.Systems.{meaning_of}
 use Rattle.mount.specs.Systems.{mounted, Serves}
 use Rattle.mount.specs.declared.error.MountError.{MountError}
@@ -31,13 +32,21 @@ pub record RunsOn {S : Type 0} {G : Ghosts S} (fs : Fs S G) (new : S) (steps : L
   pub station : last.system.blocks.buffers.station ≡ new
   pub done : HasDone fs last steps
 
--- What a session promises of a run, all in the words of `mount` and `Fs::apply`: a mount left all that a cut could leave before, and of
--- a station that opened to a state it found that state without its open files; from there the commands ran with these replies.
+-- What `mount` promises of a file system that it opened over a station of this meaning: all that a cut
+-- could leave stayed, it goes on, of a station that opened to a state it found that state without its
+-- open files, and whatever else the station holds, it took the newest root and the log over it.
+pub record IsMounted {S : Type 0} {G : Ghosts S} (old : Meaning) (fs : Fs S G) : Type 0 where
+  pub goes : Goes Unchanged old (meaning_of fs.system)
+  pub going : IsFalse fs.has_failed
+  pub finds : old.is_honest → (s : State) → OpensTo old s old.seen
+      → (t : State) × Forgets s t × Serves (mounted fs t)
+  pub found : old.is_honest → HasNewest old fs.system.slot fs.system.root fs.system.log
+
+-- What a session promises of a run, all in the words of `mount` and `Fs::apply`: a file system was mounted,
+-- and from there the commands ran with these replies.
 pub record Ran {S : Type 0} (G : Ghosts S) (old new : S) (steps : List (Command × Reply)) : Type 0 where
   pub fs : Fs S G
-  pub goes : Goes Unchanged (G.meaning old) (meaning_of fs.system)
-  pub finds : (G.meaning old).is_honest → (s : State) → OpensTo (G.meaning old) s (G.meaning old).seen
-      → (t : State) × Forgets s t × Serves (mounted fs t)
+  pub is_mounted : IsMounted (G.meaning old) fs
   pub runs : RunsOn fs new steps
 
 -- the commands of steps
@@ -87,12 +96,19 @@ mount_fault error.Device = codes "wafl: mount DEVICE\n"
 mount_fault error.NoRoot = codes "wafl: mount NOROOT\n"
 mount_fault error.Damaged = codes "wafl: mount DAMAGED\n"
 
--- why a mount may be refused that led from the one meaning to the other; of memory nothing is known
-abbrev pub IsRefusal : Meaning → Meaning → MountError → Type 0
-IsRefusal old new error.NoMemory = Unit {0}
-IsRefusal old new error.Device = HasFailed old new
-IsRefusal old new error.NoRoot = old.is_honest → HasNoRoot old.sectors old.seen.disk
-IsRefusal old new error.Damaged = old.is_honest → (s : State) → OpensTo old s old.seen → ⊥
+-- Why a mount that led from the one meaning to the other was refused, all that `mount` promises of it:
+-- `Device` where a call failed, `NoRoot` where there is no root. Where there is none, where no fault
+-- stands in the images, and where they open to a state, no other errors come than these. Of memory
+-- nothing is known.
+pub record IsRefusal (old new : Meaning) (e : MountError) : Type 0 where
+  pub device : e ≡ error.Device → HasFailed old new
+  pub no_root : old.is_honest → e ≡ error.NoRoot → HasNoRoot old.sectors old.seen.disk
+  pub rootless : old.is_honest → HasNoRoot old.sectors old.seen.disk
+      → (e ≡ error.NoRoot) ⊎ (e ≡ error.Device)
+  pub faultless : old.is_honest → HasNoFault old.sectors old.seen.disk old.seen.nvram
+      → (e ≡ error.NoMemory) ⊎ (e ≡ error.Device)
+  pub opens : old.is_honest → (s : State) → OpensTo old s old.seen
+      → (e ≡ error.NoMemory) ⊎ (e ≡ error.Device)
 
 -- a station wasn't mounted, for this reason, and a cut leaves what it might have left before
 pub record IsNotMounted (script : List ℕ) (old new : Meaning) (e : MountError) : Type 0 where
@@ -145,3 +161,8 @@ pub record EndsUnrun {S : Type 0} (G : Ghosts S) (script : List ℕ) (old new : 
 abbrev pub EndsWith : {S : Type 0} (G : Ghosts S) → List ℕ → Bool → (Bool → Type 0) → S → S → Written → Written → Ending → Type 0
 EndsWith G script stops was_cut old new w w' (ending.Ran status) = EndsRan G script stops was_cut old new w w' status
 EndsWith G script stops was_cut old new w w' (ending.Unrun fault status) = EndsUnrun G script old new w w' fault status
+
+-- A session ended with `FileFault` only where the one holds, if commands ran, or the other, if none did.
+abbrev pub FaultHasCause : Type 0 → Type 0 → Ending → Type 0
+FaultHasCause ran unrun (ending.Ran status) = status ≡ FileFault → ran
+FaultHasCause ran unrun (ending.Unrun fault status) = status ≡ FileFault → unrun

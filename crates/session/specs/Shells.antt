@@ -4,19 +4,15 @@ use Rattle.std.specs.List.{flat_map}
 use Rattle.std.specs.Io.KnownBytes.{Appends, IsAtEnd, Keeps}
 use Rattle.model.specs.declared.command.Command.{Command}
 use Rattle.model.specs.declared.reply.Reply.{Reply}
-use Rattle.model.specs.States.{State, Forgets}
 use Rattle.station.specs.Images.{Unchanged}
 use Rattle.station.specs.Moments.{Goes}
 use Rattle.station.specs.declared.station.Station.{Ghosts}
-use Rattle.system.specs.Images.{OpensTo}
-use Rattle.system.specs.Systems.{meaning_of}
-use Rattle.mount.specs.Systems.{mounted, Serves}
 use Rattle.mount.specs.declared.error.MountError.{MountError}
 use Rattle.mount.specs.declared.fs.Fs.{Fs}
 use Rattle.session.specs.Answers.{cut_line, shown, HasDone, IsAnsweredBy, IsDue}
 use Rattle.session.specs.Reading.{TakesLine}
 use Rattle.session.specs.Scripts.{is_skipped, IsBadLine, IsLineOf}
-use Rattle.session.specs.Sessions.{EndsTelling, IsRefusal, Written}
+use Rattle.session.specs.Sessions.{EndsTelling, IsMounted, IsRefusal, Written}
 use Rattle.session.specs.declared.ending.Ending.{Ending}
 use Rattle.session.specs.declared.ending.Ending.TheVariants as ending
 use Rattle.session.specs.declared.ending.Fault.TheVariants as fault
@@ -110,9 +106,7 @@ EndsListening {S} {G} first fs was_cut input out out' status =
 -- The station was mounted, and lines were answered: all in the words of `mount` and `Fs::apply`. Nothing was told but prompts.
 pub record HasListened {S : Type 0} (G : Ghosts S) (prompts : Bool) (was_cut : Bool → Type 0) (old new : S) (input : Option (List ℕ)) (w w' : Written) (status : Status) : Type 0 where
   pub fs : Fs S G
-  pub goes : Goes Unchanged (G.meaning old) (meaning_of fs.system)
-  pub finds : (G.meaning old).is_honest → (s : State) → OpensTo (G.meaning old) s (G.meaning old).seen
-      → (t : State) × Forgets s t × Serves (mounted fs t)
+  pub is_mounted : IsMounted (G.meaning old) fs
   pub last : Fs S G
   pub station : last.system.blocks.buffers.station ≡ new
   pub ends : EndsListening fs last was_cut input w.out w'.out status

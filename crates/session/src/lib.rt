@@ -9,6 +9,7 @@ mod lines;
 mod reading;
 mod running;
 mod status;
+mod streams;
 mod telling;
 
 pub use ending::{Ending, Fault};
@@ -16,3 +17,4 @@ pub use line_by_line::shell;
 pub use reading::LINE_BYTES;
 pub use running::session;
 pub use status::Status;
+pub use streams::{Sink, Source};

@@ -1,16 +1,17 @@
 //! A session over lines that are read one by one: each is answered before the next is read.
 
 ghost use Rattle.std.specs.Fn.{FnReturnsAt};
-ghost use Rattle.std.specs.Prelude.{◌≡◌, List, ℕ, false};
+ghost use Rattle.std.specs.Prelude.{◌≡◌, ◌⊎◌, List, ℕ, IsErrOf, IsTrue, false};
 ghost use Rattle.session.specs.Reading.{IsHeardAs};
-ghost use Rattle.session.specs.Sessions.{written_out};
+ghost use Rattle.session.specs.Sessions.{written_out, FaultHasCause};
 ghost use Rattle.session.specs.Shells.{AnswersLine, EndsListening, EndsShell, EndsBad};
 
-use crate::answering::{Closed, answer, show_cut, write_whole};
+use crate::answering::{answer, show_cut, write_whole};
 use crate::lines::read_line;
 use crate::reading::{Heard, next_line};
+use crate::streams::Closed;
 use crate::telling::tell;
-use crate::{Ending, Fault, Status};
+use crate::{Ending, Fault, Sink, Source, Status};
 use mount::{Fs, mount};
 use script::ScriptError;
 use station::Station;
@@ -24,23 +25,26 @@ use std::io::{Read, Write};
 /// `LINE_BYTES` bytes, is answered `err BADLINE`, and nothing is done. `was_cut` as of `session`. Where `prompts` is true, a
 /// greeting and a prompt before each line go to `err`. How it ended:
 /// - `Ran` with `Done`: the input ended; with `Cut`: the power was cut;
-/// - `Ran` with `FileFault`: `out` can't be written, or `input` can't be read; `NoMemory`: for a line or its reply. No
-///   line was read behind the first one that isn't answered whole;
+/// - `Ran` with `FileFault`: `out` can't be written, or `input` can't be read; `NoMemory`: for a line or its reply, or
+///   behind 2^64 - 1 lines, or reads of one line. No line was read behind the first one that isn't answered whole;
 /// - `Unrun`: the station isn't mounted, and no line was read; statuses as of `session`.
 pub fn shell<S: Station, C: Fn(&S) -> bool, R: Read, O: Write, E: Write>(
     alloc: Global,
     station: S,
     prompts: bool,
-    input: &mut R,
+    input: &mut Source<R>,
     was_cut: C,
-    out: &mut O,
-    err: &mut E,
+    out: &mut Sink<O>,
+    err: &mut Sink<E>,
 ) -> (Ending, S)
     requires { C.IsAlwaysCallable was_cut }
-    ensures { EndsShell S.Station prompts (FnReturnsAt C.Fn was_cut result.1) station result.1
-        (R.remaining input.old) (R.remaining input.new)
-        (written_out (O.contents out.old) (E.contents err.old))
-        (written_out (O.contents out.new) (E.contents err.new)) result.0 }
+    ensures ends { EndsShell S.Station prompts (FnReturnsAt C.Fn was_cut result.1) station result.1
+        (R.remaining input.old.inner) (R.remaining input.new.inner)
+        (written_out (O.contents out.old.inner) (E.contents err.old.inner))
+        (written_out (O.contents out.new.inner) (E.contents err.new.inner)) result.0 }
+    // A file's fault is told only where a write failed, of an answer or of why no line is read, or a read.
+    ensures fault { FaultHasCause (IsTrue out.new.has_failed ⊎ IsTrue input.new.has_failed)
+        (IsTrue err.new.has_failed) result.0 }
 {
     match mount(alloc, station) {
         Ok(mut fs) => {
@@ -59,16 +63,18 @@ fn answer_lines<S: Station, C: Fn(&S) -> bool, R: Read, O: Write, E: Write>(
     alloc: Global,
     fs: &mut Fs<S>,
     prompts: bool,
-    input: &mut R,
+    input: &mut Source<R>,
     was_cut: &C,
-    out: &mut O,
-    err: &mut E,
+    out: &mut Sink<O>,
+    err: &mut Sink<E>,
 ) -> Status
     requires { C.IsAlwaysCallable was_cut.now }
     ensures ends { EndsListening fs.old fs.new
-        (FnReturnsAt C.Fn was_cut.now fs.new.system.blocks.buffers.station) (R.remaining input.old)
-        (O.contents out.old) (O.contents out.new) result }
-    ensures quiet { prompts ≡ false → E.contents err.new ≡ E.contents err.old }
+        (FnReturnsAt C.Fn was_cut.now fs.new.system.blocks.buffers.station) (R.remaining input.old.inner)
+        (O.contents out.old.inner) (O.contents out.new.inner) result }
+    ensures fault { result ≡ Status.FileFault
+        → IsTrue out.new.has_failed ⊎ IsTrue input.new.has_failed }
+    ensures quiet { prompts ≡ false → E.contents err.new.inner ≡ E.contents err.old.inner }
 {
     fs.begins();
     if was_cut(fs.station()) {
@@ -87,7 +93,8 @@ fn answer_lines<S: Station, C: Fn(&S) -> bool, R: Read, O: Write, E: Write>(
             return status;
         }
     }
-    Status::FileFault
+    // The counter came to its end, which is a want of room like that of memory.
+    Status::NoMemory
 }
 
 /// What is told before the first line, and before each, where somebody types them.
@@ -96,11 +103,11 @@ const GREETING: &str = "wafl: one command a line, as mkdir /a or list /; end wit
 const PROMPT: &str = "wafl> ";
 
 /// Prompts, where that is asked for. Where it can't be written the lines are answered all the same.
-fn prompt<E: Write>(prompts: bool, text: &str, err: &mut E)
-    ensures { prompts ≡ false → E.contents err.new ≡ E.contents err.old }
+fn prompt<E: Write>(prompts: bool, text: &str, err: &mut Sink<E>)
+    ensures { prompts ≡ false → E.contents err.new.inner ≡ E.contents err.old.inner }
 {
     if prompts {
-        let _ = err.write_all(text.as_bytes());
+        let _ = write_whole(err, text.as_bytes());
     }
 }
 
@@ -110,13 +117,14 @@ fn answer_heard<S: Station, C: Fn(&S) -> bool, O: Write>(
     fs: &mut Fs<S>,
     heard: &Heard,
     was_cut: &C,
-    out: &mut O,
+    out: &mut Sink<O>,
 ) -> Result<(), Status>
     requires { C.IsAlwaysCallable was_cut.now }
-    ensures { (line : List ℕ) → IsHeardAs line heard.now → AnswersLine fs.old fs.new line
+    ensures answers { (line : List ℕ) → IsHeardAs line heard.now → AnswersLine fs.old fs.new line
         (FnReturnsAt C.Fn was_cut.now fs.old.system.blocks.buffers.station)
         (FnReturnsAt C.Fn was_cut.now fs.new.system.blocks.buffers.station)
-        (O.contents out.old) (O.contents out.new) result }
+        (O.contents out.old.inner) (O.contents out.new.inner) result }
+    ensures fault { IsErrOf result Status.FileFault → IsTrue out.new.has_failed }
 {
     match heard {
         Heard::TooLong(is_comment) => show_bad(*is_comment, out),
@@ -133,8 +141,9 @@ fn answer_heard<S: Station, C: Fn(&S) -> bool, O: Write>(
 }
 
 /// Answers a line that is no command, unless it is a comment.
-fn show_bad<O: Write>(is_comment: bool, out: &mut O) -> Result<(), Status>
-    ensures { EndsBad is_comment (O.contents out.old) (O.contents out.new) result }
+fn show_bad<O: Write>(is_comment: bool, out: &mut Sink<O>) -> Result<(), Status>
+    ensures shows { EndsBad is_comment (O.contents out.old.inner) (O.contents out.new.inner) result }
+    ensures fault { IsErrOf result Status.FileFault → IsTrue out.new.has_failed }
 {
     if is_comment {
         return Ok(());

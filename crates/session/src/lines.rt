@@ -9,7 +9,7 @@ use script::{ScriptError, read_command, split_at_byte};
 use std::alloc::{AllocError, Global};
 
 /// The commands of a script's lines, but for empty lines and those that begin with `#`.
-pub(crate) fn read_script(alloc: Global, script: &[u8]) -> Result<Vec<Command>, Fault>
+pub(crate) fn read_script(alloc: Global, script: &[u8]) -> Result<Vec<Command<'static>>, Fault>
     ensures commands { IfOk result (λ commands. IsScriptOf script.now commands.items) }
     ensures fault { IfErr result (IsScriptFault script.now) }
 {
@@ -27,7 +27,7 @@ pub(crate) fn read_script(alloc: Global, script: &[u8]) -> Result<Vec<Command>, 
 }
 
 /// The command that a line is, or none where the line is skipped.
-pub(crate) fn read_line(alloc: Global, line: &[u8]) -> Result<Option<Command>, ScriptError>
+pub(crate) fn read_line(alloc: Global, line: &[u8]) -> Result<Option<Command<'static>>, ScriptError>
     ensures command { IfOk result (IsLineOf line.now) }
     ensures bad { IsErrOf result ScriptError.NotACommand → IsBadLine line.now }
 {

@@ -1,13 +1,14 @@
 //! Lines of input, read one by one in bounded memory.
 
-ghost use Rattle.std.specs.Prelude.{◌≡◌, ◌≢◌, ◌+◌, ◌<◌, ◌≤◌, ◌∷◌, ◌++◌, [], List, ℕ, Bool, true, false, IfOk, IfErr, IfSome, IsNone, OnOk, MatchOption, drop, length, take};
+ghost use Rattle.std.specs.Prelude.{◌≡◌, ◌≢◌, ◌+◌, ◌<◌, ◌≤◌, ◌∷◌, ◌++◌, [], List, ℕ, Bool, true, false, IfOk, IfErr, IfSome, IsErrOf, IsNone, IsTrue, OnOk, MatchOption, drop, length, take};
 ghost use Rattle.std.specs.Io.KnownBytes.{prepend_known, Keeps, IsAtEnd};
 ghost use Rattle.session.specs.Reading.{EndsReading, IsHeardAs, IsPlain, IsInputFault, TakesLine};
 
-use crate::Status;
 use crate::lines::is_skipped;
+use crate::streams::Closed;
+use crate::{Source, Status};
 use memchr::memchr;
-use std::io::{ErrorKind, Read};
+use std::io::Read;
 use std::mem;
 
 /// The bytes of the longest line that is read as a command, without its end: a `pwrite` of 65,536 bytes has 131,072 digits.
@@ -27,11 +28,12 @@ pub(crate) enum Heard {
 /// The next line of what is pending and of what a reader gives behind that; None at the end. An empty line behind the last
 /// line's end is none.
 pub(crate) fn next_line<R: Read>(
-    input: &mut R,
+    input: &mut Source<R>,
     pending: &mut Vec<u8>,
 ) -> Result<Option<Heard>, Status>
-    ensures { EndsReading (prepend_known pending.old.items (R.remaining input.old))
-        (prepend_known pending.new.items (R.remaining input.new)) result }
+    ensures line { EndsReading (prepend_known pending.old.items (R.remaining input.old.inner))
+        (prepend_known pending.new.items (R.remaining input.new.inner)) result }
+    ensures failed { IsErrOf result Status.FileFault → IsTrue input.new.has_failed }
 {
     // No line ends in so many of the pending bytes: they were looked through before.
     let mut plain = 0;
@@ -55,7 +57,8 @@ pub(crate) fn next_line<R: Read>(
             Err(status) => return Err(status),
         }
     }
-    Err(Status::FileFault)
+    // The counter came to its end, which is a want of room like that of memory.
+    Err(Status::NoMemory)
 }
 
 /// What a whole line is read as.
@@ -96,7 +99,7 @@ fn take_line(pending: &mut Vec<u8>, end: usize) -> Result<Vec<u8>, Status>
     requires { end < length pending.old.items }
     ensures line { IfOk result (λ line. line.items ≡ take end pending.old.items) }
     ensures rest { OnOk result (pending.new.items ≡ drop (end + 1) pending.old.items) }
-    ensures memory { IfErr result IsInputFault }
+    ensures memory { IfErr result (λ status. status ≡ Status.NoMemory) }
 {
     let Ok(rest) = pending.split_off(end + 1) else {
         return Err(Status::NoMemory);
@@ -121,13 +124,14 @@ fn take_rest(pending: &mut Vec<u8>) -> Option<Heard>
 }
 
 /// Reads the rest of a line that is too long, and keeps none of it.
-fn skip_line<R: Read>(input: &mut R, pending: &mut Vec<u8>) -> Result<Heard, Status>
+fn skip_line<R: Read>(input: &mut Source<R>, pending: &mut Vec<u8>) -> Result<Heard, Status>
     requires long { LINE_BYTES < length pending.old.items }
     requires plain { IsPlain pending.old.items }
     ensures line { IfOk result (λ heard. (line : List ℕ) × TakesLine
-        (prepend_known pending.old.items (R.remaining input.old))
-        (prepend_known pending.new.items (R.remaining input.new)) line × IsHeardAs line heard) }
+        (prepend_known pending.old.items (R.remaining input.old.inner))
+        (prepend_known pending.new.items (R.remaining input.new.inner)) line × IsHeardAs line heard) }
     ensures fault { IfErr result IsInputFault }
+    ensures failed { IsErrOf result Status.FileFault → IsTrue input.new.has_failed }
 {
     let is_comment = is_skipped(pending);
     for _ in 0..u64::MAX {
@@ -144,17 +148,19 @@ fn skip_line<R: Read>(input: &mut R, pending: &mut Vec<u8>) -> Result<Heard, Sta
             return Ok(Heard::TooLong(is_comment));
         }
     }
-    Err(Status::FileFault)
+    // The counter came to its end, which is a want of room like that of memory.
+    Err(Status::NoMemory)
 }
 
 /// Reads some more bytes behind those that are pending. Whether there were any.
-fn read_more<R: Read>(input: &mut R, pending: &mut Vec<u8>) -> Result<bool, Status>
-    ensures kept { OnOk result (Keeps (prepend_known pending.old.items (R.remaining input.old))
-        (prepend_known pending.new.items (R.remaining input.new))) }
+fn read_more<R: Read>(input: &mut Source<R>, pending: &mut Vec<u8>) -> Result<bool, Status>
+    ensures kept { OnOk result (Keeps (prepend_known pending.old.items (R.remaining input.old.inner))
+        (prepend_known pending.new.items (R.remaining input.new.inner))) }
     ensures more { OnOk result ((bytes : List ℕ) × (pending.new.items ≡ pending.old.items ++ bytes)) }
     ensures end { IfOk result (λ more. more ≡ false
-        → (pending.new.items ≡ pending.old.items) × IsAtEnd (R.remaining input.new)) }
+        → (pending.new.items ≡ pending.old.items) × IsAtEnd (R.remaining input.new.inner)) }
     ensures fault { IfErr result IsInputFault }
+    ensures failed { IsErrOf result Status.FileFault → IsTrue input.new.has_failed }
 {
     let mut chunk = [0_u8; CHUNK_BYTES];
     match input.read(&mut chunk) {
@@ -163,8 +169,6 @@ fn read_more<R: Read>(input: &mut R, pending: &mut Vec<u8>) -> Result<bool, Stat
             Ok(()) => Ok(true),
             Err(_) => Err(Status::NoMemory),
         },
-        // A signal came in between: nothing was read.
-        Err(error) if error.kind() == ErrorKind::Interrupted => Ok(true),
-        Err(_) => Err(Status::FileFault),
+        Err(Closed) => Err(Status::FileFault),
     }
 }

@@ -1,16 +1,16 @@
 //! A session over a script: it is read and tested whole, and then run.
 
 ghost use Rattle.std.specs.Fn.{FnReturnsAt};
-ghost use Rattle.std.specs.Prelude.{◌≡◌, ◌⊎◌, ◌&&◌};
+ghost use Rattle.std.specs.Prelude.{◌≡◌, ◌⊎◌, ◌&&◌, IsTrue};
 ghost use Rattle.session.specs.Answers.{is_refusal};
 ghost use Rattle.session.specs.Scripts.{HasBadLine};
-ghost use Rattle.session.specs.Sessions.{EndsRun, EndsRunning, EndsWith, written_out};
+ghost use Rattle.session.specs.Sessions.{EndsRun, EndsRunning, EndsWith, FaultHasCause, written_out};
 ghost use Rattle.session.specs.Statuses.{status_number, status_of};
 
 use crate::answering::{answer, is_refusal, show_cut};
 use crate::lines::read_script;
 use crate::telling::tell;
-use crate::{Ending, Fault, Status};
+use crate::{Ending, Fault, Sink, Status};
 use model::{Command, Reply};
 use mount::{Fs, mount};
 use station::Station;
@@ -36,8 +36,8 @@ pub fn session<S: Station, C: Fn(&S) -> bool, O: Write, E: Write>(
     script: &[u8],
     stops: bool,
     was_cut: C,
-    out: &mut O,
-    err: &mut E,
+    out: &mut Sink<O>,
+    err: &mut Sink<E>,
 ) -> (Ending, S)
     requires { C.IsAlwaysCallable was_cut }
     // A script with a bad line isn't run, and the station is as it was.
@@ -46,8 +46,10 @@ pub fn session<S: Station, C: Fn(&S) -> bool, O: Write, E: Write>(
         ⊎ (status_number (status_of result.0) ≡ 7)) }
     ensures ends { EndsWith S.Station script.now stops (FnReturnsAt C.Fn was_cut result.1)
         station result.1
-        (written_out (O.contents out.old) (E.contents err.old))
-        (written_out (O.contents out.new) (E.contents err.new)) result.0 }
+        (written_out (O.contents out.old.inner) (E.contents err.old.inner))
+        (written_out (O.contents out.new.inner) (E.contents err.new.inner)) result.0 }
+    // A file's fault is told only where a write failed: of a reply, or of why nothing is run.
+    ensures fault { FaultHasCause (IsTrue out.new.has_failed) (IsTrue err.new.has_failed) result.0 }
 {
     let commands = match read_script(alloc, script) {
         Ok(commands) => commands,
@@ -76,14 +78,15 @@ pub fn session<S: Station, C: Fn(&S) -> bool, O: Write, E: Write>(
 fn run_mounted<S: Station, C: Fn(&S) -> bool, O: Write>(
     alloc: Global,
     mut fs: Fs<S>,
-    commands: &[Command],
+    commands: &[Command<'_>],
     stops: bool,
     was_cut: &C,
-    out: &mut O,
+    out: &mut Sink<O>,
 ) -> (Status, S)
     requires { C.IsAlwaysCallable was_cut.now }
-    ensures { EndsRun fs commands.now stops (FnReturnsAt C.Fn was_cut.now result.1) result.1
-        (O.contents out.old) (O.contents out.new) result.0 }
+    ensures ends { EndsRun fs commands.now stops (FnReturnsAt C.Fn was_cut.now result.1) result.1
+        (O.contents out.old.inner) (O.contents out.new.inner) result.0 }
+    ensures fault { result.0 ≡ Status.FileFault → IsTrue out.new.has_failed }
 {
     let status = run_commands(alloc, &mut fs, commands, stops, was_cut, out);
     (status, fs.into_station())
@@ -93,15 +96,16 @@ fn run_mounted<S: Station, C: Fn(&S) -> bool, O: Write>(
 fn run_commands<S: Station, C: Fn(&S) -> bool, O: Write>(
     alloc: Global,
     fs: &mut Fs<S>,
-    commands: &[Command],
+    commands: &[Command<'_>],
     stops: bool,
     was_cut: &C,
-    out: &mut O,
+    out: &mut Sink<O>,
 ) -> Status
     requires { C.IsAlwaysCallable was_cut.now }
-    ensures { EndsRunning fs.old fs.new commands.now stops
+    ensures ends { EndsRunning fs.old fs.new commands.now stops
         (FnReturnsAt C.Fn was_cut.now fs.new.system.blocks.buffers.station)
-        (O.contents out.old) (O.contents out.new) result }
+        (O.contents out.old.inner) (O.contents out.new.inner) result }
+    ensures fault { result ≡ Status.FileFault → IsTrue out.new.has_failed }
 {
     fs.begins();
     if was_cut(fs.station()) {

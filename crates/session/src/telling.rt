@@ -1,19 +1,22 @@
 //! Telling why nothing is run.
 
-ghost use Rattle.std.specs.Prelude.{◌≡◌, IfOk, string_bytes};
+ghost use Rattle.std.specs.Prelude.{◌≡◌, IfOk, IsTrue, string_bytes};
 ghost use Rattle.session.specs.Scripts.{line_fault};
 ghost use Rattle.session.specs.Sessions.{mount_fault, EndsTelling};
 
-use crate::answering::{Closed, write_whole};
-use crate::{Fault, Status};
+use crate::answering::write_whole;
+use crate::streams::Closed;
+use crate::{Fault, Sink, Status};
 use mount::MountError;
 use std::alloc::{AllocError, Global};
 use std::io::Write;
 
 /// Tells why nothing is run, and says what the program ends with: where that can't be told, `NoMemory` for want of
 /// memory, else `FileFault`.
-pub(crate) fn tell<E: Write>(alloc: Global, fault: Fault, err: &mut E) -> Status
-    ensures { EndsTelling fault (E.contents err.old) (E.contents err.new) result }
+pub(crate) fn tell<E: Write>(alloc: Global, fault: Fault, err: &mut Sink<E>) -> Status
+    ensures tells { EndsTelling fault
+        (E.contents err.old.inner) (E.contents err.new.inner) result }
+    ensures fault { result ≡ Status.FileFault → IsTrue err.new.has_failed }
 {
     match fault {
         Fault::NoMemory => Status::NoMemory,
@@ -23,8 +26,10 @@ pub(crate) fn tell<E: Write>(alloc: Global, fault: Fault, err: &mut E) -> Status
 }
 
 /// Tells which line is no command.
-fn tell_bad_line<E: Write>(alloc: Global, number: usize, err: &mut E) -> Status
-    ensures { EndsTelling (Fault.Line number) (E.contents err.old) (E.contents err.new) result }
+fn tell_bad_line<E: Write>(alloc: Global, number: usize, err: &mut Sink<E>) -> Status
+    ensures tells { EndsTelling (Fault.Line number)
+        (E.contents err.old.inner) (E.contents err.new.inner) result }
+    ensures fault { result ≡ Status.FileFault → IsTrue err.new.has_failed }
 {
     let Ok(text) = line_text(alloc, number) else {
         return Status::NoMemory;
@@ -42,8 +47,10 @@ fn line_text(alloc: Global, number: usize) -> Result<String, AllocError>
 }
 
 /// Tells why the station isn't mounted.
-fn tell_mount_error<E: Write>(error: MountError, err: &mut E) -> Status
-    ensures { EndsTelling (Fault.Mount error) (E.contents err.old) (E.contents err.new) result }
+fn tell_mount_error<E: Write>(error: MountError, err: &mut Sink<E>) -> Status
+    ensures tells { EndsTelling (Fault.Mount error)
+        (E.contents err.old.inner) (E.contents err.new.inner) result }
+    ensures fault { result ≡ Status.FileFault → IsTrue err.new.has_failed }
 {
     match write_whole(err, mount_text(error)) {
         Ok(()) => Status::NotMounted,

@@ -111,7 +111,8 @@ pub fn prepare_take<B: Blocks>(
         → s.snapshots ≡ pairs → IfOk result (λ taking. MatchResult taking
         (λ t. first_refusal (take_tests s name.now) ≡ None)
         (RefusesTake s name.now)) }
-    ensures own { IfOk result (λ taking. IfErr taking (λ errno. errno ≢ Errno.EIO)) }
+    ensures own { IfOk result (λ taking. IfErr taking (λ errno. (errno ≢ Errno.EIO)
+        × (errno ≢ Errno.FAILED))) }
     ensures fits { IfOk result (λ taking. IfOk taking (λ t. IsSlotNumber t.slot
         × (length name.now ≤ SNAPSHOT_NAME_BYTES))) }
     ensures may { (disk : ℕ → List ℕ) → B.Shows blocks.old disk → (v : Volume)

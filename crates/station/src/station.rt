@@ -1,6 +1,6 @@
 //! A disk and an NVRAM as the file system sees them.
 
-ghost use Rattle.std.specs.Prelude.{◌≡◌, ◌↔◌, ℕ, ◌+◌, ◌*◌, ◌<◌, ◌≤◌, length, take, drop, OnOk, IfOk};
+ghost use Rattle.std.specs.Prelude.{◌≡◌, ◌+◌, ◌*◌, ◌<◌, ◌≤◌, length, take, drop, OnOk, IfOk};
 ghost use Rattle.station.specs.Images.{Unchanged, SectorsWritten, SomeSectorsWritten, NvramWritten, NvramPrefixWritten, Tells};
 ghost use Rattle.station.specs.Moments.{Meaning, MayLeave, Shows, EachCut, LeavesJust, FitsNumbers, HasSizes, SeenGoes, LeftGoes};
 ghost use Rattle.station.specs.Calls.{ReadCall, WriteCall};

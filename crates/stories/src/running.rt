@@ -3,7 +3,7 @@
 use crate::fault::Fault;
 use crate::image_pair::Images;
 use memory_station::{Keep, Mark, Sim};
-use session::session;
+use session::{Sink, session};
 use std::alloc::{AllocError, Global};
 
 /// What befalls the station in a run.
@@ -58,8 +58,8 @@ pub fn run(
         script,
         false,
         |sim: &Sim| sim.is_cut(),
-        &mut out,
-        &mut err,
+        &mut Sink::new(&mut out),
+        &mut Sink::new(&mut err),
     );
     Ok(Outcome {
         status: ending.status().number(),

@@ -7,7 +7,7 @@ use Rattle.station.proofs.Moments.{joined, weaker}
 use Rattle.model.specs.States.{State}
 use Rattle.oplog.specs.LogEnd.{LogEnd, next_of}
 use Rattle.oplog.specs.declared.log.End.TheVariants.{Unopened}
-use Rattle.system.specs.Counting.{AgesBy, Counted, no_call, point_failed}
+use Rattle.system.specs.Counting.{AgesBy, Counted, IsNoGeneration, no_call, point_failed}
 use Rattle.system.specs.Errors.{IsNotWritten, IsRefused}
 use Rattle.system.specs.Images.{OpensTo}
 use Rattle.system.specs.Points.{MakesPoint, StaysAt}
@@ -69,6 +69,7 @@ module _ {S : Type 0} {G : Ghosts S} (old mid : System S G) where
         roomy = λ s served is. absurd (subst IsRefused (sym (error_is e (NotPlanned _) (Err e) (Err (NotPlanned _)) refl refl is) ∙ does.why) tt);
         damaged = λ s served is. absurd (subst IsRefused (sym (error_is e (NotPlanned _) (Err e) (Err (NotPlanned _)) refl refl is) ∙ does.why) tt);
         last = λ s served is. absurd (subst IsRefused (sym (error_is e NoGeneration (Err e) (Err NoGeneration) refl refl is) ∙ does.why) tt);
+        past = λ is. absurd (subst IsRefused (sym (error_is e NoGeneration (Err e) (Err NoGeneration) refl refl is) ∙ does.why) tt);
       }
 
   module _ (does : Finishes old mid (Ok tt)) where
@@ -100,6 +101,7 @@ module _ {S : Type 0} {G : Ghosts S} (old mid : System S G) where
       roomy = λ s served is. cc;
       damaged = λ s served is. cc;
       last = λ s served is. cc;
+      past = λ is. cc;
     }
 
     -- ---- and a whole point was made, or not
@@ -126,4 +128,5 @@ module _ {S : Type 0} {G : Ghosts S} (old mid : System S G) where
           roomy = λ s served. made.roomy s.tree.descriptors s (stays s served) s refl tt;
           damaged = λ s served. made.damaged s.tree.descriptors s (stays s served) s refl;
           last = λ s served is. subst (λ (l : LogEnd). 2 ^ 62 ≤ l.epoch) same_log (made.last s.tree.descriptors s (stays s served) is);
+          past = λ is. subst (λ (l : LogEnd). IsNoGeneration l.epoch) same_log (made.past is);
         }

@@ -51,7 +51,7 @@ goes_beside n v table call reply move c goes fits told =
 
 module _ {B T : Type 0} {changes : Changes T} {W : T → Type 0} {G : Ghosts B} {a b : B} {s t : InodeFile} {files : Descriptors} {answer : Volume → Result T Errno → Type 0} (call : Command) where
   -- it isn't refused
-  pub does : {x : T} {d : Doing} → PreparesOpen changes W G a b s t files answer (Ok x) → (W x → MayDo s.geometry.inodes files d)
+  pub does : {x : T} {d : Doing} → PreparesOpen changes W G a b s t files answer (Ok x) → (W x → MayDo s.geometry.inodes files call d)
       → ((P : Prepared → Change → Type 0) → changes x P → of_doing d P) → ((v : Volume) → answer v (Ok x) → DoesCall s.geometry.inodes v (table_of files) call (Ok d))
       → PreparesDoing G a b s t files call (Ok d)
   does told may changed leads =

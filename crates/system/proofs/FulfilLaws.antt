@@ -15,7 +15,7 @@ use Rattle.model.specs.Circumstances.{IsSure}
 use Rattle.model.specs.States.{State}
 use Rattle.model.specs.declared.command.Command.{Command}
 use Rattle.model.specs.declared.reply.Reply.{Reply}
-use Rattle.oplog.specs.LogEnd.{Bodies, EndsBehind, LogEnd, next_of}
+use Rattle.oplog.specs.LogEnd.{Bodies, EndsBehind, LogEnd, all_bodies, next_of}
 use Rattle.oplog.specs.declared.log.End.{End}
 use Rattle.oplog.specs.declared.log.End.TheVariants.{At, Unopened}
 use Rattle.overlay.specs.declared.laid.Laid.{Laid}
@@ -23,7 +23,7 @@ use Rattle.system.specs.Counting.{AgesBy, Counted, Failed, LogsNothing, a_read, 
 use Rattle.system.specs.Images.{OpensTo}
 use Rattle.system.specs.Serving.{AsksForStep, Handles, HasEmptyLog, IsSureOn, LeavesEither, ServesState}
 use Rattle.system.specs.Slicing.{Fulfils, Steps, StepsOn}
-use Rattle.system.specs.Systems.{IsCovered, meaning_of}
+use Rattle.system.specs.Systems.{IsCovered, ServesRest, meaning_of}
 use Rattle.system.specs.declared.error.CallError.{CallError}
 use Rattle.system.specs.declared.error.CallError.TheVariants.{NotWritten, StepDue}
 use Rattle.system.specs.declared.error.PointError.{PointError}
@@ -80,16 +80,17 @@ not_both : {X : Type 0} {b : Bool} → IsFalse b → IsTrue b → X
 not_both runs stopped = absurd (false≢true (sym runs ∙ stopped))
 
 module _ {S : Type 0} {G : Ghosts S} {old new : System S G} {call : Command} (opens : AllOpen old) where
-  fulfilled : (q : Result Reply CallError) → (IsErrOf q StepDue → ⊥) → Handles true old new call q → Fulfils old new call q
-  fulfilled q own told =
+  fulfilled : {steps : Bool} → IsTrue steps → (q : Result Reply CallError) → (IsErrOf q StepDue → ⊥) → Handles steps old new call q → Fulfils old new call q
+  fulfilled asked q own told =
       let m = meaning_of old in
       let n = meaning_of new in
       record {
         counted = told_beside_reads m n (call_failed old.log.is_stopped q) told.counted;
         no_fault = told.no_fault;
+        kind = told.kind;
         own = own;
         step = whichever q (inl told.laid);
-        comes = λ laid. unmoved (StepsOn old.blocks.laid new.blocks.laid) q (told.waits refl laid);
+        comes = λ laid. unmoved (StepsOn old.blocks.laid new.blocks.laid) q (told.waits asked laid);
         epoch = same_age old.log.epoch new.log.epoch told.epoch;
         calm = λ empty. told.epoch;
         runs = told.runs;
@@ -97,7 +98,7 @@ module _ {S : Type 0} {G : Ghosts S} {old new : System S G} {call : Command} (op
         kept = IfErr-weaker q _ _ (λ e goes other. nothing_logged m n (goes other)) told.kept;
         unlogged = λ is runs. absurd (not_both runs (told.stops is));
         stays = λ s served. and_so _ (ServesState new s) _ q (leaves_unchanged m n (OpensTo m s) (opens s served)) told.kept (told.serves s served);
-        done = λ s served. IfOk-weaker q _ _ (λ reply done. record { between = old; served = served; done = done; leaves = done.leaves }) (told.done s served);
+        done = λ s served. IfOk-weaker q _ _ (λ reply done. record { between = old; served = served; left = ([], refl); done = done; leaves = done.leaves }) (told.done s served);
         broken = told.broken;
         sure = told.sure;
         at_once = told.at_once;
@@ -106,11 +107,11 @@ module _ {S : Type 0} {G : Ghosts S} {old new : System S G} {call : Command} (op
         damaged = told.damaged;
       }
 
-  pub answered_now : (reply : Reply) → Handles true old new call (Ok reply) → Fulfils old new call (Ok reply)
-  answered_now reply told = fulfilled (Ok reply) (λ is. cc) told
+  pub answered_now : {steps : Bool} → IsTrue steps → (reply : Reply) → Handles steps old new call (Ok reply) → Fulfils old new call (Ok reply)
+  answered_now asked reply told = fulfilled asked (Ok reply) (λ is. cc) told
 
-  pub failed_now : (e : CallError) → (e ≢ StepDue) → Handles true old new call (Err e) → Fulfils old new call (Err e)
-  failed_now e other told = fulfilled (Err e) (λ is. other (error_is e StepDue (Err e) (Err StepDue) refl refl is)) told
+  pub failed_now : {steps : Bool} → IsTrue steps → (e : CallError) → (e ≢ StepDue) → Handles steps old new call (Err e) → Fulfils old new call (Err e)
+  failed_now asked e other told = fulfilled asked (Err e) (λ is. other (error_is e StepDue (Err e) (Err StepDue) refl refl is)) told
 
 -- ---- a call that asked for a step
 
@@ -129,8 +130,8 @@ covered_end f s seen covered =
     let stands = (serves.left serves.honest m.seen (seen serves)).log_stands in
     first_end f.log.end f.log.epoch (half_of f.log.half f.log.epoch m.seen.nvram) serves.lasts.bodies.newest (ap (λ (b : Bodies). b.newest) covered.no_record) stands.ends
 
-module _ {S : Type 0} {G : Ghosts S} {old mid : System S G} {call : Command} (asked : Handles true old mid call (Err StepDue)) (opens : AllOpen old) where
-  due : AsksForStep true old mid call
+module _ {S : Type 0} {G : Ghosts S} {steps : Bool} {old mid : System S G} {call : Command} (asked : Handles steps old mid call (Err StepDue)) (opens : AllOpen old) where
+  due : AsksForStep steps old mid call
   due = asked.asks refl
 
   -- nothing was done but looking
@@ -196,6 +197,7 @@ module _ {S : Type 0} {G : Ghosts S} {old mid : System S G} {call : Command} (as
       record {
         counted = failed_first m n old.log.is_stopped (counted_after m (meaning_of mid) n a_write asked.counted stepped.counted);
         no_fault = tt;
+        kind = tt;
         own = λ is. cc;
         step = λ other. absurd (other refl);
         comes = λ laid. tt;
@@ -225,13 +227,19 @@ module _ {S : Type 0} {G : Ghosts S} {old mid : System S G} {call : Command} (as
 
   -- the step was done, and the call served again
   module _ (between : System S G) (u : Unit {0}) (stepped : Steps mid between (Ok u)) (new : System S G) where
+    resting : (s : State) (served : ServesState old s) → ServesRest between s.tree.descriptors s (all_bodies served.lasts.bodies)
+    resting s served =
+        let kept = due.kept s served in
+        subst (λ (b : Bodies). ServesRest between s.tree.descriptors s (all_bodies b)) kept.1 (stepped.rest s.tree.descriptors s kept.0)
+
     there : (s : State) → ServesState old s → ServesState between s
-    there s served = (stepped.goes_on s.tree.descriptors s (serves_still s served)).stays
+    there s served = (resting s served).serves
 
     steps_on : new.blocks.laid ≡ between.blocks.laid → StepsOn old.blocks.laid new.blocks.laid
     steps_on laid = subst (λ (o : Option Laid). StepsOn old.blocks.laid o) (sym laid) (subst (λ (o : Option Laid). StepsOn o between.blocks.laid) asked.laid stepped.laid)
 
     pub fulfilled_behind : (q : Result Reply CallError) → ((s : State) → ServesState old s → MayLeave (meaning_of old) (meaning_of old).seen) → Handles false between new call q → Fulfils old new call q
+    unfolding there resting
     fulfilled_behind q seen told =
         let m = meaning_of old in
         let b = meaning_of between in
@@ -240,6 +248,7 @@ module _ {S : Type 0} {G : Ghosts S} {old mid : System S G} {call : Command} (as
           counted = subst (λ (stopped : Bool). Counted m n (beside_reads (call_failed stopped q))) (runs_on between (Ok u) stepped)
               (counted_beside m b n (call_failed between.log.is_stopped q) (counted_after m (meaning_of mid) b perhaps_reads asked.counted stepped.counted) told.counted);
           no_fault = told.no_fault;
+          kind = told.kind;
           own = λ is. false≢true (told.asks is).asked;
           step = whichever q (inr (steps_on told.laid));
           comes = λ laid. stepped_or (StepsOn old.blocks.laid new.blocks.laid) (new.log.end ≢ old.log.end) q (steps_on told.laid);
@@ -253,6 +262,7 @@ module _ {S : Type 0} {G : Ghosts S} {old mid : System S G} {call : Command} (as
           done = λ s served. IfOk-weaker q _ _ (λ reply done. record {
             between = between;
             served = there s served;
+            left = (resting s served).left;
             done = done;
             leaves = leaves_either between (Ok u) stepped new s done.after served done.leaves;
           }) (told.done s (there s served));

@@ -8,6 +8,7 @@ use Rattle.station.specs.declared.station.Station.{Ghosts}
 use Rattle.station.proofs.Moments.{joined, leaves_unchanged, weaker}
 use Rattle.layout.specs.Record.{Change}
 use Rattle.model.specs.Records.{work_of}
+use Rattle.model.specs.Replies.{IsReplyTo}
 use Rattle.model.specs.Room.{Work, logs}
 use Rattle.model.specs.States.{State}
 use Rattle.model.specs.declared.command.Command.{Command}
@@ -115,17 +116,18 @@ module _ {S : Type 0} {G : Ghosts S} (old new : System S G) (mid : Meaning) (cal
   }
 
   -- the record is logged, and its change is in force
-  pub logged : {steps : Bool} {T : Type 0} (u : T) (change : Change) → ((s : State) (served : ServesState old s) → (leads s served).work ≡ work_of served.running change) → TellsNoFault reply → ((errno : Errno) → reply ≡ Refused errno → ⊥) → OnlyWrites {T = T} {E = CallError} (IsFirstFault old.log) mid (meaning_of new) (Ok u)
+  pub logged : {steps : Bool} {T : Type 0} (u : T) (change : Change) → ((s : State) (served : ServesState old s) → (leads s served).work ≡ work_of served.running change) → IsReplyTo call reply → TellsNoFault reply → ((errno : Errno) → reply ≡ Refused errno → ⊥) → OnlyWrites {T = T} {E = CallError} (IsFirstFault old.log) mid (meaning_of new) (Ok u)
       → new.log.is_stopped ≡ old.log.is_stopped
       → (IsTrue steps → old.blocks.laid ≢ None → new.log.end ≡ old.log.end)
       → ((s : State) (served : ServesState old s) → HasRoomForWork old (leads s served).work)
       → ((s : State) (served : ServesState old s) → (serves : ServesState new (leads s served).after) × (serves.lasts.replayed.changes ≡ served.lasts.replayed.changes ++ change ∷ []))
       → Handles steps old new call (Ok reply)
-  logged {T = T} u change works own accepted writes stopped waits room serves =
+  logged {T = T} u change works kind own accepted writes stopped waits room serves =
       let m = meaning_of old in
       record {
         counted = counted_after m mid (meaning_of new) no_call (all_read m mid reads counted) (all_written {T = T} {E = CallError} (IsFirstFault old.log) mid (meaning_of new) u writes);
         no_fault = own;
+        kind = kind;
         asks = λ is. cc;
         laid = laid;
         epoch = epoch;
@@ -169,9 +171,10 @@ module _ {S : Type 0} {G : Ghosts S} (old new : System S G) (mid : Meaning) (cal
     unlogged e other own counts asked fits lacks = record {
       counted = counts;
       no_fault = tt;
+      kind = tt;
       asks = λ is.
           let due = asked (error_is e call_errors.StepDue (Err e) (Err call_errors.StepDue) refl refl is) in
-          record { asked = due.0; due = due.1; log = log; root = root; changes = would_change };
+          record { asked = due.0; due = due.1; log = log; root = root; changes = would_change; kept = λ s served. ((keeps s served).0, (keeps s served).1) };
       laid = laid;
       epoch = epoch;
       runs = λ runs _. ap (λ (l : LogEnd). l.is_stopped) log ∙ runs;
@@ -207,6 +210,7 @@ module _ {S : Type 0} {G : Ghosts S} (old new : System S G) (mid : Meaning) (cal
     counted = counted_after (meaning_of old) mid (meaning_of new) (if old.log.is_stopped then perhaps_any else a_write) (all_read (meaning_of old) mid reads counted)
         (not_written_yet {T = T} {E = CallError} (IsFirstFault old.log) mid (meaning_of new) call_errors.NotWritten old.log.is_stopped writes (λ runs. (refl, runs)));
     no_fault = tt;
+    kind = tt;
     asks = λ is. cc;
     laid = laid;
     epoch = epoch;

@@ -234,6 +234,7 @@ module _ (cuts : CutLaws) (roots : RootLaws) (ways : WayLaws) {S : Type 0} {G : 
       roomy = λ table s serves t leads room is. cc;
       damaged = λ table s serves t leads is. cc;
       last = λ table s serves is. cc;
+      past = λ is. cc;
     }
     made (Err e) does = record {
       counted = counted_after m (meaning_of mid) n (point_error_failed e) lays.counted (subst (λ (x : PointError). Counted (meaning_of mid) n (point_error_failed x)) (sym does.why)
@@ -250,6 +251,7 @@ module _ (cuts : CutLaws) (roots : RootLaws) (ways : WayLaws) {S : Type 0} {G : 
       roomy = λ table s serves t leads room is. absurd (not_other e _ does.why tt is);
       damaged = λ table s serves t leads is. absurd (not_other e _ does.why tt is);
       last = λ table s serves is. absurd (not_other e _ does.why tt is);
+      past = λ is. absurd (not_other e _ does.why tt is);
     }
 
 -- nothing was planned, and the system has these objects in memory again
@@ -280,4 +282,5 @@ module _ (cuts : CutLaws) {S : Type 0} {G : Ghosts S} (old new : System S G) (ch
     roomy = λ table s serves t leads room. let turn = turns table s serves t leads in lays.roomy known table s serves turn.base turn.volume turn.may (turn.room room);
     damaged = λ table s serves t leads. let turn = turns table s serves t leads in lays.damaged known table s serves turn.base turn.volume turn.may;
     last = λ table s serves. lays.last known table s serves;
+    past = lays.past;
   }

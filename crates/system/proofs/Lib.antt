@@ -10,6 +10,7 @@ mod LookedLaws
 mod ServingLaws
 mod AskingLaws
 mod GoingOnLaws
+mod RestLaws
 mod SteppingLaws
 mod CoveringLaws
 mod HandlingLaws

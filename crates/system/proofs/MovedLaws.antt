@@ -65,20 +65,20 @@ leaves_moved old new s n v table after snapshots leaves =
 -- what a sweep leaves is as it was
 left_same : (open_now : Bool) (o : Option Node) → IsSome (swept_node open_now o) → swept_node open_now o ≡ o
 left_same open_now None some = cc
-left_same open_now (Some (directory_node mode names)) some = refl
-left_same open_now (Some (link_node text)) some = refl
-left_same true (Some (file_node mode zero bytes)) some = refl
-left_same false (Some (file_node mode zero bytes)) some = cc
-left_same open_now (Some (file_node mode (suc links) bytes)) some = refl
+left_same open_now (Some (directory_node attributes names)) some = refl
+left_same open_now (Some (link_node attributes text)) some = refl
+left_same true (Some (file_node attributes zero bytes)) some = refl
+left_same false (Some (file_node attributes zero bytes)) some = cc
+left_same open_now (Some (file_node attributes (suc links) bytes)) some = refl
 
 -- what it drops has no name
 dropped_vacant : (open_now : Bool) (o kept : Option Node) → (IsSome o → kept ≡ o) → (o ≡ None → IsTrue (is_vacant kept)) → swept_node open_now o ≡ None → IsTrue (is_vacant kept)
 dropped_vacant open_now None kept same vacant none = vacant refl
-dropped_vacant open_now (Some (directory_node mode names)) kept same vacant none = cc
-dropped_vacant open_now (Some (link_node text)) kept same vacant none = cc
-dropped_vacant true (Some (file_node mode zero bytes)) kept same vacant none = cc
-dropped_vacant false (Some (file_node mode zero bytes)) kept same vacant none = subst (λ (x : Option Node). IsTrue (is_vacant x)) (sym (same refl)) refl
-dropped_vacant open_now (Some (file_node mode (suc links) bytes)) kept same vacant none = cc
+dropped_vacant open_now (Some (directory_node attributes names)) kept same vacant none = cc
+dropped_vacant open_now (Some (link_node attributes text)) kept same vacant none = cc
+dropped_vacant true (Some (file_node attributes zero bytes)) kept same vacant none = cc
+dropped_vacant false (Some (file_node attributes zero bytes)) kept same vacant none = subst (λ (x : Option Node). IsTrue (is_vacant x)) (sym (same refl)) refl
+dropped_vacant open_now (Some (file_node attributes (suc links) bytes)) kept same vacant none = cc
 
 -- a replayed volume extends what is left of the running one
 pub sweep_extends : (running replayed : Volume) (table : ℕ → Option Description) → Extends running replayed → Extends (swept table running) replayed

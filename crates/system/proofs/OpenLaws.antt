@@ -174,17 +174,17 @@ module _ (disk : Blocks) (r : Root) (nvram : List ℕ) (changes : List Change) (
 
 kept_nodes : (o : Option Node) → IsSome (swept_node false o) → o ≡ swept_node false o
 kept_nodes None some = refl
-kept_nodes (Some (directory_node mode names)) some = refl
-kept_nodes (Some (link_node text)) some = refl
-kept_nodes (Some (file_node mode zero bytes)) some = cc
-kept_nodes (Some (file_node mode (suc links) bytes)) some = refl
+kept_nodes (Some (directory_node attributes names)) some = refl
+kept_nodes (Some (link_node attributes text)) some = refl
+kept_nodes (Some (file_node attributes zero bytes)) some = cc
+kept_nodes (Some (file_node attributes (suc links) bytes)) some = refl
 
 vacant_nodes : (o : Option Node) → swept_node false o ≡ None → IsTrue (is_vacant o)
 vacant_nodes None none = refl
-vacant_nodes (Some (directory_node mode names)) none = cc
-vacant_nodes (Some (link_node text)) none = cc
-vacant_nodes (Some (file_node mode zero bytes)) none = refl
-vacant_nodes (Some (file_node mode (suc links) bytes)) none = cc
+vacant_nodes (Some (directory_node attributes names)) none = cc
+vacant_nodes (Some (link_node attributes text)) none = cc
+vacant_nodes (Some (file_node attributes zero bytes)) none = refl
+vacant_nodes (Some (file_node attributes (suc links) bytes)) none = cc
 
 -- a volume has what it has without them
 extends : (v : Volume) → Extends (without_nameless v) v

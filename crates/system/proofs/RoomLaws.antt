@@ -5,6 +5,7 @@ use Rattle.std.proofs.lemmas.Bool.{cases_lt, cond-false, ne_eqb}
 use Rattle.std.proofs.lemmas.List.{length-replicate}
 use Rattle.layout.specs.Limits.{Sizes}
 use Rattle.layout.specs.Places.{blocks_of}
+use Rattle.model.specs.Attributes.{no_attributes}
 use Rattle.model.specs.Records.{Change, Replays, applied, costs, count_nameless, pledged_for, work_of, create, link, unname, rename, write, cut, change_mode}
 use Rattle.model.specs.Room.{cost}
 use Rattle.model.specs.States.{State}
@@ -119,7 +120,7 @@ all_left known f table s serves none given fresh count settled =
 
 -- a volume whose files all have so many bytes
 abbrev pub files_of : ℕ → Volume
-files_of size n = Some (file_node 0 1 (replicate size 0))
+files_of size n = Some (file_node no_attributes 1 (replicate size 0))
 
 -- in it a record's file has this size
 pub files_sized : (change : Change) (size : ℕ) → IsSizeBefore (files_of size) change size

@@ -7,16 +7,18 @@ use Rattle.station.specs.declared.station.Station.{Ghosts}
 use Rattle.station.proofs.Moments.{leaves_unchanged, weaker}
 use Rattle.model.specs.Circumstances.{IsSure}
 use Rattle.model.specs.Records.{Change}
+use Rattle.model.specs.Replies.{IsReplyTo}
 use Rattle.model.specs.Room.{nothing}
 use Rattle.model.specs.States.{State}
-use Rattle.model.specs.Steps.{calls}
+use Rattle.model.specs.Steps.{calls, is_reading_call}
 use Rattle.model.specs.Trees.{Tree}
 use Rattle.model.specs.Volumes.{tree_of}
 use Rattle.model.specs.declared.command.Command.{Command}
 use Rattle.model.specs.declared.command.Command.TheVariants as command
 use Rattle.model.specs.declared.command.PathCall.{PathCall}
+use Rattle.model.specs.declared.command.PathCall.TheVariants as calling
 use Rattle.model.specs.declared.errno.Errno.{Errno}
-use Rattle.model.specs.declared.errno.Errno.TheVariants.{EIO, ENOMEM}
+use Rattle.model.specs.declared.errno.Errno.TheVariants.{EIO, ENOMEM, FAILED}
 use Rattle.model.specs.declared.reply.Reply.{Reply}
 use Rattle.model.specs.declared.reply.Reply.TheVariants.{Done, Refused}
 use Rattle.calls.specs.Refusals.{is_path_refusal}
@@ -48,11 +50,11 @@ told_of f s serves call reply told =
 
 -- a refusal of the call's own
 pub own_refusal : {T : Type 0} (r : Result T Errno) (errno : Errno) → r ≡ Err errno → IfErr r (λ e. IsTrue (is_path_refusal e)) → TellsNoFault (Refused errno)
-own_refusal {T} r errno is own same =
-    let here : IsTrue (is_path_refusal errno) = subst (λ (x : Result T Errno). IfErr x (λ e. IsTrue (is_path_refusal e))) is own in
-    let it : errno ≡ EIO = cc in
-    not_true (subst (λ (e : Errno). IsTrue (is_path_refusal e)) it here)
+own_refusal {T} r errno is own = (λ same. not_true (there EIO (let it : errno ≡ EIO = cc in it)), λ same. not_true (there FAILED (let it : errno ≡ FAILED = cc in it)))
   where
+    there : (other : Errno) → errno ≡ other → IsTrue (is_path_refusal other)
+    there other it = subst (λ (e : Errno). IsTrue (is_path_refusal e)) it (subst (λ (x : Result T Errno). IfErr x (λ e. IsTrue (is_path_refusal e))) is own)
+
     not_true : IsTrue false → ⊥
     not_true is = cc
 
@@ -63,8 +65,17 @@ own_want {T} r errno is own same =
     let not_true : IsTrue false = subst (λ (e : Errno). IsTrue (is_path_refusal e)) it here in
     cc
 
+-- a changing call by a path is answered that it is done
+pub done_is_reply : (call : PathCall) → IsFalse (is_reading_call call) → IsReplyTo (command.Path call) Done
+done_is_reply (calling.List path) reads = cc
+done_is_reply (calling.Stat path) reads = cc
+done_is_reply (calling.Lstat path) reads = cc
+done_is_reply (calling.Readlink path) reads = cc
+done_is_reply (calling.Get path offset count) reads = cc
+done_is_reply other reads = tt
+
 pub done_is_no_fault : TellsNoFault Done
-done_is_no_fault is = cc
+done_is_no_fault = (λ is. cc, λ is. cc)
 
 pub done_is_no_want : TellsNoWant Done
 done_is_no_want is = cc
@@ -102,14 +113,15 @@ AllOpen f = (s : State) → ServesState f s → EachCut (meaning_of f) (OpensTo 
 module _ {S : Type 0} {G : Ghosts S} {steps : Bool} (old new : System S G) (call : Command) (reads : ReadsBlocksOn G old.blocks new.blocks)
     (log : new.log ≡ old.log) where
   -- a call that logs nothing was answered
-  pub answered_leading : (reply : Reply) → SureOrNot old new call reply → (meaning_of new).failed_reads ≡ (meaning_of old).failed_reads → TellsNoFault reply
+  pub answered_leading : (reply : Reply) → SureOrNot old new call reply → (meaning_of new).failed_reads ≡ (meaning_of old).failed_reads → IsReplyTo call reply → TellsNoFault reply
       → AllOpen old → ((s : State) → (served : ServesState old s) → LeadsTo new s call reply served.lasts.replayed.changes) → Handles steps old new call (Ok reply)
-  answered_leading reply sure same own opens leads =
+  answered_leading reply sure same kind own opens leads =
       let m = meaning_of old in
       let n = meaning_of new in
       record {
         counted = all_read m n reads.below same;
         no_fault = own;
+        kind = kind;
         asks = λ is. cc;
         laid = reads.laid;
         epoch = ap (λ (l : LogEnd). l.epoch) log;
@@ -137,10 +149,10 @@ module _ {S : Type 0} {G : Ghosts S} {steps : Bool} (old new : System S G) (call
       }
 
   -- a call that only reads was answered
-  pub answered : ServesOn old new → (reply : Reply) → SureOrNot old new call reply → (meaning_of new).failed_reads ≡ (meaning_of old).failed_reads → TellsNoFault reply
+  pub answered : ServesOn old new → (reply : Reply) → SureOrNot old new call reply → (meaning_of new).failed_reads ≡ (meaning_of old).failed_reads → IsReplyTo call reply → TellsNoFault reply
       → AllOpen old → ((s : State) → ServesState old s → WouldCall s call reply s nothing) → Handles steps old new call (Ok reply)
-  answered stays reply sure same own opens told =
-      answered_leading reply sure same own opens (λ s served. record { after = s; step = told s served; serves = (stays s served).0; records = (stays s served).1 })
+  answered stays reply sure same kind own opens told =
+      answered_leading reply sure same kind own opens (λ s served. record { after = s; step = told s served; serves = (stays s served).0; records = (stays s served).1 })
 
   -- a call wasn't answered, because a read was refused
   pub unanswered_read : ServesOn old new → NotSure old call → (error : ReadError) (e : CallError) → e ≡ call_error error
@@ -149,6 +161,7 @@ module _ {S : Type 0} {G : Ghosts S} {steps : Bool} (old new : System S G) (call
   unanswered_read stays not_sure error e is fault damaged = subst (λ (x : CallError). Handles steps old new call (Err x)) (sym is) (record {
     counted = counted error fault;
     no_fault = tt;
+    kind = tt;
     asks = λ is. absurd (never_due error is);
     laid = reads.laid;
     epoch = ap (λ (l : LogEnd). l.epoch) log;
@@ -194,7 +207,7 @@ module _ {S : Type 0} {G : Ghosts S} {steps : Bool} (old new : System S G) (call
       → ((s : State) → ServesState old s → IsErrOf (told {T = T} (Err f)) read_errors.Damaged → ⊥) → Handles steps old new call q
   failed_by {T} (failures.Refused errno) q is not_sure opens counted device own stays Answer answers refused damaged =
       subst (Handles steps old new call) (sym is)
-      (answered stays (Refused errno) (by_no old new call (Refused errno) not_sure) counted (own_refusal {T = T} (Err errno) errno refl own) opens
+      (answered stays (Refused errno) (by_no old new call (Refused errno) not_sure) counted tt (own_refusal {T = T} (Err errno) errno refl own) opens
       (λ s served. refused s served errno (answers s served)))
   failed_by (failures.Read e) q is not_sure opens counted device own stays Answer answers refused damaged =
       subst (Handles steps old new call) (sym is) (unanswered_read stays not_sure e (call_error e) refl device (λ s served bad. damaged s served (ap (λ x. Err x) bad)))
@@ -203,26 +216,26 @@ module _ {S : Type 0} {G : Ghosts S} {steps : Bool} (old new : System S G) (call
   pub came_to : (r : Result Reply Failure) (q : Result Reply CallError) → q ≡ answer_to r → NotSure old call → AllOpen old
       → OnOk (told r) ((meaning_of new).failed_reads ≡ (meaning_of old).failed_reads)
       → IfErr (told r) (λ e. IsFault e → HasGrown (meaning_of old).failed_reads (meaning_of new).failed_reads)
-      → IfOk (told r) (λ x. IfErr x (λ e. IsTrue (is_path_refusal e))) → IfOk r TellsNoFault → OnErr r (ServesOn old new)
+      → IfOk (told r) (λ x. IfErr x (λ e. IsTrue (is_path_refusal e))) → IfOk r (IsReplyTo call) → IfOk r TellsNoFault → OnErr r (ServesOn old new)
       → ((s : State) → (served : ServesState old s) → IfOk (told r) (λ x. LeadsTo new s call (answered_reply x) served.lasts.replayed.changes))
       → ((s : State) → ServesState old s → IsErrOf (told r) read_errors.Damaged → ⊥) → Handles steps old new call q
-  came_to (Ok reply) q is not_sure opens counted device own no_fault stays leads damaged =
-      subst (Handles steps old new call) (sym is) (answered_leading reply (by_no old new call reply not_sure) counted no_fault opens leads)
-  came_to (Err (failures.Refused errno)) q is not_sure opens counted device own no_fault stays leads damaged =
+  came_to (Ok reply) q is not_sure opens counted device own kind no_fault stays leads damaged =
+      subst (Handles steps old new call) (sym is) (answered_leading reply (by_no old new call reply not_sure) counted kind no_fault opens leads)
+  came_to (Err (failures.Refused errno)) q is not_sure opens counted device own kind no_fault stays leads damaged =
       subst (Handles steps old new call) (sym is)
-      (answered_leading (Refused errno) (by_no old new call (Refused errno) not_sure) counted (own_refusal {T = Reply} (Err errno) errno refl own) opens leads)
-  came_to (Err (failures.Read e)) q is not_sure opens counted device own no_fault stays leads damaged =
+      (answered_leading (Refused errno) (by_no old new call (Refused errno) not_sure) counted tt (own_refusal {T = Reply} (Err errno) errno refl own) opens leads)
+  came_to (Err (failures.Read e)) q is not_sure opens counted device own kind no_fault stays leads damaged =
       failed_by {T = Reply} (failures.Read e) q is not_sure opens counted device own stays (λ s served r. ⊥) (λ s served. tt) (λ s served errno is. absurd is) damaged
 
   -- a call that only looks came to this
   pub looked_up : (r : Result Reply Failure) (q : Result Reply CallError) → q ≡ answer_to r → NotSure old call → AllOpen old
       → OnOk (told r) ((meaning_of new).failed_reads ≡ (meaning_of old).failed_reads)
       → IfErr (told r) (λ e. IsFault e → HasGrown (meaning_of old).failed_reads (meaning_of new).failed_reads)
-      → IfOk (told r) (λ x. IfErr x (λ e. IsTrue (is_path_refusal e))) → IfOk r TellsNoFault → ServesOn old new
+      → IfOk (told r) (λ x. IfErr x (λ e. IsTrue (is_path_refusal e))) → IfOk r (IsReplyTo call) → IfOk r TellsNoFault → ServesOn old new
       → ((s : State) → ServesState old s → IfOk (told r) (λ x. WouldCall s call (answered_reply x) s nothing))
       → ((s : State) → ServesState old s → IsErrOf (told r) read_errors.Damaged → ⊥) → Handles steps old new call q
-  looked_up r q is not_sure opens counted device own no_fault stays steps damaged =
-      came_to r q is not_sure opens counted device own no_fault (on_err r)
+  looked_up r q is not_sure opens counted device own kind no_fault stays steps damaged =
+      came_to r q is not_sure opens counted device own kind no_fault (on_err r)
       (λ s served. IfOk-weaker (told r) _ _ (λ x step. record { after = s; step = step; serves = (stays s served).0; records = (stays s served).1 }) (steps s served)) damaged
     where
       on_err : (r : Result Reply Failure) → OnErr r (ServesOn old new)

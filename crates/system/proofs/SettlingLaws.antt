@@ -1,5 +1,5 @@
 -- What the tests of `snap take` come to, and a command that ends behind a consistency point of its own.
-use Rattle.std.proofs.Common.{◌≡◌, ◌≢◌, ◌⊎◌, inl, inr, ◌+◌, ◌≤◌, ◌<◌, ◌^◌, List, [], ◌∷◌, ◌++◌, not, Option, Some, None, Result, Ok, Err, refl, ap, sym, subst, ◌∙◌}
+use Rattle.std.proofs.Common.{◌≡◌, ◌≢◌, ◌⊎◌, inl, inr, ◌+◌, ◌≤◌, ◌<◌, ◌^◌, List, [], ◌∷◌, ◌++◌, not, Option, Some, None, Result, Ok, Err, refl, ap, sym, subst, ◌∙◌, arith}
 use Rattle.std.specs.Prelude.{bytes_eq, filter, is_none}
 use Rattle.station.specs.Moments.{HasGrown, LeavesOnly, Meaning}
 use Rattle.station.specs.declared.station.Station.{Ghosts}
@@ -19,7 +19,7 @@ use Rattle.model.specs.Volumes.{Volume, tree_of}
 use Rattle.model.specs.declared.command.Command.{Command}
 use Rattle.model.specs.declared.command.Command.TheVariants as command
 use Rattle.model.specs.declared.errno.Errno.{Errno}
-use Rattle.model.specs.declared.errno.Errno.TheVariants.{EIO, NOSNAP}
+use Rattle.model.specs.declared.errno.Errno.TheVariants.{NOSNAP}
 use Rattle.model.specs.declared.reply.Reply.{Reply}
 use Rattle.model.specs.declared.reply.Reply.TheVariants.{Done, Refused}
 use Rattle.buffers.specs.Disks.{ReadsOn}
@@ -36,11 +36,11 @@ use Rattle.snapshots.specs.Found.{FindsSnapshot, named, snapshot_found}
 use Rattle.snapshots.specs.Taken.{MayTake}
 use Rattle.snapshots.specs.declared.finding.FoundSnapshot.{FoundSnapshot}
 use Rattle.snapshots.specs.declared.taking.Taking.{Taking}
-use Rattle.system.specs.Counting.{AgesBy, Counted, Failed, LogsNothing, no_call, point_error_failed}
+use Rattle.system.specs.Counting.{AgesBy, Counted, Failed, IsNoGeneration, LogsNothing, no_call, point_error_failed}
 use Rattle.system.specs.Errors.{IsNotWritten, IsRefused, call_error}
 use Rattle.system.specs.Images.{OpensTo}
-use Rattle.system.specs.Serving.{IsBrokenOff, LeavesEither, ServesState, WouldCall, WouldChange, WouldDo}
-use Rattle.system.specs.Settling.{Glances, IsSettled, Settles}
+use Rattle.system.specs.Serving.{IsBrokenOff, IsNoFault, LeavesEither, ServesAsBefore, ServesState, WouldCall, WouldChange, WouldDo}
+use Rattle.system.specs.Settling.{Glances, IsSettled, LacksOrder, Settles}
 use Rattle.system.specs.Slicing.{Finishes}
 use Rattle.system.specs.Systems.{Parts, disk_of, meaning_of}
 use Rattle.system.specs.declared.error.CallError.{CallError}
@@ -57,7 +57,7 @@ error_is : (x y : PointError) (r q : Result (Result (Unit {0}) Errno) PointError
 error_is x y r q first second is = cc
 
 module _ {S : Type 0} {G : Ghosts S} (old new : System S G) (reads : ReadsOn (meaning_of old) (meaning_of new)) (log : new.log ≡ old.log)
-    (serves : (s : State) → ServesState old s → ServesState new s) where
+    (serves : (s : State) (served : ServesState old s) → ServesAsBefore old new s served) where
   -- blocks were read
   pub glanced : {T : Type 0} (x : T) → (meaning_of new).failed_reads ≡ (meaning_of old).failed_reads → Glances {T = T} old new (Ok x)
   glanced x same = record {
@@ -106,7 +106,7 @@ module _ {S : Type 0} {G : Ghosts S} (old new : System S G) (reads : ReadsOn (me
 module _ {S : Type 0} {G : Ghosts S} (old new : System S G) (P : State → Type 0) (c : Command) (reads : ReadsOn (meaning_of old) (meaning_of new)) (log : new.log ≡ old.log)
     (opens : AllOpen old) (serves : (s : State) → ServesState old s → ServesState new s) where
   -- it was refused by its own tests
-  pub refuses : (errno : Errno) → errno ≢ EIO → (meaning_of new).failed_reads ≡ (meaning_of old).failed_reads → ((s : State) → ServesState old s → WouldCall s c (Refused errno) s nothing)
+  pub refuses : (errno : Errno) → IsNoFault errno → (meaning_of new).failed_reads ≡ (meaning_of old).failed_reads → ((s : State) → ServesState old s → WouldCall s c (Refused errno) s nothing)
       → Settles old new P c (Ok (Err errno))
   refuses errno own counted step = record {
     counted = all_read (meaning_of old) (meaning_of new) reads counted;
@@ -120,12 +120,14 @@ module _ {S : Type 0} {G : Ghosts S} (old new : System S G) (P : State → Type 
     roomy = λ s served covered is. cc;
     damaged = λ s served is. cc;
     last = λ s served is. cc;
+    past = λ is. cc;
   }
 
   -- it wasn't begun
   not_begun : (e : PointError) → e ≢ point.NotWritten → e ≢ point.NotPlanned plan.NoSpace → Counted (meaning_of old) (meaning_of new) (point_error_failed e)
-      → ((s : State) → ServesState old s → e ≡ point.NotPlanned plan.Damaged → ⊥) → ((s : State) → ServesState old s → e ≡ point.NoGeneration → 2 ^ 62 ≤ old.log.epoch) → Settles old new P c (Err e)
-  not_begun e wrote full counted damaged last = record {
+      → ((s : State) → ServesState old s → e ≡ point.NotPlanned plan.Damaged → ⊥) → ((s : State) → ServesState old s → e ≡ point.NoGeneration → 2 ^ 62 ≤ old.log.epoch)
+      → (e ≡ point.NoGeneration → IsNoGeneration old.log.epoch) → Settles old new P c (Err e)
+  not_begun e wrote full counted damaged last past = record {
     counted = counted;
     own = tt;
     unlogged = nothing_logged (meaning_of old) (meaning_of new) reads.goes;
@@ -137,6 +139,7 @@ module _ {S : Type 0} {G : Ghosts S} (old new : System S G) (P : State → Type 
     roomy = λ s served covered is. absurd (full (error_is e _ (Err e) (Err (point.NotPlanned plan.NoSpace)) refl refl is));
     damaged = λ s served is. damaged s served (error_is e _ (Err e) (Err (point.NotPlanned plan.Damaged)) refl refl is);
     last = λ s served is. last s served (error_is e _ (Err e) (Err point.NoGeneration) refl refl is);
+    past = λ is. past (error_is e _ (Err e) (Err point.NoGeneration) refl refl is);
   }
 
   -- because a read was refused
@@ -147,15 +150,21 @@ module _ {S : Type 0} {G : Ghosts S} (old new : System S G) (P : State → Type 
       by_case : (error : ReadError) → (error ≡ read_errors.Device → HasGrown (meaning_of old).failed_reads (meaning_of new).failed_reads)
           → ((s : State) → ServesState old s → error ≡ read_errors.Damaged → ⊥) → Settles old new P c (Err (point.NotPlanned (plan_error error)))
       by_case read_errors.NoMemory fault damaged =
-          not_begun (point.NotPlanned plan.NoMemory) (λ is. cc) (λ is. cc) (perhaps_read (meaning_of old) (meaning_of new) reads) (λ s served is. cc) (λ s served is. cc)
+          not_begun (point.NotPlanned plan.NoMemory) (λ is. cc) (λ is. cc) (perhaps_read (meaning_of old) (meaning_of new) reads) (λ s served is. cc) (λ s served is. cc) (λ is. cc)
       by_case read_errors.Device fault damaged =
-          not_begun (point.NotPlanned plan.Device) (λ is. cc) (λ is. cc) (not_read (meaning_of old) (meaning_of new) reads (fault refl)) (λ s served is. cc) (λ s served is. cc)
+          not_begun (point.NotPlanned plan.Device) (λ is. cc) (λ is. cc) (not_read (meaning_of old) (meaning_of new) reads (fault refl)) (λ s served is. cc) (λ s served is. cc) (λ is. cc)
       by_case read_errors.Damaged fault damaged =
-          not_begun (point.NotPlanned plan.Damaged) (λ is. cc) (λ is. cc) (perhaps_read (meaning_of old) (meaning_of new) reads) (λ s served is. damaged s served refl) (λ s served is. cc)
+          not_begun (point.NotPlanned plan.Damaged) (λ is. cc) (λ is. cc) (perhaps_read (meaning_of old) (meaning_of new) reads) (λ s served is. damaged s served refl) (λ s served is. cc) (λ is. cc)
 
-  -- because no generation is left
-  pub too_old : ((s : State) → ServesState old s → 2 ^ 62 ≤ old.log.epoch) → Settles old new P c (Err point.NoGeneration)
-  too_old last = not_begun point.NoGeneration (λ is. cc) (λ is. cc) (perhaps_read (meaning_of old) (meaning_of new) reads) (λ s served is. cc) (λ s served is. last s served)
+  -- because there is no order number for a snapshot
+  pub no_order : (e : PointError) → LacksOrder old e → ((s : State) → ServesState old s → 2 ^ 62 ≤ old.log.epoch) → Settles old new P c (Err e)
+  no_order e (inl (is, none)) last =
+      subst (λ (x : PointError). Settles old new P c (Err x)) (sym is)
+      (not_begun point.NoGeneration (λ is. cc) (λ is. cc) (perhaps_read (meaning_of old) (meaning_of new) reads) (λ s served is. cc) (λ s served is. last s served) (λ is. none))
+  no_order e (inr (is, low)) last =
+      subst (λ (x : PointError). Settles old new P c (Err x)) (sym is)
+      (not_begun (point.NotPlanned plan.Damaged) (λ is. cc) (λ is. cc) (perhaps_read (meaning_of old) (meaning_of new) reads) (λ s served is. let late = last s served in absurd (omega (arith, late, low)))
+      (λ s served is. cc) (λ is. cc))
 
 -- ---- and its consistency point, behind calls that didn't fail
 
@@ -182,14 +191,16 @@ module _ {S : Type 0} {G : Ghosts S} (old new : System S G) (mid : Meaning) (P :
     roomy = λ s served covered is. cc;
     damaged = λ s served is. cc;
     last = λ s served is. cc;
+    past = λ is. cc;
   }
 
   -- it wasn't
   pub not_settled : (e : PointError) → Counted mid (meaning_of new) (point_error_failed e) → AgesBy 1 old.log.epoch new.log.epoch × (new.log.is_stopped ≡ old.log.is_stopped)
       → ((s : State) → ServesState old s → IsRefused e → ServesState new s × LeavesOnly (meaning_of old) (meaning_of new) (OpensTo (meaning_of old) s)) → ((s : State) → ServesState old s → P s → e ≡ point.NotWritten → IsBrokenOff old new s c)
       → ((s : State) → ServesState old s → P s → e ≡ point.NotPlanned plan.NoSpace → ⊥)
-      → ((s : State) → ServesState old s → e ≡ point.NotPlanned plan.Damaged → ⊥) → ((s : State) → ServesState old s → e ≡ point.NoGeneration → 2 ^ 62 ≤ old.log.epoch) → Settles old new P c (Err e)
-  not_settled e made log stays broken roomy damaged last = record {
+      → ((s : State) → ServesState old s → e ≡ point.NotPlanned plan.Damaged → ⊥) → ((s : State) → ServesState old s → e ≡ point.NoGeneration → 2 ^ 62 ≤ old.log.epoch)
+      → (e ≡ point.NoGeneration → IsNoGeneration old.log.epoch) → Settles old new P c (Err e)
+  not_settled e made log stays broken roomy damaged last past = record {
     counted = both_counted (point_error_failed e) made;
     own = tt;
     unlogged = nothing_written;
@@ -201,6 +212,7 @@ module _ {S : Type 0} {G : Ghosts S} (old new : System S G) (mid : Meaning) (P :
     roomy = λ s served covered is. roomy s served covered (error_is e _ (Err e) (Err (point.NotPlanned plan.NoSpace)) refl refl is);
     damaged = λ s served is. damaged s served (error_is e _ (Err e) (Err (point.NotPlanned plan.Damaged)) refl refl is);
     last = λ s served is. last s served (error_is e _ (Err e) (Err point.NoGeneration) refl refl is);
+    past = λ is. past (error_is e _ (Err e) (Err point.NoGeneration) refl refl is);
   }
 
 -- the log behind a point that wasn't made
@@ -270,7 +282,7 @@ module _ {S : Type 0} {G : Ghosts S} (old : System S G) {read : System S G} (end
         step = one.3;
         leaves = weaker (meaning_of old) (meaning_of ended) (OpensTo (meaning_of old) s) (λ c. OpensTo (meaning_of old) s c ⊎ OpensTo (meaning_of old) one.1 c) (ended_leaves told s served) (λ c here. inl here);
       })
-      (λ s served may is. cc) (λ s served is. cc) (λ s served is. cc)
+      (λ s served may is. cc) (λ s served is. cc) (λ s served is. cc) (λ is. cc)
 
 -- ---- the tests of `snap take`
 

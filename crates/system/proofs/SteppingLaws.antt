@@ -1,9 +1,10 @@
 -- What a step of a consistency point does to a system, and the end of one.
-use Rattle.std.proofs.Common.{◌≡◌, ◌≢◌, ◌⊎◌, Ok, ℕ, ◌+◌, ◌≤◌, ◌<◌, List, Option, Some, None, Result, Err, ◌-◌, length, min, refl, ap, sym, subst, ◌∙◌, arith}
+use Rattle.std.proofs.Common.{◌≡◌, ◌≢◌, ◌⊎◌, Ok, ℕ, ◌+◌, ◌≤◌, ◌<◌, List, [], Option, Some, None, Result, Err, ◌-◌, length, min, refl, ap, sym, subst, ◌∙◌, arith}
 use Rattle.std.specs.Prelude.{IfErr, IfSome, OnOk}
 use Rattle.station.specs.Calls.{OnlyWrites}
 use Rattle.station.specs.Moments.{Meaning, MayLeave, EachCut, After, Goes, HasGrown, HasSizes, LeavesJust, LeavesOnly}
 use Rattle.station.specs.declared.station.Station.{Ghosts}
+use Rattle.station.specs.Images.{Images}
 use Rattle.station.proofs.Moments.{goes_on, leaves_unchanged}
 use Rattle.layout.specs.Places.{blocks_of}
 use Rattle.model.specs.States.{State}
@@ -12,17 +13,17 @@ use Rattle.blockmap.specs.Changes.{SettlesAs}
 use Rattle.blockmap.specs.Maps.{entry_at}
 use Rattle.images.specs.SnapshotSteps.{unchanged}
 use Rattle.planning.specs.declared.change.SnapshotChange.TheVariants.{Unchanged}
-use Rattle.oplog.specs.LogEnd.{LogEnd}
+use Rattle.oplog.specs.LogEnd.{LogEnd, all_bodies}
 use Rattle.conspoint.specs.Cuts.{HasNewRoot, HasRootOrLost, StaysOutside}
 use Rattle.overlay.specs.Overlays.{ShowsOver, SlicesOn, unwritten}
 use Rattle.overlay.specs.declared.laid.Laid.{Laid}
 use Rattle.system.specs.Counting.{AgesBy, LogsNothing}
 use Rattle.system.specs.Errors.{IsNotWritten}
-use Rattle.system.specs.Images.{OpensTo}
+use Rattle.system.specs.Images.{Base, OpensTo}
 use Rattle.system.specs.Laws.{CutLaws, RootLaws}
 use Rattle.system.specs.Slicing.{CarriesOut, Finishes, Lays, Steps, StepsOn}
 use Rattle.inofile.specs.declared.inode_file.InodeFile.{InodeFile}
-use Rattle.system.specs.Systems.{Parts, HasState, HasStateBy, IsComing, IsServing, disk_of, meaning_of, system_parts}
+use Rattle.system.specs.Systems.{Parts, HasState, HasStateBy, IsComing, IsServing, IsServingRest, ServesRest, disk_of, meaning_of, system_parts}
 use Rattle.system.specs.UnderWay.{WayLaws}
 use Rattle.system.specs.declared.error.PointError.{PointError}
 use Rattle.system.specs.declared.error.PointError.TheVariants.{NotWritten}
@@ -30,7 +31,8 @@ use Rattle.system.specs.declared.slicing.TheConstants.{SLICE_BLOCKS}
 use Rattle.system.specs.declared.system.System.{System}
 use Rattle.system.proofs.CountingLaws.{next_age, nothing_logged, perhaps_read, same_age}
 use Rattle.system.proofs.PointLaws.{has_room, settles_running}
-use Rattle.system.proofs.SystemLaws.{all_open}
+use Rattle.system.proofs.SystemLaws.{all_open, at_rest}
+use Rattle.system.proofs.RestLaws.{next_rest, same_generation, same_rest}
 use Rattle.system.proofs.GoingOnLaws.{carried_unlogged, coming_of, end_leaves, ended, laid_serves, slice_leaves, slice_unlogged, sliced, wrote}
 
 -- ---- slices
@@ -70,27 +72,42 @@ module _ {S : Type 0} {G : Ghosts S} (laws : CutLaws) (old new : System S G) (no
   abbrev end : Meaning
   end = meaning_of new
 
-  lays_on : {r : Result (Unit {0}) PointError} → Lays Unchanged old new r → ((table : ℕ → Option Description) (s : State) → HasState old table s → HasState new table s)
+  lays_on : {r : Result (Unit {0}) PointError} → Lays Unchanged old new r → (end.is_honest → MayLeave end end.seen) → new.log.half ≡ old.log.half
+      → (stays : (table : ℕ → Option Description) (s : State) → HasState old table s → HasState new table s)
+      → ((table : ℕ → Option Description) (s : State) (serves : HasState old table s) → (stays table s serves).settled.disk ≡ start.seen.disk)
       → AgesBy 1 old.log.epoch new.log.epoch → new.log.is_stopped ≡ old.log.is_stopped → StepsOn old.blocks.laid new.blocks.laid → Steps old new (Ok tt)
-  lays_on lays stays ages runs laid = record {
+  lays_on lays seen half stays disk ages runs laid = record {
     counted = perhaps_read start end lays.reads;
     unlogged = nothing_logged start end lays.reads.goes;
     goes_on = λ table s serves. record { leaves = leaves_unchanged start end (OpensTo start s) (all_open serves old.sectors old.half laws) lays.reads.goes; stays = stays table s serves };
+    rest = λ table s serves.
+        let now = stays table s serves in
+        record {
+          serves = now;
+          left = same_rest old new serves now (nothing_logged start end lays.reads.goes) seen half
+              (same_generation old new serves now (disk table s serves ∙ sym (ap (λ (b : Base). b.disk) (at_rest serves none).base)));
+        };
     epoch = ages;
     runs = runs;
     same = λ under. absurd (under none);
     laid = laid;
   }
 
-  pub planned_step : (r : Result (Unit {0}) PointError) → Lays Unchanged old new r → Steps old new (Ok tt)
-  planned_step (Ok u) lays =
-      lays_on lays (λ table s serves. laid_serves old new table s serves none first lays.reads lays.log lays.same.0 lays.same.1 (lays.laid old.inodes table s serves serves.first serves.running
+  pub planned_step : (r : Result (Unit {0}) PointError) → Lays Unchanged old new r → (end.is_honest → MayLeave end end.seen) → Steps old new (Ok tt)
+  planned_step (Ok u) lays seen =
+      lays_on lays seen (ap (λ (l : LogEnd). l.half) lays.log) (λ table s serves. laid_serves old new table s serves none first lays.reads lays.log lays.same.0 lays.same.1 (lays.laid old.inodes table s serves serves.first serves.running
       (settles_running {G = G} old serves Unchanged unchanged refl tt) unchanged (record { is = refl; can = tt }) (has_room {G = G} old serves none Unchanged tt)))
+      (λ table s serves. refl)
       (next_age old.log.epoch new.log.epoch (ap (λ (l : LogEnd). l.epoch) lays.log)) (ap (λ (l : LogEnd). l.is_stopped) lays.log)
       (planned_so old.blocks.laid new.blocks.laid none lays.unwritten)
-  planned_step (Err e) lays =
-      lays_on lays (λ table s serves. subst (λ (i : InodeFile). HasStateBy i new table s) (sym lays.memory) (lays.refused old.inodes table s serves)) (same_age old.log.epoch new.log.epoch (ap (λ (l : LogEnd). l.epoch) lays.log)) (ap (λ (l : LogEnd). l.is_stopped) lays.log)
+  planned_step (Err e) lays seen =
+      lays_on lays seen (ap (λ (l : LogEnd). l.half) lays.log) still
+      (λ table s serves. ap (λ (b : Base). b.disk) (at_rest (still table s serves) lays.none).base ∙ ap (λ (i : Images). i.disk) (lays.reads.goes serves.honest).seen)
+      (same_age old.log.epoch new.log.epoch (ap (λ (l : LogEnd). l.epoch) lays.log)) (ap (λ (l : LogEnd). l.is_stopped) lays.log)
       (planned_so old.blocks.laid new.blocks.laid none (subst (λ (l : Option Laid). IfSome l (λ l. l.plan.written ≡ 0)) (sym lays.none) tt))
+    where
+      still : (table : ℕ → Option Description) (s : State) → HasState old table s → HasState new table s
+      still table s serves = subst (λ (i : InodeFile). HasStateBy i new table s) (sym lays.memory) (lays.refused old.inodes table s serves)
 
 -- ---- what the blocks were told
 
@@ -172,18 +189,33 @@ on_ok_any (Ok x) a = a
 on_ok_any (Err e) a = tt
 
 -- few blocks were left, and the point was ended
-pub last_slice : {S : Type 0} {G : Ghosts S} (old new : System S G) (r : Result (Unit {0}) PointError) → old.blocks.laid ≢ None → unwritten old.blocks.laid ≤ SLICE_BLOCKS → Finishes old new r → Steps old new r
-last_slice old new r under few does =
+pub last_slice : {S : Type 0} {G : Ghosts S} (ways : WayLaws) (old new : System S G) → ((meaning_of new).is_honest → MayLeave (meaning_of new) (meaning_of new).seen)
+    → (r : Result (Unit {0}) PointError) → old.blocks.laid ≢ None → unwritten old.blocks.laid ≤ SLICE_BLOCKS → Finishes old new r → Steps old new r
+last_slice {S} {G} ways old new seen r under few does =
     let log : new.log ≡ old.log = ap (λ (k : Parts). k.log) does.parts in
     record {
       counted = wrote {T = Unit {0}} (meaning_of old) (meaning_of new) r does.writes does.why;
       unlogged = does.unlogged;
       goes_on = does.goes_on;
+      rest = rests r does;
       epoch = same_age old.log.epoch new.log.epoch (ap (λ (l : LogEnd). l.epoch) log);
       runs = ap (λ (l : LogEnd). l.is_stopped) log;
       same = λ _. (log, ap (λ (k : Parts). k.root) does.parts);
       laid = on_ok_any r (subst (StepsOn old.blocks.laid) (sym (ap (λ (k : Parts). k.laid) does.parts)) (ends_within old.blocks.laid under few));
     }
+  where
+    rests : (r : Result (Unit {0}) PointError) → Finishes old new r → (table : ℕ → Option Description) (s : State) (serves : HasState old table s)
+        → OnOk r (ServesRest new table s (all_bodies serves.lasts.bodies))
+    rests (Err e) does table s serves = tt
+    rests (Ok u) does table s serves =
+        let now = (does.goes_on table s serves).stays in
+        let coming = coming_of serves under in
+        let base = (at_rest now (ap (λ (k : Parts). k.laid) does.parts)).base in
+        record {
+          serves = now;
+          left = next_rest old new serves now does.unlogged seen (ap (λ (k : Parts). k.log.half) does.parts) ways coming.way.epoch
+              (ap (λ (b : Base). b.root.generation) base ∙ ap (λ (k : Parts). k.root.generation) does.parts ∙ coming.way.planned.covers);
+        }
 
 -- a slice of it was written
 module _ {S : Type 0} {G : Ghosts S} (laws : CutLaws) (ways : WayLaws) (old new : System S G) (under : old.blocks.laid ≢ None)
@@ -215,8 +247,12 @@ module _ {S : Type 0} {G : Ghosts S} (laws : CutLaws) (ways : WayLaws) (old new 
             let went = subst (λ (l : Option Laid). IfSome l (λ l. Goes (StaysOutside l.plan.blocks) before behind)) coming.is goes in
             record {
               leaves = slice_leaves laws ways serves old.sectors old.half coming behind went;
-              stays = stays r table s serves coming went slice (shows (blocks_of (disk_of old)) serves.shows);
+              stays = only_serves r table s serves (rests r table s serves coming went slice (shows (blocks_of (disk_of old)) serves.shows));
             };
+        rest = λ table s serves.
+            let coming = coming_of serves under in
+            rests r table s serves coming (subst (λ (l : Option Laid). IfSome l (λ l. Goes (StaysOutside l.plan.blocks) before behind)) coming.is goes) slice
+            (shows (blocks_of (disk_of old)) serves.shows);
         epoch = same_age old.log.epoch new.log.epoch (ap (λ (l : LogEnd). l.epoch) log);
         runs = ap (λ (l : LogEnd). l.is_stopped) log;
         same = λ _. (log, ap (λ (k : Parts). k.root) parts);
@@ -227,13 +263,22 @@ module _ {S : Type 0} {G : Ghosts S} (laws : CutLaws) (ways : WayLaws) (old new 
       steps (Ok u) slice = sliced_so old.blocks.laid new.blocks.laid under slice
       steps (Err e) slice = tt
 
-      stays : (r : Result (Unit {0}) PointError) (table : ℕ → Option Description) (s : State) (serves : HasState old table s)
+      only_serves : (r : Result (Unit {0}) PointError) (table : ℕ → Option Description) (s : State) (serves : HasState old table s)
+          → OnOk r (ServesRest new table s (all_bodies serves.lasts.bodies)) → OnOk r (HasState new table s)
+      only_serves (Err e) table s serves rest = tt
+      only_serves (Ok u) table s serves rest = rest.serves
+
+      rests : (r : Result (Unit {0}) PointError) (table : ℕ → Option Description) (s : State) (serves : HasState old table s)
           (coming : IsComing before old.log old.blocks.laid old.root old.slot serves.first old.map serves.lasts old.pledged_then) → Goes (StaysOutside coming.point.plan.blocks) before behind
-          → OnOk r (IfSome old.blocks.laid Slice) → OnOk r (ShowsOver behind new.blocks.buffers.kept new.blocks.laid (blocks_of (disk_of old))) → OnOk r (HasState new table s)
-      stays (Err e) table s serves coming went slice shown = tt
-      stays (Ok u) table s serves coming went slice shown =
+          → OnOk r (IfSome old.blocks.laid Slice) → OnOk r (ShowsOver behind new.blocks.buffers.kept new.blocks.laid (blocks_of (disk_of old)))
+          → OnOk r (ServesRest new table s (all_bodies serves.lasts.bodies))
+      rests (Err e) table s serves coming went slice shown = tt
+      rests (Ok u) table s serves coming went slice shown =
           let one = subst (λ (l : Option Laid). IfSome l Slice) coming.is slice in
           let less = one.3 in
-          subst (λ (k : Parts). IsServing behind k table s) (sym (parts ∙ (λ i. record (system_parts old) { kept = new.blocks.buffers.kept; laid = one.1 i })))
-          (sliced laws ways serves old.sectors old.half coming behind went (coming.point.plan.written + SLICE_BLOCKS) (omega (arith, less)) one.0 one.2 (went serves.honest).honest
-          new.blocks.buffers.kept (subst (λ (l : Option Laid). ShowsOver behind new.blocks.buffers.kept l (blocks_of (disk_of old))) one.1 shown))
+          subst (λ (k : Parts). IsServingRest behind k table s (all_bodies serves.lasts.bodies)) (sym (parts ∙ (λ i. record (system_parts old) { kept = new.blocks.buffers.kept; laid = one.1 i })))
+          (record {
+            serves = sliced laws ways serves old.sectors old.half coming behind went (coming.point.plan.written + SLICE_BLOCKS) (omega (arith, less)) one.0 one.2 (went serves.honest).honest
+                new.blocks.buffers.kept (subst (λ (l : Option Laid). ShowsOver behind new.blocks.buffers.kept l (blocks_of (disk_of old))) one.1 shown);
+            left = ([], refl);
+          })

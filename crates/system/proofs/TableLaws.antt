@@ -25,11 +25,11 @@ open_stays table after keeps (suc d) n is =
 -- what wasn't swept, as it was open or has a name, isn't now
 node_stays : (before now : Bool) (o : Option Node) → (before ≡ true → now ≡ true) → swept_node before o ≡ o → swept_node now o ≡ o
 node_stays before now None keeps is = refl
-node_stays before now (Some (directory_node mode names)) keeps is = refl
-node_stays before now (Some (file_node mode (suc links) bytes)) keeps is = refl
-node_stays before now (Some (link_node text)) keeps is = refl
-node_stays true now (Some (file_node mode zero bytes)) keeps is = ap (λ b. swept_node b (Some (file_node mode zero bytes))) (keeps refl)
-node_stays false now (Some (file_node mode zero bytes)) keeps is = cc
+node_stays before now (Some (directory_node attributes names)) keeps is = refl
+node_stays before now (Some (file_node attributes (suc links) bytes)) keeps is = refl
+node_stays before now (Some (link_node attributes text)) keeps is = refl
+node_stays true now (Some (file_node attributes zero bytes)) keeps is = ap (λ b. swept_node b (Some (file_node attributes zero bytes))) (keeps refl)
+node_stays false now (Some (file_node attributes zero bytes)) keeps is = cc
 
 pub swept_stays : (table after : ℕ → Option Description) (v : Volume) → KeepsOpen table after → ((n : ℕ) → swept table v n ≡ v n) → (n : ℕ) → swept after v n ≡ v n
 swept_stays table after v keeps is n = node_stays (is_open table 32 n) (is_open after 32 n) (v n) (open_stays table after keeps 32 n) (is n)

@@ -124,4 +124,4 @@ pub snapshots_of : {S : Type 0} {G : Ghosts S} (f : System S G) (s : State) → 
 snapshots_of f s served = ap (λ (u : State). u.snapshots) served.state
 
 pub snaps_no_fault : (names : List Name) → TellsNoFault (Snaps names)
-snaps_no_fault names is = cc
+snaps_no_fault names = (λ is. cc, λ is. cc)

@@ -1,5 +1,5 @@
 -- What a function did to a station: which of its device calls failed, and what it left of the NVRAM.
-use Rattle.std.specs.Prelude.{ℕ, ◌≡◌, ◌+◌, ◌≤◌, Bool, Result, Ok, Err, if◌then◌else◌}
+use Rattle.std.specs.Prelude.{ℕ, ◌≡◌, ◌+◌, ◌<◌, ◌≤◌, ◌^◌, Bool, Result, Ok, Err, if◌then◌else◌}
 use Rattle.station.specs.Calls.{Uses}
 use Rattle.station.specs.Images.{Images}
 use Rattle.station.specs.Moments.{After, HasGrown, LeavesOnly, Meaning}
@@ -65,6 +65,10 @@ point_error_failed error = perhaps_reads
 abbrev pub point_failed : {T : Type 0} → Result T PointError → Failed
 point_failed (Ok answer) = no_call
 point_failed (Err error) = point_error_failed error
+
+-- no generation has this number
+abbrev pub IsNoGeneration : ℕ → Type 0
+IsNoGeneration n = (1 ≤ n) × (n < 2 ^ 62) → ⊥
 
 -- an epoch is so many points later at most
 pub record AgesBy (points old new : ℕ) : Type 0 where

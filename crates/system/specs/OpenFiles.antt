@@ -3,6 +3,7 @@ use Rattle.std.specs.Prelude.{ℕ, ◌≡◌, ◌≤◌, ◌<◌, Bool, true, fa
 use Rattle.layout.specs.Record.{Change, write}
 use Rattle.model.specs.Paths.{Name}
 use Rattle.model.specs.Records.{Applies, applied, work_of}
+use Rattle.model.specs.Replies.{IsReplyTo}
 use Rattle.model.specs.Room.{Need, logs, nothing}
 use Rattle.model.specs.Trees.{Description, Tree}
 use Rattle.model.specs.Volumes.{IsMounted, Volume, is_numbered, swept}
@@ -126,8 +127,9 @@ said_change (Some c) = Some (record { «record» = Says c.change; prepared = c.p
 abbrev pub of_doing : Changes Doing
 of_doing d P = IfSome d.change (λ c. P c.prepared (recorded c.record))
 
--- What a call is to do can be done to these descriptors, and goes into the log.
-pub record MayDo (inodes : ℕ) (files : Descriptors) (d : Doing) : Type 0 where
+-- What a call is to do can be done to these descriptors, and goes into the log; its reply is of the call's kind.
+pub record MayDo (inodes : ℕ) (files : Descriptors) (call : Command) (d : Doing) : Type 0 where
+  pub kind : IsReplyTo call d.reply
   pub accepted : IsAccepted d.reply
   pub moves : CanMove (table_of files) d.table
   pub numbered : OpensNumber inodes d.table
@@ -136,4 +138,4 @@ pub record MayDo (inodes : ℕ) (files : Descriptors) (d : Doing) : Type 0 where
 -- What a call is to do is prepared on the image in memory, as far as nothing of it is seen yet; or why it is refused.
 abbrev pub PreparesDoing : {B : Type 0} → Ghosts B → B → B → InodeFile → InodeFile → Descriptors → Command → Result Doing Failure → Type 0
 PreparesDoing G blocks after s t files call result =
-    PreparesOpen of_doing (MayDo s.geometry.inodes files) G blocks after s t files (λ v. DoesCall s.geometry.inodes v (table_of files) call) result
+    PreparesOpen of_doing (MayDo s.geometry.inodes files call) G blocks after s t files (λ v. DoesCall s.geometry.inodes v (table_of files) call) result

@@ -6,6 +6,7 @@ use Rattle.layout.specs.declared.root.Root.{Root}
 use Rattle.model.specs.Records.{count_nameless}
 use Rattle.model.specs.Room.{fixed_of}
 use Rattle.model.specs.Volumes.{Volume}
+use Rattle.model.specs.declared.costs.TheConstants.{NAMELESS_COST}
 use Rattle.images.specs.Cuts.{IsPointWith, LeavesFree, Write}
 use Rattle.images.specs.Room.{free_under}
 use Rattle.images.specs.Roots.{whole}
@@ -18,7 +19,7 @@ use Rattle.system.specs.Slots.{other_slot}
 pub record LeavesRoom (disk : ℕ → List ℕ) (root : Root) (running : Volume) (writes : List Write) (new : Root) : Type 0 where
   pub spent : ℕ
   pub leaves : LeavesFree spent root (blocks_of disk) writes new
-  pub enough : 4 * count_nameless root.geometry.inodes running + fixed_of root.geometry.blocks + spent
+  pub enough : NAMELESS_COST * count_nameless root.geometry.inodes running + fixed_of root.geometry.blocks + spent
       ≤ free_under (whole (blocks_of disk) root).active root.geometry.blocks
 
 -- A point is planned over a disk with this root in this slot, and none of it is written: its root covers this epoch, comes into the

@@ -25,7 +25,7 @@ use Rattle.model.specs.States.{State, with_snapshots}
 use Rattle.model.specs.Trees.{Description, Tree}
 use Rattle.layout.specs.Places.{Blocks, blocks_of}
 use Rattle.layout.specs.declared.root.Root.{Root}
-use Rattle.system.specs.Counting.{Counted, LogsNothing, point_failed}
+use Rattle.system.specs.Counting.{Counted, IsNoGeneration, LogsNothing, point_failed}
 use Rattle.system.specs.Errors.{IsRefused}
 use Rattle.system.specs.Images.{OpensTo}
 use Rattle.system.specs.Room.{HasRoomToTake}
@@ -125,6 +125,7 @@ pub record MakesPointFrom {S : Type 0} {G : Ghosts S} (m : Meaning) (log_before 
   pub damaged : (table : ℕ → Option Description) (s : State) → (serves : Has table s) → (t : State) → Leads table s serves t
       → IsErrOf result (NotPlanned Damaged) → ⊥
   pub last : (table : ℕ → Option Description) (s : State) → Has table s → IsErrOf result NoGeneration → 2 ^ 62 ≤ log_before.epoch
+  pub past : IsErrOf result NoGeneration → IsNoGeneration log_before.epoch
 
 abbrev pub MakesPoint : {S : Type 0} {G : Ghosts S} → ((f : System S G) → (table : ℕ → Option Description) (s : State) → HasState f table s → State → Type 0)
     → (System S G → Type 0) → (old new : System S G) → Result (Unit {0}) PointError → Type 0

@@ -1,6 +1,7 @@
 -- That a root is in its grammar has one proof at most: for a ghost field.
 use Rattle.std.specs.Prelude.{ℕ}
 use Rattle.std.proofs.Props.{props}
+use Rattle.model.specs.declared.attributes.Attributes.{Attributes}
 use Rattle.layout.specs.Inode.{FitsBody, FitsKind}
 use Rattle.layout.specs.Limits.{Sizes}
 use Rattle.layout.specs.Pointer.{PointsBelow}
@@ -17,15 +18,15 @@ points_below-prop : (blocks : ℕ) (p : Pointer) → IsProp (PointsBelow blocks 
 points_below-prop blocks Hole = hlevel props
 points_below-prop blocks (Block b) = hlevel props
 
-fits_kind-prop : (k : Kind) (s : Sizes) (mode links size : ℕ)
-    → IsProp (FitsKind k s mode links size)
-fits_kind-prop kinds.Free s mode links size = hlevel props
-fits_kind-prop kinds.File s mode links size = hlevel props
-fits_kind-prop kinds.Directory s mode links size = hlevel props
-fits_kind-prop kinds.Link s mode links size = hlevel props
-fits_kind-prop kinds.InodeFile s mode links size = hlevel props
-fits_kind-prop kinds.InodeMap s mode links size = hlevel props
-fits_kind-prop kinds.BlockMap s mode links size = hlevel props
+fits_kind-prop : (k : Kind) (s : Sizes) (attributes : Attributes) (links size : ℕ)
+    → IsProp (FitsKind k s attributes links size)
+fits_kind-prop kinds.Free s attributes links size = hlevel props
+fits_kind-prop kinds.File s attributes links size = hlevel props
+fits_kind-prop kinds.Directory s attributes links size = hlevel props
+fits_kind-prop kinds.Link s attributes links size = hlevel props
+fits_kind-prop kinds.InodeFile s attributes links size = hlevel props
+fits_kind-prop kinds.InodeMap s attributes links size = hlevel props
+fits_kind-prop kinds.BlockMap s attributes links size = hlevel props
 
 fits_body-prop : (b : Body) (blocks size : ℕ) → IsProp (FitsBody b blocks size)
 fits_body-prop (Inline bytes) blocks size = hlevel props

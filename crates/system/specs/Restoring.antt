@@ -7,6 +7,7 @@ use Rattle.layout.specs.declared.root.Root.{Root}
 use Rattle.model.specs.Paths.{Name}
 use Rattle.model.specs.Records.{count_nameless, without_nameless}
 use Rattle.model.specs.Volumes.{IsVolume, Volume}
+use Rattle.model.specs.declared.costs.TheConstants.{NAMELESS_COST}
 use Rattle.images.specs.Contents.{HoldsVolume, tree_contents}
 use Rattle.images.specs.Roots.{HeldTree, whole}
 use Rattle.images.specs.Snapshots.{HasSnapshot}
@@ -26,7 +27,7 @@ tree_in_slot disk r k = (whole disk r).frozen k
 -- for it than these files may cost.
 pub record RestoresVolume (disk : Blocks) (r : Root) (k : ℕ) (v : Volume) (inodes : InodeFile) : Type 0 where
   pub stands : IsVolumeOf r.geometry.blocks disk (inodes_of (tree_in_slot disk r k)) inodes (without_nameless v)
-  pub few : memory_room v inodes (without_nameless v) ≤ 4 * count_nameless r.geometry.inodes v
+  pub few : memory_room v inodes (without_nameless v) ≤ NAMELESS_COST * count_nameless r.geometry.inodes v
 
 -- so it does, whatever volume the tree holds
 abbrev pub RestoresSlot : Blocks → Root → ℕ → InodeFile → Type 0

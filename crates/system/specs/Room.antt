@@ -4,6 +4,7 @@ use Rattle.station.specs.declared.station.Station.{Ghosts}
 use Rattle.model.specs.Records.{Change, work_of}
 use Rattle.model.specs.Room.{Need, Work, nothing, logs, a_snapshot, a_restore, cost, keep, fixed_of}
 use Rattle.model.specs.Volumes.{Volume}
+use Rattle.model.specs.declared.costs.TheConstants.{NAMELESS_COST}
 use Rattle.replay.specs.Costs.{IsSizeBefore}
 use Rattle.system.specs.declared.system.System.{System}
 
@@ -24,7 +25,7 @@ HasRoomToTake f = f.pledged + 2 * fixed_of f.root.geometry.blocks + 1 ≤ f.free
 -- the disk has room to make the tree that of a snapshot which keeps so many files without names: for a consistency point, for the one that
 -- does it, and for what these may cost the latter
 abbrev pub HasRoomBesides : {S : Type 0} {G : Ghosts S} → System S G → (nameless : ℕ) → Type 0
-HasRoomBesides f nameless = f.pledged + 2 * fixed_of f.root.geometry.blocks + 1 + 4 * nameless ≤ f.free
+HasRoomBesides f nameless = f.pledged + 2 * fixed_of f.root.geometry.blocks + 1 + NAMELESS_COST * nameless ≤ f.free
 
 -- the disk has room for what a call needs
 abbrev pub HasRoomForNeed : {S : Type 0} {G : Ghosts S} → System S G → Need → Type 0

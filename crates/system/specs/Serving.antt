@@ -7,12 +7,13 @@ use Rattle.layout.specs.declared.log.TheConstants.{FIRST_GATE}
 use Rattle.model.specs.declared.command.Command.{Command}
 use Rattle.model.specs.declared.command.Command.TheVariants as command
 use Rattle.model.specs.declared.errno.Errno.{Errno}
-use Rattle.model.specs.declared.errno.Errno.TheVariants.{EIO, ENOMEM}
+use Rattle.model.specs.declared.errno.Errno.TheVariants.{EIO, ENOMEM, FAILED}
 use Rattle.model.specs.declared.reply.Reply.{Reply}
 use Rattle.model.specs.declared.reply.Reply.TheVariants.{Refused}
 use Rattle.model.specs.Circumstances.{IsSure}
 use Rattle.model.specs.Records.{Change, work_of}
-use Rattle.model.specs.Room.{Need, Room, Work, nothing, logs, a_snapshot, a_restore}
+use Rattle.model.specs.Replies.{IsReplyTo}
+use Rattle.model.specs.Room.{Need, Room, Work, nothing, logs}
 use Rattle.model.specs.States.{State}
 use Rattle.model.specs.Steps.{WouldStep}
 use Rattle.model.specs.Volumes.{Volume}
@@ -77,11 +78,15 @@ pub record WouldChange (s : State) (call : Command) : Type 0 where
 abbrev pub IsAccepted : Reply → Type 0
 IsAccepted reply = (errno : Errno) → reply ≢ Refused errno
 
--- the reply doesn't tell of a device call that failed
-abbrev pub TellsNoFault : Reply → Type 0
-TellsNoFault reply = reply ≢ Refused EIO
+-- the errno tells neither of a device call that failed nor of a system that did
+abbrev pub IsNoFault : Errno → Type 0
+IsNoFault errno = (errno ≢ EIO) × (errno ≢ FAILED)
 
--- nor of want of memory
+-- nor does the reply
+abbrev pub TellsNoFault : Reply → Type 0
+TellsNoFault reply = (reply ≢ Refused EIO) × (reply ≢ Refused FAILED)
+
+-- it doesn't tell of want of memory
 abbrev pub TellsNoWant : Reply → Type 0
 TellsNoWant reply = reply ≢ Refused ENOMEM
 
@@ -89,12 +94,10 @@ TellsNoWant reply = reply ≢ Refused ENOMEM
 abbrev pub LeavesEither : Meaning → Meaning → State → State → Type 0
 LeavesEither old new s t = LeavesOnly old new (λ c. OpensTo old s c ⊎ OpensTo old t c)
 
--- the records beside a root, by what a call on this volume needed: those before it, and behind them one of its work where it logs
+-- the records beside a root, by what a command on this volume needed: those before it, and behind them one of its work where it logs
 abbrev pub HasLogged : Need → Volume → List Change → List Change → Type 0
-HasLogged nothing v before after = after ≡ before
 HasLogged (logs work) v before after = (change : Change) × (work ≡ work_of v change) × (after ≡ before ++ change ∷ [])
-HasLogged a_snapshot v before after = ⊥
-HasLogged (a_restore nameless) v before after = ⊥
+HasLogged need v before after = after ≡ before
 
 -- A call was done on a system that serves a state: it is answered so, the disk had room for what it needed, the system serves the state
 -- that it leaves, and the log has what the call needed, and nothing else.
@@ -156,6 +159,10 @@ pub record IsPlanDue {S : Type 0} {G : Ghosts S} (f : System S G) : Type 0 where
 abbrev pub IsStepDue : {S : Type 0} {G : Ghosts S} → System S G → Type 0
 IsStepDue f = (f.blocks.laid ≢ None) ⊎ IsPlanDue f
 
+-- a system serves a state that another one served, by the same records
+abbrev pub ServesAsBefore : {S : Type 0} {G : Ghosts S} → (old new : System S G) (s : State) → ServesState old s → Type 0
+ServesAsBefore old new s served = (serves : ServesState new s) × (serves.lasts.bodies ≡ served.lasts.bodies)
+
 -- A call that would log a record comes to this where a step is due before that, and is asked for: nothing is done but looking.
 pub record AsksForStep {S : Type 0} {G : Ghosts S} (steps : Bool) (old new : System S G) (call : Command) : Type 0 where
   pub asked : IsTrue steps
@@ -163,6 +170,7 @@ pub record AsksForStep {S : Type 0} {G : Ghosts S} (steps : Bool) (old new : Sys
   pub log : new.log ≡ old.log
   pub root : new.root ≡ old.root
   pub changes : (s : State) → ServesState old s → WouldChange s call
+  pub kept : (s : State) (served : ServesState old s) → ServesAsBefore old new s served
 
 -- What a call does to a system with no step of a consistency point, where it may ask for one or not. A sure one is answered, as is one that
 -- takes nothing, whatever the images hold; and a refused one logs nothing; it moves the log's end by no step that is due, and stops the log where a write fails.
@@ -170,6 +178,7 @@ pub record Handles {S : Type 0} {G : Ghosts S} (steps : Bool) (old new : System 
     (result : Result Reply CallError) : Type 0 where
   pub counted : Counted (meaning_of old) (meaning_of new) (call_failed old.log.is_stopped result)
   pub no_fault : IfOk result TellsNoFault
+  pub kind : IfOk result (IsReplyTo call)
   pub asks : IsErrOf result StepDue → AsksForStep steps old new call
   pub laid : new.blocks.laid ≡ old.blocks.laid
   pub epoch : new.log.epoch ≡ old.log.epoch

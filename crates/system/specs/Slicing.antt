@@ -5,10 +5,12 @@ use Rattle.station.specs.Moments.{After, EachCut, LeavesJust, LeavesOnly}
 use Rattle.station.specs.declared.station.Station.{Ghosts}
 use Rattle.layout.specs.Places.{blocks_of}
 use Rattle.model.specs.Records.{count_nameless}
+use Rattle.model.specs.Replies.{IsReplyTo}
 use Rattle.model.specs.States.{State}
 use Rattle.model.specs.Trees.{Description}
 use Rattle.model.specs.Volumes.{Volume}
 use Rattle.model.specs.declared.command.Command.{Command}
+use Rattle.model.specs.declared.costs.TheConstants.{NAMELESS_COST}
 use Rattle.model.specs.declared.errno.Errno.{Errno}
 use Rattle.model.specs.declared.reply.Reply.{Reply}
 use Rattle.model.specs.declared.reply.Reply.TheVariants.{Refused}
@@ -29,14 +31,14 @@ use Rattle.conspoint.specs.declared.error.PlanError.TheVariants.{Damaged, NoSpac
 use Rattle.overlay.specs.Overlays.{ShowsOver}
 use Rattle.overlay.specs.declared.laid.Laid.{Laid}
 use Rattle.planning.specs.declared.change.SnapshotChange.{SnapshotChange}
-use Rattle.system.specs.Counting.{AgesBy, Counted, Failed, LogsNothing, a_write, beside_reads, call_failed, perhaps_reads, point_failed}
+use Rattle.system.specs.Counting.{AgesBy, Counted, Failed, IsNoGeneration, LogsNothing, a_write, beside_reads, call_failed, perhaps_reads, point_failed}
 use Rattle.system.specs.Errors.{IsNotWritten, IsRefused}
 use Rattle.system.specs.Images.{IsUnder, OpensTo}
 use Rattle.system.specs.Memory.{HasEntries, HasEntriesToCome, IsInMemory}
 use Rattle.system.specs.Plans.{IsPlannedOver}
 use Rattle.system.specs.Points.{HasRoomToPlan, IsStepFor, MaySettle}
 use Rattle.system.specs.Serving.{AnswersAtOnce, HasEmptyLog, IsAtOnce, IsBrokenOff, IsCalled, IsSureOn, LacksRoom, LeavesEither, ServesState, TellsNoFault, WouldChange}
-use Rattle.system.specs.Systems.{HasState, HasStateBy, IsCovered, disk_of, meaning_of, system_parts}
+use Rattle.system.specs.Systems.{AreLeft, HasState, HasStateBy, IsCovered, ServesRest, disk_of, meaning_of, system_parts}
 use Rattle.system.specs.declared.error.CallError.{CallError}
 use Rattle.system.specs.declared.error.CallError.TheVariants as calls
 use Rattle.system.specs.declared.error.CallError.TheVariants.{LogFull, NoRoom, NotWritten, StepDue}
@@ -68,7 +70,7 @@ pub record IsLaid {S : Type 0} {G : Ghosts S} (step : SnapshotStep) (old new : S
       → StandsAt new.log g (record { older = all_bodies bodies; newest = [] }) nvram
   pub covered : (g : ℕ) (bodies : Bodies) (nvram : List ℕ) → g < 2 ^ 62 → StandsAt old.log g bodies nvram
       → StandsAt new.log old.log.epoch no_bodies nvram
-  pub pledges : new.pledged_then ≡ 4 * count_nameless old.root.geometry.inodes v
+  pub pledges : new.pledged_then ≡ NAMELESS_COST * count_nameless old.root.geometry.inodes v
   pub stored : memory_room v new.inodes v ≤ new.pledged_then
   pub saves : step ≡ unchanged → memory_room base old.inodes v ≤ old.pledged → planned.room.spent + new.pledged_then ≤ old.pledged
 
@@ -97,6 +99,7 @@ pub record Lays {S : Type 0} {G : Ghosts S} (change : SnapshotChange) (old new :
       → MaySettle change old old.inodes table base v → IsErrOf result (NotPlanned Damaged) → ⊥
   pub last : (known : InodeFile) (table : ℕ → Option Description) (s : State) → HasStateBy known old table s
       → IsErrOf result NoGeneration → 2 ^ 62 ≤ old.log.epoch
+  pub past : IsErrOf result NoGeneration → IsNoGeneration old.log.epoch
 
 -- ---- it is carried out
 
@@ -153,20 +156,26 @@ abbrev pub step_failed : {T E : Type 0} → Result T E → Failed
 step_failed (Ok it) = perhaps_reads
 step_failed (Err e) = a_write
 
--- What a step does to a system. What it serves stays, also at a cut at any moment, and nothing is logged.
+-- What a step does to a system. What it serves stays, also at a cut at any moment, and nothing is logged; the newest root may come to
+-- cover some of the records.
 pub record Steps {S : Type 0} {G : Ghosts S} (old new : System S G) (result : Result (Unit {0}) PointError) : Type 0 where
   pub counted : Counted (meaning_of old) (meaning_of new) (step_failed result)
   pub unlogged : LogsNothing (meaning_of old) (meaning_of new)
   pub goes_on : (table : ℕ → Option Description) (s : State) → (serves : HasState old table s) → GoesOn old new result table s serves
+  pub rest : (table : ℕ → Option Description) (s : State) (serves : HasState old table s)
+      → OnOk result (ServesRest new table s (all_bodies serves.lasts.bodies))
   pub epoch : AgesBy 1 old.log.epoch new.log.epoch
   pub runs : new.log.is_stopped ≡ old.log.is_stopped
   pub same : old.blocks.laid ≢ None → (new.log ≡ old.log) × (new.root ≡ old.root)
   pub laid : OnOk result (StepsOn old.blocks.laid new.blocks.laid)
 
--- A call was done on a system that serves a state, behind a step of a consistency point if one was due.
-pub record IsFulfilled {S : Type 0} {G : Ghosts S} (old new : System S G) (s : State) (call : Command) (reply : Reply) : Type 0 where
+-- A call was done on a system that serves a state, behind a step of a consistency point if one was due, by which the newest root may have
+-- come to cover some of the records before.
+pub record IsFulfilled {S : Type 0} {G : Ghosts S} (old new : System S G) (s : State) (before : ServesState old s)
+    (call : Command) (reply : Reply) : Type 0 where
   pub between : System S G
   pub served : ServesState between s
+  pub left : AreLeft (all_bodies before.lasts.bodies) (all_bodies served.lasts.bodies)
   pub done : IsCalled between new s served call reply
   pub leaves : LeavesEither (meaning_of old) (meaning_of new) s done.after
 
@@ -176,6 +185,7 @@ pub record IsFulfilled {S : Type 0} {G : Ghosts S} (old new : System S G) (s : S
 pub record Fulfils {S : Type 0} {G : Ghosts S} (old new : System S G) (call : Command) (result : Result Reply CallError) : Type 0 where
   pub counted : Counted (meaning_of old) (meaning_of new) (beside_reads (call_failed old.log.is_stopped result))
   pub no_fault : IfOk result TellsNoFault
+  pub kind : IfOk result (IsReplyTo call)
   pub own : IsErrOf result StepDue → ⊥
   pub step : MatchResult result (λ _. MayStep old.blocks.laid new.blocks.laid)
       (λ e. e ≢ NotWritten → MayStep old.blocks.laid new.blocks.laid)
@@ -189,7 +199,8 @@ pub record Fulfils {S : Type 0} {G : Ghosts S} (old new : System S G) (call : Co
   pub unlogged : IsErrOf result NotWritten → IsFalse new.log.is_stopped → LogsNothing (meaning_of old) (meaning_of new)
   pub stays : (s : State) → ServesState old s → IfErr result (λ e. e ≢ NotWritten
       → ServesState new s × LeavesOnly (meaning_of old) (meaning_of new) (OpensTo (meaning_of old) s))
-  pub done : (s : State) → ServesState old s → IfOk result (IsFulfilled old new s call)
+  pub done : (s : State) → (served : ServesState old s)
+      → IfOk result (IsFulfilled old new s served call)
   pub broken : (s : State) → ServesState old s → IsErrOf result NotWritten → IsBrokenOff old new s call
   pub sure : (s : State) → ServesState old s → MatchResult result
       (λ _. IsSureOn old new s call ⊎ ¬ IsSure s call) (λ _. ¬ IsSure s call)

@@ -1,5 +1,5 @@
 -- What a mounted system stands for.
-use Rattle.std.specs.Prelude.{ℕ, ◌≡◌, ◌⊎◌, ◌≤◌, List, Option, Some, None, IsFalse}
+use Rattle.std.specs.Prelude.{ℕ, ◌≡◌, ◌⊎◌, ◌≤◌, ◌++◌, List, Option, Some, None, IsFalse}
 use Rattle.station.specs.Moments.{EachCut, Meaning}
 use Rattle.station.specs.declared.station.Station.{Ghosts}
 use Rattle.layout.specs.Places.{blocks_of}
@@ -16,7 +16,7 @@ use Rattle.inofile.specs.declared.inode_file.InodeFile.{InodeFile}
 use Rattle.descriptors.specs.Fits.{FitsVolume}
 use Rattle.descriptors.specs.Tables.{table_of}
 use Rattle.descriptors.specs.declared.table.Descriptors.{Descriptors}
-use Rattle.oplog.specs.LogEnd.{LogEnd, no_bodies}
+use Rattle.oplog.specs.LogEnd.{LogEnd, all_bodies, no_bodies}
 use Rattle.images.specs.Roots.{whole}
 use Rattle.conspoint.specs.Finished.{disk_after}
 use Rattle.conspoint.specs.Plans.{IsPlanned}
@@ -144,6 +144,20 @@ abbrev pub ServesWith : {S : Type 0} {G : Ghosts S} → System S G → (ℕ → 
     → Volume → List Change → Type 0
 ServesWith f table s running changes =
     IsServingWith (meaning_of f) (system_parts f) table s running changes
+
+-- of the records with these bodies the newest root covers the first ones, and those are left
+abbrev pub AreLeft : List (List ℕ) → List (List ℕ) → Type 0
+AreLeft before left = (covered : List (List ℕ)) × (before ≡ covered ++ left)
+
+-- what a system has serves a state, and of the records with these bodies it has those that its root doesn't cover
+pub record IsServingRest (m : Meaning) (k : Parts) (table : ℕ → Option Description) (s : State)
+    (before : List (List ℕ)) : Type 0 where
+  pub serves : IsServing m k table s
+  pub left : AreLeft before (all_bodies serves.lasts.bodies)
+
+abbrev pub ServesRest : {S : Type 0} {G : Ghosts S} → System S G → (ℕ → Option Description) → State
+    → List (List ℕ) → Type 0
+ServesRest f table s before = IsServingRest (meaning_of f) (system_parts f) table s before
 
 -- a system is covered: no point is under way, its root holds the running volume, and no record stands that this root doesn't cover
 pub record IsCovered {S : Type 0} {G : Ghosts S} (f : System S G) (table : ℕ → Option Description)

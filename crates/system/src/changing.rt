@@ -19,7 +19,7 @@ pub(crate) fn prepare<B: Blocks>(
     alloc: Global,
     inodes: &mut InodeFile,
     blocks: &mut B,
-    call: &PathCall,
+    call: &PathCall<'_>,
 ) -> Result<Option<Changing>, Failure>
     requires { IsFalse (is_reading_call call.now) }
     ensures { PreparesAny B.Blocks blocks.old blocks.new inodes.old inodes.new
@@ -44,7 +44,7 @@ fn prepare_record<B: Blocks>(
     alloc: Global,
     inodes: &mut InodeFile,
     blocks: &mut B,
-    call: &PathCall,
+    call: &PathCall<'_>,
 ) -> Result<Changing, Failure>
     requires changes { IsFalse (is_reading_call call.now) }
     requires changes_always { IsFalse (may_stay call.now) }

@@ -15,6 +15,7 @@ use blockmap::BlockMap;
 use conspoint::{Plan, PlanError};
 use inode::File;
 use layout::{Generation, Inode, SLOT_A, SLOT_B};
+use model::NAMELESS_COST;
 use overlay::Laid;
 use planning::{Point, SnapshotChange, plan};
 use station::Station;
@@ -82,7 +83,7 @@ impl<S: Station> System<S> {
                 self.root = root;
                 self.slot = slot;
                 self.log.go_on(generation.epoch_after(1));
-                self.pledged_then = 4 * u64::from(self.files.nameless_files());
+                self.pledged_then = NAMELESS_COST * u64::from(self.files.nameless_files());
                 Ok(())
             }
             Err(_) => Err(PointError::NotPlanned(PlanError::NoMemory)),

@@ -23,7 +23,7 @@ pub(crate) fn prepare_open_file<'a, B: Blocks>(
     inodes: &mut InodeFile,
     blocks: &mut B,
     files: &Descriptors,
-    call: &'a Command,
+    call: &'a Command<'_>,
 ) -> Result<Doing<'a>, Failure>
     requires logs { IsTrue (is_logging_call call.now) }
     requires numbers { HasNumbers inodes.old.geometry.inodes files.now }

@@ -1,6 +1,7 @@
 //! Calls on descriptors that log nothing.
 
 ghost use Rattle.std.specs.Prelude.{ℕ, IfOk, IsTrue};
+ghost use Rattle.model.specs.Replies.{IsReplyTo};
 ghost use Rattle.model.specs.Room.{nothing};
 ghost use Rattle.model.specs.Volumes.{IsMounted, Volume};
 ghost use Rattle.records.specs.Opened.{HasNumbers};
@@ -20,9 +21,10 @@ use records::Failure;
 use std::alloc::Global;
 
 /// The answer of a call that looks at the table of open files alone; an offset may move by it.
-pub(crate) fn answer_from_table(files: &mut Descriptors, call: &Command) -> Reply
+pub(crate) fn answer_from_table(files: &mut Descriptors, call: &Command<'_>) -> Reply
     requires { IsTrue (is_table_call call.now) }
     ensures no_fault { TellsNoFault result }
+    ensures kind { IsReplyTo call.now result }
     ensures no_want { TellsNoWant result }
     ensures answers { (inodes : ℕ) (v : Volume) → FitsVolume files.old v
         → WouldLead inodes v (table_of files.old) call.now result v (table_of files.new) nothing }
@@ -53,11 +55,12 @@ pub(crate) fn read_open_file<B: Blocks>(
     inodes: &mut InodeFile,
     blocks: &mut B,
     files: &mut Descriptors,
-    call: &Command,
+    call: &Command<'_>,
 ) -> Result<Reply, Failure>
     requires looks { IsTrue (is_looking_call call.now) }
     requires numbers { HasNumbers inodes.old.geometry.inodes files.old }
     ensures no_fault { IfOk result TellsNoFault }
+    ensures kind { IfOk result (IsReplyTo call.now) }
     ensures tells { AnswersMoving B.Blocks blocks.old blocks.new inodes.old inodes.new files.old
         files.new (λ v r. (n : ℕ) → WouldLead n v (table_of files.old) call.now (answered_reply r) v
         (table_of files.new) nothing) result }

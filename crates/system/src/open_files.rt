@@ -18,7 +18,7 @@ impl<S: Station> System<S> {
     /// Serves a call on descriptors.
     pub(crate) fn serve_open_file(
         &mut self,
-        call: &Command,
+        call: &Command<'_>,
         steps: bool,
     ) -> Result<Reply, CallError>
         requires { IsOpenFileCall call.now }
@@ -36,7 +36,7 @@ impl<S: Station> System<S> {
     }
 
     // Answers a call that looks at the table of open files alone: no memory is taken, and no device is called.
-    fn answer_at_once(&mut self, call: &Command) -> Reply
+    fn answer_at_once(&mut self, call: &Command<'_>) -> Reply
         requires { IsTrue (is_table_call call.now) }
         ensures { (steps : Bool) → Handles steps self.old self.new call.now (Ok result) }
     {
@@ -45,7 +45,7 @@ impl<S: Station> System<S> {
     }
 
     // Answers a call that only reads a file.
-    fn look_at_open_file(&mut self, call: &Command) -> Result<Reply, CallError>
+    fn look_at_open_file(&mut self, call: &Command<'_>) -> Result<Reply, CallError>
         requires { IsTrue (is_looking_call call.now) }
         ensures { (steps : Bool) → Handles steps self.old self.new call.now result }
     {
@@ -84,7 +84,7 @@ impl<S: Station> System<S> {
     }
 
     // Logs the record of a call, if it has one, and puts it in force; and then does to the table what the call does.
-    fn change_open_file(&mut self, call: &Command, steps: bool) -> Result<Reply, CallError>
+    fn change_open_file(&mut self, call: &Command<'_>, steps: bool) -> Result<Reply, CallError>
         requires { IsTrue (is_logging_call call.now) }
         ensures { Handles steps self.old self.new call.now result }
     {

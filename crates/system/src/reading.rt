@@ -1,7 +1,9 @@
 //! Calls by paths that only read.
 
 ghost use Rattle.std.specs.Prelude.{◌≡◌, IfOk, IsTrue};
+ghost use Rattle.model.specs.Replies.{IsReplyTo};
 ghost use Rattle.model.specs.Steps.{is_reading_call};
+ghost use Rattle.model.specs.declared.command.Command.{Command};
 ghost use Rattle.calls.specs.Seeing.{Answers};
 ghost use Rattle.system.specs.Answering.{asks, answered_reply};
 ghost use Rattle.system.specs.Serving.{TellsNoFault};
@@ -13,7 +15,7 @@ use records::Failure;
 use std::alloc::Global;
 
 /// Whether a call by a path only reads.
-pub(crate) fn is_reading(call: &PathCall) -> bool
+pub(crate) fn is_reading(call: &PathCall<'_>) -> bool
     ensures { result ≡ is_reading_call call.now }
 {
     match call {
@@ -32,10 +34,11 @@ pub(crate) fn read<B: Blocks>(
     alloc: Global,
     inodes: &mut InodeFile,
     blocks: &mut B,
-    call: &PathCall,
+    call: &PathCall<'_>,
 ) -> Result<Reply, Failure>
     requires { IsTrue (is_reading_call call.now) }
     ensures no_fault { IfOk result TellsNoFault }
+    ensures kind { IfOk result (IsReplyTo (Command.Path call.now)) }
     ensures tells { Answers B.Blocks blocks.old blocks.new inodes.old inodes.new (asks call.now)
         answered_reply result }
 {

@@ -1,6 +1,6 @@
 //! Making the tree that of a snapshot.
 
-ghost use Rattle.std.specs.Prelude.{◌≡◌, ◌≢◌, ◌⊎◌, ◌≤◌, IfOk, IfSome, MatchResult, None, Some};
+ghost use Rattle.std.specs.Prelude.{◌≡◌, ◌⊎◌, ◌≤◌, IfOk, IfSome, MatchResult, None, Some};
 ghost use Rattle.layout.specs.Version.{greatest_size};
 ghost use Rattle.layout.specs.declared.geometry.TheConstants.{MOST_INODES};
 ghost use Rattle.layout.specs.declared.version.TheConstants.{VERSION};
@@ -11,7 +11,7 @@ ghost use Rattle.buffers.specs.Reads.{ReadsBlocks};
 ghost use Rattle.blocktree.specs.Errors.{IsFault};
 ghost use Rattle.snapshots.specs.Found.{FindsSnapshot};
 ghost use Rattle.system.specs.Restoring.{CountsKept, HasRoomToRestore, RestoresSlot, TellsRoomToRestore};
-ghost use Rattle.system.specs.Serving.{ServesState, WouldChange};
+ghost use Rattle.system.specs.Serving.{IsNoFault, ServesState, WouldChange};
 ghost use Rattle.system.specs.Settling.{Glances, Settles, TestsCommand};
 ghost use Rattle.system.specs.Systems.{IsCovered};
 ghost use Rattle.system.specs.Views.{OnSnapshots};
@@ -24,7 +24,7 @@ use buffers::Blocks;
 use conspoint::PlanError;
 use inofile::InodeFile;
 use layout::Root;
-use model::{Errno, Text, mounts_find_volumes};
+use model::{Bytes, Errno, mounts_find_volumes};
 use planning::SnapshotChange;
 use replay::{count_nameless, drop_nameless};
 use snapshots::{FoundSnapshot, find, view};
@@ -78,9 +78,9 @@ fn count_kept<B: Blocks>(
 impl<S: Station> System<S> {
     /// The first refusal of `snap restore` of a name, of NOSNAP and EBUSY; None where the tree may become that of the snapshot. It reads
     /// the root blocks of the snapshots, and nothing else.
-    pub fn refuses_restore(&mut self, name: &Text) -> Result<Option<Errno>, CallError>
+    pub fn refuses_restore(&mut self, name: &Bytes<'_>) -> Result<Option<Errno>, CallError>
         ensures glances { Glances self.old self.new result }
-        ensures own { IfOk result (λ refusal. IfSome refusal (λ errno. errno ≢ Errno.EIO)) }
+        ensures own { IfOk result (λ refusal. IfSome refusal IsNoFault) }
         ensures tests { (s : State) → ServesState self.old s
             → IfOk result (TestsCommand s (Command.SnapRestore name.now)) }
     {
@@ -99,7 +99,7 @@ impl<S: Station> System<S> {
 
     /// Whether the disk has room to make the tree that of the snapshot of a name, which may be done. Its inode map is read, and each block
     /// with an inode that is in use.
-    pub fn has_room_to_restore(&mut self, name: &Text) -> Result<bool, CallError>
+    pub fn has_room_to_restore(&mut self, name: &Bytes<'_>) -> Result<bool, CallError>
         ensures glances { Glances self.old self.new result }
         ensures rests { self.new.blocks.laid ≡ self.old.blocks.laid }
         ensures covers { (s : State) → IsCovered self.old s.tree.descriptors s
@@ -122,7 +122,7 @@ impl<S: Station> System<S> {
     /// Makes the tree of a covered system that of the snapshot of a name, where the disk has room for that, by a consistency point: Ok
     /// behind its second sync, or a refusal as of `refuses_restore`. The snapshot stays. After an error nothing has changed, but for
     /// `NotWritten`: then a cut leaves the state before it, or the one with the snapshot's tree.
-    pub fn restore(&mut self, name: &Text) -> Result<Result<(), Errno>, PointError>
+    pub fn restore(&mut self, name: &Bytes<'_>) -> Result<Result<(), Errno>, PointError>
         requires { self.old.blocks.laid ≡ None }
         ensures { Settles self.old self.new (λ s. IsCovered self.old s.tree.descriptors s
             × HasRoomToRestore self.old name.now) (Command.SnapRestore name.now) result }

@@ -1,24 +1,17 @@
 //! Whether the disk has room for what is asked of it.
 
-ghost use Rattle.std.specs.Prelude.{◌≡◌, ◌↔◌, IsTrue};
+ghost use Rattle.std.specs.Prelude.{◌↔◌, IsTrue};
 ghost use Rattle.layout.specs.Record.{KeepsLimits, change_of};
 ghost use Rattle.model.specs.Records.{work_of};
-ghost use Rattle.model.specs.Room as room;
 ghost use Rattle.model.specs.Volumes.{Volume};
 ghost use Rattle.replay.specs.Costs.{IsSizeBefore};
 ghost use Rattle.system.specs.Room.{HasRoomBesides, HasRoomForWork, HasRoomToLog, HasRoomToTake};
 
 use crate::System;
 use layout::Record;
+use model::{NAMELESS_COST, fixed_cost};
 use replay::{cost_of, keep_of};
 use station::Station;
-
-/// Blocks that every consistency point may store, whatever changed, on a disk of so many.
-fn fixed_of(blocks: u32) -> u64
-    ensures { result ≡ room.fixed_of blocks }
-{
-    u64::from(blocks.div_ceil(1024)) + 4
-}
 
 impl<S: Station> System<S> {
     /// Whether the disk has room for a record whose change is prepared, where the file that it writes to or cuts has so many bytes: beside
@@ -30,21 +23,21 @@ impl<S: Station> System<S> {
             → IsTrue result ↔ HasRoomForWork self.now (work_of v (change_of change.now)) }
     {
         let asked = cost_of(change, size) + keep_of(change, size);
-        asked + fixed_of(self.map.count()) <= u64::from(self.free).saturating_sub(self.pledged)
+        asked + fixed_cost(self.map.count()) <= u64::from(self.free).saturating_sub(self.pledged)
     }
 
     /// Whether it has room for a snapshot.
     pub fn has_room_to_take(&self) -> bool
         ensures { IsTrue result ↔ HasRoomToTake self.now }
     {
-        2 * fixed_of(self.map.count()) < u64::from(self.free).saturating_sub(self.pledged)
+        2 * fixed_cost(self.map.count()) < u64::from(self.free).saturating_sub(self.pledged)
     }
 
     /// Whether it has room to make the tree that of a snapshot, under which so many files without names are kept.
     pub(crate) fn has_room_besides(&self, nameless: u32) -> bool
         ensures { IsTrue result ↔ HasRoomBesides self.now nameless }
     {
-        let asked = 2 * fixed_of(self.map.count()) + 4 * u64::from(nameless);
+        let asked = 2 * fixed_cost(self.map.count()) + NAMELESS_COST * u64::from(nameless);
         asked < u64::from(self.free).saturating_sub(self.pledged)
     }
 }

@@ -56,7 +56,7 @@ impl<S: Station> System<S> {
     /// doesn't change by it, or else logs its record and puts it in force. `NoRoom` and `LogFull` only for a call that would change
     /// something: where the disk has no room for it, and where a consistency point has to come first. After an error nothing has
     /// changed, but for `NotWritten`: then a cut leaves the state before the call or the one after it. A sure call is always answered.
-    pub fn call(&mut self, call: &Command) -> Result<Reply, CallError>
+    pub fn call(&mut self, call: &Command<'_>) -> Result<Reply, CallError>
         requires { IsCall call.now }
         ensures { Fulfils self.old self.new call.now result }
     {
@@ -74,7 +74,7 @@ impl<S: Station> System<S> {
     }
 
     // The same of a call that a point is due for, or a slice of one, if it `steps`. It plans none, but says so.
-    fn serve(&mut self, call: &Command, steps: bool) -> Result<Reply, CallError>
+    fn serve(&mut self, call: &Command<'_>, steps: bool) -> Result<Reply, CallError>
         requires { IsCall call.now }
         ensures { Handles steps self.old self.new call.now result }
     {
@@ -87,7 +87,7 @@ impl<S: Station> System<S> {
     }
 
     // Serves a call by a path.
-    fn serve_path(&mut self, call: &PathCall, steps: bool) -> Result<Reply, CallError>
+    fn serve_path(&mut self, call: &PathCall<'_>, steps: bool) -> Result<Reply, CallError>
         ensures { Handles steps self.old self.new (Command.Path call.now) result }
     {
         if is_reading(call) {
@@ -98,7 +98,7 @@ impl<S: Station> System<S> {
     }
 
     // Answers a call that only reads.
-    fn look(&mut self, call: &PathCall) -> Result<Reply, CallError>
+    fn look(&mut self, call: &PathCall<'_>) -> Result<Reply, CallError>
         requires { IsTrue (is_reading_call call.now) }
         ensures { (steps : Bool) → Handles steps self.old self.new (Command.Path call.now) result }
     {
@@ -107,7 +107,7 @@ impl<S: Station> System<S> {
     }
 
     // Logs the record of a call that changes something, and puts it in force.
-    fn change(&mut self, call: &PathCall, steps: bool) -> Result<Reply, CallError>
+    fn change(&mut self, call: &PathCall<'_>, steps: bool) -> Result<Reply, CallError>
         requires { IsFalse (is_reading_call call.now) }
         ensures { Handles steps self.old self.new (Command.Path call.now) result }
     {

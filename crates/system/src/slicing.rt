@@ -76,6 +76,7 @@ impl<S: Station> System<S> {
         self.map.settle();
         self.free = self.map.free_count();
         self.pledged = self.pledged_then;
+        self.inodes.let_past_go();
         match written {
             Ok(()) => Ok(()),
             Err(_) => Err(PointError::NotWritten),

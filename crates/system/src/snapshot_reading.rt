@@ -2,6 +2,7 @@
 
 ghost use Rattle.std.specs.Prelude.{◌≡◌, Bool, IfErr, IfOk, IsErrOf, IsFalse, IsTrue, Some};
 ghost use Rattle.layout.specs.Root.{IsRoot};
+ghost use Rattle.model.specs.Replies.{IsReplyTo};
 ghost use Rattle.model.specs.Room.{nothing};
 ghost use Rattle.model.specs.States.{State};
 ghost use Rattle.model.specs.Steps.{is_reading_call, views};
@@ -24,7 +25,7 @@ use buffers::Blocks;
 use calls::reading_forgets_open_files;
 use inofile::InodeFile;
 use layout::Root;
-use model::{Errno, PathCall, Reply, Text, mounts_forget_open_files};
+use model::{Bytes, Errno, PathCall, Reply, mounts_forget_open_files};
 use records::Failure;
 use snapshots::{find, names, view};
 use station::Station;
@@ -132,13 +133,14 @@ fn read_within<B: Blocks>(
     root: &Root,
     kept: &mut Option<View>,
     name: &[u8],
-    call: &PathCall,
+    call: &PathCall<'_>,
 ) -> Result<Reply, Failure>
     requires root { IsRoot root.now }
     requires size { B.count blocks.old ≡ root.now.geometry.blocks }
     ensures reads { ReadsBlocks B.Blocks IsFault blocks.old blocks.new (told result) }
     ensures own { IfOk (told result) (λ r. IfErr r (λ e. IsTrue (is_path_refusal e))) }
     ensures no_fault { IfOk result TellsNoFault }
+    ensures kind { IfOk result (IsReplyTo (Command.Path call.now)) }
     ensures shows { OnShown B.Blocks blocks.old root.now kept.old (λ disk pairs.
         ShowsSnapshot disk root.now.geometry.blocks pairs kept.new) }
     ensures views { OnShown B.Blocks blocks.old root.now kept.old (λ disk pairs. (s : State)
@@ -165,7 +167,11 @@ fn read_within<B: Blocks>(
 
 impl<S: Station> System<S> {
     /// Answers a call on the tree of the snapshot of a name.
-    pub(crate) fn look_within(&mut self, name: &Text, call: &PathCall) -> Result<Reply, CallError>
+    pub(crate) fn look_within(
+        &mut self,
+        name: &Bytes<'_>,
+        call: &PathCall<'_>,
+    ) -> Result<Reply, CallError>
         ensures { (steps : Bool) → Handles steps self.old self.new (Command.Within name.now call.now) result }
     {
         served_states_open(self);

@@ -2,8 +2,8 @@
 
 use crate::rooms::count_objects;
 use crate::warnings::slots::{Slot, look_at_both, open_to_look, take_newer};
-use file_station::{FileStation, OpenFiles};
-use host_files::{FileError, Image, Patience, hold_both, on, open_shared, read_list};
+use file_station::FileStation;
+use host_files::{FileError, Image, ImageStation, Patience, hold_both, on, open_shared, read_list};
 use mount::{Fs, mount};
 use std::alloc::Global;
 use std::fs::{File, OpenFile};
@@ -144,8 +144,8 @@ fn files_in(rt: &HostRuntime, image: Image<'_>) -> Option<u32> {
 }
 
 /// The file system on two open files.
-fn mounted(alloc: Global, disk: File, nvram: File) -> Option<Fs<FileStation<OpenFiles<File>>>> {
-    let station = FileStation::new(disk, nvram).ok()?;
+fn mounted(alloc: Global, disk: File, nvram: File) -> Option<Fs<ImageStation>> {
+    let station = ImageStation::Files(FileStation::new(disk, nvram).ok()?);
     match mount(alloc, station) {
         Ok(fs) => Some(fs),
         Err((_error, _station)) => None,

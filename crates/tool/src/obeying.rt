@@ -9,13 +9,15 @@ mod sessions;
 mod shells;
 mod transfers;
 
-use crate::salvaging::SalvageError;
+use crate::salvaging::{SalvageError, open_salvaged};
 use crate::statuses::{status_of_file, status_of_line};
 use crate::warnings::{warn_of_image, warn_of_list};
 use checking::check_files;
 pub(crate) use checking::find_faults;
 use command_line::{Asked, Line, Options, Wait, read_line};
-use host_files::{FileError, Image, Patience, list_name, open_shared};
+use host_files::{
+    FileError, Image, ImageStation, Patience, list_name, open_shared, open_to_read, tell_fault,
+};
 use new_image::make_files;
 use reading::run_one;
 use room::show_room;
@@ -199,6 +201,32 @@ fn show_text<O: Write>(text: &str, out: &mut O) -> Status {
         Ok(()) => Status::Done,
         Err(_) => Status::FileFault,
     }
+}
+
+/// Opens an image for one who reads, or as much of it as can be read where that is asked for.
+fn open_as_asked<'a, I, O, E: Write>(
+    rt: &HostRuntime,
+    image: Image<'a>,
+    snapshot: Option<&[u8]>,
+    streams: &mut Streams<I, O, E>,
+) -> Result<ImageStation, SalvageError<'a>> {
+    if streams.options.salvages {
+        return open_salvaged(rt, image, snapshot, streams.patience, &mut streams.err);
+    }
+    Ok(open_to_read(rt, image, streams.patience)?)
+}
+
+/// Lets go of an image, which is stored where that is asked for, and tells which call of the host failed, if one did.
+fn close<'a, E: Write>(
+    rt: &HostRuntime,
+    image: Image<'a>,
+    station: ImageStation,
+    stores: bool,
+    err: &mut E,
+) -> Result<(), FileError<'a>> {
+    let fault = station.close(rt, image, stores)?;
+    tell_fault(image, fault.as_ref(), err);
+    Ok(())
 }
 
 /// Says on standard error why nothing of an image can be read.

@@ -3,11 +3,11 @@
 ghost use Rattle.std.specs.Prelude.{◌≤◌};
 
 use crate::warnings::slots::{look_at_both, open_to_look, take_newer};
-use host_files::Image;
+use host_files::{Image, ImageStation};
 use layout::MOST_INODES;
-use model::{Command, Errno, FileType, Names, PathCall, Reply, Stat, Text};
-use mount::Fs;
-use station::{BLOCK_BYTES, Station};
+use model::{Errno, FileType, Stat};
+use mount::{Fs, Space};
+use station::BLOCK_BYTES;
 use std::alloc::{AllocError, Global};
 use std::io::Write;
 use std::{fmt, io};
@@ -92,7 +92,7 @@ fn is_first(counted: &mut [bool], number: usize) -> bool {
 }
 
 /// Counts what stands in the running tree.
-pub(crate) fn count_objects<S: Station>(alloc: Global, fs: &mut Fs<S>) -> Result<Objects, Errno> {
+pub(crate) fn count_objects(alloc: Global, fs: &mut Fs<ImageStation>) -> Result<Objects, Errno> {
     let Ok(mut walk) = Walk::new(alloc) else {
         return Err(Errno::ENOMEM);
     };
@@ -100,16 +100,16 @@ pub(crate) fn count_objects<S: Station>(alloc: Global, fs: &mut Fs<S>) -> Result
         let Some(path) = walk.paths.pop() else {
             break;
         };
-        let names = names_in(alloc, fs, path.as_slice())?;
+        let names = fs.list(path.as_slice())?;
         count_in(alloc, fs, &mut walk, path.as_slice(), names.as_slice())?;
     }
     Ok(walk.objects)
 }
 
 /// Counts what has one of these names in a directory.
-fn count_in<S: Station>(
+fn count_in(
     alloc: Global,
-    fs: &mut Fs<S>,
+    fs: &mut Fs<ImageStation>,
     walk: &mut Walk,
     directory: &[u8],
     names: &[Vec<u8>],
@@ -118,7 +118,7 @@ fn count_in<S: Station>(
         let Ok(path) = path_in(alloc, directory, name.as_slice()) else {
             return Err(Errno::ENOMEM);
         };
-        let stat = stat_of(alloc, fs, path.as_slice())?;
+        let stat = fs.lstat(path.as_slice())?;
         if walk.count(path, stat).is_err() {
             return Err(Errno::ENOMEM);
         }
@@ -136,44 +136,6 @@ fn path_in(alloc: Global, directory: &[u8], name: &[u8]) -> Result<Vec<u8>, Allo
     Ok(path)
 }
 
-/// The names in a directory.
-fn names_in<S: Station>(alloc: Global, fs: &mut Fs<S>, path: &[u8]) -> Result<Names, Errno> {
-    let path = text_of(alloc, path)?;
-    match answer(fs, Command::Path(PathCall::List { path })) {
-        Reply::Names(names) => Ok(names),
-        reply => Err(refusal(&reply)),
-    }
-}
-
-/// What has a path, a link itself.
-fn stat_of<S: Station>(alloc: Global, fs: &mut Fs<S>, path: &[u8]) -> Result<Stat, Errno> {
-    let path = text_of(alloc, path)?;
-    match answer(fs, Command::Path(PathCall::Lstat { path })) {
-        Reply::Stat(stat) => Ok(stat),
-        reply => Err(refusal(&reply)),
-    }
-}
-
-fn text_of(alloc: Global, word: &[u8]) -> Result<Text, Errno> {
-    match Vec::from_slice(alloc, word) {
-        Ok(bytes) => Ok(Text::new(bytes)),
-        Err(_) => Err(Errno::ENOMEM),
-    }
-}
-
-/// The reply to a command.
-fn answer<S: Station>(fs: &mut Fs<S>, command: Command) -> Reply {
-    fs.apply(&command)
-}
-
-/// Why a call has another reply than the one it is made for.
-fn refusal(reply: &Reply) -> Errno {
-    match reply {
-        Reply::Refused(errno) => *errno,
-        _ => Errno::DAMAGED,
-    }
-}
-
 /// Inode numbers of an image, by its root; 0 where none can be read.
 pub(crate) fn inodes_of(rt: &HostRuntime, image: Image<'_>) -> u32 {
     let Some(disk) = open_to_look(rt, image.disk) else {
@@ -187,12 +149,16 @@ pub(crate) fn inodes_of(rt: &HostRuntime, image: Image<'_>) -> u32 {
 }
 
 /// The room of a mounted image with so many inode numbers.
-pub(crate) fn room_of<S: Station>(
+pub(crate) fn room_of(
     alloc: Global,
-    fs: &mut Fs<S>,
+    fs: &mut Fs<ImageStation>,
     inodes: u32,
 ) -> Result<Room, Errno> {
-    let (blocks, free, pledged) = space_of(fs)?;
+    let Space {
+        blocks,
+        free,
+        pledged,
+    } = fs.df()?;
     let objects = count_objects(alloc, fs)?;
     Ok(Room {
         blocks,
@@ -201,18 +167,6 @@ pub(crate) fn room_of<S: Station>(
         inodes,
         objects,
     })
-}
-
-/// Blocks of the disk, those that are free, and those that are pledged.
-fn space_of<S: Station>(fs: &mut Fs<S>) -> Result<(u32, u32, u64), Errno> {
-    match answer(fs, Command::Df) {
-        Reply::Space {
-            blocks,
-            free,
-            pledged,
-        } => Ok((blocks, free, pledged)),
-        reply => Err(refusal(&reply)),
-    }
 }
 
 /// Shows an image's room in lines for people.
@@ -259,11 +213,11 @@ impl fmt::Display for Count {
 
 /// So many bytes, told in a unit that goes with them, to a tenth of it.
 #[derive(Clone, Copy, Debug)]
-pub(crate) struct Bytes(u64);
+pub(crate) struct Size(u64);
 
 /// Bytes of so many blocks.
-pub(crate) fn bytes_of(blocks: u64) -> Bytes {
-    Bytes(blocks.saturating_mul(BLOCK_BYTES as u64))
+pub(crate) fn bytes_of(blocks: u64) -> Size {
+    Size(blocks.saturating_mul(BLOCK_BYTES as u64))
 }
 
 /// Bytes of the units.
@@ -273,9 +227,9 @@ const MIB: u64 = 1 << 20;
 
 const GIB: u64 = 1 << 30;
 
-impl fmt::Display for Bytes {
+impl fmt::Display for Size {
     fn fmt<W: fmt::Write>(&self, f: &mut fmt::Formatter<W>) -> fmt::Result {
-        let Bytes(bytes) = self;
+        let Size(bytes) = self;
         let (unit, name) = unit_of(*bytes);
         let whole = bytes / unit;
         let tenth = (bytes % unit).saturating_mul(10) / unit;

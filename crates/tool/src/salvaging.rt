@@ -5,9 +5,9 @@ mod inodes;
 mod patches;
 mod telling;
 
-use file_station::{FileStation, Patch, PatchedFiles};
+use file_station::{FileStation, Patch};
 use found::{Found, find_image};
-use host_files::{FileError, Image, Patience, open_shared};
+use host_files::{FileError, Image, ImageStation, Patience, open_shared};
 use inodes::{bad_inodes, maps_in};
 use layout::Root;
 use mount::{MountError, mount};
@@ -17,9 +17,6 @@ use std::fs::File;
 use std::io::Write;
 use telling::{tell_image, tell_maps, tell_snapshots, tell_tree, tell_way};
 use thiserror::Error;
-
-/// A station over an image's files with patches over them.
-pub(crate) type Salvaged = FileStation<PatchedFiles<File>>;
 
 /// Why nothing of an image can be read.
 #[derive(Debug, Drop, Error)]
@@ -84,7 +81,7 @@ pub(crate) fn open_salvaged<'a, E: Write>(
     snapshot: Option<&[u8]>,
     patience: Patience,
     err: &mut E,
-) -> Result<Salvaged, SalvageError<'a>> {
+) -> Result<ImageStation, SalvageError<'a>> {
     // These are held until a station is found.
     let (disk, nvram) = open_shared(rt, image, patience)?;
     let Some(found) = find_image(rt.alloc(), &disk)? else {
@@ -116,7 +113,7 @@ fn try_maps<'a, E: Write>(
     disk: &File,
     bad: &[u64],
     err: &mut E,
-) -> Result<Option<Salvaged>, SalvageError<'a>> {
+) -> Result<Option<ImageStation>, SalvageError<'a>> {
     let Some((at, _)) = maps_in(rt.alloc(), &found.root, disk) else {
         return Ok(None);
     };
@@ -144,7 +141,7 @@ fn try_ways<'a, E: Write>(
     bad: &[u64],
     maps: Option<(u64, &[u8])>,
     err: &mut E,
-) -> Result<Result<Salvaged, MountError>, SalvageError<'a>> {
+) -> Result<Result<ImageStation, MountError>, SalvageError<'a>> {
     let mut first = None;
     for number in 0..WAYS {
         let way = Way::of_number(number);
@@ -178,7 +175,7 @@ fn try_way<'a>(
     bad: &[u64],
     maps: Option<(u64, &[u8])>,
     way: Way,
-) -> Result<Result<Salvaged, MountError>, SalvageError<'a>> {
+) -> Result<Result<ImageStation, MountError>, SalvageError<'a>> {
     let mut patches = Vec::new(rt.alloc());
     if let Some((at, bytes)) = maps {
         patches.push(maps_patch(rt.alloc(), at, bytes)?)?;
@@ -203,7 +200,7 @@ fn try_snapshot<'a, E: Write>(
     disk: &File,
     snapshot: Option<&[u8]>,
     err: &mut E,
-) -> Result<Option<Salvaged>, SalvageError<'a>> {
+) -> Result<Option<ImageStation>, SalvageError<'a>> {
     let Some(name) = snapshot else {
         return Ok(None);
     };
@@ -229,7 +226,7 @@ fn try_tree<'a>(
     found: &Found,
     root: &Root,
     bad: &[u64],
-) -> Result<Result<Salvaged, MountError>, SalvageError<'a>> {
+) -> Result<Result<ImageStation, MountError>, SalvageError<'a>> {
     let mut patches = Vec::new(rt.alloc());
     patches.push(root_patch(rt.alloc(), found, root)?)?;
     close_halves(rt.alloc(), found, &mut patches)?;
@@ -243,14 +240,14 @@ fn try_patches<'a>(
     image: Image<'a>,
     found: &Found,
     mut patches: Vec<Patch>,
-) -> Result<Result<Salvaged, MountError>, SalvageError<'a>> {
+) -> Result<Result<ImageStation, MountError>, SalvageError<'a>> {
     if let Some(sector) = found.other {
         patches.push(no_slot(rt.alloc(), sector)?)?;
     }
     let (disk, nvram) = open_shared(rt, image, Patience::None)?;
     let (disk_bytes, nvram_bytes) = found.lengths();
     match FileStation::patched(disk, nvram, disk_bytes, nvram_bytes, patches) {
-        Ok(station) => Ok(mounted(rt.alloc(), station)),
+        Ok(station) => Ok(mounted(rt.alloc(), ImageStation::Patched(station))),
         Err(error) => Err(SalvageError::File(FileError::Size {
             disk: image.disk,
             nvram: image.nvram,
@@ -260,7 +257,7 @@ fn try_patches<'a>(
 }
 
 /// A station as it stands behind a mount.
-fn mounted(alloc: Global, station: Salvaged) -> Result<Salvaged, MountError> {
+fn mounted(alloc: Global, station: ImageStation) -> Result<ImageStation, MountError> {
     match mount(alloc, station) {
         Ok(fs) => Ok(fs.into_station()),
         Err((error, _station)) => Err(error),

@@ -7,15 +7,15 @@ use crate::progress::Progress;
 use crate::steps::{Source, find_source, read_source};
 use crate::target::split_last;
 use crate::what::{Ended, Transfer, is_of_image};
-use crate::working::{Over, end_in_memory, end_on_files, give_back, mount_station};
+use crate::working::{end, mount_image};
 use host_files::{
-    FileError, Found, NewFile, Opened, Place, Sparse, find_place, make_beside, on, open_to_read,
-    place_in, remove,
+    FileError, Found, ImageStation, NewFile, Place, Sparse, find_place, make_beside, on,
+    open_to_read, place_in, remove,
 };
 use model::Mode;
 use mount::Fs;
 use station::Station;
-use std::alloc::{AllocError, Global};
+use std::alloc::Global;
 use std::fs::{File, OpenOptions};
 use std::io::{Write, sink};
 use std::rt::{Clock, Files};
@@ -34,103 +34,49 @@ pub fn get_file<'a, R: Files<File = File> + AllocGlobal + Clock, O: Write, E: Wr
     out: &mut O,
     progress: &mut Progress<E>,
 ) -> Ended<'a> {
-    let told = match told_of(rt.alloc(), snapshot) {
-        Ok(told) => told,
-        Err(_) => return Ended::before(TransferError::File(FileError::NoMemory)),
-    };
-    let opened = match open_to_read(rt, what.image, what.patience) {
-        Ok(opened) => opened,
-        Err(error) => return Ended::before(TransferError::File(error)),
-    };
-    let mut get = Get {
-        rt,
-        what,
-        snapshot,
-        told,
-        out,
-        progress,
-    };
-    match opened {
-        Opened::Files(station) => end_on_files(get_on(rt.alloc(), station, &mut get)),
-        Opened::Memory(sim, held) => {
-            let over = get_on(rt.alloc(), sim, &mut get);
-            end_in_memory(rt, what.image, over, &held)
-        }
+    match open_to_read(rt, what.image, what.patience) {
+        Ok(station) => get_from(rt, station, what, snapshot, out, progress),
+        Err(error) => Ended::before(TransferError::File(error)),
     }
 }
 
-/// The same from a station, which it gives back.
-pub fn get_from<'a, R: Files<File = File> + AllocGlobal, S: Station + Drop, O: Write, E: Write>(
+/// The same from an image that is open.
+pub fn get_from<'a, R: Files<File = File> + AllocGlobal, O: Write, E: Write>(
     rt: &R,
-    station: S,
+    station: ImageStation,
     what: Transfer<'a>,
     snapshot: Option<&'a [u8]>,
     out: &mut O,
     progress: &mut Progress<E>,
-) -> (Result<(), TransferError<'a>>, S) {
-    let told = match told_of(rt.alloc(), snapshot) {
-        Ok(told) => told,
-        Err(_) => return (Err(TransferError::File(FileError::NoMemory)), station),
-    };
-    let mut get = Get {
-        rt,
-        what,
-        snapshot,
-        told,
-        out,
-        progress,
-    };
-    get_on(rt.alloc(), station, &mut get)
-}
-
-/// Brings a file back from a station.
-fn get_on<'a, R: Files<File = File> + AllocGlobal, S: Station, O: Write, E: Write>(
-    alloc: Global,
-    station: S,
-    get: &mut Get<'a, '_, '_, R, O, E>,
-) -> Over<'a, S> {
-    let mut fs = match mount_station(alloc, station) {
+) -> Ended<'a> {
+    let mut fs = match mount_image(rt, what.image, station) {
         Ok(fs) => fs,
-        Err(over) => return over,
+        Err(ended) => return ended,
     };
-    let done = get.go_on(alloc, &mut fs);
-    give_back(fs, done)
+    let done = get_in(rt, &mut fs, what, snapshot, out, progress);
+    end(rt, what.image, fs, done)
 }
 
-/// A snapshot's name as it is told.
-fn told_of(alloc: Global, snapshot: Option<&[u8]>) -> Result<String, AllocError> {
-    String::from_utf8_lossy(alloc, snapshot.unwrap_or(b""))
-}
-
-/// Bringing a file back.
-#[derive(Drop)]
-struct Get<'a, 'r, 'w, R, O, E> {
-    rt: &'r R,
+/// Brings a file of a mounted image back.
+fn get_in<'a, R: Files<File = File> + AllocGlobal, S: Station, O: Write, E: Write>(
+    rt: &R,
+    fs: &mut Fs<S>,
     what: Transfer<'a>,
     snapshot: Option<&'a [u8]>,
-    /// The snapshot as it is told.
-    told: String,
-    out: &'w mut O,
-    progress: &'w mut Progress<E>,
-}
-
-impl<'a, R: Files<File = File> + AllocGlobal, O: Write, E: Write> Get<'a, '_, '_, R, O, E> {
-    fn go_on<S: Station>(
-        &mut self,
-        alloc: Global,
-        fs: &mut Fs<S>,
-    ) -> Result<(), TransferError<'a>> {
-        let (what, snapshot) = (self.what, self.snapshot);
-        let tree = Tree {
-            snapshot,
-            told: self.told.as_str(),
-        };
-        let source = find_source(alloc, fs, what.path, snapshot);
-        let source = found(alloc, fs, tree, what.name, what.path, source)?;
-        let there = stat(alloc, fs, tree, what.path);
-        let mode = at(what.name, 0, there)?.mode;
-        bring(self.rt, fs, source, mode, what, self.out, self.progress)
-    }
+    out: &mut O,
+    progress: &mut Progress<E>,
+) -> Result<(), TransferError<'a>> {
+    let alloc = rt.alloc();
+    let told = String::from_utf8_lossy(alloc, snapshot.unwrap_or(b""))?;
+    let tree = Tree {
+        snapshot,
+        told: told.as_str(),
+    };
+    let source = find_source(fs, what.path, snapshot);
+    let source = found(alloc, fs, tree, what.name, what.path, source)?;
+    let there = stat(fs, tree, what.path);
+    let mode = at(what.name, 0, there)?.mode;
+    bring(rt, fs, source, mode, what, out, progress)
 }
 
 /// Brings what a source holds to where it is to go. A new file has this mode.
@@ -144,7 +90,7 @@ fn bring<'a, R: Files<File = File> + AllocGlobal, S: Station, O: Write, E: Write
     progress: &mut Progress<E>,
 ) -> Result<(), TransferError<'a>> {
     if STANDARD_OUTPUT.contains(&what.file) {
-        return show(rt.alloc(), fs, source, what, out, progress);
+        return show(fs, source, what, out, progress);
     }
     if what.is_of_image(rt) {
         return Err(TransferError::IsImage { file: what.file });
@@ -158,7 +104,7 @@ fn bring<'a, R: Files<File = File> + AllocGlobal, S: Station, O: Write, E: Write
                     .append(true)
                     .open(rt, place.path.as_str()),
             )?;
-            show(rt.alloc(), fs, source, what, &mut stream, progress)
+            show(fs, source, what, &mut stream, progress)
         }
         _ => store(rt, fs, source, mode, what, &place, progress),
     }
@@ -223,7 +169,6 @@ fn renamed<'a>(folder: &'a str, error: FileError<'_>) -> FileError<'a> {
 
 /// Shows a file's bytes, part by part. It is read to its end before, so that nothing is shown of one that can't be read.
 fn show<'a, S: Station, O: Write, E: Write>(
-    alloc: Global,
     fs: &mut Fs<S>,
     source: Source<'a>,
     what: Transfer<'a>,
@@ -231,8 +176,8 @@ fn show<'a, S: Station, O: Write, E: Write>(
     progress: &mut Progress<E>,
 ) -> Result<(), TransferError<'a>> {
     let mut untold = Progress::new(sink(), false);
-    read_to(alloc, fs, source, what, &mut sink(), &mut untold)?;
-    read_to(alloc, fs, source, what, out, progress)
+    read_to(fs, source, what, &mut sink(), &mut untold)?;
+    read_to(fs, source, what, out, progress)
 }
 
 /// Reads a file to its end into a new file beside its place, which it then gets.
@@ -247,7 +192,7 @@ fn store<'a, R: Files<File = File> + AllocGlobal, S: Station, E: Write>(
 ) -> Result<(), TransferError<'a>> {
     let mode = Some(u32::from(mode.bits()));
     let mut new = make_beside(rt, place, mode, what.image.disk, what.image.nvram)?;
-    let stored = match fill(rt.alloc(), fs, source, what, &mut new, progress) {
+    let stored = match fill(fs, source, what, &mut new, progress) {
         Ok(()) => place
             .replace(rt, new.path.as_str())
             .map_err(TransferError::File),
@@ -261,7 +206,6 @@ fn store<'a, R: Files<File = File> + AllocGlobal, S: Station, E: Write>(
 
 /// Reads a file to its end into a new file, and syncs that.
 fn fill<'a, S: Station, E: Write>(
-    alloc: Global,
     fs: &mut Fs<S>,
     source: Source<'a>,
     what: Transfer<'a>,
@@ -269,14 +213,13 @@ fn fill<'a, S: Station, E: Write>(
     progress: &mut Progress<E>,
 ) -> Result<(), TransferError<'a>> {
     let mut sparse = Sparse::new(&mut new.file);
-    read_to(alloc, fs, source, what, &mut sparse, progress)?;
+    read_to(fs, source, what, &mut sparse, progress)?;
     on(what.file, sparse.end())?;
     Ok(())
 }
 
 /// Reads a file to its end, in parts as large as one call reads.
 fn read_to<'a, S: Station, W: Write, E: Write>(
-    alloc: Global,
     fs: &mut Fs<S>,
     source: Source<'a>,
     what: Transfer<'a>,
@@ -285,7 +228,7 @@ fn read_to<'a, S: Station, W: Write, E: Write>(
 ) -> Result<(), TransferError<'a>> {
     let mut offset = 0_u64;
     for _ in 0..u64::MAX {
-        let part = at(what.name, offset, read_source(alloc, fs, source, offset))?;
+        let part = at(what.name, offset, read_source(fs, source, offset))?;
         let bytes = part.as_bytes();
         if bytes.is_empty() {
             break;

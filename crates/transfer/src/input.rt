@@ -103,7 +103,7 @@ impl<'a> KeptFile<'a> {
         alloc: Global,
         fs: &mut Fs<S>,
     ) -> Result<Vec<u8>, TransferError<'a>> {
-        let read = read_kept(alloc, fs, self.snapshot, self.path, self.offset);
+        let read = read_kept(fs, self.snapshot, self.path, self.offset);
         let part = at(self.name, self.offset, read)?;
         let bytes = Vec::from_slice(alloc, part.as_bytes())?;
         self.offset = self.offset.saturating_add(bytes.len() as u64);

@@ -1,10 +1,8 @@
 //! Looking at what stands in the running tree or in a snapshot's.
 
-use crate::steps::{answer, refusal, text_of};
-use model::{Command, Errno, PathCall, Reply, Stat, Text};
+use model::{Errno, Stat, Text};
 use mount::Fs;
 use station::Station;
-use std::alloc::Global;
 
 /// A tree of an image.
 #[derive(Clone, Copy)]
@@ -21,58 +19,25 @@ pub const RUNNING: Tree<'static> = Tree {
     told: "",
 };
 
-/// The reply to a call on a tree.
-fn answer_in<S: Station>(
-    alloc: Global,
-    fs: &mut Fs<S>,
-    tree: Tree<'_>,
-    call: PathCall,
-) -> Result<Reply, Errno> {
-    match tree.snapshot {
-        None => Ok(answer(fs, Command::Path(call))),
-        Some(name) => {
-            let name = text_of(alloc, name)?;
-            Ok(answer(fs, Command::Within { name, call }))
-        }
-    }
-}
-
-fn stat_of(reply: Reply) -> Result<Stat, Errno> {
-    match reply {
-        Reply::Stat(stat) => Ok(stat),
-        reply => Err(refusal(&reply)),
-    }
-}
-
 /// What a path leads to.
-pub fn stat<S: Station>(
-    alloc: Global,
-    fs: &mut Fs<S>,
-    tree: Tree<'_>,
-    path: &[u8],
-) -> Result<Stat, Errno> {
-    let path = text_of(alloc, path)?;
-    stat_of(answer_in(alloc, fs, tree, PathCall::Stat { path })?)
+pub fn stat<S: Station>(fs: &mut Fs<S>, tree: Tree<'_>, path: &[u8]) -> Result<Stat, Errno> {
+    match tree.snapshot {
+        None => fs.stat(path),
+        Some(name) => fs.stat_in(name, path),
+    }
 }
 
 /// What has a name, a symbolic link too.
-pub fn lstat<S: Station>(
-    alloc: Global,
-    fs: &mut Fs<S>,
-    tree: Tree<'_>,
-    path: &[u8],
-) -> Result<Stat, Errno> {
-    let path = text_of(alloc, path)?;
-    stat_of(answer_in(alloc, fs, tree, PathCall::Lstat { path })?)
+pub fn lstat<S: Station>(fs: &mut Fs<S>, tree: Tree<'_>, path: &[u8]) -> Result<Stat, Errno> {
+    match tree.snapshot {
+        None => fs.lstat(path),
+        Some(name) => fs.lstat_in(name, path),
+    }
 }
 
 /// What has a name in the running tree, a symbolic link too; None where nothing has it.
-pub fn look_at<S: Station>(
-    alloc: Global,
-    fs: &mut Fs<S>,
-    path: &[u8],
-) -> Result<Option<Stat>, Errno> {
-    match lstat(alloc, fs, RUNNING, path) {
+pub fn look_at<S: Station>(fs: &mut Fs<S>, path: &[u8]) -> Result<Option<Stat>, Errno> {
+    match fs.lstat(path) {
         Ok(stat) => Ok(Some(stat)),
         Err(Errno::ENOENT) => Ok(None),
         Err(errno) => Err(errno),
@@ -80,15 +45,9 @@ pub fn look_at<S: Station>(
 }
 
 /// The text of a symbolic link.
-pub fn link_text<S: Station>(
-    alloc: Global,
-    fs: &mut Fs<S>,
-    tree: Tree<'_>,
-    path: &[u8],
-) -> Result<Text, Errno> {
-    let path = text_of(alloc, path)?;
-    match answer_in(alloc, fs, tree, PathCall::Readlink { path })? {
-        Reply::Text(text) => Ok(text),
-        reply => Err(refusal(&reply)),
+pub fn link_text<S: Station>(fs: &mut Fs<S>, tree: Tree<'_>, path: &[u8]) -> Result<Text, Errno> {
+    match tree.snapshot {
+        None => fs.readlink(path),
+        Some(name) => fs.readlink_in(name, path),
     }
 }

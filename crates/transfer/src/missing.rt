@@ -40,8 +40,8 @@ fn reason_of<S: Station>(
     if path.is_empty() {
         return String::from_str(alloc, "a path begins with /");
     }
-    let missing = first_missing(alloc, fs, tree, path);
-    let is_link = lstat(alloc, fs, tree, missing).is_ok();
+    let missing = first_missing(fs, tree, path);
+    let is_link = lstat(fs, tree, missing).is_ok();
     let missing = spell(alloc, name, path, missing)?;
     if is_link {
         return format!(in alloc; "{missing} is a link to what isn't there");
@@ -54,23 +54,18 @@ fn reason_of<S: Station>(
 }
 
 /// The least beginning of a path that leads to nothing.
-fn first_missing<'p, S: Station>(
-    alloc: Global,
-    fs: &mut Fs<S>,
-    tree: Tree<'_>,
-    path: &'p [u8],
-) -> &'p [u8] {
+fn first_missing<'p, S: Station>(fs: &mut Fs<S>, tree: Tree<'_>, path: &'p [u8]) -> &'p [u8] {
     for (i, byte) in path.iter().enumerate() {
         let part = path.get(..i).unwrap_or(path);
-        if *byte == b'/' && i > 0 && is_missing(alloc, fs, tree, part) {
+        if *byte == b'/' && i > 0 && is_missing(fs, tree, part) {
             return part;
         }
     }
     path
 }
 
-fn is_missing<S: Station>(alloc: Global, fs: &mut Fs<S>, tree: Tree<'_>, path: &[u8]) -> bool {
-    matches!(stat(alloc, fs, tree, path), Err(Errno::ENOENT))
+fn is_missing<S: Station>(fs: &mut Fs<S>, tree: Tree<'_>, path: &[u8]) -> bool {
+    matches!(stat(fs, tree, path), Err(Errno::ENOENT))
 }
 
 /// A path of the image as it is told: as it is where the user's path is spelled so, and else as in scripts.

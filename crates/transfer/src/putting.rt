@@ -9,8 +9,8 @@ use crate::steps::NEW_FILE;
 use crate::storing::{Goal, check_blocks, check_known_size, store, take_left_away};
 use crate::target::{Target, find_target, is_unfinished};
 use crate::what::{Ended, Transfer};
-use crate::working::{Over, end_in_memory, end_on_files, give_back, mount_station};
-use host_files::{FileError, Opened, on, open_image};
+use crate::working::{end, mount_image};
+use host_files::{FileError, on, open_image};
 use model::{MODE_BITS, Mode};
 use mount::Fs;
 use station::Station;
@@ -107,44 +107,23 @@ fn put_from<'a, R: Files<File = File> + AllocGlobal + Clock, I: Read, E: Write>(
     input: &mut Input<'a, '_, I>,
     progress: &mut Progress<E>,
 ) -> Ended<'a> {
-    let opened = match open_image(rt, what.image, what.patience) {
-        Ok(opened) => opened,
+    let station = match open_image(rt, what.image, what.patience) {
+        Ok(station) => station,
         Err(error) => return Ended::before(TransferError::File(error)),
     };
     if what.file != "-" && what.is_of_image(rt) {
         // What is written would be read again.
         return Ended::before(TransferError::IsImage { file: what.file });
     }
-    let mode = new_mode(mode);
-    match opened {
-        Opened::Files(station) => {
-            end_on_files(put_on(rt.alloc(), station, what, mode, input, progress))
-        }
-        Opened::Memory(sim, held) => {
-            let over = put_on(rt.alloc(), sim, what, mode, input, progress);
-            end_in_memory(rt, what.image, over, &held)
-        }
-    }
-}
-
-/// Stores what an input gives on a station. A new file has this mode.
-fn put_on<'a, S: Station, I: Read, E: Write>(
-    alloc: Global,
-    station: S,
-    what: Transfer<'a>,
-    mode: Mode,
-    input: &mut Input<'a, '_, I>,
-    progress: &mut Progress<E>,
-) -> Over<'a, S> {
-    let mut fs = match mount_station(alloc, station) {
+    let mut fs = match mount_image(rt, what.image, station) {
         Ok(fs) => fs,
-        Err(over) => return over,
+        Err(ended) => return ended,
     };
-    let done = put_in(alloc, &mut fs, what, mode, input, progress);
-    give_back(fs, done)
+    let done = put_in(rt.alloc(), &mut fs, what, new_mode(mode), input, progress);
+    end(rt, what.image, fs, done)
 }
 
-/// Stores what an input gives in a mounted image.
+/// Stores what an input gives in a mounted image. A new file has this mode.
 fn put_in<'a, S: Station, I: Read, E: Write>(
     alloc: Global,
     fs: &mut Fs<S>,
@@ -155,7 +134,7 @@ fn put_in<'a, S: Station, I: Read, E: Write>(
 ) -> Result<(), TransferError<'a>> {
     let Transfer { path, name, .. } = what;
     check_known_size(name, input.size())?;
-    take_left_away(alloc, fs)?;
+    take_left_away(fs)?;
     let target = find_target(alloc, fs, path, own_name(what.file));
     let target = found(alloc, fs, RUNNING, name, path, target)?;
     check_name(alloc, fs, what, &target)?;
@@ -205,7 +184,7 @@ pub fn check_name<'a, S: Station>(
     what: Transfer<'a>,
     target: &Target,
 ) -> Result<(), TransferError<'a>> {
-    let is_own = is_unfinished(alloc, fs, target.path.as_slice());
+    let is_own = is_unfinished(fs, target.path.as_slice());
     if found(alloc, fs, RUNNING, what.name, what.path, is_own)? {
         return Err(TransferError::IsUnfinished { path: what.name });
     }

@@ -9,8 +9,8 @@ use crate::putting::check_name;
 use crate::storing::{Goal, check_blocks, store, store_link, take_left_away};
 use crate::target::{find_place, split_last};
 use crate::what::{Ended, Transfer};
-use crate::working::{Over, end_in_memory, end_on_files, give_back, mount_station};
-use host_files::{Opened, open_image};
+use crate::working::{end, mount_image};
+use host_files::open_image;
 use model::{FileType, Stat};
 use mount::Fs;
 use station::Station;
@@ -31,9 +31,13 @@ pub fn restore_file<'a, R: Files<File = File> + AllocGlobal + Clock, E: Write>(
     new_name: Option<&'a str>,
     progress: &mut Progress<E>,
 ) -> Ended<'a> {
-    let opened = match open_image(rt, what.image, what.patience) {
-        Ok(opened) => opened,
+    let station = match open_image(rt, what.image, what.patience) {
+        Ok(station) => station,
         Err(error) => return Ended::before(TransferError::File(error)),
+    };
+    let mut fs = match mount_image(rt, what.image, station) {
+        Ok(fs) => fs,
+        Err(ended) => return ended,
     };
     let mut restore = Restore {
         what,
@@ -49,27 +53,8 @@ pub fn restore_file<'a, R: Files<File = File> + AllocGlobal + Clock, E: Write>(
         },
         progress,
     };
-    match opened {
-        Opened::Files(station) => end_on_files(restore_on(rt.alloc(), station, &mut restore)),
-        Opened::Memory(sim, held) => {
-            let over = restore_on(rt.alloc(), sim, &mut restore);
-            end_in_memory(rt, what.image, over, &held)
-        }
-    }
-}
-
-/// Brings back what a path names in a snapshot of a station.
-fn restore_on<'a, S: Station, E: Write>(
-    alloc: Global,
-    station: S,
-    restore: &mut Restore<'a, '_, E>,
-) -> Over<'a, S> {
-    let mut fs = match mount_station(alloc, station) {
-        Ok(fs) => fs,
-        Err(over) => return over,
-    };
-    let done = restore.go_on(alloc, &mut fs);
-    give_back(fs, done)
+    let done = restore.go_on(rt.alloc(), &mut fs);
+    end(rt, what.image, fs, done)
 }
 
 /// Bringing back what a path names in a snapshot.
@@ -90,12 +75,12 @@ impl<'a, E: Write> Restore<'a, '_, E> {
         fs: &mut Fs<S>,
     ) -> Result<(), TransferError<'a>> {
         let Transfer { path, name, .. } = self.what;
-        let old = lstat(alloc, fs, self.tree, path);
+        let old = lstat(fs, self.tree, path);
         let old = found(alloc, fs, self.tree, name, path, old)?;
         if old.kind == FileType::Dir {
             return Err(TransferError::IsTree { path: name });
         }
-        take_left_away(alloc, fs)?;
+        take_left_away(fs)?;
         let goal = self.find_goal(alloc, fs, old)?;
         if old.kind == FileType::Link {
             return self.bring_link(alloc, fs, &goal);
@@ -137,8 +122,8 @@ impl<'a, E: Write> Restore<'a, '_, E> {
         fs: &mut Fs<S>,
         goal: &Goal<'a>,
     ) -> Result<(), TransferError<'a>> {
-        let text = link_text(alloc, fs, self.tree, self.what.path);
+        let text = link_text(fs, self.tree, self.what.path);
         let text = at(self.what.name, 0, text)?;
-        store_link(alloc, fs, goal, text.as_bytes())
+        store_link(fs, goal, text.as_bytes())
     }
 }

@@ -1,14 +1,10 @@
 //! The room of a disk, and what a call needs of it.
 
 use crate::error::{TransferError, at};
-use crate::steps::{answer, refusal, settle};
-use model::{Command, Errno, Reply, SINGLE_FILE};
+use model::{Errno, FILE_COST, GREAT_FILE_COST, KEPT_BLOCKS, NAMES_COST, SINGLE_FILE, fixed_cost};
 use mount::Fs;
 use station::{BLOCK_BYTES, Station};
 use std::fmt;
-
-/// Blocks that stay free behind a record, so that files can still be taken away.
-const KEPT: u64 = 16;
 
 /// Blocks that a call may cost. Some more have to stay free behind it.
 #[derive(Clone, Copy, Debug)]
@@ -24,7 +20,7 @@ pub struct Cost {
 /// To make a file, or to give one its name.
 pub const NAMING: Cost = Cost {
     bytes: 0,
-    name: 24,
+    name: NAMES_COST,
     size: 0,
 };
 
@@ -32,14 +28,18 @@ pub const NAMING: Cost = Cost {
 pub const SIZING: Cost = Cost {
     bytes: 0,
     name: 0,
-    size: 6,
+    size: FILE_COST,
 };
 
 /// To write so many bytes at a block's first one, behind all others of their file.
 pub fn writing(offset: u64, bytes: usize) -> Cost {
     let touched = bytes.div_ceil(BLOCK_BYTES) as u64;
     let is_single = offset.saturating_add(bytes as u64) <= SINGLE_FILE;
-    let beside = if is_single { 6 } else { 8 };
+    let beside = if is_single {
+        FILE_COST
+    } else {
+        GREAT_FILE_COST
+    };
     Cost {
         bytes: touched.saturating_mul(2).saturating_add(beside),
         name: 0,
@@ -71,7 +71,7 @@ impl Needs {
         bytes
             .saturating_add(name)
             .saturating_add(size)
-            .saturating_add(KEPT)
+            .saturating_add(KEPT_BLOCKS)
             .saturating_add(self.point)
             .saturating_add(self.pledged)
     }
@@ -95,7 +95,7 @@ impl fmt::Display for Needs {
         }
         write!(
             f,
-            "{point} for the next consistency point, {KEPT} that stay free"
+            "{point} for the next consistency point, {KEPT_BLOCKS} that stay free"
         )
     }
 }
@@ -117,27 +117,20 @@ fn find_shortage<S: Station>(fs: &mut Fs<S>, cost: Cost) -> Result<Option<Shorta
     if shortage_now(fs, cost)?.is_none() {
         return Ok(None);
     }
-    settle(fs)?;
+    // Behind a consistency point the blocks are free that were given up before.
+    fs.sync()?;
     shortage_now(fs, cost)
 }
 
 fn shortage_now<S: Station>(fs: &mut Fs<S>, cost: Cost) -> Result<Option<Shortage>, Errno> {
-    match answer(fs, Command::Df) {
-        Reply::Space {
-            blocks,
-            free,
-            pledged,
-        } => {
-            let needs = Needs {
-                cost,
-                point: u64::from(blocks.div_ceil(1024)) + 4,
-                pledged,
-            };
-            let free = u64::from(free);
-            Ok((free < needs.sum()).then_some(Shortage { free, needs }))
-        }
-        reply => Err(refusal(&reply)),
-    }
+    let space = fs.df()?;
+    let needs = Needs {
+        cost,
+        point: fixed_cost(space.blocks),
+        pledged: space.pledged,
+    };
+    let free = u64::from(space.free);
+    Ok((free < needs.sum()).then_some(Shortage { free, needs }))
 }
 
 /// Refuses what has no room from this byte on.

@@ -6,7 +6,7 @@ use crate::missing::spell;
 use crate::progress::Progress;
 use crate::room::{NAMING, SIZING, check_room, lacks_room, storing, with_room, writing};
 use crate::runs::{count_blocks, next_run};
-use crate::steps::{close, make_file, make_link, remove, rename, set_size, write_at};
+use crate::steps::{make_file, remove, set_size, write_at};
 use crate::target::{Target, UNFINISHED};
 use layout::INLINE_BYTES;
 use model::{Errno, GREATEST_FILE, Mode};
@@ -27,11 +27,8 @@ pub struct Goal<'a> {
 }
 
 /// Takes away what a cut left of an earlier transfer.
-pub fn take_left_away<'a, S: Station>(
-    alloc: Global,
-    fs: &mut Fs<S>,
-) -> Result<(), TransferError<'a>> {
-    match remove(alloc, fs, UNFINISHED.as_bytes()) {
+pub fn take_left_away<'a, S: Station>(fs: &mut Fs<S>) -> Result<(), TransferError<'a>> {
+    match remove(fs, UNFINISHED.as_bytes()) {
         Err(Errno::EPERM) => Err(TransferError::IsInTheWay { path: UNFINISHED }),
         answer => at(UNFINISHED, 0, answer),
     }
@@ -90,18 +87,14 @@ pub fn store<'a, S: Station, I: Read, E: Write>(
     progress: &mut Progress<E>,
 ) -> Result<(), TransferError<'a>> {
     let stored = store_bytes(alloc, fs, goal, input, progress);
-    give_up_where_refused(alloc, fs, &stored);
+    give_up_where_refused(fs, &stored);
     stored
 }
 
 /// Takes away what isn't whole. Where that is refused, the next transfer does it.
-fn give_up_where_refused<S: Station>(
-    alloc: Global,
-    fs: &mut Fs<S>,
-    stored: &Result<(), TransferError<'_>>,
-) {
+fn give_up_where_refused<S: Station>(fs: &mut Fs<S>, stored: &Result<(), TransferError<'_>>) {
     if stored.is_err() {
-        let _ = remove(alloc, fs, UNFINISHED.as_bytes());
+        let _ = remove(fs, UNFINISHED.as_bytes());
     }
 }
 
@@ -113,27 +106,26 @@ fn store_bytes<'a, S: Station, I: Read, E: Write>(
     input: &mut Input<'a, '_, I>,
     progress: &mut Progress<E>,
 ) -> Result<(), TransferError<'a>> {
-    let made = make_file(alloc, fs, UNFINISHED.as_bytes(), goal.mode);
+    let made = make_file(fs, UNFINISHED.as_bytes(), goal.mode);
     let fd = with_room(fs, goal.name, 0, NAMING, made)?;
     let written = write_all(alloc, fs, fd, goal.name, input, progress);
-    let closed = close(fs, fd);
+    let closed = fs.close(fd);
     let bytes = written?;
     at(goal.name, bytes, closed)?;
     if bytes == 0 {
         check_pipe(alloc, goal, input.pipe())?;
     }
-    give_name(alloc, fs, goal, bytes)
+    give_name(fs, goal, bytes)
 }
 
 /// Gives what is whole its name, behind so many bytes.
 fn give_name<'a, S: Station>(
-    alloc: Global,
     fs: &mut Fs<S>,
     goal: &Goal<'a>,
     bytes: u64,
 ) -> Result<(), TransferError<'a>> {
     let new = goal.target.path.as_slice();
-    let named = rename(alloc, fs, UNFINISHED.as_bytes(), new);
+    let named = fs.rename(UNFINISHED.as_bytes(), new);
     with_room(fs, goal.name, bytes, NAMING, named)
 }
 
@@ -176,7 +168,7 @@ fn write_all<'a, S: Station, I: Read, E: Write>(
         if part.is_empty() {
             break;
         }
-        if let Some(end) = write_runs(alloc, fs, fd, path, start, &part)? {
+        if let Some(end) = write_runs(fs, fd, path, start, &part)? {
             stored = end;
         }
         progress.note(size);
@@ -192,7 +184,6 @@ fn write_all<'a, S: Station, I: Read, E: Write>(
 /// Writes those blocks of a part that aren't zeros alone, run by run. The part begins at this byte of the file. Tells the byte
 /// behind them, where there are any.
 fn write_runs<'a, S: Station>(
-    alloc: Global,
     fs: &mut Fs<S>,
     fd: u32,
     path: &'a str,
@@ -207,7 +198,7 @@ fn write_runs<'a, S: Station>(
         };
         let offset = start.saturating_add(run.start as u64);
         let count = run.bytes.len();
-        let written = write_at(alloc, fs, fd, offset, run.bytes);
+        let written = write_at(fs, fd, offset, run.bytes);
         with_room(fs, path, offset, writing(offset, count), written)?;
         stored = Some(offset.saturating_add(count as u64));
         from = run.end();
@@ -217,24 +208,22 @@ fn write_runs<'a, S: Station>(
 
 /// Stores a symbolic link of this text, which takes the place of what is there.
 pub fn store_link<'a, S: Station>(
-    alloc: Global,
     fs: &mut Fs<S>,
     goal: &Goal<'a>,
     text: &[u8],
 ) -> Result<(), TransferError<'a>> {
-    let stored = name_link(alloc, fs, goal, text);
-    give_up_where_refused(alloc, fs, &stored);
+    let stored = name_link(fs, goal, text);
+    give_up_where_refused(fs, &stored);
     stored
 }
 
 /// Makes a link, and gives it its name.
 fn name_link<'a, S: Station>(
-    alloc: Global,
     fs: &mut Fs<S>,
     goal: &Goal<'a>,
     text: &[u8],
 ) -> Result<(), TransferError<'a>> {
-    let made = make_link(alloc, fs, text, UNFINISHED.as_bytes());
+    let made = fs.symlink(text, UNFINISHED.as_bytes());
     with_room(fs, goal.name, 0, NAMING, made)?;
-    give_name(alloc, fs, goal, 0)
+    give_name(fs, goal, 0)
 }

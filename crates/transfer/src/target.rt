@@ -42,12 +42,12 @@ pub fn find_place<S: Station>(
     own_name: &[u8],
 ) -> Result<Target, Errno> {
     let path = in_memory(Vec::from_slice(alloc, path))?;
-    let target = at_path(alloc, fs, path)?;
+    let target = at_path(fs, path)?;
     if !is_directory(&target) {
         return Ok(target);
     }
     let path = in_memory(join(alloc, target.path, own_name))?;
-    not_directory(at_path(alloc, fs, path)?)
+    not_directory(at_path(fs, path)?)
 }
 
 fn is_directory(target: &Target) -> bool {
@@ -64,21 +64,21 @@ fn not_directory(target: Target) -> Result<Target, Errno> {
     Ok(target)
 }
 
-fn at_path<S: Station>(alloc: Global, fs: &mut Fs<S>, path: Vec<u8>) -> Result<Target, Errno> {
-    let there = look_at(alloc, fs, path.as_slice())?;
+fn at_path<S: Station>(fs: &mut Fs<S>, path: Vec<u8>) -> Result<Target, Errno> {
+    let there = look_at(fs, path.as_slice())?;
     Ok(Target { path, there })
 }
 
 /// Follows the symbolic links that a path ends in.
 fn follow<S: Station>(alloc: Global, fs: &mut Fs<S>, path: Vec<u8>) -> Result<Target, Errno> {
-    let mut target = at_path(alloc, fs, path)?;
+    let mut target = at_path(fs, path)?;
     for _ in 0..LINKS_FOLLOWED {
         if !is_link(&target) {
             return Ok(target);
         }
-        let text = link_text(alloc, fs, RUNNING, target.path.as_slice())?;
+        let text = link_text(fs, RUNNING, target.path.as_slice())?;
         let path = in_memory(from_link(alloc, target.path.as_slice(), text.as_bytes()))?;
-        target = at_path(alloc, fs, path)?;
+        target = at_path(fs, path)?;
     }
     if is_link(&target) {
         return Err(Errno::ELOOP);
@@ -94,13 +94,9 @@ fn is_link(target: &Target) -> bool {
 }
 
 /// Whether a path is the one of what isn't whole yet, however it is spelled. Refused where its directory isn't there.
-pub fn is_unfinished<S: Station>(
-    alloc: Global,
-    fs: &mut Fs<S>,
-    path: &[u8],
-) -> Result<bool, Errno> {
+pub fn is_unfinished<S: Station>(fs: &mut Fs<S>, path: &[u8]) -> Result<bool, Errno> {
     let (directory, name) = split_last(path);
-    let directory = stat(alloc, fs, RUNNING, without_slashes(directory))?;
+    let directory = stat(fs, RUNNING, without_slashes(directory))?;
     if directory.kind != FileType::Dir {
         return Err(Errno::ENOTDIR);
     }

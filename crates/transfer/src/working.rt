@@ -1,59 +1,52 @@
-//! Working on a mounted image, whatever it lies on.
+//! Working on a mounted image.
 
 use crate::error::TransferError;
 use crate::what::Ended;
-use file_station::{FileStation, OpenFiles};
-use host_files::{Held, Image, store_image};
+use host_files::{Image, ImageStation};
 use layout::{ROOT_BYTES, Root, SLOT_A, SLOT_B};
-use memory_station::Sim;
 use model::Errno;
 use mount::{Fs, mount};
 use station::Station;
-use std::alloc::Global;
 use std::fs::File;
 use std::rt::Files;
 
-/// What a transfer over a station came to, and the station.
-pub type Over<'a, S> = (Result<(), TransferError<'a>>, S);
-
-/// Mounts a station. Where that fails, what the transfer came to.
-pub fn mount_station<'a, S: Station>(alloc: Global, station: S) -> Result<Fs<S>, Over<'a, S>> {
-    match mount(alloc, station) {
-        Ok(fs) => Ok(fs),
-        Err((error, station)) => Err((Err(TransferError::Mount(error)), station)),
-    }
-}
-
-/// Gives a mounted station back, with what the transfer came to.
-pub fn give_back<'a, S: Station>(fs: Fs<S>, done: Result<(), TransferError<'a>>) -> Over<'a, S> {
-    let mut station = fs.into_station();
-    let done = with_inodes(&mut station, done);
-    (done, station)
-}
-
-/// Ends a transfer over an image's files.
-pub fn end_on_files<'a>(over: Over<'a, FileStation<OpenFiles<File>>>) -> Ended<'a> {
-    let (done, station) = over;
-    Ended {
-        done,
-        fault: station.into_fault(),
-    }
-}
-
-/// Ends a transfer over an image in memory, which is stored again where the transfer is done, and else stays as it was.
-pub fn end_in_memory<'a, R: Files<File = File> + AllocGlobal>(
+/// Mounts an image that is open. Where that fails, how the transfer ended.
+pub fn mount_image<'a, R: Files<File = File> + AllocGlobal>(
     rt: &R,
     image: Image<'a>,
-    over: Over<'a, Sim>,
-    held: &Held,
-) -> Ended<'a> {
-    let (done, sim) = over;
-    if done.is_err() {
-        return Ended { done, fault: None };
+    station: ImageStation,
+) -> Result<Fs<ImageStation>, Ended<'a>> {
+    match mount(rt.alloc(), station) {
+        Ok(fs) => Ok(fs),
+        Err((error, station)) => Err(close(rt, image, station, Err(TransferError::Mount(error)))),
     }
-    Ended {
-        done: store_image(rt, image, &sim, held).map_err(TransferError::File),
-        fault: None,
+}
+
+/// Ends a transfer over a mounted image.
+pub fn end<'a, R: Files<File = File> + AllocGlobal>(
+    rt: &R,
+    image: Image<'a>,
+    fs: Fs<ImageStation>,
+    done: Result<(), TransferError<'a>>,
+) -> Ended<'a> {
+    let mut station = fs.into_station();
+    let done = with_inodes(&mut station, done);
+    close(rt, image, station, done)
+}
+
+/// Lets go of an image. One in memory is stored where the transfer is done, and else stays as it was.
+fn close<'a, R: Files<File = File> + AllocGlobal>(
+    rt: &R,
+    image: Image<'a>,
+    station: ImageStation,
+    done: Result<(), TransferError<'a>>,
+) -> Ended<'a> {
+    match station.close(rt, image, done.is_ok()) {
+        Ok(fault) => Ended { done, fault },
+        Err(error) => Ended {
+            done: Err(TransferError::File(error)),
+            fault: None,
+        },
     }
 }
 

@@ -93,8 +93,8 @@ fn stat_of(number: u32, object: &Object) -> Option<Stat>
         → MatchOption result ⊥ (IsStatOf number found) }
     ensures within { IfSome result (λ s. s.size ≤ GREATEST_FILE) }
 {
-    let mode = object.attributes.mode;
-    match object.attributes.kind {
+    let mode = object.status.attributes.mode;
+    match object.status.kind {
         Kind::Directory => Some(Stat {
             number,
             kind: model::FileType::Dir,
@@ -106,7 +106,7 @@ fn stat_of(number: u32, object: &Object) -> Option<Stat>
             number,
             kind: model::FileType::File,
             mode,
-            links: object.attributes.links,
+            links: object.status.links,
             size: object.file.size(),
         }),
         Kind::Link => Some(Stat {

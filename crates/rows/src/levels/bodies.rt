@@ -3,7 +3,7 @@
 ghost use Rattle.std.specs.Prelude.{◌≡◌, ◌≤◌};
 
 use layout::{BODY_POINTERS, Body, INLINE_BYTES, Inode, Kind, Pointer};
-use model::Mode;
+use model::Attributes;
 
 /// An inode of so many bytes, with these pointers.
 pub fn pointer_inode(size: u64, words: &str) -> Inode
@@ -33,7 +33,7 @@ fn inode(size: u64, body: Body) -> Inode
 {
     Inode {
         kind: Kind::File,
-        mode: Mode::new(0).unwrap(),
+        attributes: Attributes::none(),
         links: 1,
         size,
         body,

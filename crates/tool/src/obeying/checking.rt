@@ -1,11 +1,10 @@
 //! A check of an image.
 
-use super::{Streams, tell};
+use super::{Streams, close, tell};
 use crate::statuses::{status_of_check, status_of_report};
 use checker::{CheckError, Finding, Report, Watch, check};
-use host_files::{Image, Opened, Patience, open_to_read, store_image, tell_fault};
+use host_files::{Image, ImageStation, Patience, open_to_read};
 use session::Status;
-use station::Station;
 use std::io::{Read, Write};
 
 /// Tells on standard error what a check finds, and on a terminal how far it is.
@@ -48,14 +47,9 @@ pub(super) fn check_files<I: Read, O: Write, E: Write>(
     streams: &mut Streams<I, O, E>,
 ) -> Status {
     match open_to_read(rt, image, streams.patience) {
-        Ok(Opened::Files(station)) => {
+        Ok(station) => {
             let (status, station) = check_on(rt, station, image, streams);
-            tell_fault(image, station.into_fault().as_ref(), &mut streams.err);
-            status
-        }
-        Ok(Opened::Memory(sim, held)) => {
-            let (status, sim) = check_on(rt, sim, image, streams);
-            match store_image(rt, image, &sim, &held) {
+            match close(rt, image, station, true, &mut streams.err) {
                 Ok(()) => status,
                 Err(error) => tell(&error, &mut streams.err),
             }
@@ -64,13 +58,13 @@ pub(super) fn check_files<I: Read, O: Write, E: Write>(
     }
 }
 
-/// Looks for faults on a station, and gives that back.
-fn check_on<S: Station, I: Read, O: Write, E: Write>(
+/// Looks for faults in an image that is open.
+fn check_on<I: Read, O: Write, E: Write>(
     rt: &HostRuntime,
-    station: S,
+    station: ImageStation,
     image: Image<'_>,
     streams: &mut Streams<I, O, E>,
-) -> (Status, S) {
+) -> (Status, ImageStation) {
     let mut teller = Teller {
         to: &mut streams.err,
         has_terminal: streams.terminals.err,
@@ -89,15 +83,9 @@ fn check_on<S: Station, I: Read, O: Write, E: Write>(
 
 /// Tells what a check of an image finds that isn't mounted. It stores nothing, and waits for no lock.
 pub(crate) fn find_faults<E: Write>(rt: &HostRuntime, image: Image<'_>, err: &mut E) {
-    match open_to_read(rt, image, Patience::None) {
-        Ok(Opened::Files(station)) => find_on(rt, station, err),
-        Ok(Opened::Memory(sim, _held)) => find_on(rt, sim, err),
-        Err(_) => {}
-    }
-}
-
-/// Tells what a check of a station finds.
-fn find_on<S: Station + Drop, E: Write>(rt: &HostRuntime, station: S, err: &mut E) {
+    let Ok(station) = open_to_read(rt, image, Patience::None) else {
+        return;
+    };
     let mut teller = Teller {
         to: err,
         has_terminal: false,

@@ -4,7 +4,7 @@ ghost use Rattle.std.specs.Prelude.{◌≡◌, IfOk};
 ghost use Rattle.tool.specs.Words.{IsToFail, KeepsAsTold, mark_told};
 
 use command_line::{Kept, RunFaults};
-use host_files::{FileError, Held, Image, Opened, Patience, load_station};
+use host_files::{FileError, Held, Image, ImageStation, Patience, load_station};
 use memory_station::{Keep, Mark, Sim};
 use std::alloc::{AllocError, Global};
 
@@ -14,9 +14,9 @@ pub(super) fn failing_image<'a>(
     image: Image<'a>,
     faults: RunFaults<'_>,
     patience: Patience,
-) -> Result<Opened, FileError<'a>> {
+) -> Result<ImageStation, FileError<'a>> {
     let (sim, held) = failing_station(rt, image, faults, patience)?;
-    Ok(Opened::Memory(sim, held))
+    Ok(ImageStation::Memory(sim, held))
 }
 
 /// What a run in memory starts from: a station that is to fail as these faults say, and what holds the image's files.

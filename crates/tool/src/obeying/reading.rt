@@ -1,15 +1,14 @@
 //! One command, which words of the program's own spell.
 
-use super::sessions::{explain, store};
-use super::{Streams, tell, tell_salvage};
+use super::sessions::{Ran, close_run, explain};
+use super::{Streams, open_as_asked, tell, tell_salvage};
 use crate::names::Names;
 use crate::replies::Replies;
-use crate::salvaging::open_salvaged;
+use crate::salvaging::SalvageError;
 use crate::talk::{SharedError, Talk};
 use command_line::{are_words, line_of_typed, line_of_words};
-use host_files::{FileError, Image, Opened, open_image, open_to_read, tell_fault};
-use session::{Ending, Status, session};
-use station::Station;
+use host_files::{FileError, Image, ImageStation, open_image};
+use session::{Ending, Sink, Status, session};
 use std::alloc::{AllocError, Global};
 use std::cell::RefCell;
 use std::io::{Read, Write};
@@ -24,26 +23,24 @@ pub(super) fn run_one<I: Read, O: Write, E: Write>(
     words: &[&str],
     streams: &mut Streams<I, O, E>,
 ) -> Status {
-    if streams.options.salvages && !is_reading(words) {
+    let options = streams.options;
+    if options.salvages && !is_reading(words) {
         let _ = writeln!(
             streams.err,
             "wafl: --salvage changes nothing: it goes with list, stat, lstat, readlink, get, in, snap list and df"
         );
         return Status::NotUnderstood;
     }
-    let Ok(script) = line_of(rt.alloc(), words, streams.options.is_encoded) else {
+    let Ok(script) = line_of(rt.alloc(), words, options.is_encoded) else {
         return tell(&FileError::NoMemory, &mut streams.err);
     };
-    if streams.options.salvages {
-        return salvage_one(rt, image, words, script.as_slice(), streams);
-    }
     match answer_one(rt, image, words, script.as_slice(), streams) {
-        Ok(ending) if streams.options.is_encoded && !are_words(words) => {
+        Ok(ending) if options.is_encoded && !options.salvages && !are_words(words) => {
             explain_words(&mut streams.err);
             ending.status()
         }
         Ok(ending) => explain(rt, image, script.as_slice(), ending, streams),
-        Err(error) => tell(&error, &mut streams.err),
+        Err(error) => tell_salvage(&error, &mut streams.err),
     }
 }
 
@@ -89,59 +86,32 @@ fn snapshot_of<'w>(words: &[&'w str]) -> Option<&'w [u8]> {
     }
 }
 
-/// Answers a command on as much of an image as can be read.
-fn salvage_one<I, O: Write, E: Write>(
-    rt: &HostRuntime,
-    image: Image<'_>,
-    words: &[&str],
-    script: &[u8],
-    streams: &mut Streams<I, O, E>,
-) -> Status {
-    let snapshot = snapshot_of(words);
-    match open_salvaged(rt, image, snapshot, streams.patience, &mut streams.err) {
-        Ok(station) => {
-            let (ending, _station) = answer_on(rt, image, station, words, script, streams);
-            explain(rt, image, script, ending, streams)
-        }
-        Err(error) => tell_salvage(&error, &mut streams.err),
-    }
-}
-
-/// Answers a command on an image, and tells which call of the host failed, if one did.
+/// Answers a command on an image.
 fn answer_one<'a, I, O: Write, E: Write>(
     rt: &HostRuntime,
     image: Image<'a>,
     words: &[&str],
     script: &[u8],
     streams: &mut Streams<I, O, E>,
-) -> Result<Ending, FileError<'a>> {
-    let opened = if is_reading(words) {
-        open_to_read(rt, image, streams.patience)?
+) -> Result<Ending, SalvageError<'a>> {
+    let station = if is_reading(words) {
+        open_as_asked(rt, image, snapshot_of(words), streams)?
     } else {
         open_image(rt, image, streams.patience)?
     };
-    match opened {
-        Opened::Files(station) => {
-            let (ending, station) = answer_on(rt, image, station, words, script, streams);
-            tell_fault(image, station.into_fault().as_ref(), &mut streams.err);
-            Ok(ending)
-        }
-        Opened::Memory(sim, held) => {
-            let (ending, sim) = answer_on(rt, image, sim, words, script, streams);
-            store(rt, image, ending, &sim, &held)
-        }
-    }
+    let ran = answer_on(rt, image, station, words, script, streams);
+    Ok(close_run(rt, image, ran, &mut streams.err)?)
 }
 
-/// Answers a command on a station, and gives that back. On a terminal names are shown as a shell reads them.
-fn answer_on<S: Station, I, O: Write, E: Write>(
+/// Answers a command on an image that is open. On a terminal names are shown as a shell reads them.
+fn answer_on<I, O: Write, E: Write>(
     rt: &HostRuntime,
     image: Image<'_>,
-    station: S,
+    station: ImageStation,
     words: &[&str],
     script: &[u8],
     streams: &mut Streams<I, O, E>,
-) -> (Ending, S) {
+) -> Ran {
     let talk = RefCell::new(Talk {
         err: &mut streams.err,
         line: None,
@@ -154,15 +124,15 @@ fn answer_on<S: Station, I, O: Write, E: Write>(
 }
 
 /// Answers a command, and tells what a refusal means.
-fn converse<S: Station, O: Write, E: Write>(
+fn converse<O: Write, E: Write>(
     rt: &HostRuntime,
     image: Image<'_>,
-    station: S,
+    station: ImageStation,
     script: &[u8],
     out: &mut O,
     talk: &RefCell<Talk<'_, E>>,
-) -> (Ending, S) {
-    let mut replies = Replies {
+) -> Ran {
+    let replies = Replies {
         rt,
         image,
         out,
@@ -176,7 +146,7 @@ fn converse<S: Station, O: Write, E: Write>(
         script,
         true,
         |_| false,
-        &mut replies,
-        &mut SharedError { talk },
+        &mut Sink::new(replies),
+        &mut Sink::new(SharedError { talk }),
     )
 }

@@ -1,13 +1,11 @@
 //! The room of an image's disk.
 
-use super::sessions::{explain, run_bytes, store};
-use super::{Streams, tell, tell_salvage};
+use super::sessions::{Ran, end_run, run_bytes};
+use super::{Streams, open_as_asked, tell_salvage};
 use crate::rooms::{inodes_of, room_of, show_human};
-use crate::salvaging::open_salvaged;
-use host_files::{FileError, Image, Opened, open_to_read, tell_fault};
+use host_files::{Image, ImageStation};
 use mount::{Fs, mount};
 use session::{Ending, Status};
-use station::Station;
 use std::io::{Read, Write};
 
 /// The script that asks for the room.
@@ -19,55 +17,22 @@ pub(super) fn show_room<I: Read, O: Write, E: Write>(
     image: Image<'_>,
     streams: &mut Streams<I, O, E>,
 ) -> Status {
-    if streams.options.salvages {
-        return salvage_room(rt, image, streams);
-    }
-    match answer_on(rt, image, streams) {
-        Ok(ending) => explain(rt, image, DF, ending, streams),
-        Err(error) => tell(&error, &mut streams.err),
-    }
-}
-
-/// Tells the room of as much of an image as can be read.
-fn salvage_room<I, O: Write, E: Write>(
-    rt: &HostRuntime,
-    image: Image<'_>,
-    streams: &mut Streams<I, O, E>,
-) -> Status {
-    match open_salvaged(rt, image, None, streams.patience, &mut streams.err) {
+    match open_as_asked(rt, image, None, streams) {
         Ok(station) => {
-            let (ending, _station) = show_on(rt, image, station, streams);
-            explain(rt, image, DF, ending, streams)
+            let ran = show_on(rt, image, station, streams);
+            end_run(rt, image, DF, ran, streams)
         }
         Err(error) => tell_salvage(&error, &mut streams.err),
     }
 }
 
-fn answer_on<'a, I, O: Write, E: Write>(
-    rt: &HostRuntime,
-    image: Image<'a>,
-    streams: &mut Streams<I, O, E>,
-) -> Result<Ending, FileError<'a>> {
-    match open_to_read(rt, image, streams.patience)? {
-        Opened::Files(station) => {
-            let (ending, station) = show_on(rt, image, station, streams);
-            tell_fault(image, station.into_fault().as_ref(), &mut streams.err);
-            Ok(ending)
-        }
-        Opened::Memory(sim, held) => {
-            let (ending, sim) = show_on(rt, image, sim, streams);
-            store(rt, image, ending, &sim, &held)
-        }
-    }
-}
-
-/// Tells the room of a station, and gives that back.
-fn show_on<S: Station, I, O: Write, E: Write>(
+/// Tells the room of an image that is open.
+fn show_on<I, O: Write, E: Write>(
     rt: &HostRuntime,
     image: Image<'_>,
-    station: S,
+    station: ImageStation,
     streams: &mut Streams<I, O, E>,
-) -> (Ending, S) {
+) -> Ran {
     let (ending, station) = run_bytes(rt, station, DF, false, streams);
     if streams.options.is_human && ending == Ending::Ran(Status::Done) {
         let station = show_to_people(rt, image, station, streams);
@@ -76,13 +41,13 @@ fn show_on<S: Station, I, O: Write, E: Write>(
     (ending, station)
 }
 
-/// Tells what the room of a station comes to, and gives that back. It is mounted once more.
-fn show_to_people<S: Station, I, O: Write, E: Write>(
+/// Tells what the room of an image comes to, which is mounted once more.
+fn show_to_people<I, O: Write, E: Write>(
     rt: &HostRuntime,
     image: Image<'_>,
-    station: S,
+    station: ImageStation,
     streams: &mut Streams<I, O, E>,
-) -> S {
+) -> ImageStation {
     let inodes = inodes_of(rt, image);
     match mount(rt.alloc(), station) {
         Ok(mut fs) => {
@@ -93,9 +58,9 @@ fn show_to_people<S: Station, I, O: Write, E: Write>(
     }
 }
 
-fn show_room_of<S: Station, I, O: Write, E: Write>(
+fn show_room_of<I, O: Write, E: Write>(
     rt: &HostRuntime,
-    fs: &mut Fs<S>,
+    fs: &mut Fs<ImageStation>,
     inodes: u32,
     streams: &mut Streams<I, O, E>,
 ) {

@@ -1,15 +1,11 @@
 //! A script's commands on an image.
 
 use super::faults::failing_image;
-use super::{Streams, tell};
+use super::{Streams, close, tell};
 use crate::explain::explain_ending;
 use command_line::RunFaults;
-use host_files::{
-    FileError, Held, Image, Opened, open_image, read_script, store_image, tell_fault,
-};
-use memory_station::Sim;
-use session::{Ending, Status, session};
-use station::Station;
+use host_files::{FileError, Image, ImageStation, open_image, read_script};
+use session::{Ending, Sink, Status, session};
 use std::io::{Read, Write};
 
 /// Runs a script: on the image's files, or in memory where something is to go wrong or can't be read.
@@ -33,84 +29,61 @@ pub(super) fn run_script<I: Read, O: Write, E: Write>(
         } => open_image(rt, image, streams.patience),
         _ => failing_image(rt, image, faults, streams.patience),
     };
-    match run_on(rt, image, opened, script.as_slice(), stops, streams) {
-        Ok(ending) => explain(rt, image, script.as_slice(), ending, streams),
+    match opened {
+        Ok(station) => {
+            let ran = run_bytes(rt, station, script.as_slice(), stops, streams);
+            end_run(rt, image, script.as_slice(), ran, streams)
+        }
         Err(error) => tell(&error, &mut streams.err),
     }
 }
 
-/// Runs a script's bytes on an image that was opened, and tells which call of the host failed, if one did.
-fn run_on<'a, I, O: Write, E: Write>(
+/// How a run ended, and the image that it was on.
+pub(super) type Ran = (Ending, ImageStation);
+
+/// Runs a script's bytes on an image, until the power is cut.
+pub(super) fn run_bytes<I, O: Write, E: Write>(
     rt: &HostRuntime,
-    image: Image<'a>,
-    opened: Result<Opened, FileError<'a>>,
+    station: ImageStation,
     script: &[u8],
     stops: bool,
     streams: &mut Streams<I, O, E>,
-) -> Result<Ending, FileError<'a>> {
-    match opened? {
-        Opened::Files(station) => {
-            let (ending, station) = run_bytes(rt, station, script, stops, streams);
-            tell_fault(image, station.into_fault().as_ref(), &mut streams.err);
-            Ok(ending)
-        }
-        Opened::Memory(sim, held) => {
-            let (ending, sim) = run_until_cut(rt, sim, script, stops, streams);
-            store(rt, image, ending, &sim, &held)
-        }
-    }
-}
-
-/// Stores what a run in memory left, where it came to one.
-pub(super) fn store<'a>(
-    rt: &HostRuntime,
-    image: Image<'a>,
-    ending: Ending,
-    sim: &Sim,
-    held: &Held,
-) -> Result<Ending, FileError<'a>> {
-    if let Ending::Ran(_) = ending {
-        store_image(rt, image, sim, held)?;
-    }
-    Ok(ending)
-}
-
-/// Runs a script's bytes on a station whose power isn't cut, and gives that back.
-pub(super) fn run_bytes<S: Station, I, O: Write, E: Write>(
-    rt: &HostRuntime,
-    station: S,
-    script: &[u8],
-    stops: bool,
-    streams: &mut Streams<I, O, E>,
-) -> (Ending, S) {
+) -> Ran {
     session(
         rt.alloc(),
         station,
         script,
         stops,
-        |_| false,
-        &mut streams.out,
-        &mut streams.err,
+        |station: &ImageStation| station.is_cut(),
+        &mut Sink::new(&mut streams.out),
+        &mut Sink::new(&mut streams.err),
     )
 }
 
-/// Runs a script's bytes on a station in memory until its power is cut, and gives that back.
-fn run_until_cut<I, O: Write, E: Write>(
+/// Lets go of an image. One in memory is stored where it came to a run.
+pub(super) fn close_run<'a, E: Write>(
     rt: &HostRuntime,
-    sim: Sim,
+    image: Image<'a>,
+    ran: Ran,
+    err: &mut E,
+) -> Result<Ending, FileError<'a>> {
+    let (ending, station) = ran;
+    close(rt, image, station, matches!(ending, Ending::Ran(_)), err)?;
+    Ok(ending)
+}
+
+/// Lets go of an image, and tells in a second line, where that is wanted, why nothing was run.
+pub(super) fn end_run<I, O, E: Write>(
+    rt: &HostRuntime,
+    image: Image<'_>,
     script: &[u8],
-    stops: bool,
+    ran: Ran,
     streams: &mut Streams<I, O, E>,
-) -> (Ending, Sim) {
-    session(
-        rt.alloc(),
-        sim,
-        script,
-        stops,
-        |sim: &Sim| sim.is_cut(),
-        &mut streams.out,
-        &mut streams.err,
-    )
+) -> Status {
+    match close_run(rt, image, ran, &mut streams.err) {
+        Ok(ending) => explain(rt, image, script, ending, streams),
+        Err(error) => tell(&error, &mut streams.err),
+    }
 }
 
 /// Tells in a second line, where that is wanted, why nothing was run.

@@ -1,13 +1,12 @@
 //! Lines of standard input, answered one by one.
 
-use super::sessions::{explain, store};
+use super::sessions::{Ran, end_run};
 use super::{Streams, tell};
 use crate::replies::Replies;
 use crate::talk::{SharedError, Talk};
 use crate::typing::TypedLines;
-use host_files::{FileError, Image, Opened, open_image, tell_fault};
-use session::{Ending, Fault, Status, shell};
-use station::Station;
+use host_files::{Image, ImageStation, open_image};
+use session::{Ending, Fault, Sink, Source, Status, shell};
 use std::cell::RefCell;
 use std::io::{Read, Write};
 
@@ -17,39 +16,23 @@ pub(super) fn run_shell<I: Read, O: Write, E: Write>(
     image: Image<'_>,
     streams: &mut Streams<I, O, E>,
 ) -> Status {
-    match answer_on(rt, image, streams) {
-        Ok(ending) => explain(rt, image, b"", ending, streams),
+    match open_image(rt, image, streams.patience) {
+        Ok(station) => {
+            let ran = answer_lines(rt, image, station, streams);
+            end_run(rt, image, b"", ran, streams)
+        }
         Err(error) => tell(&error, &mut streams.err),
     }
 }
 
-/// Answers each line of standard input on an image, and tells which call of the host failed, if one did.
-fn answer_on<'a, I: Read, O: Write, E: Write>(
-    rt: &HostRuntime,
-    image: Image<'a>,
-    streams: &mut Streams<I, O, E>,
-) -> Result<Ending, FileError<'a>> {
-    match open_image(rt, image, streams.patience)? {
-        Opened::Files(station) => {
-            let (ending, station) = answer_lines(rt, image, station, streams);
-            tell_fault(image, station.into_fault().as_ref(), &mut streams.err);
-            Ok(ending)
-        }
-        Opened::Memory(sim, held) => {
-            let (ending, sim) = answer_lines(rt, image, sim, streams);
-            store(rt, image, ending, &sim, &held)
-        }
-    }
-}
-
-/// Answers each line of standard input on a station whose power isn't cut, and gives that back. What a refusal means, and why a
-/// line is no command, is told behind its reply.
-fn answer_lines<S: Station, I: Read, O: Write, E: Write>(
+/// Answers each line of standard input on an image whose power isn't cut. What a refusal means, and why a line is no command, is told
+/// behind its reply.
+fn answer_lines<I: Read, O: Write, E: Write>(
     rt: &HostRuntime,
     image: Image<'_>,
-    station: S,
+    station: ImageStation,
     streams: &mut Streams<I, O, E>,
-) -> (Ending, S) {
+) -> Ran {
     let manners = Manners {
         prompts: streams.terminals.input && streams.terminals.out,
         explains: streams.explains,
@@ -79,19 +62,19 @@ struct Manners {
 }
 
 /// Answers each line of an input.
-fn converse<S: Station, I: Read, O: Write, E: Write>(
+fn converse<I: Read, O: Write, E: Write>(
     rt: &HostRuntime,
     image: Image<'_>,
-    station: S,
+    station: ImageStation,
     input: &mut I,
     out: &mut O,
     talk: &RefCell<Talk<'_, E>>,
     manners: Manners,
-) -> (Ending, S) {
-    let Ok(mut lines) = TypedLines::new(rt.alloc(), input, talk, manners.prompts) else {
+) -> Ran {
+    let Ok(lines) = TypedLines::new(rt.alloc(), input, talk, manners.prompts) else {
         return (Ending::Unrun(Fault::NoMemory, Status::NoMemory), station);
     };
-    let mut replies = Replies {
+    let replies = Replies {
         rt,
         image,
         out,
@@ -103,9 +86,9 @@ fn converse<S: Station, I: Read, O: Write, E: Write>(
         rt.alloc(),
         station,
         manners.prompts,
-        &mut lines,
+        &mut Source::new(lines),
         |_| false,
-        &mut replies,
-        &mut SharedError { talk },
+        &mut Sink::new(replies),
+        &mut Sink::new(SharedError { talk }),
     )
 }

@@ -96,9 +96,9 @@ fn salvage<'a, I, O: Write, E: Write>(
         }
     };
     let mut progress = Progress::new(&mut streams.err, streams.terminals.err);
-    let (done, _station) = get_from(rt, station, what, snapshot, &mut streams.out, &mut progress);
+    let ended = get_from(rt, station, what, snapshot, &mut streams.out, &mut progress);
     progress.end();
-    Ended { done, fault: None }
+    ended
 }
 
 fn salvage_refused(error: SalvageError<'_>) -> TransferError<'_> {

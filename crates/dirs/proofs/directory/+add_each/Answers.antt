@@ -3,7 +3,7 @@ use Rattle.std.proofs.Math.Bool.{or-false}
 use Rattle.layout.specs.Directory.{named_of}
 use Rattle.layout.specs.DirectoryNames.{number_of}
 use Rattle.dirs.specs.Listings.{lists_name}
-use Rattle.entries.proofs.EntryLists.{none_left, one_first}
+use Rattle.layout.proofs.EntryLaws.{none_left, one_first}
 use Rattle.dirs.proofs.ListingLaws.{lists-insert, stands-first, or_assoc}
 use Rattle.dirs.proofs.directory.+add_each.Goals as goal
 

@@ -1,6 +1,6 @@
 use Rattle.std.proofs.Common.{arith, ap, sym, length, ◌≤◌, ◌^◌}
 use Rattle.layout.specs.Directory.{named_of}
-use Rattle.entries.proofs.EntryLists.{none_left, one_first}
+use Rattle.layout.proofs.EntryLaws.{none_left, one_first}
 use Rattle.entries.proofs.entries.+count.Goals as goal
 
 pub returns-in-End-clause-count : goal.returns-in-End-clause-count

@@ -2,8 +2,8 @@ use Rattle.std.proofs.Common.{rules, arith, ◌∙◌, ap, sym, ◌≡◌, bytes
 use Rattle.std.proofs.lemmas.List.{length-append}
 use Rattle.layout.specs.Directory.{entry_bytes, named_of}
 use Rattle.layout.specs.DirectoryNames.{number_of}
-use Rattle.layout.proofs.EntryLaws.{length-entry_bytes}
-use Rattle.entries.proofs.EntryLists.{none_left, one_first, found_here, found_behind}
+use Rattle.layout.proofs.EntryLaws.{length-entry_bytes, none_left, one_first}
+use Rattle.entries.proofs.EntryLists.{found_here, found_behind}
 use Rattle.entries.proofs.entries.+find.Goals as goal
 
 pub returns-in_default-clause-found : goal.returns-in_default-clause-found

@@ -1,9 +1,9 @@
 use Rattle.std.proofs.Common.{rules, arith, ◌∙◌, ap, ◌≡◌, bytes_eq, true, false, length, ◌^◌, ◌≤◌}
 use Rattle.std.proofs.lemmas.List.{length-append}
 use Rattle.layout.specs.Directory.{entry_bytes, named_of}
-use Rattle.layout.proofs.EntryLaws.{length-entry_bytes}
+use Rattle.layout.proofs.EntryLaws.{length-entry_bytes, none_left, one_first}
 use Rattle.layout.specs.DirectoryNames.{number_of}
-use Rattle.entries.proofs.EntryLists.{none_left, one_first, found_behind, removed_first, removed_behind}
+use Rattle.entries.proofs.EntryLists.{found_behind, removed_first, removed_behind}
 use Rattle.entries.proofs.ChangeLaws.{fewer_first, fewer_behind}
 use Rattle.entries.proofs.entries.+place_of.Goals as goal
 

@@ -1,7 +1,7 @@
 use Rattle.std.proofs.Common.{arith, ap, sym, ◌^◌, ◌≤◌}
 use Rattle.layout.specs.Directory.{named_of}
 use Rattle.entries.specs.Entries.{used_by}
-use Rattle.entries.proofs.EntryLists.{none_left, one_first}
+use Rattle.layout.proofs.EntryLaws.{none_left, one_first}
 use Rattle.entries.proofs.entries.+used.Goals as goal
 
 pub returns-in-End-clause-used : goal.returns-in-End-clause-used

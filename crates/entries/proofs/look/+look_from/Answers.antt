@@ -1,9 +1,9 @@
 use Rattle.std.proofs.Common.{rules, arith, ◌≡◌, ◌∙◌, ◌^◌, ◌≤◌, List, [], ◌∷◌, length, bytes_eq, true, false, Some, ap, sym}
 use Rattle.layout.specs.Directory.{Named, HoldsEntries, named_of}
 use Rattle.layout.specs.DirectoryNames.{number_of}
-use Rattle.layout.proofs.EntryLaws.{length-entry_bytes}
+use Rattle.layout.proofs.EntryLaws.{length-entry_bytes, Behind, none_left, one_first}
 use Rattle.entries.specs.Entries.{used_by}
-use Rattle.entries.proofs.EntryLists.{Behind, none_left, one_first, found_here, found_behind}
+use Rattle.entries.proofs.EntryLists.{found_here, found_behind}
 use Rattle.entries.proofs.look.+look_from.Goals.{then-eq, else-eq}
 use Rattle.entries.proofs.look.+look_from.Goals as goal
 

@@ -4,7 +4,8 @@ use Rattle.layout.specs.Directory.{named_of}
 use Rattle.layout.specs.DirectoryNames.{number_of}
 use Rattle.model.proofs.OptionLaws.{none_some}
 use Rattle.entries.specs.Marks.{HasMarks}
-use Rattle.entries.proofs.EntryLists.{none_left, one_first, found_behind}
+use Rattle.layout.proofs.EntryLaws.{none_left, one_first}
+use Rattle.entries.proofs.EntryLists.{found_behind}
 use Rattle.entries.proofs.Once.{keeps_name}
 use Rattle.entries.proofs.MissingLaws.{same_name}
 use Rattle.entries.proofs.marks.+mark_each.Goals as goal

@@ -19,7 +19,7 @@ returns-in-Free-clause-stands c = λ detail s disk inodes found sound ordinary s
 
 loaded : (c : goal.In_ok-object-in_default) → IsLoaded c.args.inode c.in_ok-object-in_default.object
 loaded c = record {
-  attributes = c.in_ok-object-in_default.ensures.attributes;
+  status = c.in_ok-object-in_default.ensures.status;
   size = c.in_ok-object-in_default.ensures.size;
   base = c.in_ok-object-in_default.ensures.base;
   used = c.in_default.not-Free;

@@ -1,7 +1,8 @@
 use Rattle.std.proofs.Common.{rules, ◌≡◌, ◌∙◌, ◌*◌, ◌/◌, length, subst, arith}
+use Rattle.model.proofs.ListLaws.{whole_again}
 use Rattle.blocktree.specs.Trees.{IsSoundAt}
 use Rattle.inode.specs.Files.{byte_at}
-use Rattle.loading.proofs.EndLaws.{part_whole, whole_again}
+use Rattle.loading.proofs.EndLaws.{part_whole}
 use Rattle.loading.proofs.maps.read_all.Goals as goal
 
 pub returns-clause-sound : goal.returns-clause-sound

@@ -83,7 +83,7 @@ returns g c = record {
       1 c.in_ok-inode_map.inode_map c.in_ok-inode_map.ensures.is (omega arith) (omega arith) (c.in_ok-inode_map.ensures.spelled disk shows1))
       (laws.memory_is c.trees_read_as_held.ensures disk c.args.root.now c.requires.root.head.sizes ready c.in_ok-file.file c.in_ok-file.ensures.blocks c.in_ok-file.ensures.settled
       2 c.in_ok-block_map.block_map c.in_ok-block_map.ensures.is (omega arith) (omega arith) (c.in_ok-block_map.ensures.spelled disk shows2))
-      (map_size c.in_ok-block_map.block_map.kind c.args.root.now.geometry c.in_ok-block_map.block_map.mode c.in_ok-block_map.block_map.links c.in_ok-block_map.block_map.size
+      (map_size c.in_ok-block_map.block_map.kind c.args.root.now.geometry c.in_ok-block_map.block_map.attributes c.in_ok-block_map.block_map.links c.in_ok-block_map.block_map.size
       c.in_ok-block_map.ensures.kind c.in_ok-block_map.ensures.is.kind)
       (c.in_ok-numbers.ensures.bytes disk shows3) (c.in_ok-parts.ensures.parts disk shows4) c.in_ok-parts.ensures.unchanged
       c.new-map.ensures.parts (search rules) c.new-map.ensures.next

@@ -17,7 +17,7 @@ returns-clause-file c =
     let law = c.free_files_hold_nothing.ensures in
     let placed = c.in_ok-placed.placed in
     let change = own_change s c.args.draft.now o kinds.InodeMap (sym c.requires.map) (law.sound s nothing) (law.none nothing) c.in_ok-object.ensures.base
-    (numbers_end o.file s.inodes c.in_ok-object.ensures.size c.inodes.ensures.within.least_inodes (c.in_ok-object.ensures.blocks nothing)) c.in_ok-object.ensures.attributes (refl, refl, c.in_ok-object.ensures.size) in
+    (numbers_end o.file s.inodes c.in_ok-object.ensures.size c.inodes.ensures.within.least_inodes (c.in_ok-object.ensures.blocks nothing)) c.in_ok-object.ensures.status (refl, refl, c.in_ok-object.ensures.size) in
     has_file (λ e. Unit {0}) s c.args.draft.now c.place_file.new.draft c.mark_all.new.draft placed.inode placed.taken.items (is_one placed.freed.items) (law.none nothing)
     c.mark_all.ensures.step.grows c.mark_all.ensures.step.next c.place_file.ensures.step.parts
     (subst (λ (xs : List ℕ). AreMarked xs (length xs) true c.place_file.new.draft.map.parts.items c.mark_all.new.draft.map.parts.items) c.deref.ensures.value c.in_ok-mark_all.ensures.marked)
@@ -30,9 +30,9 @@ returns-clause-numbers c = λ e has.
     let law = c.free_files_hold_nothing.ensures in
     let placed = c.in_ok-placed.placed in
     let change = own_change s c.args.draft.now o kinds.InodeMap (sym c.requires.map) (law.sound s nothing) (law.none nothing) c.in_ok-object.ensures.base
-    (numbers_end o.file s.inodes c.in_ok-object.ensures.size c.inodes.ensures.within.least_inodes (c.in_ok-object.ensures.blocks nothing)) c.in_ok-object.ensures.attributes (refl, refl, c.in_ok-object.ensures.size) in
+    (numbers_end o.file s.inodes c.in_ok-object.ensures.size c.inodes.ensures.within.least_inodes (c.in_ok-object.ensures.blocks nothing)) c.in_ok-object.ensures.status (refl, refl, c.in_ok-object.ensures.size) in
     let before = c.mark_all.ensures.step.grows.has e has in
-    numbers_on e placed.inode o s.inodes c.in_ok-object.ensures.attributes c.in_ok-object.ensures.size c.inodes.ensures.within.least_inodes (c.in_ok-object.ensures.blocks nothing)
+    numbers_on e placed.inode o s.inodes c.in_ok-object.ensures.status c.in_ok-object.ensures.size c.inodes.ensures.within.least_inodes (c.in_ok-object.ensures.blocks nothing)
     (c.in_ok-placed.ensures.content s nothing free_inode (λ place. refl) change e before (λ b names. absurd (law.none nothing b names)))
     (c.in_ok-placed.ensures.whole s nothing free_inode (λ place. refl) change c.in_ok-object.ensures.changed e before (λ b names. absurd (law.none nothing b names)))
 
@@ -46,7 +46,7 @@ returns-in_err-placed-clause-step c =
     let o = c.in_ok-object.object in
     let law = c.free_files_hold_nothing.ensures in
     let change = own_change s c.args.draft.now o kinds.InodeMap (sym c.requires.map) (law.sound s nothing) (law.none nothing) c.in_ok-object.ensures.base
-    (numbers_end o.file s.inodes c.in_ok-object.ensures.size c.inodes.ensures.within.least_inodes (c.in_ok-object.ensures.blocks nothing)) c.in_ok-object.ensures.attributes (refl, refl, c.in_ok-object.ensures.size) in
+    (numbers_end o.file s.inodes c.in_ok-object.ensures.size c.inodes.ensures.within.least_inodes (c.in_ok-object.ensures.blocks nothing)) c.in_ok-object.ensures.status (refl, refl, c.in_ok-object.ensures.size) in
     let few = numbers_few c.in_ok-object.object.file c.args.geometry.inodes c.in_ok-object.ensures.size c.inodes.ensures.within.most_inodes in
     placed_fails c.from_residual-in_err-placed.result c.from_residual-in_err-placed.ensures.1
     (shortage c.in_err-placed.field-0.0 (λ is. c.in_err-placed.ensures.step.reads.device cc) (c.in_err-placed.ensures.damaged s nothing free_inode (λ place. refl) change)) c.in_err-placed.ensures.step few

@@ -18,7 +18,7 @@ returns-clause-file c =
     let law = c.free_files_hold_nothing.ensures in
     let placed = c.in_ok-all.all.0 in
     let change = own_change s c.args.draft.now o kinds.InodeFile (sym c.requires.map) (law.sound s nothing) (law.none nothing) c.inode_file-object.ensures.base
-    (zeros_end o.file (c.inode_file-object.ensures.blocks nothing)) c.inode_file-object.ensures.attributes (refl, refl, c.inode_file-object.ensures.size) in
+    (zeros_end o.file (c.inode_file-object.ensures.blocks nothing)) c.inode_file-object.ensures.status (refl, refl, c.inode_file-object.ensures.size) in
     has_file (λ e. IsWhole (e c.in_ok-all.all.1)) s c.args.draft.now c.place_file_but_first.new.draft c.mark_all.new.draft placed.inode placed.taken.items (is_one placed.freed.items) (law.none nothing)
     c.mark_all.ensures.step.grows c.mark_all.ensures.step.next c.place_file_but_first.ensures.step.parts
     (subst (λ (xs : List ℕ). AreMarked xs (length xs) true c.place_file_but_first.new.draft.map.parts.items c.mark_all.new.draft.map.parts.items) c.deref.ensures.value c.in_ok-mark_all.ensures.marked)
@@ -31,8 +31,8 @@ returns-clause-top c = λ e has.
     let law = c.free_files_hold_nothing.ensures in
     let placed = c.in_ok-all.all.0 in
     let change = own_change s c.args.draft.now o kinds.InodeFile (sym c.requires.map) (law.sound s nothing) (law.none nothing) c.inode_file-object.ensures.base
-    (zeros_end o.file (c.inode_file-object.ensures.blocks nothing)) c.inode_file-object.ensures.attributes (refl, refl, c.inode_file-object.ensures.size) in
-    top_on e c.in_ok-all.all.1 placed.inode o c.inode_file-object.ensures.attributes (c.inode_file-object.ensures.blocks nothing)
+    (zeros_end o.file (c.inode_file-object.ensures.blocks nothing)) c.inode_file-object.ensures.status (refl, refl, c.inode_file-object.ensures.size) in
+    top_on e c.in_ok-all.all.1 placed.inode o c.inode_file-object.ensures.status (c.inode_file-object.ensures.blocks nothing)
     (c.in_ok-all.ensures.content s nothing free_inode (λ place. refl) change e (c.mark_all.ensures.step.grows.has e has) (λ b names. absurd (law.none nothing b names)))
 
 pub returns-in_err-all-clause-step : goal.returns-in_err-all-clause-step
@@ -41,7 +41,7 @@ returns-in_err-all-clause-step c =
     let o = c.inode_file-object.result in
     let law = c.free_files_hold_nothing.ensures in
     let change = own_change s c.args.draft.now o kinds.InodeFile (sym c.requires.map) (law.sound s nothing) (law.none nothing) c.inode_file-object.ensures.base
-    (zeros_end o.file (c.inode_file-object.ensures.blocks nothing)) c.inode_file-object.ensures.attributes (refl, refl, c.inode_file-object.ensures.size) in
+    (zeros_end o.file (c.inode_file-object.ensures.blocks nothing)) c.inode_file-object.ensures.status (refl, refl, c.inode_file-object.ensures.size) in
     let few = top_few c.inode_file-object.result.file c.inode_file-object.ensures.small c.inode_file-object.ensures.unchanged in
     placed_fails c.from_residual.result c.from_residual.ensures.1
     (shortage c.in_err-all.field-0.0 (λ is. c.in_err-all.ensures.step.reads.device cc) (c.in_err-all.ensures.damaged s nothing free_inode (λ place. refl) change)) c.in_err-all.ensures.step few

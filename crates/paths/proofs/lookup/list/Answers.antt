@@ -23,14 +23,14 @@ returns-then-ne g c = finds_into c.in_ok-load.ensures.looks c.load.ensures.loads
     let o = c.in-Some.object.now in
     let now = c.load.ensures.looks.kept disk settled v stands in
     let is_object = c.in-Some.ensures.stands _ _ disk settled v now.volume in
-    let other : o.attributes.kind ≢ kinds.Directory = search rules in
+    let other : o.status.kind ≢ kinds.Directory = search rules in
     let none = nothing_listed (entries v c.args.directory) (without_names disk c.load.new.inodes.geometry.inodes (settled c.args.directory) o (v c.args.directory) is_object other) in
     search rules)
 
 pub returns : goal.returns
 returns g c =
     let same : c.load.new.inodes.geometry.inodes ≡ c.inodes-count.result = sym (c.inodes-count.ensures.value ∙ ap (λ s. s.inodes) c.geometry.ensures) in
-    let kind : c.in-Some.object.now.attributes.kind ≡ kinds.Directory = search rules in
+    let kind : c.in-Some.object.now.status.kind ≡ kinds.Directory = search rules in
     record {
       looks = looks_reads c.in_ok-load.ensures.looks c.list.ensures.reads;
       loads = c.load.ensures.loads;

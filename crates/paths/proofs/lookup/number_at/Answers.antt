@@ -49,5 +49,5 @@ returns g c =
           (λ object some kind i.
           let stands_for = subst (λ (x : Option Object). IsObjectOrNone detail disk before (settled n) x (v n)) some o in
           c.objects_stand_in_their_grammar.ensures _ _ disk settled memory v n i object (v n) now.volume stands_for
-          (directory_readable detail object.attributes.kind before (content_of_object disk object) (v n) stands_for.stands kind i));
+          (directory_readable detail object.status.kind before (content_of_object disk object) (v n) stands_for.stands kind i));
     })

@@ -18,4 +18,4 @@ returns g c = finds_into c.in_ok-load.ensures.looks c.load.ensures.loads tt (λ 
     let o = c.in-Some.object.now in
     let now = c.load.ensures.looks.kept disk settled v stands in
     let is_object = c.in-Some.ensures.stands _ _ disk settled v now.volume in
-    c.found_by.ensures ∙ found_is o.attributes.kind c.load.new.inodes.geometry.inodes (content_of_object disk o) (v c.args.number) (by_size detail o.attributes.kind c.load.new.inodes.geometry.inodes (content_of_object disk o) (v c.args.number) is_object.stands))
+    c.found_by.ensures ∙ found_is o.status.kind c.load.new.inodes.geometry.inodes (content_of_object disk o) (v c.args.number) (by_size detail o.status.kind c.load.new.inodes.geometry.inodes (content_of_object disk o) (v c.args.number) is_object.stands))

@@ -19,7 +19,7 @@ returns-then-ne g c = finds c.in_ok-load.ensures.looks c.load.ensures.loads tt (
     let o = c.in-Some.object.now in
     let now = c.load.ensures.looks.kept disk settled v stands in
     let is_object = c.in-Some.ensures.stands _ _ disk settled v now.volume in
-    let other : o.attributes.kind ≢ kinds.Link = search rules in
+    let other : o.status.kind ≢ kinds.Link = search rules in
     let none = without_text disk c.load.new.inodes.geometry.inodes (settled c.args.number) o (v c.args.number) is_object other in
     search rules)
 
@@ -32,7 +32,7 @@ returns g c = record {
       let o = c.in-Some.object.now in
       let now = c.load.ensures.looks.kept disk settled v stands in
       let is_object = c.in-Some.ensures.stands _ _ disk settled v now.volume in
-      let kind : o.attributes.kind ≡ kinds.Link = search rules in
+      let kind : o.status.kind ≡ kinds.Link = search rules in
       subst (λ text. IfOk c.all_bytes.result (λ t. t.items ≡ text)) (link_text disk c.load.new.inodes.geometry.inodes (settled c.args.number) o (v c.args.number) is_object kind)
       (c.all_bytes.ensures.bytes disk now.shows);
   damaged = λ disk settled v stands is.

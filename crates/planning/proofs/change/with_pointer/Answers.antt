@@ -1,4 +1,4 @@
-use Rattle.std.proofs.Common.{rules, ◌≡◌, length, ◌-◌, ◌<◌, ◌∙◌, arith}
+use Rattle.std.proofs.Common.{rules, ◌≡◌, length, ◌-◌, arith}
 use Rattle.std.specs.Prelude.{slice_set}
 use Rattle.planning.proofs.ChangeLaws.{no_further}
 use Rattle.planning.proofs.change.with_pointer.Goals as goal

@@ -1,11 +1,10 @@
-use Rattle.std.proofs.Common.{ℕ, ◌≡◌, ◌≢◌, ◌/◌, ◌%◌, ◌*◌, List, length, refl, ap, sym, subst, ◌∙◌, inl, inr, arith, if◌then◌else◌, nat_eq, true, false}
+use Rattle.std.proofs.Common.{◌≡◌, ◌/◌, length, refl, ap, ◌∙◌, inl, inr, arith, nat_eq, true, false}
 use Rattle.std.proofs.lemmas.Bool.{cases_eq}
 use Rattle.std.proofs.lemmas.Bool.Decides.{nat_tests}
 use Rattle.layout.specs.Inode.{inode_bytes}
 use Rattle.layout.proofs.WritingLaws.{wrote_all}
 use Rattle.inode.proofs.PutLaws.{put_is}
 use Rattle.inode.specs.Files.{file_block}
-use Rattle.planning.specs.Inodes.{with_inode_at}
 use Rattle.planning.proofs.inode_blocks.put_again.Goals as goal
 
 pub returns-clause-put : goal.returns-clause-put

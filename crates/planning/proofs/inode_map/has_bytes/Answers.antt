@@ -1,8 +1,8 @@
 use Rattle.std.proofs.Common.{◌≡◌, List, ℕ, length, sym, subst, ◌∙◌, rules}
 use Rattle.std.specs.Cmp.Lexicographic.{same_text}
+use Rattle.model.proofs.ListLaws.{whole_again}
 use Rattle.buffers.specs.Positions.{IsPart}
 use Rattle.inode.specs.Files.{byte_at}
-use Rattle.planning.proofs.OwnLaws.{whole_again}
 use Rattle.planning.proofs.inode_map.has_bytes.Goals as goal
 
 pub returns-clause-same : goal.returns-clause-same

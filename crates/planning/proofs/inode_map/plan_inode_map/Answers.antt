@@ -82,7 +82,7 @@ map_now g c disk settled v before shows memory same =
     let shown = c.has_bytes.ensures.reads.same disk (c.settled_map.ensures.reads.same disk shows) in
     map_over (g.B.Blocks.count c.args.blocks.now) c.args.draft.now disk s c.args.inodes.now.file settled before c.in_ok-settled.settled c.in_ok-object.object.file _ c.args.inodes.now.numbers.bytes.items
     memory.volume.inodes memory.once memory.exact same c.requires.disk now
-    c.in_ok-object.ensures.size (c.in_ok-object.ensures.ends s disk sound) c.in_ok-object.ensures.settled c.in_ok-object.ensures.attributes c.put_parts.ensures.file.settled c.put_parts.ensures.file.kept c.put_parts.ensures.file.size
+    c.in_ok-object.ensures.size (c.in_ok-object.ensures.ends s disk sound) c.in_ok-object.ensures.settled c.in_ok-object.ensures.status c.put_parts.ensures.file.settled c.put_parts.ensures.file.kept c.put_parts.ensures.file.size
     (sym (ap (λ (xs : List ℕ). length xs) c.map_bytes.ensures.bytes) ∙ c.map_bytes.ensures.length) (rw c.map_bytes-2.ensures.bytes at (c.in_ok-put_parts.ensures.here disk shown)) (rw c.map_bytes-2.ensures.bytes at (c.in_ok-put_parts.ensures.others disk))
 
 pub returns-in_err-placed-clause-damaged : goal.returns-in_err-placed-clause-damaged

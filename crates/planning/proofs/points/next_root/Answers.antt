@@ -1,4 +1,4 @@
-use Rattle.std.proofs.Common.{◌∙◌, arith}
+use Rattle.std.proofs.Common.{arith}
 use Rattle.layout.specs.Root.{IsRoot}
 use Rattle.planning.proofs.ChangeLaws.{no_further}
 use Rattle.planning.proofs.points.next_root.Goals as goal

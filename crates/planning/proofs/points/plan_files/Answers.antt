@@ -8,7 +8,7 @@ use Rattle.model.specs.Volumes.{Volume}
 use Rattle.blocktree.specs.Trees.{IsSoundAt}
 use Rattle.images.specs.InodeFiles.{spliced_at}
 use Rattle.inode.specs.Files.{file_block}
-use Rattle.inode.specs.declared.object.Attributes.{Attributes}
+use Rattle.inode.specs.declared.object.Status.{Status}
 use Rattle.inofile.specs.Inodes.{files_of}
 use Rattle.placement.specs.Files.{IsChangeOf}
 use Rattle.placement.specs.Space.{first_stores}
@@ -40,7 +40,7 @@ top_change g c disk settled v before start numbers =
     let size : o.file.size ≡ root.inode_file.size = c.plan_changes.ensures.file.size ∙ c.in_ok-top.ensures.size ∙ c.requires.size in
     own_change (g.B.Blocks.count c.args.blocks.now) c.plan_changes.new.draft disk s c.args.inodes.now.file settled before 0 c.args.inode_file c.in_ok-top.top.file.tree o start.memory.volume.inodes start.memory.once start.memory.exact
     (λ b. c.plan_changes.ensures.step.grows.settled.settled b ∙ start.same b) (c.requires.start.disk ∙ sym c.plan_changes.ensures.step.grows.count) (sym start.top) c.in_ok-top.ensures.settled c.plan_changes.ensures.file.settled
-    c.in_ok-top.ensures.attributes (c.plan_changes.ensures.file.size ∙ c.in_ok-top.ensures.size) (spelled_ends s.inodes o.file.size (file_block disk o.file) numbers.map.way.plan.inode numbers.map.way.spelled (size ∙ top_size s root c.requires.start.root_is c.requires.start.sizes))
+    c.in_ok-top.ensures.status (c.plan_changes.ensures.file.size ∙ c.in_ok-top.ensures.size) (spelled_ends s.inodes o.file.size (file_block disk o.file) numbers.map.way.plan.inode numbers.map.way.spelled (size ∙ top_size s root c.requires.start.root_is c.requires.start.sizes))
 
 -- and how many of its blocks are stored
 top_within : (g : Over) (c : After-plan_changes g) → first_stores c.plan_changes.new.file ≤ top_nodes c.args.inodes.now c.args.root.now.inode_file.size
@@ -86,7 +86,7 @@ returns-clause-planned g c = λ disk settled v before shows start.
     let change = top_change g (goal.at.returns-clause-planned g c).In_ok-plan_changes disk settled v before start numbers in
     let shown = c.plan_changes.ensures.step.reads.same disk shows in
     let count : g.B.Blocks.count c.args.blocks.now ≡ g.B.Blocks.count c.place_top.new.blocks = sym c.plan_changes.ensures.step.reads.count ∙ sym c.place_top.ensures.step.reads.count in
-    let kind : o.attributes.kind ≡ kinds.InodeFile = ap (λ (a : Attributes). a.kind) c.in_ok-top.ensures.attributes ∙ ap (λ (i : Inode). i.kind) (sym start.top) ∙ start.memory.volume.inodes.fits 0 in
+    let kind : o.status.kind ≡ kinds.InodeFile = ap (λ (a : Status). a.kind) c.in_ok-top.ensures.status ∙ ap (λ (i : Inode). i.kind) (sym start.top) ∙ start.memory.volume.inodes.fits 0 in
     let fresh = numbers.map.others 0 (λ is. absurd (omega arith)) ∙ not_own c.args.inodes.now numbers.changed numbers.just c.args.inodes.now.changes 0 (omega arith) in
     let fresh_map = numbers.map.others 2 (λ is. absurd (omega arith)) ∙ not_own c.args.inodes.now numbers.changed numbers.just c.args.inodes.now.changes 2 (omega arith) in
     let f = c.in_ok-placed.placed.0 in

@@ -15,5 +15,5 @@ returns-in-Some-clause-rewrites c = λ detail disk inodes settled found f stands
 
 pub returns-in-Some-clause-room : goal.returns-in-Some-clause-room
 returns-in-Some-clause-room c = λ k stores.
-    raises_to (record { attributes = c.in-Some.object.attributes; file = c.commit.new.self; known = c.in-Some.object.known }) k c.in-Some.is
+    raises_to (record { status = c.in-Some.object.status; file = c.commit.new.self; known = c.in-Some.object.known }) k c.in-Some.is
     (subst (λ (x : Option Object). StoresIn x c.args.change k) c.in-Some.is stores c.commit.new.self c.commit.ensures)

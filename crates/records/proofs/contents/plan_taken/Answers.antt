@@ -15,7 +15,7 @@ returns-in_default-clause-same g c = same_object (Some c.args.object.now)
 pub returns-in_default-clause-told : goal.returns-in_default-clause-told
 returns-in_default-clause-told g c = λ detail disk inodes settled found is.
     let o = c.args.object.now in
-    sym (not_file detail o.attributes.kind inodes (content_of_object disk o) found is.stands c.in_default.not-File)
+    sym (not_file detail o.status.kind inodes (content_of_object disk o) found is.stands c.in_default.not-File)
 
 pub returns-clause-stores : goal.returns-clause-stores
 returns-clause-stores g c = subst (λ (n : ℕ). StoresMore c.plan.new.file c.in_ok-change.change (rewrite_room n c.args.rewrite.now)) (sym c.plan.ensures.same.size) c.in_ok-change.ensures.stores

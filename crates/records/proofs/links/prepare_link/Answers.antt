@@ -102,7 +102,7 @@ returns g c =
     let now = loads.looks.kept disk settled v stands in
     let file = c.in-Some.ensures.file _ _ disk settled v now.volume in
     let edit = subst (PreparesEdit disk s.geometry.inodes (edits.Add entry) (v d) (loaded s d)) c.in-Some-planned.is (planned.edit.found disk settled v now) in
-    let apart = file_apart v n d (file_is links (v n) file) (found_directory (v d) edit.1.mode edit.1.names edit.1.is) in
+    let apart = file_apart v n d (file_is links (v n) file) (found_directory (v d) edit.1.attributes edit.1.names edit.1.is) in
     let between = with_node d (with_node_names f (v d)) v in
     let stays = node_other d n (with_node_names f (v d)) v apart in
     let to = with_node_links (links + 1) (between n) in
@@ -129,7 +129,7 @@ returns g c =
     let file = c.in-Some.ensures.file _ _ disk settled v now.volume in
     let edit = subst (PreparesEdit disk s.geometry.inodes (edits.Add entry) (v d) (loaded s d)) c.in-Some-planned.is (planned.edit.found disk settled v now) in
     record {
-      mode = file.0;
+      attributes = file.0;
       links = links;
       bytes = file.1;
       file = file.2;

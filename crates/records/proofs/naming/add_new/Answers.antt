@@ -1,4 +1,4 @@
-use Rattle.std.proofs.Common.{rules, ◌≡◌, sym, ap, is_some, ◌∙◌}
+use Rattle.std.proofs.Common.{rules, sym, ap, is_some, ◌∙◌}
 use Rattle.std.proofs.lemmas.Bool.{false≢true}
 use Rattle.records.proofs.EnterLaws.{full_has_no_place}
 use Rattle.records.proofs.naming.add_new.Goals as goal

@@ -1,4 +1,4 @@
-use Rattle.std.proofs.Common.{rules, ◌≡◌, ◌+◌, ◌≤◌, false, arith, sym, subst}
+use Rattle.std.proofs.Common.{rules, ◌+◌, ◌≤◌, false, arith, sym, subst}
 use Rattle.inode.specs.declared.file.File.{File}
 use Rattle.dirs.specs.Edits.{HasEditedNames}
 use Rattle.dirs.specs.Room.{piece_count}

@@ -1,5 +1,6 @@
 use Rattle.std.proofs.Common.{rules, ◌≡◌, ◌≤◌, ◌<◌, ℕ, List, IsTrue, refl, sym, subst, ◌∙◌}
 use Rattle.std.proofs.lemmas.Bool.{both_ways}
+use Rattle.std.proofs.lemmas.Result.{IfOk-weaker}
 use Rattle.layout.specs.Limits.{Sizes}
 use Rattle.layout.specs.Record.{made_of}
 use Rattle.layout.specs.declared.inode.Inode.{Inode}
@@ -14,7 +15,6 @@ use Rattle.records.specs.Preparing.{IsKnownVolume}
 use Rattle.records.proofs.DetailLaws.{known_of}
 use Rattle.records.proofs.Deciding.{obstructs, reads_in, stops}
 use Rattle.records.proofs.Failures.{refusal_is}
-use Rattle.records.proofs.Looking.{ok_so}
 use Rattle.records.proofs.StandLaws.{no_look}
 use Rattle.records.proofs.prepared.prepare_create.Goals as goal
 
@@ -51,16 +51,16 @@ returns g c =
           new.does detail disk settled v (made_of c.args.object.now) (before.kept disk settled v stands) (is_free detail disk settled v stands)
           (λ k. made.object detail disk (vacant.looks.kept disk settled v stands).shows k (settled c.args.number)) made.room;
       applies = λ {detail} disk settled v stands.
-          ok_so c.prepare_new.result _ _ (λ p taken. record { low = low; high = high; vacant = is_free detail disk settled v stands; takes = taken; good = good })
+          IfOk-weaker c.prepare_new.result _ _ (λ p taken. record { low = low; high = high; vacant = is_free detail disk settled v stands; takes = taken; good = good })
           (new.takes detail disk settled v (before.kept disk settled v stands));
-      place = λ disk settled v stands. ok_so c.prepare_new.result _ _ (λ p taken. tt) (new.takes _ disk settled v (before.kept disk settled v stands));
+      place = λ disk settled v stands. IfOk-weaker c.prepare_new.result _ _ (λ p taken. tt) (new.takes _ disk settled v (before.kept disk settled v stands));
       refused = λ {detail} disk settled v stands volume.
           refusal_is (IsObstacle c.args.inodes.now.geometry.inodes v (create c.args.number c.args.parent (made_of c.args.object.now) c.args.name.now))
           (λ e. TakesName v c.args.parent c.args.name.now → ⊥) c.prepare_new.result new.full
           (new.refused detail disk settled v (before.kept disk settled v stands) (subst (λ (s : Sizes). IsKnownVolume detail s.inodes v) (sym before.geometry) (known_of detail c.args.inodes.now.geometry.inodes (create c.args.number c.args.parent (made_of c.args.object.now) c.args.name.now) v volume)))
           (λ full. ((low, high, good, is_free detail disk settled v stands), full));
       reads = λ {detail} disk settled v stands.
-          ok_so c.prepare_new.result _ _ (λ p taken. reads_in detail v (create c.args.number c.args.parent (made_of c.args.object.now) c.args.name.now) tt)
+          IfOk-weaker c.prepare_new.result _ _ (λ p taken. reads_in detail v (create c.args.number c.args.parent (made_of c.args.object.now) c.args.name.now) tt)
           (new.takes detail disk settled v (before.kept disk settled v stands));
       damaged = λ {detail} disk settled v stands reads is. new.damaged detail disk settled v (before.kept disk settled v stands) is;
     }

@@ -72,7 +72,7 @@ returns-clause-does g c = λ detail disk settled v made stands is_free is_object
     let f = names_after (edits.Add entry) in
     let edit = subst (PreparesEdit disk s.geometry.inodes (edits.Add entry) (v d) (loaded s d)) c.in-Some.is (c.in_ok-planned.ensures.edit.found disk settled v now) in
     let node = node_of made in
-    let apart = vacant_apart v number d is_free (found_directory (v d) edit.1.mode edit.1.names edit.1.is) in
+    let apart = vacant_apart v number d is_free (found_directory (v d) edit.1.attributes edit.1.names edit.1.is) in
     let to = with_node_names f (v d) in
     let between = with_node d to v in
     record {

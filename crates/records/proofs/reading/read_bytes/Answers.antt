@@ -18,7 +18,7 @@ pub returns-in_default-kind : goal.returns-in_default-kind
 returns-in_default-kind g c = finds c.in_ok-load.ensures.looks c.load.ensures.loads tt (λ disk settled v stands.
     let o = c.in-Some.ensures.stands _ _ disk settled v (c.in_ok-load.ensures.looks.kept disk settled v stands).volume in
     let object = c.in-Some.object.now in
-    not_file by_bytes object.attributes.kind c.load.new.inodes.geometry.inodes (content_of_object disk object) (v c.args.number) o.stands c.in_default-kind.not-File)
+    not_file by_bytes object.status.kind c.load.new.inodes.geometry.inodes (content_of_object disk object) (v c.args.number) o.stands c.in_default-kind.not-File)
 
 pub returns-in_err-bytes : goal.returns-in_err-bytes
 returns-in_err-bytes g c =

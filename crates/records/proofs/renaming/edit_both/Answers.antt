@@ -47,7 +47,7 @@ returns-in_default-taken-clause-both g c =
           let t = c.edit_known-2.new.inodes in
           let is = directory_is (v c.args.parent) directory in
           subst (PreparesEdit disk t.geometry.inodes (edits.Remove c.args.name) (v c.args.parent) (loaded t c.args.parent)) c.in_default-taken.is edit
-          (record { mode = is.0; names = is.1; is = is.2; takes = tt }),
+          (record { attributes = is.0; names = is.1; is = is.2; takes = tt }),
     ))
 
 pub returns-clause-both : goal.returns-clause-both

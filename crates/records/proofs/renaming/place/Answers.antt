@@ -12,7 +12,7 @@ use Rattle.records.specs.declared.naming.NameEdit.{NameEdit}
 use Rattle.records.specs.declared.naming.NameEdit.TheVariants as edits
 use Rattle.records.specs.declared.steps.Update.TheVariants as updates
 use Rattle.records.proofs.EnterLaws.{found_directory, takes_accepted}
-use Rattle.records.proofs.FileLaws.{alone_some, alone_some_apart, apart_none, named_directory}
+use Rattle.records.proofs.FileLaws.{alone_some, alone_some_apart, apart_none}
 use Rattle.records.proofs.Looking.{some_at_hand_behind}
 use Rattle.records.proofs.MoveLaws.{accepts_move, accepts_other, aside_new, aside_old, beside_new, beside_none, beside_old, can_rename, few_pieces, moved_across, moved_inside, names_for, room_on, steps_on, wanted_none, wanted_some}
 use Rattle.records.proofs.Deciding.{decides, obstructs, reads_in, stops}
@@ -21,6 +21,7 @@ use Rattle.records.proofs.PlaceLaws.{leaves_inside, leaves_other}
 use Rattle.records.proofs.renaming.place.Goals.{then-is_some, else-is_some}
 use Rattle.records.proofs.renaming.place.Goals as goal
 use Rattle.model.proofs.ObjectLaws.{node_other}
+use Rattle.model.proofs.VolumeLemmas.{enters_directory}
 
 pub returns-in_err-planned : goal.returns-in_err-planned
 returns-in_err-planned g c = stops c.from_residual.result c.from_residual.ensures.1 c.in_err-planned.ensures.edit.looks (λ detail disk settled v stands reads. c.in_err-planned.ensures.edit.damaged {detail = detail} disk settled v stands)
@@ -82,10 +83,10 @@ returns-then-is_same g c =
     })
     (λ detail disk settled v known.
     let edit = subst (PreparesEdit disk s.geometry.inodes (edits.Move c.args.name entry) (v k) (loaded s k)) c.in-Some.is (planned.edit.found disk settled v known.0) in
-    can_rename detail disk settled v d x n k y step known.1 (found_directory (v k) edit.1.mode edit.1.names edit.1.is) c.requires.entry.name known.2 (λ none. inl (c.is_same.ensures.yes c.if-is_same.true)))
+    can_rename detail disk settled v d x n k y step known.1 (found_directory (v k) edit.1.attributes edit.1.names edit.1.is) c.requires.entry.name known.2 (λ none. inl (c.is_same.ensures.yes c.if-is_same.true)))
     (λ detail disk settled v known.
     let edit = subst (PreparesEdit disk s.geometry.inodes (edits.Move c.args.name entry) (v k) (loaded s k)) c.in-Some.is (planned.edit.found disk settled v known.0) in
-    leaves_inside v d x k y edit.1.mode edit.1.names edit.1.is (c.is_same.ensures.yes c.if-is_same.true) edit.1.takes)
+    leaves_inside v d x k y edit.1.attributes edit.1.names edit.1.is (c.is_same.ensures.yes c.if-is_same.true) edit.1.takes)
     (λ detail disk settled v known. reads_in detail v (rename d x k y) tt)
 
 pub returns-in_err-both : goal.returns-in_err-both
@@ -105,7 +106,7 @@ returns-in_default-both g c = obstructs c.in_ok-both.ensures.both.looks refl (λ
     no_place c.args.inodes.now.geometry.inodes detail disk settled v d x entry.number k entry.name.now step known.1 c.requires.entry.name known.2 (c.is_same.ensures.no c.if-is_same.false) (λ can.
     let accepts = accepts_other detail disk settled v d x entry.number k entry.name.now step known.1 c.args.inodes.now.geometry.inodes entry refl volume (c.is_same.ensures.no c.if-is_same.false) can in
     subst (λ o. IfNone o (Accepts c.if-is_some.wanted (v k) → IsTrue (is_directory_node (v d)) → ⊥)) c.in_default-both.is (c.in_ok-both.ensures.both.found disk settled v known.0).1
-    (subst (λ (e : NameEdit). Accepts e (v k)) (sym wanted) accepts) (named_directory (v d) x entry.number known.1.there)))
+    (subst (λ (e : NameEdit). Accepts e (v k)) (sym wanted) accepts) (enters_directory (v d) x entry.number known.1.there)))
 
 pub returns : goal.returns
 returns g c =
@@ -172,7 +173,7 @@ returns g c =
     let edits_are = subst (λ o. IfSome o (λ e. PreparesEdit disk s.geometry.inodes c.if-is_some.wanted (v k) (loaded s k) (Some e.0) × EditsIn disk s.geometry.inodes h (v d) (loaded s d) e.1 × (piece_count e.1 ≤ 1))) c.in-Some-both.is
     (both.both.found disk settled v known.0).0 in
     let accepts = edits_are.0.1 in
-    can_rename detail disk settled v d x n k y step known.1 (found_directory (v k) accepts.mode accepts.names accepts.is) c.requires.entry.name known.2
+    can_rename detail disk settled v d x n k y step known.1 (found_directory (v k) accepts.attributes accepts.names accepts.is) c.requires.entry.name known.2
     (λ none. inr (takes_accepted v k entry c.requires.entry.name (subst (λ (e : NameEdit). Accepts e (v k)) (wanted ∙ ap (edit_for entry) none) accepts))))
     (λ detail disk settled v known.
     let edits_are = subst (λ o. IfSome o (λ e. PreparesEdit disk s.geometry.inodes c.if-is_some.wanted (v k) (loaded s k) (Some e.0) × EditsIn disk s.geometry.inodes h (v d) (loaded s d) e.1 × (piece_count e.1 ≤ 1))) c.in-Some-both.is

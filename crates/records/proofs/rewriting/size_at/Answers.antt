@@ -13,7 +13,7 @@ pub returns-in-Some : goal.returns-in-Some
 returns-in-Some g c = tells (brought c.in_ok-load.ensures) (λ detail disk settled v now any is.
     let object = c.in-Some.object.now in
     let o = c.in-Some.ensures.stands _ _ disk settled v now.volume in
-    c.size.ensures.value ∙ file_size detail object.attributes.kind c.load.new.inodes.geometry.inodes (content_of_object disk object) (v c.args.number) o.stands is)
+    c.size.ensures.value ∙ file_size detail object.status.kind c.load.new.inodes.geometry.inodes (content_of_object disk object) (v c.args.number) o.stands is)
 
 pub returns-in-None : goal.returns-in-None
 returns-in-None g c = tells (brought c.in_ok-load.ensures) (λ detail disk settled v now any is.

@@ -1,5 +1,5 @@
 use Rattle.std.proofs.Common.{rules, ◌≡◌, ◌+◌, length, true, false, inl, inr, Err, IfErr, nat_lt, arith}
-use Rattle.std.proofs.lemmas.Bool.{cases_lt}
+use Rattle.std.proofs.lemmas.Bool.{cases_lt, le-ltb}
 use Rattle.std.proofs.lemmas.Bool.Decides.{nat_tests}
 use Rattle.model.specs.Paths.{is_empty}
 use Rattle.model.specs.Records.{Applies, applied, write}
@@ -10,7 +10,7 @@ use Rattle.records.specs.Obstacles.{IsObstacle}
 use Rattle.records.specs.Rewriting.{PutsBytes}
 use Rattle.records.specs.declared.contents.Rewrite.TheVariants.{Write}
 use Rattle.records.proofs.Failures.{damaged_by, looks_failed, refusal_is, refused_by}
-use Rattle.records.proofs.RewriteLaws.{filled, past_limit, puts_all, puts_nothing, puts_too_much, rewritten, some_bytes, within_limit}
+use Rattle.records.proofs.RewriteLaws.{filled, past_limit, puts_all, puts_nothing, puts_too_much, rewritten, some_bytes}
 use Rattle.records.proofs.rewriting.write_bytes.Goals as goal
 
 pub returns-then-is_empty-clause-answers : goal.returns-then-is_empty-clause-answers
@@ -51,5 +51,5 @@ returns-clause-answers g c = λ disk settled v table stands volume mounted is.
     let can = c.in_ok-prepared.ensures.decides.applies disk settled v stands in
     let told = rewritten inodes v table volume mounted c.records_change_trees.ensures n (Write c.args.offset c.args.bytes) can in (
       told.0,
-      λ also. puts_all (tree_of v table) n c.args.offset bytes also (tree_of (applied change v) table) (some_bytes bytes can.1) (within_limit GREATEST_FILE (c.args.offset + length bytes) can.3) told.1,
+      λ also. puts_all (tree_of v table) n c.args.offset bytes also (tree_of (applied change v) table) (some_bytes bytes can.1) (le-ltb GREATEST_FILE (c.args.offset + length bytes) can.3) told.1,
     )

@@ -13,4 +13,4 @@ returns-in-Some-clause-sets c = λ detail disk inodes settled found stands is fe
 pub returns-in-Some-clause-room : goal.returns-in-Some-clause-room
 returns-in-Some-clause-room c =
     let o = c.in-Some.object in
-    raises_to (record { attributes = record { kind = o.attributes.kind; mode = o.attributes.mode; links = c.args.links }; file = o.file; known = o.known }) 0 c.in-Some.is (omega arith)
+    raises_to (record { status = record { kind = o.status.kind; attributes = o.status.attributes; links = c.args.links }; file = o.file; known = o.known }) 0 c.in-Some.is (omega arith)

@@ -8,7 +8,7 @@ use Rattle.records.proofs.sweeping.note_figures.Goals as goal
 pub returns-in-Some-clause-fits : goal.returns-in-Some-clause-fits
 returns-in-Some-clause-fits c = λ count disk settled v w stands file fits.
     let n = c.args.number in
-    let links = c.in-Some.object.now.attributes.links in
+    let links = c.in-Some.object.now.status.links in
     let size : ℕ = c.size.result in
     let figures = object_figures disk c.args.inodes.now.geometry.inodes (settled n) c.in-Some.object.now (w n) (c.in-Some.ensures.stands _ count disk settled w stands) file in
     subst (λ (k : ℕ). FitsVolume c.relinked.new.self (with_node k (w n) v)) c.get-n.ensures

@@ -11,12 +11,13 @@ use Rattle.records.specs.declared.steps.Update.TheVariants as updates
 use Rattle.model.specs.Records.{unname}
 use Rattle.records.proofs.DetailLaws.{known_of}
 use Rattle.records.proofs.EnterLaws.{directory_is}
-use Rattle.records.proofs.FileLaws.{alone_apart, alone_takes, both_steps, empty_apart, named_directory}
+use Rattle.records.proofs.FileLaws.{alone_apart, alone_takes, both_steps, empty_apart}
 use Rattle.records.proofs.Looking.{at_hand_behind}
 use Rattle.records.proofs.Deciding.{decides, follows, obstructs, reads_in, stops}
 use Rattle.records.proofs.StandLaws.{no_look}
 use Rattle.records.proofs.unnaming.prepare_unname.Goals as goal
 use Rattle.model.proofs.ObjectLaws.{node_other}
+use Rattle.model.proofs.VolumeLemmas.{enters_directory}
 
 pub returns-then-not-is_number : goal.returns-then-not-is_number
 returns-then-not-is_number g c = obstructs no_look refl (λ detail disk settled v stands volume.
@@ -57,10 +58,10 @@ returns-in_default-planned g c =
     let d = c.args.parent in
     let s = c.edit_parent.new.inodes in
     let there = sym (c.in_ok-found.ensures.number.found disk settled v stands) ∙ c.in-Some.is in
-    let is = directory_is (v d) (named_directory (v d) c.args.name.now c.in-Some.number there) in
+    let is = directory_is (v d) (enters_directory (v d) c.args.name.now c.in-Some.number there) in
     absurd (subst (PreparesEdit disk s.geometry.inodes (edits.Remove c.args.name) (v d) (loaded s d)) c.in_default-planned.is
     (c.in_ok-planned.ensures.edit.found disk settled v (before.kept disk settled v stands))
-    (record { mode = is.0; names = is.1; is = is.2; takes = tt })))
+    (record { attributes = is.0; names = is.1; is = is.2; takes = tt })))
 
 pub returns : goal.returns
 returns g c =

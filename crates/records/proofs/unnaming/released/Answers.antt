@@ -18,10 +18,10 @@ returns-in-File-clause-updates c = λ detail count disk settled v volume many o.
     let object = c.in-Some.object.now in
     let content = content_of_object disk object in
     let sizes = c.args.inodes.now.geometry in
-    let links = object.attributes.links in
-    let held = sized_file detail object.attributes.kind sizes.inodes content (v c.args.number) is.stands c.in-File.is in
-    let file : IsFileWithLinks links (v c.args.number) = (content.mode, held.0, held.2) in
-    let most : links ≤ 1000 = subst (λ (k : Kind). FitsKind k sizes object.attributes.mode links object.file.size) c.in-File.is (is.fits sizes) in
+    let links = object.status.links in
+    let held = sized_file detail object.status.kind sizes.inodes content (v c.args.number) is.stands c.in-File.is in
+    let file : IsFileWithLinks links (v c.args.number) = (content.attributes, held.0, held.2) in
+    let most : links ≤ 1000 = subst (λ (k : Kind). FitsKind k sizes object.status.attributes links object.file.size) c.in-File.is (is.fits sizes) in
     let less : c.saturating_sub.result ≡ links - 1 = c.saturating_sub.ensures in (
       (
         file_is links (v c.args.number) file,
@@ -34,7 +34,7 @@ returns-in-File-clause-updates c = λ detail count disk settled v volume many o.
 pub returns-in_default-kind-clause-updates : goal.returns-in_default-kind-clause-updates
 returns-in_default-kind-clause-updates c = λ detail count disk settled v volume many o.
     let is = c.in-Some.ensures.stands _ count disk settled v volume in (
-      gone_with_name c.in-Some.object.now.attributes.kind c.args.inodes.now.geometry.inodes (content_of_object disk c.in-Some.object.now) (v c.args.number)
-          (by_size detail c.in-Some.object.now.attributes.kind c.args.inodes.now.geometry.inodes (content_of_object disk c.in-Some.object.now) (v c.args.number) is.stands) c.in_default-kind.not-File,
+      gone_with_name c.in-Some.object.now.status.kind c.args.inodes.now.geometry.inodes (content_of_object disk c.in-Some.object.now) (v c.args.number)
+          (by_size detail c.in-Some.object.now.status.kind c.args.inodes.now.geometry.inodes (content_of_object disk c.in-Some.object.now) (v c.args.number) is.stands) c.in_default-kind.not-File,
       omega arith,
     )

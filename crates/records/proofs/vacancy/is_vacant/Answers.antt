@@ -18,10 +18,10 @@ returns-in-File g c = tells (brought c.in_ok-load.ensures) (λ detail disk settl
     let o = c.in-Some.ensures.stands _ _ disk settled v now.volume in
     let content = content_of_object disk c.in-Some.object.now in
     file_vacancy c.load.new.inodes.geometry.inodes content (v c.args.number)
-    (sized_file detail c.in-Some.object.now.attributes.kind c.load.new.inodes.geometry.inodes content (v c.args.number) o.stands c.in-File.is))
+    (sized_file detail c.in-Some.object.now.status.kind c.load.new.inodes.geometry.inodes content (v c.args.number) o.stands c.in-File.is))
 
 pub returns-in_default-kind : goal.returns-in_default-kind
 returns-in_default-kind g c = tells (brought c.in_ok-load.ensures) (λ detail disk settled v now any.
     let o = c.in-Some.ensures.stands _ _ disk settled v now.volume in
-    other_vacancy c.in-Some.object.now.attributes.kind c.load.new.inodes.geometry.inodes (content_of_object disk c.in-Some.object.now) (v c.args.number) c.in_default-kind.not-File o.kind
-    (by_size detail c.in-Some.object.now.attributes.kind c.load.new.inodes.geometry.inodes (content_of_object disk c.in-Some.object.now) (v c.args.number) o.stands))
+    other_vacancy c.in-Some.object.now.status.kind c.load.new.inodes.geometry.inodes (content_of_object disk c.in-Some.object.now) (v c.args.number) c.in_default-kind.not-File o.kind
+    (by_size detail c.in-Some.object.now.status.kind c.load.new.inodes.geometry.inodes (content_of_object disk c.in-Some.object.now) (v c.args.number) o.stands))

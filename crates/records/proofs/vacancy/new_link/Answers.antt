@@ -1,9 +1,12 @@
-use Rattle.std.proofs.Common.{rules, ◌≡◌, ◌+◌, ◌*◌, ◌≤◌, ℕ, ◌/◌, ◌%◌, Bool, false, List, length, max, slice_index, refl, ap, subst, ◌∙◌, arith}
+use Rattle.std.proofs.Common.{rules, ◌≡◌, ◌+◌, ◌*◌, ◌≤◌, ℕ, ◌/◌, ◌%◌, Some, Bool, false, List, length, max, slice_index, refl, ap, subst, ◌∙◌, arith}
 use Rattle.std.specs.Prelude.{nat_lt, if◌then◌else◌}
 use Rattle.std.proofs.lemmas.Bool.Decides.{nat_tests}
 use Rattle.layout.specs.FileBytes.{EndsAt, first_bytes}
+use Rattle.model.specs.Attributes.{new_attributes}
+use Rattle.model.specs.Volumes.{link_node}
 use Rattle.model.specs.Room.{touched}
-use Rattle.model.specs.declared.limits.TheConstants.{SINGLE_FILE}
+use Rattle.model.specs.declared.limits.TheConstants.{LINK_MODE, SINGLE_FILE}
+use Rattle.model.proofs.AttributeLaws.{new_fit}
 use Rattle.buffers.specs.Positions.{with_bytes_at}
 use Rattle.inode.specs.Edges.{written_list}
 use Rattle.inode.specs.Files.{byte_at, file_block}
@@ -12,6 +15,7 @@ use Rattle.inode.proofs.BytePositions.{slice_index-zeros}
 use Rattle.inode.proofs.ComposingLaws.{committed_byte, written_ends}
 use Rattle.inode.proofs.EdgeLaws.{list_of_write}
 use Rattle.inode.proofs.RoomLaws.{empty_room, same_room}
+use Rattle.records.proofs.NewLaws.{new_object}
 use Rattle.records.proofs.FileLaws.{written_first}
 use Rattle.blocktree.specs.declared.tree.BlockTree.{BlockTree}
 use Rattle.images.specs.Roots.{free_inode}
@@ -40,15 +44,15 @@ returns-clause-object g c = λ detail disk shows inodes settled.
     let is = c.requires in
     let some = is.some in
     let short = is.short in
-    record {
+    new_object kinds.Link LINK_MODE c.of_link-attributes.result c.new-status.result new c.new.result (Some (link_node (new_attributes LINK_MODE) text)) c.of_link-attributes.ensures c.new-status.ensures detail disk inodes settled (record {
       kind = tt;
-      mode = omega (arith, c.in-Some.ensures.value);
-      fits = λ s. (c.in-Some.ensures.value, refl, omega (arith, many, some), omega (arith, many, short));
-      stands = link_in detail inodes (record { kind = kinds.Link; mode = c.in-Some.mode; links = 1; size = new.size; block = file_block disk new }) text bytes;
+      attributes = new_fit LINK_MODE (omega arith);
+      fits = λ s. (refl, refl, omega (arith, many, some), omega (arith, many, short));
+      stands = link_in detail inodes (record { kind = kinds.Link; attributes = new_attributes LINK_MODE; links = 1; size = new.size; block = file_block disk new }) text bytes;
       ends = ends_of detail disk new (written_ends (byte_at disk old) (byte_at disk new) old.size new.size 0 text size ends byte);
       base = c.commit.ensures.base settled (c.prepare_write.ensures.same.base settled (c.empty-file.ensures.base settled));
-      known = λ is. c.new-2.ensures inodes (file_block disk new);
-    }
+      known = λ is. c.new.ensures inodes (file_block disk new);
+    })
 
 pub returns-clause-room : goal.returns-clause-room
 returns-clause-room g c =

@@ -26,7 +26,7 @@ returns c =
     let some : (length c.args.word.now == 0) ≡ false = sym c.is_empty.ensures ∙ c.if-is_empty.false in
     let is = is_data c.args.word.now c.in_ok-decode.field-0.items some lower c.in_ok-decode.ensures.value in
     record {
-      spelled = is.1 ∙ ap data_word (sym c.new-2.ensures);
-      good = subst AreByteValues (sym c.new-2.ensures) is.0;
+      spelled = is.1 ∙ ap data_word (sym c.owned-2.ensures);
+      good = subst AreByteValues (sym c.owned-2.ensures) is.0;
       refused = λ e. absurd (cc);
     }

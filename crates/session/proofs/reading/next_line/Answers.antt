@@ -4,10 +4,10 @@ use Rattle.session.specs.Reading.{IsHeardAs, IsPlain, Loses}
 use Rattle.session.proofs.ReadingLemmas.{ends_rest, keeps_twice, line_taken, loses_kept}
 use Rattle.session.proofs.reading.next_line.Goals as goal
 
-pub returns-in-Ok : goal.returns-in-Ok
-returns-in-Ok g c =
-    let known = prepend_known c.args.pending.now.items (g.R.Read.remaining c.args.input.now) in
-    let r = g.R.Read.remaining c.loop.input in
+pub returns-in-Ok-clause-line : goal.returns-in-Ok-clause-line
+returns-in-Ok-clause-line g c =
+    let known = prepend_known c.args.pending.now.items (g.R.Read.remaining c.args.input.now.inner) in
+    let r = g.R.Read.remaining c.loop.input.inner in
     let p = c.loop.pending.items in
     let end = c.in-Some.end in
     let found = c.in-Some.ensures.found in
@@ -22,11 +22,11 @@ returns-in-Ok g c =
       subst (λ (l : List ℕ). IsHeardAs l c.read_as.result) c.in-Ok.ensures.line c.read_as.ensures,
     )
 
-pub returns-in-Ok-false : goal.returns-in-Ok-false
-returns-in-Ok-false g c =
-    let known = prepend_known c.args.pending.now.items (g.R.Read.remaining c.args.input.now) in
-    let before = prepend_known c.loop.pending.items (g.R.Read.remaining c.loop.input) in
-    let r = g.R.Read.remaining c.read_more.new.input in
+pub returns-in-Ok-false-clause-line : goal.returns-in-Ok-false-clause-line
+returns-in-Ok-false-clause-line g c =
+    let known = prepend_known c.args.pending.now.items (g.R.Read.remaining c.args.input.now.inner) in
+    let before = prepend_known c.loop.pending.items (g.R.Read.remaining c.loop.input.inner) in
+    let r = g.R.Read.remaining c.read_more.new.input.inner in
     let p = c.read_more.new.pending.items in
     let end = c.in-Ok-false.ensures.end c.in-Ok-false.field-0-test in
     ends_rest known p c.take_rest.new.pending.items r c.take_rest.result (keeps_twice known before (prepend_known p r) c.loop.invariant.kept c.in-Ok-false.ensures.kept) end.1

@@ -1,7 +1,6 @@
 use Rattle.std.proofs.Common.{refl}
 use Rattle.session.specs.Scripts.{lines_of}
 use Rattle.session.proofs.ScriptLemmas.{no_bad_line}
-use Rattle.session.proofs.SessionLemmas.{is_refusal}
 use Rattle.session.proofs.running.session.Goals as goal
 
 pub returns-clause-bad_line : goal.returns-clause-bad_line
@@ -12,12 +11,12 @@ returns-in-Ok-mount-clause-bad_line g c = λ bad. absurd (no_bad_line (lines_of 
 
 pub returns-in-Ok-mount-clause-ends : goal.returns-in-Ok-mount-clause-ends
 returns-in-Ok-mount-clause-ends g c =
-    let ran = c.run_mounted-status.ensures in
+    let ran = c.run_mounted-status.ensures.ends in
     record {
       commands = c.in-Ok.commands.items;
       script_is = c.in-Ok.ensures.commands;
       steps = ran.0;
-      ran = record { fs = c.in-Ok-mount.fs; goes = c.in-Ok-mount.ensures.goes; finds = c.in-Ok-mount.ensures.opens; runs = ran.1 };
+      ran = record { fs = c.in-Ok-mount.fs; is_mounted = record { goes = c.in-Ok-mount.ensures.goes; going = c.in-Ok-mount.ensures.going; finds = c.in-Ok-mount.ensures.opens; found = c.in-Ok-mount.ensures.found }; runs = ran.1 };
       shows = rw c.as_slice.ensures.value at ran.2;
       tells = refl;
     }
@@ -28,8 +27,14 @@ returns-clause-ends g c = record {
     commands = c.in-Ok.commands.items;
     script_is = c.in-Ok.ensures.commands;
     goes = c.in-Err-mount.ensures.goes;
-    refusal = is_refusal (g.S.Station.meaning c.args.station) (g.S.Station.meaning c.in-Err-mount.station) c.in-Err-mount.error c.in-Err-mount.ensures.device c.in-Err-mount.ensures.no_root c.in-Err-mount.ensures.opens;
+    refusal = record {
+      device = c.in-Err-mount.ensures.device;
+      no_root = c.in-Err-mount.ensures.no_root;
+      rootless = c.in-Err-mount.ensures.rootless;
+      faultless = c.in-Err-mount.ensures.faultless;
+      opens = c.in-Err-mount.ensures.opens;
+    };
   };
   shows = refl;
-  tells = c.tell-in-Err-mount.ensures;
+  tells = c.tell-in-Err-mount.ensures.tells;
 }

@@ -27,5 +27,5 @@ returns g c =
     let o = c.in_ok-found.found in
     subst (λ (x : Option FileChange). PreparesDoing g.B.Blocks c.args.blocks.now c.prepare_ftruncate.new.blocks c.args.inodes.now c.prepare_ftruncate.new.inodes files (command.Ftruncate c.args.fd c.args.size)
     (Ok (record { reply = Done; change = x; table = Stays }))) (sym c.said.ensures)
-    (does (command.Ftruncate c.args.fd c.args.size) c.in_ok-found.ensures (λ within. record { accepted = λ errno is. cc; moves = tt; numbered = tt; limits = said_within o }) (λ P is. said_so o P is) (λ v told. cuts_so n v (table_of files) c.args.fd c.args.size o
+    (does (command.Ftruncate c.args.fd c.args.size) c.in_ok-found.ensures (λ within. record { kind = tt; accepted = λ errno is. cc; moves = tt; numbered = tt; limits = said_within o }) (λ P is. said_so o P is) (λ v told. cuts_so n v (table_of files) c.args.fd c.args.size o
     (subst (λ (z : ℤ). ComesOrStays (truncates_open (tree_with files v) c.args.fd z) n v (table_of files) (Ok o)) (to_z-of_z w64 c.args.size c.ranges.size) told)))

@@ -22,5 +22,5 @@ returns g c =
     subst (λ (x : Option FileChange). PreparesDoing g.B.Blocks c.args.blocks.now c.prepare_open.new.blocks c.args.inodes.now c.prepare_open.new.inodes files (command.Open c.args.path.now c.args.flags c.args.mode)
     (Ok (record { reply = Fd o.fd; change = x; table = Opens o.fd o.file }))) (sym c.said.ensures)
     (does (command.Open c.args.path.now c.args.flags c.args.mode) c.in_ok-opening.ensures
-    (λ can. record { accepted = λ errno is. cc; moves = (can.0, ap (option_map description_of) can.1, can.2); numbered = can.3; limits = said_within o.changing }) (λ P is. said_so o.changing P is)
+    (λ can. record { kind = tt; accepted = λ errno is. cc; moves = (can.0, ap (option_map description_of) can.1, can.2); numbered = can.3; limits = said_within o.changing }) (λ P is. said_so o.changing P is)
     (λ v told. opens_so n v files c.args.path.now c.args.flags c.args.mode o o.changing told))

@@ -18,10 +18,10 @@ returns-in-Some g c =
     let call = command.Write c.args.fd c.args.bytes.now in
     let w = c.in-Some.writing.written in
     let change : FileChange = record { «record» = records.Writes w.number w.offset c.args.bytes; prepared = c.in-Some.writing.prepared } in
-    does call (rw c.in-Some.is at c.in_ok-found.ensures) (λ within. record { accepted = λ errno is. cc; moves = (within.2, search rules); numbered = tt; limits = (within.0, within.1) }) (λ P is. is)
+    does call (rw c.in-Some.is at c.in_ok-found.ensures) (λ within. record { kind = tt; accepted = λ errno is. cc; moves = (within.2, search rules); numbered = tt; limits = (within.0, within.1) }) (λ P is. is)
     (λ v told. goes_beside c.args.inodes.now.geometry.inodes v (table_of c.args.files.now) call (Wrote (length c.args.bytes.now)) (Moves c.args.fd w.behind) change told.0 (λ x. tt) (λ snapshots room. (told.2, refl)))
 
 pub returns-in-None : goal.returns-in-None
 returns-in-None g c =
-    does (command.Write c.args.fd c.args.bytes.now) (rw c.in-None.is at c.in_ok-found.ensures) (λ within. record { accepted = λ errno is. cc; moves = tt; numbered = tt; limits = tt }) (λ P is. tt)
+    does (command.Write c.args.fd c.args.bytes.now) (rw c.in-None.is at c.in_ok-found.ensures) (λ within. record { kind = tt; accepted = λ errno is. cc; moves = tt; numbered = tt; limits = tt }) (λ P is. tt)
     (λ v told. (tt, λ snapshots room. (told, refl)))

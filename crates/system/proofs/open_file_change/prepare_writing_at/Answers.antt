@@ -21,11 +21,11 @@ returns-in-Some g c =
     let n = c.args.inodes.now.geometry.inodes in
     let w : Writing = c.in-Some.writing in
     let change : FileChange = record { «record» = records.Writes w.written.number w.written.offset c.args.bytes; prepared = w.prepared } in
-    does call (rw c.in-Some.is at c.in_ok-found.ensures) (λ within. record { accepted = λ errno is. cc; moves = tt; numbered = tt; limits = (within.0, within.1) }) (λ P is. is) (λ v told.
+    does call (rw c.in-Some.is at c.in_ok-found.ensures) (λ within. record { kind = tt; accepted = λ errno is. cc; moves = tt; numbered = tt; limits = (within.0, within.1) }) (λ P is. is) (λ v told.
     let here = writes_at n v c.args.files.now c.args.fd c.args.bytes.now (Ok (Some w)) (to_z-of_z w64 c.args.offset c.ranges.offset) told in
     goes_beside n v (table_of c.args.files.now) call (Wrote (length c.args.bytes.now)) Stays change here.0 (λ x. tt) (λ snapshots room. (here.2, refl)))
 
 pub returns-in-None : goal.returns-in-None
 returns-in-None g c =
-    does (command.Pwrite c.args.fd c.args.offset c.args.bytes.now) (rw c.in-None.is at c.in_ok-found.ensures) (λ within. record { accepted = λ errno is. cc; moves = tt; numbered = tt; limits = tt }) (λ P is. tt)
+    does (command.Pwrite c.args.fd c.args.offset c.args.bytes.now) (rw c.in-None.is at c.in_ok-found.ensures) (λ within. record { kind = tt; accepted = λ errno is. cc; moves = tt; numbered = tt; limits = tt }) (λ P is. tt)
     (λ v told. (tt, λ snapshots room. (writes_at c.args.inodes.now.geometry.inodes v c.args.files.now c.args.fd c.args.bytes.now (Ok None) (to_z-of_z w64 c.args.offset c.ranges.offset) told, refl)))

@@ -12,4 +12,4 @@ returns-in-Link-clause-told c = λ disk inodes settled found o. stat_link disk i
 
 pub returns-in_default-clause-told : goal.returns-in_default-clause-told
 returns-in_default-clause-told c = λ disk inodes settled found o.
-    stat_none disk inodes settled c.args.object.now found o c.args.number c.args.object.now.attributes.kind o.kind c.in_default.not-Directory c.in_default.not-File c.in_default.not-Link
+    stat_none disk inodes settled c.args.object.now found o c.args.number c.args.object.now.status.kind o.kind c.in_default.not-Directory c.in_default.not-File c.in_default.not-Link

@@ -1,10 +1,11 @@
 use Rattle.std.proofs.Common.{sym, subst}
+use Rattle.std.proofs.lemmas.Result.{IfOk-weaker}
 use Rattle.checker.specs.Seen.{KnowsBy}
-use Rattle.checker.proofs.SeenNames.{if_ok, rising_more}
+use Rattle.checker.proofs.SeenNames.{rising_more}
 use Rattle.checker.proofs.seen.Seen.add.Goals as goal
 
 pub returns-in-Some-clause-new : goal.returns-in-Some-clause-new
-returns-in-Some-clause-new c = if_ok c.insert.result _ _ (λ is_new told yes names more knows adds.
+returns-in-Some-clause-new c = IfOk-weaker c.insert.result _ _ (λ is_new told yes names more knows adds.
     told yes names more (subst (λ o. KnowsBy c.args.self.now.rising o names) c.in-Some.is knows) adds) c.insert.ensures.new
 
 pub returns-then-precedes-clause-new : goal.returns-then-precedes-clause-new

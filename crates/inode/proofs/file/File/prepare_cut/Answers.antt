@@ -3,7 +3,6 @@ use Rattle.blocktree.specs.Trees.{IsSoundAt}
 use Rattle.inode.specs.Files.{file_block, byte_at}
 use Rattle.inode.proofs.BytePositions.{cut_laid_hole, cut_laid_none, cut_laid_one, cut_same}
 use Rattle.std.proofs.lemmas.List.{length_push}
-use Rattle.layout.specs.Version.{level_of}
 use Rattle.inode.proofs.EdgeLaws.{list_of_cut}
 use Rattle.inode.proofs.RoomLaws.{stores_cut, stores_none}
 use Rattle.std.proofs.lemmas.Bool.{cases_eq, cases_lt, false≢true}

@@ -7,5 +7,5 @@ returns-clause-volume c = λ count disk settled v are maps holds. record {
   inodes = are;
   mapped = maps;
   own = holds_no_own by_bytes disk c.args.self.now.geometry.inodes settled v are.fits holds;
-  objects = held_stand by_bytes disk c.args.self.now.geometry.inodes settled c.clear.new.self v c.clear.ensures.empty holds;
+  objects = held_stand by_bytes disk c.args.self.now.geometry.inodes settled c.take_in.new.slots v c.take_in.ensures holds;
 }

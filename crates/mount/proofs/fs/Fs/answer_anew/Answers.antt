@@ -10,8 +10,8 @@ use Rattle.mount.proofs.fs.Fs.answer_anew.Goals as goal
 pub returns-in-Sync-clause-answers : goal.returns-in-Sync-clause-answers
 returns-in-Sync-clause-answers g c =
     let is : c.args.command.now ≡ Sync = cc in
-    behind_letting_go {G = g.S.Station} c.args.self.now _ _ c.args.command.now c.sync.result c.requires.going c.requires.going (λ t here. c.served_states_open.ensures t.tree.descriptors t here)
-    c.let_go.ensures.glances c.let_go.ensures.station (answers_so 2 _ _ _ Sync c.args.command.now c.sync.result is c.sync.ensures)
+    behind_letting_go {G = g.S.Station} c.args.self.now _ _ c.args.command.now c.sync_all.result c.requires.going c.requires.going (λ t here. c.served_states_open.ensures t.tree.descriptors t here)
+    c.let_go.ensures.glances c.let_go.ensures.station (answers_so 2 _ _ _ Sync c.args.command.now c.sync_all.result is c.sync_all.ensures)
 
 pub returns-in-SnapTake-clause-answers : goal.returns-in-SnapTake-clause-answers
 returns-in-SnapTake-clause-answers g c =

@@ -1,4 +1,5 @@
 use Rattle.std.proofs.Common.{arith}
+use Rattle.oplog.specs.LogEnd.{all_bodies}
 use Rattle.mount.proofs.AnswerLemmas.{ages_within, attempted, behind_that, not_attempted, waiting_keeps}
 use Rattle.mount.proofs.fs.Fs.call.Goals as goal
 
@@ -9,7 +10,11 @@ pub returns-in-NoRoom-clause-answers : goal.returns-in-NoRoom-clause-answers
 returns-in-NoRoom-clause-answers g c =
     let made = c.in-Err.ensures in
     behind_that 2 1 1 _ _ c.args.self.now c.attempt.new.self _ c.args.call.now c.call_settled.result (omega arith) c.requires.going
-    (waiting_keeps _ _ c.args.call.now c.in-Err.error c.in-NoRoom.is made) c.call_settled.ensures (λ s serves _. (made.waits s serves c.in-NoRoom.is).1) (λ s serves _ sure. made.sure s serves sure)
+    (waiting_keeps _ _ c.args.call.now c.in-Err.error c.in-NoRoom.is made) c.call_settled.ensures.answers
+    (λ s serves _ accepted served.
+    let waits = made.waits s serves c.in-NoRoom.is in
+    c.call_settled.ensures.logs s waits.0.serves waits.1 accepted (all_bodies served.lasts.bodies))
+    (λ s serves _. (made.waits s serves c.in-NoRoom.is).1) (λ s serves _ sure. made.sure s serves sure)
 
 pub returns-in_default-clause-answers : goal.returns-in_default-clause-answers
 returns-in_default-clause-answers g c =

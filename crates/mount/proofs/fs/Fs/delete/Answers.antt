@@ -5,7 +5,7 @@ use Rattle.mount.proofs.fs.Fs.delete.Goals as goal
 
 pub returns-in-Ok-Ok : goal.returns-in-Ok-Ok
 returns-in-Ok-Ok g c =
-    settles_done {G = g.S.Station} 2 _ c.args.self.now _ (command.SnapDelete c.args.name.now) (omega arith) c.requires (λ s no. no) (λ t here. c.served_states_open.ensures t.tree.descriptors t here) _ _
+    settles_done {G = g.S.Station} 2 _ c.args.self.now _ (command.SnapDelete c.args.name.now) (omega arith) c.requires (λ s no. no) (λ t here. c.served_states_open.ensures t.tree.descriptors t here) tt _ _
     c.in-Ok-Ok.field-0-is c.in-Ok-Ok.ensures c.requires (λ t here. c.served_states_open-in-Ok-Ok.ensures t.tree.descriptors t here)
 
 pub returns-in-Ok-Err : goal.returns-in-Ok-Err

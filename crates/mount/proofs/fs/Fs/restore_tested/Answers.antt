@@ -2,6 +2,7 @@ use Rattle.std.proofs.Common.{arith}
 use Rattle.model.specs.declared.command.Command.TheVariants as command
 use Rattle.mount.proofs.AnswerLemmas.{answers_more, behind_that, no_room}
 use Rattle.mount.proofs.AttemptLemmas.{still_going}
+use Rattle.mount.proofs.LogLemmas.{logs_settled}
 use Rattle.mount.proofs.fs.Fs.restore_tested.Goals as goal
 
 pub returns-then-is_covered : goal.returns-then-is_covered
@@ -13,6 +14,7 @@ pub returns-in-Ok : goal.returns-in-Ok
 returns-in-Ok g c =
     let made = c.in-Ok.ensures.made in
     behind_that 2 1 1 _ _ c.args.self.now c.settle.new.self _ (command.SnapRestore c.args.name.now) _ (omega arith) c.requires made.keeps c.restore_covered-in-Ok.ensures
+    (logs_settled 1 _ _ c.args.self.now c.settle.new.self _ (command.SnapRestore c.args.name.now) _ c.restore_covered-in-Ok.ensures (λ s serves needs. (made.covered s serves, needs)) made)
     (λ s serves needs. (made.covered s serves, needs)) (λ s serves needs no. no)
 
 pub returns-in-Err : goal.returns-in-Err

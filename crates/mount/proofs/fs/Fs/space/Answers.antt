@@ -1,7 +1,9 @@
-use Rattle.std.proofs.Common.{false}
+use Rattle.std.proofs.Common.{false, refl}
 use Rattle.std.proofs.lemmas.Bool.{false≢true}
 use Rattle.model.specs.Room.{Room}
 use Rattle.mount.proofs.AttemptLemmas.{still_going, told_room}
+use Rattle.model.specs.declared.command.Command.TheVariants.{Df}
+use Rattle.mount.proofs.LogLemmas.{idle_logs}
 use Rattle.mount.proofs.NamelessLemmas.{nameless_of, nameless_told}
 use Rattle.mount.proofs.fs.Fs.space.Goals as goal
 
@@ -19,3 +21,9 @@ returns-clause-applied g c s serves runs =
       told = told.told s.tree.descriptors s served (nameless_of fs.system s served) false (λ e. absurd (false≢true e));
       nameless = nameless_told fs.system s served;
     }) opens
+
+pub returns-clause-logs : goal.returns-clause-logs
+returns-clause-logs g c s served =
+    let said = c.space-blocks.result in
+    let room : Room = record { blocks = said.blocks; free = said.free; pledged = said.pledged; is_covered = false; nameless_of = λ name. 0 } in
+    idle_logs {G = g.S.Station} c.args.self.now.system s served room Df _ (refl, refl, refl)

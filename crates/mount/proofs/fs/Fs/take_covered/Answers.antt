@@ -10,7 +10,7 @@ use Rattle.mount.proofs.fs.Fs.take_covered.Goals as goal
 pub returns-in-Ok-Ok : goal.returns-in-Ok-Ok
 returns-in-Ok-Ok g c =
     answers_more 1 1 _ (λ s. IsCovered c.args.self.now.system s.tree.descriptors s × HasRoomToTake c.args.self.now.system) _ _ (command.SnapTake c.args.name.now) _ (omega arith)
-    (settles_done {G = g.S.Station} 1 _ c.args.self.now _ (command.SnapTake c.args.name.now) (omega arith) c.requires.going (λ s no. no) (λ t here. c.served_states_open.ensures t.tree.descriptors t here) _ _
+    (settles_done {G = g.S.Station} 1 _ c.args.self.now _ (command.SnapTake c.args.name.now) (omega arith) c.requires.going (λ s no. no) (λ t here. c.served_states_open.ensures t.tree.descriptors t here) tt _ _
     c.in-Ok-Ok.field-0-is c.in-Ok-Ok.ensures c.requires.going (λ t here. c.served_states_open-in-Ok-Ok.ensures t.tree.descriptors t here))
     (λ s serves p. (p.0, c.has_room_to_take.ensures.0 c.if-not-has_room_to_take.false))
 

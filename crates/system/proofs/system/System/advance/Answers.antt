@@ -9,7 +9,7 @@ use Rattle.system.proofs.system.System.advance.Goals as goal
 pub returns-then-left-le-SLICE_BLOCKS : goal.returns-then-left-le-SLICE_BLOCKS
 returns-then-left-le-SLICE_BLOCKS g c =
     let few : unwritten c.args.self.now.blocks.laid ≤ SLICE_BLOCKS = omega (arith, c.left.ensures, c.if-left-le-SLICE_BLOCKS.true) in
-    last_slice {G = g.S.Station} c.args.self.now c.finish.new.self c.finish.result c.requires few c.finish.ensures
+    last_slice {G = g.S.Station} c.points_go_on.ensures c.args.self.now c.finish.new.self (g.met.S.Station.seen_may_be_left c.finish.new.self.blocks.buffers.station) c.finish.result c.requires few c.finish.ensures
 
 pub returns-in-Ok : goal.returns-in-Ok
 returns-in-Ok g c =

@@ -1,8 +1,9 @@
+use Rattle.std.proofs.Common.{refl}
 use Rattle.system.proofs.FulfilLaws.{answered_now, failed_now, fulfilled_behind, not_stepped}
 use Rattle.system.proofs.system.System.call.Goals as goal
 
 pub returns-in-Ok : goal.returns-in-Ok
-returns-in-Ok g c = answered_now {G = g.S.Station} (λ s served. c.served_states_open.ensures s.tree.descriptors s served) c.in-Ok.reply c.in-Ok.ensures
+returns-in-Ok g c = answered_now {G = g.S.Station} (λ s served. c.served_states_open.ensures s.tree.descriptors s served) refl c.in-Ok.reply c.in-Ok.ensures
 
 pub returns-in-Ok-step : goal.returns-in-Ok-step
 returns-in-Ok-step g c =
@@ -15,4 +16,4 @@ returns-in-Err-step g c =
     not_stepped {G = g.S.Station} (rw c.in-StepDue.is at c.in-Err.ensures) (λ s served. c.served_states_open.ensures s.tree.descriptors s served) c.step.new.self c.in-Err-step.field-0 c.in-Err-step.ensures
 
 pub returns-in_default : goal.returns-in_default
-returns-in_default g c = failed_now {G = g.S.Station} (λ s served. c.served_states_open.ensures s.tree.descriptors s served) c.in-Err.error c.in_default.not-StepDue c.in-Err.ensures
+returns-in_default g c = failed_now {G = g.S.Station} (λ s served. c.served_states_open.ensures s.tree.descriptors s served) refl c.in-Err.error c.in_default.not-StepDue c.in-Err.ensures

@@ -6,6 +6,7 @@ use Rattle.station.specs.declared.station.Station.{Ghosts}
 use Rattle.replay.specs.Costs.{KnowsFile}
 use Rattle.layout.specs.Record.{Change, change_of}
 use Rattle.model.specs.Records.{applied, work_of}
+use Rattle.model.specs.Replies.{IsReplyTo}
 use Rattle.model.specs.States.{State}
 use Rattle.model.specs.Volumes.{swept}
 use Rattle.model.specs.declared.command.Command.TheVariants as command
@@ -22,7 +23,7 @@ use Rattle.system.specs.declared.system.System.{System}
 use Rattle.system.proofs.ChangingLaws.{IsChanged, changing_told, does_over, stays}
 use Rattle.system.proofs.HandlingLaws.{IsFirstFault, logged, not_logged, serves_same, short_fits}
 use Rattle.system.proofs.LookedLaws.{looked_on, never_damaged, on_mounted, on_volumes, reads_on, same_disk}
-use Rattle.system.proofs.ServingLaws.{AllOpen, answered, done_is_accepted, done_is_no_fault, failed_by}
+use Rattle.system.proofs.ServingLaws.{AllOpen, answered, done_is_accepted, done_is_no_fault, done_is_reply, failed_by}
 use Rattle.system.proofs.system.System.change.Goals as goal
 
 pub returns : goal.returns
@@ -43,11 +44,11 @@ returns-in-Ok-None g c =
     let looks = told.looks in
     answered fs _ (command.Path c.args.call.now) (reads_on {G = g.S.Station} fs c.prepare.new.blocks c.prepare.new.inodes looks) refl
     (λ s served. (looked_on {G = g.S.Station} fs c.prepare.new.blocks c.prepare.new.inodes looks s served, refl))
-    _ (λ s served. inr (λ x. x), λ is. absurd is) looks.reads.counted done_is_no_fault (λ s served. c.served_states_open.ensures s.tree.descriptors s served)
+    _ (λ s served. inr (λ x. x), λ is. absurd is) looks.reads.counted (done_is_reply c.args.call.now c.requires) done_is_no_fault (λ s served. c.served_states_open.ensures s.tree.descriptors s served)
     (λ s served. stays {G = g.S.Station} fs s served c.args.call.now Done (on_mounted {G = g.S.Station} fs told.answers s served))
 
 -- the record is logged, and its change is in force
-in_force : {S : Type 0} {G : Ghosts S} {steps : Bool} (f new : System S G) (mid : Meaning) (call : PathCall) (change : Change) → ReadsOn (meaning_of f) mid → new.blocks.laid ≡ f.blocks.laid
+in_force : {S : Type 0} {G : Ghosts S} {steps : Bool} (f new : System S G) (mid : Meaning) (call : PathCall) (change : Change) → IsReplyTo (command.Path call) Done → ReadsOn (meaning_of f) mid → new.blocks.laid ≡ f.blocks.laid
     → mid.failed_reads ≡ (meaning_of f).failed_reads → (new.log.epoch ≡ f.log.epoch) × (new.log.is_stopped ≡ f.log.is_stopped) → AllOpen f
     → ((s : State) (served : ServesState f s) → IsChanged f s served call change)
     → ((s : State) (served : ServesState f s) → LeavesEither mid (meaning_of new) s
@@ -58,13 +59,13 @@ in_force : {S : Type 0} {G : Ghosts S} {steps : Bool} (f new : System S G) (mid 
     → ((s : State) (served : ServesState f s) → let after = swept s.tree.descriptors (applied change served.running) in
     ServesWith new s.tree.descriptors (state_with f.root.geometry.inodes after s.tree.descriptors served.snapshots) after (served.lasts.replayed.changes ++ change ∷ []))
     → Handles steps f new (command.Path call) (Ok Done)
-in_force f new mid call change reads laid counted log opens made leaves u writes waits room serves =
+in_force f new mid call change kind reads laid counted log opens made leaves u writes waits room serves =
     logged f new mid (command.Path call) Done reads laid counted log.0 opens (λ s served x. x, λ x. x) (λ s served. record {
       after = state_with f.root.geometry.inodes (swept s.tree.descriptors (applied change served.running)) s.tree.descriptors served.snapshots;
       work = work_of served.running change;
       step = (made s served).step;
       leaves = leaves s served;
-    }) u change (λ s served. refl) done_is_no_fault done_is_accepted writes log.1 waits room (λ s served. ((serves s served).serves, (serves s served).records))
+    }) u change (λ s served. refl) kind done_is_no_fault done_is_accepted writes log.1 waits room (λ s served. ((serves s served).serves, (serves s served).records))
 
 pub returns-in-Ok : goal.returns-in-Ok
 returns-in-Ok g c =
@@ -79,7 +80,7 @@ returns-in-Ok g c =
     changing_told {G = g.S.Station} fs s served c.args.call.now c.in-Ok-Some.changing change c.record.ensures.says c.record.ensures.is (on_mounted {G = g.S.Station} fs told.answers s served) in
     let knows = λ (s : State) (served : ServesState {G = g.S.Station} fs s).
     subst (KnowsFile c.prepare.new.inodes) (sym c.record.ensures.says) (on_volumes {G = g.S.Station} fs told.does s served).knows in
-    in_force {G = g.S.Station} fs c.log.new.self (g.S.Station.meaning blocks.buffers.station) c.args.call.now change reads.below (c.log.ensures.laid ∙ reads.laid) looks.reads.counted
+    in_force {G = g.S.Station} fs c.log.new.self (g.S.Station.meaning blocks.buffers.station) c.args.call.now change (done_is_reply c.args.call.now c.requires) reads.below (c.log.ensures.laid ∙ reads.laid) looks.reads.counted
     (c.log.ensures.log.0, c.in-Ok.ensures.log.1) (λ s served. c.served_states_open.ensures s.tree.descriptors s served) made
     (λ s served. c.log.ensures.any_moment s.tree.descriptors s (before s served) (knows s served) (made s served).advances) c.in-Ok.field-0 c.in-Ok.ensures.writes
     (λ steps laid. c.log.ensures.waits steps (λ is. laid (sym reads.laid ∙ is)))

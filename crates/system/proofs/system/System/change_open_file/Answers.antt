@@ -5,7 +5,7 @@ use Rattle.model.specs.Records.{applied, work_of}
 use Rattle.model.specs.States.{State}
 use Rattle.model.specs.Trees.{Description}
 use Rattle.model.specs.Volumes.{IsMounted, swept}
-use Rattle.model.specs.declared.errno.Errno.TheVariants.{EIO}
+use Rattle.model.specs.declared.errno.Errno.TheVariants.{EIO, FAILED}
 use Rattle.overlay.specs.declared.overlay.Overlay.{Overlay}
 use Rattle.descriptors.specs.Tables.{table_of}
 use Rattle.system.specs.OpenFiles.{DoesCall, moved_table}
@@ -42,7 +42,7 @@ returns-in-None g c =
     let doing = c.in-Ok.doing in
     let put = c.put_into-in-None.ensures in
     answered_leading fs _ call (reads_on {G = g.S.Station} fs c.prepare_open_file.new.blocks c.prepare_open_file.new.inodes looks) refl doing.reply
-    (by_no {G = g.S.Station} fs _ call doing.reply (logging_not_sure {G = g.S.Station} fs call c.requires)) looks.reads.counted (told.within.accepted EIO) (λ s served. c.served_states_open.ensures s.tree.descriptors s served)
+    (by_no {G = g.S.Station} fs _ call doing.reply (logging_not_sure {G = g.S.Station} fs call c.requires)) looks.reads.counted told.within.kind (told.within.accepted EIO, told.within.accepted FAILED) (λ s served. c.served_states_open.ensures s.tree.descriptors s served)
     (λ s served.
     let v = served.running in
     let beside = told_beside {G = g.S.Station} fs s served call doing c.in-None.is (on_open {G = g.S.Station} fs told.answers s served) in
@@ -80,7 +80,7 @@ returns-in-Ok-log g c =
     logged {G = g.S.Station} fs _ mid call doing.reply reads.below (c.log.ensures.laid ∙ reads.laid) looks.reads.counted c.log.ensures.log.0
     (λ s served. c.served_states_open.ensures s.tree.descriptors s served) (logging_not_sure {G = g.S.Station} fs call c.requires)
     (λ s served. record { after = _; work = work_of served.running change; step = (made s served).step; leaves = leads s served })
-    c.in-Ok-log.field-0 change (λ s served. refl) (told.within.accepted EIO) told.within.accepted c.in-Ok-log.ensures.writes c.in-Ok-log.ensures.log.1
+    c.in-Ok-log.field-0 change (λ s served. refl) told.within.kind (told.within.accepted EIO, told.within.accepted FAILED) told.within.accepted c.in-Ok-log.ensures.writes c.in-Ok-log.ensures.log.1
     (λ steps laid. c.log.ensures.waits steps (λ is. laid (sym reads.laid ∙ is)))
     (λ s served. c.in-Ok-log.ensures.room s.tree.descriptors s (before s served) (knows s served))
     (λ s served.

@@ -18,7 +18,7 @@ returns-in-Ok-close g c =
     Done (
       λ s served. close_sure {G = g.S.Station} c.named_files_have_paths.ensures fs s served fd _ (on_open {G = g.S.Station} fs c.in-Ok.ensures.still s served),
       λ is. (ap (λ (b : Overlay g.row.S.Denot g.S.Station). b.buffers.station) (c.in-Ok.ensures.linked is).0, done_is_no_want),
-    ) looks.reads.counted done_is_no_fault
+    ) looks.reads.counted tt done_is_no_fault
     (λ s served. c.served_states_open.ensures s.tree.descriptors s served)
     (λ s served.
     let now = looked_on {G = g.S.Station} fs c.prepare_close.new.blocks c.prepare_close.new.inodes looks s served in
@@ -38,7 +38,7 @@ returns-in-Err-close g c =
     (Refused errno) (
       λ s served. close_sure {G = g.S.Station} c.named_files_have_paths.ensures fs s served fd _ (on_open {G = g.S.Station} fs c.in-Ok.ensures.still s served),
       λ is. (ap (λ (b : Overlay g.row.S.Denot g.S.Station). b.buffers.station) (c.in-Ok.ensures.linked is).0, own_want {T = Unit {0}} (Err errno) errno refl c.in-Err-close.ensures.own),
-    ) looks.reads.counted
+    ) looks.reads.counted tt
     (own_refusal {T = Unit {0}} (Err errno) errno refl c.in-Err-close.ensures.own) (λ s served. c.served_states_open.ensures s.tree.descriptors s served)
     (λ s served.
     let now = looked_on {G = g.S.Station} fs c.prepare_close.new.blocks c.prepare_close.new.inodes looks s served in

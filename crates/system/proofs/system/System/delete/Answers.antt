@@ -18,7 +18,7 @@ use Rattle.snapshots.specs.Found.{FindsSnapshot, named}
 use Rattle.snapshots.specs.declared.finding.FoundSnapshot.{FoundSnapshot}
 use Rattle.oplog.specs.LogEnd.{LogEnd}
 use Rattle.oplog.specs.declared.log.End.TheVariants.{Unopened}
-use Rattle.system.specs.Counting.{AgesBy}
+use Rattle.system.specs.Counting.{AgesBy, IsNoGeneration}
 use Rattle.system.specs.Images.{OpensTo}
 use Rattle.system.specs.Serving.{ServesState}
 use Rattle.system.specs.Settling.{Settles}
@@ -66,7 +66,7 @@ returns-in_default g c =
     let on = told.reads.reads fs.blocks (reads_nothing g.S.Station fs.blocks) in
     let name = c.as_bytes.result.now in
     refuses fs _ _ (command.SnapDelete c.args.name.now) on.below refl (λ s served. c.served_states_open.ensures s.tree.descriptors s served)
-    (λ s served. stays_read {G = g.S.Station} fs c.find.new.blocks s on told.reads.same served) NOSNAP (λ is. cc) told.reads.counted
+    (λ s served. stays_read {G = g.S.Station} fs c.find.new.blocks s on told.reads.same served) NOSNAP (λ is. cc, λ is. cc) told.reads.counted
     (λ s served room. subst (λ (n : Name). deletes s n (Refused NOSNAP) s nothing) c.as_bytes.ensures
     (delete_refused s name
     (ap (named name) (snapshots_of {G = g.S.Station} fs s served)
@@ -116,6 +116,7 @@ returns-in-Ok-point_with g c =
       after = after;
       need = λ room. nothing;
       step = λ room. subst (λ (n : Name). deletes s n Done after nothing) c.as_bytes.ensures (delete_step {G = g.S.Station} mid s name over _ is_found.1.listed);
+      unlogged = λ room work is. cc;
       covered = made.covered s.tree.descriptors s over after (deleted found.slot name, record { is = (name, refl); can = can }, tt, refl) tt;
       leaves = either_behind (meaning_of {G = g.S.Station} fs) (meaning_of {G = g.S.Station} mid) (meaning_of {G = g.S.Station} new) s after end.counted.uses.same.sectors (end.leaves s served)
           (made.any_moment s.tree.descriptors s over after (deleted found.slot name, record { is = (name, refl); can = can }, tt, refl) tt);
@@ -161,3 +162,4 @@ returns-in-Err-point_with g c =
     (λ s served any is. made.roomy s.tree.descriptors s (end.serves s served) _ (deleted found.slot name, record { is = (name, refl); can = can_of s served }, tt, refl) tt (ap (λ e. Err e) is))
     (λ s served is. made.damaged s.tree.descriptors s (end.serves s served) _ (deleted found.slot name, record { is = (name, refl); can = can_of s served }, tt, refl) (ap (λ e. Err e) is))
     (λ s served is. subst (λ (l : LogEnd). 2 ^ 62 ≤ l.epoch) end.log (made.last s.tree.descriptors s (end.serves s served) (ap (λ e. Err e) is)))
+    (λ is. subst (λ (l : LogEnd). IsNoGeneration l.epoch) end.log (made.past (ap (λ e. Err e) is)))

@@ -46,7 +46,7 @@ returns-in-Ok g c =
     finishes {G = g.S.Station} c.cuts_open.ensures c.new_roots_hold.ensures c.points_go_on.ensures f _ (c.is_under_way.ensures.0 c.if-not-is_under_way.false)
     (g.met.S.Station.seen_may_be_left f.blocks.buffers.station) (g.met.S.Station.seen_may_be_left now.buffers.station) (g.met.S.Station.sized now.buffers.station)
     (Ok tt) (wrote_all IsFault m n r c.in-Ok.field-0 c.in-Ok.is did.writes) tt did.none
-    (λ i. record (system_parts {G = g.S.Station} f) { kept = now.buffers.kept; laid = did.none i; map = c.settle.new.self; pledged = f.pledged_then }) refl
+    (λ i. record (system_parts {G = g.S.Station} f) { kept = now.buffers.kept; laid = did.none i; inodes = c.let_past_go.ensures i; map = c.settle.new.self; pledged = f.pledged_then }) refl
     (λ disk shows. too _ (did.shows disk shows)) c.settle.ensures (all_three r (Ok tt) _ _ _ f.blocks.laid too did.any_moment did.settled did.just)
 
 pub returns-in-Err : goal.returns-in-Err
@@ -60,5 +60,5 @@ returns-in-Err g c =
     finishes {G = g.S.Station} c.cuts_open.ensures c.new_roots_hold.ensures c.points_go_on.ensures f _ (c.is_under_way.ensures.0 c.if-not-is_under_way.false)
     (g.met.S.Station.seen_may_be_left f.blocks.buffers.station) (g.met.S.Station.seen_may_be_left now.buffers.station) (g.met.S.Station.sized now.buffers.station)
     (Err NotWritten) (wrote_not IsFault m n r c.in-Err.field-0 c.in-Err.is did.writes did.device) refl did.none
-    (λ i. record (system_parts {G = g.S.Station} f) { kept = now.buffers.kept; laid = did.none i; map = c.settle.new.self; pledged = f.pledged_then }) refl
+    (λ i. record (system_parts {G = g.S.Station} f) { kept = now.buffers.kept; laid = did.none i; inodes = c.let_past_go.ensures i; map = c.settle.new.self; pledged = f.pledged_then }) refl
     (λ disk shows. tt) c.settle.ensures (all_three r (Err NotWritten) _ _ _ f.blocks.laid (λ A h. tt) did.any_moment did.settled did.just)

@@ -6,13 +6,13 @@ use Rattle.system.proofs.system.System.has_room.Goals as goal
 pub returns-clause-logs : goal.returns-clause-logs
 returns-clause-logs g c = λ yes v sized.
     let f = c.args.self.now in
-    let fixed = c.fixed_of.ensures ∙ ap room.fixed_of (c.count.ensures ∙ f.count) in
+    let fixed = c.fixed_cost.ensures ∙ ap room.fixed_of (c.count.ensures ∙ f.count) in
     omega (arith, leb-true _ _ yes, fixed, c.cost_of.ensures.cost v sized, c.saturating_sub.ensures, c.from.ensures)
 
 pub returns-clause-told : goal.returns-clause-told
 returns-clause-told g c = λ v sized.
     let f = c.args.self.now in
-    let fixed = c.fixed_of.ensures ∙ ap room.fixed_of (c.count.ensures ∙ f.count) in
+    let fixed = c.fixed_cost.ensures ∙ ap room.fixed_of (c.count.ensures ∙ f.count) in
     let cost = c.cost_of.ensures.cost v sized in
     let keep = c.keep_of.ensures.keep v sized in (
       λ yes. omega (arith, leb-true _ _ yes, fixed, cost, keep, c.saturating_sub.ensures, c.from.ensures),

@@ -20,7 +20,7 @@ returns-in-Ok-None-clause-glances g c =
     let fs = c.args.self.now in
     let told = c.in-Ok-None.ensures in
     let reads = told.reads.reads fs.blocks (reads_nothing g.S.Station fs.blocks) in
-    glanced fs _ reads.below refl (λ s served. stays_read {G = g.S.Station} fs c.find.new.blocks s reads told.reads.same served) _ told.reads.counted
+    glanced fs _ reads.below refl (λ s served. (stays_read {G = g.S.Station} fs c.find.new.blocks s reads told.reads.same served, refl)) _ told.reads.counted
 
 pub returns-in-Ok-None-clause-covers : goal.returns-in-Ok-None-clause-covers
 returns-in-Ok-None-clause-covers g c = λ s covered.
@@ -49,7 +49,7 @@ returns-in-Err-clause-glances g c =
     let d = blocks_of (disk_of {G = g.S.Station} fs) in
     let told = c.in-Err.ensures in
     let reads = told.reads.reads fs.blocks (reads_nothing g.S.Station fs.blocks) in
-    not_glanced fs _ reads.below refl (λ s served. stays_read {G = g.S.Station} fs c.find.new.blocks s reads told.reads.same served) c.in-Err.error _ c.call_error.ensures told.reads.device
+    not_glanced fs _ reads.below refl (λ s served. (stays_read {G = g.S.Station} fs c.find.new.blocks s reads told.reads.same served, refl)) c.in-Err.error _ c.call_error.ensures told.reads.device
     (λ s served is. told.damaged d served.shows served.first served.snapshots served.under.holds (ap (λ e. Err e) is))
 
 pub returns-in-Err-clause-covers : goal.returns-in-Err-clause-covers
@@ -82,7 +82,7 @@ returns-in-Ok-clause-glances g c =
     let told = c.in-Ok-Some.ensures in
     let count = c.in-Ok.ensures in
     let reads = count.reads.reads fs.blocks (told.reads.reads fs.blocks (reads_nothing g.S.Station fs.blocks)) in
-    glanced fs _ reads.below refl (λ s served. stays_read {G = g.S.Station} fs c.count_kept.new.blocks s reads (λ disk shows. count.reads.same disk (told.reads.same disk shows)) served) _
+    glanced fs _ reads.below refl (λ s served. (stays_read {G = g.S.Station} fs c.count_kept.new.blocks s reads (λ disk shows. count.reads.same disk (told.reads.same disk shows)) served, refl)) _
     (count.reads.counted ∙ told.reads.counted)
 
 pub returns-in-Ok-clause-covers : goal.returns-in-Ok-clause-covers
@@ -124,7 +124,7 @@ returns-in-Err-count_kept-clause-glances g c =
     let told = c.in-Ok-Some.ensures in
     let count = c.in-Err-count_kept.ensures in
     let reads = count.reads.reads fs.blocks (told.reads.reads fs.blocks (reads_nothing g.S.Station fs.blocks)) in
-    not_glanced fs _ reads.below refl (λ s served. stays_read {G = g.S.Station} fs c.count_kept.new.blocks s reads (λ disk shows. count.reads.same disk (told.reads.same disk shows)) served)
+    not_glanced fs _ reads.below refl (λ s served. (stays_read {G = g.S.Station} fs c.count_kept.new.blocks s reads (λ disk shows. count.reads.same disk (told.reads.same disk shows)) served, refl))
     c.in-Err-count_kept.error _ c.call_error-in-Err-count_kept.ensures
     (λ is. subst (λ (n : ℕ). HasGrown n (g.S.Station.meaning c.count_kept.new.blocks.buffers.station).failed_reads) told.reads.counted (count.reads.device is))
     (λ s served is. isnt_damaged c.in-Err-count_kept.error

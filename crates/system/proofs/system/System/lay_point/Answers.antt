@@ -144,6 +144,11 @@ returns-in_default g c =
             | inl lt ↦ absurd (false≢true (c.in_default.ensures.within.1 (omega (arith, number, later), omega (arith, number, lt))))
             | inr ge ↦ ge
           ];
+      past = λ is within.
+          let number : c.get.result ≡ f.log.epoch = c.get.ensures ∙ c.epoch.ensures in
+          let low = within.0 in
+          let high = within.1 in
+          absurd (false≢true (c.in_default.ensures.within.1 (omega (arith, number, low), omega (arith, number, high))));
     }
 
 -- ---- nothing was planned
@@ -189,6 +194,7 @@ returns-in-Err g c =
           (plannable g at known table s serves base v may)
           (c.in-Err.is ∙ ap Err same);
       last = λ known table s serves is. cc;
+      past = λ is. cc;
     }
 
 pub invariant_of-self : goal.invariant_of-self
@@ -253,6 +259,7 @@ returns-in-Err-take_memory g c =
       roomy = λ known table s serves base v may room is. cc;
       damaged = λ known table s serves base v may is. cc;
       last = λ known table s serves is. cc;
+      past = λ is. cc;
     }
 
 -- ---- it is laid over the blocks
@@ -392,4 +399,5 @@ returns-in-Ok-take_memory g c =
       roomy = λ known table s serves base v may room is. cc;
       damaged = λ known table s serves base v may is. cc;
       last = λ known table s serves is. cc;
+      past = λ is. cc;
     }

@@ -7,4 +7,4 @@ pub returns-clause-glances : goal.returns-clause-glances
 returns-clause-glances g c =
     let fs = c.args.self.now in
     let goes = c.let_go.ensures in
-    glanced fs _ goes.reads.below refl (λ s served. stays_read {G = g.S.Station} fs c.let_go.new.self s goes.reads goes.same served) _ (ap (λ s. (g.S.Station.meaning s).failed_reads) goes.station)
+    glanced fs _ goes.reads.below refl (λ s served. (stays_read {G = g.S.Station} fs c.let_go.new.self s goes.reads goes.same served, refl)) _ (ap (λ s. (g.S.Station.meaning s).failed_reads) goes.station)

@@ -33,4 +33,5 @@ returns g c =
       roomy = λ table s serves t is roomy. made.roomy table s serves t (leads table s serves t is) tt;
       damaged = λ table s serves t is. made.damaged table s serves t (leads table s serves t is);
       last = made.last;
+      past = made.past;
     }

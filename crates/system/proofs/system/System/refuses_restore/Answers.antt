@@ -20,7 +20,7 @@ returns-then-has_open-clause-glances g c =
     let fs = c.args.self.now in
     let told = c.in-Ok-Some.ensures in
     let reads = told.reads.reads fs.blocks (reads_nothing g.S.Station fs.blocks) in
-    glanced fs _ reads.below refl (λ s served. stays_read {G = g.S.Station} fs c.find.new.blocks s reads told.reads.same served) _ told.reads.counted
+    glanced fs _ reads.below refl (λ s served. (stays_read {G = g.S.Station} fs c.find.new.blocks s reads told.reads.same served, refl)) _ told.reads.counted
 
 pub returns-then-has_open-clause-tests : goal.returns-then-has_open-clause-tests
 returns-then-has_open-clause-tests g c = λ s served.
@@ -38,7 +38,7 @@ returns-else-has_open-clause-glances g c =
     let fs = c.args.self.now in
     let told = c.in-Ok-Some.ensures in
     let reads = told.reads.reads fs.blocks (reads_nothing g.S.Station fs.blocks) in
-    glanced fs _ reads.below refl (λ s served. stays_read {G = g.S.Station} fs c.find.new.blocks s reads told.reads.same served) _ told.reads.counted
+    glanced fs _ reads.below refl (λ s served. (stays_read {G = g.S.Station} fs c.find.new.blocks s reads told.reads.same served, refl)) _ told.reads.counted
 
 pub returns-else-has_open-clause-tests : goal.returns-else-has_open-clause-tests
 returns-else-has_open-clause-tests g c = λ s served.
@@ -55,7 +55,7 @@ returns-in-Ok-None-clause-glances g c =
     let fs = c.args.self.now in
     let told = c.in-Ok-None.ensures in
     let reads = told.reads.reads fs.blocks (reads_nothing g.S.Station fs.blocks) in
-    glanced fs _ reads.below refl (λ s served. stays_read {G = g.S.Station} fs c.find.new.blocks s reads told.reads.same served) _ told.reads.counted
+    glanced fs _ reads.below refl (λ s served. (stays_read {G = g.S.Station} fs c.find.new.blocks s reads told.reads.same served, refl)) _ told.reads.counted
 
 pub returns-in-Ok-None-clause-tests : goal.returns-in-Ok-None-clause-tests
 returns-in-Ok-None-clause-tests g c = λ s served.
@@ -73,5 +73,5 @@ returns-in-Err-clause-glances g c =
     let d = blocks_of (disk_of {G = g.S.Station} fs) in
     let told = c.in-Err.ensures in
     let reads = told.reads.reads fs.blocks (reads_nothing g.S.Station fs.blocks) in
-    not_glanced fs _ reads.below refl (λ s served. stays_read {G = g.S.Station} fs c.find.new.blocks s reads told.reads.same served) c.in-Err.error _ c.call_error.ensures told.reads.device
+    not_glanced fs _ reads.below refl (λ s served. (stays_read {G = g.S.Station} fs c.find.new.blocks s reads told.reads.same served, refl)) c.in-Err.error _ c.call_error.ensures told.reads.device
     (λ s served is. told.damaged d served.shows served.first served.snapshots served.under.holds (ap (λ e. Err e) is))

@@ -20,7 +20,7 @@ returns-in-Ok-Ok-clause-glances g c =
     let d = blocks_of (disk_of {G = g.S.Station} fs) in
     let told = c.in-Ok-Ok.ensures in
     let reads = told.reads.reads fs.blocks (reads_nothing g.S.Station fs.blocks) in
-    glanced fs _ reads.below refl (λ s served. stays_read {G = g.S.Station} fs c.prepare_take.new.blocks s reads told.reads.same served) _ told.reads.counted
+    glanced fs _ reads.below refl (λ s served. (stays_read {G = g.S.Station} fs c.prepare_take.new.blocks s reads told.reads.same served, refl)) _ told.reads.counted
 
 pub returns-in-Ok-Ok-clause-tests : goal.returns-in-Ok-Ok-clause-tests
 returns-in-Ok-Ok-clause-tests g c = λ s served.
@@ -36,7 +36,7 @@ returns-in-Ok-Err-clause-glances g c =
     let d = blocks_of (disk_of {G = g.S.Station} fs) in
     let told = c.in-Ok-Err.ensures in
     let reads = told.reads.reads fs.blocks (reads_nothing g.S.Station fs.blocks) in
-    glanced fs _ reads.below refl (λ s served. stays_read {G = g.S.Station} fs c.prepare_take.new.blocks s reads told.reads.same served) _ told.reads.counted
+    glanced fs _ reads.below refl (λ s served. (stays_read {G = g.S.Station} fs c.prepare_take.new.blocks s reads told.reads.same served, refl)) _ told.reads.counted
 
 pub returns-in-Ok-Err-clause-tests : goal.returns-in-Ok-Err-clause-tests
 returns-in-Ok-Err-clause-tests g c = λ s served.
@@ -52,5 +52,5 @@ returns-in-Err-clause-glances g c =
     let d = blocks_of (disk_of {G = g.S.Station} fs) in
     let told = c.in-Err.ensures in
     let reads = told.reads.reads fs.blocks (reads_nothing g.S.Station fs.blocks) in
-    not_glanced fs _ reads.below refl (λ s served. stays_read {G = g.S.Station} fs c.prepare_take.new.blocks s reads told.reads.same served) c.in-Err.error _ c.call_error.ensures told.reads.device
+    not_glanced fs _ reads.below refl (λ s served. (stays_read {G = g.S.Station} fs c.prepare_take.new.blocks s reads told.reads.same served, refl)) c.in-Err.error _ c.call_error.ensures told.reads.device
     (λ s served is. told.damaged d served.shows served.first served.snapshots served.under.holds (ap (λ e. Err e) is))

@@ -51,7 +51,7 @@ returns-in-Ok-None g c =
     let on = told.reads.reads fs.blocks (reads_nothing g.S.Station fs.blocks) in
     let name = c.as_bytes.result.now in
     refuses fs _ _ (command.SnapRestore c.args.name.now) on.below refl (λ s served. c.served_states_open.ensures s.tree.descriptors s served)
-    (λ s served. stays_read {G = g.S.Station} fs c.find.new.blocks s on told.reads.same served) NOSNAP (λ is. cc) told.reads.counted
+    (λ s served. stays_read {G = g.S.Station} fs c.find.new.blocks s on told.reads.same served) NOSNAP (λ is. cc, λ is. cc) told.reads.counted
     (λ s served room. subst (λ (n : Name). restores room s n (Refused NOSNAP) s nothing) c.as_bytes.ensures
     (restore_unnamed s name room
     (ap (named name) (snapshots_of {G = g.S.Station} fs s served)
@@ -74,7 +74,7 @@ returns-then-has_open g c =
     let on = told.reads.reads fs.blocks (reads_nothing g.S.Station fs.blocks) in
     let name = c.as_bytes.result.now in
     refuses fs _ _ (command.SnapRestore c.args.name.now) on.below refl (λ s served. c.served_states_open.ensures s.tree.descriptors s served)
-    (λ s served. stays_read {G = g.S.Station} fs c.find.new.blocks s on told.reads.same served) EBUSY (λ is. cc) told.reads.counted
+    (λ s served. stays_read {G = g.S.Station} fs c.find.new.blocks s on told.reads.same served) EBUSY (λ is. cc, λ is. cc) told.reads.counted
     (λ s served room.
     let busy : has_open_below s.tree OPEN_FILES ≡ true = sym (c.has_open.ensures.tells s.tree served.opened) ∙ c.if-has_open.true in
     subst (λ (n : Name). restores room s n (Refused EBUSY) s nothing) c.as_bytes.ensures
@@ -149,6 +149,7 @@ returns-in-Ok-point_over g c =
       after = after;
       need = λ room. a_restore (room.nameless_of c.args.name.now);
       step = λ room. subst (λ (n : Name). restores room s n Done after (a_restore (room.nameless_of n))) c.as_bytes.ensures (restore_step over name found there closed not_open room);
+      unlogged = λ room work is. cc;
       covered = made.covered s.tree.descriptors s over after (restored found.slot name, record { is = (name, refl); can = can_restore over name found there (number g (goal.at.returns-in-Ok-point_over g c).In-Ok-Some) }, may_restore over name found there closed finding c.in-Ok.inodes slots, refl) room;
       leaves = either_after m mid (meaning_of {G = g.S.Station} new) s after on.below (c.served_states_open.ensures s.tree.descriptors s served)
           (made.any_moment s.tree.descriptors s over after (restored found.slot name, record { is = (name, refl); can = can_restore over name found there (number g (goal.at.returns-in-Ok-point_over g c).In-Ok-Some) }, may_restore over name found there closed finding c.in-Ok.inodes slots, refl) room);
@@ -209,3 +210,4 @@ returns-in-Err-point_over g c =
     (c.in-Err-point_over.ensures (base s served) (without_nameless (base s served))).damaged s.tree.descriptors s (over s served) _
     (restored found.slot name, record { is = (name, refl); can = can s served }, settling s served, refl) (ap (λ e. Err e) is))
     (λ s served is. any.last s.tree.descriptors s (over s served) (ap (λ e. Err e) is))
+    (λ is. any.past (ap (λ e. Err e) is))

@@ -12,19 +12,18 @@ use Rattle.model.specs.Volumes.{tree_of}
 use Rattle.model.specs.Steps.{take_tests, takes}
 use Rattle.model.specs.declared.command.Command.TheVariants as command
 use Rattle.model.specs.declared.errno.Errno.{Errno}
-use Rattle.model.specs.declared.errno.Errno.TheVariants.{EIO}
 use Rattle.model.specs.declared.reply.Reply.TheVariants.{Done, Refused}
 use Rattle.snapshots.specs.Taken.{MayTake, RefusesTake}
 use Rattle.snapshots.specs.declared.taking.Taking.{Taking}
 use Rattle.overlay.specs.Overlays.{planned_disk}
 use Rattle.system.specs.Images.{OpensTo}
-use Rattle.system.specs.Serving.{ServesState}
+use Rattle.system.specs.Serving.{IsNoFault, ServesState}
 use Rattle.system.specs.Systems.{disk_of, meaning_of}
 use Rattle.system.proofs.CountingLaws.{all_read, nothing_logged}
 use Rattle.system.proofs.HandlingLaws.{either_after}
 use Rattle.system.proofs.LookedLaws.{reads_nothing}
 use Rattle.system.proofs.PointLaws.{later}
-use Rattle.system.proofs.SettlingLaws.{can_take, not_settled, refuses, settles, take_refused, take_step, too_old, unmade, unread}
+use Rattle.system.proofs.SettlingLaws.{can_take, not_settled, refuses, no_order, settles, take_refused, take_step, unmade, unread}
 use Rattle.system.proofs.SystemLaws.{at_rest}
 use Rattle.system.proofs.ViewLaws.{closed, snapshots_of, stays_read}
 use Rattle.system.proofs.system.System.take.Given.{Over}
@@ -58,7 +57,7 @@ returns-in-Ok-Err g c =
     let opens = λ (s : State) (served : ServesState {G = g.S.Station} fs s). c.served_states_open.ensures s.tree.descriptors s served in
     let name = c.as_bytes-name.result.now in
     let errno = c.in-Ok-Err.errno in
-    let own : errno ≢ EIO = subst (λ (r : Result Taking Errno). IfErr r (λ e. e ≢ EIO)) c.in-Ok-Err.field-0-is told.own in
+    let own : IsNoFault errno = subst (λ (r : Result Taking Errno). IfErr r IsNoFault) c.in-Ok-Err.field-0-is told.own in
     refuses fs _ _ (command.SnapTake c.args.name.now) on.below refl opens (λ s served. stays_read {G = g.S.Station} fs c.prepare_take.new.blocks s on told.reads.same served) errno own told.reads.counted
     (λ s served room. subst (λ (n : Name). takes s n (Refused errno) s nothing) c.as_bytes-name.ensures
     (take_refused s name errno
@@ -80,11 +79,11 @@ pub returns-in_default : goal.returns-in_default
 returns-in_default g c =
     let fs = c.args.self.now in
     let m = meaning_of {G = g.S.Station} fs in
-    let d = blocks_of (disk_of {G = g.S.Station} fs) in
     let told = c.in-Ok-Ok.ensures in
     let on = told.reads.reads fs.blocks (reads_nothing g.S.Station fs.blocks) in
     let opens = λ (s : State) (served : ServesState {G = g.S.Station} fs s). c.served_states_open.ensures s.tree.descriptors s served in
-    too_old fs _ _ (command.SnapTake c.args.name.now) on.below refl opens (λ s served. stays_read {G = g.S.Station} fs c.prepare_take.new.blocks s on told.reads.same served)
+    no_order fs _ _ (command.SnapTake c.args.name.now) on.below refl opens (λ s served. stays_read {G = g.S.Station} fs c.prepare_take.new.blocks s on told.reads.same served)
+    c.lacks_order.result c.lacks_order.ensures
     (λ s served.
     let t = may g (goal.at.returns-in_default g c).In-Ok-Ok s served in
     let here = g.met.S.Station.seen_may_be_left fs.blocks.buffers.station served.honest in
@@ -122,6 +121,7 @@ returns-in-Ok g c =
       need = λ room. a_snapshot;
       step = λ room. subst (λ (n : Name). takes s n Done after a_snapshot) c.as_bytes-name.ensures
           (take_step {G = g.S.Station} fs s c.cuts_open.ensures.forgets name v covered.0.held (passed g (goal.at.returns-in-Ok g c).In-Ok-Ok s v));
+      unlogged = λ room work is. cc;
       covered = made.covered s.tree.descriptors s over after (step, record { is = refl; can = can }, tt, refl) covered.1;
       leaves = either_after m mid (meaning_of {G = g.S.Station} new) s after on.below (opens s served)
           (made.any_moment s.tree.descriptors s over after (step, record { is = refl; can = can }, tt, refl) covered.1);
@@ -166,3 +166,4 @@ returns-in-Err-point_with g c =
     })
     (λ s served covered is. made.roomy s.tree.descriptors s (over s served) _ (step_of, record { is = refl; can = can_of s served }, tt, refl) covered.1 (ap (λ e. Err e) is))
     (λ s served is. made.damaged s.tree.descriptors s (over s served) _ (step_of, record { is = refl; can = can_of s served }, tt, refl) (ap (λ e. Err e) is)) (λ s served is. made.last s.tree.descriptors s (over s served) (ap (λ e. Err e) is))
+    (λ is. made.past (ap (λ e. Err e) is))

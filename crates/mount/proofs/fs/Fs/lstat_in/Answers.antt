@@ -1,0 +1,8 @@
+use Rattle.std.proofs.Common.{◌∙◌, List, ℕ, ap}
+use Rattle.model.specs.declared.command.Command.TheVariants as command
+use Rattle.model.specs.declared.command.PathCall.TheVariants as calls
+use Rattle.mount.proofs.ReplyLemmas.{applied_so}
+use Rattle.mount.proofs.fs.Fs.lstat_in.Goals as goal
+
+pub returns : goal.returns
+returns g c = applied_so (ap (λ (x : List ℕ). command.Within x (calls.Lstat c.of-path.result)) c.of-name.ensures ∙ ap (λ (x : List ℕ). command.Within c.args.name.now (calls.Lstat x)) c.of-path.ensures) c.apply_for_stat.ensures

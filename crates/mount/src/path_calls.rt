@@ -1,0 +1,156 @@
+//! Calls that name a path. A path that leads to nothing is ENOENT; docs/COMMANDS.md says which
+//! other refusals come, and in what order.
+
+ghost use Rattle.model.specs.declared.command.Command.{Command};
+ghost use Rattle.model.specs.declared.command.PathCall.{PathCall};
+ghost use Rattle.model.specs.declared.reply.Reply.{Reply};
+ghost use Rattle.mount.specs.Applying.{AppliesCommand, done_reply, reply_of};
+
+use crate::Fs;
+use model::{Bytes, Command, Errno, Mode, Names, PathCall, Stat, Text};
+use station::Station;
+
+impl<S: Station> Fs<S> {
+    /// `list`: the names in the directory that a path leads to, sorted by their bytes. ENOTDIR
+    /// where that is none.
+    pub fn list(&mut self, path: &[u8]) -> Result<Names, Errno>
+        ensures { AppliesCommand self.old self.new (Command.Path (PathCall.List path.now))
+            (reply_of Reply.Names result) }
+    {
+        let path = Bytes::of(path);
+        let call = PathCall::List { path };
+        self.apply_for_names(&Command::Path(call))
+    }
+
+    /// `stat`: what a path leads to. A last link is followed.
+    pub fn stat(&mut self, path: &[u8]) -> Result<Stat, Errno>
+        ensures { AppliesCommand self.old self.new (Command.Path (PathCall.Stat path.now))
+            (reply_of Reply.Stat result) }
+    {
+        let path = Bytes::of(path);
+        let call = PathCall::Stat { path };
+        self.apply_for_stat(&Command::Path(call))
+    }
+
+    /// `lstat`: what has a path, a link itself.
+    pub fn lstat(&mut self, path: &[u8]) -> Result<Stat, Errno>
+        ensures { AppliesCommand self.old self.new (Command.Path (PathCall.Lstat path.now))
+            (reply_of Reply.Stat result) }
+    {
+        let path = Bytes::of(path);
+        let call = PathCall::Lstat { path };
+        self.apply_for_stat(&Command::Path(call))
+    }
+
+    /// `readlink`: the text of a link. EINVAL where the path leads to none.
+    pub fn readlink(&mut self, path: &[u8]) -> Result<Text, Errno>
+        ensures { AppliesCommand self.old self.new (Command.Path (PathCall.Readlink path.now))
+            (reply_of Reply.Text result) }
+    {
+        let path = Bytes::of(path);
+        let call = PathCall::Readlink { path };
+        self.apply_for_text(&Command::Path(call))
+    }
+
+    /// `get`: so many bytes of a file from this one on, as far as there are. EINVAL where the
+    /// offset is negative or more than 65,536 bytes are asked for, EISDIR of a directory.
+    pub fn get(&mut self, path: &[u8], offset: i64, count: u32) -> Result<Text, Errno>
+        ensures { AppliesCommand self.old self.new
+            (Command.Path (PathCall.Get path.now offset count)) (reply_of Reply.Data result) }
+    {
+        let path = Bytes::of(path);
+        let call = PathCall::Get {
+            path,
+            offset,
+            count,
+        };
+        self.apply_for_data(&Command::Path(call))
+    }
+
+    /// `mkdir`: makes a directory. EEXIST where something is there.
+    pub fn mkdir(&mut self, path: &[u8], mode: Mode) -> Result<(), Errno>
+        ensures { AppliesCommand self.old self.new (Command.Path (PathCall.Mkdir path.now mode))
+            (reply_of done_reply result) }
+    {
+        let path = Bytes::of(path);
+        let call = PathCall::Mkdir { path, mode };
+        self.apply_for_done(&Command::Path(call))
+    }
+
+    /// `rmdir`: removes an empty directory. ENOTDIR where it is none, ENOTEMPTY where it has names,
+    /// EBUSY of the root.
+    pub fn rmdir(&mut self, path: &[u8]) -> Result<(), Errno>
+        ensures { AppliesCommand self.old self.new (Command.Path (PathCall.Rmdir path.now))
+            (reply_of done_reply result) }
+    {
+        let path = Bytes::of(path);
+        let call = PathCall::Rmdir { path };
+        self.apply_for_done(&Command::Path(call))
+    }
+
+    /// `unlink`: removes a name of a file, and with its last one the file; or a link. EPERM of a
+    /// directory.
+    pub fn unlink(&mut self, path: &[u8]) -> Result<(), Errno>
+        ensures { AppliesCommand self.old self.new (Command.Path (PathCall.Unlink path.now))
+            (reply_of done_reply result) }
+    {
+        let path = Bytes::of(path);
+        let call = PathCall::Unlink { path };
+        self.apply_for_done(&Command::Path(call))
+    }
+
+    /// `link`: gives a file one more name. EPERM of a directory or a link, EEXIST where something
+    /// has that name, EMLINK where the file has 1,000.
+    pub fn link(&mut self, old: &[u8], new: &[u8]) -> Result<(), Errno>
+        ensures { AppliesCommand self.old self.new (Command.Path (PathCall.Link old.now new.now))
+            (reply_of done_reply result) }
+    {
+        let old = Bytes::of(old);
+        let new = Bytes::of(new);
+        let call = PathCall::Link { old, new };
+        self.apply_for_done(&Command::Path(call))
+    }
+
+    /// `symlink`: makes a symbolic link of this text. EEXIST where something is there.
+    pub fn symlink(&mut self, text: &[u8], path: &[u8]) -> Result<(), Errno>
+        ensures { AppliesCommand self.old self.new
+            (Command.Path (PathCall.Symlink text.now path.now)) (reply_of done_reply result) }
+    {
+        let text = Bytes::of(text);
+        let path = Bytes::of(path);
+        let call = PathCall::Symlink { text, path };
+        self.apply_for_done(&Command::Path(call))
+    }
+
+    /// `rename`: gives an object another name, in one step; what had that name is gone.
+    pub fn rename(&mut self, old: &[u8], new: &[u8]) -> Result<(), Errno>
+        ensures { AppliesCommand self.old self.new (Command.Path (PathCall.Rename old.now new.now))
+            (reply_of done_reply result) }
+    {
+        let old = Bytes::of(old);
+        let new = Bytes::of(new);
+        let call = PathCall::Rename { old, new };
+        self.apply_for_done(&Command::Path(call))
+    }
+
+    /// `chmod`: gives this mode to a file or a directory. A last link is followed.
+    pub fn chmod(&mut self, path: &[u8], mode: Mode) -> Result<(), Errno>
+        ensures { AppliesCommand self.old self.new (Command.Path (PathCall.Chmod path.now mode))
+            (reply_of done_reply result) }
+    {
+        let path = Bytes::of(path);
+        let call = PathCall::Chmod { path, mode };
+        self.apply_for_done(&Command::Path(call))
+    }
+
+    /// `truncate`: gives a file this size in bytes: cuts off the last ones, or adds zeros. EINVAL
+    /// of a negative size, EFBIG of a greater one than a file may have, EISDIR of a directory.
+    pub fn truncate(&mut self, path: &[u8], size: i64) -> Result<(), Errno>
+        ensures { AppliesCommand self.old self.new (Command.Path (PathCall.Truncate path.now size))
+            (reply_of done_reply result) }
+    {
+        let path = Bytes::of(path);
+        let call = PathCall::Truncate { path, size };
+        self.apply_for_done(&Command::Path(call))
+    }
+}

@@ -1,0 +1,140 @@
+//! Commands applied whose reply is a value, by the kind of it.
+
+ghost use Rattle.model.specs.Replies.{IsData, IsDescriptor, IsDone, IsNames, IsOffset, IsSnapshots, IsSpace, IsStat, IsTextOf, IsWritten};
+ghost use Rattle.model.specs.declared.reply.Reply.{Reply};
+ghost use Rattle.mount.specs.Applying.{AppliesCommand, IsAnsweredBy, done_reply, reply_of, space_reply};
+
+use crate::Fs;
+use model::{Command, Errno, Names, Reply, Stat, Text};
+use station::Station;
+use system::Space;
+
+impl<S: Station> Fs<S> {
+    /// Applies a command that is answered that it is done.
+    pub(crate) fn apply_for_done(&mut self, command: &Command<'_>) -> Result<(), Errno>
+        requires { IsAnsweredBy command.now IsDone }
+        ensures { AppliesCommand self.old self.new command.now (reply_of done_reply result) }
+    {
+        match self.apply(command) {
+            Reply::Done => Ok(()),
+            Reply::Refused(errno) => Err(errno),
+            _ => unreachable!(),
+        }
+    }
+
+    /// Applies a command that is answered a descriptor.
+    pub(crate) fn apply_for_descriptor(&mut self, command: &Command<'_>) -> Result<u32, Errno>
+        requires { IsAnsweredBy command.now IsDescriptor }
+        ensures { AppliesCommand self.old self.new command.now (reply_of Reply.Fd result) }
+    {
+        match self.apply(command) {
+            Reply::Fd(fd) => Ok(fd),
+            Reply::Refused(errno) => Err(errno),
+            _ => unreachable!(),
+        }
+    }
+
+    /// Applies a command that is answered bytes.
+    pub(crate) fn apply_for_data(&mut self, command: &Command<'_>) -> Result<Text, Errno>
+        requires { IsAnsweredBy command.now IsData }
+        ensures { AppliesCommand self.old self.new command.now (reply_of Reply.Data result) }
+    {
+        match self.apply(command) {
+            Reply::Data(bytes) => Ok(bytes),
+            Reply::Refused(errno) => Err(errno),
+            _ => unreachable!(),
+        }
+    }
+
+    /// Applies a command that is answered how many bytes were written.
+    pub(crate) fn apply_for_written(&mut self, command: &Command<'_>) -> Result<u32, Errno>
+        requires { IsAnsweredBy command.now IsWritten }
+        ensures { AppliesCommand self.old self.new command.now (reply_of Reply.Wrote result) }
+    {
+        match self.apply(command) {
+            Reply::Wrote(count) => Ok(count),
+            Reply::Refused(errno) => Err(errno),
+            _ => unreachable!(),
+        }
+    }
+
+    /// Applies a command that is answered an offset.
+    pub(crate) fn apply_for_offset(&mut self, command: &Command<'_>) -> Result<u64, Errno>
+        requires { IsAnsweredBy command.now IsOffset }
+        ensures { AppliesCommand self.old self.new command.now (reply_of Reply.At result) }
+    {
+        match self.apply(command) {
+            Reply::At(offset) => Ok(offset),
+            Reply::Refused(errno) => Err(errno),
+            _ => unreachable!(),
+        }
+    }
+
+    /// Applies a command that is answered a link's text.
+    pub(crate) fn apply_for_text(&mut self, command: &Command<'_>) -> Result<Text, Errno>
+        requires { IsAnsweredBy command.now IsTextOf }
+        ensures { AppliesCommand self.old self.new command.now (reply_of Reply.Text result) }
+    {
+        match self.apply(command) {
+            Reply::Text(text) => Ok(text),
+            Reply::Refused(errno) => Err(errno),
+            _ => unreachable!(),
+        }
+    }
+
+    /// Applies a command that is answered a directory's names.
+    pub(crate) fn apply_for_names(&mut self, command: &Command<'_>) -> Result<Names, Errno>
+        requires { IsAnsweredBy command.now IsNames }
+        ensures { AppliesCommand self.old self.new command.now (reply_of Reply.Names result) }
+    {
+        match self.apply(command) {
+            Reply::Names(names) => Ok(names),
+            Reply::Refused(errno) => Err(errno),
+            _ => unreachable!(),
+        }
+    }
+
+    /// Applies a command that is answered the snapshots' names.
+    pub(crate) fn apply_for_snapshots(&mut self, command: &Command<'_>) -> Result<Names, Errno>
+        requires { IsAnsweredBy command.now IsSnapshots }
+        ensures { AppliesCommand self.old self.new command.now (reply_of Reply.Snaps result) }
+    {
+        match self.apply(command) {
+            Reply::Snaps(names) => Ok(names),
+            Reply::Refused(errno) => Err(errno),
+            _ => unreachable!(),
+        }
+    }
+
+    /// Applies a command that is answered what stands somewhere.
+    pub(crate) fn apply_for_stat(&mut self, command: &Command<'_>) -> Result<Stat, Errno>
+        requires { IsAnsweredBy command.now IsStat }
+        ensures { AppliesCommand self.old self.new command.now (reply_of Reply.Stat result) }
+    {
+        match self.apply(command) {
+            Reply::Stat(stat) => Ok(stat),
+            Reply::Refused(errno) => Err(errno),
+            _ => unreachable!(),
+        }
+    }
+
+    /// Applies a command that is answered the room of the disk.
+    pub(crate) fn apply_for_space(&mut self, command: &Command<'_>) -> Result<Space, Errno>
+        requires { IsAnsweredBy command.now IsSpace }
+        ensures { AppliesCommand self.old self.new command.now (reply_of space_reply result) }
+    {
+        match self.apply(command) {
+            Reply::Space {
+                blocks,
+                free,
+                pledged,
+            } => Ok(Space {
+                blocks,
+                free,
+                pledged,
+            }),
+            Reply::Refused(errno) => Err(errno),
+            _ => unreachable!(),
+        }
+    }
+}

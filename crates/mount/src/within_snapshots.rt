@@ -1,0 +1,78 @@
+//! Calls that read the tree of a snapshot. NOSNAP where no snapshot has the name.
+
+ghost use Rattle.model.specs.declared.command.Command.{Command};
+ghost use Rattle.model.specs.declared.command.PathCall.{PathCall};
+ghost use Rattle.model.specs.declared.reply.Reply.{Reply};
+ghost use Rattle.mount.specs.Applying.{AppliesCommand, reply_of};
+
+use crate::Fs;
+use model::{Bytes, Command, Errno, Names, PathCall, Stat, Text};
+use station::Station;
+
+impl<S: Station> Fs<S> {
+    /// The names in a directory of the snapshot, as `list` gives them.
+    pub fn list_in(&mut self, name: &[u8], path: &[u8]) -> Result<Names, Errno>
+        ensures { AppliesCommand self.old self.new
+            (Command.Within name.now (PathCall.List path.now)) (reply_of Reply.Names result) }
+    {
+        let name = Bytes::of(name);
+        let path = Bytes::of(path);
+        let call = PathCall::List { path };
+        self.apply_for_names(&Command::Within { name, call })
+    }
+
+    /// What a path leads to in the snapshot, as `stat` tells it.
+    pub fn stat_in(&mut self, name: &[u8], path: &[u8]) -> Result<Stat, Errno>
+        ensures { AppliesCommand self.old self.new
+            (Command.Within name.now (PathCall.Stat path.now)) (reply_of Reply.Stat result) }
+    {
+        let name = Bytes::of(name);
+        let path = Bytes::of(path);
+        let call = PathCall::Stat { path };
+        self.apply_for_stat(&Command::Within { name, call })
+    }
+
+    /// What has a path in the snapshot, a link itself.
+    pub fn lstat_in(&mut self, name: &[u8], path: &[u8]) -> Result<Stat, Errno>
+        ensures { AppliesCommand self.old self.new
+            (Command.Within name.now (PathCall.Lstat path.now)) (reply_of Reply.Stat result) }
+    {
+        let name = Bytes::of(name);
+        let path = Bytes::of(path);
+        let call = PathCall::Lstat { path };
+        self.apply_for_stat(&Command::Within { name, call })
+    }
+
+    /// The text of a link in the snapshot.
+    pub fn readlink_in(&mut self, name: &[u8], path: &[u8]) -> Result<Text, Errno>
+        ensures { AppliesCommand self.old self.new
+            (Command.Within name.now (PathCall.Readlink path.now)) (reply_of Reply.Text result) }
+    {
+        let name = Bytes::of(name);
+        let path = Bytes::of(path);
+        let call = PathCall::Readlink { path };
+        self.apply_for_text(&Command::Within { name, call })
+    }
+
+    /// Bytes of a file in the snapshot, as `get` gives them.
+    pub fn get_in(
+        &mut self,
+        name: &[u8],
+        path: &[u8],
+        offset: i64,
+        count: u32,
+    ) -> Result<Text, Errno>
+        ensures { AppliesCommand self.old self.new
+            (Command.Within name.now (PathCall.Get path.now offset count))
+            (reply_of Reply.Data result) }
+    {
+        let name = Bytes::of(name);
+        let path = Bytes::of(path);
+        let call = PathCall::Get {
+            path,
+            offset,
+            count,
+        };
+        self.apply_for_data(&Command::Within { name, call })
+    }
+}
