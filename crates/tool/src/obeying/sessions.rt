@@ -49,14 +49,33 @@ pub(super) fn run_bytes<I, O: Write, E: Write>(
     stops: bool,
     streams: &mut Streams<I, O, E>,
 ) -> Ran {
+    run_on(
+        rt,
+        station,
+        script,
+        stops,
+        &mut streams.out,
+        &mut streams.err,
+    )
+}
+
+/// The same with the streams that it writes to.
+fn run_on<O: Write, E: Write>(
+    rt: &HostRuntime,
+    station: ImageStation,
+    script: &[u8],
+    stops: bool,
+    out: &mut O,
+    err: &mut E,
+) -> Ran {
     session(
         rt.alloc(),
         station,
         script,
         stops,
         |station: &ImageStation| station.is_cut(),
-        &mut Sink::new(&mut streams.out),
-        &mut Sink::new(&mut streams.err),
+        &mut Sink::new(out),
+        &mut Sink::new(err),
     )
 }
 
