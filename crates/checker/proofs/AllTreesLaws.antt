@@ -1,23 +1,24 @@
 -- All trees of a root, looked at to their ends.
-use Rattle.std.proofs.Common.{◌≡◌, ◌⊎◌, ◌∙◌, ◌<◌, ◌≤◌, ℕ, zero, suc, List, [], ◌∷◌, Some, None, length, refl, sym, ap, subst, inl, inr, arith}
+use Rattle.std.proofs.Common.{◌≡◌, ◌⊎◌, ◌∙◌, ◌<◌, ◌≤◌, ℕ, zero, suc, List, Some, None, length, refl, sym, subst, inl, inr, arith}
 use Rattle.std.specs.Prelude.{◌≢◌, ◌↔◌, slice_get, slice_index}
 use Rattle.std.proofs.lemmas.List.{get_or_past}
-use Rattle.std.proofs.lemmas.Option.{slice_get_within}
+use Rattle.layout.specs.Limits.{Sizes}
 use Rattle.layout.specs.Places.{Blocks}
 use Rattle.layout.specs.declared.pointer.Pointer.{Pointer}
 use Rattle.layout.specs.declared.pointer.Pointer.TheVariants.{Block, Hole}
 use Rattle.layout.specs.declared.root.Root.{Root}
 use Rattle.layout.specs.declared.version.TheConstants.{SNAPSHOT_SLOTS}
 use Rattle.images.specs.BlockMap.{HasBit, IsSystem}
-use Rattle.images.specs.Faults.{IsFaultless, IsTreeGrammar}
+use Rattle.images.specs.Faults.{IsFaultless}
 use Rattle.images.specs.Roots.{Reach, slot, whole}
 use Rattle.images.specs.Soundness.{IsWithin}
 use Rattle.images.proofs.PointLaws.{frozen_drops}
 use Rattle.checker.specs.Findings.{HasTree, ShouldHave, tree_in}
-use Rattle.checker.specs.Rows.{KeepsTrees, PlaneAt}
-use Rattle.checker.specs.Trees.{AreTrees, IsApart, IsOut, IsSeen, IsTreeOf}
+use Rattle.checker.specs.Rows.{PlaneAt}
+use Rattle.checker.specs.Trees.{AreTrees, HasEnded, IsApart, IsOut, IsRootOf, IsTreeAt}
 use Rattle.checker.specs.declared.tree.Tree.{Tree}
-use Rattle.checker.proofs.EachLaws.{contained, contains, some_at}
+use Rattle.checker.proofs.EachLaws.{contained, contains}
+use Rattle.checker.proofs.RowLaws.{first_plane, known_at}
 use Rattle.checker.proofs.WholeLaws.{out_number}
 
 -- a slot is a hole, or it has a tree
@@ -44,64 +45,42 @@ pub stays_clean : (r : Root) (trees : List Tree) (Known : Tree → Type 0) (befo
 stays_clean r trees Known before after are has stays clean k b none bit =
     clean k b none ((stays k (λ i at. none (subst (HasTree r) at.2 (has at.0 (are.each at.0 (contains trees i at.0 at.1))))) b).0 bit)
 
--- the newest root's tree, which is in its grammar
-pub record IsNewest (disk : Blocks) (r : Root) (t : Tree) : Type 0 where
-  pub tree : IsTreeOf disk r t
-  pub plane : t.plane ≡ 0
-  pub grammar : IsTreeGrammar r.geometry (whole disk r).active
+module _ (disk : Blocks) (r : Root) (marks : List ℕ) (trees : List Tree) (are : AreTrees r trees (HasEnded disk r marks)) where
+  -- the first is the newest root's; without a fault, where none is told of it
+  pub newest_faultless : (q : Tree) → slice_get trees 0 ≡ Some q → q.fault ≡ None → IsFaultless r.geometry (whole disk r).active × IsWithin r.version (whole disk r).active
+  newest_faultless q is none =
+      let known = known_at r trees (HasEnded disk r marks) 0 q are is in
+      subst (λ (n : ℕ). IsFaultless r.geometry (tree_in (whole disk r) n) × IsWithin r.version (tree_in (whole disk r) n)) (first_plane trees q is are.first)
+      (known.1 none, known.0.within (subst IsOut none))
 
-module _ (disk : Blocks) (r : Root) (marks : List ℕ) (old new : List Tree) (Known : Tree → Type 0) (are : AreTrees r old Known) (keeps : KeepsTrees old new)
-    (seen : (i : ℕ) (t : Tree) → slice_get new i ≡ Some t → IsSeen disk r marks t × (t.fault ≡ None → IsFaultless r.geometry (tree_in (whole disk r) t.plane))) where
-  -- the tree of a number stands somewhere
-  at : (k : ℕ) → HasTree r k → (i : ℕ) × (q : Tree) × (slice_get new i ≡ Some q) × (q.plane ≡ k)
-  at k has =
-      let t = are.all k has in
-      let place = contained old t.0 t.1 in
-      let found = some_at new place.0 (omega (arith, keeps.length_is, slice_get_within old place.0 t.0 place.1)) in
-      (place.0, found.0, found.1, sym (ap (λ (x : Tree). x.plane) (keeps.same place.0 t.0 found.0 place.1 found.1)) ∙ t.2)
+  -- and of those that are apart it is in its grammar
+  pub newest_at : ((i : ℕ) (t : Tree) → slice_get trees i ≡ Some t → IsApart t.fault) → (q : Tree) → slice_get trees 0 ≡ Some q → (s : Sizes) (blocks : ℕ) → IsRootOf r s blocks
+      → IsTreeAt disk r s blocks q × (q.plane ≡ 0)
+  newest_at apart q is s blocks over =
+      let known = (known_at r trees (HasEnded disk r marks) 0 q are is).0 in (
+        record { over = over; tree = known.tree; grammar = known.grammar (λ out. out_number q.fault out (apart 0 q is)) },
+        first_plane trees q is are.first,
+      )
 
-  -- the first is the newest root's
-  pub first_plane : (q : Tree) → slice_get new 0 ≡ Some q → q.plane ≡ 0
-  first_plane q is = go old are keeps
-    where
-      go : (old : List Tree) → AreTrees r old Known → KeepsTrees old new → q.plane ≡ 0
-      go [] are keeps = absurd (omega (arith, are.some))
-      go (t ∷ rest) are keeps = sym (ap (λ (x : Tree). x.plane) (keeps.same 0 t q refl is)) ∙ are.first t rest refl
-
-  -- and without a fault, where none is told of it
-  pub first_faultless : (q : Tree) → slice_get new 0 ≡ Some q → q.fault ≡ None → IsFaultless r.geometry (whole disk r).active
-  first_faultless q is none = subst (λ (n : ℕ). IsFaultless r.geometry (tree_in (whole disk r) n)) (first_plane q is) ((seen 0 q is).1 none)
-
-  pub first_known : ((i : ℕ) (t : Tree) → slice_get new i ≡ Some t → IsApart t.fault) → (q : Tree) → slice_get new 0 ≡ Some q → IsNewest disk r q
-  first_known apart q is =
-      let known = (seen 0 q is).0 in record {
-        tree = known.tree;
-        plane = first_plane q is;
-        grammar = subst (λ (n : ℕ). IsTreeGrammar r.geometry (tree_in (whole disk r) n)) (first_plane q is) (known.grammar (λ out. out_number q.fault out (apart 0 q is)));
-      }
-
-  pub first_within : (q : Tree) → slice_get new 0 ≡ Some q → q.fault ≡ None → IsWithin r.version (whole disk r).active
-  first_within q is none = subst (λ (n : ℕ). IsWithin r.version (tree_in (whole disk r) n)) (first_plane q is) ((seen 0 q is).0.within (subst IsOut none))
-
-  pub all_within : ((i : ℕ) (t : Tree) → slice_get new i ≡ Some t → t.fault ≡ None) → (k : ℕ) → HasTree r k → IsWithin r.version (tree_in (whole disk r) k)
-  all_within told k has =
-      let there = at k has in
-      subst (λ (n : ℕ). IsWithin r.version (tree_in (whole disk r) n)) there.3 ((seen there.0 there.1 there.2).0.within (subst IsOut (told there.0 there.1 there.2)))
-
-  pub all_faultless : ((i : ℕ) (t : Tree) → slice_get new i ≡ Some t → t.fault ≡ None) → (k : ℕ) → HasTree r k → IsFaultless r.geometry (tree_in (whole disk r) k)
+  -- so are all, without a fault where none is told of them
+  pub all_faultless : ((i : ℕ) (t : Tree) → slice_get trees i ≡ Some t → t.fault ≡ None) → (k : ℕ) → HasTree r k → IsFaultless r.geometry (tree_in (whole disk r) k) × IsWithin r.version (tree_in (whole disk r) k)
   all_faultless told k has =
-      let there = at k has in
-      subst (λ (n : ℕ). IsFaultless r.geometry (tree_in (whole disk r) n)) there.3 ((seen there.0 there.1 there.2).1 (told there.0 there.1 there.2))
+      let one = are.all k has in
+      let place = contained trees one.0 one.1 in
+      let none = told place.0 one.0 place.1 in
+      let known = are.each one.0 one.1 in
+      subst (λ (n : ℕ). IsFaultless r.geometry (tree_in (whole disk r) n) × IsWithin r.version (tree_in (whole disk r) n)) one.2 (known.1 none, known.0.within (subst IsOut none))
 
   -- what is marked, with the system's own blocks, is what entries should have
-  module _ (all : List ℕ) (apart : (i : ℕ) (t : Tree) → slice_get new i ≡ Some t → IsApart t.fault) (count : length r.snapshots ≡ SNAPSHOT_SLOTS)
+  module _ (all : List ℕ) (apart : (i : ℕ) (t : Tree) → slice_get trees i ≡ Some t → IsApart t.fault) (count : length r.snapshots ≡ SNAPSHOT_SLOTS)
       (clean : (k b : ℕ) → (HasTree r k → ⊥) → HasBit k (slice_index marks b) → ⊥)
       (system : (b : ℕ) → HasBit 31 (slice_index all b) ↔ (HasBit 31 (slice_index marks b) ⊎ IsSystem r b))
       (others : (k b : ℕ) → k ≢ 31 → HasBit k (slice_index all b) ↔ HasBit k (slice_index marks b)) where
     of_tree : (k b : ℕ) → HasTree r k → k ≢ 31 → HasBit k (slice_index all b) ↔ Reach (tree_in (whole disk r) k) b
     of_tree k b has other =
-        let there = at k has in
-        let marked = subst (λ (n : ℕ). HasBit n (slice_index marks b) ↔ Reach (tree_in (whole disk r) n) b) there.3 ((seen there.0 there.1 there.2).0.marked (apart there.0 there.1 there.2) b) in
+        let one = are.all k has in
+        let place = contained trees one.0 one.1 in
+        let marked = subst (λ (n : ℕ). HasBit n (slice_index marks b) ↔ Reach (tree_in (whole disk r) n) b) one.2 ((are.each one.0 one.1).0.marked (apart place.0 one.0 place.1) b) in
         (λ bit. marked.0 ((others k b other).0 bit), λ reach. (others k b other).1 (marked.1 reach))
 
     frozen : (b k : ℕ) → 1 ≤ k → k ≢ 31 → HasBit k (slice_index all b) ↔ Reach ((whole disk r).frozen k) b

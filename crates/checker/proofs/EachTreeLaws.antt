@@ -8,14 +8,13 @@ use Rattle.std.proofs.lemmas.Bool.Decides.{nat_tests}
 use Rattle.layout.specs.Bytes.{zeros}
 use Rattle.layout.specs.Limits.{Sizes}
 use Rattle.layout.specs.Places.{Blocks, place, pointed}
-use Rattle.layout.specs.Root.{IsRoot}
 use Rattle.layout.specs.Version.{level_of}
 use Rattle.layout.specs.declared.inode.Body.TheVariants.{Inline, Pointers}
 use Rattle.layout.specs.declared.inode.Inode.{Inode}
 use Rattle.layout.specs.declared.pointer.Pointer.{Pointer}
 use Rattle.layout.specs.declared.root.Root.{Root}
 use Rattle.model.proofs.ListLaws.{get_others}
-use Rattle.images.specs.Faults.{HoldsGraph, IsFaultless, IsTreeGrammar}
+use Rattle.images.specs.Faults.{HoldsGraph}
 use Rattle.images.specs.Nodes.{file_block, held}
 use Rattle.images.specs.Roots.{Whole, whole}
 use Rattle.images.specs.Soundness.{Detail, IsHeldFile}
@@ -24,7 +23,7 @@ use Rattle.checker.specs.Checks.{AreFindings, Passes}
 use Rattle.checker.specs.Errors.{TellsFault}
 use Rattle.checker.specs.Findings.{IsFindingUnder, IsTreeFinding, StandsIn, fault_number, first_fault, first_of, tree_in}
 use Rattle.checker.specs.Nodes.{SharesNone}
-use Rattle.checker.specs.Trees.{IsApart, IsOut, IsSeen, IsSeenTo}
+use Rattle.checker.specs.Trees.{HasEnded, IsApart, IsOut, IsRootOf, IsSeen, IsSeenTo, IsTreeAt}
 use Rattle.checker.specs.declared.error.CheckError.{CheckError}
 use Rattle.checker.specs.declared.error.Halt.{Halt}
 use Rattle.checker.specs.declared.error.Halt.TheVariants as halts
@@ -70,50 +69,47 @@ pub none_of : (known : Option Fault) → is_some known ≡ false → known ≡ N
 none_of None is = refl
 none_of (Some fault) is = absurd (cc is)
 
--- a tree was looked at to its end, with this fault
-abbrev pub Ended : Blocks → Root → List ℕ → Tree → Type 0
-Ended disk r marks q = IsSeen disk r marks q × (q.fault ≡ None → IsFaultless r.geometry (tree_in (whole disk r) q.plane))
+-- the laws of images that the look stands on
+pub record TreeLaws : Type 0 where
+  pub spells : SpellTrees
+  pub ends : EndTrees
+  pub led : (detail : Detail) (s : Sizes) (d : Blocks) (f : Inode) (pointers : List Pointer) (i : ℕ) → IsHeldFile detail s (held d f) → f.body ≡ Pointers pointers
+      → file_block (held d f) i ≡ (if nat_lt i (div_ceil f.size 4096) then pointed d (place d pointers (level_of f.size - 1) i) else zeros 4096)
+  pub inline : (d : Blocks) (f : Inode) (bytes : List ℕ) (i : ℕ) → f.body ≡ Inline bytes → 1 ≤ i → file_block (held d f) i ≡ zeros 4096
 
-module _ (disk : Blocks) (r : Root) (is_root : IsRoot r) (spells : SpellTrees) (ends : EndTrees)
-    (led : (detail : Detail) (s : Sizes) (d : Blocks) (f : Inode) (pointers : List Pointer) (i : ℕ) → IsHeldFile detail s (held d f) → f.body ≡ Pointers pointers
-    → file_block (held d f) i ≡ (if nat_lt i (div_ceil f.size 4096) then pointed d (place d pointers (level_of f.size - 1) i) else zeros 4096))
-    (inline : (d : Blocks) (f : Inode) (bytes : List ℕ) (i : ℕ) → f.body ≡ Inline bytes → 1 ≤ i → file_block (held d f) i ≡ zeros 4096)
-    (marks : List ℕ) (shared : List (Option Shared)) (t : Tree) (s : Sizes) (same : r.geometry ≡ s)
+module _ (laws : TreeLaws) (disk : Blocks) (r : Root) {s : Sizes} {blocks : ℕ} (over : IsRootOf r s blocks) {marks : List ℕ} {shared : List (Option Shared)} {t : Tree}
     (told : IsSeenTo disk r (div_ceil s.inodes 21) (21 * div_ceil s.inodes 21) marks shared t) where
   seen : IsSeenTo disk r (div_ceil r.geometry.inodes 21) (21 * div_ceil r.geometry.inodes 21) marks shared t
-  seen = subst (λ (z : Sizes). IsSeenTo disk r (div_ceil z.inodes 21) (21 * div_ceil z.inodes 21) marks shared t) (sym same) told
+  seen = subst (λ (z : Sizes). IsSeenTo disk r (div_ceil z.inodes 21) (21 * div_ceil z.inodes 21) marks shared t) (sym over.geometry) told
 
   with_fault : (f : Option Fault) → ((fault : Fault) → f ≡ Some fault → IsTreeFinding r (tree_in (whole disk r) t.plane) fault) → ((IsOut f → ⊥) → IsOut t.fault → ⊥) → (IsApart f → SharesNone shared t.plane) → (f ≡ None → t.fault ≡ None)
       → IsSeen disk r marks (record t { fault = f })
-  with_fault = seen_with disk r is_root spells ends led inline marks shared t seen
+  with_fault = seen_with disk r over.root laws.spells laws.ends laws.led laws.inline marks shared t seen
 
-  pub same_blocks : (n : ℕ) → n ≡ s.blocks → n ≡ r.geometry.blocks
-  same_blocks n is = is ∙ ap (λ (z : Sizes). z.blocks) (sym same)
-
-  pub grammar : (IsOut t.fault → ⊥) → IsTreeGrammar s (tree_in (whole disk r) t.plane)
-  grammar not = subst (λ (z : Sizes). IsTreeGrammar z (tree_in (whole disk r) t.plane)) same (grammar_seen disk r is_root spells ends led inline marks shared t seen not)
+  pub tree_at : (IsOut t.fault → ⊥) → IsTreeAt disk r s blocks t
+  tree_at not = record { over = over; tree = told.tree; grammar = grammar_seen disk r over.root laws.spells laws.ends laws.led laws.inline marks shared t seen not }
 
   -- a tree that is out of its grammar
-  pub ended_out : IsOut t.fault → Ended disk r marks t
+  pub ended_out : IsOut t.fault → HasEnded disk r marks t
   ended_out out = (
     with_fault t.fault seen.fault (λ not. absurd (not out)) (λ apart. absurd (out_number t.fault out apart)) (λ none. none),
     λ none. absurd (subst IsOut none out),
   )
 
   -- one that names a block twice
-  pub ended_shared : (s : Shared) (node : FileNode) → (IsOut t.fault → ⊥) → StandsIn (tree_in (whole disk r) t.plane) s.second s.block → StandsIn (tree_in (whole disk r) t.plane) node s.block → node ≢ s.second
-      → (q : Tree) → q ≡ record t { fault = Some (first_fault t.fault (faults.Shared s.block node s.second)) } → Ended disk r marks q
-  ended_shared s node not again there other q is =
+  pub ended_shared : (twice : Shared) (node : FileNode) → (IsOut t.fault → ⊥) → StandsIn (tree_in (whole disk r) t.plane) twice.second twice.block → StandsIn (tree_in (whole disk r) t.plane) node twice.block
+      → node ≢ twice.second → (q : Tree) → q ≡ record t { fault = Some (first_fault t.fault (faults.Shared twice.block node twice.second)) } → HasEnded disk r marks q
+  ended_shared twice node not again there other q is =
       let P = IsTreeFinding r (tree_in (whole disk r) t.plane) in
-      let fault = faults.Shared s.block node s.second in
-      subst (Ended disk r marks) (sym is) (
+      let fault = faults.Shared twice.block node twice.second in
+      subst (HasEnded disk r marks) (sym is) (
         with_fault (Some (first_fault t.fault fault)) (first_told P t.fault fault seen.fault (there, again, other)) (λ some. not)
-            (λ apart. absurd (not_apart P t.fault s.block node s.second (λ found no. no) (λ slot b found no. no) seen.fault apart)) (λ none. absurd (cc none)),
+            (λ apart. absurd (not_apart P t.fault twice.block node twice.second (λ found no. no) (λ slot b found no. no) seen.fault apart)) (λ none. absurd (cc none)),
         λ none. absurd (cc none),
       )
 
   -- one with a fault of its inode map
-  pub ended_fault : (IsOut t.fault → ⊥) → SharesNone shared t.plane → (t.fault ≡ None → ⊥) → Ended disk r marks t
+  pub ended_fault : (IsOut t.fault → ⊥) → SharesNone shared t.plane → (t.fault ≡ None → ⊥) → HasEnded disk r marks t
   ended_fault not once some = (with_fault t.fault seen.fault (λ out. not) (λ apart. once) (λ none. none), λ none. absurd (some none))
 
   -- one without a fault so far
@@ -121,15 +117,15 @@ module _ (disk : Blocks) (r : Root) (is_root : IsRoot r) (spells : SpellTrees) (
     pub so_far : IsSeen disk r marks t
     so_far = with_fault t.fault seen.fault (λ out. not) (λ apart. once) (λ same. same)
 
-    pub ended_none : HoldsGraph r.geometry.inodes (tree_in (whole disk r) t.plane) → Ended disk r marks t
+    pub ended_none : HoldsGraph r.geometry.inodes (tree_in (whole disk r) t.plane) → HasEnded disk r marks t
     ended_none names = (
       so_far,
       λ same. record { grammar = so_far.grammar not; once = so_far.once (subst IsApart (sym none) tt); numbers = so_far.mapped none; names = names },
     )
 
     -- its directories have a fault, or its links
-    pub ended_names : (fault : Fault) → IsTreeFinding r (tree_in (whole disk r) t.plane) fault → (q : Tree) → q ≡ record t { fault = Some (first_fault t.fault fault) } → Ended disk r marks q
-    ended_names fault found q q_is = subst (Ended disk r marks) (sym q_is) (
+    pub ended_names : (fault : Fault) → IsTreeFinding r (tree_in (whole disk r) t.plane) fault → (q : Tree) → q ≡ record t { fault = Some (first_fault t.fault fault) } → HasEnded disk r marks q
+    ended_names fault found q q_is = subst (HasEnded disk r marks) (sym q_is) (
       with_fault (Some (first_fault t.fault fault)) (first_told (IsTreeFinding r (tree_in (whole disk r) t.plane)) t.fault fault seen.fault found) (λ some. not) (λ apart. once) (λ is. absurd (cc is)),
       λ is. absurd (cc is),
     )

@@ -1,13 +1,11 @@
 -- Trees that are looked at to their end, one after the other.
-use Rattle.std.proofs.Common.{◌≡◌, ◌*◌, ℕ, List, Option, Some, None}
+use Rattle.std.proofs.Common.{◌≡◌, ◌*◌, ℕ, List, Option, Some}
 use Rattle.std.specs.Int.{div_ceil}
 use Rattle.layout.specs.Limits.{Sizes}
-use Rattle.layout.specs.Root.{IsRoot}
 use Rattle.layout.specs.declared.root.Root.{Root}
-use Rattle.images.specs.Faults.{IsFaultless}
 use Rattle.images.specs.Roots.{Whole, whole}
 use Rattle.checker.specs.Findings.{IsFindingUnder, IsNamedTree, IsTreeFinding, tree_in}
-use Rattle.checker.specs.Trees.{IsSeen, IsSeenTo}
+use Rattle.checker.specs.Trees.{HasEnded, IsRootOf, IsSeen, IsSeenTo}
 use Rattle.checker.specs.declared.fault.Fault.{Fault}
 use Rattle.checker.specs.declared.fault.Fault.TheVariants as faults
 use Rattle.checker.specs.declared.fault.TreeName.{TreeName}
@@ -16,11 +14,11 @@ use Rattle.checker.specs.declared.nodes.Shared.{Shared}
 use Rattle.checker.specs.declared.tree.Tree.{Tree}
 
 -- a tree was looked at to its end
-pub record IsEnded {B : Type 0} (Shows : B → (ℕ → List ℕ) → Type 0) (blocks : B) (s : Sizes) (shared : List (Option Shared)) (i : ℕ) (t q : Tree) : Type 0 where
+pub record IsEnded {B : Type 0} (Shows : B → (ℕ → List ℕ) → Type 0) (blocks : B) (count : ℕ) (s : Sizes) (shared : List (Option Shared)) (i : ℕ) (t q : Tree) : Type 0 where
   pub same : record t { fault = q.fault } ≡ q
-  pub seen : (disk : ℕ → List ℕ) (r : Root) (marks : List ℕ) → Shows blocks disk → IsRoot r → r.geometry ≡ s
+  pub seen : (disk : ℕ → List ℕ) (r : Root) (marks : List ℕ) → Shows blocks disk → IsRootOf r s count
       → IsSeenTo disk r (div_ceil s.inodes 21) (21 * div_ceil s.inodes 21) marks shared t
-      → IsSeen disk r marks q × (q.fault ≡ None → IsFaultless r.geometry (tree_in (whole disk r) q.plane))
+      → HasEnded disk r marks q
 
 -- a tree's fault, with its name
 pub tree_finding : (r : Root) (w : Whole) (nvram : List ℕ) (tree : TreeName) (k : ℕ) (fault : Fault) → IsNamedTree r w tree k → IsTreeFinding r (tree_in w k) fault → IsFindingUnder r w nvram tree fault

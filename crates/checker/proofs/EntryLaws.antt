@@ -5,9 +5,8 @@ use Rattle.std.proofs.Math.Dec.{eqb-suc-zero}
 use Rattle.std.proofs.lemmas.Bool.{cases_lt}
 use Rattle.std.proofs.lemmas.List.{get_or_past}
 use Rattle.layout.specs.Inode.{IsInode, inode_bytes}
-use Rattle.layout.specs.Limits.{AreSizes, Sizes}
+use Rattle.layout.specs.Limits.{Sizes}
 use Rattle.layout.specs.Maps.{map_entry}
-use Rattle.layout.specs.Root.{IsRoot}
 use Rattle.layout.specs.Places.{Blocks, pointed}
 use Rattle.layout.specs.declared.pointer.Pointer.{Pointer}
 use Rattle.layout.specs.declared.pointer.Pointer.TheVariants.{Block, Hole}
@@ -36,11 +35,11 @@ use Rattle.loading.specs.Laws.{ReadAsHeld, SpellTrees}
 use Rattle.checker.specs.Findings.{IsFindingUnder, ShouldHave, tree_in}
 use Rattle.checker.specs.Maps.{HasEntries, IsMapFault, entries_in}
 use Rattle.checker.specs.Tables.{ArePlaces}
-use Rattle.checker.specs.Trees.{IsTreeOf}
+use Rattle.checker.specs.Trees.{IsTreeAt}
 use Rattle.checker.specs.declared.fault.Fault.{Fault}
 use Rattle.checker.specs.declared.fault.TreeName.TheVariants.{Image}
 use Rattle.checker.specs.declared.tree.Tree.{Tree}
-use Rattle.checker.proofs.HeldLaws.{own_is, top_grammar}
+use Rattle.checker.proofs.HeldLaws.{blocks_over, grammar_at, own_is, sizes_over, top_grammar}
 use Rattle.checker.proofs.OwnerLaws.{AreAllSound, file_sound}
 use Rattle.checker.proofs.PlaceLaws.{places_are, stored_at, whole_at}
 
@@ -133,19 +132,6 @@ exact_of r w marks free grammar long should compared =
 
 -- ---- the map's file as it is read
 
-pub known_tree : (disk : Blocks) (r : Root) (s : Sizes) (t : Tree) → r.geometry ≡ s → t.plane ≡ 0 → IsTreeGrammar r.geometry (whole disk r).active → IsTreeGrammar s (tree_in (whole disk r) t.plane)
-known_tree disk r s t same plane grammar =
-    subst (λ (x : Sizes). IsTreeGrammar x (tree_in (whole disk r) t.plane)) same (subst (λ (k : ℕ). IsTreeGrammar r.geometry (tree_in (whole disk r) k)) (sym plane) grammar)
-
-pub map_inode : (reads : ReadAsHeld) (spells : SpellTrees) (s : Sizes) (disk : Blocks) (r : Root) (t : Tree) (i : Inode) → r.geometry ≡ s → AreSizes s → IsTreeOf disk r t → t.plane ≡ 0
-    → IsTreeGrammar s (tree_in (whole disk r) t.plane) → IsInode VERSION s i → inode_bytes_at (memory.file_block disk t.file) 2 ≡ inode_bytes i → (whole disk r).active 2 ≡ held disk i
-map_inode reads spells s disk r t i same are is plane grammar fits spelled =
-    sym (ap (λ (k : ℕ). tree_in (whole disk r) k 2) plane)
-    ∙ own_is reads spells s disk r t 2 i same are is (top_grammar disk r s t is grammar) (omega arith) (omega (arith, are.least_inodes)) fits spelled
-
-pub map_known : (disk : Blocks) (r : Root) (s : Sizes) → r.geometry ≡ s → IsTreeGrammar r.geometry (whole disk r).active → IsFileGrammar s ((whole disk r).active 2)
-map_known disk r s same grammar = subst (λ (x : Sizes). IsFileGrammar x ((whole disk r).active 2)) same (grammar.files 2)
-
 -- where the blocks of the map's file are, in a tree in its grammar
 pub record IsMapRead (s : Sizes) (disk : Blocks) (r : Root) (i : Inode) (places : PlaceMap) : Type 0 where
   pub is : (whole disk r).active 2 ≡ held disk i
@@ -155,23 +141,24 @@ pub record IsMapRead (s : Sizes) (disk : Blocks) (r : Root) (i : Inode) (places 
   pub stored : HasNoHole (held disk i)
   pub place : (j : ℕ) → place_at places j ≡ (held disk i).place 0 j
 
-pub map_read : (reads : ReadAsHeld) (spells : SpellTrees) (all : AreAllSound) (s : Sizes) (disk : Blocks) (r : Root) (t : Tree) (i : Inode) (file : File) (places : PlaceMap) (blocks : ℕ) → IsRoot r → r.geometry ≡ s
-    → IsTreeOf disk r t → t.plane ≡ 0 → IsTreeGrammar r.geometry (whole disk r).active → IsInode VERSION s i → inode_bytes_at (memory.file_block disk t.file) 2 ≡ inode_bytes i → IsFileOfInode i file
-    → blocks ≡ s.blocks → (AreSound blocks disk file.tree → ArePlaces disk file.tree places) → IsMapRead s disk r i places
+pub map_read : (reads : ReadAsHeld) (spells : SpellTrees) (all : AreAllSound) (s : Sizes) (disk : Blocks) (r : Root) (t : Tree) (i : Inode) (file : File) (places : PlaceMap) (blocks : ℕ)
+    → IsTreeAt disk r s blocks t → t.plane ≡ 0 → IsInode VERSION s i → inode_bytes_at (memory.file_block disk t.file) 2 ≡ inode_bytes i → IsFileOfInode i file
+    → (AreSound blocks disk file.tree → ArePlaces disk file.tree places) → IsMapRead s disk r i places
 unfolding held
-map_read reads spells all s disk r t i file places blocks root same is plane grammar fits spelled of count are =
-    let sizes = subst AreSizes same root.head.sizes in
-    let two : (whole disk r).active 2 ≡ held disk i =
-    map_inode reads spells s disk r t i same sizes is plane (known_tree disk r s t same plane grammar) fits spelled in
-    let known : IsFileGrammar s (held disk i) = subst (IsFileGrammar s) two (map_known disk r s same grammar) in
-    let size : i.size ≡ 4 * s.blocks = map_size i.kind s i.attributes i.links i.size (sym (ap (λ (h : Held). h.inode.kind) two) ∙ grammar.kinds 2) fits.kind in
+map_read reads spells all s disk r t i file places blocks at plane fits spelled of are =
+    let sizes = sizes_over at.over in
+    let grammar = grammar_at at in
+    let own : tree_in (whole disk r) t.plane 2 ≡ held disk i =
+    own_is reads spells s disk r t 2 i at.over.geometry sizes at.tree (top_grammar disk r s t at.tree grammar) (omega arith) (omega (arith, sizes.least_inodes)) fits spelled in
+    let known : IsFileGrammar s (held disk i) = subst (IsFileGrammar s) own (grammar.files 2) in
+    let size : i.size ≡ 4 * s.blocks = map_size i.kind s i.attributes i.links i.size (sym (ap (λ (h : Held). h.inode.kind) own) ∙ grammar.kinds 2) fits.kind in
     let large : 128 < i.size = omega (arith, size, sizes.least_blocks) in record {
-      is = two;
+      is = sym (ap (λ (k : ℕ). tree_in (whole disk r) k 2) plane) ∙ own;
       grammar = known;
       size = size;
       large = large;
-      stored = subst HasNoHole two grammar.block_map.stored;
-      place = λ j. places_are s disk i file.tree places j large known of.starts (are (file_sound all s disk i file blocks known of count));
+      stored = subst HasNoHole own grammar.block_map.stored;
+      place = λ j. places_are s disk i file.tree places j large known of.starts (are (file_sound all s disk i file blocks known of (blocks_over at.over)));
     }
 
 module _ (s : Sizes) (disk : Blocks) (r : Root) (i : Inode) (places : PlaceMap) (map : IsMapRead s disk r i places) where

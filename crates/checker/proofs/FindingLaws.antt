@@ -1,20 +1,27 @@
 -- What was found first.
-use Rattle.std.proofs.Common.{◌≡◌, ℕ, List, Bool, true, false, Option, Some, None, length, subst, sym, ap, ◌∙◌}
-use Rattle.std.specs.Prelude.{IfSome, if◌then◌else◌, nat_le}
+use Rattle.std.proofs.Common.{◌≡◌, ℕ, List, Bool, true, false, Option, Some, None, Result, Ok, Err, length, refl, inl, subst, sym, ap, ◌∙◌}
+use Rattle.std.specs.Prelude.{IfErr, IfSome, if◌then◌else◌, nat_le}
 use Rattle.station.specs.Images.{Images, Unchanged}
-use Rattle.station.specs.Moments.{Goes, IsSameStation, LeavesJust, Meaning}
+use Rattle.station.specs.Calls.{OnlyReads}
+use Rattle.station.specs.Moments.{Goes, HasGrown, IsSameStation, LeavesJust, Meaning}
+use Rattle.station.proofs.Moments.{grown_since, may_grow_twice, same_twice, unchanged_twice}
 use Rattle.layout.specs.Opens.{IsNewest}
 use Rattle.layout.specs.declared.TheConstants.{SLOT_A, SLOT_B}
 use Rattle.layout.specs.declared.root.Root.{Root}
 use Rattle.images.specs.Faults.{HasRoots}
 use Rattle.images.specs.Roots.{Whole}
 use Rattle.loading.specs.Slots.{FitsStation, HasNoRoot}
-use Rattle.checker.specs.Checks.{AreFindings}
-use Rattle.checker.specs.Findings.{IsFinding, IsFindingUnder, IsFirstTold, TellsRoots, fault_number, first_of}
+use Rattle.checker.specs.Checks.{AreFindings, Settles}
+use Rattle.checker.specs.Findings.{IsFinding, IsFindingUnder, TellsRoots, fault_number, first_of}
+use Rattle.checker.specs.Watches.{KeepsTelling}
+use Rattle.checker.specs.declared.error.CheckError.{CheckError}
+use Rattle.checker.specs.declared.error.CheckError.TheVariants.{Device}
 use Rattle.checker.specs.declared.fault.Fault.TheVariants as faults
 use Rattle.checker.specs.declared.fault.Finding.{Finding}
 use Rattle.checker.specs.declared.fault.RootsFault.{RootsFault}
 use Rattle.checker.specs.declared.fault.TreeName.TheVariants.{Image}
+use Rattle.checker.specs.declared.findings.Findings.{Findings}
+use Rattle.checker.specs.declared.findings.Watch.{Ghosts}
 
 -- no root is found: none of the roots has the sizes of the station
 pub no_roots : (m n : Meaning) → IsSameStation m n → n.seen ≡ m.seen → length m.seen.nvram ≡ m.nvram_bytes
@@ -70,11 +77,29 @@ still_left old new i same goes just honest c may =
     let before = (goes was).now c may in
     before.2 ∙ just was before.0 before.1
 
+-- reads behind what was settled
+pub settled_read : {T U V E : Type 0} {F : E → Type 0} {a b c : Meaning} {v : U} {o : Result T E} (r : Result V CheckError) → Settles a b (Ok v) → OnlyReads F b c o
+    → IfErr r (λ e. e ≡ Device → HasGrown b.failed_reads c.failed_reads) → Settles a c r
+settled_read {a = a} {b = b} {c = c} (Ok x) first reads device = record {
+  same = same_twice a b c first.same reads.same;
+  goes = unchanged_twice a b c first.goes reads.goes;
+  grown = may_grow_twice a.failed_reads b.failed_reads c.failed_reads first.grown reads.reads;
+  device = tt;
+  settled = still_left b c a.seen reads.same reads.goes first.settled;
+}
+settled_read {a = a} {b = b} {c = c} (Err e) first reads device = record {
+  same = same_twice a b c first.same reads.same;
+  goes = unchanged_twice a b c first.goes reads.goes;
+  grown = may_grow_twice a.failed_reads b.failed_reads c.failed_reads first.grown reads.reads;
+  device = λ is. inl (grown_since a.failed_reads b.failed_reads c.failed_reads first.grown (device is));
+  settled = tt;
+}
+
 -- ---- what a watch was told
 
--- nothing more
-pub same_told : (known new : Option (List Finding)) (first last : Option Finding) → new ≡ known
-    → last ≡ first → IsFirstTold known first → IsFirstTold new last
-same_told known new first last same is told =
-    subst (λ (k : Option (List Finding)). IsFirstTold k last) (sym same)
-    (subst (IsFirstTold known) (sym is) told)
+module _ {W : Type 0} {G : Ghosts W} where
+  pub telling_none : (a : Findings W) → KeepsTelling G a a
+  telling_none a = record { watch = refl; first = λ is. is }
+
+  pub telling_more : {a b c : Findings W} → KeepsTelling G a b → KeepsTelling G b c → KeepsTelling G a c
+  telling_more first last = record { watch = last.watch ∙ first.watch; first = λ is. last.first (first.first is) }

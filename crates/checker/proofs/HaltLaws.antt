@@ -46,6 +46,10 @@ module _ {B : Type 0} {G : Ghosts B} where
     looks_more (Ok y) first last = looks_ok (looked_more first (looked last))
     looks_more (Err e) first last = looks_err first (looked last) last.device
 
+    -- both
+    pub looks_again : {T U : Type 0} {a b c : B} {e : E} (q : Result U E) → IsErrAnd q (λ f. f ≡ e) → HasLooked G a b → Looks {T = T} G F b c (Err e) → Looks G F a c q
+    looks_again {e = e} q is first last = looks_residual q is (looks_more (Err e) first last)
+
   -- where a block outside its grammar is a fault
   pub looks_or_fault : {T : Type 0} {a b : B} (fault : Fault) (r : Result T ReadError) (q : Result T Halt) → OrFault fault r q → Looks G below.IsFault a b r → Looks G IsHaltFault a b q
   looks_or_fault {T = T} {a = a} {b = b} fault (Ok x) q is look = subst (λ (v : Result T Halt). Looks G IsHaltFault a b v) (sym is) (looks_ok (looked look))

@@ -29,7 +29,7 @@ use Rattle.loading.specs.Images.{IsFileOfInode}
 use Rattle.loading.specs.InodeBlocks.{HasKindOfPlace}
 use Rattle.loading.specs.Laws.{ReadAsHeld, SpellTrees}
 use Rattle.checker.specs.Findings.{HasTree, tree_in}
-use Rattle.checker.specs.Trees.{IsTreeOf}
+use Rattle.checker.specs.Trees.{IsRootOf, IsTreeAt, IsTreeOf}
 use Rattle.checker.specs.declared.tree.Tree.{Tree}
 use Rattle.checker.proofs.ReadableLaws.{AreSoundAt}
 
@@ -99,6 +99,22 @@ pub bytes_at : (reads : ReadAsHeld) (s : Sizes) (disk : Blocks) (r : Root) (t : 
     → inode_bytes_at (memory.file_block disk t.file) n ≡ inode_bytes_at (file_block (tree_in (whole disk r) t.plane 0)) n
 bytes_at reads s disk r t n is grammar =
     ap (λ (bytes : List ℕ). inode_part bytes (n % 21)) (block_is reads s disk t.top t.file (n / 21) grammar is.file ∙ sym (ap (λ (h : Held). file_block h (n / 21)) (top_is disk r t is)))
+
+-- a tree in its grammar, by the sizes in memory, and as more is read
+pub grammar_at : {disk : Blocks} {r : Root} {s : Sizes} {blocks : ℕ} {t : Tree} → IsTreeAt disk r s blocks t → IsTreeGrammar s (tree_in (whole disk r) t.plane)
+grammar_at {disk = disk} {r = r} {t = t} at = subst (λ (x : Sizes). IsTreeGrammar x (tree_in (whole disk r) t.plane)) at.over.geometry at.grammar
+
+pub sizes_over : {r : Root} {s : Sizes} {blocks : ℕ} → IsRootOf r s blocks → AreSizes s
+sizes_over over = subst AreSizes over.geometry over.root.head.sizes
+
+pub blocks_over : {r : Root} {s : Sizes} {blocks : ℕ} → IsRootOf r s blocks → blocks ≡ s.blocks
+blocks_over over = over.count ∙ ap (λ (x : Sizes). x.blocks) over.geometry
+
+pub over_later : {r : Root} {s : Sizes} {blocks more : ℕ} → more ≡ blocks → IsRootOf r s blocks → IsRootOf r s more
+over_later same over = record { root = over.root; geometry = over.geometry; count = same ∙ over.count }
+
+pub tree_later : {disk : Blocks} {r : Root} {s : Sizes} {blocks more : ℕ} {t : Tree} → more ≡ blocks → IsTreeAt disk r s blocks t → IsTreeAt disk r s more t
+tree_later same at = record { over = over_later same at.over; tree = at.tree; grammar = at.grammar }
 
 -- a number whose inode was read
 pub own_is : (reads : ReadAsHeld) (spells : SpellTrees) (s : Sizes) (disk : Blocks) (r : Root) (t : Tree) (n : ℕ) (i : Inode) → r.geometry ≡ s → AreSizes s → IsTreeOf disk r t

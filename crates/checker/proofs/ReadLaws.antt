@@ -1,7 +1,8 @@
 -- What only looks at blocks, step by step.
-use Rattle.std.proofs.Common.{◌≡◌, ◌∙◌, ℕ, List, Result, Ok, Err, arith, inl, inr, subst, sym}
+use Rattle.std.proofs.Common.{◌≡◌, ◌∙◌, ℕ, List, Result, Ok, Err, inl, subst}
 use Rattle.std.specs.Result.{IsErrAnd}
 use Rattle.station.specs.Moments.{HasGrown, MayGrow}
+use Rattle.station.proofs.Moments.{grown_since, may_grow_twice}
 use Rattle.buffers.specs.Reads.{ReadsBlocks}
 use Rattle.buffers.specs.declared.blocks.Blocks.{Ghosts}
 use Rattle.checker.specs.Errors.{Looks}
@@ -13,19 +14,6 @@ pub record HasLooked {B : Type 0} (G : Ghosts B) (old new : B) : Type 0 where
   pub reads : (start : B) → G.ReadsOn start old → G.ReadsOn start new
   pub same : (disk : ℕ → List ℕ) → G.Shows old disk → G.Shows new disk
 
--- a count that may have grown has grown, or may have, behind another step
-pub grown_last : (a b c : ℕ) → MayGrow a b → HasGrown b c → HasGrown a c
-grown_last a b c (inl same) grown = subst (λ (n : ℕ). HasGrown n c) same grown
-grown_last a b c (inr before) grown = omega (arith, before, grown)
-
-pub grown_first : (a b c : ℕ) → HasGrown a b → MayGrow b c → HasGrown a c
-grown_first a b c grown (inl same) = subst (HasGrown a) (sym same) grown
-grown_first a b c grown (inr after) = omega (arith, grown, after)
-
-pub grown_twice : (a b c : ℕ) → MayGrow a b → MayGrow b c → MayGrow a c
-grown_twice a b c before (inl same) = subst (MayGrow a) (sym same) before
-grown_twice a b c before (inr after) = inr (grown_last a b c before after)
-
 module _ {B : Type 0} {G : Ghosts B} where
   pub looked_none : (a : B) → HasLooked G a a
   looked_none a = record { count = λ i. G.count a; grown = inl (λ i. G.failed a); reads = λ start so. so; same = λ disk shows. shows }
@@ -33,10 +21,15 @@ module _ {B : Type 0} {G : Ghosts B} where
   pub looked_more : {a b c : B} → HasLooked G a b → HasLooked G b c → HasLooked G a c
   looked_more {a = a} {b = b} {c = c} first last = record {
     count = last.count ∙ first.count;
-    grown = grown_twice (G.failed a) (G.failed b) (G.failed c) first.grown last.grown;
+    grown = may_grow_twice (G.failed a) (G.failed b) (G.failed c) first.grown last.grown;
     reads = λ start so. last.reads start (first.reads start so);
     same = λ disk shows. last.same disk (first.same disk shows);
   }
+
+  -- blocks that are let go of
+  pub forgotten : {a b : B} → G.count b ≡ G.count a → G.failed b ≡ G.failed a → ((start : B) → G.ReadsOn start a → G.ReadsOn start b)
+      → ((disk : ℕ → List ℕ) → G.Shows a disk → G.Shows b disk) → HasLooked G a b
+  forgotten count failed reads same = record { count = count; grown = inl failed; reads = reads; same = same }
 
   -- a function that only looks
   pub looked : {T E : Type 0} {F : E → Type 0} {a b : B} {r : Result T E} → Looks G F a b r → HasLooked G a b
@@ -62,7 +55,7 @@ module _ {B : Type 0} {G : Ghosts B} where
       record {
         count = all.count;
         grown = all.grown;
-        device = λ fault. grown_last (G.failed a) (G.failed b) (G.failed c) first.grown (device fault);
+        device = λ fault. grown_since (G.failed a) (G.failed b) (G.failed c) first.grown (device fault);
         reads = all.reads;
         same = all.same;
       }

@@ -6,7 +6,6 @@ use Rattle.std.proofs.lemmas.Bool.{cases_lt}
 use Rattle.std.proofs.lemmas.List.{get_or_default}
 use mathlib.Core.Bool.{beq}
 use Rattle.std.proofs.lemmas.Option.{slice_get_within}
-use Rattle.buffers.specs.declared.blocks.Blocks.{Ghosts}
 use Rattle.layout.specs.Bytes.{zeros}
 use Rattle.layout.specs.Maps.{IsTaken}
 use Rattle.layout.specs.Places.{Blocks}
@@ -16,8 +15,8 @@ use Rattle.images.specs.BlockMap.{HasBit}
 use Rattle.images.specs.Nodes.{file_block}
 use Rattle.images.specs.Roots.{whole}
 use Rattle.checker.specs.Findings.{first_fault, tree_in}
-use Rattle.checker.specs.Nodes.{KeepsMarks, StaysFor}
-use Rattle.checker.specs.Rows.{AreRows, AreTwins, IsMappedAs, KeepsTrees, PlaneAt}
+use Rattle.checker.specs.Nodes.{KeepsMarks}
+use Rattle.checker.specs.Rows.{AreRows, AreTwins, IsMappedAs, KeepsTrees, MarksTrees, PlaneAt}
 use Rattle.checker.specs.Trees.{AreTrees, IsOut, IsSeenTo}
 use Rattle.checker.specs.declared.fault.Fault.{Fault}
 use Rattle.checker.specs.declared.fault.Fault.TheVariants.{InodeMap}
@@ -28,7 +27,6 @@ use Rattle.checker.specs.declared.tree.Tree.{Tree}
 use Rattle.model.proofs.OptionLaws.{some_same}
 use Rattle.checker.proofs.EachLaws.{Each, contained, contains, each_all, some_at}
 use Rattle.checker.proofs.OutLaws.{again, out_keeps, out_or_not, seen_added, seen_out}
-use Rattle.checker.proofs.ReadLaws.{HasLooked, looked_more, looked_none}
 use Rattle.checker.proofs.SeenLaws.{stays_more, stays_none}
 
 -- a tree is the same but for its fault
@@ -148,42 +146,33 @@ keeps_part k old new each = record {
   ];
 }
 
--- what a part of the check of numbers keeps
-pub record HasKept {B : Type 0} (G : Ghosts B) (a b : B) (old new : List Tree) (marks more : List ℕ) (before after : List (Option Shared)) : Type 0 where
-  pub looked : HasLooked G a b
-  pub length_is : length more ≡ length marks
-  pub trees : KeepsTrees old new
-  pub others : (k : ℕ) → ((i : ℕ) → PlaneAt old i k → ⊥) → StaysFor k marks more before after
+-- parts of the check of numbers, one after the other
+pub marked_none : (trees : List Tree) (marks : List ℕ) (shared : List (Option Shared)) → MarksTrees trees trees marks marks shared shared
+marked_none trees marks shared = record { length_is = refl; trees = trees_none trees; others = λ k none. stays_none k marks shared }
 
-module _ {B : Type 0} {G : Ghosts B} where
-  pub kept_none : (a : B) (trees : List Tree) (marks : List ℕ) (shared : List (Option Shared)) → HasKept G a a trees trees marks marks shared shared
-  kept_none a trees marks shared = record { looked = looked_none a; length_is = refl; trees = trees_none trees; others = λ k none. stays_none k marks shared }
+pub marked_more : {old mid new : List Tree} {m n o : List ℕ} {x y z : List (Option Shared)} → MarksTrees old mid m n x y → MarksTrees mid new n o y z → MarksTrees old new m o x z
+marked_more {old = old} {mid = mid} {new = new} {m = m} {n = n} {o = o} {x = x} {y = y} {z = z} first last = record {
+  length_is = last.length_is ∙ first.length_is;
+  trees = trees_more old mid new first.trees last.trees;
+  others = λ k none. stays_more k m n o x y z (first.others k none) (last.others k (no_plane old mid k first.trees none));
+}
 
-  pub kept_of : {a b : B} {old new : List Tree} {m n : List ℕ} {x y : List (Option Shared)} → HasLooked G a b → length n ≡ length m → KeepsTrees old new
-      → ((k : ℕ) → ((i : ℕ) → PlaneAt old i k → ⊥) → StaysFor k m n x y) → HasKept G a b old new m n x y
-  kept_of look same trees others = record { looked = look; length_is = same; trees = trees; others = others }
+-- what changes trees alone
+pub marked_same : {old new : List Tree} (m : List ℕ) (x : List (Option Shared)) → KeepsTrees old new → MarksTrees old new m m x x
+marked_same m x trees = record { length_is = refl; trees = trees; others = λ k none. stays_none k m x }
 
-  -- by the marks of the trees of some bits
-  pub kept_inode : {a b : B} {old new : List Tree} {m n : List ℕ} {x y : List (Option Shared)} {bits : ℕ} (rows : List (List ℕ)) (k place : ℕ) → HasLooked G a b → KeepsMarks bits m n x y
-      → KeepsTrees old new → AreTwins old rows k place bits → HasKept G a b old new m n x y
-  kept_inode rows k place look marked trees twins = record {
-    looked = look;
-    length_is = marked.length_is;
-    trees = trees;
-    others = λ p none. marked.others p (λ bit. let twin = (twins p).0 bit in none twin.0 (twin.1, twin.2, twin.3));
-  }
-
-  pub kept_more : {a b c : B} {old mid new : List Tree} {m n o : List ℕ} {x y z : List (Option Shared)} → HasKept G a b old mid m n x y → HasKept G b c mid new n o y z → HasKept G a c old new m o x z
-  kept_more {old = old} {mid = mid} {new = new} {m = m} {n = n} {o = o} {x = x} {y = y} {z = z} first last = record {
-    looked = looked_more first.looked last.looked;
-    length_is = last.length_is ∙ first.length_is;
-    trees = trees_more old mid new first.trees last.trees;
-    others = λ k none. stays_more k m n o x y z (first.others k none) (last.others k (no_plane old mid k first.trees none));
-  }
+-- by the marks of the trees of some bits
+pub marked_inode : {old new : List Tree} {m n : List ℕ} {x y : List (Option Shared)} {bits : ℕ} (rows : List (List ℕ)) (k place : ℕ) → KeepsMarks bits m n x y
+    → KeepsTrees old new → AreTwins old rows k place bits → MarksTrees old new m n x y
+marked_inode rows k place marked trees twins = record {
+  length_is = marked.length_is;
+  trees = trees;
+  others = λ p none. marked.others p (λ bit. let twin = (twins p).0 bit in none twin.0 (twin.1, twin.2, twin.3));
+}
 
 -- ---- the trees of a root
 
-first_plane : (old : List Tree) (t : Tree) → slice_get old 0 ≡ Some t → ((x : Tree) (rest : List Tree) → old ≡ x ∷ rest → x.plane ≡ 0) → t.plane ≡ 0
+pub first_plane : (old : List Tree) (t : Tree) → slice_get old 0 ≡ Some t → ((x : Tree) (rest : List Tree) → old ≡ x ∷ rest → x.plane ≡ 0) → t.plane ≡ 0
 first_plane [] t is all = absurd (none_is is)
   where
     none_is : {x : Tree} → None ≡ Some x → ⊥

@@ -1,5 +1,5 @@
 -- Blocks of the trees' inode files that are read.
-use Rattle.std.proofs.Common.{◌≡◌, ◌∙◌, ℕ, ◌≢◌, ◌+◌, ◌*◌, ◌/◌, ◌%◌, ◌<◌, ◌≤◌, List, ◌++◌, ◌∷◌, [], length, set, ap, arith, sym, subst, inl, inr}
+use Rattle.std.proofs.Common.{◌≡◌, ◌∙◌, ℕ, ◌≢◌, ◌+◌, ◌*◌, ◌/◌, ◌%◌, ◌<◌, ◌≤◌, List, ◌++◌, ◌∷◌, [], length, set, ap, arith, refl, sym, subst, inl, inr}
 use Rattle.std.specs.Prelude.{Option, Some, slice_get, slice_index_or}
 use Rattle.std.proofs.Math.Nat.{eq-or-lt_of_le}
 use Rattle.std.proofs.lemmas.List.{get_or_append_left, get_or_push}
@@ -19,12 +19,12 @@ use Rattle.images.specs.Soundness.{IsFileGrammar}
 use Rattle.images.specs.Nodes.{Held, file_block, held}
 use Rattle.images.specs.Roots.{inode_part, whole}
 use Rattle.checker.specs.Findings.{tree_in}
-use Rattle.checker.specs.Rows.{AreAllBelow, ArePlacesOfTrees, AreRows, KeepsTrees, LeadsToRow}
+use Rattle.checker.specs.Rows.{AreAllBelow, ArePlacesOfTrees, AreRows, KeepsTrees, LeadsToRow, LeadsToRows}
 use Rattle.checker.specs.Tables.{ArePlaces}
-use Rattle.checker.specs.Trees.{AreTrees, IsOut, IsSeenTo, IsTreeOf}
+use Rattle.checker.specs.Trees.{AreTrees, IsOut, IsSeenTo, IsTreeAt, IsTreeOf}
 use Rattle.checker.specs.declared.nodes.Shared.{Shared}
 use Rattle.checker.specs.declared.tree.Tree.{Tree}
-use Rattle.checker.proofs.HeldLaws.{top_is, top_readable}
+use Rattle.checker.proofs.HeldLaws.{grammar_at, top_is, top_readable}
 use Rattle.checker.proofs.OwnerLaws.{AreAllSound, file_sound}
 use Rattle.checker.proofs.PlaceLaws.{places_are, stored_at, top_large, whole_at}
 use Rattle.model.proofs.OptionLaws.{some_same}
@@ -59,13 +59,21 @@ module _ (disk : Blocks) (r : Root) (i : ℕ) (t : Tree) (is : IsTreeOf disk r t
   row_damaged pointer damaged leads grammar =
       damaged (whole_at disk t.top i pointer (top_readable disk r r.geometry t is grammar) (sym (leads (grammar.files 0) ∙ top_place)))
 
+-- where all of them are
+pub leads_to_rows : (disk : Blocks) (r : Root) (t : Tree) → AreAllSound → (p : PlaceMap) {s : Sizes} {blocks : ℕ} → IsTreeAt disk r s blocks t → (AreSound blocks disk t.file.tree → ArePlaces disk t.file.tree p)
+    → LeadsToRows disk r t p
+leads_to_rows disk r t all p {blocks = blocks} at are i = leads_to_row disk r i t at.tree all blocks p (place_at p i) at.over.count (omega (arith, at.over.root.head.sizes.least_inodes)) refl are
+
 -- the bytes of a number, in a block that was read
-pub part_read : (disk : Blocks) (r : Root) (s : Sizes) (n : ℕ) (t : Tree) (row : List ℕ) (pointer : Pointer) → r.geometry ≡ s → IsTreeOf disk r t → IsTreeGrammar s (tree_in (whole disk r) t.plane)
+pub part_read : (disk : Blocks) (r : Root) (s : Sizes) {blocks : ℕ} (n : ℕ) (t : Tree) (row : List ℕ) (pointer : Pointer) → IsTreeAt disk r s blocks t
     → row ≡ pointed disk pointer → LeadsToRow disk r (n / 21) t pointer → 1 ≤ n → n < s.inodes → inode_part row (n % 21) ≡ inode_bytes (tree_in (whole disk r) t.plane n).inode
-part_read disk r s n t row pointer same is grammar read leads some low =
-    let known = subst (λ (x : Sizes). IsTreeGrammar x (tree_in (whole disk r) t.plane)) (sym same) grammar in
-    let inodes : r.geometry.inodes ≡ s.inodes = ap (λ (x : Sizes). x.inodes) same in
-    ap (λ (bytes : List ℕ). inode_part bytes (n % 21)) (row_read disk r (n / 21) t is row pointer (omega (arith, low, inodes)) read leads (known.files 0)) ∙ grammar.inodes.each n some low
+part_read disk r s n t row pointer at read leads some low =
+    let inodes : r.geometry.inodes ≡ s.inodes = ap (λ (x : Sizes). x.inodes) at.over.geometry in
+    ap (λ (bytes : List ℕ). inode_part bytes (n % 21)) (row_read disk r (n / 21) t at.tree row pointer (omega (arith, low, inodes)) read leads (at.grammar.files 0)) ∙ (grammar_at at).inodes.each n some low
+
+-- where one of the blocks is
+pub leads_at : (disk : Blocks) (r : Root) (t : Tree) (places : PlaceMap) (n : ℕ) (p : Pointer) → p ≡ place_at places (n / 21) → LeadsToRows disk r t places → LeadsToRow disk r (n / 21) t p
+leads_at disk r t places n p is leads grammar = is ∙ leads (n / 21) grammar
 
 -- ---- the blocks of all trees
 

@@ -1,6 +1,7 @@
 -- What a check comes to.
-use Rattle.std.specs.Prelude.{ℕ, ◌≡◌, ◌⊎◌, ◌↔◌, IsTrue, Bool, true, false, List, length, count_by, Option, Some, None, Result, Ok, Err}
-use Rattle.station.specs.Moments.{HasGrown, Meaning}
+use Rattle.std.specs.Prelude.{ℕ, ◌≡◌, ◌⊎◌, ◌↔◌, IsTrue, Bool, true, false, List, length, count_by, Option, Some, None, Result, Ok, Err, IfErr, OnOk, slice_get}
+use Rattle.station.specs.Images.{Unchanged}
+use Rattle.station.specs.Moments.{Goes, HasGrown, IsSameStation, LeavesJust, MayGrow, Meaning}
 use Rattle.layout.specs.Places.{blocks_of}
 use Rattle.layout.specs.Record.{Change}
 use Rattle.layout.specs.declared.pointer.Pointer.{Pointer}
@@ -14,6 +15,9 @@ use Rattle.images.specs.Roots.{Whole, whole}
 use Rattle.images.specs.Soundness.{IsReadable, IsWithin}
 use Rattle.images.specs.States.{HasReserve}
 use Rattle.checker.specs.Findings.{HasTree, IsFinding, IsFindingUnder, tree_in}
+use Rattle.checker.specs.Trees.{IsApart}
+use Rattle.checker.specs.declared.error.CheckError.{CheckError}
+use Rattle.checker.specs.declared.error.CheckError.TheVariants.{Device}
 use Rattle.checker.specs.declared.error.Halt.{Halt}
 use Rattle.checker.specs.declared.error.Halt.TheVariants as halts
 use Rattle.checker.specs.declared.fault.Fault.{Fault}
@@ -21,6 +25,7 @@ use Rattle.checker.specs.declared.fault.Finding.{Finding}
 use Rattle.checker.specs.declared.report.Report.{Report}
 use Rattle.checker.specs.declared.report.Report.TheVariants.{Bad, Good}
 use Rattle.checker.specs.declared.report.Summary.{Summary}
+use Rattle.checker.specs.declared.tree.Tree.{Tree}
 
 -- a part of a check passes, or a fault is found; nothing is said where memory ran out or a device call failed
 abbrev pub Passes : {T : Type 0} → (T → Type 0) → (Fault → Type 0) → Result T Halt → Type 0
@@ -62,6 +67,21 @@ Reports sectors disk nvram (Bad finding) = IsFinding sectors disk nvram finding
 -- a read, a write or a sync failed
 abbrev pub HasFailed : Meaning → Meaning → Type 0
 HasFailed old new = HasGrown old.failed_reads new.failed_reads ⊎ HasGrown old.failed_writes new.failed_writes
+
+-- what reads give is settled, and nothing else is done to a station but reading
+pub record Settles {T : Type 0} (old new : Meaning) (result : Result T CheckError) : Type 0 where
+  pub same : IsSameStation old new
+  pub goes : Goes Unchanged old new
+  pub grown : MayGrow old.failed_reads new.failed_reads
+  pub device : IfErr result (λ e. e ≡ Device → HasFailed old new)
+  pub settled : OnOk result (LeavesJust new old.seen)
+
+-- what was found first, of trees that were looked at: whether none is out of its grammar or names a block twice, and none has a fault where
+-- nothing was found
+pub record TellsTrees (first : Option Finding) (trees : List Tree) (are_apart : Bool) : Type 0 where
+  pub apart : IsTrue are_apart → (i : ℕ) (t : Tree) → slice_get trees i ≡ Some t → IsApart t.fault
+  pub told : first ≡ None → (i : ℕ) (t : Tree) → slice_get trees i ≡ Some t → t.fault ≡ None
+  pub all : first ≡ None → IsTrue are_apart
 
 -- the report of what was found first, or of an image without faults
 abbrev pub report_of : Option Finding → Option Summary → Report

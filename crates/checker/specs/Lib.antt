@@ -1,6 +1,7 @@
 pub mod Errors
 pub mod Nodes
 pub mod Findings
+pub mod Watches
 pub mod Trees
 pub mod Rows
 pub mod Names

@@ -16,6 +16,7 @@ use Rattle.images.specs.Nodes.{file_block}
 use Rattle.images.specs.Roots.{inode_bytes_at, inode_part, whole}
 use Rattle.images.specs.Soundness.{IsFileGrammar}
 use Rattle.checker.specs.Findings.{first_fault, tree_in}
+use Rattle.checker.specs.Nodes.{StaysFor}
 use Rattle.checker.specs.Tables.{ArePlaces}
 use Rattle.checker.specs.Trees.{AreTrees, IsOut, IsSeenTo}
 use Rattle.checker.specs.declared.fault.Fault.{Fault}
@@ -44,6 +45,12 @@ pub record KeepsTrees (old new : List Tree) : Type 0 where
   pub length_is : length new ≡ length old
   pub same : (i : ℕ) (t q : Tree) → slice_get old i ≡ Some t → slice_get new i ≡ Some q
       → record t { fault = q.fault } ≡ q
+
+-- trees are the same but for their faults, and nothing changed for others than these
+pub record MarksTrees (old new : List Tree) (marks more : List ℕ) (before after : List (Option Shared)) : Type 0 where
+  pub length_is : length more ≡ length marks
+  pub trees : KeepsTrees old new
+  pub others : (k : ℕ) → ((i : ℕ) → PlaneAt old i k → ⊥) → StaysFor k marks more before after
 
 -- none of these places is past a disk of so many blocks
 abbrev pub AreAllBelow : ℕ → List PlaceMap → Type 0

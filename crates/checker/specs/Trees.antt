@@ -3,6 +3,7 @@ use Rattle.std.specs.Prelude.{ℕ, ◌≡◌, ◌≢◌, ◌↔◌, ◌⊎◌, �
 use Rattle.layout.specs.Bytes.{zeros}
 use Rattle.layout.specs.Inode.{IsInode}
 use Rattle.layout.specs.Maps.{IsTaken}
+use Rattle.layout.specs.Root.{IsRoot}
 use Rattle.layout.specs.Places.{Blocks}
 use Rattle.layout.specs.Limits.{Sizes}
 use Rattle.layout.specs.Version.{greatest_size}
@@ -17,7 +18,7 @@ use Rattle.layout.specs.declared.version.TheConstants.{VERSION}
 use Rattle.model.specs.declared.limits.TheConstants.{FIRST_NUMBER}
 use Rattle.images.specs.BlockMap.{HasBit, NamesOnce}
 use Rattle.images.specs.Contents.{content_bytes, content_of}
-use Rattle.images.specs.Faults.{IsMapGrammar, IsTreeGrammar, MapsWithin}
+use Rattle.images.specs.Faults.{IsFaultless, IsMapGrammar, IsTreeGrammar, MapsWithin}
 use Rattle.images.specs.Nodes.{Held, IsOnce, Names, file_block}
 use Rattle.images.specs.Roots.{HeldTree, Reach, inode_bytes_at, whole}
 use Rattle.images.specs.Soundness.{IsFileGrammar, IsReadable, IsWithin, MapsNumbers}
@@ -42,6 +43,18 @@ pub record IsTreeOf (disk : Blocks) (r : Root) (t : Tree) : Type 0 where
   pub fits : IsInode VERSION r.geometry t.top
   pub kind : t.top.kind ≡ InodeFile
   pub file : IsFileOfInode t.top t.file
+
+-- the root of a disk of these sizes, of which so many blocks are read
+pub record IsRootOf (r : Root) (s : Sizes) (blocks : ℕ) : Type 0 where
+  pub root : IsRoot r
+  pub geometry : r.geometry ≡ s
+  pub count : blocks ≡ r.geometry.blocks
+
+-- a tree of it, which is in its grammar
+pub record IsTreeAt (disk : Blocks) (r : Root) (s : Sizes) (blocks : ℕ) (t : Tree) : Type 0 where
+  pub over : IsRootOf r s blocks
+  pub tree : IsTreeOf disk r t
+  pub grammar : IsTreeGrammar r.geometry (tree_in (whole disk r) t.plane)
 
 -- a tree names a block twice: this node stands in it, and another one
 pub record SharesBlock (t : HeldTree) (s : Shared) : Type 0 where
@@ -142,6 +155,10 @@ pub record IsSeen (disk : Blocks) (r : Root) (marks : List ℕ) (t : Tree) : Typ
   pub once : IsApart t.fault → NamesOnce (tree_in (whole disk r) t.plane)
   pub marked : IsApart t.fault → (b : ℕ) → HasBit t.plane (slice_index marks b) ↔ Reach (tree_in (whole disk r) t.plane) b
   pub mapped : t.fault ≡ None → MapsNumbers (tree_in (whole disk r) t.plane)
+
+-- and nothing more is to be looked for: without a fault, the tree has none
+abbrev pub HasEnded : Blocks → Root → List ℕ → Tree → Type 0
+HasEnded disk r marks t = IsSeen disk r marks t × (t.fault ≡ None → IsFaultless r.geometry (tree_in (whole disk r) t.plane))
 
 -- what a slot of a root was found to hold: a snapshot's root block in its grammar, of no name and order of one in a slot before it; or a fault
 abbrev pub TellsSlot : Blocks → Root → ℕ → Option Fault → Type 0

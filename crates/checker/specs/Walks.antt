@@ -4,22 +4,17 @@ use Rattle.layout.specs.Directory.{HoldsEntries, Named}
 use Rattle.layout.specs.DirectoryNames.{AllHold, AreNames, HasEachOnce, number_of}
 use Rattle.layout.specs.Limits.{Sizes}
 use Rattle.layout.specs.Places.{Blocks}
-use Rattle.layout.specs.Root.{IsRoot}
-use Rattle.layout.specs.declared.root.Root.{Root}
 use Rattle.model.specs.Paths.{Name}
 use Rattle.model.specs.Volumes.{Entries, Volume, entries}
 use Rattle.blocktree.specs.Trees.{IsSoundAt}
 use Rattle.inode.specs.Files as files
 use Rattle.inode.specs.declared.file.File.{File}
-use Rattle.images.specs.Faults.{HoldsNames, IsTreeGrammar}
+use Rattle.images.specs.Faults.{HoldsNames}
 use Rattle.images.specs.Nodes.{Held, file_block}
-use Rattle.images.specs.Roots.{HeldTree, whole}
+use Rattle.images.specs.Roots.{HeldTree}
 use Rattle.images.specs.Soundness.{IsReadable}
-use Rattle.checker.specs.Findings.{tree_in}
 use Rattle.checker.specs.Names.{AreWithin, IsCounted, IsFirst, AreDirectories}
-use Rattle.checker.specs.Trees.{IsTreeOf}
 use Rattle.checker.specs.declared.names.NumberRow.{NumberRow}
-use Rattle.checker.specs.declared.tree.Tree.{Tree}
 
 -- how many numbers have no name yet
 abbrev pub nameless : List NumberRow → ℕ
@@ -31,14 +26,6 @@ pub record GoesOn (table : List NumberRow) (found : List ℕ) (later : List Numb
   pub keeps : (i n : ℕ) → slice_get found i ≡ Some n → slice_get more i ≡ Some n
   pub fewer : nameless later + length more ≤ nameless table + length found
   pub within : AreWithin (length table) found → AreWithin (length table) more
-
--- a tree of a root in its grammar, in memory, with the disk's blocks
-pub record IsTreeAt (disk : Blocks) (r : Root) (s : Sizes) (blocks : ℕ) (kept : Tree) : Type 0 where
-  pub root : IsRoot r
-  pub geometry : r.geometry ≡ s
-  pub count : blocks ≡ r.geometry.blocks
-  pub tree : IsTreeOf disk r kept
-  pub grammar : IsTreeGrammar r.geometry (tree_in (whole disk r) kept.plane)
 
 -- a file in memory has the bytes of a held one, and is in its grammar, where that can be read
 pub record HasFile (blocks : ℕ) (disk : Blocks) (file : File) (h : Held) : Type 0 where

@@ -1,9 +1,9 @@
 //! A check of an image.
 
-ghost use Rattle.std.specs.Prelude.{◌≡◌, ◌↔◌, ◌+◌, ◌*◌, ◌≤◌, ℕ, List, [], Err, IfErr, IfOk, IfSome, IsSome, IsTrue, MatchResult, None, OnOk, Some, slice_get};
+ghost use Rattle.std.specs.Prelude.{◌≡◌, ◌↔◌, ◌+◌, ◌*◌, ◌≤◌, ℕ, List, [], Err, IfErr, IfOk, IfSome, IsSome, IsTrue, MatchResult, None, OnOk, Some};
 ghost use Rattle.std.specs.Int.{div_ceil};
 ghost use Rattle.station.specs.Images.{Unchanged};
-ghost use Rattle.station.specs.Moments.{Goes, HasGrown, IsSameStation, LeavesJust, MayGrow};
+ghost use Rattle.station.specs.Moments.{Goes, HasGrown, IsSameStation, LeavesJust};
 ghost use Rattle.layout.specs.Opens.{IsNewest};
 ghost use Rattle.layout.specs.Root.{IsRoot};
 ghost use Rattle.layout.specs.declared.TheConstants.{INODES_PER_BLOCK, SLOT_A, SLOT_B};
@@ -17,12 +17,13 @@ ghost use Rattle.images.specs.Roots.{whole};
 ghost use Rattle.images.specs.Snapshots.{AreSnapshots};
 ghost use Rattle.images.specs.States.{Opens};
 ghost use Rattle.loading.specs.Slots.{FitsStation};
-ghost use Rattle.checker.specs.Checks.{AreFaultless, AreFindings, HasFailed, IsFaultlessBy, IsGood, Reports, found_in, report_of};
+ghost use Rattle.checker.specs.Checks.{AreFaultless, AreFindings, HasFailed, IsFaultlessBy, IsGood, Reports, Settles, TellsTrees, found_in, report_of};
 ghost use Rattle.checker.specs.Errors.{IsFault, Looks};
-ghost use Rattle.checker.specs.Findings.{IsFinding, IsFindingUnder, IsFirstTold, tree_in};
+ghost use Rattle.checker.specs.Findings.{IsFinding, IsFindingUnder, IsFirstTold};
 ghost use Rattle.checker.specs.Rows.{AreSeenTo, KeepsTrees};
 ghost use Rattle.checker.specs.Tables.{IsKnown};
-ghost use Rattle.checker.specs.Trees.{IsApart, IsSeen, IsSeenTo};
+ghost use Rattle.checker.specs.Trees.{AreTrees, HasEnded, IsRootOf, IsSeenTo};
+ghost use Rattle.checker.specs.Watches.{KeepsTelling};
 
 use crate::error::{Halt, fault_of};
 use crate::findings::Findings;
@@ -105,14 +106,7 @@ fn report(first: Option<Finding>, summary: Option<Summary>) -> Report
 
 /// Settles what reads give: a cut may have left writes that a later one could take back.
 fn settle<S: Station>(station: &mut S) -> Result<(), CheckError>
-    ensures same { IsSameStation (S.meaning station.old) (S.meaning station.new) }
-    ensures goes { Goes Unchanged (S.meaning station.old) (S.meaning station.new) }
-    ensures device { IfErr result (λ e. (e ≡ CheckError.Device)
-        × HasFailed (S.meaning station.old) (S.meaning station.new)) }
-    ensures reads { (S.meaning station.new).failed_reads
-        ≡ (S.meaning station.old).failed_reads }
-    ensures settled { OnOk result
-        (LeavesJust (S.meaning station.new) (S.meaning station.old).seen) }
+    ensures { Settles (S.meaning station.old) (S.meaning station.new) result }
 {
     let Ok(()) = station.sync() else {
         return Err(CheckError::Device);
@@ -125,10 +119,7 @@ fn find_root<S: Station, W: Watch>(
     station: &mut S,
     findings: &mut Findings<'_, W>,
 ) -> Result<Option<Root>, CheckError>
-    ensures same { IsSameStation (S.meaning station.old) (S.meaning station.new) }
-    ensures goes { Goes Unchanged (S.meaning station.old) (S.meaning station.new) }
-    ensures device { result ≡ Err CheckError.Device
-        → HasFailed (S.meaning station.old) (S.meaning station.new) }
+    ensures settles { Settles (S.meaning station.old) (S.meaning station.new) result }
     ensures root { IfOk result (λ found. IfSome found (λ r. IsRoot r
         × FitsStation r (S.meaning station.new))) }
     ensures found { (S.meaning station.old).is_honest → IfOk result (λ found. IfSome found
@@ -136,12 +127,7 @@ fn find_root<S: Station, W: Watch>(
         ((S.meaning station.old).seen.disk SLOT_B))) }
     ensures some { IfOk result (λ found. found ≡ None → IsSome findings.new.first) }
     ensures kept { IfOk result (λ found. IfSome found (λ _. findings.new.first ≡ findings.old.first)) }
-    ensures grown { MayGrow (S.meaning station.old).failed_reads (S.meaning station.new).failed_reads }
-    ensures settled { IfOk result (λ _.
-        LeavesJust (S.meaning station.new) (S.meaning station.old).seen) }
-    ensures watch { findings.new.watch.ghost_name ≡ findings.old.watch.ghost_name }
-    ensures tells { IsFirstTold (W.told findings.old.watch.now) findings.old.first
-        → IsFirstTold (W.told findings.new.watch.now) findings.new.first }
+    ensures tells { KeepsTelling W.Watch findings.old findings.new }
     ensures none { (S.meaning station.old).is_honest → findings.old.first ≡ None
         → IfOk result (λ found. found ≡ None → IfSome findings.new.first
         (IsFinding (S.meaning station.old).sectors (S.meaning station.old).seen.disk
@@ -176,9 +162,7 @@ fn check_image<S: Station, W: Watch>(
     ensures device { result ≡ Err CheckError.Device → HasGrown
         (S.meaning blocks.old.station).failed_reads (S.meaning blocks.new.station).failed_reads }
     ensures some { IfOk result (λ summary. findings.new.first ≡ None → IsSome summary) }
-    ensures watch { findings.new.watch.ghost_name ≡ findings.old.watch.ghost_name }
-    ensures tells { IsFirstTold (W.told findings.old.watch.now) findings.old.first
-        → IsFirstTold (W.told findings.new.watch.now) findings.new.first }
+    ensures tells { KeepsTelling W.Watch findings.old findings.new }
     ensures found { (disk : ℕ → List ℕ)
         → ShowsDisk (S.meaning blocks.old.station) blocks.old.kept disk → IfOk result (λ _.
         IfSome findings.new.first (λ f. IsFindingUnder root.now (whole disk root.now)
@@ -237,9 +221,7 @@ fn check_snapshots<B: LetsGo, W: Watch>(
         → OnOk result (AreFindings root.now (whole disk root.now) nvram findings.new.first) }
     ensures none { (disk : ℕ → List ℕ) → B.Shows blocks.old disk
         → OnOk result (findings.new.first ≡ None → AreSnapshots root.now (whole disk root.now)) }
-    ensures watch { findings.new.watch.ghost_name ≡ findings.old.watch.ghost_name }
-    ensures tells { IsFirstTold (W.told findings.old.watch.now) findings.old.first
-        → IsFirstTold (W.told findings.new.watch.now) findings.new.first }
+    ensures tells { KeepsTelling W.Watch findings.old findings.new }
 {
     snapshots_are_what_their_bytes_spell();
     for k in 0..SNAPSHOT_SLOTS {
@@ -269,9 +251,7 @@ fn check_trees<B: LetsGo, W: Watch>(
         → IsFaultless root.now.geometry (whole disk root.now).active
         × IsWithin root.now.version (whole disk root.now).active) }
     ensures told { IfOk result (λ t. findings.new.first ≡ None → IsTrue t.0) }
-    ensures watch { findings.new.watch.ghost_name ≡ findings.old.watch.ghost_name }
-    ensures tells { IsFirstTold (W.told findings.old.watch.now) findings.old.first
-        → IsFirstTold (W.told findings.new.watch.now) findings.new.first }
+    ensures tells { KeepsTelling W.Watch findings.old findings.new }
     ensures faultless { (disk : ℕ → List ℕ) → B.Shows blocks.old disk
         → AreSnapshots root.now (whole disk root.now)
         → IfOk result (λ t. findings.new.first ≡ None
@@ -309,27 +289,19 @@ fn check_each<B: LetsGo, W: Watch>(
     shared: &SharedBlocks,
     findings: &mut Findings<'_, W>,
 ) -> Result<bool, CheckError>
-    requires { B.count blocks.old ≡ geometry.blocks }
     ensures reads { Looks B.Blocks IsFault blocks.old blocks.new result }
     ensures trees { OnOk result (KeepsTrees trees.old.items trees.new.items) }
     ensures found { (disk : ℕ → List ℕ) (r : Root) (marks nvram : List ℕ) → B.Shows blocks.old disk
-        → IsRoot r → r.geometry ≡ geometry
+        → IsRootOf r geometry (B.count blocks.old)
         → AreSeenTo disk r (div_ceil geometry.inodes INODES_PER_BLOCK) marks shared.now.of trees.old.items
         → AreFindings r (whole disk r) nvram findings.old.first
         → OnOk result (AreFindings r (whole disk r) nvram findings.new.first) }
     ensures seen { (disk : ℕ → List ℕ) (r : Root) (marks : List ℕ) → B.Shows blocks.old disk
-        → IsRoot r → r.geometry ≡ geometry
+        → IsRootOf r geometry (B.count blocks.old)
         → AreSeenTo disk r (div_ceil geometry.inodes INODES_PER_BLOCK) marks shared.now.of trees.old.items
-        → OnOk result ((i : ℕ) (t : Tree) → slice_get trees.new.items i ≡ Some t → IsSeen disk r marks t
-        × (t.fault ≡ None → IsFaultless r.geometry (tree_in (whole disk r) t.plane))) }
-    ensures apart { IfOk result (λ apart. IsTrue apart → (i : ℕ) (t : Tree)
-        → slice_get trees.new.items i ≡ Some t → IsApart t.fault) }
-    ensures told { OnOk result (findings.new.first ≡ None → (i : ℕ) (t : Tree)
-        → slice_get trees.new.items i ≡ Some t → t.fault ≡ None) }
-    ensures all { IfOk result (λ apart. findings.new.first ≡ None → IsTrue apart) }
-    ensures watch { findings.new.watch.ghost_name ≡ findings.old.watch.ghost_name }
-    ensures tells { IsFirstTold (W.told findings.old.watch.now) findings.old.first
-        → IsFirstTold (W.told findings.new.watch.now) findings.new.first }
+        → OnOk result (AreTrees r trees.new.items (HasEnded disk r marks)) }
+    ensures told { IfOk result (TellsTrees findings.new.first trees.new.items) }
+    ensures tells { KeepsTelling W.Watch findings.old findings.new }
 {
     let parts = trees.len().min(PLANES) as u32 + 1;
     let mut are_apart = true;
@@ -356,17 +328,15 @@ fn check_tree<B: LetsGo>(
     shared: &SharedBlocks,
     known: &mut Option<Known>,
 ) -> Result<(), CheckError>
-    requires { B.count blocks.old ≡ geometry.blocks }
     ensures reads { Looks B.Blocks IsFault blocks.old blocks.new result }
     ensures known { (disk : ℕ → List ℕ) → B.Shows blocks.old disk
         → IsKnown disk known.old → IsKnown disk known.new }
     ensures same { record tree.old { fault = tree.new.fault } ≡ tree.new }
     ensures checked { (disk : ℕ → List ℕ) (r : Root) (marks : List ℕ) → B.Shows blocks.old disk
-        → IsKnown disk known.old → IsRoot r → r.geometry ≡ geometry
+        → IsKnown disk known.old → IsRootOf r geometry (B.count blocks.old)
         → IsSeenTo disk r (div_ceil geometry.inodes INODES_PER_BLOCK)
         (INODES_PER_BLOCK * div_ceil geometry.inodes INODES_PER_BLOCK) marks shared.now.of tree.old
-        → OnOk result (IsSeen disk r marks tree.new × (tree.new.fault ≡ None
-        → IsFaultless r.geometry (tree_in (whole disk r) tree.new.plane))) }
+        → OnOk result (HasEnded disk r marks tree.new) }
 {
     inodes_are_what_their_bytes_spell();
     blocks_are_where_pointers_lead();

@@ -1,7 +1,7 @@
 //! The faults that a check found so far.
 
 ghost use Rattle.std.specs.Prelude.{◌≡◌, List, Option, Some, None};
-ghost use Rattle.checker.specs.Findings.{AddsTold, IsFirstTold, first_fault, first_of};
+ghost use Rattle.checker.specs.Findings.{AddsTold, first_fault, first_of};
 ghost use Rattle.checker.specs.declared.fault.Finding.{Finding};
 
 use crate::{Fault, Finding, TreeName};
@@ -56,6 +56,8 @@ fn earlier_finding(before: Option<Finding>, finding: Finding) -> Finding
 }
 
 impl<'w, W: Watch> Findings<'w, W> {
+    ghost use Rattle.checker.specs.Watches.{KeepsTelling};
+
     pub(crate) fn new(watch: &'w mut W) -> Findings<'w, W>
         ensures first { result.first ≡ None }
         ensures watch { result.watch.ghost_name ≡ watch.entry.ghost_name }
@@ -66,9 +68,7 @@ impl<'w, W: Watch> Findings<'w, W> {
 
     /// A fault is found.
     pub(crate) fn find(&mut self, tree: TreeName, fault: Fault)
-        ensures watch { self.new.watch.ghost_name ≡ self.old.watch.ghost_name }
-        ensures told { IsFirstTold (W.told self.old.watch.now) self.old.first
-            → IsFirstTold (W.told self.new.watch.now) self.new.first }
+        ensures tells { KeepsTelling W.Watch self.old self.new }
         ensures first { self.new.first ≡ Some (first_of self.old.first (record { tree = tree; fault = fault })) }
     {
         let finding = Finding { tree, fault };
@@ -79,8 +79,7 @@ impl<'w, W: Watch> Findings<'w, W> {
 
     /// So many of the check's parts are done.
     pub(crate) fn goes_on(&mut self, done: u32, of: u32)
-        ensures watch { self.new.watch.ghost_name ≡ self.old.watch.ghost_name }
-        ensures told { W.told self.new.watch.now ≡ W.told self.old.watch.now }
+        ensures tells { KeepsTelling W.Watch self.old self.new }
         ensures first { self.new.first ≡ self.old.first }
     {
         self.watch.goes_on(done, of);

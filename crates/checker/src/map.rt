@@ -6,7 +6,6 @@ ghost use Rattle.layout.specs.Root.{IsRoot};
 ghost use Rattle.layout.specs.declared.root.Root.{Root};
 ghost use Rattle.buffers.specs.Disks.{IsWhole};
 ghost use Rattle.images.specs.BlockMap.{HasBit, IsExact, IsSystem, entry};
-ghost use Rattle.images.specs.Faults.{IsTreeGrammar};
 ghost use Rattle.images.specs.Room.{free_under};
 ghost use Rattle.images.specs.Roots.{whole};
 ghost use Rattle.images.specs.Soundness.{IsReadable};
@@ -14,7 +13,7 @@ ghost use Rattle.checker.specs.Checks.{Passes};
 ghost use Rattle.checker.specs.Errors.{IsHaltFault, Looks};
 ghost use Rattle.checker.specs.Findings.{IsFindingUnder, ShouldHave};
 ghost use Rattle.checker.specs.Maps.{HasEntries, IsFound, IsMapFault};
-ghost use Rattle.checker.specs.Trees.{IsTreeOf};
+ghost use Rattle.checker.specs.Trees.{IsTreeAt};
 ghost use Rattle.checker.specs.declared.fault.TreeName.TheVariants.{Image};
 
 use crate::error::{Halt, or_fault};
@@ -63,12 +62,10 @@ pub(crate) fn compare_map<B: LetsGo>(
     tree: &Tree,
     marks: &Marks,
 ) -> Result<u32, Halt>
-    requires table { length marks.now ≡ geometry.blocks }
-    requires size { B.count blocks.old ≡ geometry.blocks }
+    requires { length marks.now ≡ geometry.blocks }
     ensures reads { Looks B.Blocks IsHaltFault blocks.old blocks.new result }
     ensures passes { (disk : ℕ → List ℕ) (r : Root) (nvram : List ℕ) → B.Shows blocks.old disk
-        → IsRoot r → r.geometry ≡ geometry → IsTreeOf disk r tree.now → tree.now.plane ≡ 0
-        → IsTreeGrammar r.geometry (whole disk r).active
+        → IsTreeAt disk r geometry (B.count blocks.old) tree.now → tree.now.plane ≡ 0
         → ((b : ℕ) → ShouldHave r (whole disk r) b (slice_index marks.now b))
         → Passes (λ free. IsReadable ((whole disk r).active 2) × IsExact r (whole disk r)
         × (free ≡ free_under (whole disk r).active r.geometry.blocks))

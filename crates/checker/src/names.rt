@@ -3,14 +3,13 @@
 ghost use Rattle.std.specs.Prelude.{◌≡◌, ◌↔◌, ◌<◌, ◌≤◌, ◌^◌, ℕ, List, Err, IfOk, IsTrue, None, vec_len};
 ghost use Rattle.layout.specs.Version.{greatest_size};
 ghost use Rattle.layout.specs.declared.version.TheConstants.{VERSION};
-ghost use Rattle.layout.specs.Root.{IsRoot};
 ghost use Rattle.layout.specs.declared.root.Root.{Root};
-ghost use Rattle.images.specs.Faults.{HoldsGraph, HoldsNames, IsTreeGrammar};
+ghost use Rattle.images.specs.Faults.{HoldsGraph, HoldsNames};
 ghost use Rattle.images.specs.Roots.{whole};
 ghost use Rattle.checker.specs.Checks.{Passes};
 ghost use Rattle.checker.specs.Errors.{IsHaltFault, Looks};
 ghost use Rattle.checker.specs.Findings.{IsNamedKind, IsTreeFinding, tree_in};
-ghost use Rattle.checker.specs.Trees.{IsSeen, IsTreeOf};
+ghost use Rattle.checker.specs.Trees.{IsRootOf, IsSeen, IsTreeAt};
 ghost use Rattle.std.specs.Prelude.{◌+◌, ◌/◌, IsFalse, OnOk, Some, slice_get};
 ghost use Rattle.blocktree.specs.Trees.{IsSoundAt};
 ghost use Rattle.layout.specs.declared.kind.Kind.TheVariants as kinds;
@@ -27,7 +26,7 @@ ghost use Rattle.checker.specs.Rows.{LeadsToRow, LeadsToRows};
 ghost use Rattle.checker.specs.Seen.{KnowsSeen};
 ghost use Rattle.checker.specs.Tables.{IsKnown};
 ghost use Rattle.checker.specs.Names.{IsAllWalked, IsFirst, IsTable, IsUnnamed};
-ghost use Rattle.checker.specs.Walks.{GoesOn, HasCounted, HasCountedRows, HasFile, IsAwaited, IsOnWay, IsToCount, IsTreeAt, LooksInto};
+ghost use Rattle.checker.specs.Walks.{GoesOn, HasCounted, HasCountedRows, HasFile, IsAwaited, IsOnWay, IsToCount, LooksInto};
 
 use crate::error::{Halt, or_fault};
 use crate::owners::read_inode;
@@ -65,7 +64,7 @@ pub(crate) fn check_names<B: LetsGo>(
     ensures known { (disk : ℕ → List ℕ) → B.Shows blocks.old disk
         → IsKnown disk known.old → IsKnown disk known.new }
     ensures passes { (disk : ℕ → List ℕ) (r : Root) (marks : List ℕ) → B.Shows blocks.old disk
-        → IsKnown disk known.old → IsRoot r → r.geometry ≡ geometry → B.count blocks.old ≡ r.geometry.blocks
+        → IsKnown disk known.old → IsRootOf r geometry (B.count blocks.old)
         → IsSeen disk r marks tree.now → tree.now.fault ≡ None
         → Passes (λ _. HoldsGraph r.geometry.inodes (tree_in (whole disk r) tree.now.plane))
         (IsTreeFinding r (tree_in (whole disk r) tree.now.plane)) result }
@@ -93,10 +92,8 @@ fn walk<B: LetsGo>(
     requires below { AreBelow (B.count blocks.old) places.now }
     ensures reads { Looks B.Blocks IsHaltFault blocks.old blocks.new result }
     ensures table { vec_len table.new ≡ vec_len table.old }
-    ensures walked { (disk : ℕ → List ℕ) (r : Root) → B.Shows blocks.old disk → IsRoot r
-        → r.geometry ≡ geometry → B.count blocks.old ≡ r.geometry.blocks
-        → IsTreeOf disk r tree.now → LeadsToRows disk r tree.now places.now
-        → IsTreeGrammar r.geometry (tree_in (whole disk r) tree.now.plane)
+    ensures walked { (disk : ℕ → List ℕ) (r : Root) → B.Shows blocks.old disk
+        → IsTreeAt disk r geometry (B.count blocks.old) tree.now → LeadsToRows disk r tree.now places.now
         → IsTable r.geometry (tree_in (whole disk r) tree.now.plane) table.old.items
         → IsUnnamed table.old.items
         → Passes (λ _. (e : Entries) × (found : List ℕ)

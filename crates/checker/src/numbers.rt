@@ -12,9 +12,9 @@ ghost use Rattle.images.specs.BlockMap.{HasBit};
 ghost use Rattle.images.specs.Nodes.{file_block};
 ghost use Rattle.images.specs.Roots.{inode_part, whole};
 ghost use Rattle.checker.specs.Errors.{IsFault, Looks};
-ghost use Rattle.checker.specs.Nodes.{KeepsMarks, StaysFor};
+ghost use Rattle.checker.specs.Nodes.{KeepsMarks};
 ghost use Rattle.checker.specs.declared.nodes.Shared.{Shared};
-ghost use Rattle.checker.specs.Rows.{AddsToEach, AreAllBelow, ArePlacesOfTrees, AreReadAt, AreRows, AreSeenInBlock, AreSeenTo, AreTwins, ComparesBits, KeepsTrees, LeadsToRow, PlaneAt, SeesInode, row_added, rows_of};
+ghost use Rattle.checker.specs.Rows.{AddsToEach, AreAllBelow, ArePlacesOfTrees, AreReadAt, AreRows, AreSeenInBlock, AreSeenTo, AreTwins, ComparesBits, KeepsTrees, LeadsToRow, MarksTrees, SeesInode, row_added, rows_of};
 ghost use Rattle.checker.specs.Findings.{tree_in};
 ghost use Rattle.checker.specs.Trees.{IsOut, IsSeenTo};
 ghost use Rattle.checker.specs.declared.tree.Tree.{Tree};
@@ -49,10 +49,8 @@ pub(crate) fn check_numbers<B: LetsGo>(
     requires size { B.count blocks.old ≡ root.now.geometry.blocks }
     requires table { length marks.old ≡ root.now.geometry.blocks }
     ensures reads { Looks B.Blocks IsFault blocks.old blocks.new result }
-    ensures length { length marks.new ≡ length marks.old }
-    ensures trees { KeepsTrees trees.old.items trees.new.items }
-    ensures others { (k : ℕ) → ((i : ℕ) → PlaneAt trees.old.items i k → ⊥)
-        → StaysFor k marks.old marks.new shared.old.of shared.new.of }
+    ensures marked { MarksTrees trees.old.items trees.new.items marks.old marks.new
+        shared.old.of shared.new.of }
     ensures seen { (disk : ℕ → List ℕ) → B.Shows blocks.old disk
         → AreSeenTo disk root.now 0 marks.old shared.old.of trees.old.items
         → OnOk result (AreSeenTo disk root.now (div_ceil root.now.geometry.inodes INODES_PER_BLOCK)
@@ -104,10 +102,8 @@ fn check_block<B: LetsGo>(
     requires size { B.count blocks.old ≡ root.now.geometry.blocks }
     requires table { length marks.old ≡ root.now.geometry.blocks }
     ensures reads { Looks B.Blocks IsFault blocks.old blocks.new result }
-    ensures length { length marks.new ≡ length marks.old }
-    ensures trees { KeepsTrees trees.old.items trees.new.items }
-    ensures others { (k : ℕ) → ((j : ℕ) → PlaneAt trees.old.items j k → ⊥)
-        → StaysFor k marks.old marks.new shared.old.of shared.new.of }
+    ensures marked { MarksTrees trees.old.items trees.new.items marks.old marks.new
+        shared.old.of shared.new.of }
     ensures seen { (disk : ℕ → List ℕ) → B.Shows blocks.old disk
         → ArePlacesOfTrees (B.count blocks.old) disk trees.old.items places.now.items
         → AreSeenTo disk root.now i marks.old shared.old.of trees.old.items
@@ -225,10 +221,8 @@ fn check_number<B: LetsGo>(
     requires size { B.count blocks.old ≡ root.now.geometry.blocks }
     requires table { length marks.old ≡ root.now.geometry.blocks }
     ensures reads { Looks B.Blocks IsFault blocks.old blocks.new result }
-    ensures length { length marks.new ≡ length marks.old }
-    ensures trees { KeepsTrees trees.old.items trees.new.items }
-    ensures others { (k : ℕ) → ((i : ℕ) → PlaneAt trees.old.items i k → ⊥)
-        → StaysFor k marks.old marks.new shared.old.of shared.new.of }
+    ensures marked { MarksTrees trees.old.items trees.new.items marks.old marks.new
+        shared.old.of shared.new.of }
     ensures seen { (disk : ℕ → List ℕ) (i : ℕ) → B.Shows blocks.old disk
         → number ≡ INODES_PER_BLOCK * i + place
         → AreRows disk root.now i trees.old.items (rows_of rows.now)

@@ -4,14 +4,12 @@ ghost use Rattle.std.specs.Prelude.{◌≡◌, ◌≢◌, ◌<◌, ◌≤◌, �
 ghost use Rattle.layout.specs.Inode.{IsInode, inode_bytes};
 ghost use Rattle.layout.specs.Limits.{Sizes};
 ghost use Rattle.layout.specs.Pointer.{PointsBelow};
-ghost use Rattle.layout.specs.Root.{IsRoot};
 ghost use Rattle.layout.specs.declared.TheConstants.{INODES_PER_BLOCK};
 ghost use Rattle.layout.specs.declared.inode.Inode.{Inode};
 ghost use Rattle.layout.specs.declared.pointer.Pointer.TheVariants as pointers;
 ghost use Rattle.layout.specs.declared.root.Root.{Root};
 ghost use Rattle.layout.specs.declared.version.TheConstants.{VERSION};
 ghost use Rattle.blocktree.specs.PlaceMaps.{place_at};
-ghost use Rattle.images.specs.Faults.{IsTreeGrammar};
 ghost use Rattle.images.specs.Soundness.{IsFileGrammar};
 ghost use Rattle.images.specs.Nodes.{held};
 ghost use Rattle.images.specs.Roots.{inode_part, whole};
@@ -20,7 +18,7 @@ ghost use Rattle.loading.specs.InodeBlocks.{HasKindOfPlace};
 ghost use Rattle.checker.specs.Errors.{IsFault, Looks};
 ghost use Rattle.checker.specs.Findings.{StandsIn, tree_in};
 ghost use Rattle.checker.specs.Rows.{LeadsToRow};
-ghost use Rattle.checker.specs.Trees.{IsAloneAt, IsNode, IsOwner, IsTreeOf, SharesBlock};
+ghost use Rattle.checker.specs.Trees.{IsAloneAt, IsNode, IsOwner, IsTreeAt, SharesBlock};
 ghost use Rattle.checker.specs.declared.tree.Tree.{Tree};
 
 use crate::letting_go::read_block;
@@ -47,9 +45,8 @@ pub(crate) fn first_owner<B: LetsGo>(
     shared: &Shared,
 ) -> Result<FileNode, CheckError>
     ensures reads { Looks B.Blocks IsFault blocks.old blocks.new result }
-    ensures stands { (disk : ℕ → List ℕ) (r : Root) → B.Shows blocks.old disk → IsRoot r
-        → r.geometry ≡ geometry → B.count blocks.old ≡ geometry.blocks → IsTreeOf disk r tree.now
-        → IsTreeGrammar geometry (tree_in (whole disk r) tree.now.plane)
+    ensures stands { (disk : ℕ → List ℕ) (r : Root) → B.Shows blocks.old disk
+        → IsTreeAt disk r geometry (B.count blocks.old) tree.now
         → SharesBlock (tree_in (whole disk r) tree.now.plane) shared.now
         → IfOk result (λ node. StandsIn (tree_in (whole disk r) tree.now.plane) node shared.now.block
         × (node ≢ shared.now.second)) }
@@ -87,10 +84,9 @@ pub(crate) fn read_inode<B: LetsGo>(
     requires below { PointsBelow (B.count blocks.old) place }
     ensures reads { Looks B.Blocks IsFault blocks.old blocks.new result }
     ensures fits { IfOk result (λ found. IfSome found (IsInode VERSION geometry)) }
-    ensures is { (disk : ℕ → List ℕ) (r : Root) (tree : Tree) → B.Shows blocks.old disk → IsRoot r
-        → r.geometry ≡ geometry → IsTreeOf disk r tree
+    ensures is { (disk : ℕ → List ℕ) (r : Root) (tree : Tree) → B.Shows blocks.old disk
+        → IsTreeAt disk r geometry (B.count blocks.old) tree
         → LeadsToRow disk r (number / INODES_PER_BLOCK) tree place
-        → IsTreeGrammar geometry (tree_in (whole disk r) tree.plane)
         → IfOk result (λ found. found ≡ Some (tree_in (whole disk r) tree.plane number).inode) }
 {
     let Pointer::Block(at) = place else {

@@ -18,7 +18,7 @@ ghost use Rattle.checker.specs.Findings.{tree_in};
 ghost use Rattle.checker.specs.Names.{IsTable, IsUnnamed};
 ghost use Rattle.checker.specs.Rows.{LeadsToRows};
 ghost use Rattle.checker.specs.Tables.{ArePlaces, AreRowsAt, IsKnown};
-ghost use Rattle.checker.specs.Walks.{IsTreeAt};
+ghost use Rattle.checker.specs.Trees.{IsTreeAt};
 ghost use Rattle.checker.specs.declared.error.CheckError.TheVariants as check;
 
 use crate::letting_go::read_block;

@@ -1,8 +1,9 @@
 -- The snapshots of a root, slot by slot.
-use Rattle.std.proofs.Common.{◌≡◌, ◌<◌, ◌-◌, ◌↔◌, ◌++◌, length, ℕ, suc, Bool, true, false, not, eqb, Decides, refl, List, Some, sym, ap, arith, ◌∙◌}
-use Rattle.std.specs.Prelude.{◌≢◌, IsTrue}
+use Rattle.std.proofs.Common.{◌≡◌, ◌<◌, ◌-◌, ◌↔◌, ◌++◌, length, ℕ, zero, suc, Bool, true, false, not, eqb, Decides, refl, List, Some, sym, ap, subst, inl, inr, arith, ◌∙◌}
+use Rattle.std.specs.Prelude.{◌≢◌, IsTrue, slice_index_or}
+use Rattle.std.proofs.lemmas.Bool.{cases_lt, cases_eq}
 use Rattle.std.proofs.lemmas.Bool.Decides.{nat_tests}
-use Rattle.std.proofs.lemmas.List.{length-append}
+use Rattle.std.proofs.lemmas.List.{get_or_past, length-append}
 use Rattle.layout.specs.Bytes.{little, zeros}
 use Rattle.layout.specs.Inode.{inode_bytes}
 use Rattle.layout.specs.Limits.{Sizes}
@@ -11,13 +12,14 @@ use Rattle.layout.specs.SnapRoot.{Snapshot, IsSnapshot, snapshot_bytes, snapshot
 use Rattle.layout.specs.declared.pointer.Pointer.{Pointer}
 use Rattle.layout.specs.declared.pointer.Pointer.TheVariants.{Hole, Block}
 use Rattle.layout.specs.declared.root.Root.{Root}
+use Rattle.layout.specs.declared.version.TheConstants.{SNAPSHOT_SLOTS}
 use Rattle.layout.proofs.InodeLaws.{length-inode}
 use Rattle.layout.proofs.NumberLaws.{length-little}
 use Rattle.layout.proofs.ZeroLaws.{length-zeros}
 use Rattle.buffers.specs.Disks.{IsWhole}
 use Rattle.images.specs.Roots.{frozen_inode_file, slot, whole}
-use Rattle.images.specs.Snapshots.{AreSnapshots, HasSnapshot}
-use Rattle.loading.specs.Snapshots.{AreOfTwoSnapshots, AreApartAt, IsSnapshotAt}
+use Rattle.images.specs.Snapshots.{AreSnapshots, FitsRoot, HasSnapshot}
+use Rattle.loading.specs.Snapshots.{AreOfTwoSnapshots, AreApartAt, FitsSlot, IsSnapshotAt, IsSnapshotBlock}
 
 -- ---- how many bytes they have
 
@@ -54,20 +56,90 @@ at_slot disk r k (Block b) are is =
     let one = are.each (suc k) b is in
     record { snapshot = one.0; is = one.2.is; spelled = sym (ap (pointed disk) is) ∙ one.2.spelled; order = one.2.order; inode_file = one.2.inode_file }
 
--- two slots have snapshots of different names and orders
-module _ (disk : Blocks) (r : Root) (are : AreSnapshots r (whole disk r))
-    (spells : (v : Snapshot) → IsSnapshot v → (snapshot_in (snapshot_bytes v) ≡ Some v) × (frozen_inode_file (snapshot_bytes v) ≡ v.inode_file)) where
-  has : (k b : ℕ) (s : Snapshot) → slot r k ≡ Block b → IsSnapshot s → disk b ≡ snapshot_bytes s → HasSnapshot r (whole disk r) k s
-  unfolding whole
-  has k b s there is spelled = record { block = b; there = there; read = ap snapshot_in (ap (pointed disk) there ∙ spelled) ∙ (spells s is).0 }
+-- the snapshots' root blocks are read as they are spelled
+abbrev pub Spells : Type 0
+Spells =
+    (v : Snapshot) → IsSnapshot v
+    → (snapshot_in (snapshot_bytes v) ≡ Some v)
+    × (frozen_inode_file (snapshot_bytes v) ≡ v.inode_file)
 
+-- a slot whose block spells a snapshot has it
+has : (disk : Blocks) (r : Root) → Spells → (k b : ℕ) (s : Snapshot) → slot r k ≡ Block b → IsSnapshot s → disk b ≡ snapshot_bytes s → HasSnapshot r (whole disk r) k s
+unfolding whole
+has disk r spells k b s there is spelled = record { block = b; there = there; read = ap snapshot_in (ap (pointed disk) there ∙ spelled) ∙ (spells s is).0 }
+
+-- two slots have snapshots of different names and orders
+module _ (disk : Blocks) (r : Root) (are : AreSnapshots r (whole disk r)) (spells : Spells) where
   pub apart : (l k : ℕ) (p q : Pointer) → l < k → slot r (suc l) ≡ p → slot r (suc k) ≡ q → AreApartAt disk p q
   apart l k Hole q lt first second = tt
   apart l k (Block a) Hole lt first second = tt
   apart l k (Block a) (Block b) lt first second = λ s t is_s is_t at_s at_t. (
-    λ same. absurd (omega (arith, lt, are.names (suc l) (suc k) s t (has (suc l) a s first is_s at_s) (has (suc k) b t second is_t at_t) same)),
-    λ same. absurd (omega (arith, lt, are.orders (suc l) (suc k) s t (has (suc l) a s first is_s at_s) (has (suc k) b t second is_t at_t) same)),
+    λ same. absurd (omega (arith, lt, are.names (suc l) (suc k) s t (has disk r spells (suc l) a s first is_s at_s) (has disk r spells (suc k) b t second is_t at_t) same)),
+    λ same. absurd (omega (arith, lt, are.orders (suc l) (suc k) s t (has disk r spells (suc l) a s first is_s at_s) (has disk r spells (suc k) b t second is_t at_t) same)),
   )
+
+-- ---- slots that were tested
+
+module _ (disk : Blocks) (r : Root) (count : length r.snapshots ≡ SNAPSHOT_SLOTS) (spells : Spells) (fits : (k : ℕ) → k < SNAPSHOT_SLOTS → FitsSlot disk r k) where
+  within : (k b : ℕ) → slice_index_or r.snapshots k Hole ≡ Block b → k < SNAPSHOT_SLOTS
+  within k b is = elim (cases_lt k SNAPSHOT_SLOTS) [
+    | inl low ↦ low
+    | inr past ↦ (let none : Hole ≡ Block b = sym (get_or_past r.snapshots k Hole (omega (arith, past, count))) ∙ is in absurd (cc))
+  ]
+
+  block_at : (k b : ℕ) → slice_index_or r.snapshots k Hole ≡ Block b → IsSnapshotBlock r.geometry r.generation (disk b)
+  block_at k b is = subst (IsSnapshotAt r.geometry r.generation disk) is (fits k (within k b is)).0
+
+  each : (k b : ℕ) → slot r k ≡ Block b → (s : Snapshot) × HasSnapshot r (whole disk r) k s × FitsRoot r ((whole disk r).head k) s
+  unfolding whole
+  each zero b is = let none : Hole ≡ Block b = is in absurd (cc)
+  each (suc k) b is =
+      let at = block_at k b is in (
+        at.snapshot,
+        has disk r spells (suc k) b at.snapshot is at.is at.spelled,
+        record { is = at.is; spelled = ap (pointed disk) is ∙ at.spelled; order = at.order; inode_file = at.inode_file },
+      )
+
+  -- what a slot has is what its block spells
+  spelled_at : (k : ℕ) (s : Snapshot) (there : HasSnapshot r (whole disk r) (suc k) s) → IsSnapshot s × (disk there.block ≡ snapshot_bytes s)
+  unfolding whole
+  spelled_at k s there =
+      let at = block_at k there.block there.there in
+      let read : snapshot_in (disk there.block) ≡ Some s = sym (ap (λ (p : Pointer). snapshot_in (pointed disk p)) there.there) ∙ there.read in
+      let one : Some at.snapshot ≡ Some s = sym (spells at.snapshot at.is).0 ∙ sym (ap snapshot_in at.spelled) ∙ read in
+      let same : at.snapshot ≡ s = cc in
+      (subst IsSnapshot same at.is, at.spelled ∙ ap snapshot_bytes same)
+
+  differ : (k l : ℕ) (s q : Snapshot) → l < k → HasSnapshot r (whole disk r) (suc l) s → HasSnapshot r (whole disk r) (suc k) q → (s.name ≡ q.name → ⊥) × (s.order ≡ q.order → ⊥)
+  differ k l s q lt first second =
+      let one = spelled_at l s first in
+      let two = spelled_at k q second in
+      let apart : AreApartAt disk (slice_index_or r.snapshots l Hole) (slice_index_or r.snapshots k Hole) = (fits k (within k second.block second.there)).1 l lt in
+      let blocks : AreApartAt disk (Block first.block) (Block second.block) =
+      subst (λ (p : Pointer). AreApartAt disk (Block first.block) p) second.there (subst (λ (p : Pointer). AreApartAt disk p (slice_index_or r.snapshots k Hole)) first.there apart) in
+      blocks s q one.0 two.0 one.1 two.1
+
+  none_first : (k : ℕ) (s : Snapshot) → HasSnapshot r (whole disk r) zero s → ⊥
+  none_first k s there = let none : Hole ≡ Block there.block = there.there in cc
+
+  only : (P : Snapshot → Snapshot → Type 0) → ((k l : ℕ) (s q : Snapshot) → l < k → HasSnapshot r (whole disk r) (suc l) s → HasSnapshot r (whole disk r) (suc k) q → P s q → ⊥)
+      → ((s q : Snapshot) → P s q → P q s) → (k l : ℕ) (s q : Snapshot) → HasSnapshot r (whole disk r) k s → HasSnapshot r (whole disk r) l q → P s q → k ≡ l
+  only P apart turned zero l s q first second same = absurd (none_first l s first)
+  only P apart turned (suc k) zero s q first second same = absurd (none_first k q second)
+  only P apart turned (suc k) (suc l) s q first second same = elim (cases_eq k l) [
+    | inl is ↦ ap (λ (n : ℕ). suc n) is
+    | inr other ↦ elim (cases_lt k l) [
+      | inl low ↦ absurd (apart l k s q low first second same)
+      | inr high ↦ absurd (apart k l q s (omega (arith, high, other)) second first (turned s q same))
+    ]
+  ]
+
+  pub are_snapshots : AreSnapshots r (whole disk r)
+  are_snapshots = record {
+    each = each;
+    names = only (λ s q. s.name ≡ q.name) (λ k l s q lt first second. (differ k l s q lt first second).0) (λ s q same. sym same);
+    orders = only (λ s q. s.order ≡ q.order) (λ k l s q lt first second. (differ k l s q lt first second).1) (λ s q same. sym same);
+  }
 
 -- whether two blocks are apart, by the snapshots that they spell
 pub as_spelled : (a b : List ℕ) (v w : Snapshot) → IsSnapshot v → IsSnapshot w → a ≡ snapshot_bytes v → b ≡ snapshot_bytes w

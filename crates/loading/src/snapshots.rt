@@ -19,19 +19,15 @@ use buffers::Blocks;
 use images::snapshots_are_what_their_bytes_spell;
 use layout::{BLOCK_BYTES, Pointer, Root, SNAPSHOT_SLOTS, SnapRoot, VERSION};
 
-/// Tests the root block of each snapshot of a root: `Damaged` where one is no snapshot's root in an image of these sizes, or has an
-/// order above the root's generation, and where two have one name or one order.
+/// Tests the root block of each snapshot of a root: `Damaged` where one is no snapshot's root in an image of
+/// these sizes, or has an order above the root's generation, and where two have one name or one order. So
+/// after Ok each slot that isn't free has a snapshot.
 pub fn check_snapshots<B: Blocks>(blocks: &mut B, root: &Root) -> Result<(), ReadError>
     requires root { IsRoot root.now }
     requires size { B.count blocks.old ≡ root.now.geometry.blocks }
     ensures reads { ReadsBlocks B.Blocks IsFault blocks.old blocks.new result }
-    ensures are { (disk : ℕ → List ℕ) → B.Shows blocks.old disk → OnOk result ((k : ℕ)
-        → k < SNAPSHOT_SLOTS → IsSnapshotAt root.now.geometry root.now.generation disk
-        (slice_index_or root.now.snapshots k Hole)) }
-    ensures apart { (disk : ℕ → List ℕ) → B.Shows blocks.old disk
-        → OnOk result ((k l : ℕ) → k < SNAPSHOT_SLOTS → l < k
-        → AreApartAt disk (slice_index_or root.now.snapshots l Hole)
-        (slice_index_or root.now.snapshots k Hole)) }
+    ensures snapshots { (disk : ℕ → List ℕ) → B.Shows blocks.old disk
+        → OnOk result (AreSnapshots root.now (whole disk root.now)) }
     ensures damaged { (disk : ℕ → List ℕ) → B.Shows blocks.old disk
         → IsErrOf result ReadError.Damaged → AreSnapshots root.now (whole disk root.now) → ⊥ }
 {

@@ -34,8 +34,7 @@ use Rattle.std.specs.Result.{IsErrAnd}
 use Rattle.buffers.specs.declared.blocks.Blocks.{Ghosts}
 use Rattle.conspoint.specs.Steps.{Takes}
 use Rattle.conspoint.proofs.StepLemmas.{no_error, same_error}
-use Rattle.placement.specs.Steps.{PlacesFile}
-use Rattle.placement.specs.declared.file.PlacedFile.{PlacedFile}
+use Rattle.placement.specs.Steps.{ReadsAndPlaces}
 use Rattle.placement.proofs.OneLaws.{among, one_of}
 
 -- a file of the system's own, over nothing
@@ -107,12 +106,12 @@ shortage Device device damaged = (let grown = device refl in absurd (omega (arit
 shortage Damaged device damaged = damaged refl
 
 -- a file that is placed over nothing takes so many blocks
-pub placed_takes : {B T : Type 0} {G : Ghosts B} {f : T → PlacedFile} {v : T} {n k : ℕ} {x y : B} {a b : Draft} → PlacesFile G n f x y a b (Ok v) → n ≤ k → Takes k a b (Ok v)
+pub placed_takes : {B T : Type 0} {G : Ghosts B} {v : T} {n k : ℕ} {x y : B} {a b : Draft} → ReadsAndPlaces G n x y a b (Ok v) → n ≤ k → Takes k a b (Ok v)
 placed_takes step le = record { grows = step.grows; others = step.others; takes = omega (arith, le, step.takes); lacks = λ bad. no_error NoSpace bad; shortage = tt }
 
 -- and where it isn't placed, so many aren't left
-pub placed_fails : {B T U : Type 0} {G : Ghosts B} {f : T → PlacedFile} {e : PlanError} {n k : ℕ} {x y : B} {a b : Draft} (q : Result U PlanError) → IsErrAnd q (λ g. g ≡ e) → IsShortage e
-    → PlacesFile G n f x y a b (Err e) → n ≤ k → Takes k a b q
+pub placed_fails : {B T U : Type 0} {G : Ghosts B} {e : PlanError} {n k : ℕ} {x y : B} {a b : Draft} (q : Result U PlanError) → IsErrAnd q (λ g. g ≡ e) → IsShortage e
+    → ReadsAndPlaces {T = T} G n x y a b (Err e) → n ≤ k → Takes k a b q
 placed_fails (Ok w) is short step le = absurd is
 placed_fails {e = e} (Err g) is short step le = record {
   grows = step.grows;

@@ -1,15 +1,14 @@
 -- A new image opens to an empty state.
-use Rattle.std.proofs.Common.{◌≡◌, inl, inr, ℕ, ◌*◌, ◌<◌, ◌≤◌, List, [], ◌∷◌, length, refl, ap, sym, ◌∙◌, subst, arith}
-use Rattle.std.specs.Prelude.{All, replicate, slice_index}
+use Rattle.std.proofs.Common.{◌≡◌, inl, inr, ℕ, ◌*◌, ◌<◌, List, [], ◌∷◌, length, refl, ap, sym, ◌∙◌, subst, arith}
+use Rattle.std.specs.Prelude.{replicate, slice_index}
 use Rattle.station.specs.Images.{Images}
 use Rattle.model.specs.States.{empty}
 use Rattle.layout.specs.Limits.{Sizes}
 use Rattle.layout.specs.Log.{LogHolds, IsUnopened, IsOpenFor, IsClosed, half_at}
 use Rattle.layout.specs.Opens.{IsNewest}
-use Rattle.layout.specs.Places.{Blocks, blocks_of}
-use Rattle.layout.specs.Root.{IsRoot, root_bytes, head_bytes}
+use Rattle.layout.specs.Places.{blocks_of}
+use Rattle.layout.specs.Root.{root_bytes, head_bytes}
 use Rattle.layout.specs.declared.TheConstants.{SLOT_A, SLOT_B}
-use Rattle.layout.specs.declared.numbers.TheConstants.{FIRST_GENERATION}
 use Rattle.layout.specs.declared.root.Root.{Root}
 use Rattle.images.specs.FirstRoots.{root_alone_volume}
 use Rattle.images.specs.Roots.{whole}
@@ -18,6 +17,7 @@ use Rattle.conspoint.specs.Cuts.{IsOutside}
 use Rattle.conspoint.specs.Drafts.{HasAll}
 use Rattle.conspoint.specs.Plans.{Planned}
 use Rattle.making.specs.Images.{HasClosedHalves, HoldsMade, IsWritten}
+use Rattle.making.specs.Plans.{IsFirstPoint}
 
 -- a root begins with a letter, so no root is all zeros
 zeros_no_root : (r : Root) → replicate 512 0 ≡ root_bytes r → {X : Type 0} → X
@@ -44,18 +44,7 @@ empty_log half g nvram is size closed = subst (λ (n : ℕ). LogHolds half n nvr
       not_open = λ rest is. closed_not_open epoch (half_at half r nvram) rest (closed r low) is;
     }
 
--- the plan of a first consistency point
-pub record IsFirstPlan (s : Sizes) (p : Planned) (r : Root) : Type 0 where
-  pub slot : p.slot ≡ SLOT_A
-  pub bytes : p.root ≡ root_bytes r
-  pub behind : All (λ b. 2 ≤ b.place) p.blocks
-  pub root : IsRoot r
-  pub generation : r.generation ≡ FIRST_GENERATION
-  pub geometry : r.geometry ≡ s
-  pub holds : (e : Blocks) → HasAll e p.blocks → Holds r (whole e r) root_alone_volume []
-  pub room : (e : Blocks) → HasAll e p.blocks → HasReserve r (whole e r) root_alone_volume []
-
-module _ (s : Sizes) (p : Planned) (r : Root) (is : IsFirstPlan s p r) (c : Images) (w : IsWritten s.half p c) where
+module _ (s : Sizes) (p : Planned) (r : Root) (is : IsFirstPoint s p r) (c : Images) (w : IsWritten s.half p c) where
   in_a : c.disk SLOT_A ≡ root_bytes r
   in_a = ap c.disk (sym is.slot) ∙ w.written.root ∙ is.bytes
 

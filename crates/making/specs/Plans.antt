@@ -1,22 +1,29 @@
 -- The files of a new image, planned.
-use Rattle.std.specs.Prelude.{ℕ, ◌≡◌, ◌≢◌, ◌⊎◌, ◌↔◌, ◌/◌, ◌%◌, ◌<◌, ◌≤◌, length, Bool, true, ◌==◌, if◌then◌else◌}
+use Rattle.std.specs.Prelude.{ℕ, ◌≡◌, ◌≢◌, ◌⊎◌, ◌↔◌, ◌*◌, ◌/◌, ◌%◌, ◌<◌, ◌≤◌, All, [], length, Bool, true, ◌==◌, if◌then◌else◌}
 use Rattle.std.specs.Int.{bit_at, div_ceil}
 use Rattle.layout.specs.Bytes.{zeros}
 use Rattle.layout.specs.Limits.{Sizes}
 use Rattle.layout.specs.Maps.{IsTaken, map_entry}
 use Rattle.layout.specs.Places.{Blocks}
-use Rattle.layout.specs.declared.TheConstants.{BLOCK_POINTERS}
+use Rattle.layout.specs.Root.{IsRoot, root_bytes}
+use Rattle.layout.specs.declared.TheConstants.{BLOCK_POINTERS, SLOT_A}
 use Rattle.layout.specs.declared.inode.Inode.{Inode}
 use Rattle.layout.specs.declared.kind.Kind.TheVariants as kinds
+use Rattle.layout.specs.declared.numbers.TheConstants.{FIRST_GENERATION}
+use Rattle.layout.specs.declared.root.Root.{Root}
+use Rattle.layout.specs.declared.version.TheConstants.{VERSION}
 use Rattle.model.specs.declared.limits.TheConstants.{FIRST_NUMBER}
 use Rattle.blockmap.specs.Maps.{IsTouched, entry_at, settled_at}
-use Rattle.conspoint.specs.Drafts.{OnEach, WasTaken}
+use Rattle.conspoint.specs.Drafts.{HasAll, OnEach, WasTaken}
+use Rattle.conspoint.specs.Plans.{FitsDisk, Planned}
 use Rattle.conspoint.specs.declared.draft.Draft.{Draft}
 use Rattle.images.specs.BlockMap.{HasBit, entry}
 use Rattle.images.specs.Contents.{content_bytes, content_of}
-use Rattle.images.specs.FirstRoots.{IsFirstTree, first_tree}
+use Rattle.images.specs.FirstRoots.{IsFirstTree, first_tree, root_alone_volume}
 use Rattle.images.specs.Nodes.{held, Names, IsOnce, file_block}
+use Rattle.images.specs.Roots.{whole}
 use Rattle.images.specs.Soundness.{HasNoHole, IsSoundFile}
+use Rattle.images.specs.States.{HasReserve, Holds}
 use Rattle.making.specs.Starts.{system_entry}
 
 -- on a disk e the file of this inode is in its grammar and stands in just these blocks, each for one node
@@ -72,3 +79,18 @@ pub record HasTree (s : Sizes) (d : Draft) (top : Inode) : Type 0 where
   pub tree : OnEach d (λ e. IsFirstTree s e top numbers map)
   pub free : OnEach d (λ e. (b : ℕ) → d.map.next ≤ b → entry (first_tree e top numbers map) b ≡ 0)
   pub kind : top.kind ≡ kinds.InodeFile
+
+-- The first consistency point of an image of these sizes, of which nothing is written: its root, of the first generation and for slot A,
+-- leads to the root directory alone on each disk that has the planned blocks.
+pub record IsFirstPoint (s : Sizes) (p : Planned) (r : Root) : Type 0 where
+  pub none : p.written ≡ 0
+  pub slot : p.slot ≡ SLOT_A
+  pub bytes : p.root ≡ root_bytes r
+  pub fits : (sectors : ℕ) → 16 ≤ sectors → 8 * s.blocks ≤ sectors → FitsDisk sectors p
+  pub behind : All (λ b. 2 ≤ b.place) p.blocks
+  pub root : IsRoot r
+  pub generation : r.generation ≡ FIRST_GENERATION
+  pub geometry : r.geometry ≡ s
+  pub version : r.version ≡ VERSION
+  pub holds : (e : Blocks) → HasAll e p.blocks → Holds r (whole e r) root_alone_volume []
+  pub room : (e : Blocks) → HasAll e p.blocks → HasReserve r (whole e r) root_alone_volume []

@@ -1,24 +1,16 @@
 //! The first consistency point, planned.
 
-ghost use Rattle.std.specs.Prelude.{◌≡◌, ℕ, ◌+◌, ◌*◌, ◌<◌, ◌≤◌, All, IfErr, IfOk, IsErrOf, OnOk, [], length};
+ghost use Rattle.std.specs.Prelude.{◌≡◌, ℕ, ◌+◌, ◌≤◌, IfErr, IfOk, IsErrOf, OnOk, length};
 ghost use Rattle.std.specs.Int.{div_ceil};
-ghost use Rattle.layout.specs.Places.{Blocks};
-ghost use Rattle.layout.specs.Root.{IsRoot, root_bytes};
-ghost use Rattle.layout.specs.declared.TheConstants.{BLOCK_POINTERS, SLOT_A};
-ghost use Rattle.layout.specs.declared.numbers.TheConstants.{FIRST_GENERATION};
+ghost use Rattle.layout.specs.declared.TheConstants.{BLOCK_POINTERS};
 ghost use Rattle.layout.specs.declared.pointer.Pointer.TheVariants.{Hole};
-ghost use Rattle.layout.specs.declared.version.TheConstants.{VERSION};
 ghost use Rattle.buffers.specs.Disks.{IsWhole};
-ghost use Rattle.conspoint.specs.Drafts.{Grows, HasAll, IsReserved, IsShortage, OnEach};
+ghost use Rattle.conspoint.specs.Drafts.{Grows, IsReserved, IsShortage, OnEach};
 ghost use Rattle.conspoint.specs.Groups.{pointer_at};
 ghost use Rattle.conspoint.specs.MapFiles.{map_nodes};
-ghost use Rattle.conspoint.specs.Plans.{FitsDisk};
-ghost use Rattle.conspoint.specs.Space.{Lacks, TakesAtMost};
-ghost use Rattle.images.specs.FirstRoots.{root_alone_volume};
-ghost use Rattle.images.specs.Roots.{whole};
-ghost use Rattle.images.specs.States.{HasReserve, Holds};
+ghost use Rattle.conspoint.specs.Space.{TakesAtMost};
 ghost use Rattle.making.specs.Space.{NUMBERS_STORES, TOP_STORES};
-ghost use Rattle.making.specs.Plans.{HasFile, HasFileOn, HasTree, IsDraftMapOn, IsNumbersOn, IsPlacedOver, IsTopOn};
+ghost use Rattle.making.specs.Plans.{HasFile, HasFileOn, HasTree, IsDraftMapOn, IsFirstPoint, IsNumbersOn, IsPlacedOver, IsTopOn};
 ghost use Rattle.making.specs.Starts.{IsEmptyMap};
 ghost use Rattle.conspoint.specs.Steps.{Takes};
 
@@ -109,15 +101,10 @@ fn no_nodes(alloc: Global, blocks: usize) -> Result<Vec<Pointer>, AllocError>
 /// Places the block map, all of whose blocks are to be stored.
 fn place_map(alloc: Global, draft: &mut Draft, geometry: Geometry) -> Result<Inode, PlanError>
     requires start { IsPlacedOver geometry.blocks draft.old }
-    ensures grows { Grows draft.old draft.new }
-    ensures others { (p : ℕ) → IsReserved draft.old p → IsReserved draft.new p }
+    ensures step { Takes (map_nodes (div_ceil geometry.blocks BLOCK_POINTERS))
+        draft.old draft.new result }
     ensures file { IfOk result (HasFile geometry draft.old draft.new) }
     ensures map { IfOk result (λ f. OnEach draft.new (λ e. IsDraftMapOn e draft.new f)) }
-    ensures takes { OnOk result (TakesAtMost
-        (map_nodes (div_ceil geometry.blocks BLOCK_POINTERS)) draft.old draft.new) }
-    ensures lacks { IsErrOf result PlanError.NoSpace
-        → Lacks (map_nodes (div_ceil geometry.blocks BLOCK_POINTERS)) draft.old }
-    ensures shortage { IfErr result IsShortage }
 {
     written_disks_have_the_blocks();
     let _ = geometry.blocks();
@@ -151,20 +138,7 @@ fn plan_files(alloc: Global, draft: &mut Draft, geometry: Geometry) -> Result<In
 /// Plans the first consistency point of an image of this geometry: every place and every byte of it, and its root, of generation
 /// 1 and for slot A. Nothing is read and nothing is written. `NoMemory` is the only error: the least disk has room for it.
 pub fn plan_first(alloc: Global, geometry: Geometry) -> Result<FirstPoint, PlanError>
-    ensures none { IfOk result (λ p. p.plan.written ≡ 0) }
-    ensures slot { IfOk result (λ p. p.plan.slot ≡ SLOT_A) }
-    ensures bytes { IfOk result (λ p. p.plan.root ≡ root_bytes p.root) }
-    ensures fits { (sectors : ℕ) → 16 ≤ sectors → 8 * geometry.blocks ≤ sectors
-        → IfOk result (λ p. FitsDisk sectors p.plan) }
-    ensures behind { IfOk result (λ p. All (λ b. 2 ≤ b.place) p.plan.blocks) }
-    ensures root { IfOk result (λ p. IsRoot p.root) }
-    ensures generation { IfOk result (λ p. p.root.generation ≡ FIRST_GENERATION) }
-    ensures geometry { IfOk result (λ p. p.root.geometry ≡ geometry) }
-    ensures version { IfOk result (λ p. p.root.version ≡ VERSION) }
-    ensures holds { IfOk result (λ p. (e : Blocks) → HasAll e p.plan.blocks
-        → Holds p.root (whole e p.root) root_alone_volume []) }
-    ensures room { IfOk result (λ p. (e : Blocks) → HasAll e p.plan.blocks
-        → HasReserve p.root (whole e p.root) root_alone_volume []) }
+    ensures point { IfOk result (λ p. IsFirstPoint geometry p.plan p.root) }
     ensures memory { IfErr result (λ e. e ≡ PlanError.NoMemory) }
 {
     first_roots_hold();

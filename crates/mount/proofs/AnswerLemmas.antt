@@ -1,6 +1,6 @@
 -- What a file system promises of a command, by the way that it is answered.
 use Rattle.std.proofs.Common.{◌≡◌, ◌≢◌, ◌⊎◌, inl, inr, ℕ, ◌+◌, ◌*◌, ◌≤◌, ◌^◌, List, [], ◌∷◌, Option, Some, None, Bool, false, Result, Ok, Err, refl, ap, sym, subst, ◌∙◌, arith}
-use Rattle.std.specs.Prelude.{IsErrOf, IsFalse, IsTrue, is_none}
+use Rattle.std.specs.Prelude.{IsErrOf, IsFalse, IsTrue}
 use Rattle.std.proofs.lemmas.Bool.{cases_lt, false≢true}
 use Rattle.station.specs.Calls.{Uses}
 use Rattle.station.specs.Moments.{EachCut, Meaning}
@@ -8,23 +8,18 @@ use Rattle.station.specs.declared.station.Station.{Ghosts}
 use Rattle.station.proofs.Calls.{uses_none, uses_twice}
 use Rattle.station.proofs.Moments.{same_none, unchanged_none}
 use Rattle.model.specs.Circumstances.{IsShortFor, IsSure}
-use Rattle.model.specs.Paths.{Name, first_refusal}
 use Rattle.model.specs.Replies.{IsReplyTo}
-use Rattle.model.specs.Room.{Need, Room, a_restore, a_snapshot, cost, fixed_of, keep, logs, nothing}
-use Rattle.model.specs.Steps.{Step, frozen, has_open_below, passing, restores, says, take_tests, takes}
-use Rattle.model.specs.declared.limits.TheConstants.{OPEN_FILES}
-use Rattle.model.specs.declared.command.Command.TheVariants as commands
+use Rattle.model.specs.Room.{Room, cost, fixed_of, keep, logs}
 use Rattle.model.specs.States.{State}
 use Rattle.model.specs.declared.command.Command.{Command}
 use Rattle.model.specs.declared.errno.Errno.{Errno}
-use Rattle.model.specs.declared.errno.Errno.TheVariants.{EBUSY, EIO, ENOSPC, FAILED, NOSNAP}
+use Rattle.model.specs.declared.errno.Errno.TheVariants.{EIO, ENOSPC, FAILED}
 use Rattle.model.specs.declared.reply.Reply.{Reply}
 use Rattle.model.specs.declared.reply.Reply.TheVariants.{Refused}
 use Rattle.system.specs.Counting.{AgesBy, Counted, Failed, LogsNothing, beside_reads, call_error_failed, perhaps_reads}
 use Rattle.system.specs.Images.{OpensTo}
-use Rattle.system.specs.Restoring.{KeepsNameless}
-use Rattle.system.specs.Room.{HasRoomBesides, HasRoomToTake}
-use Rattle.system.specs.Serving.{HasEmptyLog, IsCall, LacksRoom, ServesState, WouldChange}
+use Rattle.system.specs.Serving.{HasEmptyLog, IsCall, LacksRoom, ServesState}
+use Rattle.system.specs.Settling.{IsRoomOf}
 use Rattle.system.specs.Slicing.{Fulfils}
 use Rattle.system.specs.Systems as systems
 use Rattle.system.specs.declared.error.CallError.{CallError}
@@ -35,7 +30,7 @@ use Rattle.mount.specs.Applying.{AnswersCommand, Attempts, IsAppliedAt, KeepsSta
 use Rattle.mount.specs.Refusals.{errno_of_call, fails_call}
 use Rattle.mount.specs.Systems.{HasGenerations, HasPoints, Serves, mounted}
 use Rattle.mount.specs.declared.fs.Fs.{Fs}
-use Rattle.mount.proofs.AttemptLemmas.{IsRoomOf, after_stay, answered_as, called, not_answered, short, stays_by, stays_read, still_going}
+use Rattle.mount.proofs.AttemptLemmas.{after_stay, answered_as, called, not_answered, short, stays_by, stays_read, still_going}
 use Rattle.mount.proofs.CountLemmas.{call_eio, call_not_failed, call_refuses, call_written, failed_after, refused_same}
 use Rattle.mount.proofs.LogLemmas.{LogsOf, call_logs, refused_logs}
 
@@ -167,52 +162,6 @@ short_by f s command lacks room is = (
   ),
 )
 
--- a command that isn't refused by its tests needs what it does
-needs_it : (s : State) (tests : List (Bool × Errno)) (reply : Reply) (after : State) (need it : Need) (done : Step) → ((reply : Reply) (after : State) (need : Need) → done reply after need → need ≡ it)
-    → passing s tests done reply after need → need ≢ nothing → need ≡ it
-needs_it s tests reply after need it done is step needs = by_first (first_refusal tests) step
-  where
-    by_first : (first : Option Errno) → (elim first as (λ _. Step) [ Some errno ↦ says s (Refused errno) | None ↦ done ]) reply after need → need ≡ it
-    by_first (Some errno) said = absurd (needs said.2)
-    by_first None step = is reply after need step
-
--- `snap take` is short for a snapshot where the disk has no room
-pub short_to_take : {S : Type 0} {G : Ghosts S} (f : System S G) (s : State) (name : Name) → WouldChange s (commands.SnapTake name) → (HasRoomToTake f → ⊥)
-    → (room : Room) → IsRoomOf f room → IsShortFor room s (commands.SnapTake name)
-short_to_take f s name would lacks room is =
-    let need = needs_it s (take_tests s name) would.reply would.after (would.need room) a_snapshot _ (λ reply after need step. step.2) (would.step room) (would.needs room) in (
-      would.reply,
-      would.after,
-      a_snapshot,
-      subst (λ (n : Need). takes s name would.reply would.after n) need (would.step room),
-      (
-        is.covered,
-        elim (cases_lt f.free (f.pledged + 2 * fixed_of f.root.geometry.blocks + 1)) [
-          | inl lt ↦ omega (arith, lt, is.free, is.pledged, ap fixed_of is.blocks)
-          | inr ge ↦ absurd (lacks ge)
-        ],
-      ),
-    )
-
--- and `snap restore` for what the snapshot's files without names ask for, too
-pub short_to_restore : {S : Type 0} {G : Ghosts S} (f : System S G) (s : State) (name : Name) → WouldChange s (commands.SnapRestore name) → (nameless : ℕ) → KeepsNameless f name nameless
-    → (HasRoomBesides f nameless → ⊥) → (room : Room) → IsRoomOf f room → IsShortFor room s (commands.SnapRestore name)
-short_to_restore f s name would nameless kept lacks room is =
-    let need = needs_it s ((is_none (frozen s name), NOSNAP) ∷ (has_open_below s.tree OPEN_FILES, EBUSY) ∷ []) would.reply would.after (would.need room) (a_restore (room.nameless_of name)) _
-    (λ reply after need step. step.2) (would.step room) (would.needs room) in (
-      would.reply,
-      would.after,
-      a_restore (room.nameless_of name),
-      subst (λ (n : Need). restores room s name would.reply would.after n) need (would.step room),
-      (
-        is.covered,
-        elim (cases_lt f.free (f.pledged + 2 * fixed_of f.root.geometry.blocks + 1 + 4 * nameless)) [
-          | inl lt ↦ omega (arith, lt, is.free, is.pledged, ap fixed_of is.blocks, is.nameless name nameless kept)
-          | inr ge ↦ absurd (lacks ge)
-        ],
-      ),
-    )
-
 -- a call on a covered system that wasn't answered
 pub settled_applied : {S : Type 0} {G : Ghosts S} (old new : Fs S G) (call : Command) (e : CallError) → Attempts old new call (Err e) → IsFalse old.has_failed → HasEmptyLog old.system
     → (s : State) → Serves (mounted old s) → systems.IsCovered old.system s.tree.descriptors s → IsAppliedAt old s new call (Refused (errno_of_call e))
@@ -273,26 +222,6 @@ pub behind_that : {S : Type 0} {G : Ghosts S} (n j k : ℕ) (P Q : State → Typ
     → AnswersCommand n P old new command reply
 behind_that n j k P Q old mid new command reply le runs keeps then logging leads not_sure =
     behind_still n j k P Q old mid new command reply le runs keeps then logging leads (λ s serves p sure. absurd (not_sure s serves p sure))
-
--- the same promise for fewer states, and for more points
-pub answers_more : {S : Type 0} {G : Ghosts S} (n k : ℕ) (P Q : State → Type 0) (old new : Fs S G) (command : Command) (reply : Reply) → k ≤ n → AnswersCommand k Q old new command reply
-    → ((s : State) → Serves (mounted old s) → P s → Q s) → AnswersCommand n P old new command reply
-answers_more n k P Q old new command reply le then leads = record {
-  kind = then.kind;
-  uses = then.uses;
-  eio = then.eio;
-  written = then.written;
-  unlogged = then.unlogged;
-  logs = λ s serves p. then.logs s serves (leads s serves p);
-  fails = λ lasts. then.fails (lasts.0, fewer old.system.log.epoch k n le lasts.1);
-  failed = λ lasts. then.failed (lasts.0, fewer old.system.log.epoch k n le lasts.1);
-  epoch = ages_within n k old.system.log.epoch new.system.log.epoch le then.epoch;
-  still = λ s serves p. then.still s serves (leads s serves p);
-  applied = λ s serves young p. then.applied s serves (fewer old.system.log.epoch k n le young) (leads s serves p);
-}
-  where
-    fewer : (a k n : ℕ) → k ≤ n → a + n ≤ 2 ^ 62 → a + k ≤ 2 ^ 62
-    fewer a k n le young = omega (arith, le, young)
 
 -- the same, of a command and a reply in other words
 pub answers_so : {S : Type 0} {G : Ghosts S} (n : ℕ) (P : State → Type 0) (old new : Fs S G) (x y : Command) (reply : Reply) → y ≡ x → AnswersCommand n P old new x reply → AnswersCommand n P old new y reply
@@ -366,7 +295,7 @@ module _ {S : Type 0} {G : Ghosts S} (old new : Fs S G) (call : Command) (runs :
         sure = λ s serves sure. told.sure s (served s serves) sure;
         at_once = told.at_once;
         applied = λ s serves room full.
-            not_answered old new s serves runs call e (told.sure s (served s serves)) room full (λ is. told.own (ap (λ x. Err x) is)) flag counted
+            not_answered old new s serves runs call e (told.sure s (served s serves)) room full flag counted
             (λ is. told.damaged s (served s serves) (ap (λ x. Err x) is)) (told.stays s (served s serves)) (λ is. told.broken s (served s serves) (ap (λ x. Err x) is));
         logs = λ s served. tt;
         going = λ other. flag ∙ fails_none e other;

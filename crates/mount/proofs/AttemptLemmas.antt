@@ -28,8 +28,7 @@ use Rattle.layout.specs.Places.{blocks_of}
 use Rattle.images.specs.Roots.{whole}
 use Rattle.system.specs.Serving.{ServesState, IsCall, WouldCall, IsBrokenOff}
 use Rattle.model.specs.Paths.{Name}
-use Rattle.system.specs.Restoring.{KeepsNameless}
-use Rattle.system.specs.Settling.{IsSettled}
+use Rattle.system.specs.Settling.{IsRoomOf, IsSettled}
 use Rattle.system.specs.Slicing.{IsFulfilled}
 use Rattle.images.specs.Room.{free_under}
 use Rattle.system.specs.Systems as systems
@@ -78,14 +77,6 @@ allowed_call : (s : State) (c : Command) (read : Bool) (room : Room) (reply : Re
 allowed_call s c read room reply t is is_call (inl sure) done = allowed_surely s c (came read false false room) reply t is sure refl done
 allowed_call s c read room reply t is is_call (inr not_sure) done =
     allowed_by s c (came read false false room) reply t is not_sure (inl (done, λ settling. absurd (not_settling c is_call settling)))
-
--- the room of a covered system
-pub record IsRoomOf {S : Type 0} {G : Ghosts S} (f : System S G) (room : Room) : Type 0 where
-  pub covered : IsTrue room.is_covered
-  pub free : room.free ≡ f.free
-  pub blocks : room.blocks ≡ f.root.geometry.blocks
-  pub pledged : room.pledged ≡ f.pledged
-  pub nameless : (name : Name) (nameless : ℕ) → KeepsNameless f name nameless → room.nameless_of name ≡ nameless
 
 -- a system that goes on shows a state that does
 pub still_going : {S : Type 0} {G : Ghosts S} (f : Fs S G) (s : State) → Serves (mounted f s) → IsFalse f.has_failed → s.mark ≡ going
@@ -190,22 +181,21 @@ module _ {S : Type 0} {G : Ghosts S} (old new : Fs S G) (s : State) where
       broken_off c not_sure stopped reads writes is = cut_short c not_sure stopped reads writes (cut_within old.system new.system s c is)
 
     -- a call that wasn't answered
-    pub not_answered : (c : Command) (e : CallError) → ¬ IsSure s c → e ≢ call.NoRoom → e ≢ call.LogFull → e ≢ call.StepDue → new.has_failed ≡ fails_call e
+    pub not_answered : (c : Command) (e : CallError) → ¬ IsSure s c → e ≢ call.NoRoom → e ≢ call.LogFull → new.has_failed ≡ fails_call e
         → Counted before behind (beside_reads (call_error_failed false e)) → (e ≡ call.Damaged → ⊥)
         → (e ≢ call.NotWritten → ServesState new.system s × LeavesOnly before behind (OpensTo before s)) → (e ≡ call.NotWritten → IsBrokenOff old.system new.system s c)
         → IsAppliedAt old s new c (Refused (errno_of_call e))
-    not_answered c call.NoMemory not_sure room full due flag counted damaged stays off =
+    not_answered c call.NoMemory not_sure room full flag counted damaged stays off =
         let kept = stays (λ e. cc) in
         let count = told before.failed_reads behind.failed_reads counted.uses.reads in
         refused counted.uses.same c not_sure (stays_by counted.uses.same flag kept.0 kept.1) count.0 true ENOMEM count.1 counted.writes (λ _. refl)
-    not_answered c call.NotRead not_sure room full due flag counted damaged stays off =
+    not_answered c call.NotRead not_sure room full flag counted damaged stays off =
         let kept = stays (λ e. cc) in
         refused counted.uses.same c not_sure (stays_by counted.uses.same flag kept.0 kept.1) true false EIO counted.reads counted.writes (λ _. refl)
-    not_answered c call.Damaged not_sure room full due flag counted damaged stays off = absurd (damaged refl)
-    not_answered c call.NoRoom not_sure room full due flag counted damaged stays off = absurd (room refl)
-    not_answered c call.LogFull not_sure room full due flag counted damaged stays off = absurd (full refl)
-    not_answered c call.StepDue not_sure room full due flag counted damaged stays off = absurd (due refl)
-    not_answered c call.NotWritten not_sure room full due flag counted damaged stays off = broken_off counted.uses.same c not_sure flag counted.uses.reads counted.writes (off refl)
+    not_answered c call.Damaged not_sure room full flag counted damaged stays off = absurd (damaged refl)
+    not_answered c call.NoRoom not_sure room full flag counted damaged stays off = absurd (room refl)
+    not_answered c call.LogFull not_sure room full flag counted damaged stays off = absurd (full refl)
+    not_answered c call.NotWritten not_sure room full flag counted damaged stays off = broken_off counted.uses.same c not_sure flag counted.uses.reads counted.writes (off refl)
 
     -- a command that a covered system has no room for
     pub short : (command : Command) → ¬ IsSure s command → Stays old new s → systems.IsCovered new.system s.tree.descriptors s → MayGrow before.failed_reads behind.failed_reads → behind.failed_writes ≡ before.failed_writes

@@ -68,7 +68,6 @@ call_not_failed call.NotRead is = cc
 call_not_failed call.Damaged is = cc
 call_not_failed call.NoRoom is = cc
 call_not_failed call.LogFull is = cc
-call_not_failed call.StepDue is = cc
 call_not_failed call.NotWritten is = cc
 
 -- an error of a consistency point that fails the system is told as EIO, as long as the generations last

@@ -1,6 +1,6 @@
 -- What a file system promises of commands that make consistency points.
-use Rattle.std.proofs.Common.{◌≡◌, ◌≢◌, inl, inr, ℕ, ◌+◌, ◌≤◌, ◌^◌, Bool, false, Result, Ok, Err, refl, ap, sym, subst, ◌∙◌, arith}
-use Rattle.std.specs.Prelude.{IfErr, IsFalse, MatchResult}
+use Rattle.std.proofs.Common.{◌≡◌, ◌≢◌, inl, inr, ℕ, ◌+◌, ◌≤◌, ◌^◌, Bool, true, false, Result, Ok, Err, refl, ap, sym, subst, ◌∙◌, arith}
+use Rattle.std.specs.Prelude.{IsFalse}
 use Rattle.std.proofs.lemmas.Bool.{false≢true}
 use Rattle.station.specs.Moments.{Meaning}
 use Rattle.station.specs.declared.station.Station.{Ghosts}
@@ -13,14 +13,14 @@ use Rattle.model.specs.States.{State}
 use Rattle.model.specs.declared.command.Command.{Command}
 use Rattle.model.specs.declared.command.Command.TheVariants.{Sync}
 use Rattle.model.specs.declared.errno.Errno.{Errno}
-use Rattle.model.specs.declared.errno.Errno.TheVariants.{EIO, FAILED}
+use Rattle.model.specs.declared.errno.Errno.TheVariants.{EIO, ENOSPC, FAILED}
 use Rattle.model.specs.declared.reply.Reply.{Reply}
 use Rattle.model.specs.declared.reply.Reply.TheVariants.{Done, Refused}
 use Rattle.oplog.specs.LogEnd.{LogEnd, all_bodies}
 use Rattle.system.specs.Counting.{Counted, call_error_failed, no_call}
 use Rattle.system.specs.Images.{OpensTo}
 use Rattle.system.specs.Serving.{IsNoFault, ServesState, WouldCall}
-use Rattle.system.specs.Settling.{Glances, IsRefusedBy, IsSettled, MakesCovered, Settles}
+use Rattle.system.specs.Settling.{Glances, MakesCovered, Settles}
 use Rattle.system.specs.Systems as systems
 use Rattle.system.specs.declared.error.CallError.{CallError}
 use Rattle.system.specs.declared.error.PointError.{PointError}
@@ -31,7 +31,7 @@ use Rattle.mount.specs.Refusals.{errno_of_call, errno_of_point, fails_point}
 use Rattle.mount.specs.Systems.{HasGenerations, OpensToSome, Serves, mounted}
 use Rattle.mount.specs.declared.fs.Fs.{Fs}
 use Rattle.mount.specs.declared.fs.TheConstants.{POINTS}
-use Rattle.mount.proofs.AttemptLemmas.{answered_as, cut_within, no_point, not_answered, own_refusal, reads_fail_nothing, settled, stays_by, stays_read, still_going, synced}
+use Rattle.mount.proofs.AttemptLemmas.{answered_as, cut_within, no_point, not_answered, own_refusal, reads_fail_nothing, settled, short, stays_by, stays_read, still_going, synced}
 use Rattle.mount.proofs.ApplyLemmas.{no_room}
 use Rattle.mount.proofs.CountLemmas.{call_eio, call_not_failed, call_written, next_lasts, point_eio, point_fails, point_not_failed, point_refuses, point_written, refused_same}
 use Rattle.mount.proofs.LogLemmas.{covered_logs, logs_kept, refused_logs, settled_logs}
@@ -183,14 +183,13 @@ module _ {S : Type 0} {G : Ghosts S} (old new : Fs S G) (runs : IsFalse old.has_
           applied = λ s serves young p.
               let here = serves.kept (still_going old s serves runs) in
               answered_as old new s command (errno_of_call e) errno is
-              (not_answered old new s serves runs command e (not_sure s) told.refuses.0 told.refuses.1 told.refuses.3 (reads_fail_nothing e new.has_failed told.refuses.2 runs_on) counted
+              (not_answered old new s serves runs command e (not_sure s) told.refuses.0 told.refuses.1 (reads_fail_nothing e new.has_failed told.refuses.2 runs_on) counted
               (λ x. told.damaged s here (ap (λ y. Err y) x)) (λ _. ((told.serves s here).0, leaves_unchanged m l (OpensTo m s) (opens s here) told.reads.goes)) (λ x. absurd (told.refuses.2 x)));
         }
 
--- ---- commands that end behind a consistency point of their own
+-- ---- commands that change the snapshots, behind their tests
 
-module _ {S : Type 0} {G : Ghosts S} (n : ℕ) (P : State → Type 0) (old new : Fs S G) (command : Command) (le : 1 ≤ n) (runs : IsFalse old.has_failed) (not_sure : (s : State) → ¬ IsSure s command)
-    (opens : AllOpen old.system) where
+module _ {S : Type 0} {G : Ghosts S} (P : State → Type 0) (old new : Fs S G) (command : Command) (runs : IsFalse old.has_failed) (not_sure : (s : State) → ¬ IsSure s command) where
   abbrev start : Meaning
   start = systems.meaning_of old.system
 
@@ -200,55 +199,44 @@ module _ {S : Type 0} {G : Ghosts S} (n : ℕ) (P : State → Type 0) (old new :
   going_state : (s : State) → Serves (mounted old s) → ServesState old.system s
   going_state s serves = serves.kept (still_going old s serves runs)
 
-  abbrev Done_by : State → Result (Unit {0}) Errno → Type 0
-  Done_by s r = MatchResult r (λ _. IsSettled old.system new.system s command) (IsRefusedBy old.system new.system s command)
-
-  one_point : (a : ℕ) → a + n ≤ 2 ^ 62 → a + 1 ≤ 2 ^ 62
-  one_point a young = omega (arith, le, young)
-
   -- it was done
-  pub settles_done : IsReplyTo command Done → (r : Result (Unit {0}) Errno) (u : Unit {0}) → r ≡ Ok u → Settles old.system new.system P command (Ok r) → IsFalse new.has_failed → AllOpen new.system → AnswersCommand n P old new command Done
-  settles_done kind r u is told runs_on now = record {
+  pub settles_done : IsReplyTo command Done → Settles old.system new.system P command (Ok true) → IsFalse new.has_failed → AllOpen new.system → AnswersCommand 2 P old new command Done
+  settles_done kind told runs_on now = record {
     kind = kind;
     uses = told.counted.uses;
     eio = λ same. cc;
     written = λ _. told.counted.writes;
     unlogged = λ errno same. cc;
-    logs = λ s serves p accepted served. settled_logs old.system new.system s served command (subst (Done_by s) is (told.done s (going_state s serves) p)) (all_bodies served.lasts.bodies);
+    logs = λ s serves p accepted served. settled_logs old.system new.system s served command (told.done s (going_state s serves) p) (all_bodies served.lasts.bodies);
     fails = λ lasts stopped. absurd (false≢true (sym runs_on ∙ stopped));
     failed = λ lasts same. cc;
-    epoch = ages_within n 1 old.system.log.epoch new.system.log.epoch le told.epoch;
+    epoch = told.epoch;
     still = λ s serves p sure. absurd (not_sure s sure);
     applied = λ s serves young p.
-        settled old new s serves runs command (not_sure s) told.counted.uses.same runs_on told.counted.reads told.counted.writes
-        (subst (Done_by s) is (told.done s (going_state s serves) p)) now;
+        settled old new s serves runs command (not_sure s) told.counted.uses.same runs_on told.counted.reads told.counted.writes (told.done s (going_state s serves) p) now;
   }
 
-  -- it was refused by its own tests
-  pub settles_refused : (r : Result (Unit {0}) Errno) (found errno : Errno) → r ≡ Err found → errno ≡ found → Settles old.system new.system P command (Ok r) → IsFalse new.has_failed → AnswersCommand n P old new command (Refused errno)
-  settles_refused r found errno was same told runs_on =
-      let is : r ≡ Err errno = was ∙ ap (λ (x : Errno). Err x) (sym same) in
-      let own : IsNoFault errno = subst (λ (x : Result (Unit {0}) Errno). IfErr x IsNoFault) is told.own in
-      record {
-        kind = tt;
-        uses = told.counted.uses;
-        eio = λ same. absurd (own.0 (refused_same same));
-        written = λ _. told.counted.writes;
-        unlogged = λ x same other. told.unlogged;
-        logs = refused_logs P old new command errno;
-        fails = λ lasts stopped. absurd (false≢true (sym runs_on ∙ stopped));
-        failed = λ lasts same. absurd (own.1 (refused_same same));
-        epoch = ages_within n 1 old.system.log.epoch new.system.log.epoch le told.epoch;
-        still = λ s serves p sure. absurd (not_sure s sure);
-        applied = λ s serves young p.
-            let here = going_state s serves in
-            let refusal = subst (Done_by s) is (told.done s here p) in
-            own_refusal old new s serves runs command (not_sure s) (stays_read old new s serves runs told.counted.uses.same runs_on refusal.serves refusal.goes (opens s here)) errno
-            told.counted.reads told.counted.writes refusal.step;
-      }
+  -- the disk had no room
+  pub settles_short : Settles old.system new.system P command (Ok false) → IsFalse new.has_failed → AnswersCommand 2 P old new command (Refused ENOSPC)
+  settles_short told runs_on = record {
+    kind = tt;
+    uses = told.counted.uses;
+    eio = λ same. cc;
+    written = λ _. told.counted.writes;
+    unlogged = λ x same other. told.unlogged;
+    logs = refused_logs P old new command ENOSPC;
+    fails = λ lasts stopped. absurd (false≢true (sym runs_on ∙ stopped));
+    failed = λ lasts same. cc;
+    epoch = told.epoch;
+    still = λ s serves p sure. absurd (not_sure s sure);
+    applied = λ s serves young p.
+        let came = told.done s (going_state s serves) p in
+        short old new s serves runs command (not_sure s) (stays_by old new s serves runs told.counted.uses.same runs_on came.covered.serves came.leaves) came.covered (inl told.counted.reads) told.counted.writes
+        (λ room is. (Done, came.after, came.need room, came.step room, came.short room is));
+  }
 
-  -- its point wasn't made
-  pub settles_not : (e : PointError) (errno : Errno) → errno ≡ errno_of_point e → Settles old.system new.system P command (Err e) → new.has_failed ≡ fails_point e → AnswersCommand n P old new command (Refused errno)
+  -- it wasn't done
+  pub settles_not : (e : PointError) (errno : Errno) → errno ≡ errno_of_point e → Settles old.system new.system P command (Err e) → new.has_failed ≡ fails_point e → AnswersCommand 2 P old new command (Refused errno)
   settles_not e errno is told flag = record {
     kind = tt;
     uses = told.counted.uses;
@@ -261,19 +249,19 @@ module _ {S : Type 0} {G : Ghosts S} (n : ℕ) (P : State → Type 0) (old new :
     logs = refused_logs P old new command errno;
     fails = λ lasts stopped. inr (ap Refused (is ∙ point_fails e (left lasts) (sym flag ∙ stopped)));
     failed = λ lasts same. absurd (point_not_failed e (left lasts) (sym is ∙ refused_same same));
-    epoch = ages_within n 1 old.system.log.epoch new.system.log.epoch le told.epoch;
+    epoch = told.epoch;
     still = λ s serves p sure. absurd (not_sure s sure);
     applied = λ s serves young p.
         let here = going_state s serves in
         answered_as old new s command (errno_of_point e) errno is
-        (no_point old new s serves runs command e (not_sure s) (one_point old.system.log.epoch young) told.counted (λ x. told.roomy s here p (ap (λ y. Err y) x))
-        (λ x. told.last s here (ap (λ y. Err y) x)) (λ x. told.damaged s here (ap (λ y. Err y) x)) flag
+        (no_point old new s serves runs command e (not_sure s) (omega (arith, young)) told.counted (λ x. told.roomy s here p (ap (λ y. Err y) x))
+        (λ x. let late = told.last s here p (ap (λ y. Err y) x) in absurd (omega (arith, late, young))) (λ x. told.damaged s here p (ap (λ y. Err y) x)) flag
         (λ refused runs_on. let kept = told.stays s here refused in stays_by old new s serves runs told.counted.uses.same runs_on kept.0 kept.1)
         (λ x. cut_within old.system new.system s command (told.broken s here p (ap (λ y. Err y) x))));
   }
     where
-      left : HasGenerations n old → e ≡ NoGeneration → ⊥
-      left lasts last = next_lasts n old.system.log.epoch le lasts.0 lasts.1 (told.past (ap (λ y. Err y) last))
+      left : HasGenerations 2 old → e ≡ NoGeneration → ⊥
+      left lasts last = let late = told.past (ap (λ y. Err y) last) lasts.0 in let few = lasts.1 in omega (arith, late, few)
 
 -- ---- what the last command read
 

@@ -120,7 +120,8 @@ pub record LogsItsNeed {S : Type 0} {G : Ghosts S} (before : List (List ℕ)) (s
   pub logged : HasLogged need running uncovered serves.lasts.replayed.changes
 
 -- What a command does to a file system at a state with P, and over any bytes: all that is promised of it. Its reply is of its own kind, or a
--- refusal. It makes so many consistency points at most. EIO comes only where a device call failed, and nothing else where a write failed, which fails the system; a refusal
+-- refusal. It makes so many consistency points at most. EIO comes only where a device call failed, and nothing else where a write failed,
+-- which fails the system; a refusal
 -- logged nothing, but where EIO came for a record, which stops the log; and a sure command calls no device. Nothing but a failed write
 -- fails the system, and FAILED tells only of one that had failed before, as long as the generations last.
 pub record AnswersCommand {S : Type 0} {G : Ghosts S} (points : ℕ) (P : State → Type 0) (old new : Fs S G) (command : Command) (reply : Reply) : Type 0 where

@@ -19,7 +19,6 @@ errno_of_call call.NotRead = EIO
 errno_of_call call.Damaged = DAMAGED
 errno_of_call call.NoRoom = ENOSPC
 errno_of_call call.LogFull = DAMAGED
-errno_of_call call.StepDue = DAMAGED
 errno_of_call call.NotWritten = EIO
 
 -- of a consistency point

@@ -3,10 +3,10 @@
 ghost use Rattle.std.specs.Prelude.{◌≡◌, IsFalse};
 
 use crate::refusals::{errno_of_call, errno_of_point, fails_call, fails_point};
-use model::{Bytes, Command, Errno, Reply};
+use model::{Command, Errno, Reply};
 use station::Station;
 use std::alloc::Global;
-use system::{CallError, Space, System, served_states_open};
+use system::{CallError, PreparedSnapshot, SnapshotRequest, Space, System, served_states_open};
 
 /// The most consistency points that one command begins: a `snap take` or a `snap restore` settles what isn't under the newest root, and
 /// then does with the snapshot what is asked for, and a call may plan one ahead before it needs room.
@@ -24,7 +24,7 @@ pub struct Fs<S: Station> {
 }
 
 impl<S: Station> Fs<S> {
-    ghost use Rattle.std.specs.Prelude.{◌≡◌, ◌≢◌, ℕ, IsTrue, IsFalse, None, List, [], ◌∷◌, ◌++◌};
+    ghost use Rattle.std.specs.Prelude.{◌≡◌, ◌≢◌, ℕ, IsTrue, IsFalse, List, [], ◌∷◌, ◌++◌};
     ghost use Rattle.station.specs.Moments.{MayLeave};
     ghost use Rattle.model.specs.declared.command.Command.{Command};
     ghost use Rattle.model.specs.declared.errno.Errno.{Errno};
@@ -32,8 +32,9 @@ impl<S: Station> Fs<S> {
     ghost use Rattle.model.specs.Replies.{IsReplyTo};
     ghost use Rattle.model.specs.States.{State};
     ghost use Rattle.oplog.specs.LogEnd.{all_bodies};
-    ghost use Rattle.system.specs.Serving.{AnswersAtOnce, IsAccepted, IsAtOnce, IsCall, ServesState, WouldChange};
-    ghost use Rattle.system.specs.Systems.{IsCovered};
+    ghost use Rattle.snapshots.specs.Prepared.{FitsPrepared, command_of, command_prepared};
+    ghost use Rattle.system.specs.Serving.{AnswersAtOnce, IsAccepted, IsAtOnce, IsCall, ServesState};
+    ghost use Rattle.system.specs.Settling.{IsPrepared};
     ghost use Rattle.mount.specs.Applying.{AppliesCommand, AnswersCommand, AnswersAlways, Attempts, IsAppliedAt, LogsItsNeed, MakesRoom, RunsAt, WaitsForPoint};
     ghost use Rattle.mount.specs.Systems.{mounted, Serves, IsYoung, LeavesState};
     ghost use Rattle.mount.specs.declared.fs.Fs.{Fs};
@@ -81,9 +82,15 @@ impl<S: Station> Fs<S> {
         self.system.let_go();
         match command {
             Command::Sync => self.sync_all(),
-            Command::SnapTake { name } => self.take(name),
-            Command::SnapDelete { name } => self.delete(name),
-            Command::SnapRestore { name } => self.restore(name),
+            Command::SnapTake { name } => self.snapshot(&SnapshotRequest::Take {
+                name: name.as_bytes(),
+            }),
+            Command::SnapDelete { name } => self.snapshot(&SnapshotRequest::Delete {
+                name: name.as_bytes(),
+            }),
+            Command::SnapRestore { name } => self.snapshot(&SnapshotRequest::Restore {
+                name: name.as_bytes(),
+            }),
             _ => self.call(command),
         }
     }
@@ -187,70 +194,32 @@ impl<S: Station> Fs<S> {
         }
     }
 
-    /// `snap take`: where something is uncovered a consistency point, and then one that takes the snapshot.
-    fn take(&mut self, name: &Bytes<'_>) -> Reply
+    /// A command that changes the snapshots: its tests, and what is done behind them.
+    fn snapshot(&mut self, request: &SnapshotRequest<'_>) -> Reply
         requires { IsFalse self.old.has_failed }
-        ensures { AnswersAlways self.old self.new (Command.SnapTake name.now) result }
+        ensures { AnswersAlways self.old self.new (command_of request.now) result }
     {
         served_states_open(&self.system);
-        match self.system.refuses_take(name) {
-            Ok(None) => self.take_tested(name),
-            Ok(Some(errno)) => Reply::Refused(errno),
+        match self.system.prepare_snapshot(request) {
+            Ok(Ok(prepared)) => self.make_snapshot(&prepared),
+            Ok(Err(errno)) => Reply::Refused(errno),
             Err(error) => Reply::Refused(errno_of_call(error)),
         }
     }
 
     /// The same where its tests are passed.
-    fn take_tested(&mut self, name: &Bytes<'_>) -> Reply
-        requires { IsFalse self.old.has_failed }
-        ensures { AnswersCommand POINTS (λ s. WouldChange s (Command.SnapTake name.now)) self.old self.new
-            (Command.SnapTake name.now) result }
-    {
-        if self.system.is_covered() {
-            return self.take_covered(name);
-        }
-        match self.settle() {
-            Ok(()) => self.take_covered(name),
-            Err(errno) => Reply::Refused(errno),
-        }
-    }
-
-    /// The same where the newest root covers all.
-    fn take_covered(&mut self, name: &Bytes<'_>) -> Reply
+    fn make_snapshot(&mut self, prepared: &PreparedSnapshot<'_>) -> Reply
         requires going { IsFalse self.old.has_failed }
-        requires rests { self.old.system.blocks.laid ≡ None }
-        ensures { AnswersCommand 1 (λ s. IsCovered self.old.system s.tree.descriptors s
-            × WouldChange s (Command.SnapTake name.now)) self.old self.new (Command.SnapTake name.now) result }
+        requires fits { FitsPrepared prepared.now }
+        ensures { AnswersCommand POINTS (λ s. IsPrepared self.old.system s prepared.now) self.old self.new
+            (command_prepared prepared.now) result }
     {
-        served_states_open(&self.system);
-        if !self.system.has_room_to_take() {
-            return Reply::Refused(Errno::ENOSPC);
-        }
-        match self.system.take(name) {
-            Ok(Ok(())) => {
+        match self.system.make_snapshot(prepared) {
+            Ok(true) => {
                 served_states_open(&self.system);
                 Reply::Done
             }
-            Ok(Err(errno)) => Reply::Refused(errno),
-            Err(error) => {
-                self.has_failed = fails_point(error);
-                Reply::Refused(errno_of_point(error))
-            }
-        }
-    }
-
-    /// `snap delete`: a consistency point that deletes the snapshot.
-    fn delete(&mut self, name: &Bytes<'_>) -> Reply
-        requires { IsFalse self.old.has_failed }
-        ensures { AnswersAlways self.old self.new (Command.SnapDelete name.now) result }
-    {
-        served_states_open(&self.system);
-        match self.system.delete(name) {
-            Ok(Ok(())) => {
-                served_states_open(&self.system);
-                Reply::Done
-            }
-            Ok(Err(errno)) => Reply::Refused(errno),
+            Ok(false) => Reply::Refused(Errno::ENOSPC),
             Err(error) => {
                 self.has_failed = fails_point(error);
                 Reply::Refused(errno_of_point(error))

@@ -12,7 +12,6 @@ mod path_calls;
 mod prefix;
 mod refusals;
 mod replies;
-mod restoring;
 mod whole_image;
 mod within_snapshots;
 

@@ -3,14 +3,12 @@
 ghost use Rattle.std.specs.Prelude.{◌≡◌, ◌⊎◌, IsFalse, IfOk, IfErr, MatchResult};
 ghost use Rattle.station.specs.Images.{Unchanged};
 ghost use Rattle.station.specs.Moments.{IsSameStation, Goes};
-ghost use Rattle.layout.specs.Places.{blocks_of};
 ghost use Rattle.model.specs.States.{State, Forgets};
 ghost use Rattle.images.specs.Faults.{HasNoFault};
-ghost use Rattle.images.specs.Roots.{whole};
 ghost use Rattle.system.specs.Images.{OpensTo};
 ghost use Rattle.loading.specs.Slots.{HasNoRoot};
 ghost use Rattle.system.specs.Opening.{HasFailed, HasNewest};
-ghost use Rattle.system.specs.Systems.{meaning_of};
+ghost use Rattle.system.specs.Systems.{meaning_of, system_parts};
 ghost use Rattle.mount.specs.Systems.{mounted, Serves};
 
 use crate::{Fs, MountError};
@@ -18,12 +16,14 @@ use station::Station;
 use std::alloc::Global;
 use system::System;
 
-/// Mounts an image: reads its newest root and what hangs from it, and replays its log. Reads give what they gave before, and a
-/// cut leaves what it might have left before. Where what the station reads opens to a state, Ok serves that state, without open
-/// files; `NoRoot` comes where neither slot holds a root, `Damaged` only where one does but what the station reads opens to no
-/// state, `Device` only where a device call failed. Whatever else the station holds, Ok has taken the newest root, the station
-/// has its sizes, and the NVRAM holds a log over it. Over images without a fault neither `NoRoot` nor `Damaged` comes, whatever
-/// blocks of files can be read.
+/// Mounts an image: reads its newest root and what hangs from it, and replays its log. Reads give what they
+/// gave before, and a cut leaves what it might have left before. Where what the station reads opens to a
+/// state, Ok serves that state, without open files; `NoRoot` comes where neither slot holds a root, `Damaged`
+/// only where one does but what the station reads opens to no state, `Device` only where a device call
+/// failed. Whatever else the station holds, Ok has taken the newest root, the station has its sizes, the
+/// NVRAM holds a log over it, and each of its slots that isn't free has a snapshot; and where no fault stands
+/// in its tree, every record of that log was applied, and none was passed over. Over images without a fault
+/// neither `NoRoot` nor `Damaged` comes, whatever blocks of files can be read.
 pub fn mount<S: Station>(alloc: Global, station: S) -> Result<Fs<S>, (MountError, S)>
     ensures same { MatchResult result
         (λ fs. IsSameStation (S.meaning station) (meaning_of fs.system))
@@ -39,8 +39,7 @@ pub fn mount<S: Station>(alloc: Global, station: S) -> Result<Fs<S>, (MountError
         → MatchResult result (λ fs. (t : State) × Forgets s t × Serves (mounted fs t))
         (λ e. (e.0 ≡ MountError.NoMemory) ⊎ (e.0 ≡ MountError.Device)) }
     ensures found { (S.meaning station).is_honest
-        → IfOk result (λ fs. HasNewest (S.meaning station) fs.system.slot fs.system.root
-        fs.system.log) }
+        → IfOk result (λ fs. HasNewest (S.meaning station) (system_parts fs.system)) }
     ensures no_root { (S.meaning station).is_honest
         → IfErr result (λ e. e.0 ≡ MountError.NoRoot
         → HasNoRoot (S.meaning station).sectors (S.meaning station).seen.disk) }

@@ -16,7 +16,7 @@ pub(crate) fn errno_of_call(error: CallError) -> Errno
         CallError::NoMemory => Errno::ENOMEM,
         CallError::NotRead | CallError::NotWritten => Errno::EIO,
         CallError::NoRoom => Errno::ENOSPC,
-        CallError::Damaged | CallError::LogFull | CallError::StepDue => Errno::DAMAGED,
+        CallError::Damaged | CallError::LogFull => Errno::DAMAGED,
     }
 }
 

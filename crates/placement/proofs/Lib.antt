@@ -4,6 +4,7 @@ mod MovedLaws
 mod HeldLaws
 mod StandLaws
 mod InlineLaws
+mod LaidLaws
 mod FileLaws
 mod SettledLaws
 mod AmongLaws

@@ -21,11 +21,15 @@ use Rattle.blocktree.specs.Places.{block_count}
 use Rattle.blocktree.specs.Trees.{settled_block}
 use Rattle.inode.specs.declared.object.Object.{Object}
 use Rattle.inode.proofs.HeldLaws.{node_above, node_place, used_is}
+use Rattle.blocktree.specs.PlaceMaps.{place_at}
+use Rattle.blocktree.specs.declared.place_map.PlaceMap.{PlaceMap}
 use Rattle.conspoint.specs.Blocks.{changed_or}
+use Rattle.conspoint.specs.Drafts.{HasAll}
+use Rattle.conspoint.specs.declared.draft.Draft.{Draft}
 use Rattle.conspoint.specs.Groups.{pointer_at, IsGroup}
 use Rattle.placement.specs.declared.nodes.Nodes.{Nodes}
 use Rattle.placement.specs.Files.{object_block, with_first}
-use Rattle.placement.specs.Layouts.{inode_with, StandOver, AreSettledNodes, IsLaidOut, LeadToBlocks}
+use Rattle.placement.specs.Layouts.{AreLowest, inode_with, StandOver, AreSettledNodes, IsLaidOut, LeadToBlocks}
 use Rattle.placement.specs.Nodes.{height_of, node, under}
 use Rattle.images.proofs.EmptyLaws.{node_bytes}
 use Rattle.placement.proofs.HeldLaws.{used_holes, not_inline}
@@ -67,13 +71,12 @@ module _ (d e : Blocks) (base : Inode) (o : Object) (settled : Nodes) (known : A
             ∙ cond_above i kept (pointed d (place d o.file.tree.pointers o.file.tree.depth i)) (zeros 4096) (zeros 4096) ge refl
       ]
 
-  -- each block is as memory has it
-  pub block_is : (nodes : ℕ → Pointer) (i : ℕ) → (block_count o.file.size ≤ i → nodes i ≡ Hole)
-      → (i < block_count o.file.size → pointed e (nodes i) ≡ changed_or o.file.tree i (pointed e (if nat_lt i o.file.tree.kept then node settled 0 i else Hole)))
-      → pointed e (nodes i) ≡ object_block d o i
-  block_is nodes i end blocks = elim (cases_lt i (block_count o.file.size)) [
-    | inl lt ↦ blocks lt ∙ ap (changed_or o.file.tree i) (below_is i) ∙ cond_below i (block_count o.file.size) _ (zeros 4096) lt
-    | inr ge ↦ ap (pointed e) (end ge) ∙ cond_above i (block_count o.file.size) _ (zeros 4096) (zeros 4096) ge refl
+  -- from one on each block is as memory has it
+  pub blocks_are : {first : ℕ} {a b : Draft} {places : PlaceMap} → AreLowest first (block_count o.file.size) o.file.tree settled a b places → HasAll e b.blocks.items
+      → (i : ℕ) → first ≤ i → pointed e (place_at places i) ≡ object_block d o i
+  blocks_are lowest has i from = elim (cases_lt i (block_count o.file.size)) [
+    | inl lt ↦ lowest.blocks e has i lt from ∙ ap (changed_or o.file.tree i) (below_is i) ∙ cond_below i (block_count o.file.size) _ (zeros 4096) lt
+    | inr ge ↦ ap (pointed e) (lowest.end i ge) ∙ cond_above i (block_count o.file.size) _ (zeros 4096) (zeros 4096) ge refl
   ]
 
 -- but for the first, blocks stand as they were

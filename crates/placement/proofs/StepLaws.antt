@@ -1,5 +1,5 @@
 -- Steps that read blocks and place some.
-use Rattle.std.proofs.Common.{◌≡◌, ℕ, Result, Ok, Err, refl, subst, arith}
+use Rattle.std.proofs.Common.{◌≡◌, ℕ, ◌+◌, ◌≤◌, Result, Ok, Err, refl, subst, ◌∙◌, arith}
 use Rattle.std.specs.Prelude.{OnOk}
 use Rattle.std.specs.Result.{IsErrAnd, IsErrOf}
 use Rattle.buffers.specs.Reads.{ReadsBlocks}
@@ -12,10 +12,9 @@ use Rattle.conspoint.specs.Drafts.{IsShortage}
 use Rattle.conspoint.specs.Errors.{IsReadFault}
 use Rattle.conspoint.specs.Space.{TakesAtMost}
 use Rattle.conspoint.specs.Steps.{Places}
-use Rattle.conspoint.proofs.DraftLemmas.{grows_none}
-use Rattle.conspoint.proofs.StepLemmas.{no_error, other_error, same_error}
-use Rattle.placement.specs.Steps.{PlacesFile, ReadsAndPlaces}
-use Rattle.placement.specs.declared.file.PlacedFile.{PlacedFile}
+use Rattle.conspoint.proofs.DraftLemmas.{grows_none, grows_twice}
+use Rattle.conspoint.proofs.StepLemmas.{no_error, other_error, same_error, takes_both, takes_more}
+use Rattle.placement.specs.Steps.{ReadsAndPlaces}
 
 -- no memory isn't a fault of the device
 no_fault : {P : Type 0} (f : PlanError) → f ≡ NoMemory → IsReadFault f → P
@@ -90,33 +89,36 @@ module _ {B : Type 0} {G : Ghosts B} {n : ℕ} {x y : B} {a b : Draft} where
     lacks = λ bad. step.lacks (same_error g e NoSpace is bad);
   }
 
-  pub file_err : {T U : Type 0} {f : U → PlacedFile} {e : PlanError} (q : Result U PlanError) → IsErrAnd q (λ g. g ≡ e) → ReadsAndPlaces {T = T} G n x y a b (Err e) → PlacesFile G n f x y a b q
-  file_err (Ok v) is step = absurd is
-  file_err {e = e} (Err g) is step =
-      let same = both_err (Err g) is step in
-      record {
-        reads = same.reads;
-        grows = same.grows;
-        parts = same.parts;
-        others = same.others;
-        takes = tt;
-        lacks = same.lacks;
-        taken = tt;
-        freed = tt;
-        given = tt;
-      }
-
-  -- behind it there was no memory
-  pub file_out : {T U : Type 0} {v : T} {f : U → PlacedFile} (q : Result U PlanError) → IsErrAnd q (λ g. g ≡ NoMemory) → ReadsAndPlaces G n x y a b (Ok v) → PlacesFile G n f x y a b q
-  file_out (Ok w) is step = absurd is
-  file_out (Err g) is step = record {
+  -- there was no memory then
+  pub both_out : {T U : Type 0} {v : T} (q : Result U PlanError) → IsErrAnd q (λ g. g ≡ NoMemory) → ReadsAndPlaces G n x y a b (Ok v) → ReadsAndPlaces G n x y a b q
+  both_out (Ok w) is step = absurd is
+  both_out (Err g) is step = record {
     reads = record { count = step.reads.count; counted = tt; device = λ fault. no_fault g is fault; reads = step.reads.reads; same = step.reads.same };
     grows = step.grows;
     parts = step.parts;
     others = step.others;
     takes = tt;
     lacks = λ bad. other_error g is bad;
-    taken = tt;
-    freed = tt;
-    given = tt;
   }
+
+  -- more are counted than it takes
+  pub both_rise : {T : Type 0} {k : ℕ} {r : Result T PlanError} → ReadsAndPlaces G n x y a b r → n ≤ k → ReadsAndPlaces G k x y a b r
+  both_rise {k = k} {r = r} step le = record {
+    reads = step.reads;
+    grows = step.grows;
+    parts = step.parts;
+    others = step.others;
+    takes = takes_more n k a b r le step.takes;
+    lacks = λ bad. (let few = step.lacks bad in omega (arith, le, few));
+  }
+
+-- one step after the other
+pub both_then : {B T U : Type 0} {G : Ghosts B} {n m k : ℕ} {x y z : B} {a b c : Draft} {v : T} {r : Result U PlanError} → ReadsAndPlaces G n x y a b (Ok v) → ReadsAndPlaces G m y z b c r → n + m ≤ k → ReadsAndPlaces G k x z a c r
+both_then {n = n} {m = m} {k = k} {a = a} {b = b} {c = c} {r = r} first then le = record {
+  reads = reads_more r first.reads then.reads;
+  grows = grows_twice a b c first.grows then.grows;
+  parts = then.parts ∙ first.parts;
+  others = λ p is. then.others p (first.others p is);
+  takes = takes_both n m k a b c r le first.takes then.takes;
+  lacks = λ bad. (let few = then.lacks bad in omega (arith, le, few, first.takes));
+}

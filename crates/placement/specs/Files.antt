@@ -11,16 +11,19 @@ use Rattle.layout.specs.declared.TheConstants.{BLOCK_BYTES}
 use Rattle.layout.specs.declared.inode.Body.TheVariants.{Pointers}
 use Rattle.layout.specs.declared.inode.Inode.{Inode}
 use Rattle.layout.specs.declared.pointer.Pointer.TheVariants.{Block}
-use Rattle.images.specs.Contents.{Content}
-use Rattle.images.specs.Nodes.{Held, held, Names, IsOnce}
+use Rattle.images.specs.Contents.{Content, content_of}
+use Rattle.images.specs.Nodes.{Agrees, Held, held, Names, IsOnce}
 use Rattle.images.specs.Soundness.{HasNoHole, IsSoundFile}
+use Rattle.buffers.specs.Disks.{IsWhole}
 use Rattle.blocktree.specs.Places.{block_count}
 use Rattle.blocktree.specs.Trees.{IsChanged}
 use Rattle.blocktree.specs.declared.tree.BlockTree.{BlockTree}
 use Rattle.inode.specs.Files.{file_block, IsFile}
 use Rattle.inode.specs.declared.object.Object.{Object}
 use Rattle.blockmap.specs.Maps.{IsFree}
+use Rattle.conspoint.specs.Drafts.{OnEach}
 use Rattle.conspoint.specs.declared.draft.Draft.{Draft}
+use Rattle.placement.specs.declared.file.PlacedFile.{PlacedFile}
 
 -- A file's blocks in memory lie over those that hang from a settled inode, or over none.
 pub data IsBasedOn (base : Inode) (t : BlockTree) : Type 0 where
@@ -87,3 +90,24 @@ pub record IsPlaced (s : Sizes) (e : Blocks) (old : Held) (f : Inode) (taken fre
   pub freed_are : (b : ℕ) → freed b ≡ true → Names old b × (Names (held e f) b → ⊥)
   pub once : IsOnce (held e f)
   pub sound : IsSoundFile s (held e f)
+
+-- this holds on each disk that has the planned blocks, and those that a settled inode names as this one has them
+abbrev pub OnEachWith : Draft → Blocks → Inode → (Blocks → Type 0) → Type 0
+OnEachWith d disk base P = OnEach d (λ e. Agrees (Names (held disk base)) disk e → P e)
+
+-- A changed object is placed over its settled inode. Where all its blocks are stored, or changed, its new file has no hole.
+pub record HasPlaced (s : Sizes) (disk : Blocks) (base : Inode) (o : Object) (d : Draft) (p : PlacedFile) : Type 0 where
+  pub placed : OnEachWith d disk base
+      (λ e. IsPlaced s e (held disk base) p.inode (is_one p.taken.items) (is_one p.freed.items))
+  pub content : OnEachWith d disk base (λ e. content_of (held e p.inode) ≡ object_content disk o)
+  pub no_hole : IsWholeOver disk base o → OnEachWith d disk base (λ e. HasNoHole (held e p.inode))
+  pub whole : AreAllChanged o → OnEachWith d disk base (λ e. HasNoHole (held e p.inode))
+
+-- the same of one whose first block is whatever whole block is put at this place
+pub record HasPlacedButFirst (s : Sizes) (disk : Blocks) (base : Inode) (o : Object) (d : Draft) (p : PlacedFile)
+    (first : ℕ) : Type 0 where
+  pub placed : OnEachWith d disk base (λ e. IsWhole (e first)
+      → IsPlaced s e (held disk base) p.inode (is_one p.taken.items) (is_one p.freed.items))
+  pub there : OnEachWith d disk base (λ e. (held e p.inode).place 0 0 ≡ Block first)
+  pub content : OnEachWith d disk base
+      (λ e. content_of (held e p.inode) ≡ content_with o (with_first (e first) (object_block disk o)))

@@ -1,5 +1,5 @@
 -- Where the nodes of a file are, by height: its blocks, the indirect blocks over each 1,024 of them, and so on.
-use Rattle.std.specs.Prelude.{ℕ, zero, suc, ◌≡◌, ◌<◌, ◌+◌, ◌*◌, ◌≤◌, ◌⊎◌, List, length, slice_index, nat_lt, if◌then◌else◌, Option, Some, None}
+use Rattle.std.specs.Prelude.{ℕ, zero, suc, ◌≡◌, ◌≢◌, ◌<◌, ◌+◌, ◌*◌, ◌≤◌, ◌⊎◌, List, length, slice_index, nat_lt, if◌then◌else◌, Option, Some, None}
 use Rattle.std.specs.List.{slice_get}
 use Rattle.layout.specs.Pointer.{PointsBelow}
 use Rattle.layout.specs.declared.TheConstants.{BLOCK_POINTERS}
@@ -47,6 +47,10 @@ StaysUnder settled lowest height j =
 abbrev pub MOST_NODES : ℕ
 MOST_NODES = 4294967295
 
+-- where block i of a file is settled, if it isn't cut off
+abbrev pub kept_place : BlockTree → Nodes → ℕ → Pointer
+kept_place t settled i = if nat_lt i t.kept then node settled 0 i else Hole
+
 -- over 1,024 holes there is no node
 abbrev pub AreFull : Nodes → Type 0
 AreFull n = (m j : ℕ) → ((i : ℕ) → i < BLOCK_POINTERS → node n m (BLOCK_POINTERS * j + i) ≡ Hole) → node n (suc m) j ≡ Hole
@@ -58,6 +62,11 @@ pub record AreNodesOf (n : Nodes) (h : Held) : Type 0 where
 -- all nodes of a file stay on a disk of so many blocks
 abbrev pub AreWithin : ℕ → Nodes → Type 0
 AreWithin blocks n = (m i : ℕ) → PointsBelow blocks (node n m i)
+
+-- settled nodes as they are read: all stay on a disk of so many blocks, and none is over holes alone
+pub record AreSettledIn (blocks : ℕ) (n : Nodes) : Type 0 where
+  pub within : AreWithin blocks n
+  pub full : AreFull n
 
 -- at each height all nodes are among the first so many
 abbrev pub AreShort : ℕ → Nodes → Type 0
@@ -118,6 +127,11 @@ pub record ArePlacedOver (old new : Draft) (settled placed : Nodes) : Type 0 whe
 pub record AreCounted (t : BlockTree) (n : Nodes) : Type 0 where
   pub heights : height_of n ≡ suc t.depth
   pub end : (m i : ℕ) → nodes_at t.count m ≤ i → node n m i ≡ Hole
+
+-- of a file's blocks from one on and before another, only one that is settled as a hole becomes a hole, and none that is changed
+pub record AreStored (first past : ℕ) (t : BlockTree) (settled : Nodes) (places : ℕ → Pointer) : Type 0 where
+  pub holes : (i : ℕ) → first ≤ i → i < past → places i ≡ Hole → kept_place t settled i ≡ Hole
+  pub changed : (i : ℕ) → first ≤ i → i < past → IsChanged t i → places i ≢ Hole
 
 -- of a file's blocks behind the first and before one, those that aren't changed lie where the settled ones do
 abbrev pub AreKept : ℕ → BlockTree → Nodes → Nodes → Type 0

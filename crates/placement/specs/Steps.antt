@@ -1,5 +1,5 @@
 -- What the steps that place a file promise.
-use Rattle.std.specs.Prelude.{ℕ, zero, suc, ◌≡◌, ◌<◌, ◌≤◌, All, true, Result, OnOk, IfOk, IsErrOf}
+use Rattle.std.specs.Prelude.{ℕ, zero, suc, ◌≡◌, ◌<◌, ◌≤◌, All, true, Result, OnOk, IsErrOf}
 use Rattle.images.specs.Sums.{sum_below}
 use Rattle.blocktree.specs.Names.{nodes_at}
 use Rattle.blocktree.specs.declared.place_map.PlaceMap.{PlaceMap}
@@ -42,18 +42,8 @@ abbrev pub PlacesHeights : {T : Type 0} → ℕ → ℕ → Nodes → PlaceMap �
 PlacesHeights blocks level settled lowest old new result =
     (w : ℕ → ℕ → ℕ) → CountsHeights w blocks level settled lowest → Places (sum_below (raise_stores blocks w) level) old new result
 
--- the file of an answer that has something beside it
-abbrev pub file_in : {T : Type 0} → PlacedFile × T → PlacedFile
-file_in r = r.0
-
--- the same of one whose answer is a file that is placed: its blocks were given out, and lie on the disk as those that it leaves do
-pub record PlacesFile {B T : Type 0} (G : Ghosts B) (n : ℕ) (file_of : T → PlacedFile) (blocks after : B) (old new : Draft) (result : Result T PlanError) : Type 0 where
-  pub reads : ReadsBlocks G IsReadFault blocks after result
-  pub grows : Grows old new
-  pub parts : new.map.parts.items ≡ old.map.parts.items
-  pub others : (p : ℕ) → IsReserved old p → IsReserved new p
-  pub takes : OnOk result (TakesAtMost n old new)
-  pub lacks : IsErrOf result NoSpace → Lacks n old
-  pub taken : IfOk result (λ r. All (λ b. b < old.map.count) (file_of r).taken.items)
-  pub freed : IfOk result (λ r. All (λ b. b < old.map.count) (file_of r).freed.items)
-  pub given : IfOk result (λ r. (b : ℕ) → is_one (file_of r).taken.items b ≡ true → WasTaken old new b)
+-- the blocks that were given out between two drafts for a file that is placed lie on the disk, as those do that it leaves
+pub record HasBlocks (old new : Draft) (p : PlacedFile) : Type 0 where
+  pub taken : All (λ b. b < old.map.count) p.taken.items
+  pub freed : All (λ b. b < old.map.count) p.freed.items
+  pub given : (b : ℕ) → is_one p.taken.items b ≡ true → WasTaken old new b

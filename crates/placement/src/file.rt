@@ -1,26 +1,22 @@
 //! A changed file, placed.
 
-ghost use Rattle.std.specs.Prelude.{◌≡◌, ◌≢◌, ℕ, ◌<◌, ◌≤◌, List, [], All, Contains, ◌↔◌, IfOk, OnOk, IsErrOf, min, nat_lt, if◌then◌else◌};
+ghost use Rattle.std.specs.Prelude.{◌≡◌, ℕ, ◌<◌, ◌≤◌, List, [], All, Contains, ◌↔◌, IfOk, OnOk, IsErrOf, min};
 ghost use Rattle.layout.specs.Limits.{Sizes};
 ghost use Rattle.layout.specs.Version.{level_of};
 ghost use Rattle.layout.specs.declared.inode.Inode.{Inode};
-ghost use Rattle.layout.specs.declared.pointer.Pointer.TheVariants.{Hole};
-ghost use Rattle.images.specs.Contents.{content_of};
-ghost use Rattle.images.specs.Nodes.{held, Agrees, Names};
-ghost use Rattle.images.specs.Soundness.{HasNoHole, IsSoundFile};
-ghost use Rattle.blocktree.specs.Names.{nodes_at};
+ghost use Rattle.images.specs.Nodes.{held};
+ghost use Rattle.images.specs.Soundness.{IsSoundFile};
 ghost use Rattle.blocktree.specs.PlaceMaps.{AreBelow, EndBefore, place_at};
 ghost use Rattle.blocktree.specs.Places.{block_count};
-ghost use Rattle.blocktree.specs.Trees.{IsChanged, IsSoundAt};
+ghost use Rattle.blocktree.specs.Trees.{IsSoundAt};
 ghost use Rattle.inode.specs.Files.{IsFile};
 ghost use Rattle.conspoint.specs.Blocks.{AreWholeOver};
-ghost use Rattle.conspoint.specs.Drafts.{OnEach};
-ghost use Rattle.placement.specs.Files.{AreAllChanged, IsChangeOf, IsPlaced, IsWholeOver, is_one, object_block, object_content};
-ghost use Rattle.placement.specs.Layouts.{AreSettledNodes, Carries, IsLaidOut, StandsIn, inode_with};
-ghost use Rattle.placement.specs.Nodes.{AreCounted, AreFull, AreKept, ArePlacedIn, ArePlacedOver, AreShort, AreWithin, HasMoved, height_of, node};
+ghost use Rattle.placement.specs.Files.{HasPlaced, IsChangeOf, object_block};
+ghost use Rattle.placement.specs.Layouts.{AreRaised, AreSettledNodes, Carries, IsLaidOut, IsLaidOver, StandsIn, inode_with};
+ghost use Rattle.placement.specs.Nodes.{AreCounted, AreKept, AreSettledIn, AreShort, AreStored, AreWithin, HasMoved, node};
 ghost use Rattle.placement.specs.Space.{file_stores};
 ghost use Rattle.conspoint.specs.Steps.{Places};
-ghost use Rattle.placement.specs.Steps.{PlacesFile, PlacesHeights, ReadsAndPlaces};
+ghost use Rattle.placement.specs.Steps.{HasBlocks, PlacesHeights, ReadsAndPlaces};
 ghost use Rattle.buffers.specs.Reads.{ReadsBlocks};
 ghost use Rattle.conspoint.specs.Errors.{IsReadFault};
 
@@ -82,17 +78,12 @@ pub(crate) fn lay_over(
     requires level { 1 ≤ level_of object.now.file.size }
     requires end { EndBefore (block_count object.now.file.size) blocks }
     requires blocks { AreBelow draft.old.map.count blocks }
-    requires settled { AreWithin draft.old.map.count settled.now }
-    requires full { AreFull settled.now }
-    ensures step { PlacesHeights (block_count object.now.file.size) (level_of object.now.file.size) settled.now blocks draft.old draft.new result }
+    requires settled { AreSettledIn draft.old.map.count settled.now }
+    ensures step { PlacesHeights (block_count object.now.file.size)
+        (level_of object.now.file.size) settled.now blocks draft.old draft.new result }
     ensures kept { IfOk result (λ l. l.kept ≡ kept) }
-    ensures blocks { IfOk result (λ l. (i : ℕ) → node l.nodes 0 i ≡ place_at blocks i) }
-    ensures end { IfOk result (λ l. (m i : ℕ)
-        → nodes_at (block_count object.now.file.size) m ≤ i → node l.nodes m i ≡ Hole) }
-    ensures heights { IfOk result (λ l.
-        height_of l.nodes ≡ level_of object.now.file.size) }
-    ensures placed { IfOk result (λ l. ArePlacedIn 1 (level_of object.now.file.size)
-        draft.old draft.new settled.now l.nodes) }
+    ensures raised { IfOk result (λ l. AreRaised (block_count object.now.file.size)
+        (level_of object.now.file.size) settled.now blocks draft.old draft.new l.nodes) }
     ensures stands { (s : Sizes) (disk : ℕ → List ℕ) (base : Inode)
         → s.blocks ≡ draft.old.map.count → IsSoundFile s (held disk base)
         → AreSettledNodes disk base object.now.file.tree settled.now → IfOk result (λ l.
@@ -113,22 +104,14 @@ fn lay_blocks(
     settled: &Nodes,
 ) -> Result<Laid, PlanError>
     requires level { 1 ≤ level_of object.now.file.size }
-    requires settled { AreWithin draft.old.map.count settled.now }
-    requires full { AreFull settled.now }
+    requires settled { AreSettledIn draft.old.map.count settled.now }
     requires counted { AreCounted object.now.file.tree settled.now }
     ensures step { Places (file_stores object.now.file) draft.old draft.new result }
-    ensures holes { IfOk result (λ l. (i : ℕ) → i < block_count object.now.file.size
-        → node l.nodes 0 i ≡ Hole
-        → (if nat_lt i object.now.file.tree.kept then node settled.now 0 i
-        else Hole) ≡ Hole) }
-    ensures stored { IfOk result (λ l. (i : ℕ) → i < block_count object.now.file.size
-        → IsChanged object.now.file.tree i → node l.nodes 0 i ≢ Hole) }
+    ensures laid { IfOk result (IsLaidOver object.now settled.now draft.old draft.new) }
+    ensures stored { IfOk result (λ l. AreStored 0 (block_count object.now.file.size)
+        object.now.file.tree settled.now (node l.nodes 0)) }
     ensures whole { OnOk result
         (AreWholeOver object.now.file.tree 0 (block_count object.now.file.size)) }
-    ensures placed { IfOk result (λ l. ArePlacedOver draft.old draft.new settled.now l.nodes) }
-    ensures short { IfOk result (λ l. AreShort (block_count object.now.file.size) l.nodes) }
-    ensures kept { IfOk result (λ l.
-        AreKept l.kept object.now.file.tree settled.now l.nodes) }
     ensures stands { (s : Sizes) (disk : ℕ → List ℕ) (base : Inode)
         → IsChangeOf s draft.old disk base object.now
         → AreSettledNodes disk base object.now.file.tree settled.now
@@ -175,24 +158,16 @@ fn lay<B: Blocks>(
     object: &Object,
     settled: &Nodes,
 ) -> Result<Laid, PlanError>
-    requires settled { AreWithin draft.old.map.count settled.now }
-    requires full { AreFull settled.now }
+    requires settled { AreSettledIn draft.old.map.count settled.now }
     requires counted { AreCounted object.now.file.tree settled.now }
-    ensures step { ReadsAndPlaces B.Blocks (file_stores object.now.file) blocks.old blocks.new draft.old draft.new result }
-    ensures holes { IfOk result (λ l. (i : ℕ)
-        → 1 ≤ level_of object.now.file.size → i < block_count object.now.file.size
-        → node l.nodes 0 i ≡ Hole
-        → (if nat_lt i object.now.file.tree.kept then node settled.now 0 i
-        else Hole) ≡ Hole) }
-    ensures stored { IfOk result (λ l. (i : ℕ)
-        → 1 ≤ level_of object.now.file.size → i < block_count object.now.file.size
-        → IsChanged object.now.file.tree i → node l.nodes 0 i ≢ Hole) }
+    ensures step { ReadsAndPlaces B.Blocks (file_stores object.now.file)
+        blocks.old blocks.new draft.old draft.new result }
+    ensures laid { IfOk result (IsLaidOver object.now settled.now draft.old draft.new) }
+    ensures stored { IfOk result (λ l. 1 ≤ level_of object.now.file.size
+        → AreStored 0 (block_count object.now.file.size) object.now.file.tree settled.now
+        (node l.nodes 0)) }
     ensures whole { OnOk result (1 ≤ level_of object.now.file.size
         → AreWholeOver object.now.file.tree 0 (block_count object.now.file.size)) }
-    ensures placed { IfOk result (λ l. ArePlacedOver draft.old draft.new settled.now l.nodes) }
-    ensures short { IfOk result (λ l. AreShort (block_count object.now.file.size) l.nodes) }
-    ensures kept { IfOk result (λ l.
-        AreKept l.kept object.now.file.tree settled.now l.nodes) }
     ensures stands { (s : Sizes) (disk : ℕ → List ℕ) (base : Inode) → B.Shows blocks.old disk
         → IsChangeOf s draft.old disk base object.now
         → AreSettledNodes disk base object.now.file.tree settled.now
@@ -260,24 +235,12 @@ pub fn place_file<B: Blocks>(
     object: &Object,
 ) -> Result<PlacedFile, PlanError>
     requires { B.count blocks.old ≡ draft.old.map.count }
-    ensures step { PlacesFile B.Blocks (file_stores object.now.file) (λ p. p) blocks.old blocks.new draft.old draft.new result }
-    // On each disk that has the planned blocks, and those that the settled inode names as they are.
+    ensures step { ReadsAndPlaces B.Blocks (file_stores object.now.file)
+        blocks.old blocks.new draft.old draft.new result }
+    ensures blocks { IfOk result (HasBlocks draft.old draft.new) }
     ensures placed { (s : Sizes) (disk : ℕ → List ℕ) (base : Inode) → B.Shows blocks.old disk
         → IsChangeOf s draft.old disk base object.now
-        → IfOk result (λ p. OnEach draft.new (λ e. Agrees (Names (held disk base)) disk e
-        → IsPlaced s e (held disk base) p.inode (is_one p.taken.items) (is_one p.freed.items))) }
-    ensures no_hole { (s : Sizes) (disk : ℕ → List ℕ) (base : Inode) → B.Shows blocks.old disk
-        → IsChangeOf s draft.old disk base object.now → IsWholeOver disk base object.now
-        → IfOk result (λ p. OnEach draft.new (λ e. Agrees (Names (held disk base)) disk e
-        → HasNoHole (held e p.inode))) }
-    ensures whole { (s : Sizes) (disk : ℕ → List ℕ) (base : Inode) → B.Shows blocks.old disk
-        → IsChangeOf s draft.old disk base object.now → AreAllChanged object.now
-        → IfOk result (λ p. OnEach draft.new (λ e. Agrees (Names (held disk base)) disk e
-        → HasNoHole (held e p.inode))) }
-    ensures content { (s : Sizes) (disk : ℕ → List ℕ) (base : Inode) → B.Shows blocks.old disk
-        → IsChangeOf s draft.old disk base object.now
-        → IfOk result (λ p. OnEach draft.new (λ e. Agrees (Names (held disk base)) disk e
-        → content_of (held e p.inode) ≡ object_content disk object.now)) }
+        → IfOk result (HasPlaced s disk base object.now draft.new) }
     ensures damaged { (s : Sizes) (disk : ℕ → List ℕ) (base : Inode) → B.Shows blocks.old disk
         → IsChangeOf s draft.old disk base object.now → IsErrOf result PlanError.Damaged → ⊥ }
 {

@@ -1,14 +1,12 @@
 //! The indirect blocks over a file's nodes, height by height.
 
-ghost use Rattle.std.specs.Prelude.{◌≡◌, ℕ, suc, ◌+◌, ◌<◌, ◌≤◌, ◌^◌, IfOk};
-ghost use Rattle.layout.specs.declared.pointer.Pointer.TheVariants.{Hole};
-ghost use Rattle.blocktree.specs.Names.{nodes_at};
+ghost use Rattle.std.specs.Prelude.{ℕ, suc, ◌+◌, ◌<◌, ◌≤◌, ◌^◌, IfOk};
 ghost use Rattle.blocktree.specs.PlaceMaps.{AreBelow, EndBefore, place_at};
 ghost use Rattle.conspoint.specs.Drafts.{OnEach};
 ghost use Rattle.conspoint.specs.Groups.{group, Follows, IsGroup};
 ghost use Rattle.conspoint.specs.Steps.{PlacesOver};
-ghost use Rattle.placement.specs.Layouts.{StandOver};
-ghost use Rattle.placement.specs.Nodes.{AreFull, ArePlacedAt, ArePlacedIn, AreWithin, height_of, node, under};
+ghost use Rattle.placement.specs.Layouts.{AreRaised, StandOver};
+ghost use Rattle.placement.specs.Nodes.{ArePlacedAt, AreSettledIn, AreWithin, node, under};
 ghost use Rattle.placement.specs.Steps.{PlacesHeights};
 
 use crate::nodes::Nodes;
@@ -66,15 +64,11 @@ pub(crate) fn raise_all(
     requires few { count < 4294966272 }
     requires within { AreBelow draft.old.map.count lowest }
     requires end { EndBefore count lowest }
-    requires settled { AreWithin draft.old.map.count settled.now }
-    requires full { AreFull settled.now }
+    requires settled { AreSettledIn draft.old.map.count settled.now }
     ensures step { PlacesHeights count level settled.now lowest draft.old draft.new result }
-    ensures heights { IfOk result (λ n. height_of n ≡ level) }
-    ensures lowest { IfOk result (λ n. (i : ℕ) → node n 0 i ≡ place_at lowest i) }
-    ensures end { IfOk result (λ n. (m i : ℕ) → nodes_at count m ≤ i → node n m i ≡ Hole) }
+    ensures raised { IfOk result
+        (AreRaised count level settled.now lowest draft.old draft.new) }
     ensures over { IfOk result (λ n. OnEach draft.new (λ e. StandOver e settled.now n)) }
-    ensures placed { IfOk result (λ n.
-        ArePlacedIn 1 level draft.old draft.new settled.now n) }
 {
     let mut nodes = Nodes {
         heights: Vec::new(alloc),

@@ -10,7 +10,7 @@ ghost use Rattle.images.specs.Nodes.{held};
 ghost use Rattle.images.specs.Soundness.{IsSoundFile};
 ghost use Rattle.placement.specs.Files.{IsBasedOn};
 ghost use Rattle.placement.specs.Layouts.{AreSettledNodes};
-ghost use Rattle.placement.specs.Nodes.{AreCounted, AreFull, AreWithin, MOST_NODES, height_of, node};
+ghost use Rattle.placement.specs.Nodes.{AreCounted, AreSettledIn, MOST_NODES, height_of, node};
 ghost use Rattle.buffers.specs.Reads.{ReadsBlocks};
 ghost use Rattle.conspoint.specs.Errors.{IsReadFault};
 ghost use Rattle.conspoint.specs.Groups.{group};
@@ -87,9 +87,8 @@ pub fn settled_nodes<B: Blocks>(
     tree: &BlockTree,
 ) -> Result<Nodes, PlanError>
     ensures reads { ReadsBlocks B.Blocks IsReadFault blocks.old blocks.new result }
-    ensures within { IfOk result (AreWithin (B.count blocks.old)) }
+    ensures nodes { IfOk result (AreSettledIn (B.count blocks.old)) }
     ensures sizes { IfOk result (AreCounted tree.now) }
-    ensures full { IfOk result AreFull }
     ensures settled { (s : Sizes) (disk : ℕ → List ℕ) (base : Inode) → B.Shows blocks.old disk
         → IsBasedOn base tree.now → IsSoundFile s (held disk base)
         → IfOk result (AreSettledNodes disk base tree.now) }

@@ -20,6 +20,5 @@ mod LoopLaws
 mod SpaceLaws
 mod TopLaws
 mod PromiseLaws
-mod PlacingLaws
 mod TellLaws
 pub mod NeedLaws

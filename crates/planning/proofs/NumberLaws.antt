@@ -34,10 +34,10 @@ use Rattle.inofile.specs.Objects.{IsObject, IsObjectKind}
 use Rattle.inofile.specs.Settled.{content_of_object as memory_content}
 use Rattle.inofile.specs.declared.inode_file.InodeFile.{InodeFile}
 use Rattle.model.specs.Attributes.{no_attributes, AreAttributes}
-use Rattle.model.specs.Volumes.{Node, Volume}
+use Rattle.model.specs.Volumes.{Node}
 use Rattle.model.proofs.AttributeLaws.{new_fit}
 use Rattle.placement.specs.Files.{IsBasedOn, IsPlaced, IsChangeOf, object_content}
-use Rattle.planning.specs.Numbers.{IsCleared, IsNumberPlaced, IsObjectOver, IsOverSettled, IsSettledFile, trimmed}
+use Rattle.planning.specs.Numbers.{IsCleared, IsNumberPlaced, IsObjectOver, IsSettledFile, trimmed}
 use Rattle.placement.specs.Files.IsBasedOn.{settled, none}
 use Rattle.images.proofs.EmptyLaws.{none_named, free_sound, held_inode}
 use Rattle.layout.proofs.SizeLaws.{level_none}
@@ -187,10 +187,6 @@ ordinary_kind kinds.BlockMap is = absurd is
 pub object_over : (s : Sizes) (inodes : ℕ) (d : Blocks) (f g : Inode) (o : Object) (found : Option Node) → f ≡ g → IsObject d inodes g o found → IsObjectOver s d f o
 object_over s inodes d f g o found now object =
     record { based = subst (λ (x : Inode). IsBased x o.file.tree) (sym now) object.base; ends = object.ends; attributes = object.attributes; kind = object.fits s }
-
-pub file_over : (count : ℕ) (draft : Draft) (d : Blocks) (settled_of : ℕ → Inode) (inodes : InodeFile) (v : Volume) (n : ℕ) (f : Inode) → IsOverSettled count draft d settled_of inodes v
-    → f ≡ settled_of n → IsSettledFile inodes.geometry draft d f
-file_over count draft d settled_of inodes v n f memory now = subst (λ (x : Inode). IsSettledFile inodes.geometry draft d x) (sym now) (memory.files n)
 
 -- an object that was placed is the number's file
 pub object_placed : (s : Sizes) (d e : Blocks) (settled_of : ℕ → Inode) (inodes : InodeFile) (n : ℕ) (f new : Inode) (o : Object) (taken freed : ℕ → Bool) → f ≡ settled_of n

@@ -15,6 +15,7 @@ use Rattle.layout.specs.declared.inode.Inode.{Inode}
 use Rattle.layout.specs.declared.root.Root.{Root}
 use Rattle.layout.specs.declared.version.TheConstants.{VERSION}
 use Rattle.model.specs.Volumes.{Volume}
+use Rattle.buffers.specs.declared.blocks.Blocks.{Ghosts}
 use Rattle.blockmap.specs.Maps.{entry_at, settled_at}
 use Rattle.blockmap.specs.declared.map.BlockMap.{BlockMap}
 use Rattle.conspoint.specs.Drafts.{Grows, HasAll, OnEach}
@@ -44,7 +45,8 @@ use Rattle.planning.specs.Plans.{IsAllPlanned, IsClean, IsPlanStart, IsPlannable
 use Rattle.planning.specs.Points.{IsComplete, planned_tree}
 use Rattle.planning.specs.Progress.{Before, IsExactPlane, IsProgress, PlannedInodes}
 use Rattle.planning.specs.Space.{CountsBlocks, map_stores, nodes_below, top_nodes}
-use Rattle.planning.specs.Steps.{settled_tree}
+use Rattle.planning.specs.Promises.{AreOfSizes}
+use Rattle.planning.specs.Steps.{OverTree, settled_tree}
 use Rattle.planning.specs.declared.change.SnapshotChange.{SnapshotChange}
 use Rattle.planning.specs.declared.change.SnapshotChange.TheVariants.{Delete, Restore, Take, Unchanged}
 use Rattle.planning.proofs.BaseLaws.{TreesAreBases, has_active, has_entries, restored_touched, start_base, start_file, start_sound, will_have}
@@ -330,44 +332,57 @@ module _ {start : Draft} (spelled : ReadsSpelled) (reads_past : ReadsPast) (same
   entries_are e has agrees =
       entries_on spelled reads_past same_held disk r new base_of draft (before_of change m) found_of inodes v now_planned root plannable.sound is_base base_sound past plannable.entries geometry plannable.memory.mapped objects_after e has agrees
 
--- where a plan of a root starts
-pub start_is : (bases : TreesAreBases) (d : ℕ → List ℕ) (change : SnapshotChange) (r : Root) (slot generation count : ℕ) (m : BlockMap) (draft : Draft) (inodes : InodeFile) (base v : Volume) → IsPlannable change r d slot generation m inodes base v
-    → FitsSlots change → inodes.geometry ≡ r.geometry → count ≡ r.geometry.blocks → m.count ≡ r.geometry.blocks → draft.map ≡ m → IsClean m
-    → IsRootStart change count draft (blocks_of d) r (inodes_from change (blocks_of d) r) inodes v (before_of change m)
-start_is bases d change r slot generation count m draft inodes base v plannable fits sizes count_is blocks_is map_is clean =
-    let disk = blocks_of d in
-    let t = starting_tree change (whole disk r) in
-    let is_base = start_base disk r plannable.sound bases change fits plannable.restored in
-    let same : settled_tree disk (inodes_of t) ≡ t = tree_is disk r t (starting_plane change) is_base in
-    let sound : IsSoundTree r.geometry (settled_tree disk (inodes_of t)) = subst (IsSoundTree r.geometry) (sym same) (start_sound disk r plannable.sound bases change fits plannable.restored) in
-    record {
-      memory = record {
-        volume = subst (λ n. IsVolumeOf n disk (inodes_of t) inodes v) (sym count_is) plannable.memory;
-        once = sound.once;
-        exact = subst (λ (u : HeldTree). IsExactPlane u (before_of change m)) (sym same)
-            (λ b. (
-              λ has. (is_base.exact b).0 (subst (HasBit (starting_plane change)) (plannable.entries b) has),
-              λ reach. subst (HasBit (starting_plane change)) (sym (plannable.entries b)) ((is_base.exact b).1 reach),
-            ));
-      };
-      sound = subst (λ (s : Sizes). IsSoundTree s (settled_tree disk (inodes_of t))) (sym sizes) sound;
-      top = start_file disk r change plannable.restored;
+-- where a plan of a root starts: in a tree in its grammar
+module _ (bases : TreesAreBases) (d : ℕ → List ℕ) (change : SnapshotChange) (r : Root) (slot generation : ℕ) (m : BlockMap) (inodes : InodeFile) (base v : Volume) (plannable : IsPlannable change r d slot generation m inodes base v)
+    (fits : FitsSlots change) where
+  abbrev pub first_tree : HeldTree
+  first_tree = starting_tree change (whole (blocks_of d) r)
+
+  pub is_first : IsBase (blocks_of d) r first_tree (starting_plane change)
+  is_first = start_base (blocks_of d) r plannable.sound bases change fits plannable.restored
+
+  pub tree_same : settled_tree (blocks_of d) (inodes_of first_tree) ≡ first_tree
+  tree_same = tree_is (blocks_of d) r first_tree (starting_plane change) is_first
+
+  pub first_sound : IsSoundTree r.geometry (settled_tree (blocks_of d) (inodes_of first_tree))
+  first_sound = subst (IsSoundTree r.geometry) (sym tree_same) (start_sound (blocks_of d) r plannable.sound bases change fits plannable.restored)
+
+  pub first_exact : IsExactPlane (settled_tree (blocks_of d) (inodes_of first_tree)) (before_of change m)
+  first_exact = subst (λ (u : HeldTree). IsExactPlane u (before_of change m)) (sym tree_same)
+      (λ b. (
+        λ has. (is_first.exact b).0 (subst (HasBit (starting_plane change)) (plannable.entries b) has),
+        λ reach. subst (HasBit (starting_plane change)) (sym (plannable.entries b)) ((is_first.exact b).1 reach),
+      ))
+
+  module _ {B : Type 0} (G : Ghosts B) (x : B) (shows : G.Shows x (blocks_of d)) (sizes : AreOfSizes r inodes (G.count x) m) where
+    abbrev pub over_first : OverTree G x inodes
+    over_first = record {
+      disk = blocks_of d;
+      settled = inodes_from change (blocks_of d) r;
+      volume = v;
+      before = before_of change m;
+      shows = shows;
+      memory = subst (λ n. IsVolumeOf n (blocks_of d) (inodes_of first_tree) inodes v) (sym sizes.disk) plannable.memory;
+      once = first_sound.once;
+      exact = first_exact;
+    }
+
+    pub start_is : (draft : Draft) → IsClean m → draft.map ≡ m → IsRootStart over_first change draft r
+    start_is draft clean map_is = record {
+      sound = subst (λ (s : Sizes). IsSoundTree s (settled_tree (blocks_of d) (inodes_of first_tree))) (sym sizes.sizes) first_sound;
+      top = start_file (blocks_of d) r change plannable.restored;
       plane = refl;
       clean = subst IsClean (sym map_is) clean;
-      same = λ b. ap (λ (x : BlockMap). settled_at x.parts.items b) map_is;
-      entries = subst (λ (u : HeldTree). WillHaveEntries change draft.map.count (settled_at m.parts.items) u) (sym same)
-          (will_have disk r plannable.sound change draft.map.count (settled_at m.parts.items) (ap (λ (x : BlockMap). x.count) map_is ∙ blocks_is) plannable.entries plannable.restored);
+      same = λ b. ap (λ (y : BlockMap). settled_at y.parts.items b) map_is;
+      entries = subst (λ (u : HeldTree). WillHaveEntries change draft.map.count (settled_at m.parts.items) u) (sym tree_same)
+          (will_have (blocks_of d) r plannable.sound change draft.map.count (settled_at m.parts.items) (ap (λ (y : BlockMap). y.count) map_is ∙ sizes.size) plannable.entries plannable.restored);
     }
 
 -- where that of its files starts, once the snapshots are changed, in a draft that grew
-pub start_later : (change : SnapshotChange) (count : ℕ) (old new : Draft) (disk : Blocks) (r : Root) (settled : ℕ → Inode) (inodes : InodeFile) (v : Volume) (before : Before) (top : Inode)
-    → IsRootStart change count old disk r settled inodes v before → top ≡ starting_file change r → Grows old new
-    → StartsActive change (settled_at old.map.parts.items) (entry_at old.map.parts.items) (entry_at new.map.parts.items) → TouchesRestored change new → IsPlanStart count new disk top settled inodes v before
-start_later change count old new disk r settled inodes v before top start top_is grows starts touched = record {
-  memory = start.memory;
-  sound = start.sound;
+pub start_later : {B : Type 0} {G : Ghosts B} {x : B} {inodes : InodeFile} {o : OverTree G x inodes} (change : SnapshotChange) (old new : Draft) (r : Root) (top : Inode) → IsRootStart o change old r → top ≡ starting_file change r
+    → Grows old new → StartsActive change (settled_at old.map.parts.items) (entry_at old.map.parts.items) (entry_at new.map.parts.items) → TouchesRestored change new → IsPlanStart o new top
+start_later {o = o} change old new r top start top_is grows starts touched = record {
+  map = record { sound = start.sound; same = λ b. grows.settled.settled b ∙ start.same b; entries = has_entries change old new o.before.entry (settled_tree o.disk o.settled) grows touched start.entries };
   top = start.top ∙ sym top_is;
-  active = has_active change before (settled_at old.map.parts.items) (entry_at old.map.parts.items) (entry_at new.map.parts.items) start.plane start.same start.clean starts;
-  same = λ b. grows.settled.settled b ∙ start.same b;
-  entries = has_entries change old new before.entry (settled_tree disk settled) grows touched start.entries;
+  active = has_active change o.before (settled_at old.map.parts.items) (entry_at old.map.parts.items) (entry_at new.map.parts.items) start.plane start.same start.clean starts;
 }

@@ -13,22 +13,24 @@ use Rattle.blockmap.specs.Maps.{entry_at}
 use Rattle.blockmap.specs.declared.map.BlockMap.{BlockMap}
 use Rattle.conspoint.specs.Drafts.{Grows, IsShortage}
 use Rattle.conspoint.specs.Errors.{IsReadFault, plan_error}
-use Rattle.conspoint.specs.Space.{TakesAtMost}
+use Rattle.conspoint.specs.Space.{Lacks, TakesAtMost}
 use Rattle.conspoint.specs.Steps.{Marks, Puts, Takes}
 use Rattle.conspoint.specs.declared.draft.Draft.{Draft}
 use Rattle.conspoint.specs.declared.error.PlanError.{PlanError}
 use Rattle.conspoint.specs.declared.error.PlanError.TheVariants.{Damaged, Device, NoMemory, NoSpace}
 use Rattle.conspoint.proofs.DraftLemmas.{grows_twice}
 use Rattle.conspoint.proofs.SpaceLemmas.{same_left}
-use Rattle.conspoint.proofs.StepLemmas.{marks_take, no_error, other_error, same_error, takes_both, takes_more}
+use Rattle.conspoint.proofs.StepLemmas.{marks_take, no_error, same_error, takes_both, takes_more}
 use Rattle.inode.specs.declared.file.File.{File}
-use Rattle.placement.specs.Steps.{PlacesFile}
-use Rattle.placement.specs.declared.file.PlacedFile.{PlacedFile}
-use Rattle.placement.proofs.StepLaws.{read_ended}
+use Rattle.inofile.specs.declared.inode_file.InodeFile.{InodeFile}
+use Rattle.placement.specs.Steps.{ReadsAndPlaces}
+use Rattle.placement.proofs.StepLaws.{both_out, read_ended, reads_nothing}
 use Rattle.planning.specs.Inodes.{ChangesFile, KeepsFile}
 use Rattle.planning.specs.Progress.{KeepsSets}
-use Rattle.planning.specs.Promises.{PlansFiles, PlansParts, PlansRoot}
+use Rattle.planning.specs.Promises.{CountsMap, PlansFiles, PlansParts, PlansRoot}
+use Rattle.planning.specs.Steps.{OverTree}
 use Rattle.planning.proofs.ProgressLaws.{sets_from, sets_twice}
+use Rattle.planning.proofs.SettledLaws.{over_read}
 use Rattle.planning.proofs.TopLaws.{changes_none, changes_twice}
 
 -- ---- errors
@@ -88,9 +90,10 @@ module _ {B : Type 0} {G : Ghosts B} {n : ℕ} {x y : B} {a b : Draft} where
   plans_err {e = e} (Err f) is part = record { reads = reads_err (Err f) is part.reads; grows = part.grows; sets = tt; takes = tt; lacks = λ bad. part.lacks (same_error f e NoSpace is bad) }
 
   -- a file is placed
-  pub plans_file : {T : Type 0} {f : T → PlacedFile} {r : Result T PlanError} → PlacesFile G n f x y a b r → PlansFiles G n x y a b r
+  pub plans_file : {T : Type 0} {r : Result T PlanError} → ReadsAndPlaces G n x y a b r → PlansFiles G n x y a b r
   plans_file {r = r} step = record { reads = step.reads; grows = step.grows; sets = sets_same a b r step.parts; takes = step.takes; lacks = step.lacks }
 
+  -- more are counted than it takes
   pub plans_rise : {T : Type 0} {k : ℕ} {r : Result T PlanError} → PlansFiles G n x y a b r → n ≤ k → PlansFiles G k x y a b r
   plans_rise {k = k} {r = r} part le = record {
     reads = part.reads;
@@ -103,9 +106,7 @@ module _ {B : Type 0} {G : Ghosts B} {n : ℕ} {x y : B} {a b : Draft} where
 module _ {B : Type 0} {G : Ghosts B} {n : ℕ} {x y : B} {d : Draft} where
   -- only reading is done
   pub plans_read : {T : Type 0} {r : Result T PlanError} → ReadsBlocks G IsReadFault x y r → (IsErrOf r NoSpace → ⊥) → PlansFiles G n x y d d r
-  plans_read {r = r} read why =
-      let step = read_ended {n = n} read why in
-      record { reads = read; grows = step.grows; sets = sets_same d d r step.parts; takes = step.takes; lacks = step.lacks }
+  plans_read read why = plans_file (read_ended read why)
 
   pub plans_seen : {T : Type 0} {v : T} → ReadsBlocks {T = T} {E = ReadError} G IsFault x y (Ok v) → PlansFiles G n x y d d (Ok v)
   plans_seen read = plans_read (read_of read) (λ bad. no_error NoSpace bad)
@@ -114,14 +115,19 @@ module _ {B : Type 0} {G : Ghosts B} {n : ℕ} {x y : B} {d : Draft} where
   plans_reads read = plans_ok (plans_seen read)
 
   -- a reading failed
+  pub both_unread : {T U : Type 0} {e : ReadError} (q : Result U PlanError) → IsErrAnd q (λ f. f ≡ plan_error e) → ReadsBlocks {T = T} G IsFault x y (Err e) → ReadsAndPlaces G n x y d d q
+  both_unread (Ok w) is read = absurd is
+  both_unread {e = e} (Err f) is read = read_ended (unread_of (Err f) is read) (λ bad. not_full e (sym is ∙ error_is f NoSpace bad))
+
   pub plans_unread : {T U : Type 0} {e : ReadError} (q : Result U PlanError) → IsErrAnd q (λ f. f ≡ plan_error e) → ReadsBlocks {T = T} G IsFault x y (Err e) → PlansFiles G n x y d d q
-  plans_unread (Ok w) is read = absurd is
-  plans_unread {e = e} (Err f) is read = plans_read (unread_of (Err f) is read) (λ bad. not_full e (sym is ∙ error_is f NoSpace bad))
+  plans_unread q is read = plans_file (both_unread q is read)
 
 -- there was no memory
+pub both_none : {B U : Type 0} {G : Ghosts B} {n : ℕ} {x : B} {d : Draft} (q : Result U PlanError) → IsErrAnd q (λ f. f ≡ NoMemory) → ReadsAndPlaces G n x x d d q
+both_none {n = n} q is = both_out q is (read_ended {n = n} reads_nothing (λ bad. no_error NoSpace bad))
+
 pub plans_out : {B U : Type 0} {G : Ghosts B} {n : ℕ} {x : B} {d : Draft} (q : Result U PlanError) → IsErrAnd q (λ f. f ≡ NoMemory) → PlansFiles G n x x d d q
-plans_out (Ok w) is = absurd is
-plans_out (Err f) is = plans_read (unread (Err f) (subst IsShortage (sym is) tt)) (λ bad. other_error f is bad)
+plans_out q is = plans_file (both_none q is)
 
 module _ {B T : Type 0} {G : Ghosts B} {x : B} {a b : Draft} {r : Result T PlanError} where
   -- nothing is read
@@ -167,28 +173,64 @@ pub plans_so_far : {B T : Type 0} {G : Ghosts B} {n : ℕ} {x y : B} {a b : Draf
     → PlansFiles G n x y a b (Ok w)
 plans_so_far read grows sets takes = record { reads = only_ok read; grows = grows; sets = sets; takes = takes; lacks = λ bad. no_error NoSpace bad }
 
--- ---- parts whose blocks are counted apart
+-- ---- parts of which the inode map is one
 
-module _ {B T : Type 0} {G : Ghosts B} {x y : B} {a b : Draft} where
-  pub parts_of : {n : ℕ} {r : Result T PlanError} → PlansFiles G n x y a b r → PlansParts G x y a b r
-  parts_of part = record { reads = part.reads; grows = part.grows; sets = part.sets }
+module _ {B T : Type 0} {G : Ghosts B} {inodes : InodeFile} {x y : B} {a b : Draft} where
+  pub parts_of : {n : ℕ} {k : (ℕ → ℕ) → ℕ} {r : Result T PlanError} → PlansFiles G n x y a b r → ((o : OverTree G x inodes) (w : ℕ → ℕ) → CountsMap o w → n ≤ k w) → PlansParts G inodes k x y a b r
+  parts_of {n = n} {k = k} {r = r} part few = record {
+    reads = part.reads;
+    grows = part.grows;
+    sets = part.sets;
+    takes = λ o w counts. takes_more n (k w) a b r (few o w counts) part.takes;
+    lacks = λ o w counts bad. (let less = part.lacks bad in let le = few o w counts in omega (arith, le, less));
+  }
+
+  pub parts_same : {n : ℕ} {r : Result T PlanError} → PlansFiles G n x y a b r → PlansParts G inodes (λ w. n) x y a b r
+  parts_same part = parts_of part (λ o w counts. omega arith)
+
+  pub parts_rise : {n k : (ℕ → ℕ) → ℕ} {r : Result T PlanError} → PlansParts G inodes n x y a b r → ((w : ℕ → ℕ) → n w ≤ k w) → PlansParts G inodes k x y a b r
+  parts_rise {n = n} {k = k} {r = r} part le = record {
+    reads = part.reads;
+    grows = part.grows;
+    sets = part.sets;
+    takes = λ o w counts. takes_more (n w) (k w) a b r (le w) (part.takes o w counts);
+    lacks = λ o w counts bad. (let less = part.lacks o w counts bad in let more = le w in omega (arith, more, less));
+  }
 
   -- one of them failed
-  pub parts_err : {U : Type 0} {e : PlanError} (q : Result U PlanError) → IsErrAnd q (λ f. f ≡ e) → PlansParts {T = T} G x y a b (Err e) → PlansParts G x y a b q
+  pub parts_err : {U : Type 0} {n : (ℕ → ℕ) → ℕ} {e : PlanError} (q : Result U PlanError) → IsErrAnd q (λ f. f ≡ e) → PlansParts {T = T} G inodes n x y a b (Err e) → PlansParts G inodes n x y a b q
   parts_err (Ok w) is part = absurd is
-  parts_err (Err f) is part = record { reads = reads_err (Err f) is part.reads; grows = part.grows; sets = tt }
+  parts_err {e = e} (Err f) is part = record {
+    reads = reads_err (Err f) is part.reads;
+    grows = part.grows;
+    sets = tt;
+    takes = λ o w counts. tt;
+    lacks = λ o w counts bad. part.lacks o w counts (same_error f e NoSpace is bad);
+  }
 
   -- one after the other
-  pub parts_then : {U : Type 0} {z : B} {c : Draft} {v : T} {r : Result U PlanError} → PlansParts G x y a b (Ok v) → PlansParts G y z b c r → PlansParts G x z a c r
-  parts_then {c = c} {r = r} first then = record { reads = reads_more r first.reads then.reads; grows = grows_twice a b c first.grows then.grows; sets = sets_then a b c r first.sets then.sets }
+  pub parts_then : {U : Type 0} {n m k : (ℕ → ℕ) → ℕ} {z : B} {c : Draft} {v : T} {r : Result U PlanError} → PlansParts G inodes n x y a b (Ok v) → PlansParts G inodes m y z b c r → ((w : ℕ → ℕ) → n w + m w ≤ k w)
+      → PlansParts G inodes k x z a c r
+  parts_then {n = n} {m = m} {k = k} {c = c} {r = r} first then le = record {
+    reads = reads_more r first.reads then.reads;
+    grows = grows_twice a b c first.grows then.grows;
+    sets = sets_then a b c r first.sets then.sets;
+    takes = λ o w counts. takes_both (n w) (m w) (k w) a b c r (le w) (first.takes o w counts) (then.takes (over_read first.reads o) w counts);
+    lacks = λ o w counts bad.
+        let few = then.lacks (over_read first.reads o) w counts bad in
+        let took : TakesAtMost (n w) a b = first.takes o w counts in
+        let all = le w in omega (arith, all, few, took);
+  }
 
 -- no root is planned, as a part failed
-pub root_stops : {B T : Type 0} {G : Ghosts B} {g : ℕ} {root : Root} {x y : B} {a b : Draft} {e : PlanError} (q : Result Root PlanError) → IsErrAnd q (λ f. f ≡ e) → ReadsBlocks {T = T} G IsReadFault x y (Err e) → Grows a b
-    → PlansRoot G g root x y a b q
-root_stops (Ok r) is reads grows = absurd is
-root_stops (Err f) is reads grows = record {
+pub root_stops : {B T : Type 0} {G : Ghosts B} {inodes : InodeFile} {n : (ℕ → ℕ) → ℕ} {g : ℕ} {root : Root} {x y : B} {a b : Draft} {e : PlanError} (q : Result Root PlanError) → IsErrAnd q (λ f. f ≡ e)
+    → ReadsBlocks {T = T} G IsReadFault x y (Err e) → Grows a b → ((o : OverTree G x inodes) (w : ℕ → ℕ) → CountsMap o w → IsErrOf {T = T} {E = PlanError} (Err e) NoSpace → Lacks (n w) a) → PlansRoot G inodes n g root x y a b q
+root_stops (Ok r) is reads grows lacks = absurd is
+root_stops {e = e} (Err f) is reads grows lacks = record {
   reads = reads_err (Err f) is reads;
   grows = grows;
+  takes = λ o w counts. tt;
+  lacks = λ o w counts bad. lacks o w counts (same_error f e NoSpace is bad);
   root = tt;
   generation = tt;
   geometry = tt;
@@ -198,6 +240,10 @@ root_stops (Err f) is reads grows = record {
 -- what can fail for want of memory or space alone reads nothing
 pub shortage_reads : {B : Type 0} {G : Ghosts B} {x : B} {e : PlanError} → IsShortage e → ReadsBlocks {T = Root} G IsReadFault x x (Err e)
 shortage_reads {e = e} short = unread (Err e) short
+
+-- what finds damage doesn't fail for want of space
+pub damaged_fits : {T P : Type 0} {e : PlanError} → e ≡ Damaged → IsErrOf {T = T} {E = PlanError} (Err e) NoSpace → P
+damaged_fits {e = e} is bad = let no : ⊥ = cc in absurd no
 
 -- nor does what finds an inode damaged that it has
 pub damaged_unread : {B : Type 0} {G : Ghosts B} {x : B} {e : PlanError} → e ≡ Damaged → ReadsBlocks {T = Root} G IsReadFault x x (Err e)

@@ -16,7 +16,7 @@ use Rattle.layout.specs.declared.kind.Kind.{Kind}
 use Rattle.layout.specs.declared.kind.Kind.TheVariants as kinds
 use Rattle.layout.specs.declared.root.Root.{Root}
 use Rattle.layout.specs.declared.version.TheConstants.{VERSION}
-use Rattle.model.specs.Volumes.{Volume}
+use Rattle.buffers.specs.declared.blocks.Blocks.{Ghosts}
 use Rattle.blockmap.specs.Maps.{entry_at, settled_at}
 use Rattle.conspoint.specs.Cuts.{disk_with_blocks}
 use Rattle.conspoint.specs.Drafts.{HasAll}
@@ -36,33 +36,32 @@ use Rattle.planning.specs.Inodes.{AreSpelled}
 use Rattle.planning.specs.Changes.{starting_file}
 use Rattle.planning.specs.Plans.{IsAllPlanned, IsPlanStart, IsRootStart}
 use Rattle.planning.specs.Progress.{Before, IsExactPlane, IsProgress, unplanned}
-use Rattle.planning.specs.Steps.{ArePlanned, settled_tree}
+use Rattle.planning.specs.Steps.{ArePlanned, OverTree, tree_of}
 use Rattle.planning.specs.declared.change.SnapshotChange.{SnapshotChange}
 use Rattle.planning.proofs.OwnLaws.{inode_is}
 use Rattle.planning.proofs.ProgressLaws.{none_planned}
 use Rattle.images.proofs.EmptyLaws.{no_bit}
 use Rattle.layout.proofs.ZeroLaws.{zero_byte}
 
-module _ {count : ℕ} {d : Draft} {disk : Blocks} {top : Inode} {settled : ℕ → Inode} {inodes : InodeFile} {v : Volume} {before : Before}
-    (start : IsPlanStart count d disk top settled inodes v before) where
-  pub top_sound : IsSoundFile inodes.geometry (held disk top)
-  top_sound = subst (λ (x : Inode). IsSoundFile inodes.geometry (held disk x)) start.top (start.memory.volume.inodes.sound 0)
+module _ {B : Type 0} {G : Ghosts B} {x : B} {inodes : InodeFile} {o : OverTree G x inodes} {d : Draft} {top : Inode} (start : IsPlanStart o d top) where
+  pub top_sound : IsSoundFile inodes.geometry (held o.disk top)
+  top_sound = subst (λ (f : Inode). IsSoundFile inodes.geometry (held o.disk f)) start.top (o.memory.inodes.sound 0)
 
   -- nothing is planned, and the inode file is as it is settled
-  pub started : (file : File) → ((i : ℕ) → file_block disk file i ≡ nodes.file_block (held disk top) i) → ArePlanned (λ n. ⊥) d.map.next d disk settled before inodes file
+  pub started : (file : File) → ((i : ℕ) → file_block o.disk file i ≡ nodes.file_block (held o.disk top) i) → ArePlanned (λ n. ⊥) d.map.next d o.disk o.settled o.before inodes file
   started file as_held = record {
     way = record {
-      plan = unplanned d.map.next (settled_tree disk settled);
-      settled = start.same;
+      plan = unplanned d.map.next (tree_of o);
+      settled = start.map.same;
       progress = λ e has agrees.
-          none_planned inodes.geometry (settled_tree disk settled) e d.map.next before (entry_at d.map.parts.items) start.active;
+          none_planned inodes.geometry (tree_of o) e d.map.next o.before (entry_at d.map.parts.items) start.active;
       contents = λ e has agrees n least is. absurd (cc);
-      spelled = subst (λ (g : ℕ → List ℕ). AreSpelled inodes.geometry.inodes g (λ n. (settled_tree disk settled n).inode))
-          (sym (fun_ext (λ i. as_held i ∙ ap (λ (x : Inode). nodes.file_block (held disk x) i) (sym start.top)))) (record {
-            each = start.sound.inodes.each;
-            first = start.sound.inodes.first;
-            past = start.sound.inodes.past;
-            behind = start.sound.inodes.behind;
+      spelled = subst (λ (g : ℕ → List ℕ). AreSpelled inodes.geometry.inodes g (λ n. (tree_of o n).inode))
+          (sym (fun_ext (λ i. as_held i ∙ ap (λ (f : Inode). nodes.file_block (held o.disk f) i) (sym start.top)))) (record {
+            each = start.map.sound.inodes.each;
+            first = start.map.sound.inodes.first;
+            past = start.map.sound.inodes.past;
+            behind = start.map.sound.inodes.behind;
           });
     };
     from_is = refl;
@@ -140,20 +139,20 @@ pub top_small : (r : Root) → IsRoot r → r.inode_file.size ≤ 67108864
 top_small r root = omega (arith, top_size r.geometry r root refl, root.head.sizes.most_inodes)
 
 -- and so is that of the tree that a change starts from
-module _ {change : SnapshotChange} {count : ℕ} {d : Draft} {disk : Blocks} {root : Root} {settled : ℕ → Inode} {inodes : InodeFile} {v : Volume} {before : Before}
-    (start : IsRootStart change count d disk root settled inodes v before) where
+module _ {B : Type 0} {G : Ghosts B} {x : B} {inodes : InodeFile} {o : OverTree G x inodes} {change : SnapshotChange} {d : Draft} {root : Root} (start : IsRootStart o change d root) where
   pub start_size : IsRoot root → inodes.geometry ≡ root.geometry → (starting_file change root).size ≡ root.inode_file.size
   start_size is same =
       let s = inodes.geometry in
-      let fits = inode_is s disk (settled 0) (start.memory.volume.inodes.sound 0) in
+      let top = o.settled 0 in
+      let fits = inode_is s o.disk top (o.memory.inodes.sound 0) in
       ap (λ (i : Inode). i.size) (sym start.top)
-      ∙ (subst (λ (k : Kind). FitsKind k s (settled 0).attributes (settled 0).links (settled 0).size) (start.memory.volume.inodes.fits 0) fits.kind).2
+      ∙ (subst (λ (k : Kind). FitsKind k s top.attributes top.links top.size) (o.memory.inodes.fits 0) fits.kind).2
       ∙ sym (top_size s root is same)
 
   -- and it is one of the root's sizes
   pub start_kind : (starting_file change root).kind ≡ kinds.InodeFile
-  start_kind = ap (λ (i : Inode). i.kind) (sym start.top) ∙ start.memory.volume.inodes.fits 0
+  start_kind = ap (λ (i : Inode). i.kind) (sym start.top) ∙ o.memory.inodes.fits 0
 
   pub start_fits : inodes.geometry ≡ root.geometry → IsInode VERSION root.geometry (starting_file change root)
   start_fits same = subst (λ (s : Sizes). IsInode VERSION s (starting_file change root)) same
-      (subst (IsInode VERSION inodes.geometry) start.top (inode_is inodes.geometry disk (settled 0) (start.memory.volume.inodes.sound 0)))
+      (subst (IsInode VERSION inodes.geometry) start.top (inode_is inodes.geometry o.disk (o.settled 0) (o.memory.inodes.sound 0)))

@@ -1,6 +1,7 @@
 -- What a consistency point does with the snapshots, and what that makes of the slots and of the block map's sets.
-use Rattle.std.specs.Prelude.{ℕ, ◌≡◌, ◌≢◌, ◌<◌, ◌≤◌, length}
+use Rattle.std.specs.Prelude.{ℕ, ◌≡◌, ◌≢◌, ◌<◌, ◌≤◌, List, length}
 use Rattle.std.specs.Int.{bit_at}
+use Rattle.blockmap.specs.Maps.{entry_at, settled_at}
 use Rattle.blockmap.specs.declared.map.TheConstants.{SYSTEM_SET}
 use Rattle.conspoint.specs.Drafts.{OnEach}
 use Rattle.conspoint.specs.MapFiles.{AreTouched}
@@ -9,7 +10,9 @@ use Rattle.images.specs.Room.{IsNewHead}
 use Rattle.images.specs.Roots.{HeldTree, Whole, slot}
 use Rattle.images.specs.SnapshotSteps.{SnapshotStep, unchanged, taken, deleted, restored, HasHead, IsSlotNumber, StepsSlots}
 use Rattle.images.specs.Snapshots.{HasSnapshot}
-use Rattle.layout.specs.SnapRoot.{Snapshot}
+use Rattle.layout.specs.Pointer.{PointsBelow}
+use Rattle.layout.specs.Root.{IsRoot}
+use Rattle.layout.specs.SnapRoot.{Snapshot, snapshot_bytes}
 use Rattle.layout.specs.declared.inode.Inode.{Inode}
 use Rattle.layout.specs.declared.pointer.Pointer.{Pointer}
 use Rattle.layout.specs.declared.pointer.Pointer.TheVariants.{Block}
@@ -84,6 +87,18 @@ pub record ChangesPlane (k : ℕ) (p : Pointer) (bit : ℕ) (plane before after 
   pub system : (b : ℕ) → p ≢ Block b → bit_at (after b) SYSTEM_SET ≡ bit_at (before b) SYSTEM_SET
   pub others : (b i : ℕ) → i ≢ k → i ≢ SYSTEM_SET → bit_at (after b) i ≡ bit_at (before b) i
 
+-- A snapshot of a root's tree is taken: its root block, which was free, is planned at this pointer, and its plane of the map is the
+-- settled active tree.
+pub record TakesTree (k order : ℕ) (name : List ℕ) (r : Root) (old new : Draft) (p : Pointer) : Type 0 where
+  pub block : (b : ℕ) × (p ≡ Block b)
+  pub head : (b : ℕ) → p ≡ Block b → OnEach new
+      (λ e. e b ≡ snapshot_bytes (record { order = order; name = name; inode_file = r.inode_file }))
+  pub points : PointsBelow old.map.count p
+  pub given : (b : ℕ) → p ≡ Block b → b < new.map.next
+  pub free : (b : ℕ) → p ≡ Block b → settled_at old.map.parts.items b ≡ 0
+  pub sets : ChangesPlane k p 1 (λ b. bit_at (settled_at old.map.parts.items b) 0)
+      (entry_at old.map.parts.items) (entry_at new.map.parts.items)
+
 -- The map's entries after a step over those before it, where these are settled. The plane of a snapshot that is taken is the settled
 -- active tree, and its root block was free. Of one that is restored only the active tree's set changes.
 abbrev pub StepsSets : SnapshotStep → Root → Root → (ℕ → ℕ) → (ℕ → ℕ) → (ℕ → ℕ) → Type 0
@@ -109,6 +124,15 @@ pub record MakesStep (step : SnapshotStep) (r new : Root) (d : Draft) : Type 0 w
 -- the root block of a new snapshot was given out, and each block of the map is to be stored then
 abbrev pub HasHeads : Root → Root → Draft → Type 0
 HasHeads r new d = (k b : ℕ) → IsNewHead r new k b → (b < d.map.next) × AreTouched d.map.parts.items
+
+-- What is done with the snapshots of a root before anything else is planned, and the root with the slots that come of it.
+pub record ChangesSnapshots (change : SnapshotChange) (r : Root) (old new : Draft) (next : Root) : Type 0 where
+  pub root : IsRoot next
+  pub geometry : next.geometry ≡ r.geometry
+  pub steps : (step : SnapshotStep) → IsStepOf change r step → MakesStep step r next new
+  pub heads : HasHeads r next new
+  pub sets : (step : SnapshotStep) → IsStepOf change r step → StepsSets step r next (settled_at old.map.parts.items)
+      (entry_at old.map.parts.items) (entry_at new.map.parts.items)
 
 -- no snapshot of the tree that the point starts from stays beside the new tree: none is taken, and none restored
 abbrev pub SharesNone : SnapshotStep → Type 0

@@ -1,5 +1,5 @@
 -- What a consistency point makes of one number.
-use Rattle.std.specs.Prelude.{ℕ, ◌≡◌, ◌≤◌, Bool, nat_lt, if◌then◌else◌}
+use Rattle.std.specs.Prelude.{ℕ, ◌≡◌, Bool, nat_lt, if◌then◌else◌}
 use Rattle.layout.specs.Bytes.{zeros}
 use Rattle.layout.specs.Inode.{FitsKind}
 use Rattle.layout.specs.Limits.{Sizes}
@@ -8,7 +8,6 @@ use Rattle.layout.specs.declared.TheConstants.{BLOCK_BYTES}
 use Rattle.layout.specs.declared.inode.Inode.{Inode}
 use Rattle.layout.specs.declared.kind.Kind.TheVariants as kinds
 use Rattle.model.specs.Attributes.{AreAttributes}
-use Rattle.model.specs.Volumes.{Volume}
 use Rattle.blocktree.specs.Places.{block_count}
 use Rattle.images.specs.Contents.{Content, content_of}
 use Rattle.images.specs.Nodes.{Held, held, Names, IsOnce}
@@ -19,8 +18,6 @@ use Rattle.inode.specs.Files.{IsFile}
 use Rattle.inode.specs.declared.object.Object.{Object}
 use Rattle.blockmap.specs.Maps.{IsFree}
 use Rattle.conspoint.specs.declared.draft.Draft.{Draft}
-use Rattle.inofile.specs.Volumes.{IsVolumeOf}
-use Rattle.inofile.specs.declared.inode_file.InodeFile.{InodeFile}
 use Rattle.placement.specs.Files.{IsPlaced}
 
 -- a content with zeros past its end
@@ -33,11 +30,6 @@ pub record IsSettledFile (s : Sizes) (d : Draft) (disk : Blocks) (f : Inode) : T
   pub sound : IsSoundFile s (held disk f)
   pub once : IsOnce (held disk f)
   pub used : (b : ℕ) → Names (held disk f) b → IsFree d.map.parts.items b → ⊥
-
--- Memory stands for a volume over the inodes that are settled on a disk, whose files' blocks are in use under the map of a draft.
-pub record IsOverSettled (count : ℕ) (d : Draft) (disk : Blocks) (settled : ℕ → Inode) (inodes : InodeFile) (v : Volume) : Type 0 where
-  pub volume : IsVolumeOf count disk settled inodes v
-  pub files : (n : ℕ) → IsSettledFile inodes.geometry d disk (settled n)
 
 -- A number's new inode, on a disk e that has the blocks planned for it: its file is placed, and is this one.
 pub record IsNumberPlaced (s : Sizes) (e : Blocks) (old : Held) (found : Content) (f : Inode) (taken freed : ℕ → Bool) : Type 0 where

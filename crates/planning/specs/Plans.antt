@@ -10,6 +10,7 @@ use Rattle.layout.specs.declared.pointer.Pointer.TheVariants.{Block}
 use Rattle.layout.specs.declared.root.Root.{Root}
 use Rattle.model.specs.Volumes.{IsVolume, Volume}
 use Rattle.buffers.specs.Disks.{IsWhole}
+use Rattle.buffers.specs.declared.blocks.Blocks.{Ghosts}
 use Rattle.blockmap.specs.Maps.{IsTouched, entry_at, settled_at}
 use Rattle.blockmap.specs.declared.map.BlockMap.{BlockMap}
 use Rattle.conspoint.specs.Drafts.{Grows, HasAll, OnEach}
@@ -38,7 +39,7 @@ use Rattle.planning.specs.Inodes.{AreSpelled}
 use Rattle.planning.specs.Numbers.{trimmed}
 use Rattle.planning.specs.Progress.{Before, HasActive, IsProgress, PlannedInodes, with_planned_file}
 use Rattle.planning.specs.Space.{CountsBlocks, map_stores, nodes_below, top_nodes}
-use Rattle.planning.specs.Steps.{IsOverTree, IsPlanUnderWay, settled_tree}
+use Rattle.planning.specs.Steps.{HasSettled, IsPlanUnderWay, OverTree, settled_tree, tree_of}
 use Rattle.planning.specs.declared.change.SnapshotChange.{SnapshotChange}
 use Rattle.planning.specs.declared.change.SnapshotChange.TheVariants.{Unchanged, Take, Delete, Restore}
 
@@ -81,25 +82,26 @@ WillHaveEntries (Take k order name) count settled t = (b : ℕ) → settled b �
 WillHaveEntries (Delete k) count settled t = (b : ℕ) → settled b ≡ entry t b
 WillHaveEntries (Restore k f) count settled t = (b : ℕ) → count ≤ b → settled b ≡ entry t b
 
--- What the planning of files starts from: a tree in its grammar under this inode of its inode file, whose blocks are set 0 in the draft,
--- and whose map's entries are the settled ones, but where the map is stored anew; and memory over it.
-pub record IsPlanStart (count : ℕ) (d : Draft) (disk : Blocks) (inode_file : Inode) (settled : ℕ → Inode) (inodes : InodeFile) (v : Volume) (before : Before) : Type 0 where
-  pub memory : IsOverTree count disk settled inodes v before
-  pub sound : IsSoundTree inodes.geometry (settled_tree disk settled)
-  pub top : settled 0 ≡ inode_file
-  pub active : HasActive before (entry_at d.map.parts.items)
-  pub same : (b : ℕ) → settled_at d.map.parts.items b ≡ before.entry b
-  pub entries : HasEntries d before.entry (settled_tree disk settled)
+-- A tree in its grammar, whose map's entries are the settled ones, but where the map is stored anew.
+pub record IsMapStart {B : Type 0} {G : Ghosts B} {blocks : B} {inodes : InodeFile} (o : OverTree G blocks inodes) (d : Draft) : Type 0 where
+  pub sound : IsSoundTree inodes.geometry (tree_of o)
+  pub same : HasSettled d o.before.entry
+  pub entries : HasEntries d o.before.entry (tree_of o)
 
--- What a whole plan starts from, over a map with no change: the tree that the change starts from, and memory over it.
-pub record IsRootStart (change : SnapshotChange) (count : ℕ) (d : Draft) (disk : Blocks) (root : Root) (settled : ℕ → Inode) (inodes : InodeFile) (v : Volume) (before : Before) : Type 0 where
-  pub memory : IsOverTree count disk settled inodes v before
-  pub sound : IsSoundTree inodes.geometry (settled_tree disk settled)
-  pub top : settled 0 ≡ starting_file change root
-  pub plane : before.plane ≡ starting_plane change
+-- What the planning of files starts from: such a tree under this inode of its inode file, whose blocks are set 0 in the draft.
+pub record IsPlanStart {B : Type 0} {G : Ghosts B} {blocks : B} {inodes : InodeFile} (o : OverTree G blocks inodes) (d : Draft) (inode_file : Inode) : Type 0 where
+  pub map : IsMapStart o d
+  pub top : o.settled 0 ≡ inode_file
+  pub active : HasActive o.before (entry_at d.map.parts.items)
+
+-- What a whole plan starts from, over a map with no change: the tree that the change starts from.
+pub record IsRootStart {B : Type 0} {G : Ghosts B} {blocks : B} {inodes : InodeFile} (o : OverTree G blocks inodes) (change : SnapshotChange) (d : Draft) (root : Root) : Type 0 where
+  pub sound : IsSoundTree inodes.geometry (tree_of o)
+  pub top : o.settled 0 ≡ starting_file change root
+  pub plane : o.before.plane ≡ starting_plane change
   pub clean : IsClean d.map
-  pub same : (b : ℕ) → settled_at d.map.parts.items b ≡ before.entry b
-  pub entries : WillHaveEntries change d.map.count before.entry (settled_tree disk settled)
+  pub same : HasSettled d o.before.entry
+  pub entries : WillHaveEntries change d.map.count o.before.entry (tree_of o)
 
 -- this holds of each disk that has the blocks planned so far, and those of the settled tree
 abbrev pub OnEachOver : HeldTree → Blocks → Draft → (Blocks → Type 0) → Type 0

@@ -7,20 +7,18 @@ ghost use Rattle.layout.specs.Version.{greatest_size};
 ghost use Rattle.layout.specs.declared.version.TheConstants.{VERSION};
 ghost use Rattle.layout.specs.declared.TheConstants.{BODY_POINTERS};
 ghost use Rattle.layout.specs.declared.inode.Inode.{Inode};
-ghost use Rattle.model.specs.Volumes.{Volume};
 ghost use Rattle.buffers.specs.Reads.{ReadsBlocks};
 ghost use Rattle.blocktree.specs.Trees.{IsSoundAt};
-ghost use Rattle.blockmap.specs.Maps.{settled_at};
 ghost use Rattle.conspoint.specs.Drafts.{IsReserved};
 ghost use Rattle.conspoint.specs.Errors.{IsReadFault};
 ghost use Rattle.conspoint.specs.Groups.{pointer_at};
 ghost use Rattle.conspoint.specs.MapFiles.{map_nodes};
 ghost use Rattle.images.specs.Nodes.{held};
-ghost use Rattle.images.specs.Soundness.{IsSoundFile, IsSoundTree};
-ghost use Rattle.planning.specs.Plans.{HasBlockMap, HasEntries, HasLast};
-ghost use Rattle.planning.specs.Progress.{Before, PlannedInodes};
+ghost use Rattle.images.specs.Soundness.{IsSoundFile};
+ghost use Rattle.planning.specs.Plans.{HasBlockMap, HasLast, IsMapStart};
+ghost use Rattle.planning.specs.Progress.{PlannedInodes};
 ghost use Rattle.planning.specs.Space.{map_file_nodes};
-ghost use Rattle.planning.specs.Steps.{IsOverTree, settled_tree};
+ghost use Rattle.planning.specs.Steps.{OverTree, tree_of};
 ghost use Rattle.planning.specs.Promises.{PlansFiles};
 
 use crate::inode_blocks::block_with;
@@ -73,18 +71,11 @@ pub(crate) fn plan_block_map<B: Blocks>(
     ensures step { PlansFiles B.Blocks (map_file_nodes draft.old.map.count)
         blocks.old blocks.new draft.old draft.new result }
     ensures others { (p : ℕ) → IsReserved draft.old p → IsReserved draft.new p }
-    ensures planned { (disk : ℕ → List ℕ) (settled : ℕ → Inode) (v : Volume) (before : Before)
-        (p : PlannedInodes) → B.Shows blocks.old disk
-        → IsOverTree (B.count blocks.old) disk settled inodes.now v before
-        → IsSoundTree inodes.now.geometry (settled_tree disk settled)
-        → ((b : ℕ) → settled_at draft.old.map.parts.items b ≡ before.entry b)
-        → HasEntries draft.old before.entry (settled_tree disk settled)
-        → p.changed 2 ≡ false
-        → IfOk result (λ f. HasBlockMap draft.old p draft.new disk before inodes.now.geometry
-        (settled_tree disk settled) f) }
-    ensures damaged { (disk : ℕ → List ℕ) (settled : ℕ → Inode) (v : Volume) (before : Before)
-        → B.Shows blocks.old disk
-        → IsOverTree (B.count blocks.old) disk settled inodes.now v before
+    ensures planned { (o : OverTree B.Blocks blocks.old inodes.now) → IsMapStart o draft.old
+        → (p : PlannedInodes) → p.changed 2 ≡ false
+        → IfOk result (HasBlockMap draft.old p draft.new o.disk o.before inodes.now.geometry
+        (tree_of o)) }
+    ensures damaged { OverTree B.Blocks blocks.old inodes.now
         → IsErrOf result PlanError.Damaged → ⊥ }
 {
     let settled = inodes.settled_inode(blocks, 2)?;
@@ -107,19 +98,12 @@ pub(crate) fn plan_last<B: Blocks>(
     requires reserved { IsReserved draft.old first }
     ensures step { PlansFiles B.Blocks (map_file_nodes draft.old.map.count)
         blocks.old blocks.new draft.old draft.new result }
-    ensures planned { (disk : ℕ → List ℕ) (settled : ℕ → Inode) (v : Volume) (before : Before)
-        (p : PlannedInodes) → B.Shows blocks.old disk
-        → IsOverTree (B.count blocks.old) disk settled inodes.now v before
-        → IsSoundTree inodes.now.geometry (settled_tree disk settled)
-        → ((b : ℕ) → settled_at draft.old.map.parts.items b ≡ before.entry b)
-        → HasEntries draft.old before.entry (settled_tree disk settled)
-        → p.changed 2 ≡ false
-        → OnOk result (HasLast draft.old p draft.new disk before inodes.now.geometry
-        (settled_tree disk settled) file.now first) }
-    ensures damaged { (disk : ℕ → List ℕ) (settled : ℕ → Inode) (v : Volume) (before : Before)
-        → B.Shows blocks.old disk
-        → IsOverTree (B.count blocks.old) disk settled inodes.now v before
-        → IsSoundAt (B.count blocks.old) disk file.now.tree 0
+    ensures planned { (o : OverTree B.Blocks blocks.old inodes.now) → IsMapStart o draft.old
+        → (p : PlannedInodes) → p.changed 2 ≡ false
+        → OnOk result (HasLast draft.old p draft.new o.disk o.before inodes.now.geometry
+        (tree_of o) file.now first) }
+    ensures damaged { (o : OverTree B.Blocks blocks.old inodes.now)
+        → IsSoundAt (B.count blocks.old) o.disk file.now.tree 0
         → IsErrOf result PlanError.Damaged → ⊥ }
 {
     let map = plan_block_map(alloc, draft, blocks, inodes)?;

@@ -1,7 +1,6 @@
 //! What a consistency point does with the snapshots.
 
 ghost use Rattle.std.specs.Prelude.{ℕ, ◌≡◌, ◌<◌, ◌≤◌, IfOk, OnOk, IfErr, IsErrOf, length};
-ghost use Rattle.std.specs.Int.{bit_at};
 ghost use Rattle.layout.specs.Inode.{IsInode};
 ghost use Rattle.layout.specs.Pointer.{PointsBelow};
 ghost use Rattle.layout.specs.Root.{IsRoot};
@@ -13,9 +12,8 @@ ghost use Rattle.model.specs.declared.limits.TheConstants.{SNAPSHOT_NAME_BYTES};
 ghost use Rattle.blockmap.specs.Maps.{entry_at, settled_at};
 ghost use Rattle.conspoint.specs.Drafts.{OnEach, WasTaken};
 ghost use Rattle.conspoint.specs.MapFiles.{AreTouched};
-ghost use Rattle.images.specs.Roots.{slot};
-ghost use Rattle.images.specs.SnapshotSteps.{IsSlotNumber, SetsSlot, SnapshotStep};
-ghost use Rattle.planning.specs.Changes.{ChangesPlane, FitsSlots, HasHeads, IsStepOf, head_nodes, MakesStep, StartsActive, StepsSets, TouchesRestored, starting_file};
+ghost use Rattle.images.specs.SnapshotSteps.{IsSlotNumber, SetsSlot};
+ghost use Rattle.planning.specs.Changes.{ChangesPlane, ChangesSnapshots, FitsSlots, StartsActive, TakesTree, TouchesRestored, head_nodes, starting_file};
 ghost use Rattle.planning.specs.Progress.{KeepsActive};
 ghost use Rattle.conspoint.specs.Steps.{Places, Takes};
 
@@ -108,21 +106,8 @@ fn take(
     ensures step { Takes 1 draft.old draft.new result }
     ensures active { OnOk result (KeepsActive (entry_at draft.old.map.parts.items)
         (entry_at draft.new.map.parts.items)) }
-    ensures head { IfOk result (λ p. (b : ℕ) → p ≡ Pointer.Block b → OnEach draft.new (λ e. e b
-        ≡ snapshot_bytes (record {
-          order = order;
-          name = name.now;
-          inode_file = root.now.inode_file;
-        }))) }
-    ensures block { IfOk result (λ p. (b : ℕ) × (p ≡ Pointer.Block b)) }
-    ensures points { IfOk result (PointsBelow draft.old.map.count) }
-    ensures given { IfOk result (λ p. (b : ℕ) → p ≡ Pointer.Block b → b < draft.new.map.next) }
     ensures touched { OnOk result (AreTouched draft.new.map.parts.items) }
-    ensures free { IfOk result (λ p. (b : ℕ) → p ≡ Pointer.Block b
-        → settled_at draft.old.map.parts.items b ≡ 0) }
-    ensures sets { IfOk result (λ p. ChangesPlane slot p 1
-        (λ b. bit_at (settled_at draft.old.map.parts.items b) 0)
-        (entry_at draft.old.map.parts.items) (entry_at draft.new.map.parts.items)) }
+    ensures taken { IfOk result (TakesTree slot order name.now root.now draft.old draft.new) }
 {
     let place = place_head(alloc, draft, root, order, name)?;
     draft.take_plane(slot)?;
@@ -186,14 +171,8 @@ pub(crate) fn change_snapshots(
     ensures active { OnOk result (StartsActive change.now (settled_at draft.old.map.parts.items)
         (entry_at draft.old.map.parts.items) (entry_at draft.new.map.parts.items)) }
     ensures touched { OnOk result (TouchesRestored change.now draft.new) }
-    ensures root { IfOk result IsRoot }
-    ensures geometry { IfOk result (λ r. r.geometry ≡ root.now.geometry) }
-    ensures steps { IfOk result (λ r. (step : SnapshotStep) → IsStepOf change.now root.now step
-        → MakesStep step root.now r draft.new) }
-    ensures heads { IfOk result (λ r. HasHeads root.now r draft.new) }
-    ensures sets { IfOk result (λ r. (step : SnapshotStep) → IsStepOf change.now root.now step
-        → StepsSets step root.now r (settled_at draft.old.map.parts.items)
-        (entry_at draft.old.map.parts.items) (entry_at draft.new.map.parts.items)) }
+    ensures changed { IfOk result
+        (ChangesSnapshots change.now root.now draft.old draft.new) }
 {
     match *change {
         SnapshotChange::Unchanged => Ok(*root),

@@ -7,27 +7,20 @@ ghost use Rattle.layout.specs.Version.{greatest_size};
 ghost use Rattle.layout.specs.declared.TheConstants.{BLOCK_BYTES};
 ghost use Rattle.layout.specs.declared.inode.Inode.{Inode};
 ghost use Rattle.layout.specs.declared.version.TheConstants.{VERSION};
-ghost use Rattle.model.specs.Volumes.{Volume};
 ghost use Rattle.buffers.specs.Positions.{IsPart};
 ghost use Rattle.buffers.specs.Reads.{ReadsBlocks};
 ghost use Rattle.blocktree.specs.Errors.{IsFault};
 ghost use Rattle.blocktree.specs.Trees.{IsChanged, IsSoundAt};
 ghost use Rattle.blocktree.specs.declared.error.ReadError.TheVariants as read;
-ghost use Rattle.blockmap.specs.Maps.{settled_at};
-ghost use Rattle.conspoint.specs.Drafts.{IsReserved};
 ghost use Rattle.conspoint.specs.Errors.{IsReadFault};
-ghost use Rattle.conspoint.specs.Space.{Lacks, TakesAtMost};
-ghost use Rattle.images.specs.Contents.{Content};
 ghost use Rattle.images.specs.Nodes.{held};
-ghost use Rattle.images.specs.Nodes as nodes;
 ghost use Rattle.images.specs.Soundness.{HasNoHole};
 ghost use Rattle.inode.specs.Files.{byte_at, file_block};
 ghost use Rattle.inofile.specs.Settled.{AreSettled};
 ghost use Rattle.planning.specs.Inodes.{ChangesFile, KeepsFile};
 ghost use Rattle.planning.specs.Plans.{HasInodeMap};
-ghost use Rattle.planning.specs.Progress.{Before};
-ghost use Rattle.planning.specs.Space.{CountsBlocks, TellsSame, map_stores};
-ghost use Rattle.planning.specs.Steps.{IsOverTree, IsPlanUnderWay, settled_tree};
+ghost use Rattle.planning.specs.Space.{TellsSame, map_stores};
+ghost use Rattle.planning.specs.Steps.{HasSettled, IsPlanUnderWay, OverTree, found_in, tree_of};
 ghost use Rattle.planning.specs.Promises.{PlansParts};
 
 use crate::inode_blocks::put_inode;
@@ -179,34 +172,19 @@ pub(crate) fn plan_inode_map<B: Blocks>(
 ) -> Result<(), PlanError>
     requires disk { B.count blocks.old ≡ draft.old.map.count }
     requires sizes { AreSizes inodes.now.geometry }
-    ensures step { PlansParts B.Blocks blocks.old blocks.new draft.old draft.new result }
-    ensures others { (p : ℕ) → IsReserved draft.old p → IsReserved draft.new p }
+    ensures step { PlansParts B.Blocks inodes.now (λ w. map_stores w inodes.now)
+        blocks.old blocks.new draft.old draft.new result }
     ensures file { ChangesFile (λ i. i ≡ 0) file.old file.new }
-    ensures planned { (disk : ℕ → List ℕ) (settled : ℕ → Inode) (v : Volume) (before : Before)
-        (found : ℕ → Content) → B.Shows blocks.old disk
-        → IsOverTree (B.count blocks.old) disk settled inodes.now v before
-        → HasNoHole (held disk (settled 1))
-        → (way : IsPlanUnderWay draft.old disk before inodes.now.geometry
-        (settled_tree disk settled) found file.old)
-        → way.plan.changed 1 ≡ false
-        → OnOk result (HasInodeMap inodes.now.numbers.bytes.items way.plan.changed way.plan.from draft.new disk
-        before inodes.now.geometry (settled_tree disk settled) found file.new) }
-    ensures damaged { (disk : ℕ → List ℕ) (settled : ℕ → Inode) (v : Volume) (before : Before)
-        → B.Shows blocks.old disk
-        → IsOverTree (B.count blocks.old) disk settled inodes.now v before
-        → ((b : ℕ) → settled_at draft.old.map.parts.items b ≡ before.entry b)
-        → ((i : ℕ) → IsSoundAt (B.count blocks.old) disk file.old.tree i)
+    ensures planned { (o : OverTree B.Blocks blocks.old inodes.now)
+        → HasNoHole (held o.disk (o.settled 1))
+        → (way : IsPlanUnderWay draft.old o.disk o.before inodes.now.geometry (tree_of o)
+        (found_in o) file.old) → way.plan.changed 1 ≡ false
+        → OnOk result (HasInodeMap inodes.now.numbers.bytes.items way.plan.changed way.plan.from
+        draft.new o.disk o.before inodes.now.geometry (tree_of o) (found_in o) file.new) }
+    ensures damaged { (o : OverTree B.Blocks blocks.old inodes.now)
+        → HasSettled draft.old o.before.entry
+        → ((i : ℕ) → IsSoundAt (B.count blocks.old) o.disk file.old.tree i)
         → IsErrOf result PlanError.Damaged → ⊥ }
-    ensures stores { (disk : ℕ → List ℕ) (settled : ℕ → Inode) (v : Volume) (before : Before)
-        → B.Shows blocks.old disk
-        → IsOverTree (B.count blocks.old) disk settled inodes.now v before → (w : ℕ → ℕ)
-        → CountsBlocks w inodes.now.numbers.bytes.items (nodes.file_block (held disk (settled 1)))
-        → OnOk result (TakesAtMost (map_stores w inodes.now) draft.old draft.new) }
-    ensures short { (disk : ℕ → List ℕ) (settled : ℕ → Inode) (v : Volume) (before : Before)
-        → B.Shows blocks.old disk
-        → IsOverTree (B.count blocks.old) disk settled inodes.now v before → (w : ℕ → ℕ)
-        → CountsBlocks w inodes.now.numbers.bytes.items (nodes.file_block (held disk (settled 1)))
-        → IsErrOf result PlanError.NoSpace → Lacks (map_stores w inodes.now) draft.old }
 {
     inodes_are_put_one_by_one();
     disks_that_agree_hold_the_same();

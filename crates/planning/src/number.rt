@@ -1,21 +1,17 @@
 //! One number's file, and those of all numbers that are changed.
 
-ghost use Rattle.std.specs.Prelude.{ℕ, ◌≡◌, ◌/◌, ◌<◌, ◌≤◌, All, List, OnOk, IsErrOf, false};
+ghost use Rattle.std.specs.Prelude.{ℕ, ◌≡◌, ◌/◌, ◌<◌, ◌≤◌, All, OnOk, IsErrOf, false};
 ghost use Rattle.layout.specs.declared.TheConstants.{INODES_PER_BLOCK};
-ghost use Rattle.layout.specs.declared.inode.Inode.{Inode};
 ghost use Rattle.model.specs.declared.limits.TheConstants.{ROOT_NUMBER};
-ghost use Rattle.model.specs.Volumes.{Volume};
 ghost use Rattle.blocktree.specs.Trees.{IsSoundAt};
 ghost use Rattle.blockmap.specs.Maps.{entry_at};
-ghost use Rattle.conspoint.specs.Drafts.{IsReserved};
 ghost use Rattle.conspoint.specs.Steps.{Marks};
-ghost use Rattle.inofile.specs.Inodes.{IsChanged, files_of};
+ghost use Rattle.inofile.specs.Inodes.{IsChanged};
 ghost use Rattle.placement.specs.Files.{is_one};
 ghost use Rattle.planning.specs.Inodes.{HasChange, ChangesFile};
 ghost use Rattle.planning.specs.Space.{nodes_below, number_nodes};
-ghost use Rattle.planning.specs.Numbers.{trimmed};
-ghost use Rattle.planning.specs.Progress.{Before, IsMarked};
-ghost use Rattle.planning.specs.Steps.{ArePlanned, GoesOn, IsOverTree, IsPlanUnderWay, settled_tree};
+ghost use Rattle.planning.specs.Progress.{IsMarked};
+ghost use Rattle.planning.specs.Steps.{ArePlanned, GoesOn, HasSettled, IsPlanUnderWay, OverTree, found_in, tree_of};
 ghost use Rattle.planning.specs.Promises.{PlansFiles};
 
 use crate::inode_blocks::put_inode;
@@ -58,22 +54,15 @@ pub(crate) fn plan_number<B: Blocks>(
     requires changed { IsChanged inodes.now number }
     ensures step { PlansFiles B.Blocks (number_nodes inodes.now number)
         blocks.old blocks.new draft.old draft.new result }
-    ensures others { (p : ℕ) → IsReserved draft.old p → IsReserved draft.new p }
     ensures file { ChangesFile (λ i. i ≡ number / INODES_PER_BLOCK) file.old file.new }
-    ensures planned { (disk : ℕ → List ℕ) (settled : ℕ → Inode) (v : Volume) (before : Before)
-        → B.Shows blocks.old disk
-        → IsOverTree (B.count blocks.old) disk settled inodes.now v before
-        → (way : IsPlanUnderWay draft.old disk before inodes.now.geometry
-        (settled_tree disk settled) (λ n. trimmed (files_of disk settled inodes.now n)) file.old)
-        → way.plan.changed number ≡ false
-        → OnOk result (GoesOn number way.plan.changed way.plan.from draft.new disk before inodes.now.geometry
-        (settled_tree disk settled) (λ n. trimmed (files_of disk settled inodes.now n)) file.new) }
-    ensures damaged { (disk : ℕ → List ℕ) (settled : ℕ → Inode) (v : Volume) (before : Before)
-        → B.Shows blocks.old disk
-        → IsOverTree (B.count blocks.old) disk settled inodes.now v before
-        → IsPlanUnderWay draft.old disk before inodes.now.geometry (settled_tree disk settled)
-        (λ n. trimmed (files_of disk settled inodes.now n)) file.old
-        → IsSoundAt (B.count blocks.old) disk file.old.tree (number / INODES_PER_BLOCK)
+    ensures planned { (o : OverTree B.Blocks blocks.old inodes.now)
+        → (way : IsPlanUnderWay draft.old o.disk o.before inodes.now.geometry (tree_of o)
+        (found_in o) file.old) → way.plan.changed number ≡ false
+        → OnOk result (GoesOn number way.plan.changed way.plan.from draft.new o.disk o.before
+        inodes.now.geometry (tree_of o) (found_in o) file.new) }
+    ensures damaged { (o : OverTree B.Blocks blocks.old inodes.now)
+        → HasSettled draft.old o.before.entry
+        → IsSoundAt (B.count blocks.old) o.disk file.old.tree (number / INODES_PER_BLOCK)
         → IsErrOf result PlanError.Damaged → ⊥ }
 {
     inodes_are_put_one_by_one();
@@ -94,19 +83,14 @@ pub(crate) fn plan_numbers<B: Blocks>(
     requires disk { B.count blocks.old ≡ draft.old.map.count }
     ensures step { PlansFiles B.Blocks (nodes_below inodes.now inodes.now.geometry.inodes)
         blocks.old blocks.new draft.old draft.new result }
-    ensures others { (p : ℕ) → IsReserved draft.old p → IsReserved draft.new p }
     ensures file { ChangesFile (HasChange inodes.now) file.old file.new }
-    ensures planned { (disk : ℕ → List ℕ) (settled : ℕ → Inode) (v : Volume) (before : Before)
-        → B.Shows blocks.old disk
-        → IsOverTree (B.count blocks.old) disk settled inodes.now v before
-        → (from : ℕ) → ArePlanned (λ n. ⊥) from draft.old disk settled before inodes.now file.old
-        → OnOk result (ArePlanned (IsChanged inodes.now) from draft.new disk settled before inodes.now
-        file.new) }
-    ensures damaged { (disk : ℕ → List ℕ) (settled : ℕ → Inode) (v : Volume) (before : Before)
-        → B.Shows blocks.old disk
-        → IsOverTree (B.count blocks.old) disk settled inodes.now v before
-        → (from : ℕ) → ArePlanned (λ n. ⊥) from draft.old disk settled before inodes.now file.old
-        → ((i : ℕ) → IsSoundAt (B.count blocks.old) disk file.old.tree i)
+    ensures planned { (o : OverTree B.Blocks blocks.old inodes.now) (from : ℕ)
+        → ArePlanned (λ n. ⊥) from draft.old o.disk o.settled o.before inodes.now file.old
+        → OnOk result (ArePlanned (IsChanged inodes.now) from draft.new o.disk o.settled o.before
+        inodes.now file.new) }
+    ensures damaged { (o : OverTree B.Blocks blocks.old inodes.now)
+        → HasSettled draft.old o.before.entry
+        → ((i : ℕ) → IsSoundAt (B.count blocks.old) o.disk file.old.tree i)
         → IsErrOf result PlanError.Damaged → ⊥ }
 {
     let numbers = inodes.changed_numbers(alloc)?;

@@ -3,19 +3,17 @@
 ghost use Rattle.std.specs.Prelude.{ℕ, ◌≡◌, ◌⊎◌, ◌≤◌, ◌<◌, ◌↔◌, List, IfOk, IsErrOf, IsTrue};
 ghost use Rattle.layout.specs.Limits.{Sizes};
 ghost use Rattle.layout.specs.Version.{greatest_size, level_of};
-ghost use Rattle.layout.specs.declared.inode.Inode.{Inode};
 ghost use Rattle.model.specs.declared.limits.TheConstants.{ROOT_NUMBER};
 ghost use Rattle.layout.specs.declared.version.TheConstants.{VERSION};
-ghost use Rattle.model.specs.Volumes.{Volume};
 ghost use Rattle.images.specs.Contents.{content_of};
-ghost use Rattle.images.specs.Nodes.{Agrees, Names, held};
-ghost use Rattle.inofile.specs.Inodes.{IsChanged, files_of};
-ghost use Rattle.conspoint.specs.Drafts.{OnEach};
+ghost use Rattle.images.specs.Nodes.{held};
+ghost use Rattle.inofile.specs.Inodes.{IsChanged};
 ghost use Rattle.placement.specs.Space.{file_stores};
-ghost use Rattle.placement.specs.Files.{IsPlaced, is_one, object_content};
+ghost use Rattle.placement.specs.Files.{IsPlaced, OnEachWith, is_one, object_content};
 ghost use Rattle.planning.specs.Space.{number_nodes};
-ghost use Rattle.planning.specs.Numbers.{IsCleared, IsNumberPlaced, IsOverSettled, IsSettledFile, IsObjectOver, trimmed};
-ghost use Rattle.placement.specs.Steps.{PlacesFile};
+ghost use Rattle.planning.specs.Numbers.{IsCleared, IsNumberPlaced, IsObjectOver, IsSettledFile};
+ghost use Rattle.planning.specs.Steps.{HasSettled, OverTree, found_in, tree_of};
+ghost use Rattle.placement.specs.Steps.{HasBlocks, ReadsAndPlaces};
 
 use buffers::Blocks;
 use conspoint::{Draft, PlanError};
@@ -35,12 +33,12 @@ fn clear<B: Blocks>(
 ) -> Result<PlacedFile, PlanError>
     requires disk { B.count blocks.old ≡ draft.old.map.count }
     requires size { settled.size ≤ greatest_size VERSION }
-    ensures step { PlacesFile B.Blocks 0 (λ p. p) blocks.old blocks.new draft.old draft.new result }
+    ensures step { ReadsAndPlaces B.Blocks 0 blocks.old blocks.new draft.old draft.new result }
+    ensures blocks { IfOk result (HasBlocks draft.old draft.new) }
     ensures cleared { (s : Sizes) (disk : ℕ → List ℕ) → B.Shows blocks.old disk
         → IsSettledFile s draft.old disk settled
-        → IfOk result (λ p. OnEach draft.new (λ e. Agrees (Names (held disk settled)) disk e
-        → IsCleared s e (held disk settled) p.inode (is_one p.taken.items)
-        (is_one p.freed.items))) }
+        → IfOk result (λ p. OnEachWith draft.new disk settled (λ e. IsCleared s e
+        (held disk settled) p.inode (is_one p.taken.items) (is_one p.freed.items))) }
     ensures damaged { (s : Sizes) (disk : ℕ → List ℕ) → B.Shows blocks.old disk
         → IsSettledFile s draft.old disk settled → IsErrOf result PlanError.Damaged → ⊥ }
 {
@@ -74,17 +72,17 @@ fn place_object<B: Blocks>(
 ) -> Result<PlacedFile, PlanError>
     requires disk { B.count blocks.old ≡ draft.old.map.count }
     requires size { settled.size ≤ greatest_size VERSION }
-    ensures step { PlacesFile B.Blocks (file_stores object.now.file) (λ p. p)
+    ensures step { ReadsAndPlaces B.Blocks (file_stores object.now.file)
         blocks.old blocks.new draft.old draft.new result }
+    ensures blocks { IfOk result (HasBlocks draft.old draft.new) }
     ensures placed { (s : Sizes) (disk : ℕ → List ℕ) → B.Shows blocks.old disk
         → IsSettledFile s draft.old disk settled → IsObjectOver s disk settled object.now
-        → IfOk result (λ p. OnEach draft.new (λ e. Agrees (Names (held disk settled)) disk e
-        → IsPlaced s e (held disk settled) p.inode (is_one p.taken.items)
-        (is_one p.freed.items))) }
+        → IfOk result (λ p. OnEachWith draft.new disk settled (λ e. IsPlaced s e
+        (held disk settled) p.inode (is_one p.taken.items) (is_one p.freed.items))) }
     ensures content { (s : Sizes) (disk : ℕ → List ℕ) → B.Shows blocks.old disk
         → IsSettledFile s draft.old disk settled → IsObjectOver s disk settled object.now
-        → IfOk result (λ p. OnEach draft.new (λ e. Agrees (Names (held disk settled)) disk e
-        → content_of (held e p.inode) ≡ object_content disk object.now)) }
+        → IfOk result (λ p. OnEachWith draft.new disk settled
+        (λ e. content_of (held e p.inode) ≡ object_content disk object.now)) }
     ensures damaged { (s : Sizes) (disk : ℕ → List ℕ) → B.Shows blocks.old disk
         → IsSettledFile s draft.old disk settled → IsObjectOver s disk settled object.now
         → IsErrOf result PlanError.Damaged → ⊥ }
@@ -113,20 +111,16 @@ pub(crate) fn place_number<B: Blocks>(
     requires low { ROOT_NUMBER ≤ number }
     requires high { number < inodes.now.geometry.inodes }
     requires changed { IsChanged inodes.now number }
-    ensures step { PlacesFile B.Blocks (number_nodes inodes.now number) (λ p. p)
+    ensures step { ReadsAndPlaces B.Blocks (number_nodes inodes.now number)
         blocks.old blocks.new draft.old draft.new result }
-    ensures placed { (disk : ℕ → List ℕ) (settled : ℕ → Inode) (v : Volume)
-        → B.Shows blocks.old disk
-        → IsOverSettled (B.count blocks.old) draft.old disk settled inodes.now v
-        → IfOk result (λ p. OnEach draft.new
-        (λ e. Agrees (Names (held disk (settled number))) disk e
-        → IsNumberPlaced inodes.now.geometry e (held disk (settled number))
-        (trimmed (files_of disk settled inodes.now number)) p.inode
+    ensures blocks { IfOk result (HasBlocks draft.old draft.new) }
+    ensures placed { (o : OverTree B.Blocks blocks.old inodes.now)
+        → HasSettled draft.old o.before.entry
+        → IfOk result (λ p. OnEachWith draft.new o.disk (o.settled number) (λ e.
+        IsNumberPlaced inodes.now.geometry e (tree_of o number) (found_in o number) p.inode
         (is_one p.taken.items) (is_one p.freed.items))) }
-    ensures damaged { (disk : ℕ → List ℕ) (settled : ℕ → Inode) (v : Volume)
-        → B.Shows blocks.old disk
-        → IsOverSettled (B.count blocks.old) draft.old disk settled inodes.now v
-        → IsErrOf result PlanError.Damaged → ⊥ }
+    ensures damaged { (o : OverTree B.Blocks blocks.old inodes.now)
+        → HasSettled draft.old o.before.entry → IsErrOf result PlanError.Damaged → ⊥ }
 {
     let settled = inodes.settled_inode(blocks, number)?;
     let Some(object) = inodes.get(number) else {

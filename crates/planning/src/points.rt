@@ -1,40 +1,27 @@
 //! The whole plan of a consistency point.
 
-ghost use Rattle.std.specs.Prelude.{ℕ, ◌≡◌, ◌⊎◌, ◌+◌, ◌*◌, ◌<◌, ◌≤◌, List, IfErr, IfOk, OnOk, IsErrOf};
+ghost use Rattle.std.specs.Prelude.{ℕ, ◌≡◌, ◌⊎◌, ◌+◌, List, IfErr, IfOk, OnOk, IsErrOf};
 ghost use Rattle.layout.specs.Inode.{IsInode};
 ghost use Rattle.layout.specs.Limits.{AreSizes};
 ghost use Rattle.layout.specs.Places.{blocks_of};
-ghost use Rattle.layout.specs.Root.{IsRoot, root_bytes};
-ghost use Rattle.layout.specs.declared.inode.Inode.{Inode};
+ghost use Rattle.layout.specs.Root.{IsRoot};
 ghost use Rattle.layout.specs.declared.kind.Kind.TheVariants as kinds;
 ghost use Rattle.layout.specs.declared.version.TheConstants.{VERSION};
-ghost use Rattle.model.specs.Records.{count_nameless};
-ghost use Rattle.model.specs.Room.{fixed_of};
 ghost use Rattle.model.specs.Volumes.{Volume};
-ghost use Rattle.model.specs.declared.costs.TheConstants.{NAMELESS_COST};
 ghost use Rattle.buffers.specs.Reads.{ReadsBlocks};
 ghost use Rattle.blocktree.specs.Trees.{IsSoundAt};
 ghost use Rattle.blockmap.specs.Maps.{settled_at, entry_at};
-ghost use Rattle.blockmap.specs.Space.{left};
 ghost use Rattle.conspoint.specs.Errors.{IsReadFault};
-ghost use Rattle.conspoint.specs.Plans.{FitsDisk, IsSlot};
-ghost use Rattle.conspoint.specs.Space.{Lacks, TakesAtMost};
-ghost use Rattle.conspoint.specs.Writes.{writes_of};
-ghost use Rattle.images.specs.Cuts.{IsPointWith, LeavesFree};
-ghost use Rattle.images.specs.Nodes.{file_block, held};
-ghost use Rattle.images.specs.Roots.{whole};
-ghost use Rattle.images.specs.SnapshotSteps.{CanStep, SnapshotStep};
+ghost use Rattle.conspoint.specs.Plans.{IsSlot};
+ghost use Rattle.images.specs.Nodes.{held};
+ghost use Rattle.images.specs.SnapshotSteps.{SnapshotStep};
 ghost use Rattle.images.specs.Soundness.{HasNoHole};
-ghost use Rattle.inofile.specs.Inodes.{files_of};
-ghost use Rattle.inofile.specs.Room.{memory_room};
-ghost use Rattle.planning.specs.Changes.{FitsSlots, IsStepOf, SharesNone, head_nodes, MakesStep, StepsEntries};
+ghost use Rattle.planning.specs.Changes.{FitsSlots, IsStepOf, head_nodes, MakesStep, StepsEntries};
 ghost use Rattle.planning.specs.Inodes.{HasChange, ChangesFile};
-ghost use Rattle.planning.specs.Numbers.{trimmed};
-ghost use Rattle.planning.specs.Plans.{PlansNumbers, IsAllPlanned, IsClean, IsPlanStart, IsPlannable, IsRootPlanned, IsRootStart, PlansEntries};
-ghost use Rattle.planning.specs.Progress.{Before};
-ghost use Rattle.planning.specs.Space.{CountsBlocks, map_stores, nodes_below, point_stores};
-ghost use Rattle.planning.specs.Steps.{ArePlanned, IsOverTree, settled_tree};
-ghost use Rattle.planning.specs.Promises.{AreOfSizes, PlansParts, PlansRoot};
+ghost use Rattle.planning.specs.Plans.{IsAllPlanned, IsClean, IsPlanStart, IsPlannable, IsRootPlanned, IsRootStart, PlansNumbers};
+ghost use Rattle.planning.specs.Space.{map_stores, nodes_below, point_stores};
+ghost use Rattle.planning.specs.Steps.{ArePlanned, HasSettled, OverTree, found_in, tree_of};
+ghost use Rattle.planning.specs.Promises.{AreOfSizes, IsGivenUp, IsPointOver, KeepsMap, PlansParts, PlansPoint, PlansRoot};
 
 use crate::block_map::plan_last;
 use crate::change::{SnapshotChange, change_snapshots, starting_file};
@@ -70,32 +57,19 @@ fn plan_changes<B: Blocks>(
 ) -> Result<(), PlanError>
     requires disk { B.count blocks.old ≡ draft.old.map.count }
     requires sizes { AreSizes inodes.now.geometry }
-    ensures step { PlansParts B.Blocks blocks.old blocks.new draft.old draft.new result }
+    ensures step { PlansParts B.Blocks inodes.now
+        (λ w. nodes_below inodes.now inodes.now.geometry.inodes + map_stores w inodes.now)
+        blocks.old blocks.new draft.old draft.new result }
     ensures file { ChangesFile (λ i. (i ≡ 0) ⊎ HasChange inodes.now i) file.old file.new }
-    ensures planned { (disk : ℕ → List ℕ) (settled : ℕ → Inode) (v : Volume) (before : Before)
-        → B.Shows blocks.old disk
-        → IsOverTree (B.count blocks.old) disk settled inodes.now v before
-        → HasNoHole (held disk (settled 1))
-        → (from : ℕ) → ArePlanned (λ n. ⊥) from draft.old disk settled before inodes.now file.old
-        → OnOk result (PlansNumbers from draft.new disk settled before inodes.now file.new) }
-    ensures damaged { (disk : ℕ → List ℕ) (settled : ℕ → Inode) (v : Volume) (before : Before)
-        → B.Shows blocks.old disk
-        → IsOverTree (B.count blocks.old) disk settled inodes.now v before
-        → (from : ℕ) → ArePlanned (λ n. ⊥) from draft.old disk settled before inodes.now file.old
-        → ((i : ℕ) → IsSoundAt (B.count blocks.old) disk file.old.tree i)
+    ensures planned { (o : OverTree B.Blocks blocks.old inodes.now)
+        → HasNoHole (held o.disk (o.settled 1)) → (from : ℕ)
+        → ArePlanned (λ n. ⊥) from draft.old o.disk o.settled o.before inodes.now file.old
+        → OnOk result
+        (PlansNumbers from draft.new o.disk o.settled o.before inodes.now file.new) }
+    ensures damaged { (o : OverTree B.Blocks blocks.old inodes.now)
+        → HasSettled draft.old o.before.entry
+        → ((i : ℕ) → IsSoundAt (B.count blocks.old) o.disk file.old.tree i)
         → IsErrOf result PlanError.Damaged → ⊥ }
-    ensures stores { (disk : ℕ → List ℕ) (settled : ℕ → Inode) (v : Volume) (before : Before)
-        → B.Shows blocks.old disk
-        → IsOverTree (B.count blocks.old) disk settled inodes.now v before → (w : ℕ → ℕ)
-        → CountsBlocks w inodes.now.numbers.bytes.items (file_block (held disk (settled 1)))
-        → OnOk result (TakesAtMost (nodes_below inodes.now inodes.now.geometry.inodes
-        + map_stores w inodes.now) draft.old draft.new) }
-    ensures short { (disk : ℕ → List ℕ) (settled : ℕ → Inode) (v : Volume) (before : Before)
-        → B.Shows blocks.old disk
-        → IsOverTree (B.count blocks.old) disk settled inodes.now v before → (w : ℕ → ℕ)
-        → CountsBlocks w inodes.now.numbers.bytes.items (file_block (held disk (settled 1)))
-        → IsErrOf result PlanError.NoSpace → Lacks (nodes_below inodes.now
-        inodes.now.geometry.inodes + map_stores w inodes.now) draft.old }
 {
     plan_numbers(alloc, draft, blocks, inodes, file)?;
     plan_inode_map(alloc, draft, blocks, inodes, file)?;
@@ -112,32 +86,18 @@ fn plan_files<B: Blocks>(
     inode_file: Inode,
     inodes: &InodeFile,
 ) -> Result<Inode, PlanError>
-    requires start { AreOfSizes root.now inodes.now (B.count blocks.old) draft.old }
+    requires start { AreOfSizes root.now inodes.now (B.count blocks.old) draft.old.map }
     requires size { inode_file.size ≡ root.now.inode_file.size }
     requires fits { IsInode VERSION root.now.geometry inode_file }
-    ensures step { PlansParts B.Blocks blocks.old blocks.new draft.old draft.new result }
-    ensures planned { (disk : ℕ → List ℕ) (settled : ℕ → Inode) (v : Volume) (before : Before)
-        → B.Shows blocks.old disk
-        → IsPlanStart (B.count blocks.old) draft.old disk inode_file settled inodes.now v before
-        → IfOk result (IsAllPlanned draft.old draft.new disk before inodes.now.geometry
-        (settled_tree disk settled) (λ n. trimmed (files_of disk settled inodes.now n))
-        inodes.now) }
-    ensures damaged { (disk : ℕ → List ℕ) (settled : ℕ → Inode) (v : Volume) (before : Before)
-        → B.Shows blocks.old disk
-        → IsPlanStart (B.count blocks.old) draft.old disk inode_file settled inodes.now v before
-        → IsErrOf result PlanError.Damaged → ⊥ }
-    ensures stores { (disk : ℕ → List ℕ) (settled : ℕ → Inode) (v : Volume) (before : Before)
-        → B.Shows blocks.old disk
-        → IsOverTree (B.count blocks.old) disk settled inodes.now v before → (w : ℕ → ℕ)
-        → CountsBlocks w inodes.now.numbers.bytes.items (file_block (held disk (settled 1)))
-        → OnOk result (TakesAtMost
-        (point_stores w root.now inodes.now draft.old.map.count) draft.old draft.new) }
-    ensures short { (disk : ℕ → List ℕ) (settled : ℕ → Inode) (v : Volume) (before : Before)
-        → B.Shows blocks.old disk
-        → IsOverTree (B.count blocks.old) disk settled inodes.now v before → (w : ℕ → ℕ)
-        → CountsBlocks w inodes.now.numbers.bytes.items (file_block (held disk (settled 1)))
-        → IsErrOf result PlanError.NoSpace
-        → Lacks (point_stores w root.now inodes.now draft.old.map.count) draft.old }
+    ensures step { PlansParts B.Blocks inodes.now
+        (λ w. point_stores w root.now inodes.now draft.old.map.count)
+        blocks.old blocks.new draft.old draft.new result }
+    ensures planned { (o : OverTree B.Blocks blocks.old inodes.now)
+        → IsPlanStart o draft.old inode_file
+        → IfOk result (IsAllPlanned draft.old draft.new o.disk o.before inodes.now.geometry
+        (tree_of o) (found_in o) inodes.now) }
+    ensures damaged { (o : OverTree B.Blocks blocks.old inodes.now)
+        → IsPlanStart o draft.old inode_file → IsErrOf result PlanError.Damaged → ⊥ }
 {
     inodes_are_put_one_by_one();
     based_trees_are_sound();
@@ -184,39 +144,23 @@ fn plan_root<B: Blocks>(
     inodes: &InodeFile,
     change: &SnapshotChange<'_>,
 ) -> Result<Root, PlanError>
-    requires start { AreOfSizes root.now inodes.now (B.count blocks.old) draft.old }
+    requires start { AreOfSizes root.now inodes.now (B.count blocks.old) draft.old.map }
     requires fits { FitsSlots change.now }
-    ensures step { PlansRoot B.Blocks generation root.now
-        blocks.old blocks.new draft.old draft.new result }
+    ensures step { PlansRoot B.Blocks inodes.now
+        (λ w. point_stores w root.now inodes.now draft.old.map.count + head_nodes change.now)
+        generation root.now blocks.old blocks.new draft.old draft.new result }
     ensures steps { IfOk result (λ r. (step : SnapshotStep) → IsStepOf change.now root.now step
         → MakesStep step root.now r draft.new) }
     // The map's entries once the snapshots' sets are changed, and those in the end.
     ensures sets { IfOk result (λ r. (step : SnapshotStep) → IsStepOf change.now root.now step
         → StepsEntries step root.now r (settled_at draft.old.map.parts.items)
         (entry_at draft.old.map.parts.items) (entry_at draft.new.map.parts.items)) }
-    ensures planned { (disk : ℕ → List ℕ) (settled : ℕ → Inode) (v : Volume) (before : Before)
-        → B.Shows blocks.old disk
-        → IsRootStart change.now (B.count blocks.old) draft.old disk root.now settled inodes.now v before
-        → IfOk result (λ r. IsRootPlanned change.now root.now r draft.old draft.new disk before
-        inodes.now.geometry (settled_tree disk settled)
-        (λ n. trimmed (files_of disk settled inodes.now n)) inodes.now) }
-    ensures damaged { (disk : ℕ → List ℕ) (settled : ℕ → Inode) (v : Volume) (before : Before)
-        → B.Shows blocks.old disk
-        → IsRootStart change.now (B.count blocks.old) draft.old disk root.now settled inodes.now v before
-        → IsErrOf result PlanError.Damaged → ⊥ }
-    ensures stores { (disk : ℕ → List ℕ) (settled : ℕ → Inode) (v : Volume) (before : Before)
-        → B.Shows blocks.old disk
-        → IsOverTree (B.count blocks.old) disk settled inodes.now v before → (w : ℕ → ℕ)
-        → CountsBlocks w inodes.now.numbers.bytes.items (file_block (held disk (settled 1)))
-        → OnOk result (TakesAtMost (point_stores w root.now inodes.now draft.old.map.count
-        + head_nodes change.now) draft.old draft.new) }
-    ensures short { (disk : ℕ → List ℕ) (settled : ℕ → Inode) (v : Volume) (before : Before)
-        → B.Shows blocks.old disk
-        → IsOverTree (B.count blocks.old) disk settled inodes.now v before → (w : ℕ → ℕ)
-        → CountsBlocks w inodes.now.numbers.bytes.items (file_block (held disk (settled 1)))
-        → IsErrOf result PlanError.NoSpace
-        → Lacks (point_stores w root.now inodes.now draft.old.map.count
-        + head_nodes change.now) draft.old }
+    ensures planned { (o : OverTree B.Blocks blocks.old inodes.now)
+        → IsRootStart o change.now draft.old root.now
+        → IfOk result (λ r. IsRootPlanned change.now root.now r draft.old draft.new o.disk
+        o.before inodes.now.geometry (tree_of o) (found_in o) inodes.now) }
+    ensures damaged { (o : OverTree B.Blocks blocks.old inodes.now)
+        → IsRootStart o change.now draft.old root.now → IsErrOf result PlanError.Damaged → ⊥ }
 {
     written_disks_have_the_blocks();
     let slots = change_snapshots(alloc, draft, root, change)?;
@@ -241,69 +185,17 @@ pub fn plan<B: Blocks>(
     map: BlockMap,
     change: &SnapshotChange<'_>,
 ) -> (BlockMap, Result<Point, PlanError>)
-    requires root { IsRoot root.now }
+    requires sizes { AreOfSizes root.now inodes.now (B.count blocks.old) map }
     requires slot { IsSlot slot }
     requires fits { FitsSlots change.now }
     requires clean { IsClean map }
-    requires size { map.count ≡ root.now.geometry.blocks }
-    requires disk { B.count blocks.old ≡ root.now.geometry.blocks }
-    requires sizes { inodes.now.geometry ≡ root.now.geometry }
     ensures reads { ReadsBlocks B.Blocks IsReadFault blocks.old blocks.new result.1 }
-    ensures count { result.0.count ≡ map.count }
-    ensures settled { (b : ℕ)
-        → settled_at result.0.parts.items b ≡ settled_at map.parts.items b }
-    ensures given { IfErr result.1 (λ e. IsClean result.0) }
-    ensures next { IfErr result.1 (λ e. result.0.next ≡ 2) }
-    ensures none { IfOk result.1 (λ p. p.plan.written ≡ 0) }
-    ensures slot { IfOk result.1 (λ p. p.plan.slot ≡ slot) }
-    ensures bytes { IfOk result.1 (λ p. p.plan.root ≡ root_bytes p.root) }
-    ensures fits { (sectors : ℕ) → 16 ≤ sectors → 8 * map.count ≤ sectors
-        → IfOk result.1 (λ p. FitsDisk sectors p.plan) }
-    ensures root { IfOk result.1 (λ p. IsRoot p.root) }
-    ensures generation { IfOk result.1 (λ p. p.root.generation ≡ generation) }
-    ensures geometry { IfOk result.1 (λ p. p.root.geometry ≡ root.now.geometry) }
-    ensures version { IfOk result.1 (λ p. p.root.version ≡ VERSION) }
-    ensures point { (d : ℕ → List ℕ) (base v : Volume)
-        → B.Shows blocks.old (blocks_of d)
+    ensures map { KeepsMap map result.0 }
+    ensures given { IfErr result.1 (λ e. IsGivenUp result.0) }
+    ensures point { IfOk result.1 (IsPointOver root.now slot generation) }
+    ensures over { (d : ℕ → List ℕ) (base v : Volume) → B.Shows blocks.old (blocks_of d)
         → IsPlannable change.now root.now d slot generation map inodes.now base v
-        → (step : SnapshotStep) → IsStepOf change.now root.now step
-        → CanStep step root.now (whole (blocks_of d) root.now) → IfOk result.1
-        (λ p. IsPointWith step root.now d (writes_of p.plan.blocks) slot p.root v) }
-    ensures entries { (d : ℕ → List ℕ) (base v : Volume)
-        → B.Shows blocks.old (blocks_of d)
-        → IsPlannable change.now root.now d slot generation map inodes.now base v
-        → IfOk result.1
-        (λ p. PlansEntries (blocks_of d) root.now p.plan p.root result.0) }
-    ensures damaged { (d : ℕ → List ℕ) (base v : Volume)
-        → B.Shows blocks.old (blocks_of d)
-        → IsPlannable change.now root.now d slot generation map inodes.now base v
-        → IsErrOf result.1 PlanError.Damaged → ⊥ }
-    // It leaves all blocks free but as many as memory may need; what is kept for files without names isn't among these.
-    ensures leaves { (d : ℕ → List ℕ) (base v : Volume)
-        → B.Shows blocks.old (blocks_of d)
-        → IsPlannable change.now root.now d slot generation map inodes.now base v → map.next ≡ 2
-        → (step : SnapshotStep) → IsStepOf change.now root.now step
-        → CanStep step root.now (whole (blocks_of d) root.now) → (spent : ℕ)
-        → memory_room base inodes.now v + fixed_of map.count
-        ≤ spent + NAMELESS_COST * count_nameless inodes.now.geometry.inodes v
-        → IfOk result.1 (λ p.
-        LeavesFree spent root.now (blocks_of d) (writes_of p.plan.blocks) p.root) }
-    // Where no snapshot is taken or restored, what every point stores is given back.
-    ensures room { (d : ℕ → List ℕ) (base v : Volume)
-        → B.Shows blocks.old (blocks_of d)
-        → IsPlannable change.now root.now d slot generation map inodes.now base v
-        → map.next ≡ 2 → (step : SnapshotStep) → IsStepOf change.now root.now step → SharesNone step
-        → CanStep step root.now (whole (blocks_of d) root.now) → (spent : ℕ)
-        → memory_room base inodes.now v
-        ≤ spent + NAMELESS_COST * count_nameless inodes.now.geometry.inodes v
-        → IfOk result.1 (λ p.
-        LeavesFree spent root.now (blocks_of d) (writes_of p.plan.blocks) p.root) }
-    ensures needs { (d : ℕ → List ℕ) (base v : Volume)
-        → B.Shows blocks.old (blocks_of d)
-        → IsPlannable change.now root.now d slot generation map inodes.now base v
-        → IsErrOf result.1 PlanError.NoSpace
-        → left map + NAMELESS_COST * count_nameless inodes.now.geometry.inodes v
-        < memory_room base inodes.now v + fixed_of map.count }
+        → PlansPoint change.now root.now d slot map inodes.now base v result.0 result.1 }
 {
     inodes_are_what_their_bytes_spell();
     snapshots_are_what_their_bytes_spell();

@@ -5,14 +5,13 @@ ghost use Rattle.layout.specs.Limits.{Sizes};
 ghost use Rattle.layout.specs.declared.TheConstants.{BLOCK_BYTES};
 ghost use Rattle.layout.specs.declared.inode.Inode.{Inode};
 ghost use Rattle.layout.specs.declared.kind.Kind.TheVariants as kinds;
-ghost use Rattle.blockmap.specs.Maps.{settled_at};
 ghost use Rattle.conspoint.specs.Drafts.{IsReserved};
-ghost use Rattle.images.specs.BlockMap.{NamesOnce};
 ghost use Rattle.placement.specs.Files.{IsChangeOf};
 ghost use Rattle.placement.specs.Space.{first_stores};
 ghost use Rattle.planning.specs.Plans.{HasTop, Progresses};
-ghost use Rattle.planning.specs.Progress.{Before, IsExactPlane, PlannedInodes};
-ghost use Rattle.planning.specs.Steps.{settled_tree};
+ghost use Rattle.planning.specs.Progress.{PlannedInodes};
+ghost use Rattle.planning.specs.Steps.{HasSettled, OverTree, tree_of};
+ghost use Rattle.inofile.specs.declared.inode_file.InodeFile.{InodeFile};
 ghost use Rattle.planning.specs.Promises.{PlansFiles};
 
 use crate::number::mark_placed;
@@ -35,18 +34,14 @@ pub(crate) fn place_top<B: Blocks>(
     requires some { BLOCK_BYTES ≤ top.now.file.size }
     ensures step { PlansFiles B.Blocks (first_stores top.now.file)
         blocks.old blocks.new draft.old draft.new result }
-    ensures others { (p : ℕ) → IsReserved draft.old p → IsReserved draft.new p }
     ensures reserved { IfOk result (λ r. IsReserved draft.new r.1) }
-    ensures planned { (s : Sizes) (disk : ℕ → List ℕ) (settled : ℕ → Inode) (before : Before)
-        (p : PlannedInodes) → B.Shows blocks.old disk
-        → IsChangeOf s draft.old disk (settled 0) top.now
+    ensures planned { (inodes : InodeFile) (o : OverTree B.Blocks blocks.old inodes)
+        → IsChangeOf inodes.geometry draft.old o.disk (o.settled 0) top.now
         → top.now.status.kind ≡ kinds.InodeFile
-        → NamesOnce (settled_tree disk settled)
-        → IsExactPlane (settled_tree disk settled) before
-        → ((b : ℕ) → settled_at draft.old.map.parts.items b ≡ before.entry b)
-        → Progresses draft.old disk before s (settled_tree disk settled) p
-        → p.changed 0 ≡ false
-        → IfOk result (λ r. HasTop p draft.new disk before s (settled_tree disk settled)
+        → HasSettled draft.old o.before.entry
+        → (p : PlannedInodes) → p.changed 0 ≡ false
+        → Progresses draft.old o.disk o.before inodes.geometry (tree_of o) p
+        → IfOk result (λ r. HasTop p draft.new o.disk o.before inodes.geometry (tree_of o)
         top.now r.0 r.1) }
     ensures damaged { (s : Sizes) (disk : ℕ → List ℕ) (base : Inode) → B.Shows blocks.old disk
         → IsChangeOf s draft.old disk base top.now → IsErrOf result PlanError.Damaged → ⊥ }

@@ -16,6 +16,7 @@ use Rattle.inofile.specs.declared.inode_file.InodeFile.{InodeFile}
 use Rattle.paths.specs.Standing.{Looks}
 use Rattle.paths.proofs.Looks.{looks_err, looks_more, looks_ok}
 use Rattle.records.specs.Failures.{told}
+use Rattle.records.specs.Looking.{Finding, Finds}
 use Rattle.records.specs.Obstacles.{IsObstacle, tells_obstacle}
 use Rattle.records.specs.Prepared.{DoesIn, IsReady}
 use Rattle.records.specs.Preparing.{DecidesKnown, DecidesOn, DecidesRecord, IsVolumeFor, Premise}
@@ -56,6 +57,10 @@ module _ {B : Type 0} {Over Sure : Premise} {G : Ghosts B} {a b : B} {s t : Inod
       → ((detail : Detail) → OnVolumesIn detail G a s (λ disk settled v. ReadsIn detail v change → IsErrOf {T = T} {E = ReadError} (Err e) Damaged → ⊥)) → DecidesOn Over Sure G a b s t change q
   stops {T = T} {e = e} q is looks sound =
       passes {T = T} (Read e) q is (looks_err (Err e) refl looks) tt (λ detail disk settled v sure volume. tt) (λ detail disk settled v stands reads bad. sound detail disk settled v stands reads (cc))
+
+  -- the same of something that was looked for
+  pub unread : {T : Type 0} {P : Finding T} {e : ReadError} (q : Result Prepared Failure) → IsErrAnd q (λ f. f ≡ Read e) → Finds G a b s t P (Err e) → DecidesOn Over Sure G a b s t change q
+  unread q is finds = stops q is finds.looks (λ detail disk settled v stands reads. finds.damaged {detail = detail} disk settled v stands)
 
   -- this is the first obstacle
   pub obstructs : {T : Type 0} {x : T} {errno : Errno} → Looks {T = T} {E = ReadError} G IsFault a b s t (Ok x) → IsTrue (tells_obstacle change errno)

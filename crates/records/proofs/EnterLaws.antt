@@ -1,7 +1,7 @@
 -- Names that directories of a volume get and lose.
 use Rattle.std.proofs.Common.{◌≡◌, ◌≢◌, inl, inr, ℕ, zero, suc, ◌==◌, ◌≤◌, List, Option, Some, None, IsTrue, IsSome, is_some, false, refl, sym, ap, subst, ◌∙◌, arith}
 use Rattle.std.proofs.Math.Path.{fun_ext}
-use Rattle.std.proofs.lemmas.Bool.{cases_Bool, cases_eq, false≢true, both_ways}
+use Rattle.std.proofs.lemmas.Bool.{cases_Bool, cases_eq, false≢true}
 use Rattle.std.proofs.lemmas.Bool.Decides.{nat_tests}
 use Rattle.std.specs.Prelude.{unwrap_or}
 use Rattle.std.specs.Ordering.{nat_cmp}
@@ -119,9 +119,6 @@ full_has_no_place names n count many place =
 
 none_directory : (o : Option Node) → o ≡ None → IsTrue (is_directory_node o) → ⊥
 none_directory o none is = false≢true (subst (λ (x : Option Node). IsTrue (is_directory_node x)) none is)
-
-some_directory : (o : Option Node) (node : Node) → o ≡ Some node → is_directory_node (Some node) ≡ false → IsTrue (is_directory_node o) → ⊥
-some_directory o node some not is = both_ways (is_directory_node (Some node)) not (subst (λ (x : Option Node). IsTrue (is_directory_node x)) some is)
 
 -- a directory in memory, with its names
 pub directory_stands : (k : Kind) (inodes : ℕ) (c : Content) (o : Option Node) → k ≡ kinds.Directory → HasSizeOf k inodes c o

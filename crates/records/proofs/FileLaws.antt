@@ -1,18 +1,22 @@
 -- Files of a volume, and their counts of names.
-use Rattle.std.proofs.Common.{◌≡◌, ◌≢◌, ℕ, ◌-◌, ◌+◌, ◌==◌, ◌↔◌, ◌++◌, drop, zero, suc, List, [], ◌∷◌, length, map, Option, Some, None, IsTrue, IsSome, true, false, inl, inr, refl, sym, ap, subst, ◌∙◌, arith}
+use Rattle.std.proofs.Common.{◌≡◌, ◌≢◌, ◌≤◌, ℕ, ◌-◌, ◌+◌, ◌==◌, ◌↔◌, ◌++◌, drop, zero, suc, List, [], ◌∷◌, length, map, Option, Some, None, IsTrue, IsSome, true, false, inl, inr, refl, sym, ap, subst, ◌∙◌, arith}
 use Rattle.std.proofs.lemmas.Bool.{false≢true}
 use Rattle.std.proofs.lemmas.Bool.Decides.{nat_tests}
 use Rattle.layout.specs.Directory.{IsEntry}
+use Rattle.layout.specs.declared.inode.Inode.{Inode}
 use Rattle.layout.specs.declared.kind.Kind.{Kind}
 use Rattle.layout.specs.declared.kind.Kind.TheVariants as kinds
 use Rattle.model.specs.declared.attributes.Attributes.{Attributes}
 use Rattle.model.specs.Paths.{Name, IsName}
-use Rattle.model.specs.Records.{IsEmpty}
+use Rattle.model.specs.Records.{Change, IsEmpty, applied, work_of}
+use Rattle.model.specs.Room.{cost}
 use Rattle.model.specs.Volumes.{Node, Volume, directory_node, file_node, link_node, entries, is_directory_node, is_file_node, with_entry, with_name_less, with_name_more, with_node}
 use Rattle.images.specs.Contents.{Content}
 use Rattle.layout.specs.DirectoryNames.{NameMap}
 use Rattle.dirs.specs.Directory.{with_name}
 use Rattle.dirs.specs.Listings.{IsListingOfNames}
+use Rattle.dirs.specs.Room.{piece_count}
+use Rattle.dirs.specs.declared.edit.Edit.{Edit}
 use Rattle.inode.specs.Edges.{written_list}
 use Rattle.layout.specs.Bytes.{zeros}
 use Rattle.inode.specs.declared.object.Object.{Object}
@@ -22,14 +26,16 @@ use Rattle.images.specs.Soundness.{Detail}
 use Rattle.inofile.proofs.DetailLaws.{HasSizeOf}
 use Rattle.records.specs.Preparing.{IsKnownVolume}
 use Rattle.records.proofs.DetailLaws.{graph_of, numbers_of}
-use Rattle.records.specs.Entering.{with_node_names}
+use Rattle.records.specs.Entering.{EditsIn, with_node_names}
 use Rattle.records.specs.Moving.{IsSomeAlone}
-use Rattle.records.specs.Prepared.{IsApartFrom}
-use Rattle.records.specs.Steps.{FitsUpdate, IsAlone, IsApart, IsAtHand, IsFileWithLinks, IsSomeApart, IsSomeAtHand, TakesSome, TakesUpdate, with_node_links}
+use Rattle.records.specs.Prepared.{AreBeside, DoesIn, IsApartFrom, IsReady, KnowsFile}
+use Rattle.records.specs.Room.{SomeRoom, StepRoom, UpdateRoom}
+use Rattle.records.specs.Steps.{FitsUpdate, IsAlone, IsApart, IsAtHand, IsBeside, IsFileWithLinks, IsSomeApart, IsSomeAtHand, Steps, StepsSome, TakesSome, TakesUpdate, Updates, with_node_links}
 use Rattle.records.specs.declared.steps.Step.{Step}
 use Rattle.records.specs.declared.steps.Update.{Update}
 use Rattle.records.specs.declared.steps.Update.TheVariants as updates
 use Rattle.records.proofs.EnterLaws.{names_set, put_volume}
+use Rattle.model.proofs.ObjectLaws.{node_other}
 use Rattle.model.proofs.OptionLaws.{none_some}
 
 -- what isn't a file is gone with its name
@@ -89,13 +95,57 @@ empty_apart v n d x empty is same = none_some (sym (subst (λ k. IsEmpty v k) sa
 
 -- ---- steps
 
--- the names of a directory changed, and then another object, make what both make at once
-pub both_steps : (n d : ℕ) (x : Name) (to : Option ℕ) (node after : Option Node) (v : Volume) → n ≢ d → after ≡ node
-    → with_entry d x to (with_node n node v) ≡ with_node n after (with_node d (with_node_names (with_name x to) (v d)) v)
-both_steps n d x to node after v apart same =
-    sym (put_volume n d x to node v apart)
-    ∙ ap (λ o. with_node n node (with_node d o v)) (sym (names_set x to (v d)))
-    ∙ ap (λ o. with_node n o (with_node d (with_node_names (with_name x to) (v d)) v)) (sym same)
+beside_none : (step : Option Step) → AreBeside step None
+beside_none None = tt
+beside_none (Some step) = tt
+
+-- no step depends on anything
+pub apart_none : (step : Option Step) → IsApartFrom step None
+apart_none None = tt
+apart_none (Some step) = tt
+
+-- memory has room for a step, and for another one, if there is one
+pub ready_two : {s : InodeFile} {first : Step} {next : Option Step} → TakesUpdate s first.number first.update → TakesSome s next → IsSomeApart first.number next
+    → IsReady s (record { first = first; next = next; last = None })
+ready_two {next = next} takes more apart = record { first = takes; next = more; last = tt; next_apart = apart; last_apart = tt; apart = apart_none next }
+
+module _ {detail : Detail} {disk : ℕ → List ℕ} {settled : ℕ → Inode} {s : InodeFile} {v : Volume} {change : Change} where
+  -- a step, and another one, if there is one, do what a record says
+  pub does_two : (first : Step) (next : Option Step) (between : Volume) (k l : ℕ) → Steps detail disk settled s v first between → StepsSome detail disk settled s between next (applied change v)
+      → IsBeside first.number next → StepRoom s first k → SomeRoom s next l → k + l ≤ cost (work_of v change) → KnowsFile s change
+      → DoesIn detail disk settled s v (record { first = first; next = next; last = None }) change
+  does_two first next between k l steps more apart room rest within knows = record {
+    between = between;
+    second = applied change v;
+    first = steps;
+    next = more;
+    last = refl;
+    next_beside = apart;
+    last_beside = tt;
+    beside = beside_none next;
+    firsts = k;
+    nexts = l;
+    lasts = 0;
+    first_room = room;
+    next_room = rest;
+    last_room = tt;
+    within = omega (arith, within);
+    knows = knows;
+  }
+
+  -- so do a change of a directory's names and then an update of another object
+  pub does_both : (d n : ℕ) (x : Name) (to : Option ℕ) (edit : Edit) (update : Update) (node : Option Node) (k : ℕ) → n ≢ d
+      → EditsIn disk s.geometry.inodes (with_name x to) (v d) (loaded s d) edit → piece_count edit ≤ 1
+      → Updates detail disk s.geometry.inodes (settled n) (v n) (loaded s n) update node → UpdateRoom (loaded s n) update k
+      → applied change v ≡ with_entry d x to (with_node n node v) → 7 + k ≤ cost (work_of v change) → KnowsFile s change
+      → DoesIn detail disk settled s v (record { first = record { number = d; update = updates.Names edit }; next = Some (record { number = n; update = update }); last = None }) change
+  does_both d n x to edit update node k apart edits few does room same within knows =
+      let names : Option Node = with_node_names (with_name x to) (v d) in
+      let both : applied change v ≡ with_node n node (with_node d names v) =
+      same ∙ sym (put_volume n d x to node v apart) ∙ ap (λ (o : Option Node). with_node n node (with_node d o v)) (sym (names_set x to (v d))) in
+      does_two (record { number = d; update = updates.Names edit }) (Some (record { number = n; update = update })) (with_node d names v) 7 k (names, (with_name x to, edits, refl), refl)
+      (node, subst (λ (o : Option Node). Updates detail disk s.geometry.inodes (settled n) o (loaded s n) update node) (sym (node_other d n names v apart)) does, both)
+      apart (omega (arith, few)) room within knows
 
 -- ---- updates that depend on nothing else
 
@@ -123,11 +173,6 @@ alone_apart n number (updates.Links links) alone = tt
 pub alone_some_apart : (n : ℕ) (step : Option Step) → IsSomeAlone step → IsSomeApart n step
 alone_some_apart n None alone = tt
 alone_some_apart n (Some step) alone = alone_apart n step.number step.update alone
-
--- no step depends on anything
-pub apart_none : (step : Option Step) → IsApartFrom step None
-apart_none None = tt
-apart_none (Some step) = tt
 
 -- ---- listings
 

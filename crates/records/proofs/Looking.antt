@@ -1,7 +1,7 @@
 -- Looking for something in an image, step by step.
 use Rattle.std.proofs.Common.{◌≡◌, ℕ, List, Option, Result, Ok, Err, IfOk}
 use Rattle.std.proofs.lemmas.Result.{IfOk-weaker}
-use Rattle.std.specs.Result.{IsErrAnd, IsErrOf}
+use Rattle.std.specs.Result.{IsErrAnd}
 use Rattle.layout.specs.declared.inode.Inode.{Inode}
 use Rattle.model.specs.Volumes.{Volume}
 use Rattle.buffers.specs.Reads.{ReadsBlocks}
@@ -13,21 +13,13 @@ use Rattle.images.specs.Soundness.{Detail}
 use Rattle.inofile.specs.declared.inode_file.InodeFile.{InodeFile}
 use Rattle.paths.specs.Loads.{OnlyLoads}
 use Rattle.paths.specs.Standing.{Looks, StandsIn}
+use Rattle.paths.proofs.LookingUp.{same_error}
 use Rattle.paths.proofs.Looks.{looks_err, looks_more, looks_ok, looks_reads}
 use Rattle.records.specs.Looking.{Brings, Finding, Finds}
 use Rattle.records.specs.Shown.{NeverDamagedIn, OnVolumesIn}
 use Rattle.records.specs.Steps.{IsAtHand, IsSomeAtHand}
 use Rattle.records.specs.declared.steps.Step.{Step}
 use Rattle.records.proofs.StandLaws.{no_look, some_stays_at_hand, stays_at_hand}
-
--- an error told of another answer
-pub same_error : {T U : Type 0} (f e d : ReadError) → f ≡ e → IsErrOf {T = T} {E = ReadError} (Err f) d → IsErrOf {T = U} {E = ReadError} (Err e) d
-same_error f e d is bad = cc
-
--- an answer that passes on an error has that error
-pub passed_error : {T U : Type 0} {e d : ReadError} (q : Result T ReadError) → IsErrAnd q (λ f. f ≡ e) → IsErrOf q d → IsErrOf {T = U} {E = ReadError} (Err e) d
-passed_error (Ok x) is bad = absurd is
-passed_error {e = e} {d = d} (Err f) is bad = same_error f e d is bad
 
 module _ {B T : Type 0} {G : Ghosts B} {a b : B} {s t : InodeFile} {Known : InodeFile → Type 0} {r : Result T ReadError} where
   -- an object that came into memory is something that was found
@@ -64,7 +56,7 @@ module _ {B T U : Type 0} {G : Ghosts B} {a b : B} {s t : InodeFile} {P : Findin
     stays = finds.stays;
     keeps = finds.keeps;
     found = λ disk settled v stands. tt;
-    damaged = λ disk settled v stands bad. finds.damaged disk settled v stands (same_error f e Damaged is bad);
+    damaged = λ disk settled v stands bad. finds.damaged disk settled v stands (same_error (Err f) e Damaged is bad);
   }
 
   -- something else is told by what was found

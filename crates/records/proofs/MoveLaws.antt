@@ -1,5 +1,5 @@
 -- A move, as changes of one object after another.
-use Rattle.std.proofs.Common.{◌≡◌, ◌≢◌, ◌≤◌, ◌⊎◌, inl, inr, ℕ, Bool, true, false, List, Option, Some, None, is_some, IsTrue, refl, sym, ap, subst, ◌∙◌, arith}
+use Rattle.std.proofs.Common.{◌≡◌, ◌≢◌, ◌≤◌, ◌⊎◌, inl, inr, ℕ, Bool, true, false, List, Option, Some, None, IsTrue, refl, sym, ap, subst, ◌∙◌, arith}
 use mathlib.Core.Bool.{beq, not}
 use Rattle.std.proofs.Math.Path.{fun_ext}
 use Rattle.std.proofs.lemmas.Bool.{cases_eq, false≢true}
@@ -20,7 +20,6 @@ use Rattle.records.specs.Preparing.{IsKnownVolume, IsVolumeFor}
 use Rattle.records.proofs.DetailLaws.{graph_of, numbers_of}
 use Rattle.records.specs.Entering.{Accepts, HasPlace, names_after, pieces_of, with_node_names}
 use Rattle.records.specs.Moving.{Moves, Replaces, edit_for}
-use Rattle.records.specs.Prepared.{AreBeside}
 use Rattle.records.specs.Room.{SomeRoom}
 use Rattle.records.specs.Steps.{IsBeside, StepsSome, Updates}
 use Rattle.records.specs.declared.naming.NameEdit.TheVariants as edits
@@ -30,6 +29,7 @@ use Rattle.records.proofs.FileLaws.{same_some}
 use Rattle.records.proofs.PlaceLaws.{place_across, place_inside}
 use Rattle.model.proofs.OptionLaws.{none_some}
 use Rattle.model.proofs.ObjectLaws.{node_here, node_other}
+use Rattle.model.proofs.VolumeLemmas.{enters_directory}
 
 -- objects of two numbers are changed in either order
 pub nodes_apart : (a b : ℕ) (o p : Option Node) (v : Volume) → a ≢ b → with_node a o (with_node b p v) ≡ with_node b p (with_node a o v)
@@ -223,7 +223,7 @@ module _ (detail : Detail) (disk : ℕ → List ℕ) (settled : ℕ → Inode) (
   pub accepts_move : (inodes : ℕ) (old : Entry) (entry : Entry) → old.name.now ≡ x → entry.name.now ≡ y → IsVolumeFor detail inodes (rename d x k y) v → d ≡ k → Accepts (edits.Move old.name entry) (v k)
   accepts_move inodes old entry is_old is_new volume same =
       let there : entries v k x ≡ Some n = ap (λ (j : ℕ). entries v j x) (sym same) ∙ moves.there in
-      let is = directory_is (v k) (named (v k) there) in
+      let is = directory_is (v k) (enters_directory (v k) x n there) in
       record {
         attributes = is.0;
         names = is.1;
@@ -233,12 +233,6 @@ module _ (detail : Detail) (disk : ℕ → List ℕ) (settled : ℕ → Inode) (
             (subst (λ (b : Name). HasPlace (with_name x None (with_name b None is.1))) (sym is_new)
             (place_inside detail inodes v d x n k y is.0 is.1 is.2 (sym (ap (λ (o : Option Node). names_in o x) is.2) ∙ there) same (names_differ same) volume));
       }
-    where
-      named : (o : Option Node) → names_in o x ≡ Some n → IsTrue (is_directory_node o)
-      named None at = none_some at
-      named (Some (directory_node attributes names)) at = refl
-      named (Some (file_node attributes links bytes)) at = none_some at
-      named (Some (link_node attributes text)) at = none_some at
 
   -- and another directory takes a name for what had it, or one more
   pub accepts_other : (inodes : ℕ) (entry : Entry) → entry.name.now ≡ y → IsVolumeFor detail inodes (rename d x k y) v → d ≢ k → CanRename v d x k y → Accepts (edit_for entry step) (v k)
@@ -296,18 +290,6 @@ other_alone false false is one = absurd (false≢true is)
 pub names_for : (entry : Entry) (step : Option Step) → names_after (edit_for entry step) ≡ with_name entry.name.now (Some entry.number)
 names_for entry None = refl
 names_for entry (Some step) = refl
-
-pub wanted_some : (entry : Entry) (step : Option Step) → is_some step ≡ true → edits.Replace entry ≡ edit_for entry step
-wanted_some entry None is = absurd (false≢true is)
-wanted_some entry (Some step) is = refl
-
-pub wanted_none : (entry : Entry) (step : Option Step) → is_some step ≡ false → edits.Add entry ≡ edit_for entry step
-wanted_none entry None is = refl
-wanted_none entry (Some step) is = absurd (false≢true (sym is))
-
-pub beside_none : (step : Option Step) → AreBeside step None
-beside_none None = tt
-beside_none (Some step) = tt
 
 -- what has a name has an ordinary number, and may have another name
 pub entry_named : (detail : Detail) (inodes : ℕ) (v : Volume) (d : ℕ) (x : Name) (n : ℕ) (y : Name) → IsKnownVolume detail inodes v → entries v d x ≡ Some n → IsName y → IsEntry inodes (record { number = n; name = y })

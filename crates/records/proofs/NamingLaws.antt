@@ -29,7 +29,7 @@ use Rattle.records.specs.declared.naming.NameEdit.{NameEdit}
 use Rattle.records.specs.declared.naming.NameEdit.TheVariants as edits
 use Rattle.records.specs.Entering.{HasPlace}
 use Rattle.layout.specs.declared.entry.Entry.{Entry}
-use Rattle.records.proofs.Looking.{same_error}
+use Rattle.paths.proofs.LookingUp.{same_error}
 use Rattle.records.proofs.StandLaws.{reads_err}
 use Rattle.inode.proofs.BaseLaws.{still_same}
 
@@ -88,7 +88,7 @@ module _ {B : Type 0} {Had : (ℕ → List ℕ) → NameMap → Type 0} {G : Gho
     fits = tt;
     pieces = tt;
     edited = λ disk names shows had. tt;
-    damaged = λ disk names shows bad had grammar. sound disk names shows (same_error f e Damaged is bad) had grammar;
+    damaged = λ disk names shows bad had grammar. sound disk names shows (same_error (Err f) e Damaged is bad) had grammar;
   }
 
 module _ {B T : Type 0} {Had Then : (ℕ → List ℕ) → NameMap → Type 0} {G : Ghosts B} {a b c : B} {inodes : ℕ} {file mid new : File} {known : Known} {wanted more : NameEdit} {x : T} {r : Result (Option Edit) ReadError} {low most : ℕ} where

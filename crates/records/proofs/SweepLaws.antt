@@ -41,16 +41,20 @@ named_stays (Some (link_node attributes text)) is = refl
 named_stays (Some (file_node attributes zero bytes)) is = cc
 named_stays (Some (file_node attributes (suc links) bytes)) is = refl
 
+-- an object that is put in its own place changes nothing
+pub node_same : (n : ℕ) (o : Option Node) (v : Volume) → v n ≡ o → v ≡ with_node n o v
+node_same n o v same = fun_ext {f = v} {g = with_node n o v} (λ k. elim (cases_eq k n) [
+  | inl here ↦ ap v here ∙ same ∙ sym (node_here n k o v here)
+  | inr other ↦ sym (node_other n k o v other)
+])
+
 -- a file without a name is dropped
 pub dropped : (n : ℕ) (v : Volume) → is_nameless (v n) ≡ true → with_node n None v ≡ with_node n (swept_node false (v n)) v
 dropped n v is = ap (λ (o : Option Node). with_node n o v) (sym (nameless_goes (v n) is))
 
 -- anything else stays
 pub kept : (n : ℕ) (v : Volume) → is_nameless (v n) ≡ false → v ≡ with_node n (swept_node false (v n)) v
-kept n v is = fun_ext {f = v} {g = with_node n (swept_node false (v n)) v} (λ k. elim (cases_eq k n) [
-  | inl here ↦ ap v here ∙ sym (named_stays (v n) is) ∙ sym (node_here n k (swept_node false (v n)) v here)
-  | inr other ↦ sym (node_other n k (swept_node false (v n)) v other)
-])
+kept n v is = node_same n (swept_node false (v n)) v (sym (named_stays (v n) is))
 
 -- the number of a step, if there is one
 abbrev pub number_of : Option Step → Option ℕ
@@ -61,12 +65,7 @@ number_of step = option_map (λ (step : Step). step.number) step
 module _ (table : ℕ → Option Description) where
   -- what is open stays
   pub open_stays : (n : ℕ) (v : Volume) → is_open table 32 n ≡ true → v ≡ without_file table (Some n) v
-  open_stays n v is = fun_ext {f = v} {g = without_file table (Some n) v} (λ k. elim (cases_eq k n) [
-    | inl here ↦
-        ap v here ∙ sym (stays_open (v n)) ∙ ap (λ (b : Bool). swept_node b (v n)) (sym is)
-        ∙ sym (node_here n k (swept_node (is_open table 32 n) (v n)) v here)
-    | inr other ↦ sym (node_other n k (swept_node (is_open table 32 n) (v n)) v other)
-  ])
+  open_stays n v is = node_same n (swept_node (is_open table 32 n) (v n)) v (sym (ap (λ (b : Bool). swept_node b (v n)) is ∙ stays_open (v n)))
 
   -- what isn't open goes where it has no name
   pub closed_goes : (n : ℕ) (v : Volume) → is_open table 32 n ≡ false → with_node n (swept_node false (v n)) v ≡ without_file table (Some n) v

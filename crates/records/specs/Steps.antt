@@ -72,7 +72,8 @@ IsBeside n (Some step) = step.number ≢ n
 
 -- a file that has so many names
 abbrev pub IsFileWithLinks : ℕ → Option Node → Type 0
-IsFileWithLinks links found = (attributes : Attributes) × (bytes : List ℕ) × (found ≡ Some (file_node attributes links bytes))
+IsFileWithLinks links found =
+    (attributes : Attributes) × (bytes : List ℕ) × (found ≡ Some (file_node attributes links bytes))
 
 -- a file with so many names
 abbrev pub with_node_links : ℕ → Option Node → Option Node

@@ -16,7 +16,7 @@ ghost use Rattle.paths.specs.Standing.{Looks, StandsIn};
 ghost use Rattle.records.specs.Entering.{Accepts, EditsIn, IsNameEdit, PreparesEdit};
 ghost use Rattle.records.specs.Failures.{told};
 ghost use Rattle.records.specs.Looking.{Finds};
-ghost use Rattle.records.specs.Moving.{IsSomeAlone, Moves, MovesOver, ReplacesBy};
+ghost use Rattle.records.specs.Moving.{IsSomeAlone, Moves, MovesOver, ReplacesBy, edit_for};
 ghost use Rattle.records.specs.Preparing.{DecidesKnown, DecidesOn, IsKnownVolume};
 ghost use Rattle.records.specs.Shown.{NeverDamagedIn, OnVolumesIn};
 ghost use Rattle.records.specs.Steps.{IsAlone, IsAtHand, IsSomeAtHand, TakesUpdate};
@@ -257,17 +257,7 @@ fn place<'n, B: Blocks>(
             last: None,
         });
     }
-    let wanted = if replaced.is_some() {
-        NameEdit::Replace(Entry {
-            number: entry.number,
-            name: entry.name,
-        })
-    } else {
-        NameEdit::Add(Entry {
-            number: entry.number,
-            name: entry.name,
-        })
-    };
+    let wanted = edit_for(entry, &replaced);
     let both = edit_both(alloc, inodes, blocks, parent, name, new_parent, &wanted)?;
     let Some((added, removed)) = both else {
         return Err(Failure::Refused(Errno::DIRFULL));
@@ -283,6 +273,20 @@ fn place<'n, B: Blocks>(
         }),
         last: replaced,
     })
+}
+
+// How a directory gets a name from another one.
+fn edit_for<'n>(entry: &Entry<'n>, replaced: &Option<Step>) -> NameEdit<'n>
+    ensures { result ≡ edit_for entry.now replaced.now }
+{
+    let entry = Entry {
+        number: entry.number,
+        name: entry.name,
+    };
+    match replaced {
+        Some(_step) => NameEdit::Replace(entry),
+        None => NameEdit::Add(entry),
+    }
 }
 
 // An edit of one directory, and a name less in another one. Both are known in memory before either is edited.

@@ -15,7 +15,7 @@ ghost use Rattle.descriptors.specs.Tables.{table_of};
 ghost use Rattle.records.specs.Opened.{HasNumbers};
 ghost use Rattle.records.specs.Prepared.{Does, IsReady};
 ghost use Rattle.records.specs.Steps.{IsAtHand};
-ghost use Rattle.records.specs.Sweeping.{OpensFiles, with_object_of, without_file};
+ghost use Rattle.records.specs.Sweeping.{OpensFiles, StandsNoMore, with_object_of, without_file};
 
 use crate::prepared::{Prepared, commit};
 use crate::steps::Step;
@@ -51,9 +51,9 @@ pub fn commit_swept(inodes: &mut InodeFile, files: &mut Descriptors, prepared: P
     let next = number_of(&prepared.next);
     let last = number_of(&prepared.last);
     commit(inodes, prepared);
-    settle(inodes, files, Some(first));
-    settle(inodes, files, next);
-    settle(inodes, files, last);
+    drop_or_note(inodes, files, Some(first));
+    drop_or_note(inodes, files, next);
+    drop_or_note(inodes, files, last);
 }
 
 // The number of a step.
@@ -95,21 +95,17 @@ pub fn drop_nameless(inodes: &mut InodeFile, number: InodeNumber)
 
 // Drops the file of a number, if there is one, where it has neither name nor descriptor; where it is open, the table then has its
 // size and links as memory has them.
-fn settle(inodes: &mut InodeFile, files: &mut Descriptors, number: Option<InodeNumber>)
+fn drop_or_note(inodes: &mut InodeFile, files: &mut Descriptors, number: Option<InodeNumber>)
     requires { IfSome number (IsAtHand inodes.old) }
     ensures geometry { inodes.new.geometry ≡ inodes.old.geometry }
     ensures stays { (n : ℕ) → IsKnown inodes.old n → IsKnown inodes.new n }
     ensures keeps { (n : ℕ) → HasRoomFor inodes.old n → HasRoomFor inodes.new n }
     ensures opened { table_of files.new ≡ table_of files.old }
     ensures numbers { (n : ℕ) → HasNumbers n files.old → HasNumbers n files.new }
-    ensures volume { (count : ℕ) (disk : ℕ → List ℕ) (settled : ℕ → Inode) (v : Volume)
-        → IsVolumeOf count disk settled inodes.old v
-        → IsVolumeOf count disk settled inodes.new
+    ensures volume { (base : Volume) (count : ℕ) (disk : ℕ → List ℕ) (settled : ℕ → Inode)
+        (v : Volume) → IsVolumeOf count disk settled inodes.old v
+        → StandsNoMore base count disk settled inodes.old v inodes.new
         (without_file (table_of files.old) number v) }
-    ensures room { (base : Volume) (count : ℕ) (disk : ℕ → List ℕ) (settled : ℕ → Inode) (v : Volume)
-        → IsVolumeOf count disk settled inodes.old v
-        → memory_room base inodes.new (without_file (table_of files.old) number v)
-        ≤ memory_room base inodes.old v }
     ensures fits { (count : ℕ) (disk : ℕ → List ℕ) (settled : ℕ → Inode) (v w : Volume)
         → IsVolumeOf count disk settled inodes.old w → OpensFiles (table_of files.old) w
         → FitsVolume files.old v → FitsVolume files.new (with_object_of w number v) }

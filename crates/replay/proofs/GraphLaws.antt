@@ -1,35 +1,17 @@
 -- What names and numbers keep, where the limits of objects aren't known.
 use Rattle.std.proofs.Common.{◌∙◌, ◌≡◌, inr, ℕ, List, Option, Some, None, IsSome, false, is_some, ap, sym, refl, [], ◌∷◌}
-use Rattle.model.specs.declared.attributes.Attributes.{Attributes}
-use Rattle.model.specs.Records.{Applies, Change, Made, applied, change_mode, create, cut, directory, file, link, node_of, rename, symbolic_link, unname, with_file_bytes, with_node_mode, without_nameless, write}
+use Rattle.model.specs.Records.{Applies, Change, applied, change_mode, create, cut, link, node_of, rename, unname, with_file_bytes, with_node_mode, without_nameless, write}
 use Rattle.model.specs.Edits.{resized, written}
-use Rattle.model.specs.Volumes.{IsGraph, IsVolume, Node, Volume, directory_node, entries, file_node, is_directory_node, is_file_node, link_node, released, swept_node, with_entry, with_name_more, with_node}
-use Rattle.model.proofs.AddLemmas.{SameLinks, graph-altered, graph-created, graph-linked, graph-swept}
+use Rattle.model.specs.Volumes.{IsGraph, IsVolume, Node, Volume, entries, is_directory_node, is_file_node, released, swept_node, with_entry, with_name_more, with_node}
+use Rattle.model.proofs.AddLemmas.{graph-altered, graph-created, graph-linked, graph-swept}
 use Rattle.model.proofs.LimitLemmas.{numbers_entry, numbers_node, numbers_released}
-use Rattle.model.proofs.MoveLemmas.{bytes_by, bytes_names, graph-moved, made_bare, mode_directory, mode_file, mode_names, mode_some, path_to}
+use Rattle.model.proofs.MoveLemmas.{bytes_by, bytes_links, bytes_names, graph-moved, made_bare, made_links, mode_directory, mode_file, mode_links, mode_names, mode_some, path_to}
 use Rattle.model.proofs.UnnameLemmas.{volume-unnamed}
 use Rattle.model.proofs.VolumeLemmas.{enters_directory}
 use Rattle.images.specs.Soundness.{Detail, by_bytes, by_sizes}
 use Rattle.images.specs.Replaying.{LeavesPlace, ReadsIn}
 use Rattle.records.specs.Preparing.{HasGraph, IsKnownVolume, IsVolumeFor}
 use Rattle.replay.specs.Volumes.{AppliesIn, ReplaysFor, ReplaysIn}
-
-made_links : (made : Made) (attributes : Attributes) (links : ℕ) (bytes : List ℕ) → Some (node_of made) ≡ Some (file_node attributes links bytes) → links ≡ 1
-made_links (file m) attributes links bytes is = cc
-made_links (directory m) attributes links bytes is = cc
-made_links (symbolic_link text) attributes links bytes is = cc
-
-bytes_links : (f : List ℕ → List ℕ) (o : Option Node) → SameLinks o (with_file_bytes f o)
-bytes_links f None attributes links bytes is = cc
-bytes_links f (Some (directory_node m names)) attributes links bytes is = cc
-bytes_links f (Some (file_node m l b)) attributes links bytes is = let same : l ≡ links = cc in (m, b, ap (λ c. Some (file_node m c b)) same)
-bytes_links f (Some (link_node a text)) attributes links bytes is = cc
-
-mode_links : (bits : ℕ) (o : Option Node) → SameLinks o (with_node_mode bits o)
-mode_links bits None attributes links bytes is = cc
-mode_links bits (Some (directory_node m names)) attributes links bytes is = cc
-mode_links bits (Some (file_node m l b)) attributes links bytes is = let same : l ≡ links = cc in (m, b, ap (λ c. Some (file_node m c b)) same)
-mode_links bits (Some (link_node a text)) attributes links bytes is = cc
 
 module _ (inodes : ℕ) (v : Volume) (has : HasGraph inodes v) where
   -- one object changes but for its kind, its names and its links

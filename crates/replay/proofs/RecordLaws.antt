@@ -1,6 +1,6 @@
 -- Records read one after the other, and where they lead.
 use Rattle.std.proofs.Common.{◌≡◌, ℕ, ◌+◌, ◌<◌, ◌^◌, List, [], ◌∷◌, ◌++◌, length, refl, sym, ap, subst, ◌∙◌, arith, length-append}
-use Rattle.std.proofs.lemmas.List.Elements.{All-head, All-tail}
+use Rattle.std.proofs.lemmas.List.Elements.{All-cons, All-head, All-nil, All-tail}
 use Rattle.byteorder.specs.Numbers.{length-bytes_low_first}
 use Rattle.byteorder.specs.Endian.{little_bytes}
 use Rattle.layout.specs.Log.{record_of, records_of, HoldsBodies, IsClosed}
@@ -96,3 +96,16 @@ one_in_front body rest after bodies left short is holds = record {
 -- a closed gate
 pub none_behind : (rest : List ℕ) → IsClosed rest → HoldsLeaving rest [] (length rest)
 none_behind rest shut = record { held = shut; left_is = omega arith }
+
+-- a record in front of others that lead on
+pub in_front : (detail : Detail) (inodes : ℕ) (rest body after : List ℕ) (change : Change) (more : List Change) (now w : Volume) → length body < 2 ^ 32 → rest ≡ record_of body ++ after
+    → SpellsRecord body change → AppliesIn detail inodes now change → LeadTo detail inodes after more (applied change now) w → LeadTo detail inodes rest (change ∷ more) now w
+in_front detail inodes rest body after change more now w short is spells applies leads = record {
+  are = All-cons IsChange change more spells.is leads.are;
+  held = (after, subst (λ (b : List ℕ). length b < 2 ^ 32) spells.spelled short, is ∙ ap (λ (b : List ℕ). record_of b ++ after) spells.spelled, leads.held);
+  replays = (applies, leads.replays);
+}
+
+-- behind a closed gate none lead on
+pub none_lead : (detail : Detail) (inodes : ℕ) (rest : List ℕ) (now : Volume) → IsClosed rest → LeadTo detail inodes rest [] now now
+none_lead detail inodes rest now shut = record { are = All-nil IsChange; held = shut; replays = refl }

@@ -1,15 +1,16 @@
 -- The records of two epochs, one after the other.
-use Rattle.std.proofs.Common.{◌≡◌, ℕ, List, [], ◌+◌, ◌∷◌, ◌++◌, arith, drop, refl, sym, ap, subst, ◌∙◌}
-use Rattle.std.specs.Prelude.{All}
+use Rattle.std.proofs.Common.{◌≡◌, ℕ, Bool, true, false, List, [], ◌+◌, ◌∷◌, ◌++◌, arith, drop, refl, sym, ap, subst, ◌∙◌}
+use Rattle.std.specs.Prelude.{All, if◌then◌else◌}
 use Rattle.std.proofs.lemmas.List.{map-append}
-use Rattle.std.proofs.lemmas.List.Elements.{All-nil, All-cons, All-head, All-tail}
-use Rattle.layout.specs.Log.{HoldsBodies}
+use Rattle.std.proofs.lemmas.List.Elements.{All-append, All-nil, All-cons, All-head, All-tail}
+use Rattle.layout.specs.Log.{HoldsBodies, LogHolds}
 use Rattle.layout.specs.Record.{Change, IsChange, change_bytes}
 use Rattle.model.specs.Records.{applied, costs}
 use Rattle.model.specs.Volumes.{Volume}
-use Rattle.images.specs.Soundness.{Detail}
-use Rattle.oplog.specs.SavedLog.{Saved, TellsLog}
-use Rattle.replay.specs.Volumes.{LeadTo, ReplaysIn, SavesRecordsIn, bodies_of}
+use Rattle.images.specs.Soundness.{Detail, by_bytes, by_sizes}
+use Rattle.oplog.specs.LogEnd.{LogEnd, all_bodies}
+use Rattle.oplog.specs.SavedLog.{HoldsLeaving, Saved, TellsLog, end_of}
+use Rattle.replay.specs.Volumes.{LeadTo, ReplaysFor, ReplaysIn, SavesRecordsIn, bodies_of}
 use Rattle.replay.proofs.GraphLaws.{replays_by_one}
 
 all_first : (P : Change → Type 0) (one two : List Change) → All P (one ++ two) → All P one
@@ -88,3 +89,38 @@ joined_bodies changes one two is = ap bodies_of is ∙ map-append change_bytes o
 pub costs_joined : (detail : Detail) (inodes : ℕ) (one two : List Change) (v mid : Volume) → ReplaysIn detail inodes v one mid → costs v (one ++ two) ≡ costs v one + costs mid two
 costs_joined detail inodes [] two v mid is = ap (λ (u : Volume). costs u two) (sym is) ∙ omega arith
 costs_joined detail inodes (c ∷ one) two v mid replays = omega (arith, costs_joined detail inodes one two (applied c v) mid replays.1)
+
+-- ---- records that were read
+
+-- records that apply one by one
+replays_for : (detail : Detail) (inodes : ℕ) (changes : List Change) (v w : Volume) → ReplaysIn detail inodes v changes w → ReplaysFor detail inodes v changes w
+replays_for by_bytes inodes [] v w replays = replays
+replays_for by_bytes inodes (c ∷ changes) v w replays = (replays.0, replays_for by_bytes inodes changes (applied c v) w replays.1)
+replays_for by_sizes inodes [] v w replays = replays
+replays_for by_sizes inodes (c ∷ changes) v w replays = (replays.0, replays_for by_sizes inodes changes (applied c v) w replays.1)
+
+replays_more : (detail : Detail) (inodes : ℕ) (one two : List Change) (v mid w : Volume) → ReplaysIn detail inodes v one mid → ReplaysIn detail inodes mid two w → ReplaysIn detail inodes v (one ++ two) w
+replays_more detail inodes [] two v mid w first second = subst (λ (u : Volume). ReplaysIn detail inodes u two w) first second
+replays_more detail inodes (c ∷ one) two v mid w first second = (first.0, replays_more detail inodes one two (applied c v) mid w first.1 second)
+
+half_of_any : (x y : Bool) (p q s : LogEnd) (half : ℕ) → p.half ≡ half → q.half ≡ half → s.half ≡ half → (if x then p else (if y then q else s)).half ≡ half
+half_of_any true y p q s half one two three = one
+half_of_any false true p q s half one two three = two
+half_of_any false false p q s half one two three = three
+
+end_half : (saved : Saved) (first second : ℕ) → (end_of saved first second).half ≡ saved.half
+end_half saved first second = half_of_any saved.second.is_open saved.first.is_open _ _ _ saved.half refl refl refl
+
+-- what both epochs hold is saved in the log
+pub saves_both : (detail : Detail) (inodes : ℕ) (nvram : List ℕ) (saved : Saved) (one two : List Change) (v mid w : Volume) (first second : ℕ) → TellsLog nvram saved
+    → LeadTo detail inodes saved.first.records one v mid → LeadTo detail inodes saved.second.records two mid w
+    → HoldsLeaving saved.first.records (bodies_of one) first → HoldsLeaving saved.second.records (bodies_of two) second → SavesRecordsIn detail inodes nvram saved (one ++ two) v w
+saves_both detail inodes nvram saved one two v mid w first second tells leads leads_on held held_too =
+    let stands = tells.ends (bodies_of one) (bodies_of two) first second held held_too in
+    let all : all_bodies stands.bodies ≡ bodies_of (one ++ two) = stands.all ∙ sym (joined_bodies (one ++ two) one two refl) in
+    record {
+      are = All-append IsChange one two leads.are leads_on.are;
+      held = subst (λ (n : ℕ). LogHolds n saved.generation nvram (bodies_of (one ++ two))) (end_half saved first second)
+          (subst (LogHolds (end_of saved first second).half saved.generation nvram) all stands.stands.holds);
+      replays = replays_for detail inodes (one ++ two) v w (replays_more detail inodes one two v mid w leads.replays leads_on.replays);
+    }

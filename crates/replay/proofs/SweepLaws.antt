@@ -10,11 +10,8 @@ use Rattle.model.specs.declared.attributes.Attributes.{Attributes}
 use Rattle.model.specs.Records.{count_nameless, without_nameless}
 use Rattle.model.specs.Volumes.{Node, directory_node, file_node, link_node, Volume, is_directory_node, is_file_node, is_nameless, swept_node, with_node}
 use Rattle.records.specs.Preparing.{HasGraph}
-use Rattle.inofile.specs.Inodes.{IsKnownSlot}
 use Rattle.inofile.specs.Settled.{held_content}
-use Rattle.inofile.specs.Volumes.{HasNoOwn, SlotStandsFor}
-use Rattle.inofile.specs.declared.inode_file.ObjectSlot.{ObjectSlot}
-use Rattle.inofile.specs.declared.inode_file.ObjectSlot.TheVariants.{AsSettled, Loaded, Changed}
+use Rattle.inofile.specs.Volumes.{HasNoOwn}
 use Rattle.images.specs.Nodes.{held}
 use Rattle.images.specs.Sizes.{StandsForIn}
 use Rattle.images.specs.Soundness.{Detail}
@@ -142,11 +139,3 @@ file_named detail disk inodes i found is stands =
 pub none_named : (detail : Detail) (disk : ℕ → List ℕ) (inodes : ℕ) (i : Inode) (found : Option Node) → (i.kind ≡ kinds.File → ⊥) → StandsForIn detail inodes (held_content disk i) found → false ≡ is_nameless found
 unfolding held
 none_named detail disk inodes i found other stands = other_named found (not_file detail i.kind inodes (held_content disk i) found stands other)
-
--- what isn't known in memory stands as it is settled
-pub unknown_stands : (detail : Detail) (disk : ℕ → List ℕ) (inodes : ℕ) (settled : Inode) (slot : Option ObjectSlot) (found : Option Node) → (IsKnownSlot slot → ⊥)
-    → SlotStandsFor detail disk inodes settled slot found → StandsForIn detail inodes (held_content disk settled) found
-unknown_stands detail disk inodes settled (Some AsSettled) found not stands = stands
-unknown_stands detail disk inodes settled (Some (Loaded object)) found not stands = absurd (not tt)
-unknown_stands detail disk inodes settled (Some (Changed object)) found not stands = absurd (not tt)
-unknown_stands detail disk inodes settled None found not stands = stands

@@ -61,6 +61,11 @@ pub record LeadTo (detail : Detail) (inodes : ℕ) (records : List ℕ) (changes
   pub held : HoldsBodies records (bodies_of changes)
   pub replays : ReplaysIn detail inodes old changes new
 
+-- the bytes from a gate on hold some records that lead on from a volume
+abbrev pub LeadSomewhere : Detail → ℕ → List ℕ → Volume → Type 0
+LeadSomewhere detail inodes records old =
+    (changes : List Change) × (new : Volume) × LeadTo detail inodes records changes old new
+
 -- What is left behind the records from a gate on, and what these cost.
 pub record HasReplayed (records : List ℕ) (changes : List Change) (v : Volume) (r : ReplayedHalf) : Type 0 where
   pub held : HoldsLeaving records (bodies_of changes) r.left
@@ -71,6 +76,11 @@ pub record SavesRecordsIn (detail : Detail) (inodes : ℕ) (nvram : List ℕ) (s
   pub are : All IsChange changes
   pub held : LogHolds saved.half saved.generation nvram (bodies_of changes)
   pub replays : ReplaysFor detail inodes old changes new
+
+-- it holds some records that lead on from a volume
+abbrev pub SavesSomeIn : Detail → ℕ → List ℕ → Saved → Volume → Type 0
+SavesSomeIn detail inodes nvram saved old =
+    (changes : List Change) × (new : Volume) × SavesRecordsIn detail inodes nvram saved changes old new
 
 abbrev pub SavesRecords : ℕ → List ℕ → Saved → List Change → Volume → Volume → Type 0
 SavesRecords = SavesRecordsIn by_bytes

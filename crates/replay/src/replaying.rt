@@ -10,7 +10,7 @@ ghost use Rattle.buffers.specs.Reads.{ReadsBlocks};
 ghost use Rattle.blocktree.specs.Errors.{IsFault};
 ghost use Rattle.images.specs.Soundness.{Detail};
 ghost use Rattle.oplog.specs.SavedLog.{HoldsLeaving};
-ghost use Rattle.replay.specs.Volumes.{AppliesIn, ComesTo, HasReplayed, HasVolumeIn, LeadTo, RaisesRoom, SpellsRecord};
+ghost use Rattle.replay.specs.Volumes.{AppliesIn, ComesTo, HasReplayed, HasVolumeIn, LeadSomewhere, LeadTo, RaisesRoom, SpellsRecord};
 ghost use Rattle.replay.specs.declared.costs.TheConstants.{MOST_COST};
 
 use crate::costs::{cost_of, size_before};
@@ -31,8 +31,9 @@ pub(crate) struct ReplayedHalf {
     pub(crate) cost: u64,
 }
 
-/// Replays the records from a gate on over the inodes in memory, and answers what is left behind them and what they cost.
-/// `Damaged` where the bytes hold no records, and where one doesn't apply. After an error it isn't known what memory stands for.
+/// Replays the records from a gate on over the inodes in memory, and answers what is left behind them and
+/// what they cost. None is passed over: `Damaged` where the bytes hold no records, and where one doesn't
+/// apply. After an error it isn't known what memory stands for.
 pub(crate) fn replay_all<B: Blocks>(
     alloc: Global,
     inodes: &mut InodeFile,
@@ -51,6 +52,10 @@ pub(crate) fn replay_all<B: Blocks>(
         → ComesTo result (λ r. HasReplayed records.now changes v r
         × HasVolumeIn detail (B.count blocks.old) disk settled inodes.new w
         × RaisesRoom inodes.old v inodes.new w r.cost) }
+    ensures applies { (detail : Detail) (disk : ℕ → List ℕ) (settled : ℕ → Inode) (v : Volume)
+        → B.Shows blocks.old disk
+        → HasVolumeIn detail (B.count blocks.old) disk settled inodes.old v
+        → IfOk result (λ _. LeadSomewhere detail inodes.old.geometry.inodes records.now v) }
     ensures holds { IfOk result
         (λ r. (bodies : List (List ℕ)) × HoldsLeaving records.now bodies r.left) }
 {

@@ -10,7 +10,7 @@ ghost use Rattle.images.specs.Soundness.{Detail};
 ghost use Rattle.inofile.specs.Inodes.{HasNoChange};
 ghost use Rattle.inofile.specs.Room.{memory_room};
 ghost use Rattle.oplog.specs.SavedLog.{StandsBehind, TellsLog};
-ghost use Rattle.replay.specs.Volumes.{ComesTo, HasVolumeIn, RaisesRoom, SavesRecordsIn, bodies_of};
+ghost use Rattle.replay.specs.Volumes.{ComesTo, HasVolumeIn, RaisesRoom, SavesRecordsIn, SavesSomeIn, bodies_of};
 
 use crate::replaying::replay_all;
 use crate::sweeping::{count_nameless, drop_nameless};
@@ -31,9 +31,10 @@ pub struct Replayed {
     pub pledged: u64,
 }
 
-/// Replays the records of a saved log over the inodes in memory, epoch after epoch, and drops the files without names behind
-/// the last one. `Damaged` where what is saved is no record that applies. After an error it isn't known what memory stands
-/// for. Whatever volume that was, the log holds just the records that were replayed.
+/// Replays the records of a saved log over the inodes in memory, epoch after epoch, and drops the files
+/// without names behind the last one. `Damaged` where what is saved is no record that applies, so behind Ok
+/// the log holds records that apply one after the other over the volume that memory stood for. After an error
+/// it isn't known what memory stands for.
 pub fn replay<B: Blocks>(
     alloc: Global,
     inodes: &mut InodeFile,
@@ -60,6 +61,11 @@ pub fn replay<B: Blocks>(
         → SavesRecordsIn detail inodes.old.geometry.inodes nvram saved changes v w
         → HasNoChange inodes.old → IfOk result
         (λ r. memory_room v inodes.new (without_nameless w) ≤ r.pledged) }
+    ensures applies { (detail : Detail) (disk : ℕ → List ℕ) (settled : ℕ → Inode) (v : Volume)
+        (nvram : List ℕ) → B.Shows blocks.old disk
+        → HasVolumeIn detail (B.count blocks.old) disk settled inodes.old v
+        → TellsLog nvram saved
+        → IfOk result (λ _. SavesSomeIn detail inodes.old.geometry.inodes nvram saved v) }
     ensures holds { (nvram : List ℕ) → TellsLog nvram saved → IfOk result
         (λ r. (bodies : List (List ℕ)) × StandsBehind r.log saved.generation nvram bodies) }
 {
@@ -98,6 +104,11 @@ fn replay_records<B: Blocks>(
         × HasVolumeIn detail (B.count blocks.old) disk settled inodes.new (without_nameless w)
         × (r.cost ≡ costs v changes)
         × RaisesRoom inodes.old v inodes.new (without_nameless w) r.cost) }
+    ensures applies { (detail : Detail) (disk : ℕ → List ℕ) (settled : ℕ → Inode) (v : Volume)
+        (nvram : List ℕ) → B.Shows blocks.old disk
+        → HasVolumeIn detail (B.count blocks.old) disk settled inodes.old v
+        → TellsLog nvram saved
+        → IfOk result (λ _. SavesSomeIn detail inodes.old.geometry.inodes nvram saved v) }
     ensures holds { (nvram : List ℕ) → TellsLog nvram saved → IfOk result
         (λ r. (bodies : List (List ℕ)) × StandsBehind r.log saved.generation nvram bodies) }
 {

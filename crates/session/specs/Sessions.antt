@@ -11,7 +11,7 @@ use Rattle.images.specs.Faults.{HasNoFault}
 use Rattle.loading.specs.Slots.{HasNoRoot}
 use Rattle.system.specs.Images.{OpensTo}
 use Rattle.system.specs.Opening.{HasFailed, HasNewest}
-use Rattle.system.specs.Systems.{meaning_of}
+use Rattle.system.specs.Systems.{meaning_of, system_parts}
 use Rattle.mount.specs.Systems.{mounted, Serves}
 use Rattle.mount.specs.declared.error.MountError.{MountError}
 use Rattle.mount.specs.declared.error.MountError.TheVariants as error
@@ -40,7 +40,7 @@ pub record IsMounted {S : Type 0} {G : Ghosts S} (old : Meaning) (fs : Fs S G) :
   pub going : IsFalse fs.has_failed
   pub finds : old.is_honest → (s : State) → OpensTo old s old.seen
       → (t : State) × Forgets s t × Serves (mounted fs t)
-  pub found : old.is_honest → HasNewest old fs.system.slot fs.system.root fs.system.log
+  pub found : old.is_honest → HasNewest old (system_parts fs.system)
 
 -- What a session promises of a run, all in the words of `mount` and `Fs::apply`: a file system was mounted,
 -- and from there the commands ran with these replies.

@@ -1,5 +1,6 @@
-mod SlotLaws
-mod NamedLaws
+pub mod SlotLaws
+pub mod NamedLaws
 mod ListLaws
 mod CountLaws
 mod TakeLaws
+pub mod PreparedLaws

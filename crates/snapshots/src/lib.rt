@@ -4,10 +4,12 @@
 
 mod finding;
 mod listing;
+mod preparing;
 mod taking;
 mod viewing;
 
 pub use finding::{FoundSnapshot, find};
 pub use listing::names;
-pub use taking::{Taking, prepare_take};
+pub use preparing::{PreparedSnapshot, SnapshotRequest, prepare_snapshot};
+pub use taking::Taking;
 pub use viewing::view;

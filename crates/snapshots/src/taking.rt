@@ -98,7 +98,7 @@ fn newest<B: Blocks>(blocks: &mut B, root: &Root) -> Result<u64, ReadError>
 
 /// Tests `snap take` of a name under a root, and tells where the snapshot goes: else the first refusal, of BADNAME, SNAPEXISTS and
 /// SNAPFULL. It reads the root blocks of the snapshots, and nothing else; an error comes as in `find`.
-pub fn prepare_take<B: Blocks>(
+pub(crate) fn prepare_take<B: Blocks>(
     blocks: &mut B,
     root: &Root,
     name: &[u8],

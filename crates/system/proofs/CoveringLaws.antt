@@ -1,20 +1,25 @@
 -- What bringing all under the newest root does to a system: the end of a point under way, and perhaps a whole one.
-use Rattle.std.proofs.Common.{◌≡◌, ◌⊎◌, inl, inr, ◌+◌, ◌^◌, ◌≤◌, None, Result, Ok, Err, refl, ap, sym, subst, ◌∙◌}
-use Rattle.std.specs.Prelude.{MatchResult, OnOk}
+use Rattle.std.proofs.Common.{◌≡◌, ◌⊎◌, inl, inr, ℕ, zero, suc, ◌+◌, ◌^◌, ◌≤◌, List, None, Result, Ok, Err, refl, ap, sym, subst, ◌∙◌, arith}
+use Rattle.std.specs.Prelude.{MatchResult, OnOk, slice_index_or}
 use Rattle.station.specs.Moments.{Meaning}
 use Rattle.station.specs.declared.station.Station.{Ghosts}
 use Rattle.station.proofs.Moments.{joined, weaker}
+use Rattle.layout.specs.Places.{Blocks, blocks_of}
+use Rattle.layout.specs.declared.pointer.Pointer.{Pointer}
+use Rattle.layout.specs.declared.pointer.Pointer.TheVariants.{Hole}
+use Rattle.layout.specs.declared.root.Root.{Root}
 use Rattle.model.specs.States.{State}
+use Rattle.images.specs.Roots.{slot}
 use Rattle.oplog.specs.LogEnd.{LogEnd, next_of}
 use Rattle.oplog.specs.declared.log.End.TheVariants.{Unopened}
 use Rattle.system.specs.Counting.{AgesBy, Counted, IsNoGeneration, no_call, point_failed}
 use Rattle.system.specs.Errors.{IsNotWritten, IsRefused}
 use Rattle.system.specs.Images.{OpensTo}
-use Rattle.system.specs.Points.{MakesPoint, StaysAt}
+use Rattle.system.specs.Points.{KeepsSlots, KeepsSlotsOn, MakesPoint, StaysAt}
 use Rattle.system.specs.Serving.{HasEmptyLog, HasNothingNew, ServesState}
 use Rattle.system.specs.Settling.{MakesCovered}
 use Rattle.system.specs.Slicing.{Finishes}
-use Rattle.system.specs.Systems.{IsCovered, Parts, meaning_of}
+use Rattle.system.specs.Systems.{IsCovered, Parts, disk_of, meaning_of}
 use Rattle.system.specs.declared.error.PointError.{PointError}
 use Rattle.system.specs.declared.error.PointError.TheVariants.{NoGeneration, NotPlanned, NotWritten}
 use Rattle.system.specs.declared.system.System.{System}
@@ -22,7 +27,7 @@ use Rattle.system.proofs.CountingLaws.{all_written, counted_after, logged_twice,
 use Rattle.system.proofs.HandlingLaws.{opens_same}
 
 -- the log behind a point, made or not
-aged : (old new : LogEnd) (r : Result (Unit {0}) PointError) → MatchResult r (λ _. new ≡ record old { epoch = old.epoch + 1; end = Unopened })
+pub aged : (old new : LogEnd) (r : Result (Unit {0}) PointError) → MatchResult r (λ _. new ≡ record old { epoch = old.epoch + 1; end = Unopened })
     (λ e. (IsRefused e × (new ≡ old)) ⊎ ((e ≡ NotWritten) × (new ≡ record old { epoch = old.epoch + 1; end = Unopened }))) → AgesBy 1 old.epoch new.epoch × (new.is_stopped ≡ old.is_stopped)
 aged old new (Ok u) is = (next_age old.epoch new.epoch (ap (λ (l : LogEnd). l.epoch) is), ap (λ (l : LogEnd). l.is_stopped) is)
 aged old new (Err e) (inl same) = (same_age old.epoch new.epoch (ap (λ (l : LogEnd). l.epoch) same.1), ap (λ (l : LogEnd). l.is_stopped) same.1)
@@ -43,6 +48,23 @@ on_ok (Err e) a = tt
 
 error_is : (x y : PointError) (r q : Result (Unit {0}) PointError) → r ≡ Err x → q ≡ Err y → r ≡ q → x ≡ y
 error_is x y r q first second is = cc
+
+-- slots that stay twice stay
+slots_twice : {r mid new : Root} {disk between after : Blocks} → KeepsSlotsOn r disk mid between → KeepsSlotsOn mid between new after → KeepsSlotsOn r disk new after
+slots_twice {r} {mid} one two = record {
+  slots = two.slots ∙ one.slots;
+  heads = λ k block at. two.heads k block (same k ∙ at) ∙ one.heads k block at;
+  later = omega (arith, one.later, two.later);
+}
+  where
+    same : (k : ℕ) → slot mid k ≡ slot r k
+    same zero = refl
+    same (suc j) = ap (λ (l : List Pointer). slice_index_or l j Hole) one.slots
+
+both_keep : {r mid : Root} {disk between : Blocks} (new : Root) (after : Blocks) (result : Result (Unit {0}) PointError) → KeepsSlotsOn r disk mid between
+    → OnOk result (KeepsSlotsOn mid between new after) → OnOk result (KeepsSlotsOn r disk new after)
+both_keep new after (Ok u) one two = slots_twice one two
+both_keep new after (Err e) one two = tt
 
 module _ {S : Type 0} {G : Ghosts S} (old mid : System S G) where
   abbrev m : Meaning
@@ -65,6 +87,7 @@ module _ {S : Type 0} {G : Ghosts S} (old mid : System S G) where
         rests = tt;
         empty = tt;
         covered = λ s served. tt;
+        slots = λ s served. tt;
         refused = λ s served refused. absurd (subst IsRefused does.why refused);
         roomy = λ s served is. absurd (subst IsRefused (sym (error_is e (NotPlanned _) (Err e) (Err (NotPlanned _)) refl refl is) ∙ does.why) tt);
         damaged = λ s served is. absurd (subst IsRefused (sym (error_is e (NotPlanned _) (Err e) (Err (NotPlanned _)) refl refl is) ∙ does.why) tt);
@@ -85,6 +108,16 @@ module _ {S : Type 0} {G : Ghosts S} (old mid : System S G) where
     stays : (s : State) → ServesState old s → ServesState mid s
     stays s served = (does.goes_on s.tree.descriptors s served).stays
 
+    pub ended_slots : (s : State) → ServesState old s → KeepsSlots old mid
+    ended_slots s served =
+        let root : mid.root ≡ old.root = ap (λ (k : Parts). k.root) does.parts in
+        let disk = (does.shows (blocks_of (disk_of old)) served.shows).is in
+        record {
+          slots = ap (λ (r : Root). r.snapshots) root;
+          heads = λ k block at. sym (ap (λ (d : Blocks). d block) disk);
+          later = subst (λ (r : Root). old.root.generation ≤ r.generation) (sym root) (omega arith);
+        }
+
     -- ---- it was, and nothing is left
 
     pub nothing_left : HasNothingNew mid → ((s : State) → ServesState mid s → IsCovered mid s.tree.descriptors s) → MakesCovered old mid (Ok tt)
@@ -97,6 +130,7 @@ module _ {S : Type 0} {G : Ghosts S} (old mid : System S G) where
       rests = rests;
       empty = nothing.log;
       covered = λ s served. covers s (stays s served);
+      slots = ended_slots;
       refused = λ s served. tt;
       roomy = λ s served is. cc;
       damaged = λ s served is. cc;
@@ -106,8 +140,9 @@ module _ {S : Type 0} {G : Ghosts S} (old mid : System S G) where
 
     -- ---- and a whole point was made, or not
 
-    pub whole_point : (new : System S G) (r : Result (Unit {0}) PointError) → MakesPoint StaysAt (λ _. Unit {0}) mid new r → MakesCovered old new r
-    whole_point new r made =
+    pub whole_point : (new : System S G) (r : Result (Unit {0}) PointError) → MakesPoint StaysAt (λ _. Unit {0}) mid new r → ((s : State) → ServesState mid s → OnOk r (KeepsSlots mid new))
+        → MakesCovered old new r
+    whole_point new r made slots =
         let o = meaning_of new in
         let age = aged mid.log new.log r made.log in
         record {
@@ -124,6 +159,7 @@ module _ {S : Type 0} {G : Ghosts S} (old mid : System S G) where
           rests = on_ok r made.rests;
           empty = emptied mid new r made.log made.generation;
           covered = λ s served. made.covered s.tree.descriptors s (stays s served) s refl tt;
+          slots = λ s served. both_keep new.root (blocks_of (disk_of new)) r (ended_slots s served) (slots s (stays s served));
           refused = λ s served. made.refused s.tree.descriptors s (stays s served);
           roomy = λ s served. made.roomy s.tree.descriptors s (stays s served) s refl tt;
           damaged = λ s served. made.damaged s.tree.descriptors s (stays s served) s refl;

@@ -1,6 +1,6 @@
--- What a call comes to with a step of a consistency point before its record, or with none.
-use Rattle.std.proofs.Common.{◌≡◌, ◌≢◌, ◌⊎◌, inl, inr, Bool, true, false, ℕ, ◌+◌, List, [], ◌∷◌, Result, Ok, Err, Option, None, refl, ap, sym, subst, ◌∙◌, if◌then◌else◌, arith}
-use Rattle.std.specs.Prelude.{IfErr, IfOk, IsErrOf, IsFalse, IsTrue, MatchResult}
+-- What a call comes to: it is prepared, a step of a consistency point may come before its record, and then it is done.
+use Rattle.std.proofs.Common.{◌≡◌, ◌≢◌, ◌⊎◌, inl, inr, Bool, true, false, ℕ, ◌+◌, ◌++◌, List, [], ◌∷◌, Result, Ok, Err, Option, Some, None, refl, ap, sym, subst, ◌∙◌, append_assoc, if◌then◌else◌, arith}
+use Rattle.std.specs.Prelude.{IfErr, IfOk, IfSome, IsFalse, IsTrue, MatchResult}
 use Rattle.std.proofs.lemmas.Bool.{false≢true}
 use Rattle.std.proofs.lemmas.Result.{IfErr-weaker, IfOk-weaker}
 use Rattle.station.specs.Images.{Images, Unchanged}
@@ -8,29 +8,48 @@ use Rattle.station.specs.Moments.{Goes, HasGrown, LeavesOnly, MayLeave, Meaning}
 use Rattle.station.specs.declared.station.Station.{Ghosts}
 use Rattle.station.proofs.Calls.{uses_twice}
 use Rattle.station.proofs.Moments.{goes_on_unchanged, grown_since, joined, leaves_unchanged, weaker}
+use Rattle.layout.specs.Limits.{Sizes}
 use Rattle.layout.specs.Log.{half_of}
+use Rattle.layout.specs.Places.{blocks_of}
 use Rattle.layout.specs.declared.log.TheConstants.{FIRST_GATE}
 use Rattle.layout.specs.declared.root.Root.{Root}
 use Rattle.model.specs.Circumstances.{IsSure}
+use Rattle.model.specs.Records.{work_of}
+use Rattle.model.specs.Room.{logs}
 use Rattle.model.specs.States.{State}
+use Rattle.model.specs.Volumes.{Volume}
 use Rattle.model.specs.declared.command.Command.{Command}
 use Rattle.model.specs.declared.reply.Reply.{Reply}
+use Rattle.buffers.specs.Disks.{ReadsOn}
+use Rattle.buffers.specs.Readings.{reads_none}
+use Rattle.images.specs.Roots.{whole}
+use Rattle.loading.specs.Images.{inodes_of}
+use Rattle.descriptors.specs.Tables.{table_of}
+use Rattle.descriptors.specs.declared.table.Descriptors.{Descriptors}
+use Rattle.records.specs.Prepared.{Does}
+use Rattle.records.specs.declared.failure.Failure.{Failure}
 use Rattle.oplog.specs.LogEnd.{Bodies, EndsBehind, LogEnd, all_bodies, next_of}
 use Rattle.oplog.specs.declared.log.End.{End}
 use Rattle.oplog.specs.declared.log.End.TheVariants.{At, Unopened}
 use Rattle.overlay.specs.declared.laid.Laid.{Laid}
+use Rattle.system.specs.Answering.{answer_to}
 use Rattle.system.specs.Counting.{AgesBy, Counted, Failed, LogsNothing, a_read, a_write, beside_reads, call_failed, no_call, perhaps_any, perhaps_reads}
 use Rattle.system.specs.Images.{OpensTo}
-use Rattle.system.specs.Serving.{AsksForStep, Handles, HasEmptyLog, IsSureOn, LeavesEither, ServesState}
-use Rattle.system.specs.Slicing.{Fulfils, Steps, StepsOn}
-use Rattle.system.specs.Systems.{IsCovered, ServesRest, meaning_of}
+use Rattle.system.specs.Preparing.{DoesBeside, DoesCall, IsPreparedAt, PreparesOn, recorded}
+use Rattle.system.specs.Serving.{Answers, AnswersAtOnce, Handles, HandlesAt, HasEmptyLog, IsAtOnce, IsPlanDue, IsSureOn, LeavesEither, ServesState, WouldChange}
+use Rattle.system.specs.Slicing.{Fulfils, MayStep, StaysReady, Steps, StepsOn}
+use Rattle.system.specs.Systems.{IsCovered, Parts, ServesRest, disk_of, meaning_of, system_parts}
 use Rattle.system.specs.declared.error.CallError.{CallError}
-use Rattle.system.specs.declared.error.CallError.TheVariants.{NotWritten, StepDue}
+use Rattle.system.specs.declared.error.CallError.TheVariants.{NotWritten}
 use Rattle.system.specs.declared.error.PointError.{PointError}
+use Rattle.system.specs.declared.prepared_call.PreparedCall.{PreparedCall}
+use Rattle.system.specs.declared.prepared_call.PreparedChange.{PreparedChange}
 use Rattle.system.specs.declared.system.System.{System}
-use Rattle.system.proofs.CountingLaws.{counted_after, logged_twice, nothing_logged, same_age, told_beside_reads}
-use Rattle.system.proofs.HandlingLaws.{error_is, opens_same}
-use Rattle.system.proofs.ServingLaws.{AllOpen}
+use Rattle.system.proofs.CountingLaws.{logged_twice, nothing_logged, perhaps_read, same_age}
+use Rattle.system.proofs.HandlingLaws.{covered_same, opens_same, same_empty}
+use Rattle.system.proofs.LookedLaws.{KeepsServing, looked_still, never_damaged, on_open, on_volumes, reads_on, same_disk}
+use Rattle.system.proofs.OpenFileLaws.{refused_by, told_logged}
+use Rattle.system.proofs.ServingLaws.{AllOpen, NotSure, failed_by}
 
 -- ---- counts
 
@@ -55,7 +74,182 @@ failed_first : (m new : Meaning) (had_stopped : Bool) → Counted m new a_write 
 failed_first m new true told = record { uses = told.uses; reads = tt; writes = tt }
 failed_first m new false told = told
 
--- ---- a call with no step
+-- ---- what comes before a call is done
+
+-- Nothing is logged, and what is served stays, also at a cut at any moment.
+pub record IsBefore {S : Type 0} {G : Ghosts S} (old mid : System S G) : Type 0 where
+  pub counted : Counted (meaning_of old) (meaning_of mid) perhaps_reads
+  pub unlogged : LogsNothing (meaning_of old) (meaning_of mid)
+  pub leaves : (s : State) → ServesState old s → LeavesOnly (meaning_of old) (meaning_of mid) (OpensTo (meaning_of old) s)
+  pub rest : (s : State) (served : ServesState old s) → ServesRest mid s.tree.descriptors s (all_bodies served.lasts.bodies)
+  pub runs : mid.log.is_stopped ≡ old.log.is_stopped
+  pub empty : HasEmptyLog old → (mid.log ≡ old.log) × (mid.root ≡ old.root)
+  pub covered : (s : State) → IsCovered old s.tree.descriptors s → IsCovered mid s.tree.descriptors s
+
+-- a system looked, or did nothing
+abbrev pub looked_before : {S : Type 0} {G : Ghosts S} (old mid : System S G) → ReadsOn (meaning_of old) (meaning_of mid) → mid.blocks.laid ≡ old.blocks.laid → mid.log ≡ old.log → mid.root ≡ old.root
+    → AllOpen old → KeepsServing old mid → IsBefore old mid
+looked_before old mid reads laid log root opens keeps =
+    let m = meaning_of old in
+    let n = meaning_of mid in
+    record {
+      counted = perhaps_read m n reads;
+      unlogged = nothing_logged m n reads.goes;
+      leaves = λ s served. leaves_unchanged m n (OpensTo m s) (opens s served) reads.goes;
+      rest = λ s served. record { serves = (keeps s served).serves; left = ([], ap all_bodies (sym (keeps s served).bodies)) };
+      runs = ap (λ (l : LogEnd). l.is_stopped) log;
+      empty = λ empty. (log, root);
+      covered = λ s covered. covered_same {old = old} mid s covered laid (keeps s covered.serves);
+    }
+
+abbrev pub nothing_before : {S : Type 0} {G : Ghosts S} (f : System S G) → AllOpen f → IsBefore f f
+nothing_before f opens =
+    looked_before f f (reads_none (meaning_of f)) refl refl refl opens (λ s served. record { serves = served; volume = refl; bodies = refl; changes = refl; first = refl })
+
+-- one after the other
+abbrev pub both : {S : Type 0} {G : Ghosts S} {old mid new : System S G} → IsBefore old mid → IsBefore mid new → IsBefore old new
+both {old = old} {mid = mid} {new = new} one two =
+    let m = meaning_of old in
+    let n = meaning_of mid in
+    record {
+      counted = counted_beside m n (meaning_of new) perhaps_reads one.counted two.counted;
+      unlogged = logged_twice m n (meaning_of new) one.unlogged two.unlogged;
+      leaves = λ s served. joined m n (meaning_of new) (OpensTo m s) (one.leaves s served)
+          (weaker n (meaning_of new) (OpensTo n s) (OpensTo m s) (two.leaves s (one.rest s served).serves) (λ c here. opens_same m n s c one.counted.uses.same.sectors here));
+      rest = λ s served.
+          let first = one.rest s served in
+          let next = two.rest s first.serves in
+          record {
+            serves = next.serves;
+            left = (
+              first.left.0 ++ next.left.0,
+              first.left.1 ∙ ap (λ (l : List (List ℕ)). first.left.0 ++ l) next.left.1 ∙ sym (append_assoc first.left.0 next.left.0 (all_bodies next.serves.lasts.bodies)),
+            );
+          };
+      runs = two.runs ∙ one.runs;
+      empty = λ empty.
+          let first = one.empty empty in
+          let next = two.empty (same_empty old mid first.0 first.1 empty) in
+          (next.0 ∙ first.0, next.1 ∙ first.1);
+      covered = λ s covered. two.covered s (one.covered s covered);
+    }
+
+-- ---- steps
+
+-- a log with no record of its epoch ends at its first gate
+first_end : (end : End) (epoch : ℕ) (bytes : List ℕ) (bodies : List (List ℕ)) → bodies ≡ [] → EndsBehind end epoch bytes bodies → next_of end ≡ FIRST_GATE
+first_end Unopened epoch bytes bodies none ends = refl
+first_end (At next) epoch bytes [] none ends = omega (arith, ends.3)
+first_end (At next) epoch bytes (body ∷ bodies) none ends = absurd (cc)
+
+-- so does that of a covered system
+covered_end : {S : Type 0} {G : Ghosts S} (f : System S G) (s : State) → (ServesState f s → MayLeave (meaning_of f) (meaning_of f).seen) → IsCovered f s.tree.descriptors s
+    → next_of f.log.end ≡ FIRST_GATE
+covered_end f s seen covered =
+    let serves = covered.serves in
+    let m = meaning_of f in
+    let stands = (serves.left serves.honest m.seen (seen serves)).log_stands in
+    first_end f.log.end f.log.epoch (half_of f.log.half f.log.epoch m.seen.nvram) serves.lasts.bodies.newest (ap (λ (b : Bodies). b.newest) covered.no_record) stands.ends
+
+-- at the beginning of a half no point is planned
+not_due : {S : Type 0} {G : Ghosts S} (f : System S G) → IsPlanDue f → next_of f.log.end ≡ FIRST_GATE → ⊥
+not_due f due first = omega (arith, due.late, first, f.half, f.is_root.head.sizes.least_half)
+
+abbrev step_before : {S : Type 0} {G : Ghosts S} (old new : System S G) (u : Unit {0}) → Steps old new (Ok u)
+    → ((s : State) (served : ServesState old s) → ServesRest new s.tree.descriptors s (all_bodies served.lasts.bodies))
+    → (HasEmptyLog old → (new.log ≡ old.log) × (new.root ≡ old.root)) → ((s : State) → IsCovered old s.tree.descriptors s → ⊥) → IsBefore old new
+step_before old new u stepped rest empty covered = record {
+  counted = stepped.counted;
+  unlogged = stepped.unlogged;
+  leaves = λ s served. stepped.leaves s.tree.descriptors s served;
+  rest = rest;
+  runs = stepped.runs;
+  empty = empty;
+  covered = λ s is. absurd (covered s is);
+}
+
+-- a point was planned, or not
+pub planned_before : {S : Type 0} {G : Ghosts S} (old new : System S G) (u : Unit {0}) → IsPlanDue old → Steps old new (Ok u) → ((s : State) → ServesState old s → MayLeave (meaning_of old) (meaning_of old).seen)
+    → IsBefore old new
+planned_before old new u due stepped seen =
+    step_before old new u stepped (λ s served. stepped.rest s.tree.descriptors s served) (λ empty. absurd (not_due old due empty.end)) (λ s covered. not_due old due (covered_end old s (seen s) covered))
+
+-- a slice was written
+abbrev sliced_before : {S : Type 0} {G : Ghosts S} (old new : System S G) (u : Unit {0}) → old.blocks.laid ≢ None → Steps old new (Ok u) → StaysReady old new (Ok u) → IsBefore old new
+sliced_before old new u under stepped ready =
+    step_before old new u stepped (λ s served. (ready.rest s.tree.descriptors s served).rest) (λ empty. stepped.same under) (λ s covered. under covered.rests)
+
+-- ---- what is prepared
+
+-- A call is prepared on a system behind another, for what each state that this served comes to.
+pub record IsPreparedBehind {S : Type 0} {G : Ghosts S} (old mid : System S G) (call : Command) (p : PreparedCall) : Type 0 where
+  pub before : IsBefore old mid
+  pub at : (s : State) (served : ServesState old s) → IsPreparedAt (system_parts mid) (blocks_of (disk_of mid)) (before.rest s served).serves.running call p
+
+module _ {S : Type 0} {G : Ghosts S} {old mid : System S G} {call : Command} {p : PreparedCall} where
+  pub prepared_by : AllOpen old → PreparesOn old mid call (Ok p) → IsPreparedBehind old mid call p
+  prepared_by opens prepares =
+      let told = prepares.prepares in
+      let looks = told.looks in
+      let parts = prepares.parts in
+      let reads = reads_on old mid.blocks mid.inodes looks in
+      let root : mid.root ≡ old.root = ap (λ (k : Parts). k.root) parts in
+      let keeps : KeepsServing old mid = looked_still old mid looks parts in
+      record {
+        before = looked_before old mid reads.below reads.laid (ap (λ (k : Parts). k.log) parts) root opens keeps;
+        at = λ s served.
+            let v = served.running in
+            let DoesOver = λ (d : ℕ → List ℕ) (r : Root). IfSome p.change (λ c. Does (blocks_of d) (inodes_of (whole (blocks_of d) r).active) mid.inodes v c.prepared (recorded c.record)) in
+            let Comes = λ (g : Sizes) (d : Descriptors). DoesBeside g.inodes v (table_of d) call p.reply p.table p.change in
+            let here : IsPreparedAt (system_parts mid) (blocks_of (disk_of mid)) v call p = record {
+              does = subst (λ (r : Root). DoesOver (disk_of mid) r) (sym root)
+                  (subst (λ (d : ℕ → List ℕ). DoesOver d old.root) (same_disk old mid.blocks mid.inodes looks s served) (on_volumes old told.does s served));
+              comes = subst (λ (d : Descriptors). Comes mid.root.geometry d) (sym (ap (λ (k : Parts). k.files) parts))
+                  (subst (λ (g : Sizes). Comes g old.files) (old.sizes ∙ ap (λ (r : Root). r.geometry) (sym root)) (on_open old told.answers s served));
+            } in
+            subst (λ (w : Volume). IsPreparedAt (system_parts mid) (blocks_of (disk_of mid)) w call p) (sym (keeps s served).volume) here;
+      }
+
+  -- it stays so behind a slice
+  pub prepared_sliced : (new : System S G) (u : Unit {0}) → IsPreparedBehind old mid call p → mid.blocks.laid ≢ None → Steps mid new (Ok u) → StaysReady mid new (Ok u) → IsPreparedBehind old new call p
+  prepared_sliced new u prepared under stepped ready = record {
+    before = both prepared.before (sliced_before mid new u under stepped ready);
+    at = λ s served.
+        let serves = (prepared.before.rest s served).serves in
+        let here = prepared.at s served in
+        let next = ready.rest s.tree.descriptors s serves in
+        let disk : blocks_of (disk_of mid) ≡ blocks_of (disk_of new) = (ready.shows (blocks_of (disk_of mid)) serves.shows).is in
+        let Now = λ (k : Parts). IsPreparedAt k (blocks_of (disk_of new)) next.rest.serves.running call p in
+        let there : IsPreparedAt (system_parts mid) (blocks_of (disk_of new)) next.rest.serves.running call p =
+        subst (λ (w : Volume). IsPreparedAt (system_parts mid) (blocks_of (disk_of new)) w call p) (sym next.volume)
+        (subst (λ (d : ℕ → List ℕ). IsPreparedAt (system_parts mid) d serves.running call p) disk here) in
+        subst Now (sym ready.parts) (record { does = there.does; comes = there.comes });
+  }
+
+  -- and it is prepared behind what came before
+  pub prepared_after : (new : System S G) → IsBefore old mid → IsPreparedBehind mid new call p → IsPreparedBehind old new call p
+  prepared_after new before prepared = record {
+    before = both before prepared.before;
+    at = λ s served. prepared.at s (before.rest s served).serves;
+  }
+
+  -- a call whose record is prepared would change something
+  pub would_change : IsPreparedBehind old mid call p → p.change ≢ None → (s : State) → ServesState old s → WouldChange s call
+  would_change prepared some s served = changes p.change refl
+    where
+      changes : (o : Option PreparedChange) → p.change ≡ o → WouldChange s call
+      changes None none = absurd (some none)
+      changes (Some c) is =
+          let logged = told_logged mid s (prepared.before.rest s served).serves call p c (recorded c.record) is refl (prepared.at s served) in
+          record {
+            reply = p.reply;
+            after = _;
+            need = λ room. logs (work_of (prepared.before.rest s served).serves.running (recorded c.record));
+            step = logged.step;
+            needs = λ room none. cc;
+          }
+
+-- ---- the call
 
 -- what holds in any case
 whichever : {P : Type 0} (q : Result Reply CallError) → P → MatchResult q (λ _. P) (λ e. e ≢ NotWritten → P)
@@ -79,228 +273,214 @@ unmoved P (Err e) is = tt
 not_both : {X : Type 0} {b : Bool} → IsFalse b → IsTrue b → X
 not_both runs stopped = absurd (false≢true (sym runs ∙ stopped))
 
-module _ {S : Type 0} {G : Ghosts S} {old new : System S G} {call : Command} (opens : AllOpen old) where
-  fulfilled : {steps : Bool} → IsTrue steps → (q : Result Reply CallError) → (IsErrOf q StepDue → ⊥) → Handles steps old new call q → Fulfils old new call q
-  fulfilled asked q own told =
+-- a step of the point under way was done, or none, and then the log's end moves only where none is under way
+abbrev pub StepsOrWaits : {S : Type 0} {G : Ghosts S} → System S G → System S G → Type 0
+StepsOrWaits old new = StepsOn old.blocks.laid new.blocks.laid ⊎ ((new.blocks.laid ≡ old.blocks.laid) × (old.blocks.laid ≢ None → new.log.end ≡ old.log.end))
+
+may_step : {S : Type 0} {G : Ghosts S} (old new : System S G) → StepsOrWaits old new → MayStep old.blocks.laid new.blocks.laid
+may_step old new (inl steps) = inr steps
+may_step old new (inr waits) = inl waits.0
+
+module _ {S : Type 0} {G : Ghosts S} {old mid : System S G} (new : System S G) (call : Command) (before : IsBefore old mid) (ages : AgesBy 1 old.log.epoch mid.log.epoch) where
+  -- what the call leaves behind it
+  leaves_either : (s after : State) → ServesState old s → LeavesEither (meaning_of mid) (meaning_of new) s after → LeavesEither (meaning_of old) (meaning_of new) s after
+  leaves_either s after served leaves =
       let m = meaning_of old in
+      let n = meaning_of mid in
+      let sectors = before.counted.uses.same.sectors in
+      let Q = λ (c : Images). OpensTo m s c ⊎ OpensTo m after c in
+      joined m n (meaning_of new) Q (weaker m n (OpensTo m s) Q (before.leaves s served) (λ c here. inl here))
+      (weaker n (meaning_of new) (λ c. OpensTo n s c ⊎ OpensTo n after c) Q leaves (λ c here. elim here [
+        | inl first ↦ inl (opens_same m n s c sectors first)
+        | inr behind ↦ inr (opens_same m n after c sectors behind)
+      ]))
+
+  pub fulfilled : (q : Result Reply CallError) → Handles mid new call q → ((s : State) (served : ServesState old s) → HandlesAt mid new s (before.rest s served).serves call q) → StepsOrWaits old new
+      → ((s : State) → ServesState old s → MatchResult q (λ _. IsSureOn old new s call ⊎ ¬ IsSure s call) (λ _. ¬ IsSure s call))
+      → (IsAtOnce old.files call → MatchResult q (AnswersAtOnce old new) (λ _. ⊥)) → Fulfils old new call q
+  fulfilled q told at came sure at_once =
+      let m = meaning_of old in
+      let b = meaning_of mid in
       let n = meaning_of new in
       record {
-        counted = told_beside_reads m n (call_failed old.log.is_stopped q) told.counted;
+        counted = subst (λ (stopped : Bool). Counted m n (beside_reads (call_failed stopped q))) before.runs (counted_beside m b n (call_failed mid.log.is_stopped q) before.counted told.counted);
         no_fault = told.no_fault;
         kind = told.kind;
-        own = own;
-        step = whichever q (inl told.laid);
-        comes = λ laid. unmoved (StepsOn old.blocks.laid new.blocks.laid) q (told.waits asked laid);
-        epoch = same_age old.log.epoch new.log.epoch told.epoch;
-        calm = λ empty. told.epoch;
-        runs = told.runs;
-        refused = λ errno is. nothing_logged m n (told.refused errno is);
-        kept = IfErr-weaker q _ _ (λ e goes other. nothing_logged m n (goes other)) told.kept;
+        step = whichever q (may_step old new came);
+        comes = λ laid. elim came [
+          | inl steps ↦ stepped_or (StepsOn old.blocks.laid new.blocks.laid) (new.log.end ≢ old.log.end) q steps
+          | inr waits ↦ unmoved (StepsOn old.blocks.laid new.blocks.laid) q (waits.1 laid)
+        ];
+        epoch = subst (λ (k : ℕ). AgesBy 1 old.log.epoch k) (sym told.epoch) ages;
+        calm = λ empty. told.epoch ∙ ap (λ (l : LogEnd). l.epoch) (before.empty empty).0;
+        runs = λ runs. told.runs (before.runs ∙ runs);
+        refused = λ errno is. quiet (told.refused errno is);
+        kept = IfErr-weaker q _ _ (λ e goes other. quiet (goes other)) told.kept;
         unlogged = λ is runs. absurd (not_both runs (told.stops is));
-        stays = λ s served. and_so _ (ServesState new s) _ q (leaves_unchanged m n (OpensTo m s) (opens s served)) told.kept (told.serves s served);
-        done = λ s served. IfOk-weaker q _ _ (λ reply done. record { between = old; served = served; left = ([], refl); done = done; leaves = done.leaves }) (told.done s served);
-        broken = told.broken;
-        sure = told.sure;
-        at_once = told.at_once;
-        full = told.full;
-        short = told.short;
-        damaged = told.damaged;
+        stays = λ s served. and_so _ (ServesState new s) _ q (goes_on_unchanged m b n (OpensTo m s) (before.leaves s served)) told.kept (at s served).serves;
+        done = λ s served. IfOk-weaker q _ _ (λ reply done. record {
+          between = mid;
+          served = (before.rest s served).serves;
+          left = (before.rest s served).left;
+          done = done;
+          leaves = leaves_either s done.after served done.leaves;
+        }) (at s served).done;
+        broken = λ s served is.
+            let broken = (at s served).broken is in
+            record {
+              reply = broken.reply;
+              after = broken.after;
+              need = broken.need;
+              step = broken.step;
+              leaves = leaves_either s broken.after served broken.leaves;
+            };
+        sure = sure;
+        at_once = at_once;
+        full = λ s served is.
+            let full = (at s served).full is in
+            (full.0, λ empty. let same = before.empty empty in full.1 (same_empty old mid same.0 same.1 empty), full.2);
+        short = λ s served is.
+            let short = (at s served).short is in
+            (short.0, λ covered. short.1 (before.covered s covered));
+        damaged = λ s served is. (at s served).damaged is;
       }
+    where
+      quiet : Goes Unchanged (meaning_of mid) (meaning_of new) → LogsNothing (meaning_of old) (meaning_of new)
+      quiet goes = logged_twice (meaning_of old) (meaning_of mid) (meaning_of new) before.unlogged (nothing_logged (meaning_of mid) (meaning_of new) goes)
 
-  pub answered_now : {steps : Bool} → IsTrue steps → (reply : Reply) → Handles steps old new call (Ok reply) → Fulfils old new call (Ok reply)
-  answered_now asked reply told = fulfilled asked (Ok reply) (λ is. cc) told
+  -- the same of a call that isn't sure
+  unsure : NotSure old call → (q : Result Reply CallError) (s : State) → ServesState old s → MatchResult q (λ _. IsSureOn old new s call ⊎ ¬ IsSure s call) (λ _. ¬ IsSure s call)
+  unsure not_sure (Ok reply) s served = inr (not_sure.0 s served)
+  unsure not_sure (Err e) s served = not_sure.0 s served
 
-  pub failed_now : {steps : Bool} → IsTrue steps → (e : CallError) → (e ≢ StepDue) → Handles steps old new call (Err e) → Fulfils old new call (Err e)
-  failed_now asked e other told = fulfilled asked (Err e) (λ is. other (error_is e StepDue (Err e) (Err StepDue) refl refl is)) told
-
--- ---- a call that asked for a step
-
--- a log with no record of its epoch ends at its first gate
-first_end : (end : End) (epoch : ℕ) (bytes : List ℕ) (bodies : List (List ℕ)) → bodies ≡ [] → EndsBehind end epoch bytes bodies → next_of end ≡ FIRST_GATE
-first_end Unopened epoch bytes bodies none ends = refl
-first_end (At next) epoch bytes [] none ends = omega (arith, ends.3)
-first_end (At next) epoch bytes (body ∷ bodies) none ends = absurd (cc)
-
--- so does that of a covered system
-covered_end : {S : Type 0} {G : Ghosts S} (f : System S G) (s : State) → (ServesState f s → MayLeave (meaning_of f) (meaning_of f).seen) → IsCovered f s.tree.descriptors s
-    → next_of f.log.end ≡ FIRST_GATE
-covered_end f s seen covered =
-    let serves = covered.serves in
-    let m = meaning_of f in
-    let stands = (serves.left serves.honest m.seen (seen serves)).log_stands in
-    first_end f.log.end f.log.epoch (half_of f.log.half f.log.epoch m.seen.nvram) serves.lasts.bodies.newest (ap (λ (b : Bodies). b.newest) covered.no_record) stands.ends
-
-module _ {S : Type 0} {G : Ghosts S} {steps : Bool} {old mid : System S G} {call : Command} (asked : Handles steps old mid call (Err StepDue)) (opens : AllOpen old) where
-  due : AsksForStep steps old mid call
-  due = asked.asks refl
-
-  -- nothing was done but looking
-  still : Goes Unchanged (meaning_of old) (meaning_of mid)
-  still = asked.kept (λ is. cc)
-
-  serves_still : (s : State) → ServesState old s → ServesState mid s
-  serves_still s served = asked.serves s served (λ is. cc)
-
-  -- at the beginning of a half no point is planned
-  under_way : next_of old.log.end ≡ FIRST_GATE → mid.blocks.laid ≢ None
-  under_way first = elim due.due [
-    | inl laid ↦ laid
-    | inr plan ↦
-        let end : next_of mid.log.end ≡ FIRST_GATE = ap (λ (l : LogEnd). next_of l.end) due.log ∙ first in
-        absurd (omega (arith, plan.late, end, mid.half, mid.is_root.head.sizes.least_half))
-  ]
-
-  module _ (between : System S G) (r : Result (Unit {0}) PointError) (stepped : Steps mid between r) where
-    sectors : (meaning_of between).sectors ≡ (meaning_of old).sectors
-    sectors = stepped.counted.uses.same.sectors ∙ asked.counted.uses.same.sectors
-
-    -- what is served stays at any moment of the step
-    leaves_it : (s : State) → ServesState old s → LeavesOnly (meaning_of old) (meaning_of between) (OpensTo (meaning_of old) s)
-    leaves_it s served =
-        let m = meaning_of old in
-        joined m (meaning_of mid) (meaning_of between) (OpensTo m s) (leaves_unchanged m (meaning_of mid) (OpensTo m s) (opens s served) still)
-        (weaker (meaning_of mid) (meaning_of between) (OpensTo (meaning_of mid) s) (OpensTo m s) (stepped.goes_on s.tree.descriptors s (serves_still s served)).leaves
-        (λ c here. opens_same m (meaning_of mid) s c asked.counted.uses.same.sectors here))
-
-    stepped_quietly : LogsNothing (meaning_of old) (meaning_of between)
-    stepped_quietly = logged_twice (meaning_of old) (meaning_of mid) (meaning_of between) (nothing_logged (meaning_of old) (meaning_of mid) still) stepped.unlogged
-
-    ages : AgesBy 1 old.log.epoch between.log.epoch
-    ages = subst (λ (n : ℕ). AgesBy 1 n between.log.epoch) (ap (λ (l : LogEnd). l.epoch) due.log) stepped.epoch
-
-    -- the log and the root stay where it began
-    same_log : next_of old.log.end ≡ FIRST_GATE → (between.log ≡ old.log) × (between.root ≡ old.root)
-    same_log first =
-        let same = stepped.same (under_way first) in
-        (same.0 ∙ due.log, same.1 ∙ due.root)
-
-    runs_on : between.log.is_stopped ≡ old.log.is_stopped
-    runs_on = stepped.runs ∙ ap (λ (l : LogEnd). l.is_stopped) due.log
-
-    -- what a part of the call behind it leaves
-    leaves_either : (new : System S G) (s after : State) → ServesState old s → LeavesEither (meaning_of between) (meaning_of new) s after → LeavesEither (meaning_of old) (meaning_of new) s after
-    leaves_either new s after served leaves =
-        let m = meaning_of old in
-        let n = meaning_of between in
-        let Q = λ (c : Images). OpensTo m s c ⊎ OpensTo m after c in
-        joined m n (meaning_of new) Q (weaker m n (OpensTo m s) Q (leaves_it s served) (λ c here. inl here))
-        (weaker n (meaning_of new) (λ c. OpensTo n s c ⊎ OpensTo n after c) Q leaves (λ c here. elim here [
-          | inl before ↦ inl (opens_same m n s c sectors before)
-          | inr behind ↦ inr (opens_same m n after c sectors behind)
-        ]))
+  pub fulfilled_unsure : NotSure old call → (q : Result Reply CallError) → Handles mid new call q → ((s : State) (served : ServesState old s) → HandlesAt mid new s (before.rest s served).serves call q)
+      → StepsOrWaits old new → Fulfils old new call q
+  fulfilled_unsure not_sure q told at came = fulfilled q told at came (unsure not_sure q) (λ is. absurd (not_sure.1 is))
 
   -- the step's write failed
-  pub not_stepped : (new : System S G) (e : PointError) → Steps mid new (Err e) → Fulfils old new call (Err NotWritten)
-  not_stepped new e stepped =
+  pub not_stepped : NotSure old call → (e : PointError) → mid.log ≡ old.log → mid.blocks.laid ≢ None → Steps mid new (Err e) → ((s : State) → ServesState old s → WouldChange s call)
+      → Fulfils old new call (Err NotWritten)
+  not_stepped not_sure e log under stepped would =
       let m = meaning_of old in
+      let b = meaning_of mid in
       let n = meaning_of new in
       record {
-        counted = failed_first m n old.log.is_stopped (counted_after m (meaning_of mid) n a_write asked.counted stepped.counted);
+        counted = failed_first m n old.log.is_stopped (counted_beside m b n a_write before.counted stepped.counted);
         no_fault = tt;
         kind = tt;
-        own = λ is. cc;
         step = λ other. absurd (other refl);
         comes = λ laid. tt;
-        epoch = ages new (Err e) stepped;
-        calm = λ empty. ap (λ (l : LogEnd). l.epoch) (same_log new (Err e) stepped empty.end).0;
+        epoch = subst (λ (k : ℕ). AgesBy 1 k new.log.epoch) (ap (λ (l : LogEnd). l.epoch) log) stepped.epoch;
+        calm = λ empty. ap (λ (l : LogEnd). l.epoch) ((stepped.same under).0 ∙ log);
         runs = λ runs other. absurd (other refl);
         refused = λ errno is. cc;
         kept = λ other. absurd (other refl);
-        unlogged = λ is runs. stepped_quietly new (Err e) stepped;
+        unlogged = λ is runs. logged_twice m b n before.unlogged stepped.unlogged;
         stays = λ s served other. absurd (other refl);
         done = λ s served. tt;
         broken = λ s served is.
-            let would = due.changes s served in
+            let change = would s served in
             record {
-              reply = would.reply;
-              after = would.after;
-              need = would.need;
-              step = would.step;
-              leaves = weaker m n (OpensTo m s) (λ c. OpensTo m s c ⊎ OpensTo m would.after c) (leaves_it new (Err e) stepped s served) (λ c here. inl here);
+              reply = change.reply;
+              after = change.after;
+              need = change.need;
+              step = change.step;
+              leaves = weaker m n (OpensTo m s) (λ c. OpensTo m s c ⊎ OpensTo m change.after c) (joined m b n (OpensTo m s) (before.leaves s served)
+                  (weaker b n (OpensTo b s) (OpensTo m s) (stepped.leaves s.tree.descriptors s (before.rest s served).serves) (λ c here. opens_same m b s c before.counted.uses.same.sectors here)))
+                  (λ c here. inl here);
             };
-        sure = asked.sure;
-        at_once = λ is. asked.at_once is;
+        sure = not_sure.0;
+        at_once = not_sure.1;
         full = λ s served is. cc;
         short = λ s served is. cc;
         damaged = λ s served is. cc;
       }
 
-  -- the step was done, and the call served again
-  module _ (between : System S G) (u : Unit {0}) (stepped : Steps mid between (Ok u)) (new : System S G) where
-    resting : (s : State) (served : ServesState old s) → ServesRest between s.tree.descriptors s (all_bodies served.lasts.bodies)
-    resting s served =
-        let kept = due.kept s served in
-        subst (λ (b : Bodies). ServesRest between s.tree.descriptors s (all_bodies b)) kept.1 (stepped.rest s.tree.descriptors s kept.0)
+-- ---- a call that changes something
 
-    there : (s : State) → ServesState old s → ServesState between s
-    there s served = (resting s served).serves
+steps_so : {a b c d : Option Laid} → b ≡ a → d ≡ c → StepsOn b c → StepsOn a d
+steps_so {a} {b} {c} first last steps = subst (λ (o : Option Laid). StepsOn a o) (sym last) (subst (λ (o : Option Laid). StepsOn o c) first steps)
 
-    steps_on : new.blocks.laid ≡ between.blocks.laid → StepsOn old.blocks.laid new.blocks.laid
-    steps_on laid = subst (λ (o : Option Laid). StepsOn old.blocks.laid o) (sym laid) (subst (λ (o : Option Laid). StepsOn o between.blocks.laid) asked.laid stepped.laid)
+ages_so : {a b c d : ℕ} → b ≡ a → d ≡ c → AgesBy 1 b c → AgesBy 1 a d
+ages_so {a} {b} {c} first last ages = subst (λ (n : ℕ). AgesBy 1 a n) (sym last) (subst (λ (n : ℕ). AgesBy 1 n c) first ages)
 
-    pub fulfilled_behind : (q : Result Reply CallError) → ((s : State) → ServesState old s → MayLeave (meaning_of old) (meaning_of old).seen) → Handles false between new call q → Fulfils old new call q
-    unfolding there resting
-    fulfilled_behind q seen told =
-        let m = meaning_of old in
-        let b = meaning_of between in
-        let n = meaning_of new in
-        record {
-          counted = subst (λ (stopped : Bool). Counted m n (beside_reads (call_failed stopped q))) (runs_on between (Ok u) stepped)
-              (counted_beside m b n (call_failed between.log.is_stopped q) (counted_after m (meaning_of mid) b perhaps_reads asked.counted stepped.counted) told.counted);
-          no_fault = told.no_fault;
-          kind = told.kind;
-          own = λ is. false≢true (told.asks is).asked;
-          step = whichever q (inr (steps_on told.laid));
-          comes = λ laid. stepped_or (StepsOn old.blocks.laid new.blocks.laid) (new.log.end ≢ old.log.end) q (steps_on told.laid);
-          epoch = subst (λ (k : ℕ). AgesBy 1 old.log.epoch k) (sym told.epoch) (ages between (Ok u) stepped);
-          calm = λ empty. told.epoch ∙ ap (λ (l : LogEnd). l.epoch) (same_log between (Ok u) stepped empty.end).0;
-          runs = λ runs. told.runs (runs_on between (Ok u) stepped ∙ runs);
-          refused = λ errno is. quiet (told.refused errno is);
-          kept = IfErr-weaker q _ _ (λ e goes other. quiet (goes other)) told.kept;
-          unlogged = λ is runs. absurd (not_both runs (told.stops is));
-          stays = λ s served. and_so _ (ServesState new s) _ q (goes_on_unchanged m b n (OpensTo m s) (leaves_it between (Ok u) stepped s served)) told.kept (told.serves s (there s served));
-          done = λ s served. IfOk-weaker q _ _ (λ reply done. record {
-            between = between;
-            served = there s served;
-            left = (resting s served).left;
-            done = done;
-            leaves = leaves_either between (Ok u) stepped new s done.after served done.leaves;
-          }) (told.done s (there s served));
-          broken = λ s served is.
-              let broken = told.broken s (there s served) is in
-              record {
-                reply = broken.reply;
-                after = broken.after;
-                need = broken.need;
-                step = broken.step;
-                leaves = leaves_either between (Ok u) stepped new s broken.after served broken.leaves;
-              };
-          sure = λ s served. unsure q s (asked.sure s served);
-          at_once = λ is. absurd (asked.at_once is);
-          full = λ s served is.
-              let full = told.full s (there s served) is in
-              (full.0, λ empty. full.1 (empty_there empty), full.2);
-          short = λ s served is. (
-            (told.short s (there s served) is).0,
-            λ covered. absurd (never_covered s covered),
-          );
-          damaged = λ s served is. told.damaged s (there s served) is;
-        }
-      where
-        quiet : Goes Unchanged (meaning_of between) (meaning_of new) → LogsNothing (meaning_of old) (meaning_of new)
-        quiet goes = logged_twice (meaning_of old) (meaning_of between) (meaning_of new) (stepped_quietly between (Ok u) stepped) (nothing_logged (meaning_of between) (meaning_of new) goes)
+-- what a system keeps that only prepared a call
+module _ {S : Type 0} {G : Ghosts S} {old mid : System S G} {call : Command} {r : Result PreparedCall Failure} (prepares : PreparesOn old mid call r) where
+  same_log : mid.log ≡ old.log
+  same_log = ap (λ (k : Parts). k.log) prepares.parts
 
-        empty_there : HasEmptyLog old → HasEmptyLog between
-        empty_there empty =
-            let same = same_log between (Ok u) stepped empty.end in
-            record {
-              epoch = ap (λ (l : LogEnd). l.epoch) same.0 ∙ empty.epoch ∙ ap (λ (r : Root). r.generation + 1) (sym same.1);
-              end = ap (λ (l : LogEnd). next_of l.end) same.0 ∙ empty.end;
-            }
+  same_laid : mid.blocks.laid ≡ old.blocks.laid
+  same_laid = (reads_on old mid.blocks mid.inodes prepares.prepares.looks).laid
 
-        never_covered : (s : State) → IsCovered old s.tree.descriptors s → ⊥
-        never_covered s covered = under_way (covered_end old s (seen s) covered) (asked.laid ∙ covered.rests)
+-- it is refused, or a block wasn't read
+pub refused_on : {S : Type 0} {G : Ghosts S} (old mid : System S G) (call : Command) → AllOpen old → NotSure old call → (f : Failure) → PreparesOn old mid call (Err f)
+    → (q : Result Reply CallError) → q ≡ answer_to (Err f) → Answers old mid call q
+refused_on old mid call opens not_sure f prepares q is =
+    let told = prepares.prepares in
+    let looks = told.looks in
+    let keeps : KeepsServing old mid = looked_still old mid looks prepares.parts in
+    failed_by old mid call (reads_on old mid.blocks mid.inodes looks) (same_log prepares) f q is not_sure opens looks.reads.counted looks.reads.device told.own
+    (λ s served. ((keeps s served).serves, (keeps s served).changes)) (λ s served. DoesCall old.inodes.geometry.inodes served.running (table_of old.files) call) (on_open old told.answers)
+    (λ s served errno is. refused_by old s served call errno is) (never_damaged old told.damaged)
 
-        unsure : (q : Result Reply CallError) (s : State) → ¬ IsSure s call → MatchResult q (λ _. IsSureOn old new s call ⊎ ¬ IsSure s call) (λ _. ¬ IsSure s call)
-        unsure (Ok reply) s not = inr not
-        unsure (Err e) s not = not
+-- What was prepared was done, and this is known of that.
+pub record IsDone {S : Type 0} {G : Ghosts S} (mid new : System S G) (call : Command) (p : PreparedCall) (q : Result Reply CallError) : Type 0 where
+  pub frame : Handles mid new call q
+  pub told : (s : State) (served : ServesState mid s) → IsPreparedAt (system_parts mid) (blocks_of (disk_of mid)) served.running call p → HandlesAt mid new s served call q
+
+module _ {S : Type 0} {G : Ghosts S} (old : System S G) (call : Command) (not_sure : NotSure old call) where
+  done_so : {mid : System S G} (new : System S G) {p : PreparedCall} (q : Result Reply CallError) → IsPreparedBehind old mid call p → IsDone mid new call p q → AgesBy 1 old.log.epoch mid.log.epoch
+      → StepsOrWaits old new → Fulfils old new call q
+  done_so new q prepared done ages came =
+      fulfilled_unsure new call prepared.before ages not_sure q done.frame (λ s served. done.told s (prepared.before.rest s served).serves (prepared.at s served)) came
+
+  module _ {mid : System S G} {p : PreparedCall} (opens : AllOpen old) (prepares : PreparesOn old mid call (Ok p)) where
+    abbrev behind : IsPreparedBehind old mid call p
+    behind = prepared_by opens prepares
+
+    -- without a step, since it logs nothing, or none is due
+    pub done_now : (new : System S G) (q : Result Reply CallError) → IsDone mid new call p q → (new.log ≡ mid.log) ⊎ (mid.blocks.laid ≡ None) → Fulfils old new call q
+    done_now new q done why =
+        let laid = same_laid prepares in
+        done_so new q behind done (same_age old.log.epoch mid.log.epoch (ap (λ (l : LogEnd). l.epoch) (same_log prepares)))
+        (inr (
+          done.frame.laid ∙ laid,
+          λ some. elim why [
+            | inl log ↦ ap (λ (l : LogEnd). l.end) (log ∙ same_log prepares)
+            | inr none ↦ absurd (some (sym laid ∙ none))
+          ],
+        ))
+
+    -- behind a slice
+    pub done_sliced : (next new : System S G) (u : Unit {0}) (q : Result Reply CallError) → mid.blocks.laid ≢ None → Steps mid next (Ok u) → StaysReady mid next (Ok u) → IsDone next new call p q
+        → Fulfils old new call q
+    done_sliced next new u q under stepped ready done =
+        done_so new q (prepared_sliced next u behind under stepped ready) done (ages_so (ap (λ (l : LogEnd). l.epoch) (same_log prepares)) refl stepped.epoch)
+        (inl (steps_so (same_laid prepares) done.frame.laid stepped.laid))
+
+    -- the slice's write failed
+    pub done_never : (new : System S G) (e : PointError) → mid.blocks.laid ≢ None → (p.change ≢ None) → Steps mid new (Err e) → Fulfils old new call (Err NotWritten)
+    done_never new e under some stepped =
+        not_stepped new call behind.before (same_age old.log.epoch mid.log.epoch (ap (λ (l : LogEnd). l.epoch) (same_log prepares))) not_sure e (same_log prepares) under stepped (would_change behind some)
+
+    -- behind a plan, for which it was prepared anew
+    module _ (next : System S G) (u : Unit {0}) (due : IsPlanDue mid) (stepped : Steps mid next (Ok u)) (seen : (s : State) → ServesState mid s → MayLeave (meaning_of mid) (meaning_of mid).seen)
+        (opens_then : AllOpen next) where
+      before : IsBefore old next
+      before = both behind.before (planned_before mid next u due stepped seen)
+
+      pub done_anew : {last : System S G} {other : PreparedCall} → PreparesOn next last call (Ok other) → (new : System S G) (q : Result Reply CallError) → IsDone last new call other q → Fulfils old new call q
+      done_anew anew new q done =
+          done_so new q (prepared_after _ before (prepared_by opens_then anew)) done
+          (ages_so (ap (λ (l : LogEnd). l.epoch) (same_log prepares)) (ap (λ (l : LogEnd). l.epoch) (same_log anew)) stepped.epoch)
+          (inl (steps_so (same_laid prepares) (done.frame.laid ∙ same_laid anew) stepped.laid))
+
+      pub refused_anew : (new : System S G) (q : Result Reply CallError) → Answers next new call q → Fulfils old new call q
+      refused_anew new q told =
+          fulfilled_unsure new call before (ages_so (ap (λ (l : LogEnd). l.epoch) (same_log prepares)) refl stepped.epoch) not_sure q told.handles (λ s served. told.at s (before.rest s served).serves)
+          (inl (steps_so (same_laid prepares) told.handles.laid stepped.laid))
+
+-- a call that logs nothing was served at once
+pub answered_fulfils : {S : Type 0} {G : Ghosts S} (old new : System S G) (call : Command) → AllOpen old → (q : Result Reply CallError) → Answers old new call q → Fulfils old new call q
+answered_fulfils old new call opens q told =
+    fulfilled new call (nothing_before old opens) (same_age old.log.epoch old.log.epoch refl) q told.handles (λ s served. told.at s served) (inr (told.handles.laid, λ _. ap (λ (l : LogEnd). l.end) told.log)) told.sure told.at_once

@@ -7,6 +7,7 @@ use Rattle.station.specs.declared.station.Station.{Ghosts}
 use Rattle.station.proofs.Moments.{leaves_unchanged}
 use Rattle.layout.specs.Limits.{Sizes}
 use Rattle.layout.specs.Places.{blocks_of}
+use Rattle.layout.specs.declared.root.Root.{Root}
 use Rattle.model.specs.Records.{count_nameless}
 use Rattle.model.specs.Room.{fixed_of}
 use Rattle.model.specs.States.{State, with_snapshots}
@@ -14,9 +15,9 @@ use Rattle.model.specs.Trees.{Description}
 use Rattle.descriptors.specs.Fits.{FitsVolume}
 use Rattle.descriptors.specs.Tables.{table_of}
 use Rattle.descriptors.specs.declared.table.Descriptors.{Descriptors}
-use Rattle.images.specs.Roots.{whole}
+use Rattle.images.specs.Roots.{head, whole}
 use Rattle.images.specs.Room.{free_under}
-use Rattle.images.specs.SnapshotSteps.{SnapshotStep, kept_after}
+use Rattle.images.specs.SnapshotSteps.{SnapshotStep, StepsSlots, kept_after, unchanged}
 use Rattle.inofile.specs.Inodes.{IsChanged}
 use Rattle.inofile.specs.Room.{memory_room}
 use Rattle.inofile.specs.declared.inode_file.InodeFile.{InodeFile}
@@ -34,7 +35,7 @@ use Rattle.system.specs.Errors.{IsNotWritten, IsRefused}
 use Rattle.system.specs.Images.{IsLeft, IsUnder, OpensTo}
 use Rattle.system.specs.Laws.{CutLaws, RootLaws}
 use Rattle.system.specs.Memory.{HasEntries, IsInMemory}
-use Rattle.system.specs.Points.{HasRoomToPlan, HasRoomToStep, IsStepFor, MakesPointFrom, MaySettle, StepsTo, turned}
+use Rattle.system.specs.Points.{HasRoomToPlan, HasRoomToStep, IsStepFor, KeepsSlots, MakesPointFrom, MaySettle, StepsTo, turned}
 use Rattle.system.specs.Slicing.{CarriesOut, Finishes, IsLaid, Lays}
 use Rattle.system.specs.Systems.{HasState, HasStateBy, IsCovered, Parts, disk_of, meaning_of, state_with, system_parts}
 use Rattle.system.specs.UnderWay.{WayLaws}
@@ -47,7 +48,7 @@ use Rattle.system.proofs.CountingLaws.{all_written, counted_after, logged_twice,
 use Rattle.system.proofs.CoveredLaws.{covered_at}
 use Rattle.system.proofs.PointLaws as points
 use Rattle.system.proofs.PointLaws.{OnceCovered}
-use Rattle.system.proofs.SettledLaws.{none_replayed}
+use Rattle.system.proofs.SettledLaws.{agrees, none_replayed}
 use Rattle.system.proofs.SystemLaws as served
 
 -- a write that failed isn't another error
@@ -71,7 +72,7 @@ pub record Turning {S : Type 0} {G : Ghosts S} (change : SnapshotChange) (old : 
   pub state : t ≡ turned old.root.geometry.inodes step volume table serves.first serves.snapshots
 
 -- a point that starts from the tree that is there settles the running volume
-pub steps_turn : {S : Type 0} {G : Ghosts S} (change : SnapshotChange) (old : System S G) → old.blocks.laid ≡ None → (table : ℕ → Option Description) (s : State) (serves : HasState old table s) (t : State)
+unfoldable pub steps_turn : {S : Type 0} {G : Ghosts S} (change : SnapshotChange) (old : System S G) → old.blocks.laid ≡ None → (table : ℕ → Option Description) (s : State) (serves : HasState old table s) (t : State)
     → StepsTo change old table s serves t → Turning change old old.inodes table s serves t (HasRoomToStep change old)
 steps_turn {G = G} change old none table s serves t leads = record {
   step = leads.0;
@@ -199,6 +200,21 @@ module _ (cuts : CutLaws) (roots : RootLaws) (ways : WayLaws) {S : Type 0} {G : 
         let there = subst (λ (k : Parts). OnceCovered n k table after) (sym parts_are) settled in
         record { rests = ap (λ (k : Parts). k.laid) does.parts; serves = there.0; no_record = there.1; held = there.2 }
 
+    -- where it leaves the snapshots alone they stand where they stood
+    keeps_slots : step ≡ unchanged → KeepsSlots old new
+    keeps_slots same =
+        let there : disk_of old ≡ m.seen.disk = ap (λ (l : Option Laid). planned_disk l m.seen.disk) none in
+        let then : disk_of new ≡ n.seen.disk = ap (λ (k : Parts). planned_disk k.laid n.seen.disk) parts_are in
+        let root : new.root ≡ mid.root = ap (λ (k : Parts). k.root) parts_are in
+        record {
+          slots = ap (λ (r : Root). r.snapshots) root ∙ subst (λ (s : SnapshotStep). StepsSlots s old.root mid.root) same is.planned.point.snapshots;
+          heads = λ k block at.
+              ap (λ (d : ℕ → Sector). blocks_of d block) then
+              ∙ agrees cuts roots serves none old.sectors old.half plan mid.root step v is.planned here n.seen has block (head k at)
+              ∙ sym (ap (λ (d : ℕ → Sector). blocks_of d block) there);
+          later = subst (λ (r : Root). old.root.generation ≤ r.generation) (sym root) (omega (arith, is.planned.point.later));
+        }
+
   -- ---- what is promised of it
 
   module _ (here : m.is_honest → MayLeave m m.seen) (left : n.is_honest → MayLeave n n.seen) (sized : EachCut n (HasSizes n))
@@ -253,6 +269,12 @@ module _ (cuts : CutLaws) (roots : RootLaws) (ways : WayLaws) {S : Type 0} {G : 
       last = λ table s serves is. absurd (not_other e _ does.why tt is);
       past = λ is. absurd (not_other e _ does.why tt is);
     }
+
+    pub kept_slots : Finishes mid new (Ok tt) → (table : ℕ → Option Description) (s : State) (serves : HasStateBy known old table s) (t : State) (leads : Leads table s serves t) → IsRoomy
+        → (turns table s serves t leads).step ≡ unchanged → KeepsSlots old new
+    kept_slots does table s serves t leads room =
+        let turn = turns table s serves t leads in
+        keeps_slots serves turn.step (laid_by table s serves t leads room) turn.may (here serves.honest) does left sized
 
 -- nothing was planned, and the system has these objects in memory again
 module _ (cuts : CutLaws) {S : Type 0} {G : Ghosts S} (old new : System S G) (change : SnapshotChange) (e : PointError) (lays : Lays change old new (Err e)) (known : InodeFile)

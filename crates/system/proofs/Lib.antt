@@ -13,8 +13,6 @@ mod GoingOnLaws
 mod RestLaws
 mod SteppingLaws
 mod CoveringLaws
-mod HandlingLaws
-mod FulfilLaws
 mod ChangingLaws
 pub mod RoomLaws
 pub mod CoveredLaws
@@ -24,6 +22,9 @@ mod OpenFileLaws
 mod DoingLaws
 mod CloseLaws
 mod FileChangeLaws
+mod HandlingLaws
+mod CarryingLaws
+mod FulfilLaws
 mod ViewLaws
 mod SettlingLaws
 mod RestoringLaws

@@ -1,6 +1,7 @@
 -- What the layers below tell of blocks and of objects in memory, on a system that serves a state.
 use Rattle.std.proofs.Common.{◌≡◌, ◌*◌, ◌/◌, ◌∙◌, ℕ, List, Option, Result, arith, refl, sym, subst}
 use Rattle.std.specs.Prelude.{IsErrOf}
+use Rattle.station.specs.Moments.{Meaning}
 use Rattle.station.specs.declared.station.Station.{Ghosts}
 use Rattle.layout.specs.Limits.{Sizes}
 use Rattle.layout.specs.Places.{blocks_of}
@@ -9,8 +10,7 @@ use Rattle.model.specs.States.{State}
 use Rattle.model.specs.Trees.{Description}
 use Rattle.model.specs.Volumes.{IsMounted, IsVolume, Volume}
 use Rattle.buffers.specs.Readings.{reads_none}
-use Rattle.buffers.specs.declared.blocks.Blocks as blocks
-use Rattle.overlay.specs.Overlays.{IsHere, ReadsOver, ShowsOver, planned_disk}
+use Rattle.overlay.specs.Overlays.{ReadsOver, planned_disk}
 use Rattle.overlay.specs.declared.overlay.Overlay.{Overlay}
 use Rattle.blocktree.specs.Errors.{IsFault}
 use Rattle.blocktree.specs.declared.error.ReadError.{ReadError}
@@ -24,20 +24,11 @@ use Rattle.records.specs.Shown.{OnMounted}
 use Rattle.descriptors.specs.Tables.{table_of}
 use Rattle.calls.specs.Seeing.{OnTrees}
 use Rattle.files.specs.Opened.{OnOpen}
+use Rattle.system.specs.Preparing.{blocks_with}
 use Rattle.system.specs.Serving.{ServesState}
-use Rattle.system.specs.Systems.{IsServing, disk_of, meaning_of, system_parts}
+use Rattle.system.specs.Systems.{IsServing, Parts, disk_of, meaning_of, system_parts}
 use Rattle.system.specs.declared.system.System.{System}
 use Rattle.system.proofs.SystemLaws.{read_into}
-
--- the blocks of a station, as the layers below have them
-abbrev pub blocks_with : {S : Type 0} (G : Ghosts S) → blocks.Ghosts (Overlay S G)
-blocks_with G = record {
-  Shows = λ b disk. ShowsOver (G.meaning b.buffers.station) b.buffers.kept b.laid disk;
-  ReadsOn = λ a b. ReadsOver (G.meaning a.buffers.station) (G.meaning b.buffers.station) a.laid b.laid;
-  IsResident = λ b place. IsHere b.buffers.kept b.laid place;
-  failed = λ b. (G.meaning b.buffers.station).failed_reads;
-  count = λ b. (G.meaning b.buffers.station).sectors / 8;
-}
 
 -- a system serves a state that has these blocks and these inodes in memory, and all else as another
 abbrev pub ServesOver : {S : Type 0} {G : Ghosts S} → System S G → Overlay S G → InodeFile → State → Type 0
@@ -110,3 +101,31 @@ module _ {S : Type 0} {G : Ghosts S} (f : System S G) where
           shows = served.shows;
           volume = subst (λ (n : ℕ). IsVolumeOf n disk_under inodes_under f.inodes v) (sym before) over;
         })).volume) looks.geometry looks.needs (λ b. refl) (λ coming b. refl)
+
+-- A system serves what another one served, by the same volume and the same records.
+pub record ServesStill {S : Type 0} {G : Ghosts S} (old new : System S G) (s : State) (served : ServesState old s) : Type 0 where
+  pub serves : ServesState new s
+  pub volume : serves.running ≡ served.running
+  pub bodies : serves.lasts.bodies ≡ served.lasts.bodies
+  pub changes : serves.lasts.replayed.changes ≡ served.lasts.replayed.changes
+  pub first : serves.first ≡ served.first
+
+abbrev pub KeepsServing : {S : Type 0} {G : Ghosts S} → System S G → System S G → Type 0
+KeepsServing old new = (s : State) (served : ServesState old s) → ServesStill old new s served
+
+-- so it does where it looked
+pub looked_still : {S : Type 0} {G : Ghosts S} (f new : System S G) {T : Type 0} {r : Result T ReadError} → Looks (blocks_with G) IsFault f.blocks new.blocks f.inodes new.inodes r
+    → system_parts new ≡ record (system_parts f) { kept = new.blocks.buffers.kept; laid = new.blocks.laid; inodes = new.inodes } → KeepsServing f new
+looked_still f new looks parts s served =
+    let Still = λ (k : Parts). (serves : IsServing (meaning_of new) k s.tree.descriptors s) × (serves.running ≡ served.running) × (serves.lasts.bodies ≡ served.lasts.bodies)
+    × (serves.lasts.replayed.changes ≡ served.lasts.replayed.changes) × (serves.first ≡ served.first) in
+    let it = subst Still (sym parts) (looked_on f new.blocks new.inodes looks s served, refl, refl, refl, refl) in
+    record { serves = it.0; volume = it.1; bodies = it.2; changes = it.3; first = it.4 }
+
+-- and where it has the same
+pub same_still : {S : Type 0} {G : Ghosts S} (f new : System S G) → meaning_of new ≡ meaning_of f → system_parts new ≡ system_parts f → KeepsServing f new
+same_still f new meaning parts s served =
+    let Still = λ (m : Meaning) (k : Parts). (serves : IsServing m k s.tree.descriptors s) × (serves.running ≡ served.running) × (serves.lasts.bodies ≡ served.lasts.bodies)
+    × (serves.lasts.replayed.changes ≡ served.lasts.replayed.changes) × (serves.first ≡ served.first) in
+    let it = subst (λ (k : Parts). Still (meaning_of new) k) (sym parts) (subst (λ (m : Meaning). Still m (system_parts f)) (sym meaning) (served, refl, refl, refl, refl)) in
+    record { serves = it.0; volume = it.1; bodies = it.2; changes = it.3; first = it.4 }

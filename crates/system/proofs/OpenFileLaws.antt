@@ -1,13 +1,14 @@
 -- What a call on descriptors comes to on a system that serves a state.
-use Rattle.std.proofs.Common.{◌≡◌, ◌≢◌, ◌+◌, ◌≤◌, ◌⊎◌, inl, inr, ℕ, List, Option, Some, None, Result, Ok, Err, length, ap, sym, subst, ◌∙◌, arith, refl}
-use Rattle.std.specs.Prelude.{IsTrue}
+use Rattle.std.proofs.Common.{◌≡◌, ℕ, List, Option, Some, Result, Err, ap, sym, subst, ◌∙◌, refl}
+use Rattle.std.specs.Prelude.{IsFalse, IsTrue}
 use Rattle.station.specs.Moments.{Meaning}
 use Rattle.station.specs.declared.station.Station.{Ghosts}
 use Rattle.layout.specs.Limits.{Sizes}
-use Rattle.layout.specs.Record.{Change, IsChange}
+use Rattle.layout.specs.Places.{blocks_of}
+use Rattle.layout.specs.Record.{Change}
 use Rattle.model.specs.Circumstances.{IsSure}
 use Rattle.model.specs.Paths.{Name}
-use Rattle.model.specs.Records.{applied, work_of}
+use Rattle.model.specs.Records.{Applies, applied, work_of}
 use Rattle.model.specs.Room.{nothing, logs}
 use Rattle.model.specs.States.{State}
 use Rattle.model.specs.Trees.{Description, Tree}
@@ -23,13 +24,12 @@ use Rattle.records.specs.declared.failure.Failure.{Failure}
 use Rattle.descriptors.specs.Fits.{FitsVolume}
 use Rattle.descriptors.specs.Tables.{table_of}
 use Rattle.descriptors.specs.declared.table.Descriptors.{Descriptors}
-use Rattle.oplog.specs.LogEnd.{HasRoomInHalf, logged_body}
-use Rattle.system.specs.Logging.{Advances}
-use Rattle.system.specs.OpenFiles.{DoesBeside, DoesCall, DoesRecord, FitsMove, PreparesDoing, WouldLead, is_logging_call, is_looking_call, is_table_call, moved_table, recorded}
-use Rattle.system.specs.Serving.{HasEmptyLog, ServesState, WouldCall}
-use Rattle.system.specs.Systems.{Parts, IsServing, IsServingWith, meaning_of, system_parts, state_with}
-use Rattle.system.specs.declared.file_change.Doing.{Doing}
-use Rattle.system.specs.declared.file_change.FileChange.{FileChange}
+use Rattle.system.specs.OpenFiles.{FitsMove, WouldLead, is_looking_call, is_table_call, moved_table}
+use Rattle.system.specs.Preparing.{DoesBeside, DoesCall, DoesRecord, IsPreparedAt, PreparesCall, only_looks, recorded}
+use Rattle.system.specs.Serving.{ServesState, WouldCall}
+use Rattle.system.specs.Systems.{Parts, IsServing, IsServingWith, disk_of, meaning_of, system_parts, state_with}
+use Rattle.system.specs.declared.prepared_call.PreparedCall.{PreparedCall}
+use Rattle.system.specs.declared.prepared_call.PreparedChange.{PreparedChange}
 use Rattle.system.specs.declared.system.System.{System}
 use Rattle.system.specs.declared.table_move.TableMove.{TableMove}
 use Rattle.system.proofs.MovedLaws.{moved}
@@ -48,12 +48,13 @@ looking_not_sure f (command.Pread fd offset count) is = (λ s served sure. sure,
 looking_not_sure f (command.Fstat fd) is = (λ s served sure. sure, λ once. once)
 looking_not_sure f _ is = cc
 
-pub logging_not_sure : {S : Type 0} {G : Ghosts S} (f : System S G) (call : Command) → IsTrue (is_logging_call call) → NotSure f call
-logging_not_sure f (command.Open path flags mode) is = (λ s served sure. sure, λ once. once)
-logging_not_sure f (command.Write fd given) is = (λ s served sure. sure, λ once. once)
-logging_not_sure f (command.Pwrite fd offset given) is = (λ s served sure. sure, λ once. once)
-logging_not_sure f (command.Ftruncate fd size) is = (λ s served sure. sure, λ once. once)
-logging_not_sure f _ is = cc
+pub changing_not_sure : {S : Type 0} {G : Ghosts S} (f : System S G) (call : Command) → IsFalse (only_looks call) → NotSure f call
+changing_not_sure f (command.Path call) is = (λ s served sure. sure, λ once. once)
+changing_not_sure f (command.Open path flags mode) is = (λ s served sure. sure, λ once. once)
+changing_not_sure f (command.Write fd given) is = (λ s served sure. sure, λ once. once)
+changing_not_sure f (command.Pwrite fd offset given) is = (λ s served sure. sure, λ once. once)
+changing_not_sure f (command.Ftruncate fd size) is = (λ s served sure. sure, λ once. once)
+changing_not_sure f _ is = cc
 
 -- ---- calls that log nothing
 
@@ -88,39 +89,30 @@ refused_by {S} {G} f s serves call errno told =
     subst (λ (u : State). WouldCall s call (Refused errno) u nothing) same
     (led_to serves call (Refused errno) (table_of f.files) (subst (λ (g : Sizes). DoesCall g.inodes serves.running (table_of f.files) call (Err errno)) f.sizes told))
 
--- ---- calls that may log a record
-
--- what is told of a call that logs nothing
-pub told_beside : {S : Type 0} {G : Ghosts S} (f : System S G) (s : State) (serves : ServesState f s) (call : Command) (d : Doing) → d.change ≡ None
-    → DoesCall f.inodes.geometry.inodes serves.running (table_of f.files) call (Ok d)
-    → FitsMove serves.running d.table × WouldLead f.root.geometry.inodes serves.running (table_of f.files) call d.reply serves.running (moved_table d.table (table_of f.files)) nothing
-told_beside f s serves call d none told =
-    let v = serves.running in
-    let table = table_of f.files in
-    subst (λ (o : Option FileChange). DoesBeside f.root.geometry.inodes v table call d.reply d.table o) none
-    (subst (λ (g : Sizes). DoesCall g.inodes v table call (Ok d)) f.sizes told)
+-- ---- calls that are prepared
 
 -- What is told of a call whose record is to be logged, by a system that serves a state.
 pub record IsLogged {S : Type 0} {G : Ghosts S} (f : System S G) (s : State) (serves : ServesState f s) (call : Command) (reply : Reply) (move : TableMove) (change : Change) : Type 0 where
-  pub advances : Advances f.root.geometry.inodes serves.running s.tree.descriptors change
+  pub applies : Applies f.root.geometry.inodes serves.running change
+  pub mounted : IsMounted (swept s.tree.descriptors (applied change serves.running)) s.tree.descriptors
   pub fits : FitsMove (swept s.tree.descriptors (applied change serves.running)) move
   pub step : WouldCall s call reply
       (state_with f.root.geometry.inodes (swept s.tree.descriptors (applied change serves.running)) (moved_table move s.tree.descriptors) serves.snapshots) (logs (work_of serves.running change))
 
-pub told_logged : {S : Type 0} {G : Ghosts S} (f : System S G) (s : State) (serves : ServesState f s) (call : Command) (d : Doing) (c : FileChange) (change : Change) → d.change ≡ Some c
-    → change ≡ recorded c.record → IsChange change → DoesCall f.inodes.geometry.inodes serves.running (table_of f.files) call (Ok d) → IsLogged f s serves call d.reply d.table change
-told_logged f s serves call d c change some says is_change told =
+pub told_logged : {S : Type 0} {G : Ghosts S} (f : System S G) (s : State) (serves : ServesState f s) (call : Command) (p : PreparedCall) (c : PreparedChange) (change : Change) → p.change ≡ Some c
+    → change ≡ recorded c.record → IsPreparedAt (system_parts f) (blocks_of (disk_of f)) serves.running call p → IsLogged f s serves call p.reply p.table change
+told_logged f s serves call p c change some says prepared =
     let v = serves.running in
     let table = s.tree.descriptors in
     let n = f.root.geometry.inodes in
-    let with_files : DoesBeside n v (table_of f.files) call d.reply d.table (Some c) = subst (λ (o : Option FileChange). DoesBeside n v (table_of f.files) call d.reply d.table o) some
-    (subst (λ (g : Sizes). DoesCall g.inodes v (table_of f.files) call (Ok d)) f.sizes told) in
-    let of_record = subst (λ (t : ℕ → Option Description). DoesRecord n v t call d.reply d.table (recorded c.record)) (sym serves.opened) with_files in
-    let here = subst (DoesRecord n v table call d.reply d.table) (sym says) of_record in
+    let with_files : DoesBeside n v (table_of f.files) call p.reply p.table (Some c) = subst (λ (o : Option PreparedChange). DoesBeside n v (table_of f.files) call p.reply p.table o) some prepared.comes in
+    let of_record = subst (λ (t : ℕ → Option Description). DoesRecord n v t call p.reply p.table (recorded c.record)) (sym serves.opened) with_files in
+    let here = subst (DoesRecord n v table call p.reply p.table) (sym says) of_record in
     record {
-      advances = record { is = is_change; applies = here.0; mounted = here.1 };
+      applies = here.0;
+      mounted = here.1;
       fits = here.2;
-      step = subst (λ (u : State). WouldCall u call d.reply (state_with n (swept table (applied change v)) (moved_table d.table table) serves.snapshots) (logs (work_of v change))) (sym serves.state) (here.3 serves.snapshots);
+      step = subst (λ (u : State). WouldCall u call p.reply (state_with n (swept table (applied change v)) (moved_table p.table table) serves.snapshots) (logs (work_of v change))) (sym serves.state) (here.3 serves.snapshots);
     }
 
 -- behind a record, with another table of open files
@@ -138,18 +130,9 @@ moved_on {m} {k} {table} n {v} snapshots {changes} behind now_files after opened
       records = behind.records;
     })
 
--- the record of a call on descriptors fits an empty log
-pub record_fits : {S : Type 0} {G : Ghosts S} (f : System S G) (change : Change) → HasEmptyLog f → length (logged_body change) ≤ 65553
-    → (f.log.epoch ≢ f.root.generation + 1) ⊎ (HasRoomInHalf f.log (length (logged_body change)) → ⊥) → ⊥
-record_fits f change empty short (inl not) = not empty.epoch
-record_fits f change empty short (inr full) =
-    let half : 131072 ≤ f.log.half = omega (arith, f.half, f.is_root.head.sizes.least_half) in
-    let room : 9 + 5 + length (logged_body change) + 1 ≤ f.log.half = omega (arith, half, short) in
-    full (subst (λ (n : ℕ). n + 5 + length (logged_body change) + 1 ≤ f.log.half) (sym empty.end) room)
-
 -- ---- what the calls over memory and the table promise
 
 -- a call that was asked in these words
-pub asked_so : {B : Type 0} {G : blocks.Ghosts B} {a b : B} {s t : InodeFile} {files : Descriptors} (call asked : Command) (r : Result Doing Failure) → call ≡ asked
-    → PreparesDoing G a b s t files asked r → PreparesDoing G a b s t files call r
-asked_so {G = G} {a = a} {b = b} {s = s} {t = t} {files = files} call asked r is told = subst (λ (k : Command). PreparesDoing G a b s t files k r) (sym is) told
+pub asked_so : {B : Type 0} {G : blocks.Ghosts B} {a b : B} {s t : InodeFile} {files : Descriptors} (call asked : Command) (r : Result PreparedCall Failure) → call ≡ asked
+    → PreparesCall G a b s t files asked r → PreparesCall G a b s t files call r
+asked_so {G = G} {a = a} {b = b} {s = s} {t = t} {files = files} call asked r is told = subst (λ (k : Command). PreparesCall G a b s t files k r) (sym is) told

@@ -18,7 +18,7 @@ use Rattle.model.specs.Volumes.{Node, directory_node, file_node, link_node, IsMo
 use Rattle.buffers.specs.Disks.{ReadsOn, ShowsDisk}
 use Rattle.buffers.specs.declared.cache.Buffers.{Buffers}
 use Rattle.buffers.specs.declared.kept.Kept.{Kept}
-use Rattle.oplog.specs.LogEnd.{StandsAt}
+use Rattle.oplog.specs.LogEnd.{LogEnd, StandsAt}
 use Rattle.overlay.specs.Overlays.{ShowsOver}
 use Rattle.overlay.specs.declared.laid.Laid.{Laid}
 use Rattle.overlay.specs.declared.overlay.Overlay.{Overlay}
@@ -29,14 +29,17 @@ use Rattle.descriptors.specs.Fits.{FitsVolume}
 use Rattle.descriptors.specs.Tables.{open_at}
 use Rattle.descriptors.specs.declared.table.Descriptors.{Descriptors}
 use Rattle.images.specs.Nodes.{held}
-use Rattle.images.specs.Roots.{whole}
+use Rattle.images.specs.Roots.{Whole, whole}
 use Rattle.inofile.specs.Room.{memory_room}
 use Rattle.inofile.specs.Volumes.{IsVolumeIn, IsVolumeOf}
 use Rattle.inofile.specs.declared.inode_file.InodeFile.{InodeFile}
-use Rattle.images.specs.Faults.{IsFaultlessUnder}
+use Rattle.images.specs.Contents.{tree_contents}
+use Rattle.images.specs.Faults.{HasLog, IsFaultlessUnder}
 use Rattle.images.specs.Replaying.{ReplaysWithin}
+use Rattle.images.specs.Sizes.{HoldsVolumeIn}
 use Rattle.images.specs.Soundness.{by_sizes}
 use Rattle.loading.specs.Images.{IsLoadedIn, IsLoadedUnder, IsReadableIn, inodes_of}
+use Rattle.loading.specs.Slots.{IsNewestAt}
 use Rattle.records.specs.Preparing.{HasGraph}
 use Rattle.replay.specs.Volumes.{HasVolume, HasVolumeIn, SavesRecords, SavesRecordsIn, bodies_of}
 use Rattle.oplog.specs.declared.saved.SavedLogError.{SavedLogError}
@@ -45,7 +48,7 @@ use Rattle.blocktree.specs.declared.error.ReadError.{ReadError}
 use Rattle.blocktree.specs.declared.error.ReadError.TheVariants as read
 use Rattle.loading.specs.declared.error.RootError.{RootError}
 use Rattle.loading.specs.declared.error.RootError.TheVariants as root
-use Rattle.system.specs.Opening.{HasImage, HoldsRecords, IsOf}
+use Rattle.system.specs.Opening.{HasImage, HasNewest, HasRead, HasReplayed, HoldsRecords, IsFaultlessTree, IsOf, IsSavedOver}
 use Rattle.system.specs.Refusals.{SaysNothing, refusal_of_log, refusal_of_read, refusal_of_root}
 use Rattle.system.specs.Systems.{Parts, IsServing, state_with}
 use Rattle.system.specs.declared.open_error.OpenError.{OpenError}
@@ -117,13 +120,19 @@ module _ {S : Type 0} {G : Ghosts S} (station : S) (buffers : Buffers S) (blocks
 
 -- ---- what memory has
 
+-- a log over a root is the one that was saved over it
+saved_log : (nvram : List ℕ) (saved : Saved) (r : Root) (changes : List Change) → IsSavedOver r saved → LogHolds r.geometry.half r.generation nvram (bodies_of changes)
+    → LogHolds saved.half saved.generation nvram (bodies_of changes)
+saved_log nvram saved r changes over log =
+    subst (λ (n : ℕ). LogHolds n saved.generation nvram (bodies_of changes)) (sym over.half)
+    (subst (λ (n : ℕ). LogHolds r.geometry.half n nvram (bodies_of changes)) (sym over.generation) log)
+
 module _ (disk : Blocks) (r : Root) (nvram : List ℕ) (first last : Volume) (snapshots : List (Name × Tree)) (changes : List Change) (saved : Saved)
-    (half : saved.half ≡ r.geometry.half) (generation : saved.generation ≡ r.generation) (holds : HoldsRecords disk r nvram first last snapshots changes) where
+    (over : IsSavedOver r saved) (holds : HoldsRecords disk r nvram first last snapshots changes) where
   pub saves : (inodes : InodeFile) → inodes.geometry ≡ r.geometry → SavesRecords inodes.geometry.inodes nvram saved changes first last
   saves inodes geometry = record {
     are = holds.log.are;
-    held = subst (λ (n : ℕ). LogHolds n saved.generation nvram (bodies_of changes)) (sym half)
-        (subst (λ (n : ℕ). LogHolds r.geometry.half n nvram (bodies_of changes)) (sym generation) holds.log.log);
+    held = saved_log nvram saved r changes over holds.log.log;
     replays = subst (λ (s : Sizes). Replays s.inodes first changes last) (sym geometry) holds.replays;
   }
 
@@ -138,7 +147,7 @@ module _ (disk : Blocks) (r : Root) (nvram : List ℕ) (first last : Volume) (sn
       → StandsBehind p.log saved.generation nvram (bodies_of changes) → HasVolume count disk (inodes_of (whole disk r).active) p.inodes (without_nameless last)
       → p.pledged ≡ pledged_for old.geometry.inodes first changes → memory_room first p.inodes (without_nameless last) ≤ p.pledged → old.geometry ≡ r.geometry → HasImage disk r nvram first last changes p
   has_image old p count geometry is loaded stands has pledges stored sizes = record {
-    log = subst (λ (n : ℕ). StandsBehind p.log n nvram (bodies_of changes)) generation stands;
+    log = subst (λ (n : ℕ). StandsBehind p.log n nvram (bodies_of changes)) over.generation stands;
     memory = record {
       stands = subst (λ (n : ℕ). IsVolumeOf n disk (inodes_of (whole disk r).active) p.inodes (without_nameless last)) is has.memory;
       volume = subst (λ (s : Sizes). IsVolume s.inodes (without_nameless last)) geometry has.volume;
@@ -148,27 +157,63 @@ module _ (disk : Blocks) (r : Root) (nvram : List ℕ) (first last : Volume) (sn
     stored = stored;
   }
 
--- ---- the same without a fault
+-- ---- the same where no fault stands in a root's tree
 
-module _ (disk : Blocks) (r : Root) (nvram : List ℕ) (changes : List Change) (under : IsFaultlessUnder r (whole disk r) nvram changes) where
-  pub grammar_read : IsReadableIn by_sizes disk r
-  grammar_read = record { sound = (under.active.grammar, under.active.numbers); within = under.within; root = under.active.grammar.root }
+module _ (disk : Blocks) (r : Root) (nvram : List ℕ) (saved : Saved) (over : IsSavedOver r saved) where
+  -- it can be read
+  pub tree_read : IsFaultlessTree r (whole disk r) → IsReadableIn by_sizes disk r
+  tree_read tree = record { sound = (tree.active.grammar, tree.active.numbers); within = tree.within; root = tree.active.grammar.root }
 
-  module _ (saved : Saved) (half : saved.half ≡ r.geometry.half) (generation : saved.generation ≡ r.generation) (inodes : InodeFile) (geometry : inodes.geometry ≡ r.geometry) where
-    pub saves_within : SavesRecordsIn by_sizes inodes.geometry.inodes nvram saved changes under.log.first under.log.last
-    saves_within = record {
-      are = under.log.log.are;
-      held = subst (λ (n : ℕ). LogHolds n saved.generation nvram (bodies_of changes)) (sym half)
-          (subst (λ (n : ℕ). LogHolds r.geometry.half n nvram (bodies_of changes)) (sym generation) under.log.log.log);
-      replays = subst (λ (s : Sizes). ReplaysWithin s.inodes under.log.first changes under.log.last) (sym geometry) under.log.replays;
-    }
+  -- what is loaded stands for the volume that the tree holds
+  pub stands_by_sizes : (inodes : InodeFile) (map : BlockMap) (count : ℕ) → inodes.geometry ≡ r.geometry → count ≡ r.geometry.blocks → IsLoadedIn by_sizes disk r map inodes
+      → (first : Volume) → HoldsVolumeIn by_sizes r.geometry.inodes (tree_contents (whole disk r).active) first → HasGraph r.geometry.inodes first
+      → HasVolumeIn by_sizes count disk (inodes_of (whole disk r).active) inodes first
+  stands_by_sizes inodes map count geometry is loaded first holds graph = record {
+    memory = subst (λ (n : ℕ). IsVolumeIn by_sizes n disk (inodes_of (whole disk r).active) inodes first) (sym is) (loaded.inodes.volume first holds);
+    volume = subst (λ (s : Sizes). HasGraph s.inodes first) (sym geometry) graph;
+  }
 
-    pub stands_by_sizes : (map : BlockMap) (count : ℕ) → count ≡ r.geometry.blocks → IsLoadedIn by_sizes disk r map inodes → HasGraph r.geometry.inodes under.log.first
-        → HasVolumeIn by_sizes count disk (inodes_of (whole disk r).active) inodes under.log.first
-    stands_by_sizes map count is loaded graph = record {
-      memory = subst (λ (n : ℕ). IsVolumeIn by_sizes n disk (inodes_of (whole disk r).active) inodes under.log.first) (sym is) (loaded.inodes.volume under.log.first under.log.holds);
-      volume = subst (λ (s : Sizes). HasGraph s.inodes under.log.first) (sym geometry) graph;
-    }
+  -- the records of its log are those that were saved
+  pub saves_within : (inodes : InodeFile) → inodes.geometry ≡ r.geometry → (changes : List Change) (log : HasLog r (whole disk r) nvram changes)
+      → SavesRecordsIn by_sizes inodes.geometry.inodes nvram saved changes log.first log.last
+  saves_within inodes geometry changes log = record {
+    are = log.log.are;
+    held = saved_log nvram saved r changes over log.log.log;
+    replays = subst (λ (s : Sizes). ReplaysWithin s.inodes log.first changes log.last) (sym geometry) log.replays;
+  }
+
+  -- and those that were saved and replayed are the records of its log
+  pub all_replayed : (inodes after : InodeFile) (count : ℕ) (log : LogEnd) → inodes.geometry ≡ r.geometry → count ≡ r.geometry.blocks
+      → (changes : List Change) (first last : Volume) → HoldsVolumeIn by_sizes r.geometry.inodes (tree_contents (whole disk r).active) first
+      → SavesRecordsIn by_sizes inodes.geometry.inodes nvram saved changes first last → StandsBehind log saved.generation nvram (bodies_of changes)
+      → HasVolumeIn by_sizes count disk (inodes_of (whole disk r).active) after (without_nameless last) → HasReplayed disk nvram r log after
+  all_replayed inodes after count log geometry is changes first last holds saves stands has = record {
+    changes = changes;
+    records = record {
+      first = first;
+      last = last;
+      holds = holds;
+      log = record {
+        are = saves.are;
+        log = subst (λ (n : ℕ). LogHolds n r.generation nvram (bodies_of changes)) over.half (subst (λ (n : ℕ). LogHolds saved.half n nvram (bodies_of changes)) over.generation saves.held);
+      };
+      replays = subst (λ (s : Sizes). ReplaysWithin s.inodes first changes last) geometry saves.replays;
+    };
+    ends = subst (λ (n : ℕ). StandsBehind log n nvram (bodies_of changes)) over.generation stands;
+    memory = subst (λ (n : ℕ). IsVolumeIn by_sizes n disk (inodes_of (whole disk r).active) after (without_nameless last)) is has.memory;
+  }
+
+-- such a tree is that of images without a fault
+pub faultless_tree : (r : Root) (w : Whole) (nvram : List ℕ) (changes : List Change) → IsFaultlessUnder r w nvram changes → IsFaultlessTree r w
+faultless_tree r w nvram changes under = record { active = under.active; within = under.within; readable = under.readable }
+
+-- what was found behind calls that change nothing was there before
+pub found_before : (old new : Meaning) (k : Parts) → IsSameStation old new → new.seen ≡ old.seen → HasNewest new k → HasNewest old k
+found_before old new k same seen found = record {
+  newest = subst (λ (i : Images). IsNewestAt k.slot k.root i.disk) seen found.newest;
+  fits = record { sectors = sym same.sectors ∙ found.fits.sectors; nvram = sym same.nvram_bytes ∙ found.fits.nvram };
+  read = subst (λ (i : Images). HasRead (blocks_of i.disk) i.nvram k.root k.log k.inodes) seen found.read;
+}
 
 -- ---- files without names
 

@@ -1,5 +1,5 @@
 -- What a call comes to on a system that serves a state.
-use Rattle.std.proofs.Common.{◌≡◌, ◌⊎◌, inl, inr, Bool, List, Result, Ok, Err, refl, ap, sym, subst}
+use Rattle.std.proofs.Common.{◌≡◌, ◌⊎◌, inl, inr, List, Result, Ok, Err, refl, ap, sym, subst}
 use Rattle.std.specs.Prelude.{IsErrOf, IsFalse, IsTrue, IfErr, IfOk, OnErr, OnOk, false}
 use Rattle.std.proofs.lemmas.Result.{IfOk-weaker}
 use Rattle.station.specs.Moments.{EachCut, HasGrown}
@@ -33,7 +33,7 @@ use Rattle.system.specs.Answering.{answer_to, answered_reply}
 use Rattle.system.specs.Counting.{Counted, call_error_failed}
 use Rattle.system.specs.Errors.{call_error}
 use Rattle.system.specs.Images.{OpensTo}
-use Rattle.system.specs.Serving.{AnswersAtOnce, Handles, IsAccepted, IsAtOnce, IsSureOn, TellsNoFault, TellsNoWant, ServesState, WouldCall}
+use Rattle.system.specs.Serving.{Answers, AnswersAtOnce, Handles, HandlesAt, IsAccepted, IsAtOnce, IsSureOn, TellsNoFault, TellsNoWant, ServesState, WouldCall}
 use Rattle.system.specs.Systems.{meaning_of}
 use Rattle.system.specs.declared.error.CallError.{CallError}
 use Rattle.system.specs.declared.error.CallError.TheVariants as call_errors
@@ -110,74 +110,87 @@ by_no old new call reply not_sure = (λ s served. inr (not_sure.0 s served), λ 
 abbrev pub AllOpen : {S : Type 0} {G : Ghosts S} → System S G → Type 0
 AllOpen f = (s : State) → ServesState f s → EachCut (meaning_of f) (OpensTo (meaning_of f) s)
 
-module _ {S : Type 0} {G : Ghosts S} {steps : Bool} (old new : System S G) (call : Command) (reads : ReadsBlocksOn G old.blocks new.blocks)
+module _ {S : Type 0} {G : Ghosts S} (old new : System S G) (call : Command) (reads : ReadsBlocksOn G old.blocks new.blocks)
     (log : new.log ≡ old.log) where
   -- a call that logs nothing was answered
-  pub answered_leading : (reply : Reply) → SureOrNot old new call reply → (meaning_of new).failed_reads ≡ (meaning_of old).failed_reads → IsReplyTo call reply → TellsNoFault reply
-      → AllOpen old → ((s : State) → (served : ServesState old s) → LeadsTo new s call reply served.lasts.replayed.changes) → Handles steps old new call (Ok reply)
-  answered_leading reply sure same kind own opens leads =
+  pub answered_anyway : (reply : Reply) → (meaning_of new).failed_reads ≡ (meaning_of old).failed_reads → IsReplyTo call reply → TellsNoFault reply → Handles old new call (Ok reply)
+  answered_anyway reply same kind own = record {
+    counted = all_read (meaning_of old) (meaning_of new) reads.below same;
+    no_fault = own;
+    kind = kind;
+    laid = reads.laid;
+    epoch = ap (λ (l : LogEnd). l.epoch) log;
+    runs = λ runs. subst (λ (l : LogEnd). IsFalse l.is_stopped) (sym log) runs;
+    stops = λ is. cc;
+    refused = λ errno is. reads.below.goes;
+    kept = tt;
+  }
+
+  pub answered_at : (reply : Reply) (s : State) (served : ServesState old s) → EachCut (meaning_of old) (OpensTo (meaning_of old) s)
+      → LeadsTo new s call reply served.lasts.replayed.changes → HandlesAt old new s served call (Ok reply)
+  answered_at reply s served opens leads =
       let m = meaning_of old in
       let n = meaning_of new in
       record {
-        counted = all_read m n reads.below same;
-        no_fault = own;
-        kind = kind;
-        asks = λ is. cc;
-        laid = reads.laid;
-        epoch = ap (λ (l : LogEnd). l.epoch) log;
-        runs = λ runs. subst (λ (l : LogEnd). IsFalse l.is_stopped) (sym log) runs;
-        stops = λ is. cc;
-        waits = λ _ _. ap (λ (l : LogEnd). l.end) log;
-        refused = λ errno is. reads.below.goes;
-        kept = tt;
-        serves = λ s served. tt;
-        done = λ s served. record {
-          after = (leads s served).after;
+        serves = tt;
+        done = record {
+          after = leads.after;
           need = nothing;
-          step = (leads s served).step;
+          step = leads.step;
           room = tt;
-          serves = (leads s served).serves;
-          logs = (leads s served).records;
-          leaves = weaker m n (OpensTo m s) (λ c. OpensTo m s c ⊎ OpensTo m (leads s served).after c) (leaves_unchanged m n (OpensTo m s) (opens s served) reads.below.goes) (λ c here. inl here);
+          serves = leads.serves;
+          logs = leads.records;
+          leaves = weaker m n (OpensTo m s) (λ c. OpensTo m s c ⊎ OpensTo m leads.after c) (leaves_unchanged m n (OpensTo m s) opens reads.below.goes) (λ c here. inl here);
         };
-        broken = λ s served is. cc;
-        sure = sure.0;
-        at_once = sure.1;
-        full = λ s served is. cc;
-        short = λ s served is. cc;
-        damaged = λ s served is. cc;
+        broken = λ is. cc;
+        full = λ is. cc;
+        short = λ is. cc;
+        damaged = λ is. cc;
       }
+
+  pub answered_leading : (reply : Reply) → SureOrNot old new call reply → (meaning_of new).failed_reads ≡ (meaning_of old).failed_reads → IsReplyTo call reply → TellsNoFault reply
+      → AllOpen old → ((s : State) → (served : ServesState old s) → LeadsTo new s call reply served.lasts.replayed.changes) → Answers old new call (Ok reply)
+  answered_leading reply sure same kind own opens leads = record {
+    handles = answered_anyway reply same kind own;
+    at = λ s served. answered_at reply s served (opens s served) (leads s served);
+    log = log;
+    sure = sure.0;
+    at_once = sure.1;
+  }
 
   -- a call that only reads was answered
   pub answered : ServesOn old new → (reply : Reply) → SureOrNot old new call reply → (meaning_of new).failed_reads ≡ (meaning_of old).failed_reads → IsReplyTo call reply → TellsNoFault reply
-      → AllOpen old → ((s : State) → ServesState old s → WouldCall s call reply s nothing) → Handles steps old new call (Ok reply)
+      → AllOpen old → ((s : State) → ServesState old s → WouldCall s call reply s nothing) → Answers old new call (Ok reply)
   answered stays reply sure same kind own opens told =
       answered_leading reply sure same kind own opens (λ s served. record { after = s; step = told s served; serves = (stays s served).0; records = (stays s served).1 })
 
   -- a call wasn't answered, because a read was refused
   pub unanswered_read : ServesOn old new → NotSure old call → (error : ReadError) (e : CallError) → e ≡ call_error error
       → (error ≡ read_errors.Device → HasGrown (meaning_of old).failed_reads (meaning_of new).failed_reads)
-      → ((s : State) → ServesState old s → error ≡ read_errors.Damaged → ⊥) → Handles steps old new call (Err e)
-  unanswered_read stays not_sure error e is fault damaged = subst (λ (x : CallError). Handles steps old new call (Err x)) (sym is) (record {
-    counted = counted error fault;
-    no_fault = tt;
-    kind = tt;
-    asks = λ is. absurd (never_due error is);
-    laid = reads.laid;
-    epoch = ap (λ (l : LogEnd). l.epoch) log;
-    runs = λ runs _. subst (λ (l : LogEnd). IsFalse l.is_stopped) (sym log) runs;
-    stops = λ bad. absurd ((told_by error).0 bad);
-    waits = λ _ _. ap (λ (l : LogEnd). l.end) log;
-    refused = λ errno is. cc;
-    kept = λ _. reads.below.goes;
-    serves = λ s served _. (stays s served).0;
-    done = λ s served. tt;
-    broken = λ s served bad. absurd ((told_by error).0 bad);
+      → ((s : State) → ServesState old s → error ≡ read_errors.Damaged → ⊥) → Answers old new call (Err e)
+  unanswered_read stays not_sure error e is fault damaged = subst (λ (x : CallError). Answers old new call (Err x)) (sym is) (record {
+    handles = record {
+      counted = counted error fault;
+      no_fault = tt;
+      kind = tt;
+      laid = reads.laid;
+      epoch = ap (λ (l : LogEnd). l.epoch) log;
+      runs = λ runs _. subst (λ (l : LogEnd). IsFalse l.is_stopped) (sym log) runs;
+      stops = λ bad. absurd ((told_by error).0 bad);
+      refused = λ errno is. cc;
+      kept = λ _. reads.below.goes;
+    };
+    at = λ s served. record {
+      serves = λ _. (stays s served).0;
+      done = tt;
+      broken = λ bad. absurd ((told_by error).0 bad);
+      full = λ bad. absurd ((told_by error).1 bad);
+      short = λ bad. absurd ((told_by error).2 bad);
+      damaged = λ bad. damaged s served ((told_by error).3 bad);
+    };
+    log = log;
     sure = not_sure.0;
     at_once = not_sure.1;
-    full = λ s served bad. absurd ((told_by error).1 bad);
-    short = λ s served bad. absurd ((told_by error).2 bad);
-    damaged = λ s served bad. damaged s served ((told_by error).3 bad);
   })
     where
       counted : (error : ReadError) → (error ≡ read_errors.Device → HasGrown (meaning_of old).failed_reads (meaning_of new).failed_reads)
@@ -185,11 +198,6 @@ module _ {S : Type 0} {G : Ghosts S} {steps : Bool} (old new : System S G) (call
       counted read_errors.NoMemory fault = perhaps_read (meaning_of old) (meaning_of new) reads.below
       counted read_errors.Device fault = not_read (meaning_of old) (meaning_of new) reads.below (fault refl)
       counted read_errors.Damaged fault = perhaps_read (meaning_of old) (meaning_of new) reads.below
-
-      never_due : (error : ReadError) → let r : Result Reply CallError = Err (call_error error) in IsErrOf r call_errors.StepDue → ⊥
-      never_due read_errors.NoMemory is = cc
-      never_due read_errors.Device is = cc
-      never_due read_errors.Damaged is = cc
 
       told_by : (error : ReadError) → let r : Result Reply CallError = Err (call_error error) in
           (IsErrOf r call_errors.NotWritten → ⊥) × (IsErrOf r call_errors.LogFull → ⊥) × (IsErrOf r call_errors.NoRoom → ⊥) × (IsErrOf r call_errors.Damaged → error ≡ read_errors.Damaged)
@@ -204,13 +212,13 @@ module _ {S : Type 0} {G : Ghosts S} {steps : Bool} (old new : System S G) (call
       → IfOk (told {T = T} (Err f)) (λ r. IfErr r (λ e. IsTrue (is_path_refusal e))) → ServesOn old new
       → (Answer : (s : State) → ServesState old s → Result T Errno → Type 0) → ((s : State) (served : ServesState old s) → IfOk (told (Err f)) (Answer s served))
       → ((s : State) (served : ServesState old s) (errno : Errno) → Answer s served (Err errno) → WouldCall s call (Refused errno) s nothing)
-      → ((s : State) → ServesState old s → IsErrOf (told {T = T} (Err f)) read_errors.Damaged → ⊥) → Handles steps old new call q
+      → ((s : State) → ServesState old s → IsErrOf (told {T = T} (Err f)) read_errors.Damaged → ⊥) → Answers old new call q
   failed_by {T} (failures.Refused errno) q is not_sure opens counted device own stays Answer answers refused damaged =
-      subst (Handles steps old new call) (sym is)
+      subst (Answers old new call) (sym is)
       (answered stays (Refused errno) (by_no old new call (Refused errno) not_sure) counted tt (own_refusal {T = T} (Err errno) errno refl own) opens
       (λ s served. refused s served errno (answers s served)))
   failed_by (failures.Read e) q is not_sure opens counted device own stays Answer answers refused damaged =
-      subst (Handles steps old new call) (sym is) (unanswered_read stays not_sure e (call_error e) refl device (λ s served bad. damaged s served (ap (λ x. Err x) bad)))
+      subst (Answers old new call) (sym is) (unanswered_read stays not_sure e (call_error e) refl device (λ s served bad. damaged s served (ap (λ x. Err x) bad)))
 
   -- a call that logs nothing came to this
   pub came_to : (r : Result Reply Failure) (q : Result Reply CallError) → q ≡ answer_to r → NotSure old call → AllOpen old
@@ -218,11 +226,11 @@ module _ {S : Type 0} {G : Ghosts S} {steps : Bool} (old new : System S G) (call
       → IfErr (told r) (λ e. IsFault e → HasGrown (meaning_of old).failed_reads (meaning_of new).failed_reads)
       → IfOk (told r) (λ x. IfErr x (λ e. IsTrue (is_path_refusal e))) → IfOk r (IsReplyTo call) → IfOk r TellsNoFault → OnErr r (ServesOn old new)
       → ((s : State) → (served : ServesState old s) → IfOk (told r) (λ x. LeadsTo new s call (answered_reply x) served.lasts.replayed.changes))
-      → ((s : State) → ServesState old s → IsErrOf (told r) read_errors.Damaged → ⊥) → Handles steps old new call q
+      → ((s : State) → ServesState old s → IsErrOf (told r) read_errors.Damaged → ⊥) → Answers old new call q
   came_to (Ok reply) q is not_sure opens counted device own kind no_fault stays leads damaged =
-      subst (Handles steps old new call) (sym is) (answered_leading reply (by_no old new call reply not_sure) counted kind no_fault opens leads)
+      subst (Answers old new call) (sym is) (answered_leading reply (by_no old new call reply not_sure) counted kind no_fault opens leads)
   came_to (Err (failures.Refused errno)) q is not_sure opens counted device own kind no_fault stays leads damaged =
-      subst (Handles steps old new call) (sym is)
+      subst (Answers old new call) (sym is)
       (answered_leading (Refused errno) (by_no old new call (Refused errno) not_sure) counted tt (own_refusal {T = Reply} (Err errno) errno refl own) opens leads)
   came_to (Err (failures.Read e)) q is not_sure opens counted device own kind no_fault stays leads damaged =
       failed_by {T = Reply} (failures.Read e) q is not_sure opens counted device own stays (λ s served r. ⊥) (λ s served. tt) (λ s served errno is. absurd is) damaged
@@ -233,7 +241,7 @@ module _ {S : Type 0} {G : Ghosts S} {steps : Bool} (old new : System S G) (call
       → IfErr (told r) (λ e. IsFault e → HasGrown (meaning_of old).failed_reads (meaning_of new).failed_reads)
       → IfOk (told r) (λ x. IfErr x (λ e. IsTrue (is_path_refusal e))) → IfOk r (IsReplyTo call) → IfOk r TellsNoFault → ServesOn old new
       → ((s : State) → ServesState old s → IfOk (told r) (λ x. WouldCall s call (answered_reply x) s nothing))
-      → ((s : State) → ServesState old s → IsErrOf (told r) read_errors.Damaged → ⊥) → Handles steps old new call q
+      → ((s : State) → ServesState old s → IsErrOf (told r) read_errors.Damaged → ⊥) → Answers old new call q
   looked_up r q is not_sure opens counted device own kind no_fault stays steps damaged =
       came_to r q is not_sure opens counted device own kind no_fault (on_err r)
       (λ s served. IfOk-weaker (told r) _ _ (λ x step. record { after = s; step = step; serves = (stays s served).0; records = (stays s served).1 }) (steps s served)) damaged

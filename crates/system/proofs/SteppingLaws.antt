@@ -9,6 +9,7 @@ use Rattle.station.proofs.Moments.{goes_on, leaves_unchanged}
 use Rattle.layout.specs.Places.{blocks_of}
 use Rattle.model.specs.States.{State}
 use Rattle.model.specs.Trees.{Description}
+use Rattle.model.specs.Volumes.{Volume}
 use Rattle.blockmap.specs.Changes.{SettlesAs}
 use Rattle.blockmap.specs.Maps.{entry_at}
 use Rattle.images.specs.SnapshotSteps.{unchanged}
@@ -21,7 +22,7 @@ use Rattle.system.specs.Counting.{AgesBy, LogsNothing}
 use Rattle.system.specs.Errors.{IsNotWritten}
 use Rattle.system.specs.Images.{Base, OpensTo}
 use Rattle.system.specs.Laws.{CutLaws, RootLaws}
-use Rattle.system.specs.Slicing.{CarriesOut, Finishes, Lays, Steps, StepsOn}
+use Rattle.system.specs.Slicing.{CarriesOut, Finishes, Lays, ServesBy, ServesRestBy, StaysReady, Steps, StepsOn}
 use Rattle.inofile.specs.declared.inode_file.InodeFile.{InodeFile}
 use Rattle.system.specs.Systems.{Parts, HasState, HasStateBy, IsComing, IsServing, IsServingRest, ServesRest, disk_of, meaning_of, system_parts}
 use Rattle.system.specs.UnderWay.{WayLaws}
@@ -79,7 +80,7 @@ module _ {S : Type 0} {G : Ghosts S} (laws : CutLaws) (old new : System S G) (no
   lays_on lays seen half stays disk ages runs laid = record {
     counted = perhaps_read start end lays.reads;
     unlogged = nothing_logged start end lays.reads.goes;
-    goes_on = λ table s serves. record { leaves = leaves_unchanged start end (OpensTo start s) (all_open serves old.sectors old.half laws) lays.reads.goes; stays = stays table s serves };
+    leaves = λ table s serves. leaves_unchanged start end (OpensTo start s) (all_open serves old.sectors old.half laws) lays.reads.goes;
     rest = λ table s serves.
         let now = stays table s serves in
         record {
@@ -167,55 +168,82 @@ module _ {S : Type 0} {G : Ghosts S} (laws : CutLaws) (roots : RootLaws) (ways :
     goes_on = λ table s serves.
         let coming = coming_of serves under in
         let done = subst (λ (l : Option Laid). IfSome l (Ends r)) coming.is ends in
+        let by = stays r table s serves coming done (shows (blocks_of (disk_of old)) serves.shows) in
         record {
           leaves = end_leaves laws ways serves old.sectors old.half coming n roots (here serves.honest) done.0;
-          stays = stays r table s serves coming done (shows (blocks_of (disk_of old)) serves.shows);
+          stays = only_serves r table s serves.running by;
+          by = by;
         };
   }
     where
+      only_serves : (r : Result (Unit {0}) PointError) (table : ℕ → Option Description) (s : State) (running : Volume) → OnOk r (ServesBy new table s running) → OnOk r (HasState new table s)
+      only_serves (Err e) table s running by = tt
+      only_serves (Ok u) table s running by = by.serves
+
       stays : (r : Result (Unit {0}) PointError) (table : ℕ → Option Description) (s : State) (serves : HasState old table s)
           (coming : IsComing m old.log old.blocks.laid old.root old.slot serves.first old.map serves.lasts old.pledged_then) → Ends r coming.point
-          → OnOk r (ShowsOver n new.blocks.buffers.kept new.blocks.laid (blocks_of (disk_of old))) → OnOk r (HasState new table s)
+          → OnOk r (ShowsOver n new.blocks.buffers.kept new.blocks.laid (blocks_of (disk_of old))) → OnOk r (ServesBy new table s serves.running)
       stays (Err e) table s serves coming done shown = tt
       stays (Ok u) table s serves coming done shown =
           let honest = writes.same.honest.0 serves.honest in
           let sizes = sized honest n.seen (now_seen honest) in
-          subst (λ (k : Parts). IsServing n k table s) (sym (parts ∙ (λ i. record (system_parts old) { kept = new.blocks.buffers.kept; laid = None; map = new.map; pledged = pledged i })))
-          (ended laws ways serves old.sectors old.half coming n roots (here serves.honest) writes.same honest (done.1 honest n.seen (now_seen honest)) (λ k lt. sizes.sector k lt) done.2
-          new.blocks.buffers.kept (subst (λ (l : Option Laid). ShowsOver n new.blocks.buffers.kept l (blocks_of (disk_of old))) none shown) new.map map)
+          let it = subst (λ (k : Parts). (now : IsServing n k table s) × (now.running ≡ serves.running))
+          (sym (parts ∙ (λ i. record (system_parts old) { kept = new.blocks.buffers.kept; laid = None; map = new.map; pledged = pledged i }))) (
+            ended laws ways serves old.sectors old.half coming n roots (here serves.honest) writes.same honest (done.1 honest n.seen (now_seen honest)) (λ k lt. sizes.sector k lt) done.2
+                new.blocks.buffers.kept (subst (λ (l : Option Laid). ShowsOver n new.blocks.buffers.kept l (blocks_of (disk_of old))) none shown) new.map map,
+            refl,
+          ) in
+          record { serves = it.0; volume = it.1 }
+
+only_rest : {S : Type 0} {G : Ghosts S} (f : System S G) (r : Result (Unit {0}) PointError) (table : ℕ → Option Description) (s : State) (before : List (List ℕ)) (running : Volume)
+    → OnOk r (ServesRestBy f table s before running) → OnOk r (ServesRest f table s before)
+only_rest f (Err e) table s before running by = tt
+only_rest f (Ok u) table s before running by = by.rest
 
 on_ok_any : {T E : Type 0} {A : Type 0} (r : Result T E) → A → OnOk r A
 on_ok_any (Ok x) a = a
 on_ok_any (Err e) a = tt
 
 -- few blocks were left, and the point was ended
-pub last_slice : {S : Type 0} {G : Ghosts S} (ways : WayLaws) (old new : System S G) → ((meaning_of new).is_honest → MayLeave (meaning_of new) (meaning_of new).seen)
-    → (r : Result (Unit {0}) PointError) → old.blocks.laid ≢ None → unwritten old.blocks.laid ≤ SLICE_BLOCKS → Finishes old new r → Steps old new r
-last_slice {S} {G} ways old new seen r under few does =
-    let log : new.log ≡ old.log = ap (λ (k : Parts). k.log) does.parts in
-    record {
-      counted = wrote {T = Unit {0}} (meaning_of old) (meaning_of new) r does.writes does.why;
-      unlogged = does.unlogged;
-      goes_on = does.goes_on;
-      rest = rests r does;
-      epoch = same_age old.log.epoch new.log.epoch (ap (λ (l : LogEnd). l.epoch) log);
-      runs = ap (λ (l : LogEnd). l.is_stopped) log;
-      same = λ _. (log, ap (λ (k : Parts). k.root) does.parts);
-      laid = on_ok_any r (subst (StepsOn old.blocks.laid) (sym (ap (λ (k : Parts). k.laid) does.parts)) (ends_within old.blocks.laid under few));
-    }
-  where
-    rests : (r : Result (Unit {0}) PointError) → Finishes old new r → (table : ℕ → Option Description) (s : State) (serves : HasState old table s)
-        → OnOk r (ServesRest new table s (all_bodies serves.lasts.bodies))
-    rests (Err e) does table s serves = tt
-    rests (Ok u) does table s serves =
-        let now = (does.goes_on table s serves).stays in
-        let coming = coming_of serves under in
-        let base = (at_rest now (ap (λ (k : Parts). k.laid) does.parts)).base in
-        record {
+module _ {S : Type 0} {G : Ghosts S} (ways : WayLaws) (old new : System S G) (seen : (meaning_of new).is_honest → MayLeave (meaning_of new) (meaning_of new).seen)
+    (r : Result (Unit {0}) PointError) (under : old.blocks.laid ≢ None) (does : Finishes old new r) where
+  rests_by : (r : Result (Unit {0}) PointError) → Finishes old new r → (table : ℕ → Option Description) (s : State) (serves : HasState old table s)
+      → OnOk r (ServesRestBy new table s (all_bodies serves.lasts.bodies) serves.running)
+  rests_by (Err e) does table s serves = tt
+  rests_by (Ok u) does table s serves =
+      let by = (does.goes_on table s serves).by in
+      let now = by.serves in
+      let coming = coming_of serves under in
+      let base = (at_rest now (ap (λ (k : Parts). k.laid) does.parts)).base in
+      record {
+        rest = record {
           serves = now;
           left = next_rest old new serves now does.unlogged seen (ap (λ (k : Parts). k.log.half) does.parts) ways coming.way.epoch
               (ap (λ (b : Base). b.root.generation) base ∙ ap (λ (k : Parts). k.root.generation) does.parts ∙ coming.way.planned.covers);
-        }
+        };
+        volume = by.volume;
+      }
+
+  pub last_slice : unwritten old.blocks.laid ≤ SLICE_BLOCKS → Steps old new r
+  last_slice few =
+      let log : new.log ≡ old.log = ap (λ (k : Parts). k.log) does.parts in
+      record {
+        counted = wrote {T = Unit {0}} (meaning_of old) (meaning_of new) r does.writes does.why;
+        unlogged = does.unlogged;
+        leaves = λ table s serves. (does.goes_on table s serves).leaves;
+        rest = λ table s serves. only_rest new r table s (all_bodies serves.lasts.bodies) serves.running (rests_by r does table s serves);
+        epoch = same_age old.log.epoch new.log.epoch (ap (λ (l : LogEnd). l.epoch) log);
+        runs = ap (λ (l : LogEnd). l.is_stopped) log;
+        same = λ _. (log, ap (λ (k : Parts). k.root) does.parts);
+        laid = on_ok_any r (subst (StepsOn old.blocks.laid) (sym (ap (λ (k : Parts). k.laid) does.parts)) (ends_within old.blocks.laid under few));
+      }
+
+  pub last_ready : StaysReady old new r
+  last_ready = record {
+    parts = does.parts ∙ (λ i. record (system_parts old) { kept = new.blocks.buffers.kept; laid = sym (ap (λ (k : Parts). k.laid) does.parts) i; map = new.map; pledged = new.pledged });
+    shows = does.shows;
+    rest = rests_by r does;
+  }
 
 -- a slice of it was written
 module _ {S : Type 0} {G : Ghosts S} (laws : CutLaws) (ways : WayLaws) (old new : System S G) (under : old.blocks.laid ≢ None)
@@ -234,51 +262,59 @@ module _ {S : Type 0} {G : Ghosts S} (laws : CutLaws) (ways : WayLaws) (old new 
   slice_silent None some goes = absurd (some refl)
   slice_silent (Some laid) some goes = slice_unlogged before behind laid.plan.blocks goes
 
-  pub slice_step : (r : Result (Unit {0}) PointError) → OnlyWrites {T = Unit {0}} {E = PointError} IsNotWritten before behind r → IfErr r IsNotWritten
-      → ((disk : ℕ → List ℕ) → ShowsOver before old.blocks.buffers.kept old.blocks.laid disk → OnOk r (ShowsOver behind new.blocks.buffers.kept new.blocks.laid disk))
-      → OnOk r (IfSome old.blocks.laid Slice) → Steps old new r
-  slice_step r writes why shows slice =
-      let log : new.log ≡ old.log = ap (λ (k : Parts). k.log) parts in
-      record {
-        counted = wrote {T = Unit {0}} before behind r writes why;
-        unlogged = slice_silent old.blocks.laid under goes;
-        goes_on = λ table s serves.
-            let coming = coming_of serves under in
-            let went = subst (λ (l : Option Laid). IfSome l (λ l. Goes (StaysOutside l.plan.blocks) before behind)) coming.is goes in
-            record {
-              leaves = slice_leaves laws ways serves old.sectors old.half coming behind went;
-              stays = only_serves r table s serves (rests r table s serves coming went slice (shows (blocks_of (disk_of old)) serves.shows));
-            };
-        rest = λ table s serves.
-            let coming = coming_of serves under in
-            rests r table s serves coming (subst (λ (l : Option Laid). IfSome l (λ l. Goes (StaysOutside l.plan.blocks) before behind)) coming.is goes) slice
-            (shows (blocks_of (disk_of old)) serves.shows);
-        epoch = same_age old.log.epoch new.log.epoch (ap (λ (l : LogEnd). l.epoch) log);
-        runs = ap (λ (l : LogEnd). l.is_stopped) log;
-        same = λ _. (log, ap (λ (k : Parts). k.root) parts);
-        laid = steps r slice;
-      }
-    where
-      steps : (r : Result (Unit {0}) PointError) → OnOk r (IfSome old.blocks.laid Slice) → OnOk r (StepsOn old.blocks.laid new.blocks.laid)
-      steps (Ok u) slice = sliced_so old.blocks.laid new.blocks.laid under slice
-      steps (Err e) slice = tt
+  module _ (r : Result (Unit {0}) PointError) (shows : (disk : ℕ → List ℕ) → ShowsOver before old.blocks.buffers.kept old.blocks.laid disk → OnOk r (ShowsOver behind new.blocks.buffers.kept new.blocks.laid disk))
+      (slice : OnOk r (IfSome old.blocks.laid Slice)) where
+    went : {table : ℕ → Option Description} {s : State} (serves : HasState old table s) → Goes (StaysOutside (coming_of serves under).point.plan.blocks) before behind
+    went serves = subst (λ (l : Option Laid). IfSome l (λ l. Goes (StaysOutside l.plan.blocks) before behind)) (coming_of serves under).is goes
 
-      only_serves : (r : Result (Unit {0}) PointError) (table : ℕ → Option Description) (s : State) (serves : HasState old table s)
-          → OnOk r (ServesRest new table s (all_bodies serves.lasts.bodies)) → OnOk r (HasState new table s)
-      only_serves (Err e) table s serves rest = tt
-      only_serves (Ok u) table s serves rest = rest.serves
+    slice_rests : (table : ℕ → Option Description) (s : State) (serves : HasState old table s) → OnOk r (ServesRestBy new table s (all_bodies serves.lasts.bodies) serves.running)
+    slice_rests table s serves = rests r slice (shows (blocks_of (disk_of old)) serves.shows)
+      where
+        rests : (r : Result (Unit {0}) PointError) → OnOk r (IfSome old.blocks.laid Slice) → OnOk r (ShowsOver behind new.blocks.buffers.kept new.blocks.laid (blocks_of (disk_of old)))
+            → OnOk r (ServesRestBy new table s (all_bodies serves.lasts.bodies) serves.running)
+        rests (Err e) slice shown = tt
+        rests (Ok u) slice shown =
+            let coming = coming_of serves under in
+            let goes_out = went serves in
+            let one = subst (λ (l : Option Laid). IfSome l Slice) coming.is slice in
+            let less = one.3 in
+            let it = subst (λ (k : Parts). (rest : IsServingRest behind k table s (all_bodies serves.lasts.bodies)) × (rest.serves.running ≡ serves.running))
+            (sym (parts ∙ (λ i. record (system_parts old) { kept = new.blocks.buffers.kept; laid = one.1 i }))) (
+              record {
+                serves = sliced laws ways serves old.sectors old.half coming behind goes_out (coming.point.plan.written + SLICE_BLOCKS) (omega (arith, less)) one.0 one.2 (goes_out serves.honest).honest
+                    new.blocks.buffers.kept (subst (λ (l : Option Laid). ShowsOver behind new.blocks.buffers.kept l (blocks_of (disk_of old))) one.1 shown);
+                left = ([], refl);
+              },
+              refl,
+            ) in
+            record { rest = it.0; volume = it.1 }
 
-      rests : (r : Result (Unit {0}) PointError) (table : ℕ → Option Description) (s : State) (serves : HasState old table s)
-          (coming : IsComing before old.log old.blocks.laid old.root old.slot serves.first old.map serves.lasts old.pledged_then) → Goes (StaysOutside coming.point.plan.blocks) before behind
-          → OnOk r (IfSome old.blocks.laid Slice) → OnOk r (ShowsOver behind new.blocks.buffers.kept new.blocks.laid (blocks_of (disk_of old)))
-          → OnOk r (ServesRest new table s (all_bodies serves.lasts.bodies))
-      rests (Err e) table s serves coming went slice shown = tt
-      rests (Ok u) table s serves coming went slice shown =
-          let one = subst (λ (l : Option Laid). IfSome l Slice) coming.is slice in
-          let less = one.3 in
-          subst (λ (k : Parts). IsServingRest behind k table s (all_bodies serves.lasts.bodies)) (sym (parts ∙ (λ i. record (system_parts old) { kept = new.blocks.buffers.kept; laid = one.1 i })))
-          (record {
-            serves = sliced laws ways serves old.sectors old.half coming behind went (coming.point.plan.written + SLICE_BLOCKS) (omega (arith, less)) one.0 one.2 (went serves.honest).honest
-                new.blocks.buffers.kept (subst (λ (l : Option Laid). ShowsOver behind new.blocks.buffers.kept l (blocks_of (disk_of old))) one.1 shown);
-            left = ([], refl);
-          })
+    pub slice_step : OnlyWrites {T = Unit {0}} {E = PointError} IsNotWritten before behind r → IfErr r IsNotWritten → Steps old new r
+    slice_step writes why =
+        let log : new.log ≡ old.log = ap (λ (k : Parts). k.log) parts in
+        record {
+          counted = wrote {T = Unit {0}} before behind r writes why;
+          unlogged = slice_silent old.blocks.laid under goes;
+          leaves = λ table s serves. slice_leaves laws ways serves old.sectors old.half (coming_of serves under) behind (went serves);
+          rest = λ table s serves. only_rest new r table s (all_bodies serves.lasts.bodies) serves.running (slice_rests table s serves);
+          epoch = same_age old.log.epoch new.log.epoch (ap (λ (l : LogEnd). l.epoch) log);
+          runs = ap (λ (l : LogEnd). l.is_stopped) log;
+          same = λ _. (log, ap (λ (k : Parts). k.root) parts);
+          laid = steps r slice;
+        }
+      where
+        steps : (r : Result (Unit {0}) PointError) → OnOk r (IfSome old.blocks.laid Slice) → OnOk r (StepsOn old.blocks.laid new.blocks.laid)
+        steps (Ok u) slice = sliced_so old.blocks.laid new.blocks.laid under slice
+        steps (Err e) slice = tt
+
+    pub slice_ready : StaysReady old new r
+    slice_ready = record {
+      parts = parts ∙ (λ i. record (system_parts old) {
+        kept = new.blocks.buffers.kept;
+        laid = new.blocks.laid;
+        map = sym (ap (λ (k : Parts). k.map) parts) i;
+        pledged = sym (ap (λ (k : Parts). k.pledged) parts) i;
+      });
+      shows = shows;
+      rest = slice_rests;
+    }

@@ -42,7 +42,6 @@ call_error_failed had_stopped call.NotRead = a_read
 call_error_failed had_stopped call.Damaged = perhaps_reads
 call_error_failed had_stopped call.NoRoom = no_call
 call_error_failed had_stopped call.LogFull = no_call
-call_error_failed had_stopped call.StepDue = no_call
 call_error_failed had_stopped call.NotWritten = if had_stopped then perhaps_any else a_write
 
 -- and its answer: where there is one, nothing failed

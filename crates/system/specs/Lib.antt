@@ -18,6 +18,7 @@ pub mod Room
 pub mod Changing
 pub mod Answering
 pub mod OpenFiles
+pub mod Preparing
 pub mod Settling
 pub mod Restoring
 pub mod Slicing

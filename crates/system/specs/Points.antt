@@ -8,7 +8,7 @@ use Rattle.model.specs.Volumes.{IsMounted, IsVolume, Volume}
 use Rattle.descriptors.specs.Fits.{FitsVolume}
 use Rattle.descriptors.specs.declared.table.Descriptors.{Descriptors}
 use Rattle.images.specs.Contents.{HoldsVolume, tree_contents}
-use Rattle.images.specs.Roots.{whole}
+use Rattle.images.specs.Roots.{slot, whole}
 use Rattle.images.specs.SnapshotSteps.{SnapshotStep, unchanged, taken, deleted, restored, CanStep, kept_after}
 use Rattle.inofile.specs.Inodes.{IsChanged}
 use Rattle.inofile.specs.Volumes.{IsVolumeOf}
@@ -24,6 +24,7 @@ use Rattle.model.specs.Paths.{Name}
 use Rattle.model.specs.States.{State, with_snapshots}
 use Rattle.model.specs.Trees.{Description, Tree}
 use Rattle.layout.specs.Places.{Blocks, blocks_of}
+use Rattle.layout.specs.declared.pointer.Pointer.TheVariants.{Block}
 use Rattle.layout.specs.declared.root.Root.{Root}
 use Rattle.system.specs.Counting.{Counted, IsNoGeneration, LogsNothing, point_failed}
 use Rattle.system.specs.Errors.{IsRefused}
@@ -101,6 +102,16 @@ TurnsTo change memory base v f table s serves t =
 abbrev pub StaysAt : {S : Type 0} {G : Ghosts S} → (f : System S G) → (table : ℕ → Option Description) (s : State)
     → HasState f table s → State → Type 0
 StaysAt f table s serves t = t ≡ s
+
+-- From one root to a later one the slots stay, and the root blocks of their snapshots.
+pub record KeepsSlotsOn (root : Root) (disk : Blocks) (new : Root) (after : Blocks) : Type 0 where
+  pub slots : new.snapshots ≡ root.snapshots
+  pub heads : (k block : ℕ) → slot root k ≡ Block block → after block ≡ disk block
+  pub later : root.generation ≤ new.generation
+
+-- so they do from one system to another
+abbrev pub KeepsSlots : {S : Type 0} {G : Ghosts S} → System S G → System S G → Type 0
+KeepsSlots old new = KeepsSlotsOn old.root (blocks_of (disk_of old)) new.root (blocks_of (disk_of new))
 
 -- What a consistency point does to a system of this meaning and this log, of which a state is served so, and behind which it serves such a
 -- state; over a disk with room it is never refused for space.

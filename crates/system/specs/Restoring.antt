@@ -1,5 +1,5 @@
 -- Making the tree that of a snapshot.
-use Rattle.std.specs.Prelude.{ℕ, ◌≡◌, ◌*◌, ◌≤◌, Bool, true, false}
+use Rattle.std.specs.Prelude.{ℕ, ◌≡◌, ◌*◌, ◌≤◌}
 use Rattle.station.specs.declared.station.Station.{Ghosts}
 use Rattle.layout.specs.Places.{Blocks, blocks_of}
 use Rattle.layout.specs.SnapRoot.{Snapshot}
@@ -15,7 +15,6 @@ use Rattle.inofile.specs.Room.{memory_room}
 use Rattle.inofile.specs.Volumes.{IsVolumeOf}
 use Rattle.inofile.specs.declared.inode_file.InodeFile.{InodeFile}
 use Rattle.loading.specs.Images.{inodes_of}
-use Rattle.system.specs.Room.{HasRoomBesides}
 use Rattle.system.specs.Systems.{disk_of}
 use Rattle.system.specs.declared.system.System.{System}
 
@@ -53,15 +52,3 @@ pub record KeepsNamelessOn (disk : Blocks) (r : Root) (name : Name) (nameless : 
 -- so does the image of a system
 abbrev pub KeepsNameless : {S : Type 0} {G : Ghosts S} → System S G → Name → ℕ → Type 0
 KeepsNameless f name nameless = KeepsNamelessOn (blocks_of (disk_of f)) f.root name nameless
-
--- the disk has room to make the tree that of the snapshot of this name
-abbrev pub HasRoomToRestore : {S : Type 0} {G : Ghosts S} → System S G → Name → Type 0
-HasRoomToRestore f name = (nameless : ℕ) → KeepsNameless f name nameless → HasRoomBesides f nameless
-
--- so it was told whether there is room for what a disk keeps under the snapshot of this name, where there is for these numbers
-abbrev pub TellsRoomOn : Blocks → Root → Name → (ℕ → Type 0) → Bool → Type 0
-TellsRoomOn disk r name HasRoom true = (nameless : ℕ) → KeepsNamelessOn disk r name nameless → HasRoom nameless
-TellsRoomOn disk r name HasRoom false = (nameless : ℕ) × KeepsNamelessOn disk r name nameless × (HasRoom nameless → ⊥)
-
-abbrev pub TellsRoomToRestore : {S : Type 0} {G : Ghosts S} → System S G → Name → Bool → Type 0
-TellsRoomToRestore f name has_room = TellsRoomOn (blocks_of (disk_of f)) f.root name (HasRoomBesides f) has_room

@@ -1,5 +1,5 @@
 -- What calls do to a system.
-use Rattle.std.specs.Prelude.{◌≡◌, ◌⊎◌, ◌+◌, ◌/◌, ◌<◌, ◌≢◌, Bool, ◌∷◌, ◌++◌, List, [], IsFalse, IsTrue, Result, Ok, IfOk, IfErr, IsErrOf, MatchResult, None}
+use Rattle.std.specs.Prelude.{◌≡◌, ◌⊎◌, ◌+◌, ◌/◌, ◌<◌, ◌≢◌, ◌∷◌, ◌++◌, List, [], IsFalse, IsTrue, Result, Ok, IfOk, IfErr, IsErrOf, MatchResult, None}
 use Rattle.station.specs.Images.{Unchanged}
 use Rattle.station.specs.Moments.{Meaning, Goes, LeavesOnly}
 use Rattle.station.specs.declared.station.Station.{Ghosts}
@@ -26,7 +26,7 @@ use Rattle.system.specs.Images.{OpensTo}
 use Rattle.system.specs.Room.{HasRoomForNeed, HasRoomForWork}
 use Rattle.system.specs.Systems.{HasState, IsCovered, meaning_of}
 use Rattle.system.specs.declared.error.CallError.{CallError}
-use Rattle.system.specs.declared.error.CallError.TheVariants.{Damaged, LogFull, NoRoom, NotWritten, StepDue}
+use Rattle.system.specs.declared.error.CallError.TheVariants.{Damaged, LogFull, NoRoom, NotWritten}
 use Rattle.system.specs.declared.system.System.{System}
 
 -- a system serves a state, with the descriptors that this has
@@ -41,13 +41,6 @@ IsCall (command.SnapTake name) = ⊥
 IsCall (command.SnapDelete name) = ⊥
 IsCall (command.SnapRestore name) = ⊥
 IsCall call = Unit {0}
-
--- the command is a call on descriptors: it opens one, or names one that is open
-abbrev pub IsOpenFileCall : Command → Type 0
-IsOpenFileCall (command.Path call) = ⊥
-IsOpenFileCall command.SnapList = ⊥
-IsOpenFileCall (command.Within name call) = ⊥
-IsOpenFileCall call = IsCall call
 
 -- The command takes no memory and calls no device, whatever the images hold: `lseek`, `fsync`, `df`, and `close` but of a file that has no
 -- link.
@@ -155,51 +148,41 @@ pub record IsPlanDue {S : Type 0} {G : Ghosts S} (f : System S G) : Type 0 where
   pub epoch : f.log.epoch ≡ f.root.generation + 1
   pub late : f.log.half < next_of f.log.end + f.log.half / 16
 
--- a record waits for a step: a point is under way, or is to be planned
-abbrev pub IsStepDue : {S : Type 0} {G : Ghosts S} → System S G → Type 0
-IsStepDue f = (f.blocks.laid ≢ None) ⊎ IsPlanDue f
-
 -- a system serves a state that another one served, by the same records
 abbrev pub ServesAsBefore : {S : Type 0} {G : Ghosts S} → (old new : System S G) (s : State) → ServesState old s → Type 0
 ServesAsBefore old new s served = (serves : ServesState new s) × (serves.lasts.bodies ≡ served.lasts.bodies)
 
--- A call that would log a record comes to this where a step is due before that, and is asked for: nothing is done but looking.
-pub record AsksForStep {S : Type 0} {G : Ghosts S} (steps : Bool) (old new : System S G) (call : Command) : Type 0 where
-  pub asked : IsTrue steps
-  pub due : IsStepDue new
-  pub log : new.log ≡ old.log
-  pub root : new.root ≡ old.root
-  pub changes : (s : State) → ServesState old s → WouldChange s call
-  pub kept : (s : State) (served : ServesState old s) → ServesAsBefore old new s served
-
--- What a call does to a system with no step of a consistency point, where it may ask for one or not. A sure one is answered, as is one that
--- takes nothing, whatever the images hold; and a refused one logs nothing; it moves the log's end by no step that is due, and stops the log where a write fails.
-pub record Handles {S : Type 0} {G : Ghosts S} (steps : Bool) (old new : System S G) (call : Command)
-    (result : Result Reply CallError) : Type 0 where
+-- What doing a call does to a system, whatever it serves, behind the step of a consistency point that came before it. A refused call
+-- changes nothing, and a write that fails stops the log.
+pub record Handles {S : Type 0} {G : Ghosts S} (old new : System S G) (call : Command) (result : Result Reply CallError) : Type 0 where
   pub counted : Counted (meaning_of old) (meaning_of new) (call_failed old.log.is_stopped result)
   pub no_fault : IfOk result TellsNoFault
   pub kind : IfOk result (IsReplyTo call)
-  pub asks : IsErrOf result StepDue → AsksForStep steps old new call
   pub laid : new.blocks.laid ≡ old.blocks.laid
   pub epoch : new.log.epoch ≡ old.log.epoch
   pub runs : IsFalse old.log.is_stopped → MatchResult result
       (λ _. IsFalse new.log.is_stopped) (λ e. e ≢ NotWritten → IsFalse new.log.is_stopped)
   pub stops : IsErrOf result NotWritten → IsTrue new.log.is_stopped
-  pub waits : IsTrue steps → old.blocks.laid ≢ None → new.log.end ≡ old.log.end
   pub refused : (errno : Errno) → result ≡ Ok (Refused errno)
       → Goes Unchanged (meaning_of old) (meaning_of new)
   pub kept : IfErr result (λ e. e ≢ NotWritten → Goes Unchanged (meaning_of old) (meaning_of new))
-  pub serves : (s : State) → ServesState old s
-      → IfErr result (λ e. e ≢ NotWritten → ServesState new s)
-  pub done : (s : State) → (served : ServesState old s)
-      → IfOk result (IsCalled old new s served call)
-  pub broken : (s : State) → ServesState old s → IsErrOf result NotWritten
-      → IsBrokenOff old new s call
+
+-- what it does at a state that the system serves
+pub record HandlesAt {S : Type 0} {G : Ghosts S} (old new : System S G) (s : State) (served : ServesState old s) (call : Command)
+    (result : Result Reply CallError) : Type 0 where
+  pub serves : IfErr result (λ e. e ≢ NotWritten → ServesState new s)
+  pub done : IfOk result (IsCalled old new s served call)
+  pub broken : IsErrOf result NotWritten → IsBrokenOff old new s call
+  pub full : IsErrOf result LogFull → WouldChange s call × (HasEmptyLog old → ⊥) × (HasEmptyLog new → ⊥)
+  pub short : IsErrOf result NoRoom
+      → LacksRoom new s call × (IsCovered old s.tree.descriptors s → IsCovered new s.tree.descriptors s)
+  pub damaged : IsErrOf result Damaged → ⊥
+
+-- What a call does to a system that logs nothing. A sure one is answered, as is one that takes nothing, whatever the images hold.
+pub record Answers {S : Type 0} {G : Ghosts S} (old new : System S G) (call : Command) (result : Result Reply CallError) : Type 0 where
+  pub handles : Handles old new call result
+  pub at : (s : State) (served : ServesState old s) → HandlesAt old new s served call result
+  pub log : new.log ≡ old.log
   pub sure : (s : State) → ServesState old s → MatchResult result
       (λ _. IsSureOn old new s call ⊎ ¬ IsSure s call) (λ _. ¬ IsSure s call)
   pub at_once : IsAtOnce old.files call → MatchResult result (AnswersAtOnce old new) (λ _. ⊥)
-  pub full : (s : State) → ServesState old s → IsErrOf result LogFull
-      → WouldChange s call × (HasEmptyLog old → ⊥) × (HasEmptyLog new → ⊥)
-  pub short : (s : State) → ServesState old s → IsErrOf result NoRoom
-      → LacksRoom new s call × (IsCovered old s.tree.descriptors s → IsCovered new s.tree.descriptors s)
-  pub damaged : (s : State) → ServesState old s → IsErrOf result Damaged → ⊥

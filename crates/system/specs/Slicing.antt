@@ -41,7 +41,7 @@ use Rattle.system.specs.Serving.{AnswersAtOnce, HasEmptyLog, IsAtOnce, IsBrokenO
 use Rattle.system.specs.Systems.{AreLeft, HasState, HasStateBy, IsCovered, ServesRest, disk_of, meaning_of, system_parts}
 use Rattle.system.specs.declared.error.CallError.{CallError}
 use Rattle.system.specs.declared.error.CallError.TheVariants as calls
-use Rattle.system.specs.declared.error.CallError.TheVariants.{LogFull, NoRoom, NotWritten, StepDue}
+use Rattle.system.specs.declared.error.CallError.TheVariants.{LogFull, NoRoom, NotWritten}
 use Rattle.system.specs.declared.error.PointError.{PointError}
 use Rattle.system.specs.declared.error.PointError.TheVariants.{NoGeneration, NotPlanned}
 use Rattle.system.specs.declared.slicing.TheConstants.{SLICE_BLOCKS}
@@ -112,11 +112,17 @@ pub record CarriesOut {S : Type 0} {G : Ghosts S} (old new : System S G) (result
   pub just : OnOk result (LeavesJust (meaning_of new) (meaning_of new).seen)
   pub map : SettlesAs (entry_at old.map.parts.items) old.map new.map
 
--- A state that a system serves stays, by the same running volume, also at a cut at any moment.
+-- a system serves a state that another one served, by the same running volume
+pub record ServesBy {S : Type 0} {G : Ghosts S} (f : System S G) (table : ℕ → Option Description) (s : State) (running : Volume) : Type 0 where
+  pub serves : HasState f table s
+  pub volume : serves.running ≡ running
+
+-- A state that a system serves stays, also at a cut at any moment.
 pub record GoesOn {S : Type 0} {G : Ghosts S} (old new : System S G) (result : Result (Unit {0}) PointError) (table : ℕ → Option Description) (s : State)
     (serves : HasState old table s) : Type 0 where
   pub leaves : LeavesOnly (meaning_of old) (meaning_of new) (OpensTo (meaning_of old) s)
   pub stays : OnOk result (HasState new table s)
+  pub by : OnOk result (ServesBy new table s serves.running)
 
 -- What ending the point under way does to a system: none is under way then, and where none was, nothing is done.
 pub record Finishes {S : Type 0} {G : Ghosts S} (old new : System S G) (result : Result (Unit {0}) PointError) : Type 0 where
@@ -161,13 +167,33 @@ step_failed (Err e) = a_write
 pub record Steps {S : Type 0} {G : Ghosts S} (old new : System S G) (result : Result (Unit {0}) PointError) : Type 0 where
   pub counted : Counted (meaning_of old) (meaning_of new) (step_failed result)
   pub unlogged : LogsNothing (meaning_of old) (meaning_of new)
-  pub goes_on : (table : ℕ → Option Description) (s : State) → (serves : HasState old table s) → GoesOn old new result table s serves
+  pub leaves : (table : ℕ → Option Description) (s : State) → HasState old table s → LeavesOnly (meaning_of old) (meaning_of new) (OpensTo (meaning_of old) s)
   pub rest : (table : ℕ → Option Description) (s : State) (serves : HasState old table s)
       → OnOk result (ServesRest new table s (all_bodies serves.lasts.bodies))
   pub epoch : AgesBy 1 old.log.epoch new.log.epoch
   pub runs : new.log.is_stopped ≡ old.log.is_stopped
   pub same : old.blocks.laid ≢ None → (new.log ≡ old.log) × (new.root ≡ old.root)
   pub laid : OnOk result (StepsOn old.blocks.laid new.blocks.laid)
+
+-- a system serves the rest of what another one served, by the same running volume
+pub record ServesRestBy {S : Type 0} {G : Ghosts S} (f : System S G) (table : ℕ → Option Description) (s : State) (before : List (List ℕ))
+    (running : Volume) : Type 0 where
+  pub rest : ServesRest f table s before
+  pub volume : rest.serves.running ≡ running
+
+-- What a slice leaves as it is: the open files, and memory, which stands for the same volume over blocks that read the same. So what is
+-- prepared can be done behind it.
+pub record StaysReady {S : Type 0} {G : Ghosts S} (old new : System S G) (result : Result (Unit {0}) PointError) : Type 0 where
+  pub parts : system_parts new ≡ record (system_parts old) {
+    kept = new.blocks.buffers.kept;
+    laid = new.blocks.laid;
+    map = new.map;
+    pledged = new.pledged;
+  }
+  pub shows : (disk : ℕ → List ℕ) → ShowsOver (meaning_of old) old.blocks.buffers.kept old.blocks.laid disk
+      → OnOk result (ShowsOver (meaning_of new) new.blocks.buffers.kept new.blocks.laid disk)
+  pub rest : (table : ℕ → Option Description) (s : State) (serves : HasState old table s)
+      → OnOk result (ServesRestBy new table s (all_bodies serves.lasts.bodies) serves.running)
 
 -- A call was done on a system that serves a state, behind a step of a consistency point if one was due, by which the newest root may have
 -- come to cover some of the records before.
@@ -186,7 +212,6 @@ pub record Fulfils {S : Type 0} {G : Ghosts S} (old new : System S G) (call : Co
   pub counted : Counted (meaning_of old) (meaning_of new) (beside_reads (call_failed old.log.is_stopped result))
   pub no_fault : IfOk result TellsNoFault
   pub kind : IfOk result (IsReplyTo call)
-  pub own : IsErrOf result StepDue → ⊥
   pub step : MatchResult result (λ _. MayStep old.blocks.laid new.blocks.laid)
       (λ e. e ≢ NotWritten → MayStep old.blocks.laid new.blocks.laid)
   pub comes : old.blocks.laid ≢ None → IfOk result (λ _. new.log.end ≢ old.log.end → StepsOn old.blocks.laid new.blocks.laid)

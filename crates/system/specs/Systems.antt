@@ -39,7 +39,8 @@ state_with inodes running table snapshots =
     record { inodes = inodes; tree = tree_of running table; snapshots = snapshots; mark = going }
 
 -- What a system has beside its station: blocks that it keeps clean in memory, the consistency point that is under way, the root that
--- memory stands on with the slot of that, objects and the block map in memory, the view of a snapshot, the log's end, what is pledged and what of it stays so
+-- memory stands on with the slot of that, objects and the block map in memory, the view of a snapshot, the log's end, what is pledged and
+-- what of it stays so
 -- behind the point, and the open files.
 pub record Parts : Type 0 where
   pub kept : Kept

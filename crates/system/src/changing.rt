@@ -1,73 +1,102 @@
-//! What calls by paths are to change.
+//! Calls that change something, served on a mounted system: each is prepared, and then done.
 
-ghost use Rattle.std.specs.Prelude.{IsFalse};
-ghost use Rattle.model.specs.Steps.{is_reading_call};
-ghost use Rattle.calls.specs.Preparing.{Prepares, PreparesAny};
-ghost use Rattle.system.specs.Changing.{CallComes, RecordComes, may_stay};
+ghost use Rattle.std.specs.Prelude.{◌≡◌, IsFalse, None};
+ghost use Rattle.layout.specs.Places.{blocks_of};
+ghost use Rattle.model.specs.declared.command.Command.{Command};
+ghost use Rattle.model.specs.Replies.{IsReplyTo};
+ghost use Rattle.model.specs.States.{State};
+ghost use Rattle.system.specs.Preparing.{CanCarryOut, IsPreparedAt, PreparesOn, only_looks};
+ghost use Rattle.system.specs.Serving.{Handles, HandlesAt, IsAccepted, ServesState};
+ghost use Rattle.system.specs.Slicing.{Fulfils};
+ghost use Rattle.system.specs.Systems.{disk_of, system_parts};
 
-use buffers::Blocks;
-use calls::Changing;
-use inofile::InodeFile;
-use model::PathCall;
+use crate::laws::{cuts_open, served_states_open};
+use crate::prepared_call::{PreparedCall, PreparedChange};
+use crate::preparing::prepare_call;
+use crate::serving::answer;
+use crate::{CallError, System};
+use model::{Command, Reply};
 use records::Failure;
-use std::alloc::Global;
+use station::Station;
 
-/// What a call is to change on the image in memory, as far as nothing of it is seen yet: prepares its record, or tells why the call
-/// is refused; None where it is answered and changes nothing. NoMemory; Device where a read failed; Damaged where a block on the
-/// way is outside its format.
-pub(crate) fn prepare<B: Blocks>(
-    alloc: Global,
-    inodes: &mut InodeFile,
-    blocks: &mut B,
-    call: &PathCall<'_>,
-) -> Result<Option<Changing>, Failure>
-    requires { IsFalse (is_reading_call call.now) }
-    ensures { PreparesAny B.Blocks blocks.old blocks.new inodes.old inodes.new
-        (CallComes call.now) result }
-{
-    match call {
-        PathCall::Rename { old, new } => {
-            calls::rename(alloc, inodes, blocks, old.as_bytes(), new.as_bytes())
-        }
-        PathCall::Truncate { path, size } => {
-            calls::truncate(alloc, inodes, blocks, path.as_bytes(), *size)
-        }
-        _ => {
-            let changing = prepare_record(alloc, inodes, blocks, call)?;
-            Ok(Some(changing))
+impl<S: Station> System<S> {
+    /// Serves a call that may log a record: prepares it, does the step of a consistency point that comes before its record, and then
+    /// the call. What is prepared stays so behind a slice, which leaves memory and what blocks read as.
+    pub(crate) fn change(&mut self, call: &Command<'_>) -> Result<Reply, CallError>
+        requires { IsFalse (only_looks call.now) }
+        ensures { Fulfils self.old self.new call.now result }
+    {
+        cuts_open();
+        match self.prepare(call) {
+            Ok(prepared) => {
+                if prepared.change.is_none() {
+                    return self.carry_out(prepared);
+                }
+                if self.blocks.is_under_way() {
+                    return match self.advance() {
+                        Ok(()) => self.carry_out(prepared),
+                        Err(_) => Err(CallError::NotWritten),
+                    };
+                }
+                if !self.is_plan_due() {
+                    return self.carry_out(prepared);
+                }
+                // Memory goes over to another root, so the call is prepared for that.
+                self.plan();
+                match self.prepare(call) {
+                    Ok(prepared) => self.carry_out(prepared),
+                    Err(failure) => answer(Err(failure)),
+                }
+            }
+            Err(failure) => answer(Err(failure)),
         }
     }
-}
 
-// The same of a call that has a record where it isn't refused.
-fn prepare_record<B: Blocks>(
-    alloc: Global,
-    inodes: &mut InodeFile,
-    blocks: &mut B,
-    call: &PathCall<'_>,
-) -> Result<Changing, Failure>
-    requires changes { IsFalse (is_reading_call call.now) }
-    requires changes_always { IsFalse (may_stay call.now) }
-    ensures { Prepares B.Blocks blocks.old blocks.new inodes.old inodes.new
-        (RecordComes call.now) result }
-{
-    match call {
-        PathCall::Mkdir { path, mode } => {
-            calls::make_directory(alloc, inodes, blocks, path.as_bytes(), *mode)
+    // Prepares a call.
+    fn prepare<'a>(&mut self, call: &'a Command<'_>) -> Result<PreparedCall<'a>, Failure>
+        requires { IsFalse (only_looks call.now) }
+        ensures { PreparesOn self.old self.new call.now result }
+    {
+        prepare_call(
+            self.alloc,
+            &mut self.inodes,
+            &mut self.blocks,
+            &self.files,
+            call,
+        )
+    }
+
+    // Does what is prepared for a call: logs its record, if it has one, and puts it in force; and then moves the table of open files.
+    fn carry_out(&mut self, prepared: PreparedCall<'_>) -> Result<Reply, CallError>
+        requires { CanCarryOut (system_parts self.old) prepared }
+        ensures frame { (call : Command) → IsReplyTo call prepared.entry.reply
+            → IsAccepted prepared.entry.reply
+            → Handles self.old self.new call result }
+        ensures told { (call : Command) (s : State) (served : ServesState self.old s)
+            → IsPreparedAt (system_parts self.old) (blocks_of (disk_of self.old)) served.running call
+            prepared.entry → HandlesAt self.old self.new s served call result }
+        ensures quiet { prepared.entry.change ≡ None → self.new.log ≡ self.old.log }
+    {
+        served_states_open(self);
+        let PreparedCall {
+            reply,
+            change,
+            table,
+        } = prepared;
+        match change {
+            Some(PreparedChange { record, prepared }) => {
+                match self.log(&record.record(), prepared) {
+                    Ok(()) => {
+                        table.put_into(&mut self.files);
+                        Ok(reply)
+                    }
+                    Err(error) => Err(error),
+                }
+            }
+            None => {
+                table.put_into(&mut self.files);
+                Ok(reply)
+            }
         }
-        PathCall::Symlink { text, path } => {
-            calls::symlink(alloc, inodes, blocks, text.as_bytes(), path.as_bytes())
-        }
-        PathCall::Link { old, new } => {
-            calls::link(alloc, inodes, blocks, old.as_bytes(), new.as_bytes())
-        }
-        PathCall::Unlink { path } => calls::unlink(alloc, inodes, blocks, path.as_bytes()),
-        PathCall::Rmdir { path } => {
-            calls::remove_directory(alloc, inodes, blocks, path.as_bytes())
-        }
-        PathCall::Chmod { path, mode } => {
-            calls::change_mode(alloc, inodes, blocks, path.as_bytes(), *mode)
-        }
-        _ => unreachable!(),
     }
 }

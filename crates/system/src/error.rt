@@ -34,9 +34,6 @@ pub enum CallError {
     /// The call's record doesn't go into the log before a consistency point.
     #[error("the log is full")]
     LogFull,
-    /// A step of a consistency point comes before the call's record. It is no answer to a call.
-    #[error("a step of a point is due")]
-    StepDue,
     /// A write failed: of the log is known only what a cut may leave.
     #[error("a write failed")]
     NotWritten,

@@ -1,23 +1,20 @@
 //! Records put into the log of a mounted system.
 
-ghost use Rattle.std.specs.Prelude.{◌≡◌, ◌≢◌, ◌⊎◌, ◌+◌, ◌∷◌, ◌++◌, [], ℕ, Option, OnOk, OnErr, IfErr, IsErrOf, IsFalse, IsTrue, None, length, true};
+ghost use Rattle.std.specs.Prelude.{◌≡◌, ◌≢◌, ◌⊎◌, ◌+◌, ℕ, Option, OnOk, OnErr, IfErr, IsErrOf, IsFalse, IsTrue, length, true};
 ghost use Rattle.station.specs.Calls.{OnlyWrites};
-ghost use Rattle.station.specs.Moments.{LeavesOnly};
 ghost use Rattle.layout.specs.Record.{KeepsLimits, change_of};
-ghost use Rattle.model.specs.Records.{applied, work_of};
+ghost use Rattle.model.specs.Records.{work_of};
 ghost use Rattle.model.specs.Room.{cost};
 ghost use Rattle.model.specs.States.{State};
 ghost use Rattle.model.specs.Trees.{Description};
-ghost use Rattle.model.specs.Volumes.{Volume, swept};
+ghost use Rattle.model.specs.Volumes.{Volume};
 ghost use Rattle.descriptors.specs.Tables.{table_of};
 ghost use Rattle.oplog.specs.LogEnd.{HasRoomInHalf, behind_record, logged_body};
-ghost use Rattle.system.specs.Images.{OpensTo};
 ghost use Rattle.records.specs.Prepared.{IsReady};
-ghost use Rattle.system.specs.Logging.{Advances, DoesOver, WouldServe};
+ghost use Rattle.system.specs.Logging.{Advances, Appends, LogsAt};
 ghost use Rattle.replay.specs.Costs.{IsSizeBefore, KnowsFile};
-ghost use Rattle.system.specs.Room.{HasRoomForWork, HasRoomToLog};
-ghost use Rattle.system.specs.Serving.{IsStepDue, LeavesEither};
-ghost use Rattle.system.specs.Systems.{HasState, ServesWith, meaning_of, system_parts, state_with};
+ghost use Rattle.system.specs.Room.{HasRoomToLog};
+ghost use Rattle.system.specs.Systems.{HasState, meaning_of, system_parts};
 
 use crate::laws::{cuts_open, records_lead_on, served_states_open};
 use crate::serving::log_error;
@@ -40,10 +37,10 @@ impl<S: Station> System<S> {
             (meaning_of self.old) (meaning_of self.new) result }
         ensures refused { IfErr result (λ e. e ≢ AppendError.Device
             → (self.new.blocks ≡ self.old.blocks) × (self.new.log ≡ self.old.log)) }
-        ensures full { IsErrOf result AppendError.LogFull
-            → HasRoomInHalf self.old.log (length (logged_body (change_of change.now))) → ⊥ }
-        ensures stopped { IsErrOf result AppendError.Device
-            → self.new.log ≡ record self.old.log { is_stopped = true } }
+        ensures errors { (IsErrOf result AppendError.LogFull
+            → HasRoomInHalf self.old.log (length (logged_body (change_of change.now))) → ⊥)
+            × (IsErrOf result AppendError.Device
+            → self.new.log ≡ record self.old.log { is_stopped = true }) }
         ensures end { OnOk result
             (self.new.log ≡ behind_record self.old.log (logged_body (change_of change.now))) }
         ensures stays { (system_parts self.new ≡ record (system_parts self.old) {
@@ -57,23 +54,10 @@ impl<S: Station> System<S> {
             ≡ self.old.pledged + cost (work_of v (change_of change.now)))
             × (self.new.pledged_then
             ≡ self.old.pledged_then + cost (work_of v (change_of change.now)))) }
-        ensures any_moment { (table : ℕ → Option Description) (s : State)
-            → (serves : HasState self.old table s)
-            → IsSizeBefore serves.running (change_of change.now) size
+        ensures told { (table : ℕ → Option Description) (s : State)
+            → (serves : HasState self.old table s) → IsSizeBefore serves.running (change_of change.now) size
             → Advances self.old.root.geometry.inodes serves.running table (change_of change.now)
-            → LeavesOnly (meaning_of self.old) (meaning_of self.new)
-            (λ c. OpensTo (meaning_of self.old) s c ⊎ OpensTo (meaning_of self.old)
-            (state_with self.old.root.geometry.inodes
-            (swept table (applied (change_of change.now) serves.running)) table serves.snapshots) c) }
-        ensures logged { (table : ℕ → Option Description) (s : State)
-            → (serves : HasState self.old table s)
-            → IsSizeBefore serves.running (change_of change.now) size
-            → Advances self.old.root.geometry.inodes serves.running table (change_of change.now)
-            → OnOk result (WouldServe self.old self.new serves.first
-            (swept table (applied (change_of change.now) serves.running))
-            (serves.lasts.replayed.changes ++ change_of change.now ∷ []) table
-            (state_with self.old.root.geometry.inodes
-            (swept table (applied (change_of change.now) serves.running)) table serves.snapshots)) }
+            → Appends self.old self.new table s serves (change_of change.now) result }
     {
         cuts_open();
         records_lead_on();
@@ -94,12 +78,7 @@ impl<S: Station> System<S> {
     /// Logs the record of a prepared change, and puts the change in force. `LogFull` where the log is in its second epoch over the
     /// root, and a point has to come first, or where the record doesn't fit what is left of the half, and before that `NoRoom` where
     /// the disk has no room for it; these and `NoMemory` change nothing. After `NotWritten` the log has stopped.
-    pub(crate) fn log(
-        &mut self,
-        change: &Record,
-        prepared: Prepared,
-        steps: bool,
-    ) -> Result<(), CallError>
+    pub(crate) fn log(&mut self, change: &Record, prepared: Prepared) -> Result<(), CallError>
         requires fits { KeepsLimits (change_of change.now) }
         requires ready { IsReady self.old.inodes prepared }
         ensures writes { OnlyWrites
@@ -111,48 +90,20 @@ impl<S: Station> System<S> {
             → (self.new.blocks ≡ self.old.blocks) × (self.new.log ≡ self.old.log))) }
         ensures own { IfErr result
             (λ e. (e ≢ CallError.NotRead) × (e ≢ CallError.Damaged)) }
-        ensures opened { (self.new.root ≡ self.old.root)
-            × (table_of self.new.files ≡ table_of self.old.files) }
-        ensures laid { self.new.blocks.laid ≡ self.old.blocks.laid }
-        ensures due { IsErrOf result CallError.StepDue
-            → IsTrue steps × IsStepDue self.old × (self.new ≡ self.old) }
+        ensures stays { (self.new.root ≡ self.old.root)
+            × (table_of self.new.files ≡ table_of self.old.files)
+            × (self.new.blocks.laid ≡ self.old.blocks.laid)
+            × (self.new.log.epoch ≡ self.old.log.epoch)
+            × OnOk result (self.new.log.is_stopped ≡ self.old.log.is_stopped) }
         ensures stops { IsErrOf result CallError.NotWritten → IsTrue self.new.log.is_stopped }
-        ensures waits { IsTrue steps → self.old.blocks.laid ≢ None
-            → self.new.log.end ≡ self.old.log.end }
         ensures full { IsErrOf result CallError.LogFull
             → (self.old.log.epoch ≢ self.old.root.generation + 1)
             ⊎ (HasRoomInHalf self.old.log (length (logged_body (change_of change.now))) → ⊥) }
-        ensures short { (table : ℕ → Option Description) (s : State)
-            → (serves : HasState self.old table s)
-            → KnowsFile self.old.inodes (change_of change.now) → IsErrOf result CallError.NoRoom
-            → HasRoomForWork self.new (work_of serves.running (change_of change.now)) → ⊥ }
-        ensures room { (table : ℕ → Option Description) (s : State)
-            → (serves : HasState self.old table s)
-            → KnowsFile self.old.inodes (change_of change.now)
-            → OnOk result (HasRoomForWork self.old (work_of serves.running (change_of change.now))) }
-        ensures log { (self.new.log.epoch ≡ self.old.log.epoch)
-            × OnOk result (self.new.log.is_stopped ≡ self.old.log.is_stopped) }
-        ensures any_moment { (table : ℕ → Option Description) (s : State)
-            → (serves : HasState self.old table s)
-            → KnowsFile self.old.inodes (change_of change.now)
-            → Advances self.old.root.geometry.inodes serves.running table (change_of change.now)
-            → LeavesEither (meaning_of self.old) (meaning_of self.new) s
-            (state_with self.old.root.geometry.inodes
-            (swept table (applied (change_of change.now) serves.running)) table serves.snapshots) }
-        ensures done { (table : ℕ → Option Description) (s : State)
-            → (serves : HasState self.old table s)
-            → KnowsFile self.old.inodes (change_of change.now)
-            → Advances self.old.root.geometry.inodes serves.running table (change_of change.now)
-            → DoesOver self.old serves.running prepared (change_of change.now)
-            → let after = swept table (applied (change_of change.now) serves.running) in
-            OnOk result (ServesWith self.new table
-            (state_with self.old.root.geometry.inodes after table serves.snapshots) after
-            (serves.lasts.replayed.changes ++ change_of change.now ∷ [])) }
+        ensures told { (table : ℕ → Option Description) (s : State)
+            → (serves : HasState self.old table s) → KnowsFile self.old.inodes (change_of change.now)
+            → LogsAt self.old self.new table s serves (change_of change.now) prepared result }
     {
         served_states_open(self);
-        if steps && self.is_step_due() {
-            return Err(CallError::StepDue);
-        }
         let size = size_before(&self.inodes, change);
         if !self.has_room(change, size) {
             return Err(CallError::NoRoom);

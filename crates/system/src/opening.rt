@@ -7,7 +7,6 @@ ghost use Rattle.layout.specs.Log.{LogHolds};
 ghost use Rattle.layout.specs.Opens.{IsNewest};
 ghost use Rattle.layout.specs.Places.{Blocks, blocks_of};
 ghost use Rattle.layout.specs.Record.{Change};
-ghost use Rattle.layout.specs.Root.{IsRoot};
 ghost use Rattle.layout.specs.declared.TheConstants.{SLOT_A, SLOT_B};
 ghost use Rattle.layout.specs.declared.root.Root.{Root};
 ghost use Rattle.model.specs.Paths.{Name};
@@ -15,15 +14,16 @@ ghost use Rattle.model.specs.Records.{without_nameless};
 ghost use Rattle.model.specs.States.{Forgets, State};
 ghost use Rattle.model.specs.Trees.{Tree};
 ghost use Rattle.model.specs.Volumes.{Volume};
+ghost use Rattle.buffers.specs.Disks.{ReadsOn};
 ghost use Rattle.buffers.specs.Reads.{ReadsBlocks};
 ghost use Rattle.images.specs.Faults.{HasNoFault, IsFaultlessUnder};
 ghost use Rattle.images.specs.Roots.{whole};
 ghost use Rattle.loading.specs.Slots.{FitsStation, HasNoRoot};
 ghost use Rattle.oplog.specs.SavedLog.{TellsLog};
 ghost use Rattle.system.specs.Images.{OpensTo};
-ghost use Rattle.system.specs.Opening.{MemoryFitsRoot, HasFailed, HasImage, HasNewest, HoldsRecords, HoldsSome, IsFound, IsOf};
+ghost use Rattle.system.specs.Opening.{MemoryFitsRoot, HasFailed, HasImage, HasNewest, HasRead, HoldsRecords, IsFound, IsOf, IsSavedOver};
 ghost use Rattle.system.specs.Refusals.{IsDevice, SaysNothing};
-ghost use Rattle.system.specs.Systems.{HasState, meaning_of, state_with};
+ghost use Rattle.system.specs.Systems.{HasState, meaning_of, state_with, system_parts};
 
 use crate::{OpenError, System};
 use blockmap::BlockMap;
@@ -93,15 +93,14 @@ fn read_image<B: Blocks>(
     root: &Root,
     saved: SavedLog,
 ) -> Result<Mounted, OpenError>
-    requires root { IsRoot root.now }
+    requires over { IsSavedOver root.now saved }
     requires size { B.count blocks.old ≡ root.now.geometry.blocks }
-    requires half { saved.half ≡ root.now.geometry.half }
-    requires generation { saved.generation ≡ root.now.generation }
     ensures reads { ReadsBlocks B.Blocks IsDevice blocks.old blocks.new result }
     ensures fits { IfOk result (MemoryFitsRoot root.now) }
     ensures rooted { IsErrOf result OpenError.NoRoot → ⊥ }
-    ensures log { (nvram : List ℕ) → TellsLog nvram saved
-        → IfOk result (λ p. HoldsSome p.log root.now.generation nvram) }
+    ensures found { (disk : Blocks) (nvram : List ℕ) → B.Shows blocks.old disk
+        → TellsLog nvram saved
+        → IfOk result (λ p. HasRead disk nvram root.now p.log p.inodes) }
     ensures has { (disk : Blocks) (nvram : List ℕ) (first last : Volume)
         (snapshots : List (Name × Tree)) (changes : List Change) → B.Shows blocks.old disk
         → TellsLog nvram saved → HoldsRecords disk root.now nvram first last snapshots changes
@@ -131,21 +130,14 @@ fn open_found<S: Station>(
     found: FoundImages,
 ) -> Result<System<S>, (OpenError, S)>
     requires { IsFound found (S.meaning station) }
-    ensures same { MatchResult result
-        (λ f. IsSameStation (S.meaning station) (meaning_of f))
-        (λ e. IsSameStation (S.meaning station) (S.meaning e.1)) }
-    ensures goes { MatchResult result (λ f. Goes Unchanged (S.meaning station) (meaning_of f))
-        (λ e. Goes Unchanged (S.meaning station) (S.meaning e.1)) }
-    ensures writes { MatchResult result
-        (λ f. (meaning_of f).failed_writes ≡ (S.meaning station).failed_writes)
-        (λ e. (S.meaning e.1).failed_writes ≡ (S.meaning station).failed_writes) }
+    ensures reads { MatchResult result (λ f. ReadsOn (S.meaning station) (meaning_of f))
+        (λ e. ReadsOn (S.meaning station) (S.meaning e.1)) }
     ensures device { IfErr result (λ e. e.0 ≡ OpenError.Device
         → HasGrown (S.meaning station).failed_reads (S.meaning e.1).failed_reads) }
     ensures rooted { IfErr result (λ e. e.0 ≡ OpenError.NoRoot → ⊥) }
     ensures runs { IfOk result (λ f. IsFalse f.log.is_stopped) }
-    ensures found { IfOk result (λ f. (f.root ≡ found.newest.root) × (f.slot ≡ found.newest.slot)
-        × ((nvram : List ℕ) → TellsLog nvram found.saved
-        → HoldsSome f.log found.newest.root.generation nvram)) }
+    ensures found { (S.meaning station).is_honest → IsOf (S.meaning station).seen found
+        → IfOk result (λ f. HasNewest (S.meaning station) (system_parts f)) }
     ensures serves { (S.meaning station).is_honest
         → LeavesJust (S.meaning station) (S.meaning station).seen
         → IsOf (S.meaning station).seen found
@@ -197,12 +189,15 @@ fn open_found<S: Station>(
 }
 
 impl<S: Station> System<S> {
-    /// Mounts an image: reads its newest root, what memory is to have of the tree under it, and replays the log over that. Reads
-    /// give what they gave before, and a cut leaves what it might have left before. `NoRoot` comes where neither slot holds a root,
-    /// `Device` only where a device call failed. Where what the station reads opens to a state, Ok gives a system that serves what
-    /// a mount finds of it, and `Damaged` doesn't come. No directory and no file is read, so Ok may come over an image that opens
-    /// to none; but it has taken the newest root, the station has its sizes, and the NVRAM holds a log over it. Neither `NoRoot` nor
-    /// `Damaged` comes over images without a fault, whatever blocks of files can be read.
+    /// Mounts an image: reads its newest root, what memory is to have of the tree under it, and replays the
+    /// log over that. Reads give what they gave before, and a cut leaves what it might have left before.
+    /// `NoRoot` comes where neither slot holds a root, `Device` only where a device call failed. Where what
+    /// the station reads opens to a state, Ok gives a system that serves what a mount finds of it, and
+    /// `Damaged` doesn't come. No directory and no file is read, so Ok may come over an image that opens to
+    /// none; but it has taken the newest root, the station has its sizes, the NVRAM holds a log over it, and
+    /// each of its slots that isn't free has a snapshot; and where no fault stands in its tree, every record
+    /// of the log was applied. Neither `NoRoot` nor `Damaged` comes over images without a fault, whatever
+    /// blocks of files can be read.
     pub fn open(alloc: Global, mut station: S) -> Result<System<S>, (OpenError, S)>
         ensures same { MatchResult result
             (λ f. IsSameStation (S.meaning station) (meaning_of f))
@@ -213,7 +208,7 @@ impl<S: Station> System<S> {
             → HasFailed (S.meaning station) (S.meaning e.1)) }
         ensures runs { IfOk result (λ f. IsFalse f.log.is_stopped) }
         ensures found { (S.meaning station).is_honest
-            → IfOk result (λ f. HasNewest (S.meaning station) f.slot f.root f.log) }
+            → IfOk result (λ f. HasNewest (S.meaning station) (system_parts f)) }
         ensures no_root { (S.meaning station).is_honest
             → IfErr result (λ e. e.0 ≡ OpenError.NoRoot
             → HasNoRoot (S.meaning station).sectors (S.meaning station).seen.disk) }

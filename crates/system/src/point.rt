@@ -1,10 +1,13 @@
 //! A consistency point of a mounted system.
 
-ghost use Rattle.std.specs.Prelude.{◌≡◌, None};
+ghost use Rattle.std.specs.Prelude.{◌≡◌, None, OnOk};
 ghost use Rattle.inofile.specs.Room.{memory_room};
+ghost use Rattle.model.specs.States.{State};
 ghost use Rattle.model.specs.Volumes.{Volume};
 ghost use Rattle.planning.specs.Changes.{FitsSlots};
-ghost use Rattle.system.specs.Points.{HasRoomToPlan, HasRoomToStep, MakesPoint, StaysAt, StepsTo, TurnsTo};
+ghost use Rattle.planning.specs.declared.change.SnapshotChange.{SnapshotChange};
+ghost use Rattle.system.specs.Points.{HasRoomToPlan, HasRoomToStep, KeepsSlots, MakesPoint, StaysAt, StepsTo, TurnsTo};
+ghost use Rattle.system.specs.Serving.{ServesState};
 
 use crate::laws::{cuts_open, new_roots_hold, points_go_on};
 use crate::{PointError, System};
@@ -19,7 +22,9 @@ impl<S: Station> System<S> {
     /// nothing any more, but a cut leaves what it served. `NotPlanned(NoSpace)` doesn't come over a state that it serves.
     pub fn point(&mut self) -> Result<(), PointError>
         requires { self.old.blocks.laid ≡ None }
-        ensures { MakesPoint StaysAt (λ _. Unit {0}) self.old self.new result }
+        ensures makes { MakesPoint StaysAt (λ _. Unit {0}) self.old self.new result }
+        ensures slots { (s : State) → ServesState self.old s
+            → OnOk result (KeepsSlots self.old self.new) }
     {
         self.point_with(&SnapshotChange::Unchanged)
     }
@@ -30,7 +35,9 @@ impl<S: Station> System<S> {
     pub(crate) fn point_with(&mut self, change: &SnapshotChange<'_>) -> Result<(), PointError>
         requires rests { self.old.blocks.laid ≡ None }
         requires fits { FitsSlots change.now }
-        ensures { MakesPoint (StepsTo change.now) (HasRoomToStep change.now) self.old self.new result }
+        ensures makes { MakesPoint (StepsTo change.now) (HasRoomToStep change.now) self.old self.new result }
+        ensures slots { (s : State) → ServesState self.old s → change.now ≡ SnapshotChange.Unchanged
+            → OnOk result (KeepsSlots self.old self.new) }
     {
         cuts_open();
         new_roots_hold();

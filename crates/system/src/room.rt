@@ -27,7 +27,7 @@ impl<S: Station> System<S> {
     }
 
     /// Whether it has room for a snapshot.
-    pub fn has_room_to_take(&self) -> bool
+    pub(crate) fn has_room_to_take(&self) -> bool
         ensures { IsTrue result ↔ HasRoomToTake self.now }
     {
         2 * fixed_cost(self.map.count()) < u64::from(self.free).saturating_sub(self.pledged)

@@ -1,18 +1,17 @@
-//! Calls that a consistency point isn't part of, served on a mounted system.
+//! Calls, served on a mounted system.
 
-ghost use Rattle.std.specs.Prelude.{◌≡◌, Bool, IsFalse, IsTrue};
+ghost use Rattle.std.specs.Prelude.{◌≡◌, IsTrue};
 ghost use Rattle.model.specs.Steps.{is_reading_call};
 ghost use Rattle.system.specs.Answering.{answer_to};
 ghost use Rattle.system.specs.Errors.{call_error, log_error};
-ghost use Rattle.system.specs.Serving.{Handles, IsCall};
+ghost use Rattle.system.specs.Preparing.{only_looks};
+ghost use Rattle.system.specs.Serving.{Answers, IsCall};
 ghost use Rattle.system.specs.Slicing.{Fulfils};
 
-use crate::changing::prepare;
 use crate::laws::served_states_open;
 use crate::reading::{is_reading, read};
 use crate::{CallError, System};
 use blocktree::ReadError;
-use calls::Changing;
 use model::{Command, PathCall, Reply};
 use oplog::AppendError;
 use records::Failure;
@@ -51,6 +50,20 @@ pub(crate) fn log_error(error: AppendError) -> CallError
     }
 }
 
+/// Whether a call logs nothing, whatever it comes to.
+fn looks_only(call: &Command<'_>) -> bool
+    ensures { result ≡ only_looks call.now }
+{
+    match call {
+        Command::Path(call) => is_reading(call),
+        Command::Open { .. } => false,
+        Command::Write { .. } => false,
+        Command::Pwrite { .. } => false,
+        Command::Ftruncate { .. } => false,
+        _ => true,
+    }
+}
+
 impl<S: Station> System<S> {
     /// Serves a call on the tree, on a descriptor or on a snapshot's tree, or lists the snapshots: answers it where the image
     /// doesn't change by it, or else logs its record and puts it in force. `NoRoom` and `LogFull` only for a call that would change
@@ -61,67 +74,36 @@ impl<S: Station> System<S> {
         ensures { Fulfils self.old self.new call.now result }
     {
         served_states_open(self);
-        match self.serve(call, true) {
-            Ok(reply) => Ok(reply),
-            Err(error) => match error {
-                CallError::StepDue => match self.step() {
-                    Ok(()) => self.serve(call, false),
-                    Err(_) => Err(CallError::NotWritten),
-                },
-                _ => Err(error),
-            },
-        }
-    }
-
-    // The same of a call that a point is due for, or a slice of one, if it `steps`. It plans none, but says so.
-    fn serve(&mut self, call: &Command<'_>, steps: bool) -> Result<Reply, CallError>
-        requires { IsCall call.now }
-        ensures { Handles steps self.old self.new call.now result }
-    {
-        match call {
-            Command::Path(call) => self.serve_path(call, steps),
-            Command::SnapList => self.list_snapshots(),
-            Command::Within { name, call } => self.look_within(name, call),
-            _ => self.serve_open_file(call, steps),
-        }
-    }
-
-    // Serves a call by a path.
-    fn serve_path(&mut self, call: &PathCall<'_>, steps: bool) -> Result<Reply, CallError>
-        ensures { Handles steps self.old self.new (Command.Path call.now) result }
-    {
-        if is_reading(call) {
+        if looks_only(call) {
             self.look(call)
         } else {
-            self.change(call, steps)
+            self.change(call)
         }
     }
 
-    // Answers a call that only reads.
-    fn look(&mut self, call: &PathCall<'_>) -> Result<Reply, CallError>
+    // Serves a call that logs nothing.
+    fn look(&mut self, call: &Command<'_>) -> Result<Reply, CallError>
+        requires is_call { IsCall call.now }
+        requires looks { IsTrue (only_looks call.now) }
+        ensures { Answers self.old self.new call.now result }
+    {
+        match call {
+            Command::Path(call) => self.look_at_path(call),
+            Command::Within { name, call } => self.look_within(name, call),
+            Command::SnapList => self.list_snapshots(),
+            Command::Lseek { .. } => Ok(self.answer_at_once(call)),
+            Command::Fsync { .. } => Ok(self.answer_at_once(call)),
+            Command::Close { fd } => self.close_file(*fd),
+            _ => self.look_at_open_file(call),
+        }
+    }
+
+    // Answers a call by a path that only reads.
+    fn look_at_path(&mut self, call: &PathCall<'_>) -> Result<Reply, CallError>
         requires { IsTrue (is_reading_call call.now) }
-        ensures { (steps : Bool) → Handles steps self.old self.new (Command.Path call.now) result }
+        ensures { Answers self.old self.new (Command.Path call.now) result }
     {
         served_states_open(self);
         answer(read(self.alloc, &mut self.inodes, &mut self.blocks, call))
-    }
-
-    // Logs the record of a call that changes something, and puts it in force.
-    fn change(&mut self, call: &PathCall<'_>, steps: bool) -> Result<Reply, CallError>
-        requires { IsFalse (is_reading_call call.now) }
-        ensures { Handles steps self.old self.new (Command.Path call.now) result }
-    {
-        served_states_open(self);
-        match prepare(self.alloc, &mut self.inodes, &mut self.blocks, call) {
-            Ok(Some(changing)) => {
-                let Changing { change, prepared } = changing;
-                match self.log(&change.record(), prepared, steps) {
-                    Ok(()) => Ok(Reply::Done),
-                    Err(error) => Err(error),
-                }
-            }
-            Ok(None) => Ok(Reply::Done),
-            Err(failure) => answer(Err(failure)),
-        }
     }
 }

@@ -1,56 +1,94 @@
-//! Commands that end behind a consistency point of their own: taking a snapshot and deleting one.
+//! Commands that change the snapshots: their tests, and what is done after these.
 
-ghost use Rattle.std.specs.Prelude.{IfOk, IfSome, ◌≡◌, None};
+ghost use Rattle.std.specs.Prelude.{◌≡◌, ◌≤◌, IfErr, IfOk, MatchResult, None, length};
+ghost use Rattle.layout.specs.Places.{blocks_of};
+ghost use Rattle.model.specs.Paths.{first_refusal};
 ghost use Rattle.model.specs.States.{State};
+ghost use Rattle.model.specs.Steps.{take_tests};
 ghost use Rattle.model.specs.declared.command.Command.{Command};
-ghost use Rattle.system.specs.Room.{HasRoomToTake};
+ghost use Rattle.model.specs.declared.limits.TheConstants.{SNAPSHOT_NAME_BYTES};
+ghost use Rattle.images.specs.Roots.{whole};
+ghost use Rattle.images.specs.Snapshots.{HasSnapshot};
+ghost use Rattle.images.specs.SnapshotSteps.{IsSlotNumber};
+ghost use Rattle.snapshots.specs.Found.{snapshot_found};
+ghost use Rattle.snapshots.specs.Prepared.{FitsPrepared, Refuses, command_of, command_prepared};
+ghost use Rattle.snapshots.specs.Taken.{MayTake};
 ghost use Rattle.system.specs.Serving.{IsNoFault, ServesState};
-ghost use Rattle.system.specs.Settling.{Glances, LacksOrder, Settles, TestsCommand};
-ghost use Rattle.system.specs.Systems.{IsCovered};
+ghost use Rattle.system.specs.Settling as settling;
+ghost use Rattle.system.specs.Settling.{Glances, IsPrepared, LacksOrder, Settles};
+ghost use Rattle.system.specs.Systems.{disk_of};
 
 use crate::laws::{cuts_open, served_states_open};
 use crate::serving::call_error;
 use crate::{CallError, PointError, System};
 use conspoint::PlanError;
 use layout::Generation;
-use model::{Bytes, Errno};
+use model::Errno;
 use planning::SnapshotChange;
-use snapshots::{find, prepare_take};
+use snapshots::{FoundSnapshot, PreparedSnapshot, SnapshotRequest, Taking, prepare_snapshot};
 use station::Station;
 
+/// What a command answers after its own point, for which the disk had room.
+pub(crate) fn made_of(made: Result<(), PointError>) -> Result<bool, PointError>
+    ensures { result ≡ settling.made_of made }
+{
+    match made {
+        Ok(()) => Ok(true),
+        Err(error) => Err(error),
+    }
+}
+
 impl<S: Station> System<S> {
-    /// The first refusal of `snap take` of a name, of BADNAME, SNAPEXISTS and SNAPFULL; None where the snapshot may be taken. It reads
-    /// the root blocks of the snapshots, and nothing else.
-    pub fn refuses_take(&mut self, name: &Bytes<'_>) -> Result<Option<Errno>, CallError>
+    /// Makes the tests of a command that changes the snapshots, in their order: what it needs to know after
+    /// them, or the first refusal. It reads the root blocks of the snapshots, and nothing else.
+    pub fn prepare_snapshot<'a>(
+        &mut self,
+        request: &SnapshotRequest<'a>,
+    ) -> Result<Result<PreparedSnapshot<'a>, Errno>, CallError>
         ensures glances { Glances self.old self.new result }
-        ensures own { IfOk result (λ refusal. IfSome refusal IsNoFault) }
-        ensures tests { (s : State) → ServesState self.old s
-            → IfOk result (TestsCommand s (Command.SnapTake name.now)) }
+        ensures own { IfOk result (λ tested. IfErr tested IsNoFault) }
+        ensures same { IfOk result (λ tested. IfOk tested (λ p. command_prepared p
+            ≡ command_of request.now)) }
+        ensures fits { IfOk result (λ tested. IfOk tested FitsPrepared) }
+        ensures tests { (s : State) → ServesState self.old s → IfOk result (λ tested.
+            MatchResult tested (IsPrepared self.new s) (Refuses s (command_of request.now))) }
     {
-        cuts_open();
-        match prepare_take(&mut self.blocks, &self.root, name.as_bytes()) {
-            Ok(Ok(_)) => Ok(None),
-            Ok(Err(errno)) => Ok(Some(errno)),
+        let has_open = self.files.has_open();
+        match prepare_snapshot(&mut self.blocks, &self.root, request, has_open) {
+            Ok(tested) => Ok(tested),
             Err(error) => Err(call_error(error)),
         }
     }
 
-    /// Takes a snapshot of what a covered system has whose disk has room for it, by a consistency point: Ok behind its second sync,
-    /// or a refusal as of `refuses_take`. The snapshot has the tree without open files. After an error nothing has changed, but for
-    /// `NotWritten`: then a cut leaves the state before it, or the one with the snapshot.
-    pub fn take(&mut self, name: &Bytes<'_>) -> Result<Result<(), Errno>, PointError>
-        requires { self.old.blocks.laid ≡ None }
-        ensures { Settles self.old self.new (λ s. IsCovered self.old s.tree.descriptors s
-            × HasRoomToTake self.old) (Command.SnapTake name.now) result }
+    /// Does what was prepared: true after the second sync of the point whose root has it, false if the disk has
+    /// no room for it. A snapshot that is taken has the tree without open files; one whose tree is restored
+    /// stays; the blocks that only a deleted one had are free then. After an error nothing has changed, but for
+    /// `NotWritten`: then a cut leaves the state before the command, or the one after it.
+    pub fn make_snapshot(&mut self, prepared: &PreparedSnapshot<'_>) -> Result<bool, PointError>
+        requires { FitsPrepared prepared.now }
+        ensures { Settles self.old self.new (λ s. IsPrepared self.old s prepared.now)
+            (command_prepared prepared.now) result }
+    {
+        match *prepared {
+            PreparedSnapshot::Take { name, taking } => self.take(name, &taking),
+            PreparedSnapshot::Delete { name, found } => self.delete(name, &found),
+            PreparedSnapshot::Restore { name, found } => self.restore(name, &found),
+        }
+    }
+
+    /// Takes a snapshot, once the newest root covers all, by another consistency point.
+    fn take(&mut self, name: &[u8], taking: &Taking) -> Result<bool, PointError>
+        requires slot { IsSlotNumber taking.now.slot }
+        requires short { length name.now ≤ SNAPSHOT_NAME_BYTES }
+        ensures { Settles self.old self.new (λ s.
+            MayTake (blocks_of (disk_of self.old)) self.old.root name.now taking.now
+            × (first_refusal (take_tests s name.now) ≡ None)) (Command.SnapTake name.now) result }
     {
         cuts_open();
-        served_states_open(self);
-        let name = name.as_bytes();
-        let taking = match prepare_take(&mut self.blocks, &self.root, name) {
-            Ok(Ok(taking)) => taking,
-            Ok(Err(errno)) => return Ok(Err(errno)),
-            Err(error) => return Err(PointError::NotPlanned(PlanError::from(error))),
-        };
+        self.settle()?;
+        if !self.has_room_to_take() {
+            return Ok(false);
+        }
         let Some(_) = Generation::new(taking.order) else {
             return Err(self.lacks_order());
         };
@@ -59,14 +97,11 @@ impl<S: Station> System<S> {
             order: taking.order,
             name,
         };
-        match self.point_with(&change) {
-            Ok(()) => Ok(Ok(())),
-            Err(error) => Err(error),
-        }
+        made_of(self.point_with(&change))
     }
 
-    /// Why a snapshot gets no order number, which has the limits of a generation: none is left, or else the image has a snapshot of a
-    /// number that no point gave.
+    /// Why a snapshot gets no order number, which has the limits of a generation: none is left, or else the
+    /// image has a snapshot of a number that no point gave.
     fn lacks_order(&self) -> PointError
         ensures { LacksOrder self.now result }
     {
@@ -76,23 +111,15 @@ impl<S: Station> System<S> {
         }
     }
 
-    /// Deletes a snapshot by a consistency point, behind the one under way, whose root holds all that the system has: Ok behind its
-    /// second sync, or NOSNAP. The blocks that only the snapshot had are free then. An error as of `take`.
-    pub fn delete(&mut self, name: &Bytes<'_>) -> Result<Result<(), Errno>, PointError>
-        ensures { Settles self.old self.new (λ s. Unit {0}) (Command.SnapDelete name.now) result }
+    /// Deletes a snapshot by a consistency point, after the one under way, whose root holds all that the system
+    /// has.
+    fn delete(&mut self, name: &[u8], found: &FoundSnapshot) -> Result<bool, PointError>
+        requires { IsSlotNumber found.now.slot }
+        ensures { Settles self.old self.new (λ s.
+            HasSnapshot self.old.root (whole (blocks_of (disk_of self.old)) self.old.root)
+            found.now.slot (snapshot_found name.now found.now)) (Command.SnapDelete name.now) result }
     {
-        served_states_open(self);
-        let found = match find(&mut self.blocks, &self.root, name.as_bytes()) {
-            Ok(found) => found,
-            Err(error) => return Err(PointError::NotPlanned(PlanError::from(error))),
-        };
-        let Some(found) = found else {
-            return Ok(Err(Errno::NOSNAP));
-        };
         self.finish()?;
-        match self.point_with(&SnapshotChange::Delete { slot: found.slot }) {
-            Ok(()) => Ok(Ok(())),
-            Err(error) => Err(error),
-        }
+        made_of(self.point_with(&SnapshotChange::Delete { slot: found.slot }))
     }
 }

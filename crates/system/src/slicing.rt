@@ -1,9 +1,9 @@
 //! A consistency point that is carried out in slices, between calls.
 
-ghost use Rattle.std.specs.Prelude.{◌≢◌, ◌↔◌, IsTrue, None, Some};
-ghost use Rattle.system.specs.Serving.{IsPlanDue, IsStepDue};
+ghost use Rattle.std.specs.Prelude.{◌≢◌, ◌↔◌, IsTrue, None, Ok};
+ghost use Rattle.system.specs.Serving.{IsPlanDue};
 ghost use Rattle.system.specs.Settling.{MakesCovered};
-ghost use Rattle.system.specs.Slicing.{Finishes, Steps};
+ghost use Rattle.system.specs.Slicing.{Finishes, StaysReady, Steps};
 
 use crate::laws::{cuts_open, new_roots_hold, points_go_on, served_states_open};
 use crate::{PointError, System};
@@ -17,7 +17,7 @@ pub const SLICE_BLOCKS: usize = 8;
 impl<S: Station> System<S> {
     /// Whether a point is to be planned: none is under way, the log is in the first epoch over the root, and less than a sixteenth
     /// of its half is left.
-    fn is_plan_due(&self) -> bool
+    pub(crate) fn is_plan_due(&self) -> bool
         ensures { IsTrue result ↔ IsPlanDue self.now }
     {
         let next = self.root.generation.epoch_after(1);
@@ -25,31 +25,20 @@ impl<S: Station> System<S> {
         !self.blocks.is_under_way() && self.log.epoch() == next && !self.log.room(least)
     }
 
-    /// Whether a call's record waits for a step: a point is under way, or is to be planned.
-    pub(crate) fn is_step_due(&self) -> bool
-        ensures { IsTrue result ↔ IsStepDue self.now }
-    {
-        self.blocks.is_under_way() || self.is_plan_due()
-    }
-
-    /// The step that is due: plans a point, or writes a slice of the one that is under way. Where no point could be planned, nothing
-    /// changed.
-    pub(crate) fn step(&mut self) -> Result<(), PointError>
-        requires { IsStepDue self.old }
-        ensures { Steps self.old self.new result }
+    /// Plans a point, if one can be planned, and else changes nothing: what the system serves stays.
+    pub(crate) fn plan(&mut self)
+        requires { IsPlanDue self.old }
+        ensures { Steps self.old self.new (Ok tt) }
     {
         cuts_open();
-        if self.blocks.is_under_way() {
-            return self.advance();
-        }
         let _ = self.lay_point(&SnapshotChange::Unchanged);
-        Ok(())
     }
 
     /// Writes a slice of the point that is under way, and behind its last block the root. It takes no memory and reads nothing.
-    fn advance(&mut self) -> Result<(), PointError>
+    pub(crate) fn advance(&mut self) -> Result<(), PointError>
         requires { self.old.blocks.laid ≢ None }
-        ensures { Steps self.old self.new result }
+        ensures steps { Steps self.old self.new result }
+        ensures ready { StaysReady self.old self.new result }
     {
         cuts_open();
         points_go_on();

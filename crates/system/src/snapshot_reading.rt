@@ -1,6 +1,6 @@
 //! Calls on the snapshots that change nothing.
 
-ghost use Rattle.std.specs.Prelude.{◌≡◌, Bool, IfErr, IfOk, IsErrOf, IsFalse, IsTrue, Some};
+ghost use Rattle.std.specs.Prelude.{◌≡◌, IfErr, IfOk, IsErrOf, IsFalse, IsTrue, Some};
 ghost use Rattle.layout.specs.Root.{IsRoot};
 ghost use Rattle.model.specs.Replies.{IsReplyTo};
 ghost use Rattle.model.specs.Room.{nothing};
@@ -12,7 +12,7 @@ ghost use Rattle.blocktree.specs.Errors.{IsFault};
 ghost use Rattle.records.specs.Failures.{told};
 ghost use Rattle.calls.specs.Refusals.{is_path_refusal};
 ghost use Rattle.system.specs.Answering.{answered_reply};
-ghost use Rattle.system.specs.Serving.{Handles, TellsNoFault};
+ghost use Rattle.system.specs.Serving.{Answers, TellsNoFault};
 ghost use Rattle.system.specs.Views.{KeepsView, LoadsView, OnShown, OnSnapshots, ShowsSnapshot};
 ghost use Rattle.system.specs.declared.snapshot_reading.View.{View};
 
@@ -172,7 +172,7 @@ impl<S: Station> System<S> {
         name: &Bytes<'_>,
         call: &PathCall<'_>,
     ) -> Result<Reply, CallError>
-        ensures { (steps : Bool) → Handles steps self.old self.new (Command.Within name.now call.now) result }
+        ensures { Answers self.old self.new (Command.Within name.now call.now) result }
     {
         served_states_open(self);
         let outcome = read_within(
@@ -188,7 +188,7 @@ impl<S: Station> System<S> {
 
     /// Lists the names of the snapshots, oldest first.
     pub(crate) fn list_snapshots(&mut self) -> Result<Reply, CallError>
-        ensures { (steps : Bool) → Handles steps self.old self.new Command.SnapList result }
+        ensures { Answers self.old self.new Command.SnapList result }
     {
         served_states_open(self);
         match names(self.alloc, &mut self.blocks, &self.root) {

@@ -1,14 +1,14 @@
 use Rattle.std.proofs.Common.{◌≡◌, ◌∙◌, ◌≤◌, ℕ, None, inl, inr, arith, ap, sym, subst}
 use Rattle.std.proofs.Math.Nat.{eq-or-lt_of_le}
 use Rattle.images.specs.Roots.{whole}
+use Rattle.loading.proofs.SnapshotLaws.{are_snapshots}
 use Rattle.checker.specs.Checks.{AreFindings}
-use Rattle.checker.specs.Findings.{IsFirstTold}
 use Rattle.checker.specs.Trees.{TellsSlot}
+use Rattle.checker.specs.Watches.{KeepsTelling}
 use Rattle.checker.specs.declared.fault.TreeName.TheVariants.{Image}
 use Rattle.checker.specs.declared.findings.Findings.{Findings}
-use Rattle.checker.proofs.FindingLaws.{more_found}
+use Rattle.checker.proofs.FindingLaws.{more_found, telling_more}
 use Rattle.checker.proofs.ReadLaws.{looked, looked_more}
-use Rattle.checker.proofs.RootLaws.{are_snapshots}
 use Rattle.checker.proofs.checking.check_snapshots.Goals as goal
 use Rattle.checker.proofs.checking.check_snapshots.Goals.{in-Some, in_default}
 
@@ -17,8 +17,7 @@ loop-k-preserved g c =
     let r = c.args.root.now in
     let before = c.loop-k.invariant in
     let first = λ (f : Findings g.row.W.Denot). f.first in
-    let name = λ (f : Findings g.row.W.Denot). f.watch.ghost_name in
-    let Told = λ (f : Findings g.row.W.Denot). IsFirstTold (g.W.Watch.told f.watch.now) f.first in record {
+    let tells = KeepsTelling g.W.Watch c.args.findings.now in record {
       look = looked_more before.look (looked c.fault_in_slot.ensures.reads);
       found = λ disk nvram shows are. elim c.match-branch-2.branch [
         | in-Some w ↦
@@ -27,13 +26,9 @@ loop-k-preserved g c =
             (subst (TellsSlot disk r c.loop-k.k) w.in-Some.is (c.in_ok-fault.ensures.tells disk (before.look.same disk shows)) nvram)
         | in_default w ↦ subst (AreFindings r (whole disk r) nvram) (sym (ap first w.findings-is)) (before.found disk nvram shows are)
       ];
-      watch = elim c.match-branch-2.branch [
-        | in-Some w ↦ ap name w.findings-is ∙ w.find.ensures.watch ∙ before.watch
-        | in_default w ↦ ap name w.findings-is ∙ before.watch
-      ];
-      tells = λ is. elim c.match-branch-2.branch [
-        | in-Some w ↦ subst Told (sym w.findings-is) (w.find.ensures.told (before.tells is))
-        | in_default w ↦ subst Told (sym w.findings-is) (before.tells is)
+      tells = elim c.match-branch-2.branch [
+        | in-Some w ↦ subst tells (sym w.findings-is) (telling_more before.tells w.find.ensures.tells)
+        | in_default w ↦ subst tells (sym w.findings-is) before.tells
       ];
       none = λ disk shows none j low. elim c.match-branch-2.branch [
         | in-Some w ↦ (let e : w.find.new.self.first ≡ None = sym (ap first w.findings-is) ∙ none in absurd (cc (e, w.find.ensures.first)))

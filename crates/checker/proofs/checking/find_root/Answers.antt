@@ -3,7 +3,7 @@ use Rattle.station.specs.Images.{Images}
 use Rattle.layout.specs.Opens.{IsNewest}
 use Rattle.layout.specs.declared.TheConstants.{SLOT_A, SLOT_B}
 use Rattle.checker.specs.declared.fault.RootsFault.TheVariants as roots
-use Rattle.checker.proofs.FindingLaws.{no_root_before, no_root_behind, no_roots, roots_found, still_left}
+use Rattle.checker.proofs.FindingLaws.{no_root_before, no_root_behind, no_roots, roots_found, settled_read}
 use Rattle.checker.proofs.checking.find_root.Goals as goal
 
 pub returns-in-Ok-clause-found : goal.returns-in-Ok-clause-found
@@ -34,20 +34,14 @@ returns-in-Err-Damaged-clause-none g c honest none found =
     let behind = no_root_behind m n c.settle.ensures.same went.seen nowhere in
     elim (c.in-Err-Damaged.ensures.rootless went.honest behind) [ inl is ↦ cc | inr is ↦ cc ])
 
-pub returns-in-Ok-clause-settled : goal.returns-in-Ok-clause-settled
-returns-in-Ok-clause-settled g c =
-    let reads = c.newest_root.ensures.reads in
-    still_left (g.S.Station.meaning c.settle.new.station) (g.S.Station.meaning c.newest_root.new.station)
-    (g.S.Station.meaning c.args.station.now).seen reads.same reads.goes c.in_ok-settle.ensures.settled
+pub returns-in-Ok-clause-settles : goal.returns-in-Ok-clause-settles
+returns-in-Ok-clause-settles g c = settled_read _ c.in_ok-settle.ensures c.newest_root.ensures.reads tt
 
-pub returns-in-Err-NoRoot-clause-settled : goal.returns-in-Err-NoRoot-clause-settled
-returns-in-Err-NoRoot-clause-settled g c =
-    let reads = c.newest_root.ensures.reads in
-    still_left (g.S.Station.meaning c.settle.new.station) (g.S.Station.meaning c.newest_root.new.station)
-    (g.S.Station.meaning c.args.station.now).seen reads.same reads.goes c.in_ok-settle.ensures.settled
+pub returns-in-Err-NoRoot-clause-settles : goal.returns-in-Err-NoRoot-clause-settles
+returns-in-Err-NoRoot-clause-settles g c = settled_read _ c.in_ok-settle.ensures c.newest_root.ensures.reads tt
 
-pub returns-in-Err-Damaged-clause-settled : goal.returns-in-Err-Damaged-clause-settled
-returns-in-Err-Damaged-clause-settled g c =
-    let reads = c.newest_root.ensures.reads in
-    still_left (g.S.Station.meaning c.settle.new.station) (g.S.Station.meaning c.newest_root.new.station)
-    (g.S.Station.meaning c.args.station.now).seen reads.same reads.goes c.in_ok-settle.ensures.settled
+pub returns-in-Err-Damaged-clause-settles : goal.returns-in-Err-Damaged-clause-settles
+returns-in-Err-Damaged-clause-settles g c = settled_read _ c.in_ok-settle.ensures c.newest_root.ensures.reads tt
+
+pub returns-in-Err-Device-clause-settles : goal.returns-in-Err-Device-clause-settles
+returns-in-Err-Device-clause-settles g c = settled_read _ c.in_ok-settle.ensures c.newest_root.ensures.reads (λ is. c.in-Err-Device.ensures.reads.fault (search rules))

@@ -10,8 +10,8 @@ use Rattle.checker.specs.Checks.{Passes}
 use Rattle.checker.specs.Findings.{IsTreeFinding, tree_in}
 use Rattle.checker.specs.Links.{AreLinked, AreReached, IsUnlinked, IsUnreached}
 use Rattle.checker.specs.Names.{IsTable, IsUnnamed}
-use Rattle.checker.specs.Trees.{IsOut, IsSeen}
-use Rattle.checker.specs.Walks.{IsTreeAt}
+use Rattle.checker.specs.Tables as Tables
+use Rattle.checker.specs.Trees.{IsOut, IsRootOf, IsSeen, IsTreeAt}
 use Rattle.checker.specs.declared.error.Halt.{Halt}
 use Rattle.checker.specs.declared.error.Halt.TheVariants as halts
 use Rattle.checker.specs.declared.fault.Fault.{Fault}
@@ -19,7 +19,10 @@ use Rattle.checker.specs.declared.names.NumberRow.{NumberRow}
 use Rattle.checker.specs.declared.tree.Tree.{Tree}
 use Rattle.checker.proofs.GraphLaws.{IsKnown, holds_graph, tree_ends, unlinked_finding, unreached_finding}
 use Rattle.checker.proofs.HaltLaws.{passes_residual}
+use Rattle.checker.proofs.HeldLaws.{tree_later}
+use Rattle.checker.proofs.names.check_names.Given.{Over}
 use Rattle.checker.proofs.names.check_names.Goals as goal
+use Rattle.checker.proofs.names.check_names.Goals.{In_ok-table}
 
 -- a part passes, or finds a fault, by what it tells
 passes_by : {T : Type 0} (Is Other : T → Type 0) (Found Told : Fault → Type 0) (q : Result T Halt) → ((x : T) → Is x → Other x) → ((fault : Fault) → Found fault → Told fault) → Passes Is Found q → Passes Other Told q
@@ -42,44 +45,56 @@ known disk r marks t root seen none volumes =
 copied : (P : List NumberRow → Type 0) {old new : List NumberRow} → new ≡ old → P old → P new
 copied P same told = subst P (sym same) told
 
+-- ---- the tree, its table, and what a walk through it comes to
+
+tree : (g : Over) (c : In_ok-table g) (disk : ℕ → List ℕ) (r : Root) (marks : List ℕ) → IsRootOf r c.args.geometry (g.B.Blocks.count c.args.blocks.now) → IsSeen disk r marks c.args.tree.now → c.args.tree.now.fault ≡ None
+    → IsTreeAt disk r c.args.geometry (g.B.Blocks.count c.args.blocks.now) c.args.tree.now
+tree g c disk r marks over seen none = record { over = over; tree = seen.tree; grammar = seen.grammar (λ out. subst IsOut none out) }
+
+table : (g : Over) (c : In_ok-table g) (disk : ℕ → List ℕ) (r : Root) → g.B.Blocks.Shows c.args.blocks.now disk → Tables.IsKnown disk c.args.known.now → IsTreeAt disk r c.args.geometry (g.B.Blocks.count c.args.blocks.now) c.args.tree.now
+    → IsTable r.geometry (tree_in (whole disk r) c.args.tree.now.plane) c.in_ok-table.table.items × IsUnnamed c.in_ok-table.table.items
+table g c disk r shows knows at =
+    copied (λ rows. IsTable r.geometry (tree_in (whole disk r) c.args.tree.now.plane) rows × IsUnnamed rows) (c.in_ok-table.ensures.items ∙ c.deref.ensures.value) (c.in_ok-now.ensures.table disk r shows knows at)
+
 pub returns-in_err-walk-clause-passes : goal.returns-in_err-walk-clause-passes
-returns-in_err-walk-clause-passes g c = λ disk r marks shows knows root same count seen none.
+returns-in_err-walk-clause-passes g c = λ disk r marks shows knows over seen none.
+    let done = (goal.at.returns-in_err-walk-clause-passes g c).In_ok-table in
     let t = tree_in (whole disk r) c.args.tree.now.plane in
-    let is = known disk r marks c.args.tree.now root seen none c.files_hold_one_volume.ensures in
-    let at : IsTreeAt disk r c.args.geometry (g.B.Blocks.count c.args.blocks.now) c.args.tree.now = record { root = root; geometry = same; count = count; tree = seen.tree; grammar = is.grammar } in
-    let read = copied (λ rows. IsTable r.geometry t rows × IsUnnamed rows) (c.in_ok-table.ensures.items ∙ c.deref.ensures.value) (c.in_ok-now.ensures.table disk r shows knows at) in
+    let at = tree g done disk r marks over seen none in
+    let read = table g done disk r shows knows at in
     passes_residual (λ (_ : Unit {0}). Unit {0}) (λ (_ : Unit {0}). HoldsGraph r.geometry.inodes t) (IsTreeFinding r t) c.from_residual-in_err-walk.result _ c.from_residual-in_err-walk.ensures.1
-    (c.in_err-walk.ensures.walked disk r (c.in_ok-now.ensures.reads.same disk shows) root same (c.in_ok-now.ensures.reads.count ∙ count) seen.tree (c.in_ok-now.ensures.places disk r shows at) is.grammar read.0 read.1)
+    (c.in_err-walk.ensures.walked disk r (c.in_ok-now.ensures.reads.same disk shows) (tree_later c.in_ok-now.ensures.reads.count at) (c.in_ok-now.ensures.places disk r shows at) read.0 read.1)
 
 pub returns-in_err-check_reached-clause-passes : goal.returns-in_err-check_reached-clause-passes
-returns-in_err-check_reached-clause-passes g c = λ disk r marks shows knows root same count seen none.
+returns-in_err-check_reached-clause-passes g c = λ disk r marks shows knows over seen none.
+    let done = (goal.at.returns-in_err-check_reached-clause-passes g c).In_ok-table in
     let t = tree_in (whole disk r) c.args.tree.now.plane in
-    let is = known disk r marks c.args.tree.now root seen none c.files_hold_one_volume.ensures in
-    let table = c.walk.new.table.items in
-    let at : IsTreeAt disk r c.args.geometry (g.B.Blocks.count c.args.blocks.now) c.args.tree.now = record { root = root; geometry = same; count = count; tree = seen.tree; grammar = is.grammar } in
-    let read = copied (λ rows. IsTable r.geometry t rows × IsUnnamed rows) (c.in_ok-table.ensures.items ∙ c.deref.ensures.value) (c.in_ok-now.ensures.table disk r shows knows at) in
-    let walked = c.in_ok-walk.ensures.walked disk r (c.in_ok-now.ensures.reads.same disk shows) root same (c.in_ok-now.ensures.reads.count ∙ count) seen.tree (c.in_ok-now.ensures.places disk r shows at) is.grammar read.0 read.1 in
-    passes_residual (λ (_ : Unit {0}). AreReached table) (λ (_ : Unit {0}). HoldsGraph r.geometry.inodes t) (IsTreeFinding r t) c.from_residual-in_err-check_reached.result _ c.from_residual-in_err-check_reached.ensures.1
-    (passes_by (λ (_ : Unit {0}). AreReached table) (λ (_ : Unit {0}). AreReached table) (IsUnreached table) (IsTreeFinding r t) (Err _) (λ x so. so) (unreached_finding r t is table walked) c.in_err-check_reached.ensures.rows)
+    let is = known disk r marks c.args.tree.now over.root seen none c.files_hold_one_volume.ensures in
+    let at = tree g done disk r marks over seen none in
+    let read = table g done disk r shows knows at in
+    let walked = c.in_ok-walk.ensures.walked disk r (c.in_ok-now.ensures.reads.same disk shows) (tree_later c.in_ok-now.ensures.reads.count at) (c.in_ok-now.ensures.places disk r shows at) read.0 read.1 in
+    passes_residual (λ (_ : Unit {0}). AreReached c.walk.new.table.items) (λ (_ : Unit {0}). HoldsGraph r.geometry.inodes t) (IsTreeFinding r t) c.from_residual-in_err-check_reached.result _ c.from_residual-in_err-check_reached.ensures.1
+    (passes_by (λ (_ : Unit {0}). AreReached c.walk.new.table.items) (λ (_ : Unit {0}). AreReached c.walk.new.table.items) (IsUnreached c.walk.new.table.items) (IsTreeFinding r t) (Err _) (λ x so. so) (unreached_finding r t is c.walk.new.table.items walked) c.in_err-check_reached.ensures.rows)
 
 pub returns-in_err-check_links-clause-passes : goal.returns-in_err-check_links-clause-passes
-returns-in_err-check_links-clause-passes g c = λ disk r marks shows knows root same count seen none.
+returns-in_err-check_links-clause-passes g c = λ disk r marks shows knows over seen none.
+    let done = (goal.at.returns-in_err-check_links-clause-passes g c).In_ok-table in
     let t = tree_in (whole disk r) c.args.tree.now.plane in
-    let is = known disk r marks c.args.tree.now root seen none c.files_hold_one_volume.ensures in
-    let table = c.walk.new.table.items in
-    let at : IsTreeAt disk r c.args.geometry (g.B.Blocks.count c.args.blocks.now) c.args.tree.now = record { root = root; geometry = same; count = count; tree = seen.tree; grammar = is.grammar } in
-    let read = copied (λ rows. IsTable r.geometry t rows × IsUnnamed rows) (c.in_ok-table.ensures.items ∙ c.deref.ensures.value) (c.in_ok-now.ensures.table disk r shows knows at) in
-    let walked = c.in_ok-walk.ensures.walked disk r (c.in_ok-now.ensures.reads.same disk shows) root same (c.in_ok-now.ensures.reads.count ∙ count) seen.tree (c.in_ok-now.ensures.places disk r shows at) is.grammar read.0 read.1 in
-    passes_residual (λ (_ : Unit {0}). AreLinked table) (λ (_ : Unit {0}). HoldsGraph r.geometry.inodes t) (IsTreeFinding r t) c.from_residual-in_err-check_links.result _ c.from_residual-in_err-check_links.ensures.1
-    (passes_by (λ (_ : Unit {0}). AreLinked table) (λ (_ : Unit {0}). AreLinked table) (IsUnlinked table) (IsTreeFinding r t) (Err _) (λ x so. so) (unlinked_finding r t is table walked c.in_ok-check_reached.ensures.rows) c.in_err-check_links.ensures.rows)
+    let is = known disk r marks c.args.tree.now over.root seen none c.files_hold_one_volume.ensures in
+    let at = tree g done disk r marks over seen none in
+    let read = table g done disk r shows knows at in
+    let walked = c.in_ok-walk.ensures.walked disk r (c.in_ok-now.ensures.reads.same disk shows) (tree_later c.in_ok-now.ensures.reads.count at) (c.in_ok-now.ensures.places disk r shows at) read.0 read.1 in
+    passes_residual (λ (_ : Unit {0}). AreLinked c.walk.new.table.items) (λ (_ : Unit {0}). HoldsGraph r.geometry.inodes t) (IsTreeFinding r t) c.from_residual-in_err-check_links.result _ c.from_residual-in_err-check_links.ensures.1
+    (passes_by (λ (_ : Unit {0}). AreLinked c.walk.new.table.items) (λ (_ : Unit {0}). AreLinked c.walk.new.table.items) (IsUnlinked c.walk.new.table.items) (IsTreeFinding r t) (Err _) (λ x so. so) (unlinked_finding r t is c.walk.new.table.items walked c.in_ok-check_reached.ensures.rows) c.in_err-check_links.ensures.rows)
 
 pub returns-clause-passes : goal.returns-clause-passes
-returns-clause-passes g c = λ disk r marks shows knows root same count seen none.
+returns-clause-passes g c = λ disk r marks shows knows over seen none.
+    let done = (goal.at.returns-clause-passes g c).In_ok-table in
     let t = tree_in (whole disk r) c.args.tree.now.plane in
-    let is = known disk r marks c.args.tree.now root seen none c.files_hold_one_volume.ensures in
-    let at : IsTreeAt disk r c.args.geometry (g.B.Blocks.count c.args.blocks.now) c.args.tree.now = record { root = root; geometry = same; count = count; tree = seen.tree; grammar = is.grammar } in
-    let read = copied (λ rows. IsTable r.geometry t rows × IsUnnamed rows) (c.in_ok-table.ensures.items ∙ c.deref.ensures.value) (c.in_ok-now.ensures.table disk r shows knows at) in
-    let walked = c.in_ok-walk.ensures.walked disk r (c.in_ok-now.ensures.reads.same disk shows) root same (c.in_ok-now.ensures.reads.count ∙ count) seen.tree (c.in_ok-now.ensures.places disk r shows at) is.grammar read.0 read.1 in
+    let is = known disk r marks c.args.tree.now over.root seen none c.files_hold_one_volume.ensures in
+    let at = tree g done disk r marks over seen none in
+    let read = table g done disk r shows knows at in
+    let walked = c.in_ok-walk.ensures.walked disk r (c.in_ok-now.ensures.reads.same disk shows) (tree_later c.in_ok-now.ensures.reads.count at) (c.in_ok-now.ensures.places disk r shows at) read.0 read.1 in
     holds_graph r t is c.walk.new.table.items walked c.in_ok-check_reached.ensures.rows c.in_ok-check_links.ensures.rows
 
 pub returns-clause-known : goal.returns-clause-known

@@ -1,21 +1,16 @@
 use Rattle.std.proofs.Common.{◌≡◌, ◌∙◌, ◌/◌, ℕ, List, [], ◌∷◌, ◌++◌, length, None, Some, refl, sym, ap, subst, arith}
 use Rattle.std.specs.Prelude.{slice_get}
 use Rattle.std.proofs.lemmas.Option.{slice_get_read, slice_get_within}
-use Rattle.layout.specs.Places.{Blocks}
 use Rattle.layout.specs.Pointer.{PointsBelow}
-use Rattle.layout.specs.declared.pointer.Pointer.{Pointer}
-use Rattle.layout.specs.declared.root.Root.{Root}
-use Rattle.blocktree.specs.PlaceMaps.{place_at}
-use Rattle.blocktree.specs.declared.place_map.PlaceMap.{PlaceMap}
 use Rattle.images.specs.Roots.{whole}
 use Rattle.checker.specs.Findings.{IsTreeFinding, tree_in}
 use Rattle.checker.specs.Names.{AreWithin, IsWalked}
-use Rattle.checker.specs.Rows.{LeadsToRow, LeadsToRows}
-use Rattle.checker.specs.Walks.{IsTreeAt, LooksInto}
-use Rattle.checker.specs.declared.tree.Tree.{Tree}
+use Rattle.checker.specs.Walks.{LooksInto}
 use Rattle.checker.specs.declared.error.CheckError.TheVariants as check
 use Rattle.checker.proofs.HaltLaws.{looks_failed, looks_more, looks_residual, passes_residual}
+use Rattle.checker.proofs.HeldLaws.{tree_later}
 use Rattle.checker.proofs.ReadLaws.{looked, looked_more, looked_none, looks_ok}
+use Rattle.checker.proofs.RowReads.{leads_at}
 use Rattle.checker.proofs.StepLaws.{only_looked, passes_halt, root_within, way_first}
 use Rattle.checker.proofs.names.walk.Goals as goal
 
@@ -23,10 +18,7 @@ pub returns-in_err-push-clause-reads : goal.returns-in_err-push-clause-reads
 returns-in_err-push-clause-reads g c = looks_residual {T = Unit {0}} c.from_residual.result c.from_residual.ensures.1 (looks_failed (looked_none _) (λ is. cc))
 
 pub returns-in_err-push-clause-walked : goal.returns-in_err-push-clause-walked
-returns-in_err-push-clause-walked g c = λ disk r shows root same count is leads grammar table unnamed. passes_halt _ _ c.from_residual.result check.NoMemory c.from_residual.ensures.1
-
-leads_at : (disk : Blocks) (r : Root) (t : Tree) (places : PlaceMap) (n : ℕ) (p : Pointer) → p ≡ place_at places (n / 21) → LeadsToRows disk r t places → LeadsToRow disk r (n / 21) t p
-leads_at disk r t places n p is leads grammar = is ∙ leads (n / 21) grammar
+returns-in_err-push-clause-walked g c = λ disk r shows at leads table unnamed. passes_halt _ _ c.from_residual.result check.NoMemory c.from_residual.ensures.1
 
 pub loop-next-init : goal.loop-next-init
 loop-next-init g c =
@@ -72,8 +64,7 @@ loop-next-preserved g c =
       few = c.forget_over-kept.ensures.few;
       walked = λ disk r shows at leads table unnamed.
           let before = so_far.walked disk r shows at leads table unnamed in
-          let now : IsTreeAt disk r c.args.geometry (g.B.Blocks.count c.loop-next.blocks) c.args.tree.now = record { root = at.root; geometry = at.geometry; count = so_far.looked.count ∙ at.count; tree = at.tree; grammar = at.grammar } in
-          c.in_ok-size.ensures.looked disk r before.0 next (so_far.looked.same disk shows) now before.1 there (leads_at disk r c.args.tree.now c.args.places.now c.index-directory.result.now c.at-place.result c.at-place.ensures leads);
+          c.in_ok-size.ensures.looked disk r before.0 next (so_far.looked.same disk shows) (tree_later so_far.looked.count at) before.1 there (leads_at disk r c.args.tree.now c.args.places.now c.index-directory.result.now c.at-place.result c.at-place.ensures leads);
     }
 
 pub returns-in_err-size-clause-reads : goal.returns-in_err-size-clause-reads
@@ -81,25 +72,22 @@ returns-in_err-size-clause-reads g c =
     looks_more _ c.loop-next.invariant.looked (looks_residual c.from_residual-in_err-size.result c.from_residual-in_err-size.ensures.1 c.in_err-size.ensures.reads)
 
 pub returns-in_err-size-clause-walked : goal.returns-in_err-size-clause-walked
-returns-in_err-size-clause-walked g c = λ disk r shows root same count is leads grammar table unnamed.
+returns-in_err-size-clause-walked g c = λ disk r shows at leads table unnamed.
     let t = tree_in (whole disk r) c.args.tree.now.plane in
     let so_far = c.loop-next.invariant in
     let next = c.loop-next.next in
-    let at : IsTreeAt disk r c.args.geometry (g.B.Blocks.count c.args.blocks.now) c.args.tree.now = record { root = root; geometry = same; count = count; tree = is; grammar = grammar } in
-    let now : IsTreeAt disk r c.args.geometry (g.B.Blocks.count c.loop-next.blocks) c.args.tree.now = record { root = root; geometry = same; count = so_far.looked.count ∙ count; tree = is; grammar = grammar } in
     let before = so_far.walked disk r shows at leads table unnamed in
     let there : slice_get c.loop-next.found.items next ≡ Some c.index-directory.result.now = slice_get_read c.loop-next.found.items (length c.loop-next.found.items) next c.index-directory.result.now refl (omega arith) c.index-directory.ensures in
     passes_residual (λ (_ : ℕ). Unit {0}) _ (IsTreeFinding r t) c.from_residual-in_err-size.result _ c.from_residual-in_err-size.ensures.1
-    (c.in_err-size.ensures.looked disk r before.0 next (so_far.looked.same disk shows) now before.1 there (leads_at disk r c.args.tree.now c.args.places.now c.index-directory.result.now c.at-place.result c.at-place.ensures leads))
+    (c.in_err-size.ensures.looked disk r before.0 next (so_far.looked.same disk shows) (tree_later so_far.looked.count at) before.1 there (leads_at disk r c.args.tree.now c.args.places.now c.index-directory.result.now c.at-place.result c.at-place.ensures leads))
 
 pub returns-clause-reads : goal.returns-clause-reads
 returns-clause-reads g c = looks_ok c.loop-next.invariant.looked
 
 pub returns-clause-walked : goal.returns-clause-walked
-returns-clause-walked g c = λ disk r shows root same count is leads grammar table unnamed.
+returns-clause-walked g c = λ disk r shows at leads table unnamed.
     let t = tree_in (whole disk r) c.args.tree.now.plane in
     let so_far = c.loop-next.invariant in
-    let at : IsTreeAt disk r c.args.geometry (g.B.Blocks.count c.args.blocks.now) c.args.tree.now = record { root = root; geometry = same; count = count; tree = is; grammar = grammar } in
     let done = so_far.walked disk r shows at leads table unnamed in
     let all : c.loop-next.next ≡ length c.loop-next.found.items = omega (arith, so_far.below) in (
       done.0,

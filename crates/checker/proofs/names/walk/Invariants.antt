@@ -5,7 +5,8 @@ use Rattle.images.specs.Roots.{whole}
 use Rattle.checker.specs.Findings.{tree_in}
 use Rattle.checker.specs.Names.{AreWithin, IsTable, IsUnnamed}
 use Rattle.checker.specs.Rows.{LeadsToRows}
-use Rattle.checker.specs.Walks.{IsTreeAt, LooksInto, nameless}
+use Rattle.checker.specs.Trees.{IsTreeAt}
+use Rattle.checker.specs.Walks.{LooksInto, nameless}
 use Rattle.checker.proofs.ReadLaws.{HasLooked}
 use Rattle.checker.proofs.names.walk.Given as goal
 

@@ -1,12 +1,11 @@
-use Rattle.std.proofs.Common.{◌≡◌, ◌∙◌, length, ap, refl, sym, arith}
+use Rattle.std.proofs.Common.{◌≡◌, ◌∙◌, length, ap, sym, arith}
 use Rattle.std.proofs.lemmas.Option.{slice_get_within}
 use Rattle.layout.specs.Limits.{Sizes}
-use Rattle.blocktree.specs.PlaceMaps.{place_at}
 use Rattle.checker.proofs.HaltLaws.{looks_more, looks_residual}
 use Rattle.checker.proofs.HeldLaws.{top_grammar}
 use Rattle.checker.proofs.OwnerLaws.{file_sound}
 use Rattle.checker.proofs.ReadLaws.{looked, looked_more, looks_ok}
-use Rattle.checker.proofs.RowReads.{leads_to_row}
+use Rattle.checker.proofs.RowReads.{leads_to_rows}
 use Rattle.checker.proofs.TableLaws.{row_is}
 use Rattle.checker.proofs.table.read_table.Goals as goal
 
@@ -24,18 +23,17 @@ pub returns-clause-known : goal.returns-clause-known
 returns-clause-known g c = λ disk shows is. c.in_ok-rows.ensures.rows disk (c.in_ok-places.ensures.reads.same disk shows) is
 
 pub returns-clause-places : goal.returns-clause-places
-returns-clause-places g c = λ disk r shows at i.
-    leads_to_row disk r i c.args.tree.now at.tree c.based_trees_are_sound.ensures.all (g.B.Blocks.count c.args.blocks.now) c.in_ok-places.places (place_at c.in_ok-places.places i) at.count
-    (omega (arith, at.root.head.sizes.least_inodes)) refl (c.in_ok-places.ensures.places disk shows)
+returns-clause-places g c = λ disk r shows at.
+    leads_to_rows disk r c.args.tree.now c.based_trees_are_sound.ensures.all c.in_ok-places.places at (c.in_ok-places.ensures.places disk shows)
 
 pub returns-clause-table : goal.returns-clause-table
 returns-clause-table g c = λ disk r shows is at.
     let tree = c.args.tree.now in
-    let sound = file_sound c.based_trees_are_sound.ensures.all r.geometry disk tree.top tree.file (g.B.Blocks.count c.args.blocks.now) (top_grammar disk r r.geometry tree at.tree at.grammar) at.tree.file at.count in
+    let sound = file_sound c.based_trees_are_sound.ensures.all r.geometry disk tree.top tree.file (g.B.Blocks.count c.args.blocks.now) (top_grammar disk r r.geometry tree at.tree at.grammar) at.tree.file at.over.count in
     let found = c.in_ok-places.ensures.places disk shows sound in
     let rows = c.in_ok-rows.ensures.rows disk (c.in_ok-places.ensures.reads.same disk shows) is in
     let long : length c.in_ok-rows.rows.items ≡ c.args.geometry.inodes = omega (arith, c.in_ok-rows.ensures.length, c.in_ok-rows.rows.ok.0) in
-    let size : length c.in_ok-rows.rows.items ≡ r.geometry.inodes = long ∙ sym (ap (λ (s : Sizes). s.inodes) at.geometry) in (
+    let size : length c.in_ok-rows.rows.items ≡ r.geometry.inodes = long ∙ sym (ap (λ (s : Sizes). s.inodes) at.over.geometry) in (
       record {
         length_is = size;
         each = λ n row some got.

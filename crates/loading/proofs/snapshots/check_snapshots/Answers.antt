@@ -3,7 +3,7 @@ use Rattle.std.specs.Prelude.{slice_index_or}
 use Rattle.std.proofs.lemmas.List.{get_or_read}
 use Rattle.layout.specs.declared.pointer.Pointer.TheVariants.{Hole}
 use Rattle.images.specs.Roots.{slot}
-use Rattle.loading.proofs.SnapshotLaws.{apart, at_slot, snapshot_whole}
+use Rattle.loading.proofs.SnapshotLaws.{apart, are_snapshots, at_slot, snapshot_whole}
 use Rattle.buffers.proofs.ReadLaws.{only_more, only_ok, reads_err, reads_more}
 use Rattle.loading.proofs.snapshots.check_snapshots.Goals as goal
 
@@ -29,3 +29,11 @@ returns-in_err-check_apart-clause-reads g c = reads_err c.from_residual-in_err-c
 
 pub returns-clause-reads : goal.returns-clause-reads
 returns-clause-reads g c = only_ok c.loop-k.invariant.read
+
+pub returns-clause-snapshots : goal.returns-clause-snapshots
+returns-clause-snapshots g c disk shows =
+    are_snapshots disk c.args.root.now c.requires.root.slots c.snapshots_are_what_their_bytes_spell.ensures
+    (λ j low. (
+      c.loop-k.invariant.are disk shows j (omega (arith, low, c.loop-k-test.false)),
+      λ l lt. c.loop-k.invariant.apart disk shows j l (omega (arith, low, c.loop-k-test.false)) lt,
+    ))

@@ -2,34 +2,18 @@ use Rattle.std.proofs.Common.{◌≡◌, ◌*◌, length, sym, subst, ◌∙◌}
 use Rattle.model.specs.States.{empty}
 use Rattle.layout.specs.Limits.{Sizes}
 use Rattle.making.specs.Images.{HoldsMade, OpensAlone}
-use Rattle.making.proofs.MadeLemmas.{IsFirstPlan, made, opens}
-use Rattle.making.proofs.image.make.Given.{Over}
+use Rattle.making.proofs.MadeLemmas.{made, opens}
 use Rattle.making.proofs.image.make.Goals as goal
-use Rattle.making.proofs.image.make.Goals.{In-Ok-write_image}
-
-first : (g : Over) (c : In-Ok-write_image g) → IsFirstPlan c.in-Some.geometry c.in-Ok.point.plan c.in-Ok.point.root
-first g c = record {
-  slot = c.in-Ok.ensures.slot;
-  bytes = c.in-Ok.ensures.bytes;
-  behind = c.in-Ok.ensures.behind;
-  root = c.in-Ok.ensures.root;
-  generation = c.in-Ok.ensures.generation;
-  geometry = c.in-Ok.ensures.geometry;
-  holds = c.in-Ok.ensures.holds;
-  room = c.in-Ok.ensures.room;
-}
 
 pub returns-in-Ok-write_image-clause-made : goal.returns-in-Ok-write_image-clause-made
 returns-in-Ok-write_image-clause-made g c honest images left =
     let s = c.in-Some.geometry in
-    let at = (goal.at.returns-in-Ok-write_image-clause-made g c).In-Ok-write_image in
     let written = c.in-Ok-write_image.ensures.written (c.in-Ok-write_image.ensures.same.honest.1 honest) honest images left in
-    subst (λ (t : Sizes). HoldsMade t images) c.in-Some.ensures.value (made s c.in-Ok.point.plan c.in-Ok.point.root (first g at) images written)
+    subst (λ (t : Sizes). HoldsMade t images) c.in-Some.ensures.value (made s c.in-Ok.point.plan c.in-Ok.point.root c.in-Ok.ensures.point images written)
 
 pub returns-in-Ok-write_image-clause-opens : goal.returns-in-Ok-write_image-clause-opens
 returns-in-Ok-write_image-clause-opens g c honest images left =
     let s = c.in-Some.geometry in
-    let at = (goal.at.returns-in-Ok-write_image-clause-opens g c).In-Ok-write_image in
     let new = c.in-Ok-write_image.station in
     let m = g.S.Station.meaning new in
     let same = c.in-Ok-write_image.ensures.same in
@@ -40,4 +24,4 @@ returns-in-Ok-write_image-clause-opens g c honest images left =
     let size : length images.nvram ≡ 2 * s.half =
     sized.nvram ∙ same.nvram_bytes ∙ sym c.nv_bytes.ensures ∙ c.if-nv_bytes-nvram_bytes.false ∙ c.nvram_bytes.ensures.value in
     subst (λ (t : Sizes). OpensAlone m (empty t.inodes) images) c.in-Some.ensures.value
-    (opens s c.in-Ok.point.plan c.in-Ok.point.root (first g at) images written m.sectors sectors size c.first_images_open_to_the_empty_state.ensures)
+    (opens s c.in-Ok.point.plan c.in-Ok.point.root c.in-Ok.ensures.point images written m.sectors sectors size c.first_images_open_to_the_empty_state.ensures)

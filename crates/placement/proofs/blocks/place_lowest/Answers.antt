@@ -28,28 +28,27 @@ place_blocks-requires c =
       end = kept_end settled below kept c.args.count (omega arith) each;
     }
 
-pub returns-clause-placed : goal.returns-clause-placed
-returns-clause-placed c =
-    let count = c.args.draft.now.map.count in
+pub returns-clause-lowest : goal.returns-clause-lowest
+returns-clause-lowest c =
+    let t = c.args.tree.now in
     let settled = node c.args.settled.now 0 in
     let below = c.in_ok-below.below in
-    let kept = min c.args.tree.now.kept c.args.count in
-    let each = below_is (goal.at.returns-clause-placed c).In_ok-below in
-    placed_at c.args.draft.now c.place_blocks.new.draft settled below c.in_ok-nodes.nodes
-    (kept_below count settled below kept each (c.requires.settled 0)) (kept_same settled below kept each) c.in_ok-nodes.ensures.placed
+    let kept = min t.kept c.args.count in
+    let each = below_is (goal.at.returns-clause-lowest c).In_ok-below in
+    let blocks = c.in_ok-nodes.ensures in
+    record {
+      end = blocks.end;
+      placed = placed_at c.args.draft.now c.place_blocks.new.draft settled below c.in_ok-nodes.nodes (kept_below c.args.draft.now.map.count settled below kept each (c.requires.settled 0))
+          (kept_same settled below kept each) blocks.placed;
+      blocks = λ e has i lt le. blocks.blocks e has i lt le ∙ ap (λ p. changed_or t i (pointed e p)) (kept_first settled below t.kept c.args.count i each lt);
+      unchanged = λ i lt le not. blocks.unchanged i not ∙ kept_first settled below t.kept c.args.count i each lt;
+      whole = blocks.whole;
+    }
 
-pub returns-clause-unchanged : goal.returns-clause-unchanged
-returns-clause-unchanged c = λ i lt not.
-    c.in_ok-nodes.ensures.unchanged i not
-    ∙ kept_first (node c.args.settled.now 0) c.in_ok-below.below c.args.tree.now.kept c.args.count i (below_is (goal.at.returns-clause-unchanged c).In_ok-below) lt
-
-pub returns-clause-holes : goal.returns-clause-holes
-returns-clause-holes c = λ i lt hole.
-    sym (kept_first (node c.args.settled.now 0) c.in_ok-below.below c.args.tree.now.kept c.args.count i (below_is (goal.at.returns-clause-holes c).In_ok-below) lt)
-    ∙ c.in_ok-nodes.ensures.holes i hole
-
-pub returns-clause-blocks : goal.returns-clause-blocks
-returns-clause-blocks c = λ e has i lt le.
-    let t = c.args.tree.now in
-    c.in_ok-nodes.ensures.blocks e has i lt le
-    ∙ ap (λ p. changed_or t i (pointed e p)) (kept_first (node c.args.settled.now 0) c.in_ok-below.below t.kept c.args.count i (below_is (goal.at.returns-clause-blocks c).In_ok-below) lt)
+pub returns-clause-stored : goal.returns-clause-stored
+returns-clause-stored c =
+    let each = below_is (goal.at.returns-clause-stored c).In_ok-below in
+    record {
+      holes = λ i le lt hole. sym (kept_first (node c.args.settled.now 0) c.in_ok-below.below c.args.tree.now.kept c.args.count i each lt) ∙ c.in_ok-nodes.ensures.holes i hole;
+      changed = λ i le lt changed. c.in_ok-nodes.ensures.stored i lt le changed;
+    }

@@ -1,7 +1,5 @@
-use Rattle.std.proofs.Common.{◌<◌, ◌≤◌, ◌+◌, ℕ, Ok, Result, sym, subst, ◌∙◌, arith, rules}
-use Rattle.std.proofs.lemmas.Bool.{cond_below}
+use Rattle.std.proofs.Common.{◌≤◌, ◌+◌, ℕ, Ok, Result, sym, subst, ◌∙◌, arith, rules}
 use Rattle.layout.specs.Version.{level_of}
-use Rattle.layout.specs.declared.pointer.Pointer.TheVariants.{Hole}
 use Rattle.blocktree.specs.PlaceMaps.{AreBelow, place_at}
 use Rattle.blocktree.specs.Names.{nodes_at}
 use Rattle.blocktree.specs.Places.{block_count}
@@ -11,26 +9,29 @@ use Rattle.conspoint.specs.declared.draft.Draft.{Draft}
 use Rattle.conspoint.specs.declared.error.PlanError.{PlanError}
 use Rattle.conspoint.proofs.StepLemmas.{places_err, places_ok, places_rise}
 use Rattle.placement.specs.Files.{object_block, with_first}
-use Rattle.placement.specs.Nodes.{AreWithin, node}
+use Rattle.placement.specs.Layouts.{AreLowest}
+use Rattle.placement.specs.Nodes.{AreSettledIn}
 use Rattle.placement.specs.Space.{first_stores, more_over}
 use Rattle.placement.specs.Steps.{PlacesHeights}
 use Rattle.placement.proofs.CostLaws.{changed_most, not_changed, one_added, placed_most, some_index, some_stored, with_one}
-use Rattle.placement.proofs.HeldLaws.{nodes_fall}
-use Rattle.placement.proofs.PlacedLaws.{one_placed, placed_both, placed_over}
+use Rattle.placement.proofs.LaidLaws.{laid_over}
 use Rattle.placement.proofs.RaiseLaws.{ones, placed_heights}
-use Rattle.placement.proofs.StandLaws.{block_is, first_is}
+use Rattle.placement.proofs.StandLaws.{blocks_are, first_is}
 use Rattle.placement.proofs.but_first.lay_but_first.Goals as goal
 use Rattle.placement.proofs.but_first.lay_but_first.Goals.{In_ok-placed}
 
+lowest_is : (c : In_ok-placed) → AreLowest 1 (block_count c.args.object.now.file.size) c.args.object.now.file.tree c.args.settled.now c.args.draft.now c.place_but_first.new.draft c.in_ok-placed.placed.0
+lowest_is c = rw (c.tree.ensures, c.block_count-count.ensures) at c.in_ok-placed.ensures.lowest
+
 pub lay_over-requires : goal.lay_over-requires
 lay_over-requires c =
-    let count = c.in_ok-placed.ensures.step.grows.count in
+    let lowest = lowest_is (goal.at.lay_over-requires c).In_ok-placed in
+    let count = sym c.in_ok-placed.ensures.step.grows.count in
     record {
       level = search rules;
-      end = rw c.block_count-count.ensures at c.in_ok-placed.ensures.end;
-      blocks = subst (λ (n : ℕ). AreBelow n c.in_ok-placed.placed.0) (sym count) c.in_ok-placed.ensures.placed.within;
-      settled = subst (λ (n : ℕ). AreWithin n c.args.settled.now) (sym count) c.requires.settled;
-      full = c.requires.full;
+      end = lowest.end;
+      blocks = subst (λ (n : ℕ). AreBelow n c.in_ok-placed.placed.0) count lowest.placed.within;
+      settled = subst (λ (n : ℕ). AreSettledIn n c.args.settled.now) count c.requires.settled;
     }
 
 pub returns-clause-reserved : goal.returns-clause-reserved
@@ -38,33 +39,16 @@ returns-clause-reserved c =
     let size = c.args.object.now.file.size in
     (placed_heights (block_count size) (level_of size) c.args.settled.now c.in_ok-placed.placed.0 c.in_ok-laid.ensures.step).others c.in_ok-placed.placed.1 c.in_ok-placed.ensures.reserved
 
-pub returns-clause-placed : goal.returns-clause-placed
-returns-clause-placed c =
-    let settled = c.args.settled.now in
-    let n = c.in_ok-laid.laid.nodes in
-    let size = c.args.object.now.file.size in
-    let a = c.args.draft.now in
-    let b = c.place_but_first.new.draft in
-    let over = placed_heights (block_count size) (level_of size) settled c.in_ok-placed.placed.0 c.in_ok-laid.ensures.step in
-    placed_over a c.lay_over.new.draft settled n (level_of size) (omega (arith, c.in_ok-laid.ensures.heights))
-    (placed_both a b c.lay_over.new.draft settled n 0 1 (level_of size) c.in_ok-placed.ensures.step.grows over.grows
-    (one_placed a b settled n 0 c.in_ok-placed.placed.0 c.in_ok-placed.ensures.placed c.in_ok-laid.ensures.blocks) c.in_ok-laid.ensures.placed)
+pub returns-clause-laid : goal.returns-clause-laid
+returns-clause-laid c =
+    laid_over (lowest_is (goal.at.returns-clause-laid c).In_ok-placed) c.in_ok-laid.ensures.raised c.in_ok-placed.ensures.step.grows c.in_ok-laid.ensures.step (omega arith)
+    (omega (arith, c.in_ok-laid.ensures.kept, c.kept_of-kept.ensures, c.block_count-count.ensures))
 
 pub returns-clause-first : goal.returns-clause-first
-returns-clause-first c = c.in_ok-laid.ensures.blocks 0 ∙ c.in_ok-placed.ensures.first
-
-pub returns-clause-short : goal.returns-clause-short
-returns-clause-short c = λ m i past. c.in_ok-laid.ensures.end m i (omega (arith, past, nodes_fall (block_count c.args.object.now.file.size) m))
-
-pub returns-clause-kept : goal.returns-clause-kept
-returns-clause-kept c = λ i some lt not.
-    let low : i < c.args.object.now.file.tree.kept = omega (arith, lt, c.in_ok-laid.ensures.kept, c.kept_of-kept.ensures) in
-    let within : i < c.block_count-count.result = omega (arith, lt, c.in_ok-laid.ensures.kept, c.kept_of-kept.ensures) in
-    c.in_ok-laid.ensures.blocks i ∙ (rw c.tree.ensures at (c.in_ok-placed.ensures.unchanged i within some (rw c.tree.ensures not)))
-    ∙ sym (cond_below i c.args.object.now.file.tree.kept (node c.args.settled.now 0 i) Hole low)
+returns-clause-first c = c.in_ok-laid.ensures.raised.lowest_are 0 ∙ c.in_ok-placed.ensures.first
 
 pub returns-clause-whole : goal.returns-clause-whole
-returns-clause-whole c = rw (c.tree.ensures, c.block_count-count.ensures) at c.in_ok-placed.ensures.whole
+returns-clause-whole c = (lowest_is (goal.at.returns-clause-whole c).In_ok-placed).whole
 
 pub returns-clause-stands : goal.returns-clause-stands
 returns-clause-stands c = λ s disk base change known e has same.
@@ -75,8 +59,7 @@ returns-clause-stands c = λ s disk base change known e has same.
     let over = placed_heights (block_count o.file.size) (level_of o.file.size) settled nodes c.in_ok-laid.ensures.step in
     c.in_ok-laid.ensures.stands s disk base (change.blocks ∙ sym c.in_ok-placed.ensures.step.grows.count) change.sound known e has same (with_first (e first) (object_block disk o))
     (first_is e (place_at nodes) first (object_block disk o) c.in_ok-placed.ensures.first
-    (λ i some. block_is disk e base o settled known same (place_at nodes) i (λ past. c.in_ok-placed.ensures.end i (omega (arith, past)))
-    (λ lt. (rw c.tree.ensures at (c.in_ok-placed.ensures.blocks e (over.grows.has e has) i (omega (arith, lt)) some)))))
+    (blocks_are disk e base o settled known same (lowest_is (goal.at.returns-clause-stands c).In_ok-placed) (over.grows.has e has)))
 
 -- the blocks are placed before
 most : {U : Type 0} {d : Draft} {r : Result U PlanError} (c : In_ok-placed)
@@ -89,8 +72,9 @@ most c step =
     let level : 1 ≤ level_of file.size = search rules in
     let stores = block_stores t 1 in
     let lowest : Places (changed_blocks t 1 count + 1) c.args.draft.now c.place_but_first.new.draft (Ok c.in_ok-placed.placed) = rw (c.tree.ensures, c.block_count-count.ensures) at c.in_ok-placed.ensures.step in
-    placed_most (with_one stores) (λ j. 1) (changed_blocks t 1 count + 1) (nodes_at count 2) file c.args.settled.now c.in_ok-placed.placed.0 c.requires.counted (rw c.block_count-count.ensures at c.in_ok-placed.ensures.end)
-    (λ i lt none. rw c.tree.ensures at (c.in_ok-placed.ensures.unchanged i (omega (arith, lt)) (some_index stores i none) (rw c.tree.ensures (not_changed t 1 i (some_index stores i none) (some_stored stores i none)))))
+    let is = lowest_is c in
+    placed_most (with_one stores) (λ j. 1) (changed_blocks t 1 count + 1) (nodes_at count 2) file c.args.settled.now c.in_ok-placed.placed.0 c.requires.counted is.end
+    (λ i lt none. is.unchanged i lt (some_index stores i none) (not_changed t 1 i (some_index stores i none) (some_stored stores i none)))
     level (one_added stores count) (omega (arith, ones (nodes_at count 2))) (λ j high none. absurd (omega (arith, none))) lowest step
 
 pub returns-clause-step : goal.returns-clause-step

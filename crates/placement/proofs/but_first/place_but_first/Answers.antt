@@ -1,5 +1,6 @@
-use Rattle.std.proofs.Common.{◌≢◌, ◌+◌, ap, ◌∙◌, arith}
+use Rattle.std.proofs.Common.{◌≡◌, ◌≢◌, ℕ, ◌+◌, ◌≤◌, ap, ◌∙◌, arith}
 use Rattle.layout.specs.Places.{pointed}
+use Rattle.blocktree.specs.PlaceMaps.{place_at}
 use Rattle.conspoint.specs.Space.{changed_blocks}
 use Rattle.placement.specs.Nodes.{node}
 use Rattle.conspoint.proofs.StepLemmas.{places_err, places_ok, places_out, places_then}
@@ -17,18 +18,17 @@ returns-in_err-set-clause-step c =
 pub returns-clause-step : goal.returns-clause-step
 returns-clause-step c = places_ok (places_then c.in_ok-places.ensures.step c.in_ok-first.ensures.step (omega arith))
 
-pub returns-clause-unchanged : goal.returns-clause-unchanged
-returns-clause-unchanged c = λ i lt some not. (let later : i ≢ 0 = omega arith in c.in_ok-set.ensures.others i later ∙ c.in_ok-places.ensures.unchanged i lt not)
-
-pub returns-clause-end : goal.returns-clause-end
-returns-clause-end c = λ i past. (let later : i ≢ 0 = omega arith in c.in_ok-set.ensures.others i later ∙ c.in_ok-places.ensures.end i past)
-
-pub returns-clause-blocks : goal.returns-clause-blocks
-returns-clause-blocks c = λ e has i lt some.
-    let later : i ≢ 0 = omega arith in
-    ap (pointed e) (c.in_ok-set.ensures.others i later) ∙ c.in_ok-places.ensures.blocks e (c.in_ok-first.ensures.step.grows.has e has) i lt some
-
-pub returns-clause-placed : goal.returns-clause-placed
-returns-clause-placed c =
-    first_placed c.args.draft.now c.place_lowest.new.draft c.reserve.new.self (node c.args.settled.now 0) c.in_ok-places.places c.set.new.self c.in_ok-first.first c.in_ok-places.ensures.step.grows
-    c.in_ok-first.ensures.step.grows c.in_ok-places.ensures.placed c.in_ok-first.ensures.taken c.in_ok-first.ensures.reserved.low c.in_ok-set.ensures.there c.in_ok-set.ensures.others
+pub returns-clause-lowest : goal.returns-clause-lowest
+returns-clause-lowest c =
+    let lowest = c.in_ok-places.ensures.lowest in
+    let given = c.in_ok-first.ensures in
+    let set = c.in_ok-set.ensures in
+    let later : (i : ℕ) → 1 ≤ i → place_at c.set.new.self i ≡ place_at c.in_ok-places.places i = λ i some. (let other : i ≢ 0 = omega arith in set.others i other) in
+    record {
+      end = λ i past. later i (omega arith) ∙ lowest.end i past;
+      placed = first_placed c.args.draft.now c.place_lowest.new.draft c.reserve.new.self (node c.args.settled.now 0) c.in_ok-places.places c.set.new.self c.in_ok-first.first c.in_ok-places.ensures.step.grows given.step.grows
+          lowest.placed given.taken given.reserved.low set.there set.others;
+      blocks = λ e has i lt some. ap (pointed e) (later i some) ∙ lowest.blocks e (given.step.grows.has e has) i lt some;
+      unchanged = λ i lt some not. later i some ∙ lowest.unchanged i lt some not;
+      whole = lowest.whole;
+    }

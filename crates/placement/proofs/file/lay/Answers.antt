@@ -1,6 +1,7 @@
-use Rattle.std.proofs.Common.{rules, ℕ, ◌<◌, List, length, ap, subst, arith}
+use Rattle.std.proofs.Common.{rules, ℕ, ◌<◌, ◌≤◌, List, length, ap, subst, arith}
 use Rattle.blocktree.specs.Places.{IsPath}
 use Rattle.blocktree.specs.declared.place_map.PlaceMap.{PlaceMap}
+use Rattle.placement.specs.Nodes.{height_of}
 use Rattle.placement.proofs.PlacedLaws.{node_over, none_laid}
 use Rattle.placement.proofs.SettledLaws.{NodeLaws, blocks_whole, paths_sound}
 use Rattle.placement.proofs.StepLaws.{both_err, both_ok, place_ended, read_ended, reads_nothing}
@@ -9,11 +10,15 @@ use Rattle.placement.proofs.file.lay.Goals as goal
 pub returns-then-level_of-eq0-clause-stands : goal.returns-then-level_of-eq0-clause-stands
 returns-then-level_of-eq0-clause-stands g c = λ s disk base shows change known e has same. c.in_ok-small.ensures.stands s disk e shows change.ends
 
-pub returns-then-level_of-eq0-clause-placed : goal.returns-then-level_of-eq0-clause-placed
-returns-then-level_of-eq0-clause-placed g c = none_laid c.args.draft.now c.args.settled.now c.in_ok-small.small.nodes (omega (arith, ap (λ (xs : List PlaceMap). length xs) c.in_ok-small.ensures.none))
-
-pub returns-then-level_of-eq0-clause-short : goal.returns-then-level_of-eq0-clause-short
-returns-then-level_of-eq0-clause-short g c = λ m i past. node_over c.in_ok-small.small.nodes m i (omega (arith, ap (λ (xs : List PlaceMap). length xs) c.in_ok-small.ensures.none))
+pub returns-then-level_of-eq0-clause-laid : goal.returns-then-level_of-eq0-clause-laid
+returns-then-level_of-eq0-clause-laid g c =
+    let nodes = c.in_ok-small.small.nodes in
+    let none : height_of nodes ≤ 0 = omega (arith, ap (λ (xs : List PlaceMap). length xs) c.in_ok-small.ensures.none) in
+    record {
+      placed = none_laid c.args.draft.now c.args.settled.now nodes none;
+      short = λ m i past. node_over nodes m i (omega (arith, none));
+      kept = λ i some lt not. absurd (omega (arith, lt, c.in_ok-small.ensures.kept));
+    }
 
 pub returns-in_err-small-clause-damaged : goal.returns-in_err-small-clause-damaged
 returns-in_err-small-clause-damaged g c = λ s disk base shows change blocks bad.

@@ -1,10 +1,11 @@
-use Rattle.std.proofs.Common.{rules, ◌≡◌, ℕ, ◌-◌, ◌≤◌, ap, subst, ◌∙◌, arith}
+use Rattle.std.proofs.Common.{rules, ◌≡◌, ℕ, ◌-◌, ◌≤◌, ap, ◌∙◌, arith}
 use Rattle.layout.specs.Places.{pointed}
 use Rattle.layout.specs.Version.{level_of}
 use Rattle.blocktree.specs.Names.{nodes_at}
 use Rattle.blocktree.specs.Places.{block_count}
 use Rattle.conspoint.proofs.StepLemmas.{places_err, places_ok}
-use Rattle.placement.specs.Nodes.{ArePlacedIn, height_of, node}
+use Rattle.placement.specs.Layouts.{AreRaised}
+use Rattle.placement.specs.Nodes.{node}
 use Rattle.placement.proofs.HeldLaws.{nodes_same, top_few, top_of}
 use Rattle.placement.proofs.PlacedLaws.{all_within}
 use Rattle.placement.proofs.RaiseLaws.{heights_as}
@@ -18,24 +19,28 @@ body_of-requires c = λ i le.
     let few : nodes_at (block_count size) (level_of size - 1) ≤ i = omega (arith, le, top) in
     let level : c.from-level.result ≡ level_of size = search rules in
     let count : nodes_at c.block_count.result (c.from-level.result - 1) ≡ nodes_at (block_count size) (level_of size - 1) = ap (λ (n : ℕ). nodes_at n (c.from-level.result - 1)) c.block_count.ensures ∙ ap (λ (n : ℕ). nodes_at (block_count size) (n - 1)) level in
-    c.height-highest.ensures i ∙ c.in_ok-nodes.ensures.end (c.from-level.result - 1) i (omega (arith, few, count))
+    c.height-highest.ensures i ∙ c.in_ok-nodes.ensures.raised.end (c.from-level.result - 1) i (omega (arith, few, count))
+
+pub returns-clause-raised : goal.returns-clause-raised
+returns-clause-raised c =
+    let level : c.from-level.result ≡ level_of c.args.object.now.file.size = search rules in
+    rw (level, c.block_count.ensures) at c.in_ok-nodes.ensures.raised
 
 pub returns-clause-stands : goal.returns-clause-stands
 returns-clause-stands c = λ s disk base blocks sound known e has same block leads.
     let o = c.args.object.now in
     let size = o.file.size in
     let n = c.in_ok-nodes.nodes in
-    let raised = c.in_ok-nodes.ensures in
     let level : c.from-level.result ≡ level_of size = search rules in
-    let heights : height_of n ≡ level_of size = raised.heights ∙ level in
+    let raised : AreRaised (block_count size) (level_of size) c.args.settled.now c.args.blocks c.args.draft.now c.raise_all.new.draft n = rw (level, c.block_count.ensures) at c.in_ok-nodes.ensures.raised in
     let top = top_of size c.requires.level in
-    laid_stands s disk e base o c.args.settled.now sound known same block c.body_of.result n (level_of size - 1) top (heights ∙ top)
-    (all_within s.blocks (level_of size) c.args.draft.now c.raise_all.new.draft c.args.settled.now n c.args.blocks blocks heights c.requires.blocks raised.lowest (subst (λ (k : ℕ). ArePlacedIn 1 k c.args.draft.now c.raise_all.new.draft c.args.settled.now n) level raised.placed))
-    (λ m i past. raised.end m i (omega (arith, past, nodes_same size m, ap (λ (n : ℕ). nodes_at n m) c.block_count.ensures)))
+    laid_stands s disk e base o c.args.settled.now sound known same block c.body_of.result n (level_of size - 1) top (raised.heights ∙ top)
+    (all_within s.blocks (level_of size) c.args.draft.now c.raise_all.new.draft c.args.settled.now n c.args.blocks blocks raised.heights c.requires.blocks raised.lowest_are raised.placed)
+    (λ m i past. raised.end m i (omega (arith, past, nodes_same size m)))
     c.body_of.ensures.count
     (λ i. c.body_of.ensures.each i ∙ c.height-highest.ensures i ∙ ap (λ (k : ℕ). node n (k - 1) i) level)
-    (raised.over e has)
-    (λ i. ap (pointed e) (raised.lowest i) ∙ leads i)
+    (c.in_ok-nodes.ensures.over e has)
+    (λ i. ap (pointed e) (raised.lowest_are i) ∙ leads i)
 
 pub returns-in_err-nodes-clause-step : goal.returns-in_err-nodes-clause-step
 returns-in_err-nodes-clause-step c = λ w counts.

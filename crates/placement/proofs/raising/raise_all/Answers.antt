@@ -12,7 +12,7 @@ use Rattle.conspoint.specs.declared.error.PlanError.{PlanError}
 use Rattle.conspoint.proofs.GroupLemmas.{same_follows, same_group}
 use Rattle.conspoint.proofs.StepLemmas.{places_err, places_none, places_ok, places_out, places_then}
 use Rattle.placement.specs.declared.nodes.Nodes.{Nodes}
-use Rattle.placement.specs.Nodes.{ArePlacedAt, AreWithin, height_of, node, under}
+use Rattle.placement.specs.Nodes.{ArePlacedAt, ArePlacedIn, AreWithin, height_of, node, under}
 use Rattle.placement.specs.Steps.{PlacesHeights, raise_stores}
 use Rattle.placement.proofs.HeldLaws.{first_nodes}
 use Rattle.placement.proofs.PlacedLaws.{all_within, node_last, node_over, node_pushed, none_placed, one_placed, placed_both, placed_same}
@@ -60,7 +60,7 @@ raise-requires-clause-within c = λ i.
 pub raise-requires-clause-settled : goal.raise-requires-clause-settled
 raise-requires-clause-settled c =
     let grows = (placed_heights c.args.count c.loop-height.height c.args.settled.now c.args.lowest c.loop-height.invariant.step).grows in
-    subst (λ (n : ℕ). AreWithin n c.args.settled.now) (sym grows.count) c.requires.settled
+    subst (λ (n : ℕ). AreWithin n c.args.settled.now) (sym grows.count) c.requires.settled.within
 
 -- with the nodes over the last height that is placed, a level over all of these takes what its heights do
 more : {T : Type 0} {d : Draft} {r : Result T PlanError} (level : ℕ) (c : After-height-below) → c.loop-height.height < level
@@ -111,7 +111,7 @@ loop-height-preserved c =
           (λ i le. so_far.end (h - 1) i (omega (arith, le, c.div_ceil-groups.ensures, so_far.groups)))
           (λ j lt. same_group e (node settled (suc (h - 1)) j) (place_at over j) (under settled (h - 1) j) (under settled (h - 1) j) (λ i. node old (h - 1) (1024 * j + i)) (group c.height-below.result.now j)
           (λ i small. refl) (λ i small. c.height-below.ensures (1024 * j + i)) (raised.groups e has j lt));
-      still = still_pushed settled old new lowest over (h - 1) h groups is so_far.heights top c.requires.full raised.end
+      still = still_pushed settled old new lowest over (h - 1) h groups is so_far.heights top c.requires.settled.full raised.end
           (λ i le. so_far.end (h - 1) i (omega (arith, le, c.div_ceil-groups.ensures, so_far.groups)))
           (λ j lt. same_follows (node settled (suc (h - 1)) j) (place_at over j) (under settled (h - 1) j) (under settled (h - 1) j) (λ i. node old (h - 1) (1024 * j + i)) (group c.height-below.result.now j)
           (λ i small. refl) (λ i small. c.height-below.ensures (1024 * j + i)) (raised.follows j lt)) so_far.still;
@@ -136,3 +136,14 @@ returns-clause-step c = λ w counts.
     let end : c.loop-height.height ≡ c.args.level = omega (arith, c.loop-height-test.false, c.loop-height.auto.height-end, c.requires.level) in
     subst (λ (k : ℕ). Places (sum_below (raise_stores c.args.count w) k) c.args.draft.now c.loop-height.draft (Ok c.loop-height.nodes)) end
     (places_ok (c.loop-height.invariant.step w (λ k j one low. counts k j one (omega (arith, low, end)))))
+
+pub returns-clause-raised : goal.returns-clause-raised
+returns-clause-raised c =
+    let so_far = c.loop-height.invariant in
+    let end : c.loop-height.height ≡ c.args.level = omega (arith, c.loop-height-test.false, c.loop-height.auto.height-end, c.requires.level) in
+    record {
+      heights = so_far.heights ∙ end;
+      lowest_are = so_far.lowest;
+      end = so_far.end;
+      placed = subst (λ (k : ℕ). ArePlacedIn 1 k c.args.draft.now c.loop-height.draft c.args.settled.now c.loop-height.nodes) end so_far.placed;
+    }

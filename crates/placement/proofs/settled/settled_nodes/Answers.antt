@@ -93,11 +93,14 @@ returns-then-not-above-clause-damaged g c = λ s disk base shows based sound blo
     (subst (λ (k : ℕ). EndBefore (nodes_at t.count k) p) e c.in_ok-places.ensures.end)
     (subst (λ (k : ℕ). (i : ℕ) → i < nodes_at t.count k → place_at p i ≡ place disk t.pointers (t.depth - k) i) e (c.in_ok-places.ensures.nodes disk (so_far.read.same disk shows))) is holes
 
-pub returns-clause-full : goal.returns-clause-full
-returns-clause-full g c = λ m j holes.
+pub returns-clause-nodes : goal.returns-clause-nodes
+returns-clause-nodes g c =
     let n = c.loop-height.nodes in
     let so_far = c.loop-height.invariant in
-    elim (cases_lt (suc m) (height_of n)) [
-      | inl low ↦ so_far.full m j (omega (arith, low, so_far.count)) holes
-      | inr high ↦ node_over n (suc m) j high
-    ]
+    record {
+      within = so_far.within;
+      full = λ m j holes. elim (cases_lt (suc m) (height_of n)) [
+        | inl low ↦ so_far.full m j (omega (arith, low, so_far.count)) holes
+        | inr high ↦ node_over n (suc m) j high
+      ];
+    }

@@ -9,7 +9,7 @@ returns-in_err-nodes-clause-damaged g c = λ s disk shows sound same bad.
     (subst (IsBasedOn c.args.settled) (sym c.tree.ensures) (loaded_based s disk c.args.settled c.in_ok-file.file.tree sound c.in_ok-file.ensures.settled)) sound same (search rules)
 
 pub returns-clause-within : goal.returns-clause-within
-returns-clause-within g c = c.in_ok-row.ensures.within (g.B.Blocks.count c.args.blocks.now) c.in_ok-nodes.ensures.within
+returns-clause-within g c = c.in_ok-row.ensures.within (g.B.Blocks.count c.args.blocks.now) c.in_ok-nodes.ensures.nodes.within
 
 pub returns-clause-lowest : goal.returns-clause-lowest
 returns-clause-lowest g c = λ s disk shows sound k lt.

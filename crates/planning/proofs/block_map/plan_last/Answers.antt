@@ -1,22 +1,22 @@
 use Rattle.std.proofs.Common.{arith, ◌∙◌, rules}
-use Rattle.planning.specs.Steps.{settled_tree}
+use Rattle.planning.specs.Steps.{tree_of}
 use Rattle.planning.proofs.MapFileLaws.{map_file_later}
 use Rattle.planning.proofs.block_map.plan_last.Goals as goal
 use Rattle.planning.proofs.PromiseLaws.{plans_err, plans_puts, plans_seen, plans_then, plans_unread}
 use Rattle.planning.specs.Space.{map_file_nodes}
 
 pub returns-in_err-map-clause-damaged : goal.returns-in_err-map-clause-damaged
-returns-in_err-map-clause-damaged g c = λ disk settled v before shows memory sound bad. c.in_err-map.ensures.damaged disk settled v before shows memory (search rules)
+returns-in_err-map-clause-damaged g c = λ o sound bad. c.in_err-map.ensures.damaged o (search rules)
 
 pub returns-clause-planned : goal.returns-clause-planned
-returns-clause-planned g c = λ disk settled v before p shows memory sound same entries fresh.
-    let shown = c.plan_block_map.ensures.step.reads.same disk shows in
+returns-clause-planned g c = λ o start p fresh.
+    let shown = c.plan_block_map.ensures.step.reads.same o.disk o.shows in
     record {
       map = c.in_ok-map.map;
-      planned = map_file_later c.args.draft.now c.plan_block_map.new.draft c.put.new.self disk before c.args.inodes.now.geometry (settled_tree disk settled) p c.in_ok-map.map c.put.ensures.step.grows c.put.ensures.step.map
-          (c.in_ok-map.ensures.planned disk settled v before p shows memory sound same entries fresh);
-      put = λ e has. c.in_ok-put.ensures.stored e has ∙ c.in_ok-block.ensures.put disk shown;
-      whole = c.in_ok-block.ensures.whole disk shown;
+      planned = map_file_later c.args.draft.now c.plan_block_map.new.draft c.put.new.self o.disk o.before c.args.inodes.now.geometry (tree_of o) p c.in_ok-map.map c.put.ensures.step.grows c.put.ensures.step.map
+          (c.in_ok-map.ensures.planned o start p fresh);
+      put = λ e has. c.in_ok-put.ensures.stored e has ∙ c.in_ok-block.ensures.put o.disk shown;
+      whole = c.in_ok-block.ensures.whole o.disk shown;
       long = c.in_ok-block.ensures.long;
     }
 

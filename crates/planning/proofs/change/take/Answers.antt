@@ -1,4 +1,4 @@
-use Rattle.std.proofs.Common.{arith, true, refl, ap, sym, ◌∙◌}
+use Rattle.std.proofs.Common.{arith, true, refl, ap, rules, sym, ◌∙◌}
 use Rattle.std.specs.Int.{bit_at}
 use Rattle.blockmap.specs.Maps.{entry_at, settled_at}
 use Rattle.layout.specs.declared.pointer.Pointer.TheVariants.{Block}
@@ -22,22 +22,22 @@ returns-clause-active c =
     plane_active c.args.slot 1 (Block c.in_ok-place.place) (λ b. bit_at (settled_at c.args.draft.now.map.parts.items b) 0) (entry_at c.args.draft.now.map.parts.items)
     (entry_at c.mark_system.new.self.map.parts.items) c.requires.slot (changed c)
 
-pub returns-clause-given : goal.returns-clause-given
-returns-clause-given c = λ b is.
-    let low = c.in_ok-place.ensures.taken.to in
-    omega (arith, low, c.take_plane.ensures.step.next, c.mark_system.ensures.step.next, block_same c.in_ok-place.place b is)
-
 pub returns-clause-touched : goal.returns-clause-touched
 returns-clause-touched c = λ j lt.
     c.mark_system.ensures.step.grows.settled.touched j
     (c.in_ok-take_plane.ensures.touched j (omega (arith, lt, c.mark_system.ensures.step.grows.settled.count, c.take_plane.ensures.step.grows.settled.count)))
 
-pub returns-clause-sets : goal.returns-clause-sets
-returns-clause-sets c = changed c
-
-pub returns-clause-head : goal.returns-clause-head
-returns-clause-head c = λ b is e has.
-    ap e (sym (block_same c.in_ok-place.place b is)) ∙ c.in_ok-place.ensures.stored e (c.take_plane.ensures.step.grows.has e (c.mark_system.ensures.step.grows.has e has))
+pub returns-clause-taken : goal.returns-clause-taken
+returns-clause-taken c =
+    let place = c.in_ok-place.place in
+    record {
+      block = (place, refl);
+      head = λ b is e has. ap e (sym (block_same place b is)) ∙ c.in_ok-place.ensures.stored e (c.take_plane.ensures.step.grows.has e (c.mark_system.ensures.step.grows.has e has));
+      points = search rules;
+      given = λ b is. (let low = c.in_ok-place.ensures.taken.to in omega (arith, low, c.take_plane.ensures.step.next, c.mark_system.ensures.step.next, block_same place b is));
+      free = search rules;
+      sets = changed c;
+    }
 
 pub returns-in_err-place-clause-step : goal.returns-in_err-place-clause-step
 returns-in_err-place-clause-step c = takes_err c.from_residual.result c.from_residual.ensures.1 (takes_of c.in_err-place.ensures.step)

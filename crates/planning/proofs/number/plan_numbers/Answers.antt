@@ -3,7 +3,7 @@ use Rattle.std.proofs.lemmas.List.{get_or_default}
 use Rattle.blocktree.specs.Trees.{IsSoundAt}
 use Rattle.blockmap.specs.Maps.{entry_at}
 use Rattle.inofile.specs.Inodes.{IsChanged}
-use Rattle.planning.specs.Steps.{IsOverTree}
+use Rattle.planning.proofs.SettledLaws.{over_later}
 use Rattle.planning.proofs.LoopLaws.{all_planned, none_before, one_more}
 use Rattle.conspoint.proofs.DraftLemmas.{grows_twice}
 use Rattle.planning.proofs.ProgressLaws.{sets_twice}
@@ -17,11 +17,10 @@ pub loop-i-init : goal.loop-i-init
 loop-i-init g c = record {
   read = search rules;
   grows = search rules;
-  others = λ p is. is;
   sets = λ b i other. refl;
   counted = λ m below. omega arith;
   file = file_none c.args.file.now;
-  planned = λ disk settled v before shows over from start. none_before from c.args.draft.now disk settled before c.args.inodes.now c.args.file.now c.in_ok-numbers.numbers.items start;
+  planned = λ o from start. none_before from c.args.draft.now o.disk o.settled o.before c.args.inodes.now c.args.file.now c.in_ok-numbers.numbers.items start;
 }
 
 is_number : (g : Over) (c : After-index g) → (3 ≤ c.index.result.now) × (c.index.result.now < c.args.inodes.now.geometry.inodes)
@@ -43,36 +42,30 @@ loop-i-preserved g c =
     record {
       read = search rules;
       grows = grows_twice c.args.draft.now c.loop-i.draft c.plan_number.new.draft so_far.grows c.plan_number.ensures.step.grows;
-      others = λ p is. c.plan_number.ensures.others p (so_far.others p is);
       sets = sets_twice (entry_at c.args.draft.now.map.parts.items) (entry_at c.loop-i.draft.map.parts.items) (entry_at c.plan_number.new.draft.map.parts.items) so_far.sets c.in_ok-plan_number.ensures.step.sets;
       counted = λ m below.
           let before = so_far.counted c.index.result.now (λ k lt. is_behind xs c.loop-i.i c.index.result.now k c.in_ok-numbers.ensures.sorted within is lt) in
           let here : c.index.result.now < m = omega (arith, is, below c.loop-i.i (omega arith)) in
           omega (arith, before, c.in_ok-plan_number.ensures.step.takes, is_counted c.args.inodes.now c.index.result.now m here);
       file = file_then (λ i at. (c.index.result.now, sym at, one_changed)) so_far.file c.plan_number.ensures.file;
-      planned = λ disk settled v before shows over from start.
-          let now = so_far.planned disk settled v before shows over from start in
-          let over_now = subst (λ (n : ℕ). IsOverTree n disk settled c.args.inodes.now v before) (sym so_far.read.count) over in
-          one_more from c.loop-i.draft c.plan_number.new.draft disk settled before c.args.inodes.now c.loop-i.file c.plan_number.new.file
-          xs c.loop-i.i c.index.result.now c.in_ok-numbers.ensures.sorted within is now
-          (c.in_ok-plan_number.ensures.planned disk settled v before (so_far.read.same disk shows) over_now);
+      planned = λ o from start.
+          one_more from c.loop-i.draft c.plan_number.new.draft o.disk o.settled o.before c.args.inodes.now c.loop-i.file c.plan_number.new.file
+          xs c.loop-i.i c.index.result.now c.in_ok-numbers.ensures.sorted within is (so_far.planned o from start)
+          (c.in_ok-plan_number.ensures.planned (over_later so_far.read.count so_far.read.same o));
     }
 
 pub returns-in_err-plan_number-clause-damaged : goal.returns-in_err-plan_number-clause-damaged
-returns-in_err-plan_number-clause-damaged g c = λ disk settled v before shows over from start sound bad.
+returns-in_err-plan_number-clause-damaged g c = λ o same sound bad.
     let so_far = c.loop-i.invariant in
-    let now = so_far.planned disk settled v before shows over from start in
     let at = c.index.result.now / 21 in
-    let over_now = subst (λ (n : ℕ). IsOverTree n disk settled c.args.inodes.now v before) (sym so_far.read.count) over in
-    let sound_now = so_far.file.sound (g.B.Blocks.count c.args.blocks.now) disk at (sound at) in
-    c.in_err-plan_number.ensures.damaged disk settled v before (so_far.read.same disk shows) over_now now.way
-    (subst (λ (n : ℕ). IsSoundAt n disk c.loop-i.file.tree at) (sym so_far.read.count) sound_now)
+    c.in_err-plan_number.ensures.damaged (over_later so_far.read.count so_far.read.same o) (λ b. so_far.grows.settled.settled b ∙ same b)
+    (subst (λ (n : ℕ). IsSoundAt n o.disk c.loop-i.file.tree at) (sym so_far.read.count) (so_far.file.sound (g.B.Blocks.count c.args.blocks.now) o.disk at (sound at)))
     (search rules)
 
 pub returns-clause-planned : goal.returns-clause-planned
-returns-clause-planned g c = λ disk settled v before shows over from start.
-    all_planned from c.loop-i.draft disk settled before c.args.inodes.now c.loop-i.file c.in_ok-numbers.numbers.items c.loop-i.i (IsChanged c.args.inodes.now) (omega arith)
-    c.in_ok-numbers.ensures.members (c.loop-i.invariant.planned disk settled v before shows over from start)
+returns-clause-planned g c = λ o from start.
+    all_planned from c.loop-i.draft o.disk o.settled o.before c.args.inodes.now c.loop-i.file c.in_ok-numbers.numbers.items c.loop-i.i (IsChanged c.args.inodes.now) (omega arith)
+    c.in_ok-numbers.ensures.members (c.loop-i.invariant.planned o from start)
 
 pub plan_number-requires-clause-changed : goal.plan_number-requires-clause-changed
 plan_number-requires-clause-changed g c = (c.in_ok-numbers.ensures.members c.index.result.now).0 (c.loop-i.i, omega arith, sym c.index.ensures)

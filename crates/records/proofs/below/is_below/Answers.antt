@@ -4,7 +4,7 @@ use Rattle.model.specs.Records.{IsBelow}
 use Rattle.model.specs.Volumes.{entries}
 use Rattle.paths.proofs.Looks.{looks_err, looks_more, looks_ok}
 use Rattle.records.proofs.BelowLaws.{below_self, only_itself}
-use Rattle.records.proofs.Looking.{passed_error}
+use Rattle.paths.proofs.LookingUp.{same_error}
 use Rattle.records.proofs.StandLaws.{no_look}
 use Rattle.records.proofs.below.is_below.Goals as goal
 
@@ -22,7 +22,7 @@ returns-in_err-empty-clause-looks g c = looks_err c.from_residual.result c.from_
 
 pub returns-in_err-empty-clause-damaged : goal.returns-in_err-empty-clause-damaged
 returns-in_err-empty-clause-damaged g c = λ detail disk settled v stands is.
-    c.in_err-empty.ensures.damaged {detail = detail} disk settled v stands (passed_error c.from_residual.result c.from_residual.ensures.1 is)
+    c.in_err-empty.ensures.damaged {detail = detail} disk settled v stands (same_error c.from_residual.result _ _ c.from_residual.ensures.1 is)
 
 pub returns-then-empty-clause-looks : goal.returns-then-empty-clause-looks
 returns-then-empty-clause-looks g c = looks_ok c.in_ok-empty.ensures.looks

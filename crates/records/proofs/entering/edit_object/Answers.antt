@@ -12,7 +12,7 @@ use Rattle.records.specs.Entering.{IsDirectoryObject, pieces_of}
 use Rattle.records.specs.Naming.{EditsNames}
 use Rattle.inofile.proofs.DetailLaws.{by_size}
 use Rattle.records.proofs.EnterLaws.{directory_stands, edits_directory, found_directory, is_directory_object, no_edit}
-use Rattle.records.proofs.Looking.{passed_error}
+use Rattle.paths.proofs.LookingUp.{same_error}
 use Rattle.records.proofs.NamingLaws.{known_anew}
 use Rattle.paths.proofs.Objects.{same_object}
 use Rattle.records.proofs.entering.edit_object.Goals as goal
@@ -56,7 +56,7 @@ returns-in_err-edit-clause-damaged g c = λ detail disk settled found shows is s
     let kind = subst IsDirectoryObject was (c.is_directory.ensures.0 c.if-not-is_directory.false) in
     let d = directory_stands c.in-Some.directory.status.kind c.args.inodes (content_of_object disk c.in-Some.directory) found kind (by_size detail c.in-Some.directory.status.kind c.args.inodes (content_of_object disk c.in-Some.directory) found o.stands) in
     let knows : Knows c.args.inodes (file_block disk c.in-Some.directory.file) c.replace-known.result = subst (Knows c.args.inodes (file_block disk c.in-Some.directory.file)) (sym c.replace-known.ensures.value) (o.known kind) in
-    c.edit_file-edit.ensures.damaged disk d.0 shows (c.in_err-edit.was ∙ passed_error c.from_residual.result c.from_residual.ensures.1 is) (d.1, knows) (λ i. sound c.in-Some.directory was kind i)
+    c.edit_file-edit.ensures.damaged disk d.0 shows (c.in_err-edit.was ∙ same_error c.from_residual.result _ _ c.from_residual.ensures.1 is) (d.1, knows) (λ i. sound c.in-Some.directory was kind i)
 
 pub returns-in_default-2-clause-edits : goal.returns-in_default-2-clause-edits
 returns-in_default-2-clause-edits g c = λ detail disk settled found shows stands.

@@ -3,10 +3,10 @@ use Rattle.std.proofs.lemmas.Bool.{both_ways, cases_Bool, false≢true}
 use Rattle.layout.specs.Directory.{IsEntry, named_of}
 use Rattle.layout.specs.Limits.{Sizes}
 use Rattle.layout.specs.declared.entry.Entry.{Entry}
-use Rattle.model.specs.Volumes.{Node, with_name_more, with_node, is_directory_node, is_file_node}
+use Rattle.model.specs.Volumes.{Node, with_entry, with_node, is_directory_node, is_file_node}
 use Rattle.inofile.specs.Inodes.{loaded}
 use Rattle.paths.proofs.Looks.{looks_more}
-use Rattle.records.specs.Entering.{PreparesEdit, names_after, with_node_names}
+use Rattle.records.specs.Entering.{PreparesEdit}
 use Rattle.records.specs.Steps.{TakesUpdate, with_node_links}
 use Rattle.records.specs.declared.naming.NameEdit.TheVariants as edits
 use Rattle.records.specs.declared.steps.Update.TheVariants as updates
@@ -14,12 +14,11 @@ use Rattle.model.specs.Records.{link}
 use Rattle.records.specs.Preparing.{IsKnownVolume}
 use Rattle.records.proofs.DetailLaws.{known_of}
 use Rattle.records.proofs.EnterLaws.{accepts_entry, found_directory, takes_accepted}
-use Rattle.records.proofs.FileLaws.{both_steps, file_apart, file_entry, file_is, more_links}
-use Rattle.records.proofs.Looking.{at_hand_behind}
-use Rattle.records.proofs.Deciding.{decides, follows, obstructs, reads_in, stops}
+use Rattle.records.proofs.FileLaws.{does_both, file_apart, file_entry, file_is, more_links, ready_two}
+use Rattle.records.proofs.Looking.{at_hand_behind, behind, brought}
+use Rattle.records.proofs.Deciding.{decides, obstructs, reads_in, unread}
 use Rattle.records.proofs.StandLaws.{no_look}
 use Rattle.records.proofs.links.prepare_link.Goals as goal
-use Rattle.model.proofs.ObjectLaws.{node_other}
 
 pub returns-then-not-is_name : goal.returns-then-not-is_name
 returns-then-not-is_name g c = obstructs no_look refl (λ detail disk settled v stands volume name. both_ways c.is_name.result c.if-not-is_name.true (c.is_name.ensures.1 name))
@@ -35,7 +34,7 @@ returns-then-not-fits g c = obstructs no_look refl (λ detail disk settled v sta
 ])
 
 pub returns-in_err-load_to_change : goal.returns-in_err-load_to_change
-returns-in_err-load_to_change g c = stops c.from_residual.result c.from_residual.ensures.1 c.in_err-load_to_change.ensures.looks (λ detail disk settled v stands reads. c.in_err-load_to_change.ensures.damaged {detail = detail} disk settled v stands)
+returns-in_err-load_to_change g c = unread c.from_residual.result c.from_residual.ensures.1 (brought c.in_err-load_to_change.ensures)
 
 pub returns-in_default : goal.returns-in_default
 returns-in_default g c = obstructs c.in_ok-load_to_change.ensures.looks refl (λ detail disk settled v stands volume.
@@ -60,9 +59,7 @@ returns-then-not-is_number g c = obstructs c.in_ok-load_to_change.ensures.looks 
 
 pub returns-in_err-planned : goal.returns-in_err-planned
 returns-in_err-planned g c =
-    follows c.in_ok-load_to_change.ensures.looks
-    (stops c.from_residual-in_err-planned.result c.from_residual-in_err-planned.ensures.1 c.in_err-planned.ensures.edit.looks (λ detail disk settled v stands reads. c.in_err-planned.ensures.edit.damaged {detail = detail} disk settled v stands))
-    (λ detail. c.in_ok-load_to_change.ensures.looks.kept {detail = detail}) (λ detail. c.in_ok-load_to_change.ensures.looks.kept {detail = detail})
+    unread c.from_residual-in_err-planned.result c.from_residual-in_err-planned.ensures.1 (behind (brought c.in_ok-load_to_change.ensures) c.in_err-planned.ensures.edit)
 
 pub returns-in_default-planned : goal.returns-in_default-planned
 returns-in_default-planned g c = obstructs (looks_more c.in_ok-load_to_change.ensures.looks c.in_ok-planned.ensures.edit.looks) refl (λ detail disk settled v stands volume.
@@ -87,43 +84,16 @@ returns g c =
     let n = c.args.number in
     let links = c.in-Some.links in
     let s = c.edit_parent.new.inodes in
-    let f = names_after (edits.Add entry) in
     let few : links + 1 ≤ 1000 = omega arith in
     decides (looks_more loads.looks planned.edit.looks)
-    (record {
-      first = subst (λ o. IfSome o (λ e. TakesUpdate s d (updates.Names e))) c.in-Some-planned.is planned.ready;
-      next = record { at_hand = at_hand_behind n planned.edit loads.known; fits = tt };
-      last = tt;
-      next_apart = tt;
-      last_apart = tt;
-      apart = tt;
-    })
+    (ready_two (subst (λ o. IfSome o (λ e. TakesUpdate s d (updates.Names e))) c.in-Some-planned.is planned.ready) (record { at_hand = at_hand_behind n planned.edit loads.known; fits = tt }) tt)
     (λ detail disk settled v stands.
     let now = loads.looks.kept disk settled v stands in
     let file = c.in-Some.ensures.file _ _ disk settled v now.volume in
     let edit = subst (PreparesEdit disk s.geometry.inodes (edits.Add entry) (v d) (loaded s d)) c.in-Some-planned.is (planned.edit.found disk settled v now) in
-    let apart = file_apart v n d (file_is links (v n) file) (found_directory (v d) edit.1.attributes edit.1.names edit.1.is) in
-    let between = with_node d (with_node_names f (v d)) v in
-    let stays = node_other d n (with_node_names f (v d)) v apart in
-    let to = with_node_links (links + 1) (between n) in
-    record {
-      between = between;
-      second = with_node n to between;
-      first = (with_node_names f (v d), (f, edit.0, refl), refl);
-      next = (to, (subst (λ o. IsTrue (is_file_node o)) (sym stays) (file_is links (v n) file), few, refl), refl);
-      last = both_steps n d x (Some n) (with_name_more (v n)) to v apart (ap (with_node_links (links + 1)) stays ∙ more_links links (v n) file);
-      next_beside = apart;
-      last_beside = tt;
-      beside = tt;
-      firsts = 7;
-      nexts = 6;
-      lasts = 0;
-      first_room = omega (arith, edit.2);
-      next_room = omega arith;
-      last_room = tt;
-      within = omega arith;
-      knows = tt;
-    })
+    does_both d n x (Some n) c.in-Some-planned.edit (updates.Links (links + 1)) (with_node_links (links + 1) (v n)) 6
+    (file_apart v n d (file_is links (v n) file) (found_directory (v d) edit.1.attributes edit.1.names edit.1.is)) edit.0 edit.2 (file_is links (v n) file, few, refl) (omega arith)
+    (ap (λ (o : Option Node). with_entry d x (Some n) (with_node n o v)) (sym (more_links links (v n) file))) (omega arith) tt)
     (λ detail disk settled v stands.
     let now = loads.looks.kept disk settled v stands in
     let file = c.in-Some.ensures.file _ _ disk settled v now.volume in

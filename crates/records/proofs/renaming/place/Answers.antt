@@ -1,6 +1,6 @@
 use Rattle.std.proofs.Common.{◌≡◌, ◌∙◌, ◌≤◌, inl, inr, ℕ, Option, None, Some, IfSome, IfNone, IsTrue, refl, ap, sym, subst, arith}
 use Rattle.layout.specs.declared.entry.Entry.{Entry}
-use Rattle.model.specs.Records.{rename}
+use Rattle.model.specs.Records.{applied, rename}
 use Rattle.model.specs.Volumes.{Node, Volume, entries, is_directory_node, released, with_entry, with_node}
 use Rattle.dirs.specs.Directory.{with_name}
 use Rattle.dirs.specs.Room.{piece_count}
@@ -12,19 +12,18 @@ use Rattle.records.specs.declared.naming.NameEdit.{NameEdit}
 use Rattle.records.specs.declared.naming.NameEdit.TheVariants as edits
 use Rattle.records.specs.declared.steps.Update.TheVariants as updates
 use Rattle.records.proofs.EnterLaws.{found_directory, takes_accepted}
-use Rattle.records.proofs.FileLaws.{alone_some, alone_some_apart, apart_none}
+use Rattle.records.proofs.FileLaws.{alone_some, alone_some_apart, does_two, ready_two}
 use Rattle.records.proofs.Looking.{some_at_hand_behind}
-use Rattle.records.proofs.MoveLaws.{accepts_move, accepts_other, aside_new, aside_old, beside_new, beside_none, beside_old, can_rename, few_pieces, moved_across, moved_inside, names_for, room_on, steps_on, wanted_none, wanted_some}
-use Rattle.records.proofs.Deciding.{decides, obstructs, reads_in, stops}
+use Rattle.records.proofs.MoveLaws.{accepts_move, accepts_other, aside_new, aside_old, beside_new, beside_old, can_rename, few_pieces, moved_across, moved_inside, names_for, room_on, steps_on}
+use Rattle.records.proofs.Deciding.{decides, obstructs, reads_in, unread}
 use Rattle.records.proofs.ObstacleLaws.{no_place}
 use Rattle.records.proofs.PlaceLaws.{leaves_inside, leaves_other}
-use Rattle.records.proofs.renaming.place.Goals.{then-is_some, else-is_some}
 use Rattle.records.proofs.renaming.place.Goals as goal
 use Rattle.model.proofs.ObjectLaws.{node_other}
 use Rattle.model.proofs.VolumeLemmas.{enters_directory}
 
 pub returns-in_err-planned : goal.returns-in_err-planned
-returns-in_err-planned g c = stops c.from_residual.result c.from_residual.ensures.1 c.in_err-planned.ensures.edit.looks (λ detail disk settled v stands reads. c.in_err-planned.ensures.edit.damaged {detail = detail} disk settled v stands)
+returns-in_err-planned g c = unread c.from_residual.result c.from_residual.ensures.1 c.in_err-planned.ensures.edit
 
 pub returns-in_default : goal.returns-in_default
 returns-in_default g c = obstructs c.in_ok-planned.ensures.edit.looks refl (λ detail disk settled v known volume.
@@ -48,39 +47,19 @@ returns-then-is_same g c =
     let s = c.edit_parent.new.inodes in
     let f = names_after (edits.Move c.args.name entry) in
     decides planned.edit.looks
-    (record {
-      first = subst (λ o. IfSome o (λ e. TakesUpdate s k (updates.Names e))) c.in-Some.is planned.ready;
-      next = alone_some s step c.requires.alone (some_at_hand_behind step planned.edit c.requires.at_hand);
-      last = tt;
-      next_apart = alone_some_apart k step c.requires.alone;
-      last_apart = tt;
-      apart = apart_none step;
-    })
+    (ready_two (subst (λ o. IfSome o (λ e. TakesUpdate s k (updates.Names e))) c.in-Some.is planned.ready)
+    (alone_some s step c.requires.alone (some_at_hand_behind step planned.edit c.requires.at_hand)) (alone_some_apart k step c.requires.alone))
     (λ detail disk settled v known.
     let moves = known.1 in
     let edit = subst (PreparesEdit disk s.geometry.inodes (edits.Move c.args.name entry) (v k) (loaded s k)) c.in-Some.is (planned.edit.found disk settled v known.0) in
     let between = with_node k (with_node_names f (v k)) v in
     let target = entries v k y in
-    record {
-      between = between;
-      second = released target between;
-      first = (with_node_names f (v k), (f, edit.0, refl), refl);
-      next = steps_on detail disk settled v d x n k y step moves s between (λ m other apart. node_other k m (with_node_names f (v k)) v apart);
-      last =
-          ap (λ (to : Option ℕ). with_entry k y to (with_entry d x None (released target v))) moves.there
-          ∙ moved_inside d k x y (Some n) target v (c.is_same.ensures.yes c.if-is_same.true) (aside_new detail disk settled v d x n k y step moves);
-      next_beside = beside_new detail disk settled v d x n k y step moves;
-      last_beside = tt;
-      beside = beside_none step;
-      firsts = 13;
-      nexts = 6;
-      lasts = 0;
-      first_room = omega (arith, edit.2);
-      next_room = room_on detail disk settled v d x n k y step moves s;
-      last_room = tt;
-      within = omega arith;
-      knows = tt;
-    })
+    let same : applied (rename d x k y) v ≡ released target between =
+    ap (λ (to : Option ℕ). with_entry k y to (with_entry d x None (released target v))) moves.there
+    ∙ moved_inside d k x y (Some n) target v (c.is_same.ensures.yes c.if-is_same.true) (aside_new detail disk settled v d x n k y step moves) in
+    does_two (record { number = k; update = updates.Names c.in-Some.edit }) step between 13 6 (with_node_names f (v k), (f, edit.0, refl), refl)
+    (subst (StepsSome detail disk settled s between step) (sym same) (steps_on detail disk settled v d x n k y step moves s between (λ m other apart. node_other k m (with_node_names f (v k)) v apart)))
+    (beside_new detail disk settled v d x n k y step moves) (omega (arith, edit.2)) (room_on detail disk settled v d x n k y step moves s) (omega arith) tt)
     (λ detail disk settled v known.
     let edit = subst (PreparesEdit disk s.geometry.inodes (edits.Move c.args.name entry) (v k) (loaded s k)) c.in-Some.is (planned.edit.found disk settled v known.0) in
     can_rename detail disk settled v d x n k y step known.1 (found_directory (v k) edit.1.attributes edit.1.names edit.1.is) c.requires.entry.name known.2 (λ none. inl (c.is_same.ensures.yes c.if-is_same.true)))
@@ -90,7 +69,7 @@ returns-then-is_same g c =
     (λ detail disk settled v known. reads_in detail v (rename d x k y) tt)
 
 pub returns-in_err-both : goal.returns-in_err-both
-returns-in_err-both g c = stops c.from_residual-in_err-both.result c.from_residual-in_err-both.ensures.1 c.in_err-both.ensures.both.looks (λ detail disk settled v stands reads. c.in_err-both.ensures.both.damaged {detail = detail} disk settled v stands)
+returns-in_err-both g c = unread c.from_residual-in_err-both.result c.from_residual-in_err-both.ensures.1 c.in_err-both.ensures.both
 
 pub returns-in_default-both : goal.returns-in_default-both
 returns-in_default-both g c = obstructs c.in_ok-both.ensures.both.looks refl (λ detail disk settled v known volume.
@@ -99,13 +78,10 @@ returns-in_default-both g c = obstructs c.in_ok-both.ensures.both.looks refl (λ
     let x = c.args.name.now in
     let k = c.args.new_parent in
     let step = c.args.replaced in
-    let wanted : c.if-is_some.wanted ≡ edit_for entry step = elim c.if-is_some.branch [
-      | then-is_some w ↦ w.wanted-is ∙ wanted_some entry step (sym c.is_some.ensures ∙ w.if-is_some.true)
-      | else-is_some w ↦ w.wanted-is ∙ wanted_none entry step (sym c.is_some.ensures ∙ w.if-is_some.false)
-    ] in
+    let wanted = c.edit_for-wanted.ensures in
     no_place c.args.inodes.now.geometry.inodes detail disk settled v d x entry.number k entry.name.now step known.1 c.requires.entry.name known.2 (c.is_same.ensures.no c.if-is_same.false) (λ can.
     let accepts = accepts_other detail disk settled v d x entry.number k entry.name.now step known.1 c.args.inodes.now.geometry.inodes entry refl volume (c.is_same.ensures.no c.if-is_same.false) can in
-    subst (λ o. IfNone o (Accepts c.if-is_some.wanted (v k) → IsTrue (is_directory_node (v d)) → ⊥)) c.in_default-both.is (c.in_ok-both.ensures.both.found disk settled v known.0).1
+    subst (λ o. IfNone o (Accepts c.edit_for-wanted.result (v k) → IsTrue (is_directory_node (v d)) → ⊥)) c.in_default-both.is (c.in_ok-both.ensures.both.found disk settled v known.0).1
     (subst (λ (e : NameEdit). Accepts e (v k)) (sym wanted) accepts) (enters_directory (v d) x entry.number known.1.there)))
 
 pub returns : goal.returns
@@ -120,10 +96,7 @@ returns g c =
     let step = c.args.replaced in
     let s = c.edit_both.new.inodes in
     let other = c.is_same.ensures.no c.if-is_same.false in
-    let wanted : c.if-is_some.wanted ≡ edit_for entry step = elim c.if-is_some.branch [
-      | then-is_some w ↦ w.wanted-is ∙ wanted_some entry step (sym c.is_some.ensures ∙ w.if-is_some.true)
-      | else-is_some w ↦ w.wanted-is ∙ wanted_none entry step (sym c.is_some.ensures ∙ w.if-is_some.false)
-    ] in
+    let wanted = c.edit_for-wanted.ensures in
     let f = with_name y (Some n) in
     let h = with_name x None in
     let ready = subst (λ o. IfSome o (λ e. TakesUpdate s k (updates.Names e.0) × TakesUpdate s d (updates.Names e.1))) c.in-Some-both.is both.ready in
@@ -138,7 +111,7 @@ returns g c =
     })
     (λ detail disk settled v known.
     let moves = known.1 in
-    let edits_are = subst (λ o. IfSome o (λ e. PreparesEdit disk s.geometry.inodes c.if-is_some.wanted (v k) (loaded s k) (Some e.0) × EditsIn disk s.geometry.inodes h (v d) (loaded s d) e.1 × (piece_count e.1 ≤ 1))) c.in-Some-both.is
+    let edits_are = subst (λ o. IfSome o (λ e. PreparesEdit disk s.geometry.inodes c.edit_for-wanted.result (v k) (loaded s k) (Some e.0) × EditsIn disk s.geometry.inodes h (v d) (loaded s d) e.1 × (piece_count e.1 ≤ 1))) c.in-Some-both.is
     (both.both.found disk settled v known.0).0 in
     let added = subst (λ j. EditsIn disk s.geometry.inodes j (v k) (loaded s k) c.in-Some-both.added) (ap names_after wanted ∙ names_for entry step) edits_are.0.0 in
     let between = with_node k (with_node_names f (v k)) v in
@@ -170,13 +143,13 @@ returns g c =
       knows = tt;
     })
     (λ detail disk settled v known.
-    let edits_are = subst (λ o. IfSome o (λ e. PreparesEdit disk s.geometry.inodes c.if-is_some.wanted (v k) (loaded s k) (Some e.0) × EditsIn disk s.geometry.inodes h (v d) (loaded s d) e.1 × (piece_count e.1 ≤ 1))) c.in-Some-both.is
+    let edits_are = subst (λ o. IfSome o (λ e. PreparesEdit disk s.geometry.inodes c.edit_for-wanted.result (v k) (loaded s k) (Some e.0) × EditsIn disk s.geometry.inodes h (v d) (loaded s d) e.1 × (piece_count e.1 ≤ 1))) c.in-Some-both.is
     (both.both.found disk settled v known.0).0 in
     let accepts = edits_are.0.1 in
     can_rename detail disk settled v d x n k y step known.1 (found_directory (v k) accepts.attributes accepts.names accepts.is) c.requires.entry.name known.2
     (λ none. inr (takes_accepted v k entry c.requires.entry.name (subst (λ (e : NameEdit). Accepts e (v k)) (wanted ∙ ap (edit_for entry) none) accepts))))
     (λ detail disk settled v known.
-    let edits_are = subst (λ o. IfSome o (λ e. PreparesEdit disk s.geometry.inodes c.if-is_some.wanted (v k) (loaded s k) (Some e.0) × EditsIn disk s.geometry.inodes h (v d) (loaded s d) e.1 × (piece_count e.1 ≤ 1))) c.in-Some-both.is
+    let edits_are = subst (λ o. IfSome o (λ e. PreparesEdit disk s.geometry.inodes c.edit_for-wanted.result (v k) (loaded s k) (Some e.0) × EditsIn disk s.geometry.inodes h (v d) (loaded s d) e.1 × (piece_count e.1 ≤ 1))) c.in-Some-both.is
     (both.both.found disk settled v known.0).0 in
     leaves_other v d x k step entry other (subst (λ (e : NameEdit). Accepts e (v k)) wanted edits_are.0.1))
     (λ detail disk settled v known. reads_in detail v (rename d x k y) tt)

@@ -13,7 +13,7 @@ use Rattle.records.specs.Obstacles.{BarsMove}
 use Rattle.records.specs.Preparing.{IsKnownVolume}
 use Rattle.records.proofs.DetailLaws.{graph_of}
 use Rattle.records.proofs.BelowLaws.{closed_below, never_around}
-use Rattle.records.proofs.Deciding.{follows, obstructs, stops}
+use Rattle.records.proofs.Deciding.{follows, obstructs, stops, unread}
 use Rattle.records.proofs.StandLaws.{no_look}
 use Rattle.records.proofs.renaming.prepare_rename.Goals as goal
 
@@ -22,7 +22,7 @@ returns-then-not-is_number g c = obstructs no_look refl (λ detail disk settled 
     ap (λ (o : Option Node). names_in o c.args.name.now) (c.is_number.ensures.no c.if-not-is_number.true detail v sure.1))
 
 pub returns-in_err-found : goal.returns-in_err-found
-returns-in_err-found g c = stops c.from_residual.result c.from_residual.ensures.1 c.in_err-found.ensures.number.looks (λ detail disk settled v stands reads. c.in_err-found.ensures.number.damaged {detail = detail} disk settled v stands)
+returns-in_err-found g c = unread c.from_residual.result c.from_residual.ensures.1 c.in_err-found.ensures.number
 
 pub returns-in_default : goal.returns-in_default
 returns-in_default g c = obstructs c.in_ok-found.ensures.number.looks refl (λ detail disk settled v sure volume.
@@ -76,7 +76,7 @@ pub returns-in_err-target : goal.returns-in_err-target
 returns-in_err-target g c =
     let before = looks_more c.in_ok-found.ensures.number.looks c.in_ok-below.ensures.looks in
     follows before
-    (stops c.from_residual-in_err-target.result c.from_residual-in_err-target.ensures.1 c.in_err-target.ensures.number.looks (λ detail disk settled v stands reads. c.in_err-target.ensures.number.damaged {detail = detail} disk settled v stands))
+    (unread c.from_residual-in_err-target.result c.from_residual-in_err-target.ensures.1 c.in_err-target.ensures.number)
     (λ detail. before.kept {detail = detail}) (λ detail disk settled v sure. before.kept {detail = detail} disk settled v sure.0)
 
 pub returns : goal.returns

@@ -5,7 +5,7 @@ use Rattle.model.specs.Records.{applied, costs}
 use Rattle.model.specs.Volumes.{Volume}
 use Rattle.replay.specs.Volumes.{AppliesIn, HasVolumeIn, RaisesRoom, bodies_of}
 use Rattle.replay.proofs.Errors.{passed}
-use Rattle.replay.proofs.RecordLaws.{all_done, none_behind, one_in_front, one_more}
+use Rattle.replay.proofs.RecordLaws.{all_done, in_front, none_behind, none_lead, one_in_front, one_more}
 use Rattle.replay.proofs.replaying.replay_all.Goals as goal
 
 pub loop-body-init : goal.loop-body-init
@@ -15,6 +15,7 @@ loop-body-init g c = record {
   shorter = search rules;
   few = omega arith;
   leads = λ detail disk settled v w changes shows has leads. (v, has, record { more = changes; leads = leads; length_is = omega arith }, omega arith, λ base. omega arith);
+  so_far = λ detail disk settled v shows has. (v, has, λ more w leads. (more, w, leads));
   held = λ bodies left holds. (bodies, holds);
 }
 
@@ -40,6 +41,19 @@ loop-body-preserved g c = record {
         omega (arith, did.0, back.3, ap (costs back.0) next.0.are, ap (costs (applied next.0.change back.0)) next.2),
         λ base. omega (arith, back.4 base, did.2 base),
       );
+  so_far = λ detail disk settled v shows has.
+      let read = c.loop-body.invariant.read in
+      let inodes = c.args.inodes.now.geometry.inodes in
+      let sizes = c.loop-body.invariant.geometry in
+      let back = c.loop-body.invariant.so_far detail disk settled v shows has in
+      let did = c.in_ok-cost-in-Open.ensures.applies detail disk settled back.0 (read.same disk shows)
+      (subst (λ (n : ℕ). HasVolumeIn detail n disk settled c.loop-body.inodes back.0) (sym read.count) back.1) in (
+        applied did.0 back.0,
+        subst (λ (n : ℕ). HasVolumeIn detail n disk settled c.replay_record.new.inodes (applied did.0 back.0)) read.count did.3,
+        λ more w leads. back.2 (did.0 ∷ more) w
+            (in_front detail inodes c.loop-body.rest.now c.in-Open.body.now c.in-Open.after.now did.0 more back.0 w c.in-Open.ensures.0 c.in-Open.ensures.1 did.1
+            (subst (λ (s : Sizes). AppliesIn detail s.inodes back.0 did.0) sizes did.2) leads),
+      );
   held = λ bodies left holds.
       c.loop-body.invariant.held (c.in-Open.body.now ∷ bodies) left
       (one_in_front c.in-Open.body.now c.loop-body.rest.now c.in-Open.after.now bodies left c.in-Open.ensures.0 c.in-Open.ensures.1 holds);
@@ -53,6 +67,11 @@ returns-in-Closed-clause-replays g c detail disk settled v w changes shows has l
       subst (λ (u : Volume). HasVolumeIn detail (g.B.Blocks.count c.args.blocks.now) disk settled c.loop-body.inodes u) (sym done.1) back.1,
       subst (λ (u : Volume). RaisesRoom c.args.inodes.now v c.loop-body.inodes u c.loop-body.cost) (sym done.1) back.4,
     )
+
+pub returns-in-Closed-clause-applies : goal.returns-in-Closed-clause-applies
+returns-in-Closed-clause-applies g c detail disk settled v shows has =
+    let back = c.loop-body.invariant.so_far detail disk settled v shows has in
+    back.2 [] back.0 (none_lead detail c.args.inodes.now.geometry.inodes c.loop-body.rest.now back.0 c.in-Closed.ensures)
 
 pub returns-in-Closed-clause-holds : goal.returns-in-Closed-clause-holds
 returns-in-Closed-clause-holds g c = c.loop-body.invariant.held [] (length c.loop-body.rest.now) (none_behind c.loop-body.rest.now c.in-Closed.ensures)

@@ -6,7 +6,7 @@ use Rattle.model.specs.Volumes.{Volume}
 use Rattle.buffers.specs.Reads.{HasOnlyRead}
 use Rattle.images.specs.Soundness.{Detail}
 use Rattle.oplog.specs.SavedLog.{HoldsLeaving}
-use Rattle.replay.specs.Volumes.{HasVolumeIn, LeadTo, RaisesRoom}
+use Rattle.replay.specs.Volumes.{HasVolumeIn, LeadSomewhere, LeadTo, RaisesRoom}
 use Rattle.replay.specs.declared.costs.TheConstants.{MOST_COST}
 use Rattle.replay.proofs.RecordLaws.{IsLeft}
 use Rattle.replay.proofs.replaying.replay_all.Given as goal
@@ -23,6 +23,11 @@ invariant-loop-body g l = record {
       × (left : IsLeft detail l.fn.inodes.geometry.inodes l.records l.rest changes now w)
       × (l.cost + costs now left.more ≡ costs v changes)
       × RaisesRoom l.fn.inodes v l.inodes now l.cost;
+  so_far : (detail : Detail) (disk : ℕ → List ℕ) (settled : ℕ → Inode) (v : Volume) → g.B.Blocks.Shows l.fn.blocks disk
+      → HasVolumeIn detail (g.B.Blocks.count l.fn.blocks) disk settled l.fn.inodes v
+      → (now : Volume) × HasVolumeIn detail (g.B.Blocks.count l.fn.blocks) disk settled l.inodes now
+      × ((more : List Change) (w : Volume) → LeadTo detail l.fn.inodes.geometry.inodes l.rest more now w
+      → LeadSomewhere detail l.fn.inodes.geometry.inodes l.records v);
   held : (bodies : List (List ℕ)) (left : ℕ) → HoldsLeaving l.rest bodies left → (all : List (List ℕ)) × HoldsLeaving l.records all left;
 }
 

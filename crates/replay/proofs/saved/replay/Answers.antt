@@ -22,6 +22,11 @@ returns-clause-replays g c detail disk settled v w changes nvram shows has tells
     let end = c.in_ok-log.ensures.replays detail disk settled v w changes nvram (read.same disk shows) (subst (λ (k : ℕ). HasVolumeIn detail k disk settled c.args.inodes.now v) (sym read.count) has) tells saves in
     (end.0, subst (λ (k : ℕ). HasVolumeIn detail k disk settled c.replay_records.new.inodes (without_nameless w)) read.count end.1, omega (arith, told.counts detail disk settled v shows has, end.2, c.from.ensures))
 
+pub returns-clause-applies : goal.returns-clause-applies
+returns-clause-applies g c detail disk settled v nvram shows has tells =
+    let read = c.in_ok-nameless.ensures.reads in
+    c.in_ok-log.ensures.applies detail disk settled v nvram (read.same disk shows) (subst (λ (k : ℕ). HasVolumeIn detail k disk settled c.args.inodes.now v) (sym read.count) has) tells
+
 pub returns-clause-holds : goal.returns-clause-holds
 returns-clause-holds g c nvram tells = c.in_ok-log.ensures.holds nvram tells
 

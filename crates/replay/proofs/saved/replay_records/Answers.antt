@@ -5,7 +5,7 @@ use Rattle.oplog.specs.LogEnd.{LogEnd}
 use Rattle.oplog.specs.SavedLog.{HoldsLeaving, StandsBehind, end_of}
 use Rattle.replay.specs.Volumes.{HasVolumeIn, LeadTo, bodies_of}
 use Rattle.replay.proofs.Errors.{passed}
-use Rattle.replay.proofs.SavedLaws.{costs_joined, joined_bodies, lead_on}
+use Rattle.replay.proofs.SavedLaws.{costs_joined, joined_bodies, lead_on, saves_both}
 use Rattle.replay.proofs.saved.replay_records.Goals as goal
 
 pub returns-in_err-first-clause-replays : goal.returns-in_err-first-clause-replays
@@ -66,6 +66,25 @@ returns-clause-replays g c detail disk settled v w changes nvram shows has tells
       subst (λ (k : ℕ). HasVolumeIn detail k disk settled c.drop_nameless.new.inodes (without_nameless w)) (again.count ∙ read.count) swept,
       omega (arith, mid.0.cost, end.0.cost, ap (costs v) both.joined, costs_joined detail n both.one both.two v both.mid both.leads.replays),
       λ base. omega (arith, mid.2 base, end.2 base, c.in_ok-drop_nameless.ensures.room detail base disk settled w (again.same disk (read.same disk shows)) stands_on),
+    )
+
+pub returns-clause-applies : goal.returns-clause-applies
+returns-clause-applies g c detail disk settled v nvram shows has tells =
+    let n = c.args.inodes.now.geometry.inodes in
+    let read = c.in_ok-first.ensures.reads in
+    let one = c.in_ok-first.ensures.applies detail disk settled v shows has in
+    let mid = c.in_ok-first.ensures.replays detail disk settled v one.1 one.0 shows has one.2 in
+    let stands = subst (λ (k : ℕ). HasVolumeIn detail k disk settled c.replay_all.new.inodes one.1) (sym read.count) mid.1 in
+    let two = c.in_ok-second.ensures.applies detail disk settled one.1 (read.same disk shows) stands in
+    let end = c.in_ok-second.ensures.replays detail disk settled one.1 two.1 two.0 (read.same disk shows) stands two.2 in
+    let leads = subst (λ (l : List ℕ). LeadTo detail n l one.0 v one.1) c.first_records.ensures.records one.2 in
+    let leads_on = subst (λ (l : List ℕ). LeadTo detail n l two.0 one.1 two.1) c.second_records.ensures.records
+    (subst (λ (s : Sizes). LeadTo detail s.inodes c.second_records.result.now two.0 one.1 two.1) c.in_ok-first.ensures.geometry two.2) in
+    let first = subst (λ (l : List ℕ). HoldsLeaving l (bodies_of one.0) c.in_ok-first.first.left) c.first_records.ensures.records mid.0.held in
+    let second = subst (λ (l : List ℕ). HoldsLeaving l (bodies_of two.0) c.in_ok-second.second.left) c.second_records.ensures.records end.0.held in (
+      one.0 ++ two.0,
+      two.1,
+      saves_both detail n nvram c.args.saved one.0 two.0 v one.1 two.1 c.in_ok-first.first.left c.in_ok-second.second.left tells leads leads_on first second,
     )
 
 pub returns-clause-holds : goal.returns-clause-holds

@@ -4,7 +4,7 @@ use Rattle.layout.specs.declared.inode.Inode.{Inode}
 use Rattle.images.specs.Sizes.{StandsForIn}
 use Rattle.model.specs.Volumes.{is_nameless}
 use Rattle.inofile.specs.Settled.{held_content}
-use Rattle.replay.proofs.SweepLaws.{unknown_stands}
+use Rattle.inofile.proofs.VolumeLaws.{unknown_stands}
 use Rattle.replay.proofs.Errors.{undamaged}
 use Rattle.replay.proofs.sweeping.has_nameless.Goals as goal
 

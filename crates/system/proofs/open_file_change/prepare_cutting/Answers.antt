@@ -7,10 +7,10 @@ use Rattle.calls.specs.Changing.{ComesOrStays}
 use Rattle.descriptors.specs.Tables.{table_of}
 use Rattle.files.specs.Opened.{tree_with}
 use Rattle.files.proofs.Preparing.{passes}
-use Rattle.system.specs.OpenFiles.{PreparesDoing}
-use Rattle.system.specs.declared.file_change.FileChange.{FileChange}
+use Rattle.system.specs.Preparing.{PreparesCall}
+use Rattle.system.specs.declared.prepared_call.PreparedChange.{PreparedChange}
 use Rattle.system.specs.declared.table_move.TableMove.TheVariants.{Stays}
-use Rattle.system.proofs.DoingLaws.{cuts_so, does, said_so, said_within}
+use Rattle.system.proofs.DoingLaws.{comes_so, does, said_so, said_within}
 use Rattle.system.proofs.open_file_change.prepare_cutting.Goals as goal
 
 pub returns-in_err-found : goal.returns-in_err-found
@@ -25,7 +25,7 @@ returns g c =
     let files = c.args.files.now in
     let n = c.args.inodes.now.geometry.inodes in
     let o = c.in_ok-found.found in
-    subst (λ (x : Option FileChange). PreparesDoing g.B.Blocks c.args.blocks.now c.prepare_ftruncate.new.blocks c.args.inodes.now c.prepare_ftruncate.new.inodes files (command.Ftruncate c.args.fd c.args.size)
+    subst (λ (x : Option PreparedChange). PreparesCall g.B.Blocks c.args.blocks.now c.prepare_ftruncate.new.blocks c.args.inodes.now c.prepare_ftruncate.new.inodes files (command.Ftruncate c.args.fd c.args.size)
     (Ok (record { reply = Done; change = x; table = Stays }))) (sym c.said.ensures)
-    (does (command.Ftruncate c.args.fd c.args.size) c.in_ok-found.ensures (λ within. record { kind = tt; accepted = λ errno is. cc; moves = tt; numbered = tt; limits = said_within o }) (λ P is. said_so o P is) (λ v told. cuts_so n v (table_of files) c.args.fd c.args.size o
+    (does (command.Ftruncate c.args.fd c.args.size) c.in_ok-found.ensures (λ within. record { kind = tt; accepted = λ errno is. cc; moves = tt; numbered = tt; limits = said_within o }) (λ P is. said_so o P is) (λ v told. comes_so n v (table_of files) (command.Ftruncate c.args.fd c.args.size) (truncates_open (tree_with files v) c.args.fd c.args.size) o (λ reply w need told snapshots room. (told, refl))
     (subst (λ (z : ℤ). ComesOrStays (truncates_open (tree_with files v) c.args.fd z) n v (table_of files) (Ok o)) (to_z-of_z w64 c.args.size c.ranges.size) told)))

@@ -4,8 +4,8 @@ use Rattle.model.specs.declared.command.Command.TheVariants as command
 use Rattle.model.specs.declared.reply.Reply.TheVariants.{Fd}
 use Rattle.descriptors.specs.Files.{description_of}
 use Rattle.files.proofs.Preparing.{passes}
-use Rattle.system.specs.OpenFiles.{PreparesDoing}
-use Rattle.system.specs.declared.file_change.FileChange.{FileChange}
+use Rattle.system.specs.Preparing.{PreparesCall}
+use Rattle.system.specs.declared.prepared_call.PreparedChange.{PreparedChange}
 use Rattle.system.specs.declared.table_move.TableMove.TheVariants.{Opens}
 use Rattle.system.proofs.DoingLaws.{does, opens_so, said_so, said_within}
 use Rattle.system.proofs.open_file_change.prepare_opening.Goals as goal
@@ -19,7 +19,7 @@ returns g c =
     let files = c.args.files.now in
     let n = c.args.inodes.now.geometry.inodes in
     let o = c.in_ok-opening.opening in
-    subst (λ (x : Option FileChange). PreparesDoing g.B.Blocks c.args.blocks.now c.prepare_open.new.blocks c.args.inodes.now c.prepare_open.new.inodes files (command.Open c.args.path.now c.args.flags c.args.mode)
+    subst (λ (x : Option PreparedChange). PreparesCall g.B.Blocks c.args.blocks.now c.prepare_open.new.blocks c.args.inodes.now c.prepare_open.new.inodes files (command.Open c.args.path.now c.args.flags c.args.mode)
     (Ok (record { reply = Fd o.fd; change = x; table = Opens o.fd o.file }))) (sym c.said.ensures)
     (does (command.Open c.args.path.now c.args.flags c.args.mode) c.in_ok-opening.ensures
     (λ can. record { kind = tt; accepted = λ errno is. cc; moves = (can.0, ap (option_map description_of) can.1, can.2); numbered = can.3; limits = said_within o.changing }) (λ P is. said_so o.changing P is)

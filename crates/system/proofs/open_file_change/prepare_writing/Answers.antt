@@ -3,8 +3,8 @@ use Rattle.model.specs.declared.command.Command.TheVariants as command
 use Rattle.model.specs.declared.reply.Reply.TheVariants.{Wrote}
 use Rattle.descriptors.specs.Tables.{table_of}
 use Rattle.files.proofs.Preparing.{passes}
-use Rattle.system.specs.declared.file_change.CallRecord.TheVariants as records
-use Rattle.system.specs.declared.file_change.FileChange.{FileChange}
+use Rattle.system.specs.declared.prepared_call.CallRecord.TheVariants as records
+use Rattle.system.specs.declared.prepared_call.PreparedChange.{PreparedChange}
 use Rattle.system.specs.declared.table_move.TableMove.TheVariants.{Moves}
 use Rattle.system.proofs.DoingLaws.{does, goes_beside}
 use Rattle.system.proofs.open_file_change.prepare_writing.Goals as goal
@@ -17,7 +17,7 @@ pub returns-in-Some : goal.returns-in-Some
 returns-in-Some g c =
     let call = command.Write c.args.fd c.args.bytes.now in
     let w = c.in-Some.writing.written in
-    let change : FileChange = record { «record» = records.Writes w.number w.offset c.args.bytes; prepared = c.in-Some.writing.prepared } in
+    let change : PreparedChange = record { «record» = records.Writes w.number w.offset c.args.bytes; prepared = c.in-Some.writing.prepared } in
     does call (rw c.in-Some.is at c.in_ok-found.ensures) (λ within. record { kind = tt; accepted = λ errno is. cc; moves = (within.2, search rules); numbered = tt; limits = (within.0, within.1) }) (λ P is. is)
     (λ v told. goes_beside c.args.inodes.now.geometry.inodes v (table_of c.args.files.now) call (Wrote (length c.args.bytes.now)) (Moves c.args.fd w.behind) change told.0 (λ x. tt) (λ snapshots room. (told.2, refl)))
 

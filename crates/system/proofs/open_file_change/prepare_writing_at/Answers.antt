@@ -5,8 +5,8 @@ use Rattle.model.specs.declared.reply.Reply.TheVariants.{Wrote}
 use Rattle.descriptors.specs.Tables.{table_of}
 use Rattle.files.specs.declared.written.Writing.{Writing}
 use Rattle.files.proofs.Preparing.{passes}
-use Rattle.system.specs.declared.file_change.CallRecord.TheVariants as records
-use Rattle.system.specs.declared.file_change.FileChange.{FileChange}
+use Rattle.system.specs.declared.prepared_call.CallRecord.TheVariants as records
+use Rattle.system.specs.declared.prepared_call.PreparedChange.{PreparedChange}
 use Rattle.system.specs.declared.table_move.TableMove.TheVariants.{Stays}
 use Rattle.system.proofs.DoingLaws.{does, goes_beside, writes_at}
 use Rattle.system.proofs.open_file_change.prepare_writing_at.Goals as goal
@@ -20,7 +20,7 @@ returns-in-Some g c =
     let call = command.Pwrite c.args.fd c.args.offset c.args.bytes.now in
     let n = c.args.inodes.now.geometry.inodes in
     let w : Writing = c.in-Some.writing in
-    let change : FileChange = record { «record» = records.Writes w.written.number w.written.offset c.args.bytes; prepared = w.prepared } in
+    let change : PreparedChange = record { «record» = records.Writes w.written.number w.written.offset c.args.bytes; prepared = w.prepared } in
     does call (rw c.in-Some.is at c.in_ok-found.ensures) (λ within. record { kind = tt; accepted = λ errno is. cc; moves = tt; numbered = tt; limits = (within.0, within.1) }) (λ P is. is) (λ v told.
     let here = writes_at n v c.args.files.now c.args.fd c.args.bytes.now (Ok (Some w)) (to_z-of_z w64 c.args.offset c.ranges.offset) told in
     goes_beside n v (table_of c.args.files.now) call (Wrote (length c.args.bytes.now)) Stays change here.0 (λ x. tt) (λ snapshots room. (here.2, refl)))

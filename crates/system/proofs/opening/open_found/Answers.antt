@@ -1,7 +1,6 @@
 use Rattle.std.proofs.Common.{◌≡◌, ◌∙◌, ◌*◌, ℕ, Option, None, ap, refl, sym, subst}
-use Rattle.station.specs.Images.{Unchanged}
-use Rattle.station.specs.Moments.{Goes, IsSameStation}
 use Rattle.layout.specs.Places.{blocks_of}
+use Rattle.buffers.specs.Disks.{ReadsOn}
 use Rattle.overlay.specs.Overlays.{ShowsOver}
 use Rattle.overlay.specs.declared.laid.Laid.{Laid}
 use Rattle.system.proofs.LookedLaws.{reads_nothing}
@@ -17,32 +16,14 @@ invariant_of-result-clause-nvram g c =
     (read_from {G = g.S.Station} c.args.station c.new-buffers.result c.new-blocks.result c.new-buffers.ensures.station c.new-blocks.ensures.buffers c.read_image.new.blocks c.read_image.ensures.reads.reads).same.nvram_bytes ∙ c.requires.fits.nvram
     ∙ ap (λ (n : ℕ). 2 * n) (sym c.in-Ok.ensures.fits.half)
 
-pub returns-in-Ok-clause-same : goal.returns-in-Ok-clause-same
-returns-in-Ok-clause-same g c =
-    (read_from {G = g.S.Station} c.args.station c.new-buffers.result c.new-blocks.result c.new-buffers.ensures.station c.new-blocks.ensures.buffers c.read_image.new.blocks c.read_image.ensures.reads.reads).same
+pub returns-in-Ok-clause-reads : goal.returns-in-Ok-clause-reads
+returns-in-Ok-clause-reads g c =
+    read_from {G = g.S.Station} c.args.station c.new-buffers.result c.new-blocks.result c.new-buffers.ensures.station c.new-blocks.ensures.buffers c.read_image.new.blocks c.read_image.ensures.reads.reads
 
-pub returns-in-Ok-clause-goes : goal.returns-in-Ok-clause-goes
-returns-in-Ok-clause-goes g c =
-    (read_from {G = g.S.Station} c.args.station c.new-buffers.result c.new-blocks.result c.new-buffers.ensures.station c.new-blocks.ensures.buffers c.read_image.new.blocks c.read_image.ensures.reads.reads).goes
-
-pub returns-in-Ok-clause-writes : goal.returns-in-Ok-clause-writes
-returns-in-Ok-clause-writes g c =
-    (read_from {G = g.S.Station} c.args.station c.new-buffers.result c.new-blocks.result c.new-buffers.ensures.station c.new-blocks.ensures.buffers c.read_image.new.blocks c.read_image.ensures.reads.reads).writes
-
-pub returns-in-Err-clause-same : goal.returns-in-Err-clause-same
-returns-in-Err-clause-same g c =
-    subst (λ (s : g.row.S.Denot). IsSameStation (g.S.Station.meaning c.args.station) (g.S.Station.meaning s)) (sym c.into_station.ensures)
-    (read_from {G = g.S.Station} c.args.station c.new-buffers.result c.new-blocks.result c.new-buffers.ensures.station c.new-blocks.ensures.buffers c.read_image.new.blocks c.read_image.ensures.reads.reads).same
-
-pub returns-in-Err-clause-goes : goal.returns-in-Err-clause-goes
-returns-in-Err-clause-goes g c =
-    subst (λ (s : g.row.S.Denot). Goes Unchanged (g.S.Station.meaning c.args.station) (g.S.Station.meaning s)) (sym c.into_station.ensures)
-    (read_from {G = g.S.Station} c.args.station c.new-buffers.result c.new-blocks.result c.new-buffers.ensures.station c.new-blocks.ensures.buffers c.read_image.new.blocks c.read_image.ensures.reads.reads).goes
-
-pub returns-in-Err-clause-writes : goal.returns-in-Err-clause-writes
-returns-in-Err-clause-writes g c =
-    subst (λ (s : g.row.S.Denot). (g.S.Station.meaning s).failed_writes ≡ (g.S.Station.meaning c.args.station).failed_writes) (sym c.into_station.ensures)
-    (read_from {G = g.S.Station} c.args.station c.new-buffers.result c.new-blocks.result c.new-buffers.ensures.station c.new-blocks.ensures.buffers c.read_image.new.blocks c.read_image.ensures.reads.reads).writes
+pub returns-in-Err-clause-reads : goal.returns-in-Err-clause-reads
+returns-in-Err-clause-reads g c =
+    subst (λ (s : g.row.S.Denot). ReadsOn (g.S.Station.meaning c.args.station) (g.S.Station.meaning s)) (sym c.into_station.ensures)
+    (read_from {G = g.S.Station} c.args.station c.new-buffers.result c.new-blocks.result c.new-buffers.ensures.station c.new-blocks.ensures.buffers c.read_image.new.blocks c.read_image.ensures.reads.reads)
 
 pub returns-in-Ok-clause-serves : goal.returns-in-Ok-clause-serves
 returns-in-Ok-clause-serves g c honest just of first last snapshots changes holds =
@@ -74,7 +55,11 @@ returns-in-Err-clause-serves g c honest just of first last snapshots changes hol
     c.in-Err.ensures.has (blocks_of i.disk) i.nvram first last snapshots changes shows of.saved holds
 
 pub returns-in-Ok-clause-found : goal.returns-in-Ok-clause-found
-returns-in-Ok-clause-found g c = (refl, refl, c.in-Ok.ensures.log)
+returns-in-Ok-clause-found g c honest of =
+    let i = (g.S.Station.meaning c.args.station).seen in
+    let shows = shown_new {G = g.S.Station} c.args.station c.new-buffers.result c.new-blocks.result c.new-buffers.ensures.station c.new-blocks.ensures.buffers
+    (c.new-buffers.ensures.shows (blocks_of i.disk) honest (λ place within. refl)) c.new-blocks.ensures.shows in
+    record { newest = of.newest; fits = c.requires.fits; read = c.in-Ok.ensures.found (blocks_of i.disk) i.nvram shows of.saved }
 
 pub returns-in-Err-clause-faultless : goal.returns-in-Err-clause-faultless
 returns-in-Err-clause-faultless g c honest of changes under =

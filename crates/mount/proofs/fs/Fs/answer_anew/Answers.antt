@@ -1,4 +1,5 @@
-use Rattle.std.proofs.Common.{◌≡◌, ◌∙◌, subst, sym}
+use Rattle.std.proofs.Common.{◌≡◌, ◌∙◌, ap, subst, sym}
+use Rattle.model.specs.Paths.{Name}
 use Rattle.model.specs.declared.command.Command.{Command}
 use Rattle.model.specs.declared.command.Command.TheVariants.{SnapDelete, SnapRestore, SnapTake, Sync}
 use Rattle.descriptors.specs.declared.table.Descriptors.{Descriptors}
@@ -16,20 +17,20 @@ returns-in-Sync-clause-answers g c =
 pub returns-in-SnapTake-clause-answers : goal.returns-in-SnapTake-clause-answers
 returns-in-SnapTake-clause-answers g c =
     let is : c.args.command.now ≡ SnapTake c.in-SnapTake.name = cc in
-    behind_letting_go {G = g.S.Station} c.args.self.now _ _ c.args.command.now c.take.result c.requires.going c.requires.going (λ t here. c.served_states_open.ensures t.tree.descriptors t here)
-    c.let_go.ensures.glances c.let_go.ensures.station (answers_so 2 _ _ _ (SnapTake c.in-SnapTake.name) c.args.command.now c.take.result is c.take.ensures)
+    behind_letting_go {G = g.S.Station} c.args.self.now _ _ c.args.command.now c.snapshot.result c.requires.going c.requires.going (λ t here. c.served_states_open.ensures t.tree.descriptors t here)
+    c.let_go.ensures.glances c.let_go.ensures.station (answers_so 2 _ _ _ (SnapTake c.as_bytes.result.now) c.args.command.now c.snapshot.result (is ∙ ap (λ (name : Name). SnapTake name) (sym c.as_bytes.ensures)) c.snapshot.ensures)
 
 pub returns-in-SnapDelete-clause-answers : goal.returns-in-SnapDelete-clause-answers
 returns-in-SnapDelete-clause-answers g c =
     let is : c.args.command.now ≡ SnapDelete c.in-SnapDelete.name = cc in
-    behind_letting_go {G = g.S.Station} c.args.self.now _ _ c.args.command.now c.delete.result c.requires.going c.requires.going (λ t here. c.served_states_open.ensures t.tree.descriptors t here)
-    c.let_go.ensures.glances c.let_go.ensures.station (answers_so 2 _ _ _ (SnapDelete c.in-SnapDelete.name) c.args.command.now c.delete.result is c.delete.ensures)
+    behind_letting_go {G = g.S.Station} c.args.self.now _ _ c.args.command.now c.snapshot-in-SnapDelete.result c.requires.going c.requires.going (λ t here. c.served_states_open.ensures t.tree.descriptors t here)
+    c.let_go.ensures.glances c.let_go.ensures.station (answers_so 2 _ _ _ (SnapDelete c.as_bytes-in-SnapDelete.result.now) c.args.command.now c.snapshot-in-SnapDelete.result (is ∙ ap (λ (name : Name). SnapDelete name) (sym c.as_bytes-in-SnapDelete.ensures)) c.snapshot-in-SnapDelete.ensures)
 
 pub returns-in-SnapRestore-clause-answers : goal.returns-in-SnapRestore-clause-answers
 returns-in-SnapRestore-clause-answers g c =
     let is : c.args.command.now ≡ SnapRestore c.in-SnapRestore.name = cc in
-    behind_letting_go {G = g.S.Station} c.args.self.now _ _ c.args.command.now c.restore.result c.requires.going c.requires.going (λ t here. c.served_states_open.ensures t.tree.descriptors t here)
-    c.let_go.ensures.glances c.let_go.ensures.station (answers_so 2 _ _ _ (SnapRestore c.in-SnapRestore.name) c.args.command.now c.restore.result is c.restore.ensures)
+    behind_letting_go {G = g.S.Station} c.args.self.now _ _ c.args.command.now c.snapshot-in-SnapRestore.result c.requires.going c.requires.going (λ t here. c.served_states_open.ensures t.tree.descriptors t here)
+    c.let_go.ensures.glances c.let_go.ensures.station (answers_so 2 _ _ _ (SnapRestore c.as_bytes-in-SnapRestore.result.now) c.args.command.now c.snapshot-in-SnapRestore.result (is ∙ ap (λ (name : Name). SnapRestore name) (sym c.as_bytes-in-SnapRestore.ensures)) c.snapshot-in-SnapRestore.ensures)
 
 pub returns-in_default-clause-answers : goal.returns-in_default-clause-answers
 returns-in_default-clause-answers g c =

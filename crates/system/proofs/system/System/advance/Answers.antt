@@ -1,15 +1,19 @@
-use Rattle.std.proofs.Common.{◌<◌, ◌≤◌, Ok, Err, refl, arith}
+use Rattle.std.proofs.Common.{◌<◌, ◌≤◌, List, ℕ, Ok, Err, refl, arith}
 use Rattle.conspoint.specs.Cuts.{IsFault}
-use Rattle.overlay.specs.Overlays.{unwritten}
+use Rattle.overlay.specs.Overlays.{ShowsOver, unwritten}
 use Rattle.system.specs.declared.error.PointError.TheVariants.{NotWritten}
 use Rattle.system.specs.declared.slicing.TheConstants.{SLICE_BLOCKS}
-use Rattle.system.proofs.SteppingLaws.{done_too, last_slice, slice_of, slice_step, wrote_all, wrote_not}
+use Rattle.system.proofs.SteppingLaws.{done_too, last_ready, last_slice, slice_of, slice_ready, slice_step, wrote_all, wrote_not}
 use Rattle.system.proofs.system.System.advance.Goals as goal
 
-pub returns-then-left-le-SLICE_BLOCKS : goal.returns-then-left-le-SLICE_BLOCKS
-returns-then-left-le-SLICE_BLOCKS g c =
+pub returns-then-left-le-SLICE_BLOCKS-clause-steps : goal.returns-then-left-le-SLICE_BLOCKS-clause-steps
+returns-then-left-le-SLICE_BLOCKS-clause-steps g c =
     let few : unwritten c.args.self.now.blocks.laid ≤ SLICE_BLOCKS = omega (arith, c.left.ensures, c.if-left-le-SLICE_BLOCKS.true) in
-    last_slice {G = g.S.Station} c.points_go_on.ensures c.args.self.now c.finish.new.self (g.met.S.Station.seen_may_be_left c.finish.new.self.blocks.buffers.station) c.finish.result c.requires few c.finish.ensures
+    last_slice {G = g.S.Station} c.points_go_on.ensures c.args.self.now c.finish.new.self (g.met.S.Station.seen_may_be_left c.finish.new.self.blocks.buffers.station) c.finish.result c.requires c.finish.ensures few
+
+pub returns-then-left-le-SLICE_BLOCKS-clause-ready : goal.returns-then-left-le-SLICE_BLOCKS-clause-ready
+returns-then-left-le-SLICE_BLOCKS-clause-ready g c =
+    last_ready {G = g.S.Station} c.points_go_on.ensures c.args.self.now c.finish.new.self (g.met.S.Station.seen_may_be_left c.finish.new.self.blocks.buffers.station) c.finish.result c.requires c.finish.ensures
 
 pub returns-in-Ok : goal.returns-in-Ok
 returns-in-Ok g c =
@@ -19,10 +23,14 @@ returns-in-Ok g c =
     let n = g.S.Station.meaning now.buffers.station in
     let did = c.write_some.ensures in
     let more : SLICE_BLOCKS < unwritten f.blocks.laid = omega (arith, c.left.ensures, c.if-left-le-SLICE_BLOCKS.false) in
-    slice_step {G = g.S.Station} c.cuts_open.ensures c.points_go_on.ensures f _ c.requires refl did.goes (Ok tt)
-    (wrote_all IsFault m n c.write_some.result c.in-Ok.field-0 c.in-Ok.is did.writes) tt
-    (λ disk shows. done_too c.write_some.result c.in-Ok.field-0 c.in-Ok.is _ (did.shows disk shows))
-    (slice_of f.blocks.laid now.laid c.write_some.result c.in-Ok.field-0 c.in-Ok.is c.requires did.slice more)
+    let shows = λ (disk : ℕ → List ℕ) (shows : ShowsOver m f.blocks.buffers.kept f.blocks.laid disk).
+    done_too c.write_some.result c.in-Ok.field-0 c.in-Ok.is (ShowsOver n now.buffers.kept now.laid disk) (did.shows disk shows) in
+    let slice = slice_of f.blocks.laid now.laid c.write_some.result c.in-Ok.field-0 c.in-Ok.is c.requires did.slice more in
+    record {
+      steps = slice_step {G = g.S.Station} c.cuts_open.ensures c.points_go_on.ensures f _ c.requires refl did.goes (Ok tt) shows slice
+          (wrote_all IsFault m n c.write_some.result c.in-Ok.field-0 c.in-Ok.is did.writes) tt;
+      ready = slice_ready {G = g.S.Station} c.cuts_open.ensures c.points_go_on.ensures f _ c.requires refl did.goes (Ok tt) shows slice;
+    }
 
 pub returns-in-Err : goal.returns-in-Err
 returns-in-Err g c =
@@ -30,5 +38,8 @@ returns-in-Err g c =
     let m = g.S.Station.meaning f.blocks.buffers.station in
     let n = g.S.Station.meaning c.write_some.new.self.buffers.station in
     let did = c.write_some.ensures in
-    slice_step {G = g.S.Station} c.cuts_open.ensures c.points_go_on.ensures f _ c.requires refl did.goes (Err NotWritten)
-    (wrote_not IsFault m n c.write_some.result c.in-Err.field-0 c.in-Err.is did.writes did.device) refl (λ disk shows. tt) tt
+    record {
+      steps = slice_step {G = g.S.Station} c.cuts_open.ensures c.points_go_on.ensures f _ c.requires refl did.goes (Err NotWritten) (λ disk shows. tt) tt
+          (wrote_not IsFault m n c.write_some.result c.in-Err.field-0 c.in-Err.is did.writes did.device) refl;
+      ready = slice_ready {G = g.S.Station} c.cuts_open.ensures c.points_go_on.ensures f _ c.requires refl did.goes (Err NotWritten) (λ disk shows. tt) tt;
+    }

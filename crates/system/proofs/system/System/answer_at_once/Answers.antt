@@ -12,7 +12,7 @@ returns g c =
     let fs = c.args.self.now in
     let call = c.args.call.now in
     let told = c.answer_from_table.ensures in
-    λ steps. answered_leading fs _ call (reads_nothing g.S.Station fs.blocks) refl c.answer_from_table.result
+    answered_leading fs _ call (reads_nothing g.S.Station fs.blocks) refl c.answer_from_table.result
     (λ s served. inl (record { sure = table_sure s call c.requires; still = refl }), λ is. (refl, told.no_want)) refl told.kind told.no_fault
     (λ s served. c.served_states_open.ensures s.tree.descriptors s served)
     (λ s served.

@@ -14,7 +14,7 @@ returns-in-Ok-close g c =
     let fs = c.args.self.now in
     let fd = c.args.fd in
     let looks = c.in-Ok.ensures.looks in
-    λ steps. answered_leading fs _ (command.Close fd) (reads_on {G = g.S.Station} fs c.prepare_close.new.blocks c.prepare_close.new.inodes looks) refl
+    answered_leading fs _ (command.Close fd) (reads_on {G = g.S.Station} fs c.prepare_close.new.blocks c.prepare_close.new.inodes looks) refl
     Done (
       λ s served. close_sure {G = g.S.Station} c.named_files_have_paths.ensures fs s served fd _ (on_open {G = g.S.Station} fs c.in-Ok.ensures.still s served),
       λ is. (ap (λ (b : Overlay g.row.S.Denot g.S.Station). b.buffers.station) (c.in-Ok.ensures.linked is).0, done_is_no_want),
@@ -34,7 +34,7 @@ returns-in-Err-close g c =
     let fd = c.args.fd in
     let errno = c.in-Err-close.errno in
     let looks = c.in-Ok.ensures.looks in
-    λ steps. answered_leading fs _ (command.Close fd) (reads_on {G = g.S.Station} fs c.prepare_close.new.blocks c.prepare_close.new.inodes looks) refl
+    answered_leading fs _ (command.Close fd) (reads_on {G = g.S.Station} fs c.prepare_close.new.blocks c.prepare_close.new.inodes looks) refl
     (Refused errno) (
       λ s served. close_sure {G = g.S.Station} c.named_files_have_paths.ensures fs s served fd _ (on_open {G = g.S.Station} fs c.in-Ok.ensures.still s served),
       λ is. (ap (λ (b : Overlay g.row.S.Denot g.S.Station). b.buffers.station) (c.in-Ok.ensures.linked is).0, own_want {T = Unit {0}} (Err errno) errno refl c.in-Err-close.ensures.own),
@@ -53,7 +53,7 @@ returns-in-Err g c =
     let fs = c.args.self.now in
     let told = c.in-Err.ensures in
     let looks = told.looks in
-    λ steps. unanswered_read fs _ (command.Close c.args.fd) (reads_on {G = g.S.Station} fs c.prepare_close.new.blocks c.prepare_close.new.inodes looks) refl
+    unanswered_read fs _ (command.Close c.args.fd) (reads_on {G = g.S.Station} fs c.prepare_close.new.blocks c.prepare_close.new.inodes looks) refl
     (λ s served. (looked_on {G = g.S.Station} fs c.prepare_close.new.blocks c.prepare_close.new.inodes looks s served, refl))
     (λ s served. nameless_not_sure {G = g.S.Station} c.named_files_have_paths.ensures fs s served c.args.fd (on_open {G = g.S.Station} fs told.sure s served), λ is. (told.linked is).1) c.in-Err.error _ c.call_error.ensures looks.reads.device
     (λ s served is. never_damaged {G = g.S.Station} fs told.damaged s served (ap (λ e. Err e) is))

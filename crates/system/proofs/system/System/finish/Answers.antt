@@ -31,6 +31,7 @@ returns-then-not-is_under_way g c =
       goes_on = λ table s serves. record {
         leaves = started m (OpensTo m s) (all_open serves f.sectors f.half c.cuts_open.ensures);
         stays = serves;
+        by = record { serves = serves; volume = refl };
       };
     }
 

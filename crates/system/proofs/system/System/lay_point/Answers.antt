@@ -5,7 +5,6 @@ use Rattle.station.specs.Images.{Images, Sector}
 use Rattle.station.specs.Moments.{HasGrown}
 use Rattle.layout.specs.Limits.{Sizes}
 use Rattle.layout.specs.Places.{blocks_of}
-use Rattle.layout.specs.Root.{IsRoot, root_bytes}
 use Rattle.model.specs.Records.{count_nameless}
 use Rattle.model.specs.Room.{fixed_of}
 use Rattle.model.specs.States.{State}
@@ -32,6 +31,7 @@ use Rattle.conspoint.specs.declared.error.PlanError.TheVariants.{Damaged, Device
 use Rattle.overlay.specs.Overlays.{ReadsOver, ShowsOver, planned_disk}
 use Rattle.overlay.specs.declared.laid.Laid.{Laid}
 use Rattle.planning.specs.Plans.{IsPlannable, PlansEntries}
+use Rattle.planning.specs.Promises.{IsPointOver}
 use Rattle.planning.specs.declared.points.Point.{Point}
 use Rattle.records.specs.Opened.{HasNumbers}
 use Rattle.system.specs.Images.{IsUnder}
@@ -62,7 +62,7 @@ given_count : (g : Over) (c : After-plan-map g) → c.give_up.new.self.count ≡
 given_count g c = c.give_up.ensures.count ∙ ap (λ (x : BlockMap). x.count) c.replace-map.ensures.value
 
 counted : (g : Over) (c : After-plan-map g) → c.args.self.now.free ≡ free_below c.plan-map.result.0.parts.items c.plan-map.result.0.count
-counted g c = still_counted {G = g.S.Station} c.args.self.now c.plan-map.result.0 (c.plan-map.ensures.count ∙ given_count g c) (λ b. c.plan-map.ensures.settled b ∙ given g c b)
+counted g c = still_counted {G = g.S.Station} c.args.self.now c.plan-map.result.0 (c.plan-map.ensures.map.count ∙ given_count g c) (λ b. c.plan-map.ensures.map.settled b ∙ given g c b)
 
 plannable : (g : Over) (c : After-plan-map g) (known : InodeFile) (table : ℕ → Option Description) (s : State) → (serves : HasStateBy {G = g.S.Station} known c.args.self.now table s) (base v : Volume)
     → MaySettle {G = g.S.Station} c.args.change.now c.args.self.now c.args.self.now.inodes table base v
@@ -71,48 +71,52 @@ plannable g c known table s serves base v may =
     points.plannable serves c.requires.rests (g.met.S.Station.seen_may_be_left c.args.self.now.blocks.buffers.station serves.honest) c.other_slot-slot.result c.in-Some.generation c.give_up.new.self
     c.other_slot-slot.ensures (c.in-Some.ensures.value ∙ c.get.ensures ∙ c.epoch.ensures) (given g c) c.args.change.now c.args.self.now.files c.args.self.now.inodes base v may
 
+-- the point that was planned
+made : (g : Over) (c : In-Ok g) → IsPointOver c.args.self.now.root c.other_slot-slot.result c.in-Some.generation c.in-Ok.point
+made g c = of_ok c.plan-map.result.1 c.in-Ok.point (IsPointOver c.args.self.now.root c.other_slot-slot.result c.in-Some.generation) c.in-Ok.is c.plan-map.ensures.point
+
 fits : (g : Over) (c : In-Ok g) → FitsDisk (8 * c.args.self.now.root.geometry.blocks) c.in-Ok.point.plan
-fits g c =
-    let f = c.args.self.now in
-    let count : c.give_up.new.self.count ≡ f.root.geometry.blocks = c.give_up.ensures.count ∙ ap (λ (x : BlockMap). x.count) c.replace-map.ensures.value ∙ f.count in
-    of_ok c.plan-map.result.1 c.in-Ok.point (λ (q : Point). FitsDisk (8 * f.root.geometry.blocks) q.plan) c.in-Ok.is
-    (c.plan-map.ensures.fits (8 * f.root.geometry.blocks) (omega (arith, f.is_root.head.sizes)) (omega (arith, count)))
+fits g c = (made g c).fits (8 * c.args.self.now.root.geometry.blocks) (omega (arith, c.args.self.now.is_root.head.sizes)) (omega arith)
 
 planned : (g : Over) (c : In-Ok g) (known : InodeFile) (table : ℕ → Option Description) (s : State) → (serves : HasStateBy {G = g.S.Station} known c.args.self.now table s) → (step : SnapshotStep) (base v : Volume)
     → IsStepFor {G = g.S.Station} c.args.change.now c.args.self.now step
     → IsPlannable c.args.change.now c.args.self.now.root (g.S.Station.meaning c.args.self.now.blocks.buffers.station).seen.disk c.other_slot-slot.result c.in-Some.generation c.give_up.new.self c.args.self.now.inodes base v
     → HasRoomToPlan {G = g.S.Station} c.args.change.now c.args.self.now (memory_room base c.args.self.now.inodes v)
     → IsPlannedFrom {G = g.S.Station} c.args.self.now base v step c.in-Ok.point.plan c.in-Ok.point.root
-planned g c known table s serves step base v made ready room =
+planned g c known table s serves step base v asked ready room =
     let f = c.args.self.now in
     let m = g.S.Station.meaning f.blocks.buffers.station in
     let q = c.in-Ok.point in
     let r = c.plan-map.result.1 in
     let epoch : c.in-Some.generation ≡ f.log.epoch = c.in-Some.ensures.value ∙ c.get.ensures ∙ c.epoch.ensures in
-    let slot : q.plan.slot ≡ c.other_slot-slot.result = of_ok r q (λ (x : Point). x.plan.slot ≡ c.other_slot-slot.result) c.in-Ok.is c.plan-map.ensures.slot in
-    let can = subst (λ (e : ℕ → Sector). CanStep step f.root (whole (blocks_of e) f.root)) (ap (λ (l : Option Laid). planned_disk l m.seen.disk) c.requires.rests) made.can in
+    let point = made g c in
+    let slot = point.slot_is in
+    let can = subst (λ (e : ℕ → Sector). CanStep step f.root (whole (blocks_of e) f.root)) (ap (λ (l : Option Laid). planned_disk l m.seen.disk) c.requires.rests) asked.can in
     let rest = served.at_rest serves c.requires.rests in
+    let over = c.plan-map.ensures.over m.seen.disk base v rest.shows ready in
     let sized : fixed_of c.give_up.new.self.count ≡ fixed_of f.root.geometry.blocks = ap fixed_of (c.give_up.ensures.count ∙ ap (λ (x : BlockMap). x.count) c.replace-map.ensures.value ∙ f.count) in
-    let leaves = leaves_room {G = g.S.Station} known f table s serves c.requires.rests c.args.change.now step base v made.is room (writes_of q.plan.blocks) q.root
+    let leaves = leaves_room {G = g.S.Station} known f table s serves c.requires.rests c.args.change.now step base v asked.is room (writes_of q.plan.blocks) q.root
     (λ none spent least. of_ok r q (λ (p : Point). LeavesFree spent f.root (blocks_of m.seen.disk) (writes_of p.plan.blocks) p.root) c.in-Ok.is
-    (c.plan-map.ensures.room m.seen.disk base v rest.shows ready c.give_up.ensures.next step made.is none can spent least))
+    (over.room c.give_up.ensures.next step asked.is none can spent least))
     (λ spent least. of_ok r q (λ (p : Point). LeavesFree spent f.root (blocks_of m.seen.disk) (writes_of p.plan.blocks) p.root) c.in-Ok.is
-    (c.plan-map.ensures.leaves m.seen.disk base v rest.shows ready c.give_up.ensures.next step made.is can spent (omega (arith, least, sized)))) in (
+    (over.leaves c.give_up.ensures.next step asked.is can spent (omega (arith, least, sized)))) in (
       record {
-        bytes = of_ok r q (λ (x : Point). x.plan.root ≡ root_bytes x.root) c.in-Ok.is c.plan-map.ensures.bytes;
+        bytes = point.bytes;
         other = slot ∙ c.other_slot-slot.ensures;
-        covers = of_ok r q (λ (x : Point). x.root.generation ≡ c.in-Some.generation) c.in-Ok.is c.plan-map.ensures.generation ∙ epoch;
+        covers = point.generation_is ∙ epoch;
         fits = fits g c;
         point = subst (λ (n : ℕ). IsPointWith step f.root m.seen.disk (writes_of q.plan.blocks) n q.root v) (sym slot)
             (of_ok r q (λ (x : Point). IsPointWith step f.root m.seen.disk (writes_of x.plan.blocks) c.other_slot-slot.result x.root v) c.in-Ok.is
-            (c.plan-map.ensures.point m.seen.disk base v rest.shows ready step made.is can));
+            (over.point step asked.is can));
         room = leaves.0;
       },
       leaves.1,
     )
 
-pub plan-map-requires-clause-root : goal.plan-map-requires-clause-root
-plan-map-requires-clause-root g c = c.args.self.now.is_root
+pub plan-map-requires-clause-sizes : goal.plan-map-requires-clause-sizes
+plan-map-requires-clause-sizes g c =
+    let f = c.args.self.now in
+    record { root_is = f.is_root; size = c.give_up.ensures.count ∙ ap (λ (x : BlockMap). x.count) c.replace-map.ensures.value ∙ f.count; disk = omega (arith, f.sectors); sizes = f.sizes }
 
 -- ---- no generation is left
 
@@ -172,7 +176,7 @@ returns-in-Err g c =
       none = read_over.laid ∙ rests;
       refused = λ known table s serves.
           served.read_on serves rests mid c.plan-map.new.blocks.buffers.kept c.plan-map.new.blocks.laid given_map read_over c.plan-map.ensures.reads.same
-          (λ b. c.plan-map.ensures.settled b ∙ given g at b);
+          (λ b. c.plan-map.ensures.map.settled b ∙ given g at b);
       memory = refl;
       log = refl;
       same = tt;
@@ -181,8 +185,7 @@ returns-in-Err g c =
       laid = λ known table s serves base v may step made room. tt;
       roomy = λ known table s serves base v may room is.
           let same : c.in-Err.error ≡ NoSpace = cc in
-          let lacks = c.plan-map.ensures.needs m.seen.disk base v (served.at_rest serves rests).shows
-          (plannable g at known table s serves base v may)
+          let lacks = (c.plan-map.ensures.over m.seen.disk base v (served.at_rest serves rests).shows (plannable g at known table s serves base v may)).needs
           (c.in-Err.is ∙ ap Err same) in
           let left_is = all_left {G = g.S.Station} known f table s serves rests c.give_up.new.self c.give_up.ensures.next (given_count g at) (given g at) in
           let fixed_is = ap fixed_of (given_count g at ∙ f.count) in
@@ -190,8 +193,7 @@ returns-in-Err g c =
           absurd (omega (arith, lacks, left_is, fixed_is, enough));
       damaged = λ known table s serves base v may is.
           let same : c.in-Err.error ≡ Damaged = cc in
-          c.plan-map.ensures.damaged m.seen.disk base v (served.at_rest serves rests).shows
-          (plannable g at known table s serves base v may)
+          (c.plan-map.ensures.over m.seen.disk base v (served.at_rest serves rests).shows (plannable g at known table s serves base v may)).damaged
           (c.in-Err.is ∙ ap Err same);
       last = λ known table s serves is. cc;
       past = λ is. cc;
@@ -208,7 +210,7 @@ invariant_of-self g c =
       nvram = read_over.below.same.nvram_bytes ∙ f.nvram;
       half = f.half;
       sizes = f.sizes;
-      count = c.plan-map.ensures.count ∙ given_count g at ∙ f.count;
+      count = c.plan-map.ensures.map.count ∙ given_count g at ∙ f.count;
       counted = counted g at;
       few = f.few;
       numbers = f.numbers;
@@ -227,7 +229,7 @@ invariant_of-self-in-Err-take_memory g c =
       nvram = read_over.below.same.nvram_bytes ∙ f.nvram;
       half = f.half;
       sizes = f.sizes;
-      count = c.plan-map.ensures.count ∙ given_count g at ∙ f.count;
+      count = c.plan-map.ensures.map.count ∙ given_count g at ∙ f.count;
       counted = counted g at;
       few = f.few;
       numbers = f.numbers;
@@ -249,7 +251,7 @@ returns-in-Err-take_memory g c =
       none = read_over.laid ∙ c.requires.rests;
       refused = λ known table s serves.
           served.read_on serves c.requires.rests mid c.plan-map.new.blocks.buffers.kept c.plan-map.new.blocks.laid c.plan-map.result.0 read_over c.plan-map.ensures.reads.same
-          (λ b. c.plan-map.ensures.settled b ∙ given g at b);
+          (λ b. c.plan-map.ensures.map.settled b ∙ given g at b);
       memory = refl;
       log = refl;
       same = tt;
@@ -273,10 +275,10 @@ lay-requires-clause-none g c =
 
 pub lay-requires-clause-unwritten : goal.lay-requires-clause-unwritten
 lay-requires-clause-unwritten g c =
-    ap (λ (p : Planned). p.written) c.in-Ok-take_memory.ensures.plan.0 ∙ of_ok c.plan-map.result.1 c.in-Ok.point (λ (x : Point). x.plan.written ≡ 0) c.in-Ok.is c.plan-map.ensures.none
+    ap (λ (p : Planned). p.written) c.in-Ok-take_memory.ensures.plan.0 ∙ (made g (goal.at.lay-requires-clause-unwritten g c).In-Ok).none
 
 pub take_memory-requires : goal.take_memory-requires
-take_memory-requires g c = record { size = (of_ok c.plan-map.result.1 c.in-Ok.point (λ (x : Point). IsRoot x.root) c.in-Ok.is c.plan-map.ensures.root).inode_file.size }
+take_memory-requires g c = record { size = (made g (goal.at.take_memory-requires g c).In-Ok).root_is.inode_file.size }
 
 pub lay-requires-clause-fits : goal.lay-requires-clause-fits
 lay-requires-clause-fits g c =
@@ -290,23 +292,23 @@ pub invariant_of-self-in-Ok-take_memory : goal.invariant_of-self-in-Ok-take_memo
 invariant_of-self-in-Ok-take_memory g c =
     let f = c.args.self.now in
     let q = c.in-Ok.point in
-    let r = c.plan-map.result.1 in
+    let point = made g (goal.at.invariant_of-self-in-Ok-take_memory g c).In-Ok in
     let at = (goal.at.invariant_of-self-in-Ok-take_memory g c).After-plan-map in
     let read_over = reads g at in
     let same = subst (λ (b : Buffers g.row.S.Denot). ReadsOn (g.S.Station.meaning f.blocks.buffers.station) (g.S.Station.meaning b.station)) (sym c.lay.ensures.buffers) read_over.below in
     let sizes : q.root.geometry ≡ f.root.geometry =
-    of_ok r q (λ (x : Point). x.root.geometry ≡ f.root.geometry) c.in-Ok.is c.plan-map.ensures.geometry in
+    point.geometry in
     let half : c.go_on.new.self.half ≡ f.log.half = ap (λ (l : LogEnd). l.half) c.go_on.ensures.end in
     record {
       sectors = same.same.sectors ∙ f.sectors ∙ ap (λ (x : Sizes). 8 * x.blocks) (sym sizes);
       nvram = same.same.nvram_bytes ∙ f.nvram ∙ ap (λ (n : ℕ). 2 * n) (sym half);
       half = half ∙ f.half ∙ ap (λ (x : Sizes). x.half) (sym sizes);
       sizes = c.settle.ensures.geometry ∙ f.sizes ∙ sym sizes;
-      count = c.plan-map.ensures.count ∙ given_count g at ∙ f.count ∙ ap (λ (x : Sizes). x.blocks) (sym sizes);
+      count = c.plan-map.ensures.map.count ∙ given_count g at ∙ f.count ∙ ap (λ (x : Sizes). x.blocks) (sym sizes);
       counted = counted g at;
       few = omega (arith, c.nameless_files.ensures.few, c.from.ensures);
       numbers = subst (λ (x : Sizes). HasNumbers x.inodes f.files) (sym c.settle.ensures.geometry) f.numbers;
-      is_root = of_ok r q (λ (x : Point). IsRoot x.root) c.in-Ok.is c.plan-map.ensures.root;
+      is_root = point.root_is;
     }
 
 pub returns-in-Ok-take_memory : goal.returns-in-Ok-take_memory
@@ -317,6 +319,7 @@ returns-in-Ok-take_memory g c =
     let now = g.S.Station.meaning c.lay.new.self.buffers.station in
     let q = c.in-Ok.point in
     let r = c.plan-map.result.1 in
+    let point = made g (goal.at.returns-in-Ok-take_memory g c).In-Ok in
     let at = (goal.at.returns-in-Ok-take_memory g c).After-plan-map in
     let read_over = reads g at in
     let buffers = c.lay.ensures.buffers in
@@ -330,14 +333,14 @@ returns-in-Ok-take_memory g c =
       reads = read;
       counted = all_read m now read (ap (λ (b : Buffers g.row.S.Denot). (g.S.Station.meaning b.station).failed_reads) buffers ∙ on_ok r q c.in-Ok.is c.plan-map.ensures.reads.counted);
       unwritten = subst (λ (l : Option Laid). IfSome l (λ x. x.plan.written ≡ 0)) (sym c.lay.ensures.laid)
-          (ap (λ (x : Planned). x.written) taken.plan.0 ∙ of_ok r q (λ (x : Point). x.plan.written ≡ 0) c.in-Ok.is c.plan-map.ensures.none);
+          (ap (λ (x : Planned). x.written) taken.plan.0 ∙ point.none);
       why = tt;
       none = tt;
       refused = λ known table s serves. tt;
       memory = tt;
       log = c.go_on.ensures.end ∙ ap (λ (n : ℕ). record f.log { epoch = n; end = Unopened }) next;
       same = (refl, refl);
-      generation = of_ok r q (λ (x : Point). x.root.generation ≡ c.in-Some.generation) c.in-Ok.is c.plan-map.ensures.generation ∙ epoch;
+      generation = point.generation_is ∙ epoch;
       unchanged = c.settle.ensures.unchanged;
       laid = λ known table s serves base v may step made room.
           let rests = c.requires.rests in
@@ -358,18 +361,18 @@ returns-in-Ok-take_memory g c =
           ∙ ap (λ (b : Buffers g.row.S.Denot). disk_after p (g.S.Station.meaning b.station).seen.disk) buffers ∙ ap (λ (i : Images). disk_after p i.disk) seen) in
           let kept = kept_after step serves.first serves.snapshots in
           let slot : p.slot ≡ c.other_slot-slot.result =
-          ap (λ (x : Planned). x.slot) taken.plan.0 ∙ of_ok r q (λ (x : Point). x.plan.slot ≡ c.other_slot-slot.result) c.in-Ok.is c.plan-map.ensures.slot in
+          ap (λ (x : Planned). x.slot) taken.plan.0 ∙ point.slot_is in
           let entries : PlansEntries (blocks_of m.seen.disk) f.root p new c.plan-map.result.0 =
           subst (λ (x : Planned). PlansEntries (blocks_of m.seen.disk) f.root x new c.plan-map.result.0) (sym taken.plan.0)
           (of_ok r q (λ (x : Point). PlansEntries (blocks_of m.seen.disk) f.root x.plan x.root c.plan-map.result.0) c.in-Ok.is
-          (c.plan-map.ensures.entries m.seen.disk base v rest.shows (plannable g at known table s serves base v may))) in
+          (c.plan-map.ensures.over m.seen.disk base v rest.shows (plannable g at known table s serves base v may)).entries) in
           let counted : c.from.result ≡ count_nameless f.root.geometry.inodes v =
           c.from.ensures ∙ c.nameless_files.ensures.counted f.root.geometry.inodes v may.volume
           (subst (λ (t : ℕ → Option Description). IsMounted v t) serves.opened may.mounted) may.fits in
           record {
             laid = c.in-Ok-take_memory.laid;
             is = c.lay.ensures.laid;
-            unwritten = ap (λ (x : Planned). x.written) taken.plan.0 ∙ of_ok r q (λ (x : Point). x.plan.written ≡ 0) c.in-Ok.is c.plan-map.ensures.none;
+            unwritten = ap (λ (x : Planned). x.written) taken.plan.0 ∙ point.none;
             sound = sound;
             slot = sym slot;
             planned = plan;
@@ -381,7 +384,7 @@ returns-in-Ok-take_memory g c =
                 (settled.memory cuts roots serves rests f.sectors f.half p new step v plan here then has c.in-Ok-take_memory.file f.inodes c.settle.new.self f.sizes
                 may.stands.mapped taken.file c.settle.ensures.volume);
             viewless = refl;
-            entries = λ b. c.plan-map.ensures.settled b ∙ given g at b ∙ rest.entries b;
+            entries = λ b. c.plan-map.ensures.map.settled b ∙ given g at b ∙ rest.entries b;
             to_come = subst (λ (d : ℕ → Sector). HasEntriesToCome (whole (blocks_of d) new).active c.plan-map.result.0) disk
                 (λ b. sym (entries (blocks_of then.disk) (settled.has_all cuts roots serves rests f.sectors f.half p new step v plan here then has)
                 (settled.agrees cuts roots serves rests f.sectors f.half p new step v plan here then has) b));

@@ -17,7 +17,7 @@ returns-in-Ok g c =
     let d = blocks_of (disk_of {G = g.S.Station} fs) in
     let told = c.in-Ok.ensures in
     let reads = told.reads.reads fs.blocks (reads_nothing g.S.Station fs.blocks) in
-    λ steps. answered fs _ command.SnapList reads refl (λ s served. (stays_read {G = g.S.Station} fs c.names.new.blocks s reads told.reads.same served, refl)) _ (λ s served. inr (λ x. x), λ is. absurd is) told.reads.counted tt (snaps_no_fault _)
+    answered fs _ command.SnapList reads refl (λ s served. (stays_read {G = g.S.Station} fs c.names.new.blocks s reads told.reads.same served, refl)) _ (λ s served. inr (λ x. x), λ is. absurd is) told.reads.counted tt (snaps_no_fault _)
     (λ s served. c.served_states_open.ensures s.tree.descriptors s served)
     (λ s served room. (
       ap Snaps (told.names d served.shows served.first served.snapshots served.under.holds ∙ ap (λ (pairs : List (Name × Tree)). map (λ pair. pair.0) pairs) (sym (snapshots_of {G = g.S.Station} fs s served))),
@@ -31,5 +31,5 @@ returns-in-Err g c =
     let d = blocks_of (disk_of {G = g.S.Station} fs) in
     let told = c.in-Err.ensures in
     let reads = told.reads.reads fs.blocks (reads_nothing g.S.Station fs.blocks) in
-    λ steps. unanswered_read fs _ command.SnapList reads refl (λ s served. (stays_read {G = g.S.Station} fs c.names.new.blocks s reads told.reads.same served, refl)) (λ s served x. x, λ x. x) c.in-Err.error _ c.call_error.ensures told.reads.device
+    unanswered_read fs _ command.SnapList reads refl (λ s served. (stays_read {G = g.S.Station} fs c.names.new.blocks s reads told.reads.same served, refl)) (λ s served x. x, λ x. x) c.in-Err.error _ c.call_error.ensures told.reads.device
     (λ s served is. told.damaged d served.shows served.first served.snapshots served.under.holds (ap (λ e. Err e) is))

@@ -25,7 +25,7 @@ use Rattle.oplog.specs.declared.log.AppendError.TheVariants.{Device, LogFull, No
 use Rattle.system.specs.Errors.{log_error}
 use Rattle.system.specs.Images.{OpensTo}
 use Rattle.system.specs.declared.error.CallError.{CallError}
-use Rattle.system.specs.declared.error.CallError.TheVariants.{NoRoom, StepDue}
+use Rattle.system.specs.declared.error.CallError.TheVariants.{NoRoom}
 use Rattle.system.specs.Serving.{LeavesEither}
 use Rattle.replay.specs.Costs.{IsSizeBefore, KnowsFile}
 use Rattle.system.specs.Systems.{HasState, Parts, disk_of}
@@ -45,68 +45,73 @@ sized g c table s serves knows =
     let disk = blocks_of (disk_of {G = g.S.Station} f) in
     c.size_before-size.ensures _ f.root.geometry.blocks disk (inodes_of (whole disk f.root).active) serves.running serves.memory.stands knows
 
-pub returns-then-is_step_due-clause-any_moment : goal.returns-then-is_step_due-clause-any_moment
-returns-then-is_step_due-clause-any_moment g c = λ table s serves knows advances. before _ s _ (c.served_states_open.ensures table s serves)
+-- an append fails for no want of room
+other_reason : (e : AppendError) (x : CallError) → x ≡ log_error e → IsErrOf {T = Unit {0}} (Err x) NoRoom → ⊥
+other_reason NoMemory x is err = cc
+other_reason Device x is err = cc
+other_reason LogFull x is err = cc
 
-pub returns-then-ne-clause-any_moment : goal.returns-then-ne-clause-any_moment
-returns-then-ne-clause-any_moment g c = λ table s serves knows advances. before _ s _ (c.served_states_open.ensures table s serves)
+pub returns-then-not-has_room-clause-told : goal.returns-then-not-has_room-clause-told
+returns-then-not-has_room-clause-told g c = λ table s serves knows.
+    let size = sized g (goal.at.returns-then-not-has_room-clause-told g c).After-size_before-size table s serves knows in
+    record {
+      room = tt;
+      short = λ is room. false≢true (sym c.if-not-has_room.true ∙ (c.has_room.ensures.told serves.running size).1 room);
+      any_moment = λ advances. before _ s _ (c.served_states_open.ensures table s serves);
+      done = λ advances does. tt;
+    }
 
-pub returns-clause-done : goal.returns-clause-done
-returns-clause-done g c = λ table s serves knows advances does.
-    let f = c.args.self.now in
-    let size = sized g (goal.at.returns-clause-done g c).After-size_before-size table s serves knows in
-    let change = change_of c.args.change.now in
-    let v = serves.running in
-    let disk = blocks_of (disk_of {G = g.S.Station} f) in
-    let settled = inodes_of (whole disk f.root).active in
-    let count = f.root.geometry.blocks in
-    let stays = c.log_record.ensures.stays.0 in
-    let same = sym (ap (λ (k : Parts). k.inodes) stays) in
-    let files : f.files ≡ c.log_record.new.self.files = sym (ap (λ (k : Parts). k.files) stays) in
-    let opened : table ≡ table_of c.log_record.new.self.files = serves.opened ∙ ap table_of files in
-    let after : (ℕ → Option Description) → Volume = λ t. swept t (applied change v) in
-    let over = subst (λ (i : InodeFile). IsVolumeOf count disk settled i v) same serves.memory.stands in
-    let doing = subst (λ (i : InodeFile). Does disk settled i v c.args.prepared change) same does in
-    let mounted = subst (λ (t : ℕ → Option Description). IsMounted v t) opened serves.mounted in
-    let within = subst (λ (i : InodeFile). memory_room serves.first c.commit_swept.new.inodes (after (table_of c.log_record.new.self.files)) ≤ memory_room serves.first i v + cost (work_of v change))
-    (sym same) (c.commit_swept.ensures.room serves.first count disk settled v change over doing mounted) in
-    let stored = subst (λ (t : ℕ → Option Description). memory_room serves.first c.commit_swept.new.inodes (after t) ≤ c.log_record.new.self.pledged_then) (sym opened)
-    (omega (arith, within, serves.stored, (c.in_default.ensures.pledges v size).1)) in
-    c.in_default.ensures.logged table s serves size advances c.commit_swept.new.inodes c.commit_swept.new.files
-    (subst (λ (t : ℕ → Option Description). IsVolumeOf count disk settled c.commit_swept.new.inodes (after t)) (sym opened)
-    (c.commit_swept.ensures.volume count disk settled v change over doing mounted))
-    stored
-    (opened ∙ sym c.commit_swept.ensures.opened)
-    (subst (λ (t : ℕ → Option Description). FitsVolume c.commit_swept.new.files (after t)) (sym opened)
-    (c.commit_swept.ensures.fits count disk settled v change over doing mounted
-    (subst (λ (d : Descriptors). FitsVolume d v) files serves.fits)
-    (subst (λ (t : ℕ → Option Description). IsMounted (after t) t) opened advances.mounted)))
+pub returns-then-ne-clause-told : goal.returns-then-ne-clause-told
+returns-then-ne-clause-told g c = λ table s serves knows. record {
+  room = tt;
+  short = λ is room. cc;
+  any_moment = λ advances. before _ s _ (c.served_states_open.ensures table s serves);
+  done = λ advances does. tt;
+}
 
-pub returns-in-Err-clause-any_moment : goal.returns-in-Err-clause-any_moment
-returns-in-Err-clause-any_moment g c = λ table s serves knows advances.
-    c.in-Err.ensures.any_moment table s serves (sized g (goal.at.returns-in-Err-clause-any_moment g c).After-size_before-size table s serves knows) advances
+pub returns-in-Err-clause-told : goal.returns-in-Err-clause-told
+returns-in-Err-clause-told g c = λ table s serves knows.
+    let size = sized g (goal.at.returns-in-Err-clause-told g c).After-size_before-size table s serves knows in
+    record {
+      room = tt;
+      short = λ is room. other_reason c.in-Err.error c.log_error.result c.log_error.ensures is;
+      any_moment = λ advances. (c.log_record.ensures.told table s serves size advances).any_moment;
+      done = λ advances does. tt;
+    }
 
-pub returns-clause-any_moment : goal.returns-clause-any_moment
-returns-clause-any_moment g c = λ table s serves knows advances.
-    c.log_record.ensures.any_moment table s serves (sized g (goal.at.returns-clause-any_moment g c).After-size_before-size table s serves knows) advances
-
-pub returns-then-not-has_room-clause-short : goal.returns-then-not-has_room-clause-short
-returns-then-not-has_room-clause-short g c = λ table s serves knows is room. false≢true (sym c.if-not-has_room.true ∙ (c.has_room.ensures.told serves.running (sized g (goal.at.returns-then-not-has_room-clause-short g c).After-size_before-size table s serves knows)).1 room)
-
-pub returns-then-not-has_room-clause-any_moment : goal.returns-then-not-has_room-clause-any_moment
-returns-then-not-has_room-clause-any_moment g c = λ table s serves knows advances. before _ s _ (c.served_states_open.ensures table s serves)
-
-pub returns-clause-room : goal.returns-clause-room
-returns-clause-room g c = λ table s serves knows. (c.has_room.ensures.told serves.running (sized g (goal.at.returns-clause-room g c).After-size_before-size table s serves knows)).0 c.if-not-has_room.false
-
--- an append fails for no want of room, and for no step that is due
-other_reason : (e : AppendError) (x : CallError) → x ≡ log_error e → (IsErrOf {T = Unit {0}} (Err x) NoRoom → ⊥) × (IsErrOf {T = Unit {0}} (Err x) StepDue → ⊥)
-other_reason NoMemory x is = (λ err. cc, λ err. cc)
-other_reason Device x is = (λ err. cc, λ err. cc)
-other_reason LogFull x is = (λ err. cc, λ err. cc)
-
-pub returns-in-Err-clause-short : goal.returns-in-Err-clause-short
-returns-in-Err-clause-short g c = λ table s serves knows is room. (other_reason c.in-Err.error c.log_error.result c.log_error.ensures).0 is
-
-pub returns-in-Err-clause-due : goal.returns-in-Err-clause-due
-returns-in-Err-clause-due g c = λ is. absurd ((other_reason c.in-Err.error c.log_error.result c.log_error.ensures).1 is)
+pub returns-clause-told : goal.returns-clause-told
+returns-clause-told g c = λ table s serves knows.
+    let size = sized g (goal.at.returns-clause-told g c).After-size_before-size table s serves knows in
+    record {
+      room = (c.has_room.ensures.told serves.running size).0 c.if-not-has_room.false;
+      short = λ is room. cc;
+      any_moment = λ advances. (c.log_record.ensures.told table s serves size advances).any_moment;
+      done = λ advances does.
+          let f = c.args.self.now in
+          let change = change_of c.args.change.now in
+          let v = serves.running in
+          let disk = blocks_of (disk_of {G = g.S.Station} f) in
+          let settled = inodes_of (whole disk f.root).active in
+          let count = f.root.geometry.blocks in
+          let stays = c.log_record.ensures.stays.0 in
+          let same = sym (ap (λ (k : Parts). k.inodes) stays) in
+          let files : f.files ≡ c.log_record.new.self.files = sym (ap (λ (k : Parts). k.files) stays) in
+          let opened : table ≡ table_of c.log_record.new.self.files = serves.opened ∙ ap table_of files in
+          let after : (ℕ → Option Description) → Volume = λ t. swept t (applied change v) in
+          let over = subst (λ (i : InodeFile). IsVolumeOf count disk settled i v) same serves.memory.stands in
+          let doing = subst (λ (i : InodeFile). Does disk settled i v c.args.prepared change) same does in
+          let mounted = subst (λ (t : ℕ → Option Description). IsMounted v t) opened serves.mounted in
+          let within = subst (λ (i : InodeFile). memory_room serves.first c.commit_swept.new.inodes (after (table_of c.log_record.new.self.files)) ≤ memory_room serves.first i v + cost (work_of v change))
+          (sym same) (c.commit_swept.ensures.room serves.first count disk settled v change over doing mounted) in
+          let stored = subst (λ (t : ℕ → Option Description). memory_room serves.first c.commit_swept.new.inodes (after t) ≤ c.log_record.new.self.pledged_then) (sym opened)
+          (omega (arith, within, serves.stored, (c.in_default.ensures.pledges v size).1)) in
+          (c.in_default.ensures.told table s serves size advances).logged c.commit_swept.new.inodes c.commit_swept.new.files
+          (subst (λ (t : ℕ → Option Description). IsVolumeOf count disk settled c.commit_swept.new.inodes (after t)) (sym opened)
+          (c.commit_swept.ensures.volume count disk settled v change over doing mounted))
+          stored
+          (opened ∙ sym c.commit_swept.ensures.opened)
+          (subst (λ (t : ℕ → Option Description). FitsVolume c.commit_swept.new.files (after t)) (sym opened)
+          (c.commit_swept.ensures.fits count disk settled v change over doing mounted
+          (subst (λ (d : Descriptors). FitsVolume d v) files serves.fits)
+          (subst (λ (t : ℕ → Option Description). IsMounted (after t) t) opened advances.mounted)));
+    }

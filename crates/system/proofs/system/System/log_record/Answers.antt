@@ -1,6 +1,15 @@
-use Rattle.std.proofs.Common.{Ok, Err, ◌≡◌, ℕ, ◌+◌, length, ap, arith, sym, subst, ◌⊎◌, ◌≢◌, inl, inr, refl}
+use Rattle.std.proofs.Common.{Ok, Err, Option, ◌≡◌, ℕ, ◌+◌, length, ap, arith, sym, subst, ◌⊎◌, ◌≢◌, inl, inr, refl}
 use Rattle.std.specs.Prelude.{IsFalse, IsErrOf}
+use Rattle.station.specs.Moments.{LeavesOnly}
 use Rattle.layout.specs.Record.{change_of}
+use Rattle.model.specs.Records.{applied}
+use Rattle.model.specs.States.{State}
+use Rattle.model.specs.Trees.{Description}
+use Rattle.model.specs.Volumes.{swept}
+use Rattle.replay.specs.Costs.{IsSizeBefore}
+use Rattle.system.specs.Images.{OpensTo}
+use Rattle.system.specs.Logging.{Advances}
+use Rattle.system.specs.Systems.{HasState, state_with}
 use Rattle.oplog.specs.LogEnd.{HasRoomInHalf, LogEnd, logged_body}
 use Rattle.oplog.specs.declared.log.AppendError.{AppendError}
 use Rattle.oplog.specs.declared.log.AppendError.TheVariants.{Device, LogFull, NoMemory}
@@ -8,6 +17,8 @@ use Rattle.overlay.specs.Overlays.{FitsOver, HoldsSoFar}
 use Rattle.system.proofs.LoggedLaws as laws
 use Rattle.system.proofs.LoggedLaws.{same_overlay}
 use Rattle.system.proofs.RoomLaws.{few_free, files_of, files_sized, free_is, had_room}
+use Rattle.system.proofs.system.System.log_record.Given.{Over}
+use Rattle.system.proofs.system.System.log_record.Goals.{After-append}
 use Rattle.system.proofs.system.System.log_record.Goals as goal
 
 no_error : {T E : Type 0} {e : E} (x : T) → Ok x ≡ Err e → ⊥
@@ -58,43 +69,51 @@ returns-in-Err-clause-refused g c = λ other.
     let same = c.in-Err.ensures.refused (not_device c.in-Err.error other) in
     (same_overlay {G = g.S.Station} _ c.args.self.now.blocks (λ i. record c.args.self.now.blocks.buffers { station = same.0 i }) refl, same.1)
 
-pub returns-in-Err-clause-any_moment : goal.returns-in-Err-clause-any_moment
-returns-in-Err-clause-any_moment g c = λ table s serves sized advances.
+-- what is reserved with the record
+reserves : (g : Over) (c : After-append g) (table : ℕ → Option Description) (s : State) (serves : HasState {G = g.S.Station} c.args.self.now table s)
+    → IsSizeBefore serves.running (change_of c.args.change.now) c.args.size
+    → (advances : Advances c.args.self.now.root.geometry.inodes serves.running table (change_of c.args.change.now))
+    → laws.Reserved c.cuts_open.ensures c.records_lead_on.ensures serves (change_of c.args.change.now) advances
+reserves g c table s serves sized advances =
     let f = c.args.self.now in
-    let m = g.S.Station.meaning f.blocks.buffers.station in
-    let change = change_of c.args.change.now in
-    let costs_it = c.cost_of-cost.ensures.cost serves.running sized in
-    laws.at_any_moment c.cuts_open.ensures c.records_lead_on.ensures serves change advances c.cost_of-cost.result costs_it
-    (laws.reserves c.cuts_open.ensures c.records_lead_on.ensures serves change advances f.free c.cost_of-cost.result costs_it (c.requires.room serves.running sized) (free_is {G = g.S.Station} f table s serves))
-    f.sectors f.half (g.S.Station.meaning c.append.new.station)
-    (c.append.ensures.any_moment serves.settled.root.generation serves.lasts.bodies
-    (laws.log_stands c.cuts_open.ensures c.records_lead_on.ensures serves change advances))
+    laws.reserves c.cuts_open.ensures c.records_lead_on.ensures serves (change_of c.args.change.now) advances f.free c.cost_of-cost.result (c.cost_of-cost.ensures.cost serves.running sized)
+    (c.requires.room serves.running sized) (free_is {G = g.S.Station} f table s serves)
 
-pub returns-in-Ok-clause-any_moment : goal.returns-in-Ok-clause-any_moment
-returns-in-Ok-clause-any_moment g c = λ table s serves sized advances.
-    let f = c.args.self.now in
+-- while it is appended a cut leaves the state before it or the one that it leads to
+at_any_moment : (g : Over) (c : After-append g) (table : ℕ → Option Description) (s : State) (serves : HasState {G = g.S.Station} c.args.self.now table s)
+    → IsSizeBefore serves.running (change_of c.args.change.now) c.args.size
+    → (advances : Advances c.args.self.now.root.geometry.inodes serves.running table (change_of c.args.change.now))
+    → let f = c.args.self.now in
     let m = g.S.Station.meaning f.blocks.buffers.station in
+    let after = swept table (applied (change_of c.args.change.now) serves.running) in
+    LeavesOnly m (g.S.Station.meaning c.append.new.station) (λ i. OpensTo m s i ⊎ OpensTo m (state_with f.root.geometry.inodes after table serves.snapshots) i)
+at_any_moment g c table s serves sized advances =
+    let f = c.args.self.now in
     let change = change_of c.args.change.now in
-    let costs_it = c.cost_of-cost.ensures.cost serves.running sized in
-    laws.at_any_moment c.cuts_open.ensures c.records_lead_on.ensures serves change advances c.cost_of-cost.result costs_it
-    (laws.reserves c.cuts_open.ensures c.records_lead_on.ensures serves change advances f.free c.cost_of-cost.result costs_it (c.requires.room serves.running sized) (free_is {G = g.S.Station} f table s serves))
-    f.sectors f.half (g.S.Station.meaning c.append.new.station)
-    (c.append.ensures.any_moment serves.settled.root.generation serves.lasts.bodies
-    (laws.log_stands c.cuts_open.ensures c.records_lead_on.ensures serves change advances))
+    laws.at_any_moment c.cuts_open.ensures c.records_lead_on.ensures serves change advances c.cost_of-cost.result (c.cost_of-cost.ensures.cost serves.running sized)
+    (reserves g c table s serves sized advances) f.sectors f.half (g.S.Station.meaning c.append.new.station)
+    (c.append.ensures.any_moment serves.settled.root.generation serves.lasts.bodies (laws.log_stands c.cuts_open.ensures c.records_lead_on.ensures serves change advances))
 
-pub returns-in-Ok-clause-logged : goal.returns-in-Ok-clause-logged
-returns-in-Ok-clause-logged g c = λ table s serves sized advances.
+pub returns-in-Err-clause-told : goal.returns-in-Err-clause-told
+returns-in-Err-clause-told g c = λ table s serves sized advances. record {
+  any_moment = at_any_moment g (goal.at.returns-in-Err-clause-told g c).After-append table s serves sized advances;
+  logged = tt;
+}
+
+pub returns-in-Ok-clause-told : goal.returns-in-Ok-clause-told
+returns-in-Ok-clause-told g c = λ table s serves sized advances.
     let f = c.args.self.now in
-    let m = g.S.Station.meaning f.blocks.buffers.station in
     let change = change_of c.args.change.now in
-    let costs_it = c.cost_of-cost.ensures.cost serves.running sized in
-    laws.logged c.cuts_open.ensures c.records_lead_on.ensures serves change advances c.cost_of-cost.result costs_it
-    (laws.reserves c.cuts_open.ensures c.records_lead_on.ensures serves change advances f.free c.cost_of-cost.result costs_it (c.requires.room serves.running sized)
-    (free_is {G = g.S.Station} f table s serves))
-    (g.S.Station.meaning c.append.new.station) c.append.new.self (ap (λ (l : LogEnd). l.epoch) c.in-Ok.ensures.end) c.append.ensures.disk c.append.ensures.writes.same
-    (c.in-Ok.ensures.appended serves.settled.root.generation serves.lasts.bodies
-    (laws.log_stands c.cuts_open.ensures c.records_lead_on.ensures serves change advances))
-    (subst (λ (l : LogEnd). IsFalse l.is_stopped) (sym c.in-Ok.ensures.end) serves.goes)
+    let appended = goal.at.returns-in-Ok-clause-told g c in
+    record {
+      any_moment = at_any_moment g appended.After-append table s serves sized advances;
+      logged = laws.logged c.cuts_open.ensures c.records_lead_on.ensures serves change advances c.cost_of-cost.result (c.cost_of-cost.ensures.cost serves.running sized)
+          (reserves g appended.After-append table s serves sized advances)
+          (g.S.Station.meaning c.append.new.station) c.append.new.self (ap (λ (l : LogEnd). l.epoch) c.in-Ok.ensures.end) c.append.ensures.disk c.append.ensures.writes.same
+          (c.in-Ok.ensures.appended serves.settled.root.generation serves.lasts.bodies
+          (laws.log_stands c.cuts_open.ensures c.records_lead_on.ensures serves change advances))
+          (subst (λ (l : LogEnd). IsFalse l.is_stopped) (sym c.in-Ok.ensures.end) serves.goes);
+    }
 
 pub returns-in-Ok-clause-pledges : goal.returns-in-Ok-clause-pledges
 returns-in-Ok-clause-pledges g c = λ v sized.

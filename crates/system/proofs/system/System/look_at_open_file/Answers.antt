@@ -20,7 +20,7 @@ returns g c =
     let looks = seen.looks in
     let blocks = c.read_open_file-outcome.new.blocks in
     let inodes = c.read_open_file-outcome.new.inodes in
-    λ steps. came_to fs _ call (reads_on {G = g.S.Station} fs blocks inodes looks) refl result _ c.answer.ensures (looking_not_sure {G = g.S.Station} fs call c.requires)
+    came_to fs _ call (reads_on {G = g.S.Station} fs blocks inodes looks) refl result _ c.answer.ensures (looking_not_sure {G = g.S.Station} fs call c.requires)
     (λ s served. c.served_states_open.ensures s.tree.descriptors s served) looks.reads.counted looks.reads.device seen.own c.read_open_file-outcome.ensures.kind c.read_open_file-outcome.ensures.no_fault
     (on_err_weaker result
     (λ same s served. subst (λ (x : Descriptors). (serves : IsServing (g.S.Station.meaning blocks.buffers.station)

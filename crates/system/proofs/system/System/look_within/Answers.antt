@@ -19,7 +19,7 @@ returns g c =
     let seen = c.read_within-outcome.ensures in
     let reads = seen.reads.reads fs.blocks (reads_nothing g.S.Station fs.blocks) in
     let call = c.args.call.now in
-    λ steps. looked_up fs _ (command.Within c.args.name.now call) reads refl c.read_within-outcome.result _ c.answer.ensures (λ s served x. x, λ x. x) (λ s served. c.served_states_open.ensures s.tree.descriptors s served)
+    looked_up fs _ (command.Within c.args.name.now call) reads refl c.read_within-outcome.result _ c.answer.ensures (λ s served x. x, λ x. x) (λ s served. c.served_states_open.ensures s.tree.descriptors s served)
     seen.reads.counted seen.reads.device seen.own seen.kind seen.no_fault
     (λ s served. (
       stays_viewed {G = g.S.Station} fs c.read_within-outcome.new.blocks c.read_within-outcome.new.kept s reads seen.reads.same served

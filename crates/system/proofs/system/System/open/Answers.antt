@@ -2,26 +2,37 @@ use Rattle.std.proofs.Common.{◌≡◌, ◌∙◌, ℕ, None, inl, sym, subst}
 use Rattle.std.proofs.lemmas.Result.{IfOk-weaker}
 use Rattle.station.specs.Images.{Images}
 use Rattle.station.specs.Moments.{HasGrown, LeavesJust}
-use Rattle.station.proofs.Moments.{unchanged_twice}
+use Rattle.station.proofs.Moments.{same_twice, unchanged_twice}
 use Rattle.layout.specs.Places.{blocks_of}
 use Rattle.layout.specs.declared.root.Root.{Root}
 use Rattle.model.specs.Records.{without_nameless}
 use Rattle.model.specs.States.{Forgets}
 use Rattle.images.specs.Faults.{IsFaultlessUnder}
 use Rattle.images.specs.Roots.{whole}
-use Rattle.loading.specs.Slots.{FitsStation, IsNewestAt}
+use Rattle.loading.specs.Slots.{FitsStation}
 use Rattle.replay.specs.Volumes.{bodies_of}
-use Rattle.system.specs.Opening.{HoldsRecords, HoldsSome, IsOf}
-use Rattle.system.specs.Systems.{meaning_of, state_with}
-use Rattle.system.proofs.OpenLaws.{if_err_weaker, match_weaker}
+use Rattle.system.specs.Opening.{HoldsRecords, IsOf}
+use Rattle.system.specs.Systems.{meaning_of, state_with, system_parts}
+use Rattle.system.proofs.OpenLaws.{found_before, if_err_weaker, match_weaker}
 use Rattle.system.proofs.system.System.open.Goals as goal
+
+pub returns-in-Ok-clause-same : goal.returns-in-Ok-clause-same
+returns-in-Ok-clause-same g c =
+    let m = g.S.Station.meaning c.args.station in
+    let mid = g.S.Station.meaning c.find.new.station in
+    match_weaker c.open_found.result _ _ _ _
+    (λ f reads. same_twice m mid (meaning_of f) c.find.ensures.same reads.same)
+    (λ e reads. same_twice m mid (g.S.Station.meaning e.1) c.find.ensures.same reads.same)
+    c.open_found.ensures.reads
 
 pub returns-in-Ok-clause-goes : goal.returns-in-Ok-clause-goes
 returns-in-Ok-clause-goes g c =
+    let m = g.S.Station.meaning c.args.station in
+    let mid = g.S.Station.meaning c.find.new.station in
     match_weaker c.open_found.result _ _ _ _
-    (λ f goes. unchanged_twice (g.S.Station.meaning c.args.station) (g.S.Station.meaning c.find.new.station) (meaning_of f) c.find.ensures.goes goes)
-    (λ e goes. unchanged_twice (g.S.Station.meaning c.args.station) (g.S.Station.meaning c.find.new.station) (g.S.Station.meaning e.1) c.find.ensures.goes goes)
-    c.open_found.ensures.goes
+    (λ f reads. unchanged_twice m mid (meaning_of f) c.find.ensures.goes reads.goes)
+    (λ e reads. unchanged_twice m mid (g.S.Station.meaning e.1) c.find.ensures.goes reads.goes)
+    c.open_found.ensures.reads
 
 pub returns-in-Ok-clause-device : goal.returns-in-Ok-clause-device
 returns-in-Ok-clause-device g c =
@@ -60,16 +71,11 @@ returns-in-Err-clause-opens g c honest s to =
 
 pub returns-in-Ok-clause-found : goal.returns-in-Ok-clause-found
 returns-in-Ok-clause-found g c honest =
-    let m = g.S.Station.meaning c.args.station in
-    let n = c.in-Ok.found.newest in
-    let same = c.find.ensures.same in
-    let fits = c.in-Ok.ensures.found.fits in
-    let newest = (c.in-Ok.ensures.of_station honest).newest in
-    IfOk-weaker c.open_found.result _ _ (λ f is. record {
-      newest = subst (λ (r : Root). IsNewestAt f.slot r m.seen.disk) (sym is.0) (subst (λ (k : ℕ). IsNewestAt k n.root m.seen.disk) (sym is.1) newest);
-      fits = subst (λ (r : Root). FitsStation r m) (sym is.0) (record { sectors = sym same.sectors ∙ fits.sectors; nvram = sym same.nvram_bytes ∙ fits.nvram });
-      held = subst (λ (r : Root). HoldsSome f.log r.generation m.seen.nvram) (sym is.0) (is.2 m.seen.nvram (c.in-Ok.ensures.of_station honest).saved);
-    }) c.open_found.ensures.found
+    let went = c.find.ensures.goes honest in
+    let of = subst (λ (i : Images). IsOf i c.in-Ok.found) (sym went.seen) (c.in-Ok.ensures.of_station honest) in
+    IfOk-weaker c.open_found.result _ _
+    (λ f found. found_before (g.S.Station.meaning c.args.station) (g.S.Station.meaning c.find.new.station) (system_parts f) c.find.ensures.same went.seen found)
+    (c.open_found.ensures.found went.honest of)
 
 pub returns-in-Ok-clause-faultless : goal.returns-in-Ok-clause-faultless
 returns-in-Ok-clause-faultless g c honest none =

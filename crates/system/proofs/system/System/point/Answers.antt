@@ -13,9 +13,12 @@ use Rattle.system.proofs.system.System.point.Goals as goal
 same_state : (s t : State) → s ≡ t → with_snapshots t.snapshots s ≡ s
 same_state s t is = ap (λ (x : State). with_snapshots x.snapshots s) (sym is)
 
-pub returns : goal.returns
-returns g c =
-    let made = c.point_with.ensures in
+pub returns-clause-slots : goal.returns-clause-slots
+returns-clause-slots g c = λ s served. c.point_with.ensures.slots s served refl
+
+pub returns-clause-makes : goal.returns-clause-makes
+returns-clause-makes g c =
+    let made = c.point_with.ensures.makes in
     let f = c.args.self.now in
     let leads : (table : ℕ → Option Description) (s : State) (serves : HasState {G = g.S.Station} f table s) (t : State) → t ≡ s → StepsTo {G = g.S.Station} changes.Unchanged f table s serves t =
     λ table s serves t is. (unchanged, record { is = refl; can = tt }, tt, is ∙ sym (same_state s _ serves.state)) in

@@ -13,4 +13,4 @@ pub point-requires : goal.point-requires
 point-requires g c = rests {G = g.S.Station} c.args.self.now c.finish.new.self c.in_default.ensures
 
 pub returns : goal.returns
-returns g c = whole_point {G = g.S.Station} c.args.self.now c.finish.new.self c.in_default.ensures c.point.new.self c.point.result c.point.ensures
+returns g c = whole_point {G = g.S.Station} c.args.self.now c.finish.new.self c.in_default.ensures c.point.new.self c.point.result c.point.ensures.makes c.point.ensures.slots
