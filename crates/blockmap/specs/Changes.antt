@@ -12,7 +12,8 @@ pub record HasMadeRoom (old new : BlockMap) : Type 0 where
   pub settled : KeepsSettled old.parts.items new.parts.items
   pub entries : (b : ℕ) → entry_at new.parts.items b ≡ entry_at old.parts.items b
 
--- A block is put into a set or taken out of it. Nothing else changes, and no more of the map is stored for it.
+-- A block is put into a set or taken out of it. Nothing else changes, and no more of the map is
+-- stored for it.
 pub record PutsBlock (set block : ℕ) (is_in : Bool) (old new : BlockMap) : Type 0 where
   pub count : new.count ≡ old.count
   pub next : new.next ≡ old.next
@@ -30,7 +31,7 @@ pub record PutsPlane {E : Type 0} (set : ℕ) (plane : ℕ → ℕ) (old new : B
   pub refused : OnErr result ((b : ℕ) → entry_at new.parts.items b ≡ entry_at old.parts.items b)
 
 -- These are the settled entries now, nothing is changed, and nothing given out.
-pub record SettlesAs (entry : ℕ → ℕ) (old new : BlockMap) : Type 0 where
+pub record SwitchesTo (entry : ℕ → ℕ) (old new : BlockMap) : Type 0 where
   pub count : new.count ≡ old.count
   pub next : new.next ≡ FIRST_BLOCK
   pub parts : length new.parts.items ≡ length old.parts.items

@@ -4,7 +4,8 @@ use Rattle.layout.specs.Maps.{map_entry}
 use Rattle.layout.specs.declared.TheConstants.{BLOCK_POINTERS}
 use Rattle.blockmap.specs.Bits.{HasBit}
 
--- the entries as they are settled, those that the next consistency point makes of them, and whether it stores them
+-- the entries as they are settled, those that the next consistency point makes of them, and whether
+-- it stores them
 pub record Part : Type 0 where
   pub settled : List ℕ
   pub entries : List ℕ

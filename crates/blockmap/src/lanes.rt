@@ -6,7 +6,8 @@ ghost use Rattle.std.specs.Simd.Lanes.{chunk};
 
 use std::simd::prelude::*;
 
-/// Each entry has 32 bits. Nothing is done: it is a fact of the type, which a caller that changes the entries can cite.
+/// Each entry has 32 bits. Nothing is done: it is a fact of the type, which a caller that changes
+/// the entries can cite.
 pub fn are_words(entries: &[u32])
     ensures { (k : ℕ) → slice_index entries.now k < 2 ^ 32 }
 {}

@@ -3,7 +3,7 @@
 ghost use Rattle.std.specs.Prelude.{◌≡◌, ◌≢◌, ℕ, ◌*◌, ◌/◌, ◌<◌, ◌≤◌, IsTrue, OnOk, IfSome, IfNone, length, ◌+◌, ◌↔◌, ◌⊎◌};
 ghost use Rattle.layout.specs.declared.geometry.TheConstants.{MOST_BLOCKS};
 ghost use Rattle.std.specs.Int.{bit_at};
-ghost use Rattle.blockmap.specs.declared.map.TheConstants.{FIRST_BLOCK, SYSTEM_SET};
+ghost use Rattle.blockmap.specs.declared.map.TheConstants.{FIRST_BLOCK, SYSTEM_PLANE};
 
 use crate::bits::with_bit;
 use crate::part::MapPart;
@@ -17,7 +17,7 @@ const ENTRIES: u32 = 1024;
 const FIRST_BLOCK: u32 = 2;
 
 /// The set of the system's own blocks.
-pub const SYSTEM_SET: u32 = 31;
+pub const SYSTEM_PLANE: u32 = 31;
 
 /// The block map: settled entries, and over them those that the next consistency point stores.
 #[derive(Debug, Drop)]
@@ -25,7 +25,8 @@ pub struct BlockMap {
     parts: Vec<MapPart>,
     /// How many blocks the disk has.
     count: u32,
-    /// Each free block below this one is given out, but for the two that hold the roots: these never are.
+    /// Each free block below this one is given out, but for the two that hold the roots: these
+    /// never are.
     next: u32,
     ghost covers: { count ≤ 1024 * length parts.items },
     ghost just: { 1024 * length parts.items < count + 1024 },
@@ -34,7 +35,7 @@ pub struct BlockMap {
 }
 
 impl BlockMap {
-    ghost use Rattle.blockmap.specs.Changes.{HasMadeRoom, PutsBlock, PutsPlane, SettlesAs};
+    ghost use Rattle.blockmap.specs.Changes.{HasMadeRoom, PutsBlock, PutsPlane, SwitchesTo};
     ghost use Rattle.blockmap.specs.Maps.{settled_at, entry_at, free_below, HasSetAt, HoldsPart, IsFree, IsTouched};
     ghost use Rattle.blockmap.specs.Space.{left};
 
@@ -63,7 +64,8 @@ impl BlockMap {
         self.parts[(b / ENTRIES) as usize].settled(b % ENTRIES) == 0
     }
 
-    /// Gives out the least block that is free under the settled root and wasn't given out yet; None where there is none.
+    /// Gives out the least block that is free under the settled root and wasn't given out yet; None
+    /// where there is none.
     pub fn allocate(&mut self) -> Option<BlockNumber>
         ensures parts { self.new.parts.items ≡ self.old.parts.items }
         ensures count { self.new.count ≡ self.old.count }
@@ -137,7 +139,8 @@ impl BlockMap {
         self.parts[j].bytes()
     }
 
-    /// Makes room for changes of entries in block `j` of the map, which is stored then. No entry changes by it.
+    /// Makes room for changes of entries in block `j` of the map, which is stored then. No entry
+    /// changes by it.
     pub fn touch(&mut self, j: usize) -> Result<(), AllocError>
         requires { j < length self.old.parts.items }
         ensures room { HasMadeRoom self.old self.new }
@@ -163,9 +166,9 @@ impl BlockMap {
     pub fn mark_system(&mut self, block: BlockNumber, is_in: bool)
         requires within { block < self.old.count }
         requires room { IsTouched self.old.parts.items (block / 1024) }
-        ensures { PutsBlock SYSTEM_SET block is_in self.old self.new }
+        ensures { PutsBlock SYSTEM_PLANE block is_in self.old self.new }
     {
-        self.put(SYSTEM_SET, block, is_in);
+        self.put(SYSTEM_PLANE, block, is_in);
     }
 
     /// Puts a block into a set or takes it out. There is room in the map.
@@ -208,8 +211,8 @@ impl BlockMap {
         Ok(())
     }
 
-    /// Makes set 0 the settled set `set`: the active tree is that of a snapshot then. Each block of the map is stored for it. Where
-    /// there is no memory no entry changes.
+    /// Makes set 0 the settled set `set`: the active tree is that of a snapshot then. Each block of
+    /// the map is stored for it. Where there is no memory no entry changes.
     pub fn load_plane(&mut self, set: u32) -> Result<(), AllocError>
         requires { set < 32 }
         ensures put { PutsPlane 0 (λ b. bit_at (settled_at self.old.parts.items b) set)
@@ -224,7 +227,8 @@ impl BlockMap {
         Ok(())
     }
 
-    /// Makes room for changes of all blocks of the map with an entry in set `set`. No entry changes by it.
+    /// Makes room for changes of all blocks of the map with an entry in set `set`. No entry changes
+    /// by it.
     fn touch_set(&mut self, set: u32) -> Result<(), AllocError>
         requires { set < 32 }
         ensures room { HasMadeRoom self.old self.new }
@@ -241,8 +245,8 @@ impl BlockMap {
         Ok(())
     }
 
-    /// Makes set `set` empty. Of the map's blocks only those are stored for it in which an entry changes. Where there is no
-    /// memory no entry changes.
+    /// Makes set `set` empty. Of the map's blocks only those are stored for it in which an entry
+    /// changes. Where there is no memory no entry changes.
     pub fn clear_plane(&mut self, set: u32) -> Result<(), AllocError>
         requires { set < 32 }
         ensures put { PutsPlane set (λ b. 0) self.old self.new result }
@@ -259,18 +263,18 @@ impl BlockMap {
     }
 
     /// The changes are settled by a root: what it doesn't name is free now, and may be given out.
-    pub fn settle(&mut self)
-        ensures { SettlesAs (entry_at self.old.parts.items) self.old self.new }
+    pub fn switch_to_new_root(&mut self)
+        ensures { SwitchesTo (entry_at self.old.parts.items) self.old self.new }
     {
         for j in 0..self.parts.len() {
-            self.parts[j].settle();
+            self.parts[j].switch_to_new_root();
         }
         self.next = FIRST_BLOCK;
     }
 
     /// The changes are given up, and what was given out is free again.
     pub fn give_up(&mut self)
-        ensures { SettlesAs (settled_at self.old.parts.items) self.old self.new }
+        ensures { SwitchesTo (settled_at self.old.parts.items) self.old self.new }
     {
         for j in 0..self.parts.len() {
             self.parts[j].give_up();
@@ -278,7 +282,8 @@ impl BlockMap {
         self.next = FIRST_BLOCK;
     }
 
-    /// How many blocks are free under the settled root. Only a last part of the map that goes past the disk's end is gone over.
+    /// How many blocks are free under the settled root. Only a last part of the map that goes past
+    /// the disk's end is gone over.
     pub fn free_count(&self) -> u32
         ensures { result ≡ free_below self.now.parts.items self.now.count }
     {

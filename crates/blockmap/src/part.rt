@@ -188,7 +188,8 @@ impl MapPart {
         self.free
     }
 
-    /// The first settled entry from one place on that is zero. A block of the map without one isn't gone over.
+    /// The first settled entry from one place on that is zero. A block of the map without one isn't
+    /// gone over.
     pub fn first_free(&self, from: u32) -> Option<u32>
         ensures found { IfSome result (λ i. (from ≤ i) × (i < BLOCK_POINTERS)
             × (slice_index self.now.settled i ≡ 0)) }
@@ -208,7 +209,7 @@ impl MapPart {
     }
 
     /// The changes come into force with a root.
-    pub fn settle(&mut self)
+    pub fn switch_to_new_root(&mut self)
         ensures settled { self.new.settled ≡ self.old.entries }
         ensures entries { self.new.entries ≡ self.old.entries }
         ensures untouched { self.new.is_touched ≡ false }

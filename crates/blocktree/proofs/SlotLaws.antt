@@ -79,7 +79,7 @@ trimmed_only m n count e j had = among (nat_lt j count) (rw (e j) at had)
     among true had = had
     among false had = absurd had
 
--- none is changed behind the cut
+-- none is changed past its new end
 pub trimmed_below : (m n : BTreeMap ℕ Slot) (count : ℕ) → AreTrimmed count m n → (j : ℕ) → IsChangedSlot (get nat_cmp n j) → j < count
 trimmed_below m n count e j had = elim (cases_lt j count) [
   | inl lt ↦ lt

@@ -1,4 +1,3 @@
-pub mod Errors
 pub mod Names
 pub mod Places
 pub mod PlaceMaps

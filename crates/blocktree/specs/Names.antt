@@ -7,8 +7,8 @@ use Rattle.blocktree.specs.PlaceMaps.{place_at}
 use Rattle.blocktree.specs.Places.{place}
 use Rattle.blocktree.specs.declared.place_map.PlaceMap.{PlaceMap}
 
--- How many nodes stand at a height over so many blocks of a file: at height 0 the blocks themselves, and then one over each 1,024
--- of those below.
+-- How many nodes stand at a height over so many blocks of a file: at height 0 the blocks
+-- themselves, and then one over each 1,024 of those below.
 unfoldable pub nodes_at : ℕ → ℕ → ℕ
 nodes_at count zero = count
 nodes_at count (suc height) = div_ceil (nodes_at count height) 1024

@@ -1,4 +1,5 @@
--- Where the blocks of a settled file lie: each node at a depth is a pointer of the inode or, one deeper, of an indirect block.
+-- Where the blocks of a settled file lie: each node at a depth is a pointer of the inode or, one
+-- deeper, of an indirect block.
 use Rattle.std.specs.Prelude.{ℕ, zero, suc, ◌-◌, ◌*◌, ◌/◌, List, slice_index_or}
 use Rattle.std.specs.Int.{div_ceil}
 use Rattle.layout.specs.Maps.{IsIndirectBlock}
@@ -22,7 +23,8 @@ abbrev pub IsStoredNode : ℕ → (ℕ → List ℕ) → ℕ → Pointer → Typ
 IsStoredNode blocks disk used Hole = Unit {0}
 IsStoredNode blocks disk used (Block place) = IsIndirectBlock blocks used (disk place)
 
--- all that stands over node i of so many is in the grammar: the inode's pointer, and each indirect block
+-- all that stands over node i of so many is in the grammar: the inode's pointer, and each indirect
+-- block
 unfoldable pub IsPath : ℕ → (ℕ → List ℕ) → List Pointer → ℕ → ℕ → ℕ → Type 0
 IsPath blocks disk pointers zero count i = PointsBelow blocks (slice_index_or pointers i Hole)
 IsPath blocks disk pointers (suc depth) count i =

@@ -71,8 +71,8 @@ pub record SameChanges (old new : BlockTree) : Type 0 where
   pub kept : new.kept ≡ old.kept
   pub only : (i : ℕ) → IsChanged new i → IsChanged old i
 
--- where the settled inode counts for block i, what stands on a disk of so many blocks over it is in the grammar, and the
--- block itself can be read
+-- where the settled inode counts for block i, what stands on a disk of so many blocks over it is in
+-- the grammar, and the block itself can be read
 abbrev pub IsSoundAt : ℕ → (ℕ → List ℕ) → BlockTree → ℕ → Type 0
 IsSoundAt blocks disk t i =
     (IsChanged t i → ⊥) → i < t.kept

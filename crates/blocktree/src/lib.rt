@@ -1,9 +1,9 @@
-//! The block tree: the blocks of a file. What a consistency point settled stays as it is on the disk, indirect blocks
-//! too, until the next one: a change is laid over it in memory. So a file is a function from a block's index to 4,096
-//! bytes, and a write or a cut an update of that function, whatever the file's level.
+//! The block tree: the blocks of a file. What a consistency point settled stays as it is on the
+//! disk, indirect blocks too, until the next one: a change is laid over it in memory. So a file is
+//! a function from a block's index to 4,096 bytes, and a write or a truncation an update of that
+//! function, whatever the file's level.
 #![tactic(auto)]
 
-mod error;
 mod group;
 mod names;
 mod nodes;
@@ -12,7 +12,6 @@ mod place_map;
 mod slot;
 mod tree;
 
-pub use error::ReadError;
 pub use place_map::{PlaceMap, StoredNode};
 pub use slot::Slot;
 pub use tree::{BlockTree, Location};

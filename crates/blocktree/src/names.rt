@@ -2,19 +2,19 @@
 
 ghost use Rattle.std.specs.Prelude.{◌≡◌, ◌↔◌, ◌⊎◌, ℕ, ◌*◌, ◌^◌, ◌<◌, ◌≤◌, List, Contains, OnOk, IsErrOf};
 ghost use Rattle.buffers.specs.Reads.{ReadsBlocks};
-ghost use Rattle.blocktree.specs.Errors.{IsFault};
+ghost use Rattle.buffers.specs.Errors.{IsFault};
 ghost use Rattle.blocktree.specs.Names.{nodes_at, IsNodePlace, IsNamed};
 ghost use Rattle.blocktree.specs.PlaceMaps.{StandsBelow};
 ghost use Rattle.blocktree.specs.Places.{IsPath};
 
-use crate::ReadError;
 use crate::nodes::read_places;
 use crate::place_map::PlaceMap;
-use buffers::Blocks;
+use buffers::{BlockError, Blocks};
 use layout::{BODY_POINTERS, BlockNumber, Pointer};
 use std::alloc::{AllocError, Global};
 
-/// Adds the places of the first `count` nodes at this depth under an inode's pointers, and of all above them.
+/// Adds the places of the first `count` nodes at this depth under an inode's pointers, and of all
+/// above them.
 pub(crate) fn name_nodes<B: Blocks>(
     alloc: Global,
     blocks: &mut B,
@@ -22,11 +22,11 @@ pub(crate) fn name_nodes<B: Blocks>(
     depth: u32,
     count: u32,
     names: &mut Vec<BlockNumber>,
-) -> Result<(), ReadError>
+) -> Result<(), BlockError>
     requires { count ≤ 16 * 1024 ^ depth }
     ensures reads { ReadsBlocks B.Blocks IsFault blocks.old blocks.new result }
     ensures damaged { (disk : ℕ → List ℕ) → B.Shows blocks.old disk
-        → IsErrOf result ReadError.Damaged
+        → IsErrOf result BlockError.Damaged
         → ((i : ℕ) → i < count → IsPath (B.count blocks.old) disk pointers.now depth count i) → ⊥ }
     ensures named { (disk : ℕ → List ℕ) → B.Shows blocks.old disk → OnOk result ((p : ℕ)
         → Contains names.new.items p
@@ -54,11 +54,11 @@ fn name_level<B: Blocks>(
     depth: u32,
     count: u32,
     names: &mut Vec<BlockNumber>,
-) -> Result<(), ReadError>
+) -> Result<(), BlockError>
     requires { count ≤ 16 * 1024 ^ depth }
     ensures reads { ReadsBlocks B.Blocks IsFault blocks.old blocks.new result }
     ensures damaged { (disk : ℕ → List ℕ) → B.Shows blocks.old disk
-        → IsErrOf result ReadError.Damaged
+        → IsErrOf result BlockError.Damaged
         → ((i : ℕ) → i < count → IsPath (B.count blocks.old) disk pointers.now depth count i) → ⊥ }
     ensures named { (disk : ℕ → List ℕ) → B.Shows blocks.old disk → OnOk result ((p : ℕ)
         → Contains names.new.items p

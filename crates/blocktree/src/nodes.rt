@@ -1,20 +1,20 @@
-//! The places of a settled file's nodes, read from the inode down: each indirect block that is stored is read and tested once.
+//! The places of a settled file's nodes, read from the inode down: each indirect block that is
+//! stored is read and tested once.
 
 ghost use Rattle.std.specs.Prelude.{◌≡◌, ◌⊎◌, ℕ, ◌+◌, ◌-◌, ◌*◌, ◌/◌, ◌%◌, ◌^◌, ◌<◌, ◌≤◌, List, OnOk, IfErr, IfOk, IsErrOf, slice_index_or};
 ghost use Rattle.std.specs.Int.{div_ceil};
 ghost use Rattle.buffers.specs.Reads.{ReadsBlocks};
-ghost use Rattle.blocktree.specs.Errors.{IsFault};
+ghost use Rattle.buffers.specs.Errors.{IsFault};
 ghost use Rattle.blocktree.specs.PlaceMaps.{AreBelow, EndBefore, place_at};
 ghost use Rattle.blocktree.specs.Places.{follow, place, IsStoredNode, IsPath};
 ghost use Rattle.layout.specs.Maps.{indirect_pointer, IsIndirectBlock};
 ghost use Rattle.layout.specs.Pointer.{PointsBelow};
 ghost use Rattle.layout.specs.declared.pointer.Pointer.TheVariants.{Hole};
 
-use crate::ReadError;
 use crate::group::GROUP;
 use crate::place::own_pointer;
 use crate::place_map::PlaceMap;
-use buffers::Blocks;
+use buffers::{BlockError, Blocks};
 use layout::{
     BLOCK_BYTES, BODY_POINTERS, BlockNumber, Pointer, indirect_pointer, is_indirect_block,
 };
@@ -26,15 +26,15 @@ fn own_places(
     pointers: &[Pointer; BODY_POINTERS],
     blocks: u32,
     count: u32,
-) -> Result<PlaceMap, ReadError>
+) -> Result<PlaceMap, BlockError>
     requires { count ≤ 16 }
     ensures within { IfOk result (AreBelow blocks) }
     ensures end { IfOk result (EndBefore count) }
     ensures nodes { IfOk result (λ p. (i : ℕ) → i < count
         → place_at p i ≡ slice_index_or pointers.now i Hole) }
-    ensures damaged { IsErrOf result ReadError.Damaged → ((i : ℕ) → i < count
+    ensures damaged { IsErrOf result BlockError.Damaged → ((i : ℕ) → i < count
         → PointsBelow blocks (slice_index_or pointers.now i Hole)) → ⊥ }
-    ensures only { IfErr result (λ e. (e ≡ ReadError.Damaged) ⊎ (e ≡ ReadError.NoMemory)) }
+    ensures only { IfErr result (λ e. (e ≡ BlockError.Damaged) ⊎ (e ≡ BlockError.NoMemory)) }
 {
     let mut places = PlaceMap::new(alloc);
     for i in 0..count {
@@ -44,7 +44,8 @@ fn own_places(
     Ok(places)
 }
 
-/// Has the pointers of an indirect block as those to the nodes of group `j`, which are holes so far.
+/// Has the pointers of an indirect block as those to the nodes of group `j`, which are holes so
+/// far.
 fn put_group(places: &mut PlaceMap, j: u32, bytes: &[u8; BLOCK_BYTES]) -> Result<(), AllocError>
     requires index { j < 4194304 }
     requires holes { (i : ℕ) → 1024 * j ≤ i → place_at places.old i ≡ Hole }
@@ -58,15 +59,15 @@ fn put_group(places: &mut PlaceMap, j: u32, bytes: &[u8; BLOCK_BYTES]) -> Result
     Ok(())
 }
 
-/// Reads the indirect block over group `j` of `count` nodes, and has its pointers as those to the nodes of the group, which are
-/// holes so far, as all behind it.
+/// Reads the indirect block over group `j` of `count` nodes, and has its pointers as those to the
+/// nodes of the group, which are holes so far, as all behind it.
 fn add_group<B: Blocks>(
     blocks: &mut B,
     node: BlockNumber,
     j: u32,
     count: u32,
     places: &mut PlaceMap,
-) -> Result<(), ReadError>
+) -> Result<(), BlockError>
     requires place { PointsBelow (B.count blocks.old) (Pointer.Block node) }
     requires index { 1024 * j < count }
     requires within { AreBelow (B.count blocks.old) places.old }
@@ -82,13 +83,13 @@ fn add_group<B: Blocks>(
     ensures sound { (disk : ℕ → List ℕ) → B.Shows blocks.old disk → OnOk result
         (IsIndirectBlock (B.count blocks.old) (count - 1024 * j) (disk node)) }
     ensures damaged { (disk : ℕ → List ℕ) → B.Shows blocks.old disk
-        → IsErrOf result ReadError.Damaged
+        → IsErrOf result BlockError.Damaged
         → IsIndirectBlock (B.count blocks.old) (count - 1024 * j) (disk node) → ⊥ }
 {
     blocks.make_resident(node)?;
     let bytes = blocks.bytes(node);
     if !is_indirect_block(bytes, blocks.count(), count - GROUP * j) {
-        return Err(ReadError::Damaged);
+        return Err(BlockError::Damaged);
     }
     put_group(places, j, bytes)?;
     Ok(())
@@ -100,7 +101,7 @@ fn places_under<B: Blocks>(
     blocks: &mut B,
     above: &PlaceMap,
     count: u32,
-) -> Result<PlaceMap, ReadError>
+) -> Result<PlaceMap, BlockError>
     requires { AreBelow (B.count blocks.old) above.now }
     ensures reads { ReadsBlocks B.Blocks IsFault blocks.old blocks.new result }
     ensures within { IfOk result (AreBelow (B.count blocks.old)) }
@@ -112,7 +113,7 @@ fn places_under<B: Blocks>(
         → j < div_ceil count 1024
         → IsStoredNode (B.count blocks.old) disk (count - 1024 * j) (place_at above.now j)) }
     ensures damaged { (disk : ℕ → List ℕ) → B.Shows blocks.old disk
-        → IsErrOf result ReadError.Damaged → ((j : ℕ) → j < div_ceil count 1024
+        → IsErrOf result BlockError.Damaged → ((j : ℕ) → j < div_ceil count 1024
         → IsStoredNode (B.count blocks.old) disk (count - 1024 * j) (place_at above.now j)) → ⊥ }
 {
     let groups = count.div_ceil(GROUP);
@@ -132,7 +133,7 @@ pub(crate) fn read_places<B: Blocks>(
     pointers: &[Pointer; BODY_POINTERS],
     depth: u32,
     count: u32,
-) -> Result<PlaceMap, ReadError>
+) -> Result<PlaceMap, BlockError>
     requires { count ≤ 16 * 1024 ^ depth }
     ensures reads { ReadsBlocks B.Blocks IsFault blocks.old blocks.new result }
     ensures within { IfOk result (AreBelow (B.count blocks.old)) }
@@ -143,7 +144,7 @@ pub(crate) fn read_places<B: Blocks>(
     ensures sound { (disk : ℕ → List ℕ) → B.Shows blocks.old disk → OnOk result ((i : ℕ)
         → i < count → IsPath (B.count blocks.old) disk pointers.now depth count i) }
     ensures damaged { (disk : ℕ → List ℕ) → B.Shows blocks.old disk
-        → IsErrOf result ReadError.Damaged
+        → IsErrOf result BlockError.Damaged
         → ((i : ℕ) → i < count → IsPath (B.count blocks.old) disk pointers.now depth count i)
         → ⊥ }
 {

@@ -2,24 +2,24 @@
 
 ghost use Rattle.std.specs.Prelude.{◌≡◌, ℕ, ◌*◌, ◌^◌, ◌<◌, List, OnOk, OnErr, IfOk, IfErr, IsErrOf, slice_index_or};
 ghost use Rattle.buffers.specs.Reads.{ReadsBlocks};
-ghost use Rattle.blocktree.specs.Errors.{IsFault};
+ghost use Rattle.buffers.specs.Errors.{IsFault};
 ghost use Rattle.layout.specs.Maps.{indirect_pointer, IsIndirectBlock};
 ghost use Rattle.layout.specs.Pointer.{PointsBelow};
 ghost use Rattle.layout.specs.declared.pointer.Pointer.TheVariants.{Hole};
 ghost use Rattle.blocktree.specs.Places.{follow, place, IsStoredNode, IsPath};
 
-use crate::ReadError;
-use buffers::Blocks;
+use buffers::{BlockError, Blocks};
 use layout::{BODY_POINTERS, BlockNumber, Pointer, indirect_pointer};
 
-/// The pointer to node `i` of `count` at this depth under an inode's pointers. Depth 0 is that of the pointers themselves.
+/// The pointer to node `i` of `count` at this depth under an inode's pointers. Depth 0 is that of
+/// the pointers themselves.
 pub(crate) fn find_place<B: Blocks>(
     blocks: &mut B,
     pointers: &[Pointer; BODY_POINTERS],
     depth: u32,
     count: u32,
     i: u32,
-) -> Result<Pointer, ReadError>
+) -> Result<Pointer, BlockError>
     requires { i < 16 * 1024 ^ depth }
     ensures reads { ReadsBlocks B.Blocks IsFault blocks.old blocks.new result }
     ensures within { IfOk result (PointsBelow (B.count blocks.old)) }
@@ -28,7 +28,7 @@ pub(crate) fn find_place<B: Blocks>(
     ensures sound { (disk : ℕ → List ℕ) → B.Shows blocks.old disk
         → OnOk result (IsPath (B.count blocks.old) disk pointers.now depth count i) }
     ensures damaged { (disk : ℕ → List ℕ) → B.Shows blocks.old disk
-        → IsErrOf result ReadError.Damaged
+        → IsErrOf result BlockError.Damaged
         → IsPath (B.count blocks.old) disk pointers.now depth count i → ⊥ }
 {
     if depth == 0 {
@@ -46,29 +46,29 @@ pub(crate) fn own_pointer(
     pointers: &[Pointer; BODY_POINTERS],
     blocks: u32,
     i: u32,
-) -> Result<Pointer, ReadError>
+) -> Result<Pointer, BlockError>
     requires { i < 16 }
     ensures pointer { IfOk result (λ p. p ≡ slice_index_or pointers.now i Hole) }
     ensures within { OnOk result (PointsBelow blocks (slice_index_or pointers.now i Hole)) }
     ensures damaged { OnErr result (PointsBelow blocks (slice_index_or pointers.now i Hole) → ⊥) }
-    ensures only { IfErr result (λ e. e ≡ ReadError.Damaged) }
+    ensures only { IfErr result (λ e. e ≡ BlockError.Damaged) }
 {
     within(pointers[i as usize], blocks)
 }
 
 /// A pointer, on a disk of so many blocks.
-fn within(pointer: Pointer, blocks: u32) -> Result<Pointer, ReadError>
+fn within(pointer: Pointer, blocks: u32) -> Result<Pointer, BlockError>
     ensures pointer { IfOk result (λ p. p ≡ pointer) }
     ensures within { OnOk result (PointsBelow blocks pointer) }
     ensures damaged { OnErr result (PointsBelow blocks pointer → ⊥) }
-    ensures only { IfErr result (λ e. e ≡ ReadError.Damaged) }
+    ensures only { IfErr result (λ e. e ≡ BlockError.Damaged) }
 {
     match pointer {
         Pointer::Hole => Ok(Pointer::Hole),
         Pointer::Block(block) if 2 <= block.get() && block.get() < blocks => Ok(Pointer::Block(
             block,
         )),
-        Pointer::Block(_) => Err(ReadError::Damaged),
+        Pointer::Block(_) => Err(BlockError::Damaged),
     }
 }
 
@@ -78,7 +78,7 @@ fn follow<B: Blocks>(
     above: Pointer,
     used: u32,
     i: u32,
-) -> Result<Pointer, ReadError>
+) -> Result<Pointer, BlockError>
     requires above { PointsBelow (B.count blocks.old) above }
     requires index { i < 1024 }
     ensures reads { ReadsBlocks B.Blocks IsFault blocks.old blocks.new result }
@@ -88,7 +88,7 @@ fn follow<B: Blocks>(
     ensures sound { (disk : ℕ → List ℕ) → B.Shows blocks.old disk
         → OnOk result (IsStoredNode (B.count blocks.old) disk used above) }
     ensures damaged { (disk : ℕ → List ℕ) → B.Shows blocks.old disk
-        → IsErrOf result ReadError.Damaged
+        → IsErrOf result BlockError.Damaged
         → IsStoredNode (B.count blocks.old) disk used above → ⊥ }
 {
     match above {
@@ -103,7 +103,7 @@ fn read_pointer<B: Blocks>(
     node: BlockNumber,
     used: u32,
     i: u32,
-) -> Result<Pointer, ReadError>
+) -> Result<Pointer, BlockError>
     requires place { PointsBelow (B.count blocks.old) (Pointer.Block node) }
     requires index { i < 1024 }
     ensures reads { ReadsBlocks B.Blocks IsFault blocks.old blocks.new result }
@@ -113,12 +113,12 @@ fn read_pointer<B: Blocks>(
     ensures sound { (disk : ℕ → List ℕ) → B.Shows blocks.old disk
         → OnOk result (IsIndirectBlock (B.count blocks.old) used (disk node)) }
     ensures damaged { (disk : ℕ → List ℕ) → B.Shows blocks.old disk
-        → IsErrOf result ReadError.Damaged
+        → IsErrOf result BlockError.Damaged
         → IsIndirectBlock (B.count blocks.old) used (disk node) → ⊥ }
 {
     blocks.make_resident(node)?;
     if !blocks.is_indirect(node, used) {
-        return Err(ReadError::Damaged);
+        return Err(BlockError::Damaged);
     }
     // Each pointer of such a block stays on the disk: this tells nothing new.
     within(indirect_pointer(blocks.bytes(node), i), blocks.count())

@@ -13,8 +13,9 @@ use layout::{BLOCK_BYTES, BLOCK_POINTERS, BlockNumber, Pointer};
 use std::alloc::{AllocError, Global};
 use std::collections::BTreeMap;
 
-/// The places of those nodes at one height of a file that are stored, by index. They are held by groups of 1,024 nodes, those under one
-/// indirect block, of which one is stored. So it is as large as what is stored, however large the file is.
+/// The places of those nodes at one height of a file that are stored, by index. They are held by
+/// groups of 1,024 nodes, those under one indirect block, of which one is stored. So it is as large
+/// as what is stored, however large the file is.
 #[derive(Debug, Drop)]
 pub struct PlaceMap {
     alloc: Global,

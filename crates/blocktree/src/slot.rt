@@ -42,8 +42,9 @@ impl Slot {
     }
 }
 
-/// Lets go of what memory has of the blocks from `count` on. Where it has nothing of them, as while a file grows, none is looked at.
-pub(crate) fn cut_slots(slots: &mut BTreeMap<u32, Slot>, count: u32)
+/// Lets go of what memory has of the blocks from `count` on. Where it has nothing of them, as while
+/// a file grows, none is looked at.
+pub(crate) fn truncate_slots(slots: &mut BTreeMap<u32, Slot>, count: u32)
     ensures { AreTrimmed count slots.old slots.new }
 {
     let reaches = match slots.last_key_value() {

@@ -5,19 +5,18 @@ ghost use Rattle.layout.specs.Bytes.{zeros};
 ghost use Rattle.layout.specs.Version.{greatest_size};
 ghost use Rattle.layout.specs.declared.version.TheConstants.{VERSION};
 ghost use Rattle.buffers.specs.Reads.{ReadsBlocks};
-ghost use Rattle.blocktree.specs.Errors.{IsFault};
+ghost use Rattle.buffers.specs.Errors.{IsFault};
 ghost use Rattle.buffers.specs.Positions.{IsPart};
 ghost use Rattle.blocktree.specs.PlaceMaps.{AreBelow, EndBefore};
 ghost use Rattle.blocktree.specs.Names.{nodes_at, AreNodes, IsNamed};
 ghost use Rattle.blocktree.specs.Places.{block_count, depth_of, IsPath};
 
-use crate::ReadError;
 use crate::names::{name_nodes, nodes_at};
 use crate::nodes::read_places;
 use crate::place::find_place;
 use crate::place_map::{PlaceMap, next_entry};
-use crate::slot::{Slot, cut_slots};
-use buffers::{Blocks, SharedBlock};
+use crate::slot::{Slot, truncate_slots};
+use buffers::{BlockError, Blocks, SharedBlock};
 use layout::{BLOCK_BYTES, BODY_POINTERS, BlockNumber, Pointer, level_of};
 use std::alloc::{AllocError, Global};
 use std::collections::BTreeMap;
@@ -124,14 +123,15 @@ impl BlockTree {
         self.kept
     }
 
-    /// The settled places of the nodes at a height: at height 0 of the blocks, and then of the indirect blocks, each over 1,024
-    /// nodes of those below. Each indirect block over them that is stored is read and tested once.
+    /// The settled places of the nodes at a height: at height 0 of the blocks, and then of the
+    /// indirect blocks, each over 1,024 nodes of those below. Each indirect block over them that is
+    /// stored is read and tested once.
     pub fn settled_nodes<B: Blocks>(
         &self,
         alloc: Global,
         blocks: &mut B,
         height: u32,
-    ) -> Result<PlaceMap, ReadError>
+    ) -> Result<PlaceMap, BlockError>
         requires { height ≤ self.now.depth }
         ensures reads { ReadsBlocks B.Blocks IsFault blocks.old blocks.new result }
         ensures within { IfOk result (AreBelow (B.count blocks.old)) }
@@ -142,7 +142,7 @@ impl BlockTree {
         ensures sound { (disk : ℕ → List ℕ) → B.Shows blocks.old disk
             → OnOk result (height ≡ 0 → AreSound (B.count blocks.old) disk self.now) }
         ensures damaged { (disk : ℕ → List ℕ) → B.Shows blocks.old disk
-            → IsErrOf result ReadError.Damaged
+            → IsErrOf result BlockError.Damaged
             → AreSound (B.count blocks.old) disk self.now → ⊥ }
     {
         let count = nodes_at(self.count, height);
@@ -187,7 +187,7 @@ impl BlockTree {
     }
 
     /// Finds block `i`, and makes it resident where it is on the disk.
-    pub fn locate<B: Blocks>(&self, blocks: &mut B, i: u32) -> Result<Location, ReadError>
+    pub fn locate<B: Blocks>(&self, blocks: &mut B, i: u32) -> Result<Location, BlockError>
         ensures reads { ReadsBlocks B.Blocks IsFault blocks.old blocks.new result }
         ensures resident { IfOk result (λ l. OnDisk l (B.IsResident blocks.new)) }
         ensures found { (disk : ℕ → List ℕ) → B.Shows blocks.old disk
@@ -197,7 +197,7 @@ impl BlockTree {
         ensures sound { (disk : ℕ → List ℕ) → B.Shows blocks.old disk
             → OnOk result (IsSoundAt (B.count blocks.old) disk self.now i) }
         ensures damaged { (disk : ℕ → List ℕ) → B.Shows blocks.old disk
-            → IsErrOf result ReadError.Damaged
+            → IsErrOf result BlockError.Damaged
             → IsSoundAt (B.count blocks.old) disk self.now i → ⊥ }
     {
         if let Some(_) = self.changed(i) {
@@ -243,7 +243,7 @@ impl BlockTree {
         i: u32,
         at: usize,
         out: &mut [u8],
-    ) -> Result<(), ReadError>
+    ) -> Result<(), BlockError>
         requires { at + length out.old ≤ 4096 }
         ensures reads { ReadsBlocks B.Blocks IsFault blocks.old blocks.new result }
         ensures bytes { (disk : ℕ → List ℕ) → B.Shows blocks.old disk
@@ -251,7 +251,7 @@ impl BlockTree {
         ensures sound { (disk : ℕ → List ℕ) → B.Shows blocks.old disk
             → OnOk result (IsSoundAt (B.count blocks.old) disk self.now i) }
         ensures damaged { (disk : ℕ → List ℕ) → B.Shows blocks.old disk
-            → IsErrOf result ReadError.Damaged
+            → IsErrOf result BlockError.Damaged
             → IsSoundAt (B.count blocks.old) disk self.now i → ⊥ }
     {
         let location = self.locate(blocks, i)?;
@@ -260,16 +260,16 @@ impl BlockTree {
         Ok(())
     }
 
-    /// The blocks that the settled inode names: those of the file's bytes and the indirect ones, from the blocks up, each
-    /// at its index's turn.
+    /// The blocks that the settled inode names: those of the file's bytes and the indirect ones,
+    /// from the blocks up, each at its index's turn.
     pub fn named<B: Blocks>(
         &self,
         alloc: Global,
         blocks: &mut B,
-    ) -> Result<Vec<BlockNumber>, ReadError>
+    ) -> Result<Vec<BlockNumber>, BlockError>
         ensures reads { ReadsBlocks B.Blocks IsFault blocks.old blocks.new result }
         ensures damaged { (disk : ℕ → List ℕ) → B.Shows blocks.old disk
-            → IsErrOf result ReadError.Damaged
+            → IsErrOf result BlockError.Damaged
             → ((i : ℕ) → i < self.now.count
             → IsPath (B.count blocks.old) disk self.now.pointers self.now.depth self.now.count i)
             → ⊥ }
@@ -326,8 +326,8 @@ impl BlockTree {
         let _ = self.slots.insert(i, Slot::Changed(block));
     }
 
-    /// Writes these bytes into block `i`, from one place in it on, where it is changed already, and tells whether it is. Where it isn't,
-    /// or there is no memory, nothing happens.
+    /// Writes these bytes into block `i`, from one place in it on, where it is changed already, and
+    /// tells whether it is. Where it isn't, or there is no memory, nothing happens.
     pub fn put(
         &mut self,
         alloc: Global,
@@ -368,9 +368,9 @@ impl BlockTree {
         ensures settled { SameSettled self.old self.new }
         ensures kept { self.new.kept ≡ min self.old.kept count }
         ensures changed { (j : ℕ) → IsChanged self.new j → IsChanged self.old j }
-        ensures cut { (j : ℕ) → IsChanged self.new j → j < count }
+        ensures truncate { (j : ℕ) → IsChanged self.new j → j < count }
     {
-        cut_slots(&mut self.slots, count);
+        truncate_slots(&mut self.slots, count);
         self.kept = self.kept.min(count);
     }
 

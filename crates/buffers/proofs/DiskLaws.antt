@@ -9,7 +9,7 @@ use Rattle.layout.specs.Places.{blocks_of}
 use Rattle.buffers.specs.Disks.{IsBlock, IsDisk, ShowsDisk, ReadsOn, disk_with_block, disk_with_sector}
 use Rattle.buffers.specs.Memory.{Has, Loses}
 use Rattle.buffers.specs.declared.block.Block.{Block}
-use Rattle.buffers.specs.declared.kept.Kept.{Kept}
+use Rattle.buffers.specs.declared.block_cache.BlockCache.{BlockCache}
 use Rattle.layout.proofs.PointerLaws.{same_block}
 use Rattle.buffers.proofs.SectorLaws.{sectors_block}
 
@@ -18,7 +18,7 @@ disk_stays m n disk same seen is place within =
     subst (λ (i : Images). IsBlock i.disk place (disk place)) (sym seen) (is place (subst (λ (s : ℕ). 8 * place + 8 ≤ s) same.sectors within))
 
 -- a block that is as the disk has it comes into memory
-pub kept_more : (m : Meaning) (old new : Kept) (place : ℕ) (block : Block) (disk : ℕ → List ℕ) → ((p : ℕ) (b : Block) → Has new p b → ((p ≡ place) × (b ≡ block)) ⊎ Has old p b) → block ≡ disk place
+pub kept_more : (m : Meaning) (old new : BlockCache) (place : ℕ) (block : Block) (disk : ℕ → List ℕ) → ((p : ℕ) (b : Block) → Has new p b → ((p ≡ place) × (b ≡ block)) ⊎ Has old p b) → block ≡ disk place
     → ShowsDisk m old disk → ShowsDisk m new disk
 kept_more m old new place block disk only is shows = record {
   honest = shows.honest;
@@ -30,17 +30,17 @@ kept_more m old new place block disk only is shows = record {
 }
 
 -- less is kept, and reads go on
-pub read_less : (m n : Meaning) (old new : Kept) (disk : ℕ → List ℕ) → ReadsOn m n → Loses old new → ShowsDisk m old disk → ShowsDisk n new disk
+pub read_less : (m n : Meaning) (old new : BlockCache) (disk : ℕ → List ℕ) → ReadsOn m n → Loses old new → ShowsDisk m old disk → ShowsDisk n new disk
 read_less m n old new disk reads loses shows =
     let went = reads.goes shows.honest in
     record { honest = went.honest; reads = disk_stays m n disk reads.same went.seen shows.reads; kept_is = λ p b has. shows.kept_is p b (loses p b has) }
 
 -- less is kept
-pub kept_less : (m : Meaning) (old new : Kept) (disk : ℕ → List ℕ) → Loses old new → ShowsDisk m old disk → ShowsDisk m new disk
+pub kept_less : (m : Meaning) (old new : BlockCache) (disk : ℕ → List ℕ) → Loses old new → ShowsDisk m old disk → ShowsDisk m new disk
 kept_less m old new disk loses shows = record { honest = shows.honest; reads = shows.reads; kept_is = λ p b has. shows.kept_is p b (loses p b has) }
 
 -- a block that is read is as the disk has it
-pub read_is : {E : Type 0} (m : Meaning) (kept : Kept) (place : ℕ) (disk : ℕ → List ℕ) (r : Result Block E) → 8 * place + 8 ≤ m.sectors → (m.is_honest → IfOk r (IsBlock m.seen.disk place))
+pub read_is : {E : Type 0} (m : Meaning) (kept : BlockCache) (place : ℕ) (disk : ℕ → List ℕ) (r : Result Block E) → 8 * place + 8 ≤ m.sectors → (m.is_honest → IfOk r (IsBlock m.seen.disk place))
     → ShowsDisk m kept disk → IfOk r (λ b. b ≡ disk place)
 read_is m kept place disk (Ok block) within is shows = is shows.honest ∙ sym (shows.reads place within)
 read_is m kept place disk (Err e) within is shows = tt
@@ -76,7 +76,7 @@ this_block disk place b bytes e = rw (same b place e) refl
     same b place e = grind (arith, nat_tests)
 
 -- a block that was stored reads so, and what was kept of it is let go
-pub stored : (m n : Meaning) (old new : Kept) (place : ℕ) (bytes : List ℕ) (disk : ℕ → List ℕ) → length bytes ≡ 4096 → IsSameStation m n
+pub stored : (m n : Meaning) (old new : BlockCache) (place : ℕ) (bytes : List ℕ) (disk : ℕ → List ℕ) → length bytes ≡ 4096 → IsSameStation m n
     → (m.is_honest → n.seen ≡ record { disk = images.disk_with (8 * place) bytes m.seen.disk; nvram = m.seen.nvram })
     → Loses old new → ((b : Block) → Has new place b → ⊥) → ShowsDisk m old disk → ShowsDisk n new (disk_with_block place bytes disk)
 stored m n old new place bytes disk len same written loses gone shows = record {
@@ -96,7 +96,7 @@ stored m n old new place bytes disk len same written loses gone shows = record {
 }
 
 -- what the station does beside its disk doesn't change what the disk shows
-pub still_shows : (m n : Meaning) (kept : Kept) (disk : ℕ → List ℕ) → n.is_honest → n.sectors ≡ m.sectors → n.seen.disk ≡ m.seen.disk → ShowsDisk m kept disk → ShowsDisk n kept disk
+pub still_shows : (m n : Meaning) (kept : BlockCache) (disk : ℕ → List ℕ) → n.is_honest → n.sectors ≡ m.sectors → n.seen.disk ≡ m.seen.disk → ShowsDisk m kept disk → ShowsDisk n kept disk
 still_shows m n kept disk honest sectors same shows = record {
   honest = honest;
   reads = λ place within. subst (λ (d : ℕ → Sector). IsBlock d place (disk place)) (sym same) (shows.reads place (subst (λ (s : ℕ). 8 * place + 8 ≤ s) sectors within));
@@ -111,7 +111,7 @@ block_beside sectors sector b bytes size other = same_block sectors (images.disk
     off n size is differ = grind (arith, nat_tests)
 
 -- a sector that was written: its block reads as the station has it, and what was kept of that is let go
-pub sector_stored : (m n : Meaning) (old new : Kept) (sector : ℕ) (bytes : List ℕ) (disk : ℕ → List ℕ) → length bytes ≡ 512 → IsSameStation m n
+pub sector_stored : (m n : Meaning) (old new : BlockCache) (sector : ℕ) (bytes : List ℕ) (disk : ℕ → List ℕ) → length bytes ≡ 512 → IsSameStation m n
     → (m.is_honest → n.seen ≡ record { disk = images.disk_with sector bytes m.seen.disk; nvram = m.seen.nvram })
     → Loses old new → ((b : Block) → Has new (sector / 8) b → ⊥) → ShowsDisk m old disk → ShowsDisk n new (disk_with_sector n.seen.disk sector disk)
 sector_stored m n old new sector bytes disk size same written loses gone shows =
@@ -132,6 +132,6 @@ sector_stored m n old new sector bytes disk size same written loses gone shows =
     }
 
 -- what is shown still is, where reads give the same
-pub same_shows : (m n : Meaning) (kept : Kept) (disk : ℕ → List ℕ) → IsSameStation m n → Goes Unchanged m n → ShowsDisk m kept disk → ShowsDisk n kept disk
+pub same_shows : (m n : Meaning) (kept : BlockCache) (disk : ℕ → List ℕ) → IsSameStation m n → Goes Unchanged m n → ShowsDisk m kept disk → ShowsDisk n kept disk
 same_shows m n kept disk same goes shows =
     record { honest = same.honest.0 shows.honest; reads = disk_stays m n disk same (goes shows.honest).seen shows.reads; kept_is = shows.kept_is }

@@ -3,7 +3,7 @@ use Rattle.std.specs.Prelude.{ℕ, Option, Some, None, length, nat_eq}
 use Rattle.std.specs.Map.{lookup}
 use Rattle.lru.specs.LruCache.{LruCache}
 use Rattle.buffers.specs.declared.block.Block.{Block}
-use Rattle.buffers.specs.declared.kept.TheConstants.{CACHED_BLOCKS}
+use Rattle.buffers.specs.declared.block_cache.TheConstants.{CACHED_BLOCKS}
 
 -- the block that it has of a place
 abbrev pub cached : Option (LruCache ℕ Block) → ℕ → Option Block

@@ -6,10 +6,10 @@ use Rattle.layout.specs.Places.{blocks_of}
 use Rattle.layout.specs.declared.TheConstants.{BLOCK_BYTES}
 use Rattle.buffers.specs.Memory.{Has}
 use Rattle.buffers.specs.declared.block.Block.{Block}
-use Rattle.buffers.specs.declared.kept.Kept.{Kept}
+use Rattle.buffers.specs.declared.block_cache.BlockCache.{BlockCache}
 
--- these are the bytes of a block of the disk: its eight sectors one behind the other, fewer than a block has where one of
--- them can't be read
+-- these are the bytes of a block of the disk: its eight sectors one behind the other, fewer than a
+-- block has where one of them can't be read
 abbrev pub IsBlock : (ℕ → Sector) → ℕ → List ℕ → Type 0
 IsBlock sectors place bytes = bytes ≡ blocks_of sectors place
 
@@ -21,8 +21,9 @@ IsWhole bytes = length bytes ≡ BLOCK_BYTES
 abbrev pub IsDisk : Meaning → (ℕ → List ℕ) → Type 0
 IsDisk m disk = (place : ℕ) → 8 * place + 8 ≤ m.sectors → IsBlock m.seen.disk place (disk place)
 
--- over an honest station each block of the disk reads so, and those that are kept are as the disk has them
-pub record ShowsDisk (m : Meaning) (kept : Kept) (disk : ℕ → List ℕ) : Type 0 where
+-- over an honest station each block of the disk reads so, and those that are kept are as the disk
+-- has them
+pub record ShowsDisk (m : Meaning) (kept : BlockCache) (disk : ℕ → List ℕ) : Type 0 where
   pub honest : m.is_honest
   pub reads : IsDisk m disk
   pub kept_is : (place : ℕ) (block : Block) → Has kept place block → block ≡ disk place

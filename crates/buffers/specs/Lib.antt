@@ -1,3 +1,4 @@
+pub mod Errors
 pub mod Caches
 pub mod Disks
 pub mod Failures

@@ -7,8 +7,8 @@ abbrev pub with_bytes_at : (ℕ → ℕ) → ℕ → List ℕ → ℕ → ℕ
 with_bytes_at f at bytes p = if nat_le at p && nat_lt p (at + length bytes) then slice_index bytes (p - at) else f p
 
 -- bytes by position, and zeros from one position on
-abbrev pub cut : (ℕ → ℕ) → ℕ → ℕ → ℕ
-cut f size p = if nat_lt p size then f p else 0
+abbrev pub truncate : (ℕ → ℕ) → ℕ → ℕ → ℕ
+truncate f size p = if nat_lt p size then f p else 0
 
 -- a list has these bytes by position, counted from one position on
 abbrev pub IsPart : (ℕ → ℕ) → ℕ → List ℕ → Type 0

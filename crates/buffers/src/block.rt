@@ -3,7 +3,7 @@
 ghost use Rattle.std.specs.Prelude.{◌≡◌, ◌↔◌, ℕ, ◌+◌, ◌<◌, ◌≤◌, length, slice_index, IfOk, IsTrue};
 ghost use Rattle.layout.specs.Bytes.{zeros};
 ghost use Rattle.layout.specs.Maps.{IsIndirectBlock};
-ghost use Rattle.buffers.specs.Positions.{with_bytes_at, cut};
+ghost use Rattle.buffers.specs.Positions.{with_bytes_at, truncate};
 
 use layout::{BLOCK_BYTES, is_indirect_block};
 use std::alloc::{AllocError, Global};
@@ -79,16 +79,17 @@ impl Block {
     }
 
     /// Writes zeros from one place on.
-    pub fn cut(&mut self, at: usize)
+    pub fn truncate(&mut self, at: usize)
         requires { at ≤ 4096 }
-        ensures bytes { (k : ℕ) → slice_index self.new k ≡ cut (slice_index self.old) at k }
+        ensures bytes { (k : ℕ) → slice_index self.new k ≡ truncate (slice_index self.old) at k }
         ensures length { length self.new ≡ 4096 }
     {
         self.found = None;
         self.bytes[at..].fill(0);
     }
 
-    /// Whether it is an indirect block over so many blocks of a file, in an image of so many blocks. A block that is one is tested once.
+    /// Whether it is an indirect block over so many blocks of a file, in an image of so many
+    /// blocks. A block that is one is tested once.
     pub fn is_indirect(&mut self, blocks: u32, used: u32) -> bool
         ensures same { self.new ≡ self.old }
         ensures is { IsTrue result ↔ IsIndirectBlock blocks used self.old }

@@ -5,7 +5,7 @@ ghost use Rattle.layout.specs.Maps.{IsIndirectBlock};
 ghost use Rattle.buffers.specs.Disks.{IsWhole};
 ghost use Rattle.buffers.specs.Failures.{HasGrown};
 
-use crate::BufferError;
+use crate::BlockError;
 use layout::{BLOCK_BYTES, BlockNumber};
 
 /// The blocks of a disk. A place reads as the disk does, whatever of it is kept in memory.
@@ -29,18 +29,18 @@ pub trait Blocks {
     fn count(&self) -> u32
         ensures { result ≡ count self.now };
 
-    /// Reads the block at a place into memory, where it isn't there: one behind the two that hold the roots, since a root may
-    /// come while blocks read as they do. A place that was resident stays so. `Damaged` where the block isn't whole, since a
-    /// sector of it can't be read.
-    fn make_resident(&mut self, place: BlockNumber) -> Result<(), BufferError>
+    /// Reads the block at a place into memory, where it isn't there: one behind the two that hold
+    /// the roots, since a root may come while blocks read as they do. A place that was resident
+    /// stays so. `Damaged` where the block isn't whole, since a sector of it can't be read.
+    fn make_resident(&mut self, place: BlockNumber) -> Result<(), BlockError>
         requires behind { 2 ≤ place }
         requires within { place < count self.old }
         ensures count { count self.new ≡ count self.old }
         ensures counted { OnOk result (failed self.new ≡ failed self.old) }
-        ensures device { IsErrOf result BufferError.Device
+        ensures device { IsErrOf result BlockError.Device
             → HasGrown (failed self.old) (failed self.new) }
         ensures damaged { (disk : ℕ → List ℕ) → Shows self.old disk
-            → IsErrOf result BufferError.Damaged → IsWhole (disk place) → ⊥ }
+            → IsErrOf result BlockError.Damaged → IsWhole (disk place) → ⊥ }
         ensures whole { (disk : ℕ → List ℕ) → Shows self.old disk
             → OnOk result (IsWhole (disk place)) }
         ensures reads { (start : Self) → ReadsOn start self.old → ReadsOn start self.new }
@@ -53,7 +53,8 @@ pub trait Blocks {
         requires { IsResident self.now place }
         ensures { (disk : ℕ → List ℕ) → Shows self.now disk → result.now ≡ disk place };
 
-    /// Whether a resident block is an indirect block over so many blocks of a file. It may be remembered of it.
+    /// Whether a resident block is an indirect block over so many blocks of a file. It may be
+    /// remembered of it.
     fn is_indirect(&mut self, place: BlockNumber, used: u32) -> bool
         requires { IsResident self.old place }
         ensures count { count self.new ≡ count self.old }

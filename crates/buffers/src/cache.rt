@@ -8,52 +8,54 @@ ghost use Rattle.station.specs.Moments.{HasGrown, LeavesJust, SeenGoes, Shows};
 ghost use Rattle.station.specs.Calls.{WriteCall};
 ghost use Rattle.layout.specs.Places.{blocks_of};
 ghost use Rattle.buffers.specs.Caches.{count_cached};
-ghost use Rattle.buffers.specs.declared.kept.TheConstants.{CACHED_BLOCKS};
+ghost use Rattle.buffers.specs.declared.block_cache.TheConstants.{CACHED_BLOCKS};
 ghost use Rattle.buffers.specs.Disks.{IsBlock, IsDisk, IsWhole, ShowsDisk, ReadsOn, disk_with_block, disk_with_sector};
 
-use crate::kept::Kept;
-use crate::{Block, Blocks, BufferError};
+use crate::block_cache::BlockCache;
+use crate::{Block, BlockError, Blocks};
 use layout::{BLOCK_BYTES, BlockNumber, SECTOR_BYTES};
 use station::Station;
 use std::alloc::Global;
 
-/// A station, and those blocks of its disk that are kept in memory. Those that were made resident are held until they are let go of,
-/// and a cache has the last used ones of the others.
+/// A station, and those blocks of its disk that are kept in memory. Those that were made resident
+/// are held until they are let go of, and a cache has the last used ones of the others.
 #[derive(Drop)]
 pub struct Buffers<S> {
-    /// Its disk is to be written by `store` and `store_sector` alone: what is kept would not change with it.
+    /// Its disk is to be written by `store` and `store_sector` alone: what is kept would not change
+    /// with it.
     pub station: S,
-    kept: Kept,
+    kept: BlockCache,
     alloc: Global,
 }
 
-/// Reads a block into this one, past all that is kept. `Damaged` where a sector of it can't be read.
+/// Reads a block into this one, past all that is kept. `Damaged` where a sector of it can't be
+/// read.
 pub fn read_sectors<S: Station>(
     station: &mut S,
     place: u32,
     block: &mut Block,
-) -> Result<(), BufferError>
+) -> Result<(), BlockError>
     requires within { 8 * place + 8 ≤ (S.meaning station.old).sectors }
     requires fits { 8 * place + 8 < 2 ^ 32 }
     ensures reads { ReadsOn (S.meaning station.old) (S.meaning station.new) }
     ensures counted { OnOk result
         ((S.meaning station.new).failed_reads ≡ (S.meaning station.old).failed_reads) }
-    ensures device { IfErr result (λ e. e ≡ BufferError.Device
+    ensures device { IfErr result (λ e. e ≡ BlockError.Device
         → HasGrown (S.meaning station.old).failed_reads (S.meaning station.new).failed_reads) }
     ensures block { (S.meaning station.old).is_honest
         → OnOk result (IsBlock (S.meaning station.old).seen.disk place block.new) }
-    ensures damaged { IsErrOf result BufferError.Damaged
+    ensures damaged { IsErrOf result BlockError.Damaged
         → Shows (S.meaning station.old) (λ c. IsWhole (blocks_of c.disk place) → ⊥) }
-    ensures memory { IfErr result (λ e. e ≢ BufferError.NoMemory) }
+    ensures memory { IfErr result (λ e. e ≢ BlockError.NoMemory) }
 {
     block.is_whole();
     let mut sector = [0u8; SECTOR_BYTES];
     for i in 0..8u32 {
         let Ok(is_readable) = station.read_sector(8 * place + i, &mut sector) else {
-            return Err(BufferError::Device);
+            return Err(BlockError::Device);
         };
         if !is_readable {
-            return Err(BufferError::Damaged);
+            return Err(BlockError::Damaged);
         }
         block.put(512 * i as usize, &sector);
     }
@@ -61,17 +63,17 @@ pub fn read_sectors<S: Station>(
 }
 
 /// Reads a block. `Damaged` where a sector of it can't be read.
-fn read_block<S: Station>(alloc: Global, station: &mut S, place: u32) -> Result<Block, BufferError>
+fn read_block<S: Station>(alloc: Global, station: &mut S, place: u32) -> Result<Block, BlockError>
     requires within { 8 * place + 8 ≤ (S.meaning station.old).sectors }
     requires fits { 8 * place + 8 < 2 ^ 32 }
     ensures reads { ReadsOn (S.meaning station.old) (S.meaning station.new) }
     ensures counted { OnOk result
         ((S.meaning station.new).failed_reads ≡ (S.meaning station.old).failed_reads) }
-    ensures device { IfErr result (λ e. e ≡ BufferError.Device
+    ensures device { IfErr result (λ e. e ≡ BlockError.Device
         → HasGrown (S.meaning station.old).failed_reads (S.meaning station.new).failed_reads) }
     ensures block { (S.meaning station.old).is_honest
         → IfOk result (IsBlock (S.meaning station.old).seen.disk place) }
-    ensures damaged { IsErrOf result BufferError.Damaged
+    ensures damaged { IsErrOf result BlockError.Damaged
         → Shows (S.meaning station.old) (λ c. IsWhole (blocks_of c.disk place) → ⊥) }
 {
     let mut block = Block::zeroed(alloc)?;
@@ -96,7 +98,7 @@ impl<S: Station> Blocks for Buffers<S> {
         self.station.sectors() / 8
     }
 
-    fn make_resident(&mut self, place: BlockNumber) -> Result<(), BufferError> {
+    fn make_resident(&mut self, place: BlockNumber) -> Result<(), BlockError> {
         let place = place.get();
         if let Some(block) = self.kept.held.get(&place) {
             block.is_whole();
@@ -134,24 +136,20 @@ impl<S: Station> Buffers<S> {
     {
         Buffers {
             station,
-            kept: Kept::new(alloc),
+            kept: BlockCache::new(alloc),
             alloc,
         }
     }
 
-    /// Writes a block to its place, which then reads so. It takes no memory. Where it fails, each sector of the place may
-    /// read either way, or can't be read.
-    pub fn store(
-        &mut self,
-        place: BlockNumber,
-        bytes: &[u8; BLOCK_BYTES],
-    ) -> Result<(), BufferError>
+    /// Writes a block to its place, which then reads so. It takes no memory. Where it fails, each
+    /// sector of the place may read either way, or can't be read.
+    pub fn store(&mut self, place: BlockNumber, bytes: &[u8; BLOCK_BYTES]) -> Result<(), BlockError>
         requires { 8 * place + 8 ≤ (S.meaning self.old.station).sectors }
         ensures call { WriteCall (SomeSectorsWritten (8 * place) bytes.now)
             (S.meaning self.old.station) (S.meaning self.new.station) result }
         ensures written { OnOk result (SeenGoes (SectorsWritten (8 * place) bytes.now)
             (S.meaning self.old.station) (S.meaning self.new.station)) }
-        ensures device { IfErr result (λ e. e ≡ BufferError.Device) }
+        ensures device { IfErr result (λ e. e ≡ BlockError.Device) }
         ensures shows { (disk : ℕ → List ℕ)
             → ShowsDisk (S.meaning self.old.station) self.old.kept disk
             → OnOk result
@@ -162,18 +160,18 @@ impl<S: Station> Buffers<S> {
         self.kept.forget(place);
         match self.station.write_block(place, bytes) {
             Ok(()) => Ok(()),
-            Err(_) => Err(BufferError::Device),
+            Err(_) => Err(BlockError::Device),
         }
     }
 
     /// The block at a place that isn't held: that of the cache, or else it is read.
-    fn fetch(&mut self, place: u32) -> Result<Block, BufferError>
+    fn fetch(&mut self, place: u32) -> Result<Block, BlockError>
         requires within { 8 * place + 8 ≤ (S.meaning self.old.station).sectors }
         requires fits { 8 * place + 8 < 2 ^ 32 }
         ensures reads { ReadsOn (S.meaning self.old.station) (S.meaning self.new.station) }
         ensures counted { OnOk result ((S.meaning self.new.station).failed_reads
             ≡ (S.meaning self.old.station).failed_reads) }
-        ensures device { IfErr result (λ e. e ≡ BufferError.Device
+        ensures device { IfErr result (λ e. e ≡ BlockError.Device
             → HasGrown (S.meaning self.old.station).failed_reads
             (S.meaning self.new.station).failed_reads) }
         ensures held { self.new.kept.held ≡ self.old.kept.held }
@@ -183,7 +181,7 @@ impl<S: Station> Buffers<S> {
         ensures block { (disk : ℕ → List ℕ)
             → ShowsDisk (S.meaning self.old.station) self.old.kept disk
             → IfOk result (λ b. b ≡ disk place) }
-        ensures damaged { IsErrOf result BufferError.Damaged
+        ensures damaged { IsErrOf result BlockError.Damaged
             → Shows (S.meaning self.old.station) (λ c. IsWhole (blocks_of c.disk place) → ⊥) }
     {
         match self.kept.take_cached(place) {
@@ -200,8 +198,8 @@ impl<S: Station> Buffers<S> {
         self.kept.cached_count()
     }
 
-    /// Lets go of the blocks that were made resident: they have to be made resident again. The cache gets them, as far as there is
-    /// memory for it.
+    /// Lets go of the blocks that were made resident: they have to be made resident again. The
+    /// cache gets them, as far as there is memory for it.
     pub fn let_go(&mut self)
         ensures station { self.new.station ≡ self.old.station }
         ensures shows { (disk : ℕ → List ℕ)
@@ -212,19 +210,19 @@ impl<S: Station> Buffers<S> {
         self.kept.let_go();
     }
 
-    /// Writes a sector, and its block then reads as the station has it. It takes no memory. Where it fails, the sector may
-    /// read either way, or can't be read.
+    /// Writes a sector, and its block then reads as the station has it. It takes no memory. Where
+    /// it fails, the sector may read either way, or can't be read.
     pub fn store_sector(
         &mut self,
         sector: u32,
         bytes: &[u8; SECTOR_BYTES],
-    ) -> Result<(), BufferError>
+    ) -> Result<(), BlockError>
         requires { sector < (S.meaning self.old.station).sectors }
         ensures call { WriteCall (SomeSectorsWritten sector bytes.now)
             (S.meaning self.old.station) (S.meaning self.new.station) result }
         ensures written { OnOk result (SeenGoes (SectorsWritten sector bytes.now)
             (S.meaning self.old.station) (S.meaning self.new.station)) }
-        ensures device { IfErr result (λ e. e ≡ BufferError.Device) }
+        ensures device { IfErr result (λ e. e ≡ BlockError.Device) }
         ensures shows { (disk : ℕ → List ℕ)
             → ShowsDisk (S.meaning self.old.station) self.old.kept disk
             → OnOk result
@@ -234,24 +232,24 @@ impl<S: Station> Buffers<S> {
         self.kept.forget(sector / 8);
         match self.station.write_sector(sector, bytes) {
             Ok(()) => Ok(()),
-            Err(_) => Err(BufferError::Device),
+            Err(_) => Err(BlockError::Device),
         }
     }
 
-    /// Settles what reads give. What is kept stays.
-    pub fn sync(&mut self) -> Result<(), BufferError>
+    /// Makes durable what reads give. What is kept stays.
+    pub fn sync(&mut self) -> Result<(), BlockError>
         ensures call { WriteCall Unchanged
             (S.meaning self.old.station) (S.meaning self.new.station) result }
         ensures settled { OnOk result (LeavesJust (S.meaning self.new.station)
             (S.meaning self.old.station).seen) }
-        ensures device { IfErr result (λ e. e ≡ BufferError.Device) }
+        ensures device { IfErr result (λ e. e ≡ BlockError.Device) }
         ensures shows { (disk : ℕ → List ℕ)
             → ShowsDisk (S.meaning self.old.station) self.old.kept disk
             → ShowsDisk (S.meaning self.new.station) self.new.kept disk }
     {
         match self.station.sync() {
             Ok(()) => Ok(()),
-            Err(_) => Err(BufferError::Device),
+            Err(_) => Err(BlockError::Device),
         }
     }
 

@@ -1,39 +1,40 @@
-//! Why a block was not made resident, or not stored.
+//! Why a block was not read, or not stored.
 
 use std::alloc::{AllocError, AllocFailed};
 use thiserror::Error;
 
-/// Why a call of this layer was refused.
+/// Why a block, or what blocks hold, was not read or not stored.
 #[derive(Clone, Copy, Debug, PartialEq, Eq, Error)]
-pub enum BufferError {
+pub enum BlockError {
     #[error("no memory")]
     NoMemory = 1,
     /// A device call failed.
     #[error("a device call failed")]
     Device = 2,
-    /// A sector of the block can't be read.
-    #[error("a sector can't be read")]
+    /// A sector of a block can't be read, a pointer leads past the disk, or a block is out of its
+    /// grammar.
+    #[error("a block is outside the format")]
     Damaged = 11,
 }
 
-impl From<AllocError> for BufferError {
+impl From<AllocError> for BlockError {
     ghost use Rattle.std.specs.Prelude.{◌≡◌};
-    ghost use Rattle.buffers.specs.declared.error.BufferError.TheVariants.{NoMemory};
+    ghost use Rattle.buffers.specs.declared.error.BlockError.TheVariants.{NoMemory};
 
     ghost from_gives = { λ _ e. e ≡ NoMemory };
 
-    fn from(_: AllocError) -> BufferError {
-        BufferError::NoMemory
+    fn from(_: AllocError) -> BlockError {
+        BlockError::NoMemory
     }
 }
 
-impl<T: Drop> From<AllocFailed<T>> for BufferError {
+impl<T: Drop> From<AllocFailed<T>> for BlockError {
     ghost use Rattle.std.specs.Prelude.{◌≡◌};
-    ghost use Rattle.buffers.specs.declared.error.BufferError.TheVariants.{NoMemory};
+    ghost use Rattle.buffers.specs.declared.error.BlockError.TheVariants.{NoMemory};
 
     ghost from_gives = { λ _ e. e ≡ NoMemory };
 
-    fn from(_: AllocFailed<T>) -> BufferError {
-        BufferError::NoMemory
+    fn from(_: AllocFailed<T>) -> BlockError {
+        BlockError::NoMemory
     }
 }

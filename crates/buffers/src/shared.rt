@@ -9,7 +9,8 @@ use std::alloc::{AllocError, Global};
 use std::marker::Model;
 use std::rc::Rc;
 
-/// A block that several may have: a file and the consistency point that writes it. What one of them has never changes by another.
+/// A block that several may have: a file and the consistency point that writes it. What one of them
+/// has never changes by another.
 #[derive(Debug, Drop)]
 pub struct SharedBlock {
     block: Rc<Block>,

@@ -3,7 +3,7 @@ use Rattle.std.proofs.Common.{◌≡◌, inl, inr, ℕ, ◌<◌, ◌≤◌, List
 use Rattle.std.specs.Prelude.{nat_le}
 use Rattle.std.proofs.lemmas.Bool.{cases_lt, lt-leb, le-leb}
 use Rattle.model.specs.Counting.{Counts}
-use Rattle.model.specs.Finding.{at_gap, here, IsPlaceOf}
+use Rattle.model.specs.Finding.{at_missing, here, IsPlaceOf}
 use Rattle.model.specs.Outcomes.{Outcome, tested, with_place}
 use Rattle.model.specs.Paths.{Name, Path, IsName}
 use Rattle.model.specs.Records.{TakesName}
@@ -33,7 +33,7 @@ module _ (inodes : ℕ) (v : Volume) (table : ℕ → Option Description) (volum
     pub good : IsName x
     pub parent : is_directory_node (v d) ≡ true
 
-  pub finds_gap : (trail : List ℕ) (x : Name) (r : Resolution) → AnswersWell t r → IsPlaceOf v (at_gap trail x) r → FindsGap r (here trail) x
+  pub finds_gap : (trail : List ℕ) (x : Name) (r : Resolution) → AnswersWell t r → IsPlaceOf v (at_missing trail x) r → FindsGap r (here trail) x
   finds_gap trail x (named p) well is = absurd is
   finds_gap trail x (refused errno) well is = absurd is
   finds_gap trail x (missing p y) well is =

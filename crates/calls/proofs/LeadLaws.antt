@@ -2,7 +2,7 @@
 use Rattle.std.proofs.Common.{◌≡◌, ◌≢◌, inl, inr, ℕ, List, [], ◌∷◌, ◌++◌, length, Option, Some, None, IsSome, Result, Ok, Err, refl, sym, ap, subst, ◌∙◌, arith}
 use Rattle.std.proofs.lemmas.Bool.{false≢true}
 use Rattle.std.proofs.lemmas.List.{take_all}
-use Rattle.model.specs.Finding.{at_directory, at_entry, at_gap, at_refusal, here, IsPlaceOf, Trails}
+use Rattle.model.specs.Finding.{at_directory, at_entry, at_missing, at_refusal, here, IsPlaceOf, Trails}
 use Rattle.model.specs.Outcomes.{Outcome, leads_to, tested}
 use Rattle.model.specs.Paths.{Name, Path, Tests, first_refusal}
 use Rattle.model.specs.Resolution.{Resolution, named, missing, refused}
@@ -60,7 +60,7 @@ module _ (inodes : ℕ) (v : Volume) (volume : IsVolume inodes v) where
   leads_entry trail x n (missing p name) is = absurd is
   leads_entry trail x n (refused errno) is = absurd is
 
-pub leads_gap : (v : Volume) (trail : List ℕ) (x : Name) (r : Resolution) → IsPlaceOf v (at_gap trail x) r → LeadsTo v r (Err ENOENT)
+pub leads_gap : (v : Volume) (trail : List ℕ) (x : Name) (r : Resolution) → IsPlaceOf v (at_missing trail x) r → LeadsTo v r (Err ENOENT)
 leads_gap v trail x (named p) is = absurd is
 leads_gap v trail x (missing p name) is = refl
 leads_gap v trail x (refused errno) is = absurd is

@@ -10,7 +10,7 @@ use Rattle.std.proofs.lemmas.Slice.Eq.{bytes_eq-Decides}
 use Rattle.model.specs.Changes.{ChangesTree, with_made}
 use Rattle.model.specs.Changing.{creates}
 use Rattle.model.specs.Counting.{Counts}
-use Rattle.model.specs.Finding.{at_directory, at_entry, at_gap, at_refusal, here, IsPlaceOf}
+use Rattle.model.specs.Finding.{at_directory, at_entry, at_missing, at_refusal, here, IsPlaceOf}
 use Rattle.model.specs.Laws.{VolumesTellFresh, RecordsChangeTrees}
 use Rattle.model.specs.Outcomes.{Outcome, refuses, changes, tested, leads, IsListing, with_place, with_fresh}
 use Rattle.model.specs.Paths.{Name, Path, IsName, Tests, first_refusal, new_text_tests, is_dot, is_dot_dot, last_part}
@@ -188,7 +188,7 @@ module _ (inodes : ℕ) (v : Volume) (table : ℕ → Option Description) (volum
 
       -- ---- a name that a directory doesn't have
 
-      module _ (trail : List ℕ) (name : Name) (gap : IsPlaceOf v (at_gap trail name) (resolve t false text)) where
+      module _ (trail : List ℕ) (name : Name) (gap : IsPlaceOf v (at_missing trail name) (resolve t false text)) where
         abbrev d : ℕ
         d = here trail
 
@@ -200,7 +200,7 @@ module _ (inodes : ℕ) (v : Volume) (table : ℕ → Option Description) (volum
           good : IsName name
           stands : is_directory (t.objects path) ≡ true
 
-        finds_gap : (r : Resolution) → AnswersWell t r → IsPlaceOf v (at_gap trail name) r → FindsGap r
+        finds_gap : (r : Resolution) → AnswersWell t r → IsPlaceOf v (at_missing trail name) r → FindsGap r
         finds_gap (named p) well is = absurd is
         finds_gap (refused errno) well is = absurd is
         finds_gap (missing p x) well is =

@@ -5,7 +5,7 @@ use Rattle.std.proofs.lemmas.Bool.{cases_eq, cond-true, cond-false, false≢true
 use Rattle.model.specs.declared.attributes.Attributes.{Attributes}
 use Rattle.model.specs.Attributes.{new_attributes}
 use Rattle.model.specs.Changes.{ChangesTree}
-use Rattle.model.specs.Changing.{cut_to, need_of_cut}
+use Rattle.model.specs.Changing.{truncated_to, need_of_truncate}
 use Rattle.model.specs.Descriptors.{described_by, opens_new, opens_object}
 use Rattle.model.specs.Edits.{contents, resized, with_descriptor, with_file}
 use Rattle.model.specs.Finding.{at_refusal, IsPlaceOf}
@@ -35,7 +35,7 @@ use Rattle.calls.specs.Leading.{LeadsTo}
 use Rattle.calls.specs.Making.{CreatesNumber, IsLeastFree, MakesIn}
 use Rattle.calls.specs.Open.{OpensByRecord, IsOpened, OpensAt, OpensMade, OpensNew, OpensOver, opens_along}
 use Rattle.calls.specs.Stat.{TellsStat, stat_in}
-use Rattle.calls.specs.Truncate.{CutsFile}
+use Rattle.calls.specs.Truncate.{TruncatesFile}
 use Rattle.calls.specs.declared.changed.Changing.{Changing}
 use Rattle.calls.specs.declared.changed.OwnedChange.{OwnedChange}
 use Rattle.calls.specs.declared.changed.OwnedChange.TheVariants as owned
@@ -129,7 +129,7 @@ module _ (inodes : ℕ) (v : Volume) (table : ℕ → Option Description) (n : �
     | trees.directory k ↦ refuses tree EISDIR
     | trees.symlink k text ↦ λ _ _ _. ⊥
     | trees.file k ↦ either flags.truncates
-        (changes (Fd fd) (with_descriptor fd (Some (described_by k flags)) (cut_to k 0 tree)) (need_of_cut k 0 tree))
+        (changes (Fd fd) (with_descriptor fd (Some (described_by k flags)) (truncated_to k 0 tree)) (need_of_truncate k 0 tree))
         (changes (Fd fd) (with_descriptor fd (Some (described_by k flags)) tree) nothing)
   ]
 
@@ -188,7 +188,7 @@ module _ (inodes : ℕ) (v : Volume) (table : ℕ → Option Description) (n : �
       put fd new = with_descriptor fd (Some (described_by n flags)) new
 
       abbrev file_case : Bool → ℕ → Outcome
-      file_case truncates fd = either truncates (changes (Fd fd) (put fd (cut_to n 0 tree)) (need_of_cut n 0 tree)) (changes (Fd fd) (put fd tree) nothing)
+      file_case truncates fd = either truncates (changes (Fd fd) (put fd (truncated_to n 0 tree)) (need_of_truncate n 0 tree)) (changes (Fd fd) (put fd tree) nothing)
 
       pub opens_whole : not flags.truncates ≡ true → OpensOver (opens_object tree y flags) inodes flags v table (opened stat.size None) None
       opens_whole keeps = (
@@ -196,45 +196,45 @@ module _ (inodes : ℕ) (v : Volume) (table : ℕ → Option Description) (n : �
         λ fd. at_file fd (put fd tree) nothing (subst (λ (b : Bool). file_case b fd (Fd fd) (put fd tree) nothing) (sym (not-true flags.truncates keeps)) (refl, refl, refl)),
       )
 
-      module _ (cuts : not flags.truncates ≡ false) where
-        cut_at : (fd : ℕ) (new : Tree) (need : Need) → new ≡ cut_to n 0 tree → need ≡ need_of_cut n 0 tree → opens_object tree y flags fd (Fd fd) (put fd new) need
-        cut_at fd new need is needs =
-            at_file fd (put fd new) need (subst (λ (b : Bool). file_case b fd (Fd fd) (put fd new) need) (sym (not-false flags.truncates cuts)) (refl, ap (put fd) is, needs))
+      module _ (truncates_file : not flags.truncates ≡ false) where
+        truncated_at : (fd : ℕ) (new : Tree) (need : Need) → new ≡ truncated_to n 0 tree → need ≡ need_of_truncate n 0 tree → opens_object tree y flags fd (Fd fd) (put fd new) need
+        truncated_at fd new need is needs =
+            at_file fd (put fd new) need (subst (λ (b : Bool). file_case b fd (Fd fd) (put fd new) need) (sym (not-false flags.truncates truncates_file)) (refl, ap (put fd) is, needs))
 
         abbrev held : ℕ
         held = length (contents tree n)
 
-        -- what needs nothing to be cut has no bytes
-        no_bytes : nothing ≡ need_of_cut n 0 tree → 0 ≡ length f.bytes
+        -- what needs nothing to be truncated has no bytes
+        no_bytes : nothing ≡ need_of_truncate n 0 tree → 0 ≡ length f.bytes
         no_bytes needs =
             elim (cases_eq 0 held) [
               | inl e ↦ e ∙ ap (λ (o : Option Node). length (unwrap_or (bytes_of_node o) [])) f.is
               | inr more ↦ nothing_logs (needs ∙ cond-false (0 == held) nothing (logs (changes_size held 0)) (ne_eqb 0 held more))
             ]
 
-        abbrev cut_change : Change
-        cut_change = records.cut n 0
+        abbrev truncate_change : Change
+        truncate_change = records.truncate n 0
 
         abbrev after : Volume
-        after = applied cut_change v
+        after = applied truncate_change v
 
-        cut_now : (changing : Option Changing) → IsOpened after (opened 0 changing)
-        cut_now changing = (
+        truncated_now : (changing : Option Changing) → IsOpened after (opened 0 changing)
+        truncated_now changing = (
           f.attributes,
           resized 0 f.bytes,
           node_here n n (with_file_bytes (resized 0) (v n)) v refl ∙ ap (with_file_bytes (resized 0)) f.is,
           sym (length-resized 0 f.bytes),
         )
 
-        pub opens_cut : (changing : Option Changing) → CutsFile inodes v table n 0 changing → OpensOver (opens_object tree y flags) inodes flags v table (opened 0 changing) changing
-        opens_cut None (done, is, needs) = ((f.attributes, f.bytes, f.is, no_bytes needs), λ fd. cut_at fd tree nothing is needs)
-        opens_cut (Some c) (says, (over, (done, is, needs))) =
+        pub opens_truncated : (changing : Option Changing) → TruncatesFile inodes v table n 0 changing → OpensOver (opens_object tree y flags) inodes flags v table (opened 0 changing) changing
+        opens_truncated None (done, is, needs) = ((f.attributes, f.bytes, f.is, no_bytes needs), λ fd. truncated_at fd tree nothing is needs)
+        opens_truncated (Some c) (says, (over, (done, is, needs))) =
             let o = opened 0 (Some c) in
             let whole : swept table after ≡ after = fun_ext {f = swept table after} {g = after} over.1.is_swept in
             let (still, is_file, opens) = subst
             (λ (w : Volume).
-            IsMounted w table × IsOpened w o × ((fd : ℕ) → opens_object tree y flags fd (Fd fd) (put fd (tree_of w table)) (logs (work_of v cut_change)))) (sym whole)
-            (over.1, cut_now (Some c), λ fd. cut_at fd (tree_of after table) (logs (work_of v cut_change)) is needs) in
+            IsMounted w table × IsOpened w o × ((fd : ℕ) → opens_object tree y flags fd (Fd fd) (put fd (tree_of w table)) (logs (work_of v truncate_change)))) (sym whole)
+            (over.1, truncated_now (Some c), λ fd. truncated_at fd (tree_of after table) (logs (work_of v truncate_change)) is needs) in
             subst (OpensByRecord (opens_object tree y flags) inodes flags v table o) (sym says) (over.0, still, is_file, opens)
 
 -- ---- a file that is made

@@ -3,7 +3,7 @@ use Rattle.std.proofs.Common.{◌≡◌, ℕ, zero, suc, Bool, not, ◌&&◌, Li
 use Rattle.std.specs.Prelude.{if◌then◌else◌}
 use Rattle.std.proofs.lemmas.Bool.{cond_both}
 use Rattle.model.specs.declared.errno.Errno.TheVariants.{ELOOP, ENOENT, ENOTDIR}
-use Rattle.model.specs.Finding.{Place, at_directory, at_entry, at_gap, at_refusal, here, Halt, halts, halts_at_link, Turn, stays_on, enters, ends_at, follows, finds_nothing, finds_damage, finds_long, turn, turn_at, turn_by, find_along, find_on, find_within}
+use Rattle.model.specs.Finding.{Place, at_directory, at_entry, at_missing, at_refusal, here, WalkEnd, halts, halts_at_link, Turn, stays_on, enters, ends_at, follows, finds_nothing, finds_damage, finds_long, turn, turn_at, turn_by, find_along, find_on, find_within}
 use Rattle.model.specs.Paths.{Name, parts, is_dot, is_dot_dot, is_empty, is_too_long, starts_with_slash}
 use Rattle.model.specs.Volumes.{Node, directory_node, file_node, link_node, Volume, entries}
 use Rattle.paths.specs.Steps.{after_turn}
@@ -12,10 +12,10 @@ module _ (v : Volume) where
   abbrev pub TellsName : Place → Type 0
   TellsName (at_directory trail) = Unit {0}
   TellsName (at_entry trail x n) = entries v (here trail) x ≡ Some n
-  TellsName (at_gap trail x) = entries v (here trail) x ≡ None
+  TellsName (at_missing trail x) = entries v (here trail) x ≡ None
   TellsName (at_refusal errno) = Unit {0}
 
-  abbrev HaltTells : Halt → Type 0
+  abbrev HaltTells : WalkEnd → Type 0
   HaltTells (halts place) = TellsName place
   HaltTells (halts_at_link trail text rest) = Unit {0}
 
@@ -56,12 +56,12 @@ module _ (v : Volume) where
           | ends_at n ↦ λ is. cond_both (is_empty rest) (at_entry trail part n) (at_refusal ENOTDIR) TellsName (λ e. is) (λ e. tt)
           | follows n text ↦ λ is.
               cond_both (is_empty rest && not follow) (halts (at_entry trail part n)) (halts_at_link trail text rest) HaltTells (λ e. is) (λ e. tt)
-          | finds_nothing ↦ λ is. cond_both (is_empty rest) (at_gap trail part) (at_refusal ENOENT) TellsName (λ e. is) (λ e. tt)
+          | finds_nothing ↦ λ is. cond_both (is_empty rest) (at_missing trail part) (at_refusal ENOENT) TellsName (λ e. is) (λ e. tt)
           | finds_damage ↦ λ is. tt
           | finds_long ↦ λ is. tt
         ] (turn_tells trail part)
 
-    on : (f : List ℕ → List Name → Place) → ((trail : List ℕ) (names : List Name) → TellsName (f trail names)) → (h : Halt) → HaltTells h → TellsName (find_on f h)
+    on : (f : List ℕ → List Name → Place) → ((trail : List ℕ) (names : List Name) → TellsName (f trail names)) → (h : WalkEnd) → HaltTells h → TellsName (find_on f h)
     on f tells (halts place) is = is
     on f tells (halts_at_link trail text rest) is = tells (if starts_with_slash text then [] else trail) (parts text ++ rest)
 

@@ -9,16 +9,16 @@ use Rattle.model.specs.Resolution.{Resolution, resolve}
 use Rattle.model.specs.Trees.{Description}
 use Rattle.model.specs.Volumes.{IsVolume, Volume, tree_of}
 use Rattle.model.specs.declared.errno.Errno.{Errno}
-use Rattle.blocktree.specs.Errors.{IsFault}
-use Rattle.blocktree.specs.declared.error.ReadError.{ReadError}
-use Rattle.blocktree.specs.declared.error.ReadError.TheVariants.{Damaged}
+use Rattle.buffers.specs.Errors.{IsFault}
+use Rattle.buffers.specs.declared.error.BlockError.{BlockError}
+use Rattle.buffers.specs.declared.error.BlockError.TheVariants.{Damaged}
 use Rattle.buffers.specs.declared.blocks.Blocks.{Ghosts}
 use Rattle.images.specs.Soundness.{by_bytes}
 use Rattle.inofile.specs.declared.inode_file.InodeFile.{InodeFile}
 use Rattle.paths.specs.Standing.{Looks, Stands}
 use Rattle.paths.proofs.Looks.{looks_err, looks_more, looks_ok}
 use Rattle.paths.proofs.LookingUp.{same_error}
-use Rattle.records.specs.Failures.{told}
+use Rattle.records.specs.Failures.{read_outcome}
 use Rattle.records.specs.Obstacles.{IsObstacle}
 use Rattle.records.specs.Prepared.{Does, IsReady}
 use Rattle.records.specs.Preparing.{DecidesOn, Premise}
@@ -35,7 +35,7 @@ use Rattle.calls.specs.declared.changed.OwnedChange.{OwnedChange}
 use Rattle.calls.proofs.RefusalLaws.{obstacle_own}
 
 -- no damage was found, in another type
-pub never_damaged : {B T U : Type 0} {G : Ghosts B} {a : B} {s : InodeFile} (e : ReadError) → NeverDamaged {T = T} G a s (Err e) → NeverDamaged {T = U} G a s (Err e)
+pub never_damaged : {B T U : Type 0} {G : Ghosts B} {a : B} {s : InodeFile} (e : BlockError) → NeverDamaged {T = T} G a s (Err e) → NeverDamaged {T = U} G a s (Err e)
 never_damaged e sound = λ disk settled v stands bad. sound disk settled v stands (same_error (Err e) e Damaged refl bad)
 
 -- what is true of a failure is true of what a `?` makes of it
@@ -45,7 +45,7 @@ carried Q (Err g) is so = subst (λ (x : Failure). Q (Err x)) (sym is) so
 
 module _ {B T : Type 0} {changes : T → Option Changing} {G : Ghosts B} {a b : B} {s t : InodeFile} {P : Answer T} where
   -- the call is refused by an errno
-  pub refuses : {X : Type 0} {x : X} {e : Errno} → Looks {T = X} {E = ReadError} G IsFault a b s t (Ok x) → IsTrue (is_path_refusal e)
+  pub refuses : {X : Type 0} {x : X} {e : Errno} → Looks {T = X} {E = BlockError} G IsFault a b s t (Ok x) → IsTrue (is_path_refusal e)
       → OnMounted G a s (λ v table. P s.geometry.inodes v table (Err e)) → PreparesWith changes G a b s t P (Err (Refused e))
   refuses looks own answers = record {
     looks = looks_ok looks;
@@ -57,7 +57,7 @@ module _ {B T : Type 0} {changes : T → Option Changing} {G : Ghosts B} {a b : 
   }
 
   -- the call isn't refused
-  pub grants : {X : Type 0} {x : X} {y : T} → Looks {T = X} {E = ReadError} G IsFault a b s t (Ok x) → IfSome (changes y) (λ c. IsReady t c.prepared)
+  pub grants : {X : Type 0} {x : X} {y : T} → Looks {T = X} {E = BlockError} G IsFault a b s t (Ok x) → IfSome (changes y) (λ c. IsReady t c.prepared)
       → OnVolumes G a s (λ disk settled v. IfSome (changes y) (λ c. Does disk settled t v c.prepared (said_by c.change)))
       → OnMounted G a s (λ v table. P s.geometry.inodes v table (Ok y)) → PreparesWith changes G a b s t P (Ok y)
   grants looks ready does answers = record {
@@ -70,7 +70,7 @@ module _ {B T : Type 0} {changes : T → Option Changing} {G : Ghosts B} {a b : 
   }
 
   -- a step before has failed
-  pub stops : {X : Type 0} {e : ReadError} (q : Result T Failure) → IsErrAnd q (λ f. f ≡ Read e)
+  pub stops : {X : Type 0} {e : BlockError} (q : Result T Failure) → IsErrAnd q (λ f. f ≡ Read e)
       → Looks {T = X} G IsFault a b s t (Err e) → NeverDamaged {T = X} G a s (Err e) → PreparesWith changes G a b s t P q
   stops {e = e} q is looks sound = carried (PreparesWith changes G a b s t P) q is (record {
     looks = looks_err (Err e) refl looks;
@@ -82,8 +82,8 @@ module _ {B T : Type 0} {changes : T → Option Changing} {G : Ghosts B} {a b : 
   })
 
   -- another call has failed: a block isn't read, or that call is refused
-  pub fails : {X : Type 0} (f : Failure) (q : Result T Failure) → IsErrAnd q (λ g. g ≡ f) → Looks G IsFault a b s t (told {T = X} (Err f))
-      → IfOk (told {T = X} (Err f)) (λ r. IfErr r (λ e. IsTrue (is_path_refusal e))) → NeverDamaged G a s (told {T = X} (Err f))
+  pub fails : {X : Type 0} (f : Failure) (q : Result T Failure) → IsErrAnd q (λ g. g ≡ f) → Looks G IsFault a b s t (read_outcome {T = X} (Err f))
+      → IfOk (read_outcome {T = X} (Err f)) (λ r. IfErr r (λ e. IsTrue (is_path_refusal e))) → NeverDamaged G a s (read_outcome {T = X} (Err f))
       → OnMounted G a s (λ v table. (errno : Errno) → f ≡ Refused errno → P s.geometry.inodes v table (Err errno)) → PreparesWith changes G a b s t P q
   fails (Refused errno) q is looks own sound answers =
       carried (PreparesWith changes G a b s t P) q is
@@ -92,7 +92,7 @@ module _ {B T : Type 0} {changes : T → Option Changing} {G : Ghosts B} {a b : 
 
   -- the same where that call is refused by one errno alone
   pub fails_by : {X : Type 0} (code : Errno) → IsTrue (is_path_refusal code) → (f : Failure) (q : Result T Failure) → IsErrAnd q (λ g. g ≡ f)
-      → Looks G IsFault a b s t (told {T = X} (Err f)) → IfOk (told {T = X} (Err f)) (λ r. IfErr r (λ e. e ≡ code)) → NeverDamaged G a s (told {T = X} (Err f))
+      → Looks G IsFault a b s t (read_outcome {T = X} (Err f)) → IfOk (read_outcome {T = X} (Err f)) (λ r. IfErr r (λ e. e ≡ code)) → NeverDamaged G a s (read_outcome {T = X} (Err f))
       → OnMounted G a s (λ v table. f ≡ Refused code → P s.geometry.inodes v table (Err code)) → PreparesWith changes G a b s t P q
   fails_by code own (Refused errno) q is looks by sound answers =
       carried (PreparesWith changes G a b s t P) q is
@@ -113,7 +113,7 @@ module _ {B T : Type 0} {changes : T → Option Changing} {G : Ghosts B} {a b : 
 
 module _ {B T : Type 0} {changes : T → Option Changing} {G : Ghosts B} {a b c : B} {s t u : InodeFile} {P : Answer T} where
   -- a step behind a look has failed
-  pub stops_later : {X Y : Type 0} {x : X} {e : ReadError} (q : Result T Failure) → IsErrAnd q (λ f. f ≡ Read e)
+  pub stops_later : {X Y : Type 0} {x : X} {e : BlockError} (q : Result T Failure) → IsErrAnd q (λ f. f ≡ Read e)
       → Looks {T = X} G IsFault a b s t (Ok x) → Looks {T = Y} G IsFault b c t u (Err e) → NeverDamaged {T = Y} G b t (Err e)
       → PreparesWith changes G a c s u P q
   stops_later q is looks then sound =
@@ -121,7 +121,7 @@ module _ {B T : Type 0} {changes : T → Option Changing} {G : Ghosts B} {a b c 
 
 module _ {B T : Type 0} {changes : T → Option Changing} {G : Ghosts B} {a b c : B} {s t u : InodeFile} {P Q : Answer T} where
   -- another function goes on behind a look
-  pub follows : {X : Type 0} {x : X} {r : Result T Failure} → Looks {T = X} {E = ReadError} G IsFault a b s t (Ok x)
+  pub follows : {X : Type 0} {x : X} {r : Result T Failure} → Looks {T = X} {E = BlockError} G IsFault a b s t (Ok x)
       → PreparesWith changes G b c t u Q r
       → OnMounted G a s (λ v table. (y : Result T Errno) → Q s.geometry.inodes v table y → P s.geometry.inodes v table y)
       → PreparesWith changes G a c s u P r
@@ -131,8 +131,8 @@ module _ {B T : Type 0} {changes : T → Option Changing} {G : Ghosts B} {a b c 
     ready = then.ready;
     does = λ disk settled v stands. then.does disk settled v (looks.kept disk settled v stands);
     answers = λ disk settled v table stands volume mounted.
-        IfOk-weaker (told r) _ _ (leads disk settled v table stands volume mounted)
-        (subst (λ (z : Sizes). IfOk (told r) (Q z.inodes v table)) looks.geometry
+        IfOk-weaker (read_outcome r) _ _ (leads disk settled v table stands volume mounted)
+        (subst (λ (z : Sizes). IfOk (read_outcome r) (Q z.inodes v table)) looks.geometry
         (then.answers disk settled v table (looks.kept disk settled v stands) (subst (λ (z : Sizes). IsVolume z.inodes v) (sym looks.geometry) volume) mounted));
     damaged = λ disk settled v stands is. then.damaged disk settled v (looks.kept disk settled v stands) is;
   }
@@ -148,7 +148,7 @@ module _ {B T : Type 0} {changes : T → Option Changing} {G : Ghosts B} {a b : 
     ready = all.ready;
     does = all.does;
     answers = λ disk settled v table stands volume mounted.
-        IfOk-weaker (told r) _ _ (leads disk settled v table stands volume mounted) (all.answers disk settled v table stands volume mounted);
+        IfOk-weaker (read_outcome r) _ _ (leads disk settled v table stands volume mounted) (all.answers disk settled v table stands volume mounted);
     damaged = all.damaged;
   }
 
@@ -162,7 +162,7 @@ module _ {B : Type 0} {Known : Volume → Type 0} {G : Ghosts B} {a b : B} {s t 
     ready = all.ready;
     does = λ disk settled v stands know. all.does disk settled v stands;
     answers = λ disk settled v table stands volume mounted know.
-        IfOk-weaker (told r) _ _ (λ y given. given know) (all.answers disk settled v table stands volume mounted);
+        IfOk-weaker (read_outcome r) _ _ (λ y given. given know) (all.answers disk settled v table stands volume mounted);
     damaged = all.damaged;
   }
 
@@ -195,7 +195,7 @@ module _ {B : Type 0} {Known : Volume → Type 0} {G : Ghosts B} {a b : B} {s t 
 
 -- it goes on behind a look
 pub follows_knowing : {B X : Type 0} {Known Then : Volume → Type 0} {G : Ghosts B} {a b c : B} {s t u : InodeFile} {P Q : Answer (Option Changing)} {x : X} {r : Result (Option Changing) Failure}
-    → Looks {T = X} {E = ReadError} G IsFault a b s t (Ok x) → PreparesKnowing Then G b c t u Q r → OnVolumes G a s (λ disk settled v. Known v → Then v)
+    → Looks {T = X} {E = BlockError} G IsFault a b s t (Ok x) → PreparesKnowing Then G b c t u Q r → OnVolumes G a s (λ disk settled v. Known v → Then v)
     → OnMounted G a s (λ v table. Known v → (y : Result (Option Changing) Errno) → Q s.geometry.inodes v table y → P s.geometry.inodes v table y)
     → PreparesKnowing Known G a c s u P r
 follows_knowing {Q = Q} {r = r} looks then knows leads = record {
@@ -204,8 +204,8 @@ follows_knowing {Q = Q} {r = r} looks then knows leads = record {
   ready = then.ready;
   does = λ disk settled v stands know. then.does disk settled v (looks.kept disk settled v stands) (knows disk settled v stands know);
   answers = λ disk settled v table stands volume mounted know.
-      IfOk-weaker (told r) _ _ (leads disk settled v table stands volume mounted know)
-      (subst (λ (z : Sizes). IfOk (told r) (Q z.inodes v table)) looks.geometry
+      IfOk-weaker (read_outcome r) _ _ (leads disk settled v table stands volume mounted know)
+      (subst (λ (z : Sizes). IfOk (read_outcome r) (Q z.inodes v table)) looks.geometry
       (then.answers disk settled v table (looks.kept disk settled v stands) (subst (λ (z : Sizes). IsVolume z.inodes v) (sym looks.geometry) volume) mounted (knows disk settled v stands know)));
   damaged = λ disk settled v stands is. then.damaged disk settled v (looks.kept disk settled v stands) is;
 }

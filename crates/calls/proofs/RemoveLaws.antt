@@ -8,7 +8,7 @@ use Rattle.model.specs.Finding.{at_entry, here, IsPlaceOf}
 use Rattle.model.specs.Laws.{RecordsChangeTrees}
 use Rattle.model.specs.Outcomes.{Outcome, IsListing, leads, leads_to, refuses, tested, with_names}
 use Rattle.model.specs.Paths.{Name, Path, Tests, first_refusal, is_empty, is_root_text, new_text_tests}
-use Rattle.model.specs.Records.{Change, Applies, applied, unname, IsEmpty}
+use Rattle.model.specs.Records.{Change, Applies, applied, remove_name, IsEmpty}
 use Rattle.model.specs.Resolution.{Resolution, named, missing, refused, resolve}
 use Rattle.model.specs.Room.{Need, logs, nothing, removes_name}
 use Rattle.model.specs.Trees.{Tree, Object, Description, IsTree, is_directory}
@@ -112,7 +112,7 @@ module _ (inodes : ℕ) (v : Volume) (table : ℕ → Option Description) (volum
     at_name = number_at-push (entries v) finds.path x ∙ ap (λ (o : Option ℕ). enter (entries v) o x) finds.at ∙ finds.edge
 
     abbrev change : Change
-    change = unname d x
+    change = remove_name d x
 
     abbrev after : Tree
     after = tree_of (swept table (applied change v)) table
@@ -121,12 +121,12 @@ module _ (inodes : ℕ) (v : Volume) (table : ℕ → Option Description) (volum
     parent_is = ap (object_at v) finds.at ∙ directory_object d (v d) (enters_directory (v d) x n finds.edge)
 
     -- the record takes away what stands there
-    record Unnames : Type 0 where
+    record IsRemoved : Type 0 where
       still_mounted : IsMounted (swept table (applied change v)) table
       swept : IsSwept (without_object q t) after
 
-    unnames : Applies inodes v change → Unnames
-    unnames applies =
+    is_removed : Applies inodes v change → IsRemoved
+    is_removed applies =
         let told = law inodes v table change volume mounted applies tt in
         let same : told.1.0 ≡ finds.path =
         elim (tree.single told.1.0 finds.path (trees.directory d) (trees.directory d) told.1.1 parent_is refl) [ inl e ↦ e | inr other ↦ no_file other.0 ] in
@@ -139,7 +139,7 @@ module _ (inodes : ℕ) (v : Volume) (table : ℕ → Option Description) (volum
         no_file e = cc
 
     removed : Applies inodes v change → removes t q Done after (logs removes_name)
-    removed applies = (refl, (unnames applies).swept, refl)
+    removed applies = (refl, (is_removed applies).swept, refl)
 
     -- what comes of the object there
     pub there_comes : (there : Path → Object → Outcome) (reply : Reply) (new : Tree) (need : Need) → ((o : Object) → object_of n (v n) ≡ Some o → there q o reply new need)
@@ -188,10 +188,10 @@ module _ (inodes : ℕ) (v : Volume) (table : ℕ → Option Description) (volum
           (unlink_led (Refused EPERM) t nothing
           (there_comes d x n r finds unlinked (Refused EPERM) t nothing (λ o object. unlink_no_directory n (finds.path ++ x ∷ []) o directory object)))
       unlink_comes (Ok c) (inr (other, (says, applies))) =
-          let new = tree_of (swept table (applied (unname d x) v)) table in
+          let new = tree_of (swept table (applied (remove_name d x) v)) table in
           subst (ComesSweptBy (unlinks t text) inodes v table) (sym says) (
             applies,
-            (unnames d x n r finds applies).still_mounted,
+            (is_removed d x n r finds applies).still_mounted,
             unlink_led Done new (logs removes_name)
                 (there_comes d x n r finds unlinked Done new (logs removes_name) (λ o object.
                 not_directory (finds.path ++ x ∷ []) o Done new (logs removes_name) (object_other n (v n) o other object) (removed d x n r finds applies))),
@@ -272,12 +272,12 @@ module _ (inodes : ℕ) (v : Volume) (table : ℕ → Option Description) (volum
             subst (ComesSwept (removes_directory t text) inodes v table) (sym is)
             (remove_led (Refused ENOTDIR) t nothing (there_comes d x n resolved finds taken_away (Refused ENOTDIR) t nothing (λ o object. no_directory (v n) o other object)))
         remove_comes (Ok c) (inr (is, (says, applies))) =
-            let new = tree_of (swept table (applied (unname d x) v)) table in
+            let new = tree_of (swept table (applied (remove_name d x) v)) table in
             let same : applies.number ≡ n = same_number applies.number n (sym applies.there ∙ finds.edge) in
             let empty = subst (λ (k : ℕ). IsEmpty v k) same applies.empty in
             subst (ComesSweptBy (removes_directory t text) inodes v table) (sym says) (
               applies,
-              (unnames d x n resolved finds applies).still_mounted,
+              (is_removed d x n resolved finds applies).still_mounted,
               remove_led Done new (logs removes_name)
                   (there_comes d x n resolved finds taken_away Done new (logs removes_name) (λ o object.
                   subst (λ (z : Object). taken_away at z Done new (logs removes_name)) (sym (object_is n (v n) o is object))

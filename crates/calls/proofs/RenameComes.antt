@@ -2,7 +2,7 @@
 use Rattle.std.proofs.Common.{◌≡◌, ◌≢◌, inl, inr, ◌⊎◌, ℕ, List, [], ◌∷◌, ◌++◌, Bool, false, true, ◌||◌, Option, Some, None, IsSome, is_some, Result, Ok, Err, refl, sym, ap, subst, ◌∙◌, arith, length-append}
 use Rattle.std.proofs.lemmas.Bool.{false≢true}
 use Rattle.model.specs.Changing.{move_tests, moves, renames}
-use Rattle.model.specs.Finding.{at_entry, at_gap, at_refusal, here, IsPlaceOf, Trails}
+use Rattle.model.specs.Finding.{at_entry, at_missing, at_refusal, here, IsPlaceOf, Trails}
 use Rattle.model.specs.Laws.{BelowIsByPaths, RecordsChangeTrees, TrailsTellBelow}
 use Rattle.model.specs.Outcomes.{Outcome, leads, leads_to}
 use Rattle.model.specs.Paths.{Name, Path, IsName, Tests, first_refusal, is_dot, is_dot_dot, is_root_text, last_part, new_text_tests}
@@ -94,7 +94,7 @@ module _ (inodes : ℕ) (v : Volume) (table : ℕ → Option Description) (volum
         directory = enters_directory (v (here trail)) y m finds.edge;
       }
 
-  pub ends_gap : (trail : List ℕ) (y : Name) (r : Resolution) → AnswersWell t r → IsPlaceOf v (at_gap trail y) r → EndsAt r (here trail) y
+  pub ends_gap : (trail : List ℕ) (y : Name) (r : Resolution) → AnswersWell t r → IsPlaceOf v (at_missing trail y) r → EndsAt r (here trail) y
   ends_gap trail y r well place =
       let gap = finds_gap inodes v table volume mounted tree trail y r well place in
       record { path = gap.path; is = inl gap.is; at = gap.at; good = gap.good; directory = gap.parent }
@@ -151,7 +151,7 @@ module _ (inodes : ℕ) (v : Volume) (table : ℕ → Option Description) (volum
     along_entry trail y m (missing w z) apart is = absurd is
     along_entry trail y m (refused errno) apart is = absurd is
 
-    pub along_gap : (trail : List ℕ) (y : Name) (s : Resolution) → is_directory_node (v (here trail)) ≡ true → IsName y → IsPlaceOf v (at_gap trail y) s → MovesAlong v n trail y
+    pub along_gap : (trail : List ℕ) (y : Name) (s : Resolution) → is_directory_node (v (here trail)) ≡ true → IsName y → IsPlaceOf v (at_missing trail y) s → MovesAlong v n trail y
     along_gap trail y (named q) directory name is = absurd is
     along_gap trail y (missing w z) directory name (trails, same, none) = along w trail y trails directory name (λ is. none_some (sym none ∙ is))
     along_gap trail y (refused errno) directory name is = absurd is

@@ -12,12 +12,12 @@ use Rattle.model.specs.Volumes.{Volume, enter, entries, is_directory_node, numbe
 use Rattle.model.proofs.OptionLaws.{none_some, some_same}
 use Rattle.model.proofs.VolumeLemmas.{enters_directory}
 use Rattle.model.specs.declared.limits.TheConstants.{ROOT_NUMBER}
-use Rattle.paths.specs.Numbers.{AreNumbers, IsNumber}
+use Rattle.paths.specs.Numbers.{AreInodeNumbers, IsInodeNumber}
 use Rattle.calls.specs.Rename.{MovesAlong}
 use Rattle.calls.proofs.LeadLaws.{trail_end}
 
 -- the directory at the end of a trail has a number, where anything has
-pub here_number : (inodes : ℕ) (trail : List ℕ) (n : ℕ) → IsNumber inodes n → AreNumbers inodes trail → IsNumber inodes (here trail)
+pub here_number : (inodes : ℕ) (trail : List ℕ) (n : ℕ) → IsInodeNumber inodes n → AreInodeNumbers inodes trail → IsInodeNumber inodes (here trail)
 here_number inodes [] n is are = (omega arith, omega (arith, is.0, is.1))
 here_number inodes (m ∷ trail) n is are = are (length (m ∷ trail) - 1) ROOT_NUMBER (omega arith)
 

@@ -3,7 +3,7 @@ use Rattle.std.proofs.Common.{◌≡◌, ◌≢◌, ℕ, ℤ, nat_abs, List, tru
 use Rattle.std.specs.Result.{IsOkAnd}
 use Rattle.std.proofs.Math.Path.{fun_ext}
 use Rattle.std.proofs.lemmas.Bool.{false≢true}
-use Rattle.model.specs.Changing.{cuts, size_tests, truncates}
+use Rattle.model.specs.Changing.{truncates_file, size_tests, truncates}
 use Rattle.model.specs.Outcomes.{Outcome, refuses}
 use Rattle.model.specs.Paths.{Path, Tests, first_refusal, text_tests_then}
 use Rattle.model.specs.Records.{Change, applied, work_of}
@@ -22,7 +22,7 @@ use Rattle.paths.specs.Steps.{found_in}
 use Rattle.paths.specs.declared.lookup.Found.TheVariants as found
 use Rattle.calls.specs.Leading.{IsLed}
 use Rattle.calls.specs.Changing.{ComesOrStays, ComesSweptBy}
-use Rattle.calls.specs.Truncate.{CutsFile}
+use Rattle.calls.specs.Truncate.{TruncatesFile}
 use Rattle.calls.specs.declared.changed.Changing.{Changing}
 use Rattle.calls.proofs.LeadLaws.{led_refused, led_there}
 use Rattle.calls.proofs.MakeLaws.{tested_some}
@@ -42,16 +42,16 @@ found_other (Some (directory_node attributes names)) other = refl
 found_other (Some (file_node attributes links bytes)) other = absurd (other refl)
 found_other (Some (link_node attributes text)) other = refl
 
--- a file with this number is cut, or it is none
-abbrev pub CutsNumber : ℕ → Volume → (ℕ → Option Description) → ℕ → ℕ → Result (Option Changing) Errno → Type 0
-CutsNumber inodes v table n size (Ok o) = IsTrue (is_file_node (v n)) × CutsFile inodes v table n size o
-CutsNumber inodes v table n size (Err errno) = IsFalse (is_file_node (v n)) × (errno ≡ EISDIR)
+-- a file with this number is truncated, or it is none
+abbrev pub TruncatesNumber : ℕ → Volume → (ℕ → Option Description) → ℕ → ℕ → Result (Option Changing) Errno → Type 0
+TruncatesNumber inodes v table n size (Ok o) = IsTrue (is_file_node (v n)) × TruncatesFile inodes v table n size o
+TruncatesNumber inodes v table n size (Err errno) = IsFalse (is_file_node (v n)) × (errno ≡ EISDIR)
 
--- what a file is cut to
-pub cuts_found : (inodes : ℕ) (v : Volume) (table : ℕ → Option Description) (n size : ℕ) (r : Result (Option Changing) Errno) → IsTrue (is_file_node (v n))
-    → (IsTrue (is_file_node (v n)) → IsOkAnd r (CutsFile inodes v table n size)) → CutsNumber inodes v table n size r
-cuts_found inodes v table n size (Ok o) is cuts = (is, cuts is)
-cuts_found inodes v table n size (Err errno) is cuts = absurd (cuts is)
+-- what a file is truncated to
+pub truncates_found : (inodes : ℕ) (v : Volume) (table : ℕ → Option Description) (n size : ℕ) (r : Result (Option Changing) Errno) → IsTrue (is_file_node (v n))
+    → (IsTrue (is_file_node (v n)) → IsOkAnd r (TruncatesFile inodes v table n size)) → TruncatesNumber inodes v table n size r
+truncates_found inodes v table n size (Ok o) is truncates_file = (is, truncates_file is)
+truncates_found inodes v table n size (Err errno) is truncates_file = absurd (truncates_file is)
 
 -- ---- where a path leads
 
@@ -68,7 +68,7 @@ module _ (inodes : ℕ) (v : Volume) (table : ℕ → Option Description) (text 
 
   abbrev there : Path → Object → Outcome
   there p o = elim o as (λ _. Outcome) [
-    | trees.file n ↦ cuts t n (nat_abs size)
+    | trees.file n ↦ truncates_file t n (nat_abs size)
     | trees.directory n ↦ refuses t EISDIR
     | trees.symlink n link ↦ λ _ _ _. ⊥
   ]
@@ -76,13 +76,13 @@ module _ (inodes : ℕ) (v : Volume) (table : ℕ → Option Description) (text 
   pub truncate_nowhere : (errno : Errno) → IsLed tests v (resolve t true text) (Err errno) → truncates t text size (Refused errno) t nothing
   truncate_nowhere errno led = led_refused v table there tests (resolve t true text) errno led
 
-  -- what a file is cut to is what the call comes to
+  -- what a file is truncated to is what the call comes to
   at_file : (n : ℕ) (o : Option Node) → is_file_node o ≡ true → (p : Path) (x : Object) → object_of n o ≡ Some x
-      → (reply : Reply) (new : Tree) (need : Need) → cuts t n (nat_abs size) reply new need → there p x reply new need
-  at_file n None is p x object reply new need cut = none_some object
-  at_file n (Some (directory_node attributes names)) is p x object reply new need cut = absurd (false≢true is)
-  at_file n (Some (file_node attributes links bytes)) is p x object reply new need cut = subst (λ (y : Object). there p y reply new need) (some_same object) cut
-  at_file n (Some (link_node attributes link)) is p x object reply new need cut = absurd (false≢true is)
+      → (reply : Reply) (new : Tree) (need : Need) → truncates_file t n (nat_abs size) reply new need → there p x reply new need
+  at_file n None is p x object reply new need truncate = none_some object
+  at_file n (Some (directory_node attributes names)) is p x object reply new need truncate = absurd (false≢true is)
+  at_file n (Some (file_node attributes links bytes)) is p x object reply new need truncate = subst (λ (y : Object). there p y reply new need) (some_same object) truncate
+  at_file n (Some (link_node attributes link)) is p x object reply new need truncate = absurd (false≢true is)
 
   at_other : (n : ℕ) (o : Option Node) → is_file_node o ≡ false → found_in o ≢ found.Link → (p : Path) (x : Object) → object_of n o ≡ Some x → there p x (Refused EISDIR) t nothing
   at_other n None is plain p x object = none_some object
@@ -90,27 +90,27 @@ module _ (inodes : ℕ) (v : Volume) (table : ℕ → Option Description) (text 
   at_other n (Some (file_node attributes links bytes)) is plain p x object = absurd (false≢true (sym is))
   at_other n (Some (link_node attributes link)) is plain p x object = absurd (plain refl)
 
-  abbrev cut_change : ℕ → Change
-  cut_change n = records.cut n (nat_abs size)
+  abbrev truncate_change : ℕ → Change
+  truncate_change n = records.truncate n (nat_abs size)
 
   module _ (n : ℕ) (led : IsLed tests v (resolve t true text) (Ok n)) where
-    cut_there : (reply : Reply) (new : Tree) (need : Need) → is_file_node (v n) ≡ true → cuts t n (nat_abs size) reply new need → truncates t text size reply new need
-    cut_there reply new need is cut =
-        led_there v table there n reply new need (λ p x at object. at_file n (v n) is p x object reply new need cut) tests (resolve t true text) led
+    truncated_there : (reply : Reply) (new : Tree) (need : Need) → is_file_node (v n) ≡ true → truncates_file t n (nat_abs size) reply new need → truncates t text size reply new need
+    truncated_there reply new need is truncate =
+        led_there v table there n reply new need (λ p x at object. at_file n (v n) is p x object reply new need truncate) tests (resolve t true text) led
 
     -- a mounted volume has nothing to be swept
-    whole : IsMounted (applied (cut_change n) v) table → swept table (applied (cut_change n) v) ≡ applied (cut_change n) v
-    whole mounted = fun_ext {f = swept table (applied (cut_change n) v)} {g = applied (cut_change n) v} mounted.is_swept
+    whole : IsMounted (applied (truncate_change n) v) table → swept table (applied (truncate_change n) v) ≡ applied (truncate_change n) v
+    whole mounted = fun_ext {f = swept table (applied (truncate_change n) v)} {g = applied (truncate_change n) v} mounted.is_swept
 
-    pub truncate_comes : found_in (v n) ≢ found.Link → (r : Result (Option Changing) Errno) → CutsNumber inodes v table n (nat_abs size) r
+    pub truncate_comes : found_in (v n) ≢ found.Link → (r : Result (Option Changing) Errno) → TruncatesNumber inodes v table n (nat_abs size) r
         → ComesOrStays (truncates t text size) inodes v table r
     truncate_comes plain (Err errno) (is, same) =
         led_there v table there n (Refused errno) t nothing
         (λ p x at object. subst (λ (e : Errno). there p x (Refused e) t nothing) (sym same) (at_other n (v n) is plain p x object)) tests (resolve t true text) led
-    truncate_comes plain (Ok None) (is, cut) = cut_there Done t nothing is cut
-    truncate_comes plain (Ok (Some c)) (is, (says, (over, cut))) =
+    truncate_comes plain (Ok None) (is, truncate) = truncated_there Done t nothing is truncate
+    truncate_comes plain (Ok (Some c)) (is, (says, (over, truncate))) =
         subst (ComesSweptBy (truncates t text size) inodes v table) (sym says) (
           over.0,
           subst (λ (w : Volume). IsMounted w table) (sym (whole over.1)) over.1,
-          subst (λ (w : Volume). truncates t text size Done (tree_of w table) (logs (work_of v (cut_change n)))) (sym (whole over.1)) (cut_there Done (tree_of (applied (cut_change n) v) table) (logs (work_of v (cut_change n))) is cut),
+          subst (λ (w : Volume). truncates t text size Done (tree_of w table) (logs (work_of v (truncate_change n)))) (sym (whole over.1)) (truncated_there Done (tree_of (applied (truncate_change n) v) table) (logs (work_of v (truncate_change n))) is truncate),
         )

@@ -9,21 +9,21 @@ use Rattle.model.specs.Volumes.{Volume, IsVolume, tree_of}
 use Rattle.model.specs.declared.errno.Errno.{Errno}
 use Rattle.model.specs.declared.errno.Errno.TheVariants.{ENOENT}
 use Rattle.model.specs.declared.limits.TheConstants.{ROOT_NUMBER}
-use Rattle.blocktree.specs.Errors.{IsFault}
-use Rattle.blocktree.specs.declared.error.ReadError.{ReadError}
+use Rattle.buffers.specs.Errors.{IsFault}
+use Rattle.buffers.specs.declared.error.BlockError.{BlockError}
 use Rattle.buffers.specs.declared.blocks.Blocks.{Ghosts}
 use Rattle.inofile.specs.declared.inode_file.InodeFile.{InodeFile}
 use Rattle.paths.specs.Ends.{EndsWell}
-use Rattle.paths.specs.Numbers.{AreNumbers, IsNumber}
+use Rattle.paths.specs.Numbers.{AreInodeNumbers, IsInodeNumber}
 use Rattle.paths.specs.Places.{model_place_of, IsPlaceWithin}
 use Rattle.paths.specs.Resolves.{Resolves}
 use Rattle.paths.specs.Standing.{Looks}
 use Rattle.paths.specs.Steps.{found_in}
 use Rattle.paths.specs.declared.lookup.Found.TheVariants as found
 use Rattle.paths.specs.declared.place.Place.{Place}
-use Rattle.paths.specs.declared.place.Place.TheVariants.{Directory, Entry, Gap, Refusal}
+use Rattle.paths.specs.declared.place.Place.TheVariants.{Directory, Entry, Missing, Refusal}
 use Rattle.paths.proofs.Looks.{looks_err, looks_ok}
-use Rattle.records.specs.Failures.{told}
+use Rattle.records.specs.Failures.{read_outcome}
 use Rattle.records.specs.Shown.{NeverDamaged, OnMounted}
 use Rattle.records.specs.declared.failure.Failure.{Failure}
 use Rattle.records.specs.declared.failure.Failure.TheVariants.{Read, Refused}
@@ -37,46 +37,46 @@ use Rattle.calls.proofs.RefusalLaws.{walk_refusal}
 
 -- what a call tells of a number
 abbrev Told : Type 0
-Told = Result (Result ℕ Errno) ReadError
+Told = Result (Result ℕ Errno) BlockError
 
 -- what a place tells of what stands there
 abbrev pub led_of : Place → Result ℕ Errno
 led_of (Directory trail) = Ok (here trail)
 led_of (Entry trail name number) = Ok number
-led_of (Gap trail name) = Err ENOENT
+led_of (Missing trail name) = Err ENOENT
 led_of (Refusal errno) = Err errno
 
 leads_at : (inodes : ℕ) (v : Volume) → IsVolume inodes v → (p : Place) (r : Resolution) → IsPlaceOf v (model_place_of p) r → LeadsTo v r (led_of p)
 leads_at inodes v volume (Directory trail) r at = leads_directory inodes v volume trail r at
 leads_at inodes v volume (Entry trail name number) r at = leads_entry inodes v volume trail name.items number r at
-leads_at inodes v volume (Gap trail name) r at = leads_gap v trail name.items r at
+leads_at inodes v volume (Missing trail name) r at = leads_gap v trail name.items r at
 leads_at inodes v volume (Refusal errno) r at = leads_refusal v errno r at
 
-number_here : (inodes : ℕ) (trail : List ℕ) → ROOT_NUMBER < inodes → AreNumbers inodes trail → IsNumber inodes (here trail)
+number_here : (inodes : ℕ) (trail : List ℕ) → ROOT_NUMBER < inodes → AreInodeNumbers inodes trail → IsInodeNumber inodes (here trail)
 number_here inodes [] root all = (omega arith, root)
-number_here inodes (x ∷ rest) root all = All-get_or (IsNumber inodes) (x ∷ rest) (length (x ∷ rest) - 1) ROOT_NUMBER (omega arith) all
+number_here inodes (x ∷ rest) root all = All-get_or (IsInodeNumber inodes) (x ∷ rest) (length (x ∷ rest) - 1) ROOT_NUMBER (omega arith) all
 
-within_at : (inodes : ℕ) (p : Place) → ROOT_NUMBER < inodes → IsPlaceWithin inodes p → IfOk (led_of p) (IsNumber inodes)
+within_at : (inodes : ℕ) (p : Place) → ROOT_NUMBER < inodes → IsPlaceWithin inodes p → IfOk (led_of p) (IsInodeNumber inodes)
 within_at inodes (Directory trail) root is = number_here inodes trail root is
 within_at inodes (Entry trail name number) root is = is.1
-within_at inodes (Gap trail name) root is = tt
+within_at inodes (Missing trail name) root is = tt
 within_at inodes (Refusal errno) root is = tt
 
 own_at : (inodes : ℕ) (p : Place) → IsPlaceWithin inodes p → IfErr (led_of p) (λ e. IsTrue (is_path_refusal e))
 own_at inodes (Directory trail) is = tt
 own_at inodes (Entry trail name number) is = tt
-own_at inodes (Gap trail name) is = refl
+own_at inodes (Missing trail name) is = refl
 own_at inodes (Refusal errno) is = walk_refusal errno is
 
 followed_at : (v : Volume) (follow : Bool) (p : Place) → EndsWell v follow (model_place_of p) → IsTrue follow → IfOk (led_of p) (λ n. found_in (v n) ≢ found.Link)
 followed_at v follow (Directory trail) ends is = directory_no_link (found_in (v (here trail))) ends
 followed_at v follow (Entry trail name number) ends is = ends is
-followed_at v follow (Gap trail name) ends is = tt
+followed_at v follow (Missing trail name) ends is = tt
 followed_at v follow (Refusal errno) ends is = tt
 
 module _ {B : Type 0} {G : Ghosts B} {a b : B} {s t : InodeFile} {follow : Bool} {IsText : List ℕ → Type 0} {answer : List ℕ → Volume → Resolution → Result ℕ Errno → Type 0} where
   -- a step before has failed
-  pub leads_nowhere : {X : Type 0} {e : ReadError} (q : Result ℕ Failure) → IsErrAnd q (λ f. f ≡ Read e)
+  pub leads_nowhere : {X : Type 0} {e : BlockError} (q : Result ℕ Failure) → IsErrAnd q (λ f. f ≡ Read e)
       → Looks {T = X} G IsFault a b s t (Err e) → NeverDamaged {T = X} G a s (Err e) → TellsWhere G a b s t follow IsText answer q
   leads_nowhere {e = e} q is looks sound = carried (TellsWhere G a b s t follow IsText answer) q is (record {
     looks = looks_err (Err e) refl looks;
@@ -89,10 +89,10 @@ module _ {B : Type 0} {G : Ghosts B} {a b : B} {s t : InodeFile} {follow : Bool}
 
 -- what stands where the parts of a path lead
 pub leads_by : {B : Type 0} {G : Ghosts B} {a b : B} {s t : InodeFile} {follow : Bool} {path : List Name} {p : Place} {q : Result ℕ Failure} → ROOT_NUMBER < s.geometry.inodes
-    → Resolves G a b s t path follow (Ok p) → Ok (led_of p) ≡ told q → TellsWhere G a b s t follow (λ text. path ≡ parts text) (λ _. LeadsTo) q
+    → Resolves G a b s t path follow (Ok p) → Ok (led_of p) ≡ read_outcome q → TellsWhere G a b s t follow (λ text. path ≡ parts text) (λ _. LeadsTo) q
 leads_by {G = G} {a = a} {b = b} {s = s} {t = t} {follow = follow} {p = p} root resolves is = record {
   looks = subst (Looks G IsFault a b s t) is (looks_ok resolves.looks);
-  within = subst (λ (x : Told). IfOk x (λ r. IfOk r (IsNumber s.geometry.inodes))) is (within_at s.geometry.inodes p root resolves.within);
+  within = subst (λ (x : Told). IfOk x (λ r. IfOk r (IsInodeNumber s.geometry.inodes))) is (within_at s.geometry.inodes p root resolves.within);
   own = subst (λ (x : Told). IfOk x (λ r. IfErr r (λ e. IsTrue (is_path_refusal e)))) is (own_at s.geometry.inodes p resolves.within);
   leads = λ disk settled v table text stands volume are.
       let r = resolve (tree_of v table) follow text in

@@ -7,7 +7,7 @@ use Rattle.model.specs.declared.errno.Errno.{Errno}
 use Rattle.model.specs.declared.errno.Errno.TheVariants.{DIRFULL, NONUMBER}
 use Rattle.model.specs.declared.limits.TheConstants.{FIRST_NUMBER}
 use Rattle.calls.specs.Changing.{said_by}
-use Rattle.paths.specs.Numbers.{IsNumber}
+use Rattle.paths.specs.Numbers.{IsInodeNumber}
 use Rattle.calls.specs.declared.changed.Changing.{Changing}
 use Rattle.calls.specs.declared.changed.OwnedChange.{OwnedChange}
 use Rattle.calls.specs.declared.changed.OwnedChange.TheVariants as owned
@@ -37,4 +37,4 @@ CreatesNumber n _ = ⊥
 
 -- the same of some number of an image of so many inodes
 abbrev pub CreatesObject : ℕ → OwnedChange → Type 0
-CreatesObject inodes change = (n : ℕ) × CreatesNumber n change × IsNumber inodes n
+CreatesObject inodes change = (n : ℕ) × CreatesNumber n change × IsInodeNumber inodes n

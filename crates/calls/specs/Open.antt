@@ -15,7 +15,7 @@ use Rattle.model.specs.declared.errno.Errno.{Errno}
 use Rattle.model.specs.declared.errno.Errno.TheVariants.{ENOENT}
 use Rattle.model.specs.declared.limits.TheConstants.{GREATEST_FILE}
 use Rattle.model.specs.declared.reply.Reply.TheVariants.{Fd, Refused}
-use Rattle.paths.specs.Numbers.{IsNumber}
+use Rattle.paths.specs.Numbers.{IsInodeNumber}
 use Rattle.calls.specs.Changing.{said_by}
 use Rattle.calls.specs.Making.{MakesIn}
 use Rattle.calls.specs.declared.changed.Changing.{Changing}
@@ -34,13 +34,13 @@ IsOpened v o =
 
 -- a number and a size that are told keep to the limits
 abbrev pub KeepsOpenedBounds : ℕ → Opened → Type 0
-KeepsOpenedBounds inodes o = IsNumber inodes o.number × (o.size ≤ GREATEST_FILE)
+KeepsOpenedBounds inodes o = IsInodeNumber inodes o.number × (o.size ≤ GREATEST_FILE)
 
 -- the tree with the file at a descriptor, as it is just opened with these flags
 abbrev pub opened_tree : Flags → Opened → ℕ → Tree → Tree
 opened_tree flags o fd t = with_descriptor fd (Some (described_by o.number flags)) t
 
--- what opening a file comes to where this record, which applies, makes or cuts it
+-- what opening a file comes to where this record, which applies, makes or truncates it
 abbrev pub OpensByRecord : (ℕ → Outcome) → ℕ → Flags → Volume → (ℕ → Option Description) → Opened → Change → Type 0
 OpensByRecord outcome inodes flags v table o change =
     Applies inodes v change × IsMounted (swept table (applied change v)) table × IsOpened (swept table (applied change v)) o

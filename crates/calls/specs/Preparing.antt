@@ -3,11 +3,11 @@ use Rattle.std.specs.Prelude.{ℕ, Option, Some, Result, IfOk, IfErr, IfSome, Is
 use Rattle.model.specs.Trees.{Description}
 use Rattle.model.specs.Volumes.{Volume}
 use Rattle.model.specs.declared.errno.Errno.{Errno}
-use Rattle.blocktree.specs.Errors.{IsFault}
+use Rattle.buffers.specs.Errors.{IsFault}
 use Rattle.buffers.specs.declared.blocks.Blocks.{Ghosts}
 use Rattle.inofile.specs.declared.inode_file.InodeFile.{InodeFile}
 use Rattle.paths.specs.Standing.{Looks}
-use Rattle.records.specs.Failures.{told}
+use Rattle.records.specs.Failures.{read_outcome}
 use Rattle.records.specs.Prepared.{Does, IsReady}
 use Rattle.records.specs.Shown.{NeverDamaged, OnMounted, OnVolumes}
 use Rattle.records.specs.declared.failure.Failure.{Failure}
@@ -30,16 +30,17 @@ WillDo changes G blocks s after result =
     OnVolumes G blocks s
     (λ disk settled v. IfOk result (λ x. IfSome (changes x) (λ c. Does disk settled after v c.prepared (said_by c.change))))
 
--- Nothing is done but looking; the call is refused by an errno of paths, or what it is to change is prepared, with room for it in memory,
--- and does what its record says; and over memory that stands for a volume this is the answer, and no damage is found.
+-- Nothing is done but looking; the call is refused by an errno of paths, or what it is to change is
+-- prepared, with room for it in memory, and does what its record says; and over memory that stands
+-- for a volume this is the answer, and no damage is found.
 pub record PreparesWith {B T : Type 0} (changes : T → Option Changing) (G : Ghosts B) (blocks after : B) (s t : InodeFile)
     (answer : Answer T) (result : Result T Failure) : Type 0 where
-  pub looks : Looks G IsFault blocks after s t (told result)
-  pub own : IfOk (told result) (λ r. IfErr r (λ e. IsTrue (is_path_refusal e)))
+  pub looks : Looks G IsFault blocks after s t (read_outcome result)
+  pub own : IfOk (read_outcome result) (λ r. IfErr r (λ e. IsTrue (is_path_refusal e)))
   pub ready : Readies changes t result
   pub does : WillDo changes G blocks s t result
-  pub answers : OnMounted G blocks s (λ v table. IfOk (told result) (answer s.geometry.inodes v table))
-  pub damaged : NeverDamaged G blocks s (told result)
+  pub answers : OnMounted G blocks s (λ v table. IfOk (read_outcome result) (answer s.geometry.inodes v table))
+  pub damaged : NeverDamaged G blocks s (read_outcome result)
 
 -- this of a call that changes something where it isn't refused
 abbrev pub Prepares : {B : Type 0} → Ghosts B → B → B → InodeFile → InodeFile → Answer Changing → Result Changing Failure → Type 0
@@ -52,14 +53,14 @@ PreparesAny G blocks after s t answer result = PreparesWith (λ o. o) G blocks a
 -- this of a part of a call that may find nothing to change, where so much is known of a volume
 pub record PreparesKnowing {B : Type 0} (Known : Volume → Type 0) (G : Ghosts B) (blocks after : B) (s t : InodeFile)
     (answer : Answer (Option Changing)) (result : Result (Option Changing) Failure) : Type 0 where
-  pub looks : Looks G IsFault blocks after s t (told result)
-  pub own : IfOk (told result) (λ r. IfErr r (λ e. IsTrue (is_path_refusal e)))
+  pub looks : Looks G IsFault blocks after s t (read_outcome result)
+  pub own : IfOk (read_outcome result) (λ r. IfErr r (λ e. IsTrue (is_path_refusal e)))
   pub ready : Readies (λ o. o) t result
   pub does : OnVolumes G blocks s
       (λ disk settled v. Known v → IfOk result (λ x. IfSome x (λ c. Does disk settled t v c.prepared (said_by c.change))))
-  pub answers : OnMounted G blocks s (λ v table. Known v → IfOk (told result) (answer s.geometry.inodes v table))
-  pub damaged : NeverDamaged G blocks s (told result)
+  pub answers : OnMounted G blocks s (λ v table. Known v → IfOk (read_outcome result) (answer s.geometry.inodes v table))
+  pub damaged : NeverDamaged G blocks s (read_outcome result)
 
--- this of opening a file, where it may be made or cut
+-- this of opening a file, where it may be made or truncated
 abbrev pub PreparesOpening : {B : Type 0} → Ghosts B → B → B → InodeFile → InodeFile → Answer Opened → Result Opened Failure → Type 0
 PreparesOpening G blocks after s t answer result = PreparesWith (λ o. o.changing) G blocks after s t answer result

@@ -15,7 +15,8 @@ pub record PassTests (old path : List ℕ) : Type 0 where
   pub old_below : IsFalse (is_root_text old)
   pub below : IsFalse (is_root_text path)
 
--- The object n may get the name y, which it hasn't, in the directory at the end of a trail, which tells whether that one lies below n.
+-- The object n may get the name y, which it hasn't, in the directory at the end of a trail, which
+-- tells whether that one lies below n.
 pub record MovesAlong (v : Volume) (n : ℕ) (trail : List ℕ) (y : Name) : Type 0 where
   pub name : IsName y
   pub other : entries v (here trail) y ≢ Some n

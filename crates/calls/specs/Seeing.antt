@@ -10,11 +10,11 @@ use Rattle.model.specs.Volumes.{Volume, IsVolume, tree_of}
 use Rattle.model.specs.declared.command.PathCall.{PathCall}
 use Rattle.model.specs.declared.errno.Errno.{Errno}
 use Rattle.model.specs.declared.reply.Reply.{Reply}
-use Rattle.blocktree.specs.Errors.{IsFault}
+use Rattle.buffers.specs.Errors.{IsFault}
 use Rattle.buffers.specs.declared.blocks.Blocks.{Ghosts}
 use Rattle.inofile.specs.declared.inode_file.InodeFile.{InodeFile}
 use Rattle.paths.specs.Standing.{Looks, Stands}
-use Rattle.records.specs.Failures.{told}
+use Rattle.records.specs.Failures.{read_outcome}
 use Rattle.records.specs.Shown.{NeverDamaged, OnVolumes}
 use Rattle.records.specs.declared.failure.Failure.{Failure}
 use Rattle.calls.specs.Refusals.{is_path_refusal}
@@ -25,24 +25,25 @@ OnTrees G blocks s P =
     (disk : ℕ → List ℕ) (settled : ℕ → Inode) (v : Volume) (table : ℕ → Option Description) → Stands G disk settled v blocks s
     → IsVolume s.geometry.inodes v → P v table
 
--- Nothing is done but looking; an errno is one of paths; and over memory that stands for a volume this is told of it, and no damage is
--- found.
+-- Nothing is done but looking; an errno is one of paths; and over memory that stands for a volume
+-- this is told of it, and no damage is found.
 pub record Tells {B T : Type 0} (G : Ghosts B) (blocks after : B) (s t : InodeFile) (answer : Volume → Result T Errno → Type 0)
     (result : Result T Failure) : Type 0 where
-  pub looks : Looks G IsFault blocks after s t (told result)
-  pub own : IfOk (told result) (λ r. IfErr r (λ e. IsTrue (is_path_refusal e)))
-  pub tells : OnVolumes G blocks s (λ disk settled v. IfOk (told result) (answer v))
-  pub damaged : NeverDamaged G blocks s (told result)
+  pub looks : Looks G IsFault blocks after s t (read_outcome result)
+  pub own : IfOk (read_outcome result) (λ r. IfErr r (λ e. IsTrue (is_path_refusal e)))
+  pub tells : OnVolumes G blocks s (λ disk settled v. IfOk (read_outcome result) (answer v))
+  pub damaged : NeverDamaged G blocks s (read_outcome result)
 
 -- the same of a call with this outcome on a tree, which its reply tells and which changes nothing
 pub record Answers {B T : Type 0} (G : Ghosts B) (blocks after : B) (s t : InodeFile) (outcome : Tree → Outcome) (reply : Result T Errno → Reply)
     (result : Result T Failure) : Type 0 where
-  pub looks : Looks G IsFault blocks after s t (told result)
-  pub own : IfOk (told result) (λ r. IfErr r (λ e. IsTrue (is_path_refusal e)))
-  pub answers : OnTrees G blocks s (λ v table. IfOk (told result) (λ r. outcome (tree_of v table) (reply r) (tree_of v table) nothing))
-  pub damaged : NeverDamaged G blocks s (told result)
+  pub looks : Looks G IsFault blocks after s t (read_outcome result)
+  pub own : IfOk (read_outcome result) (λ r. IfErr r (λ e. IsTrue (is_path_refusal e)))
+  pub answers : OnTrees G blocks s (λ v table. IfOk (read_outcome result) (λ r. outcome (tree_of v table) (reply r) (tree_of v table) nothing))
+  pub damaged : NeverDamaged G blocks s (read_outcome result)
 
--- what a call that only reads is answered on a tree it is answered on the tree without its open files, too
+-- what a call that only reads is answered on a tree it is answered on the tree without its open
+-- files, too
 abbrev pub ReadingForgets : Type 0
 ReadingForgets =
     (inodes : ℕ) (old new : Tree) (call : PathCall) (reply : Reply) → ForgetsOpenFiles old new → IsTrue (is_reading_call call)

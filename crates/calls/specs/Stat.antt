@@ -8,7 +8,8 @@ use Rattle.model.specs.declared.reply.Reply.{Reply}
 use Rattle.model.specs.declared.reply.Reply.TheVariants as replies
 use Rattle.model.specs.declared.reply.Stat.{Stat}
 
--- what is told of an object with a number: a directory shows 1 link and no size, a link the mode of links, 1 link and its text's length
+-- what is told of an object with a number: a directory shows 1 link and no size, a link the mode of
+-- links, 1 link and its text's length
 abbrev pub stat_in : ℕ → Node → Stat
 stat_in n (directory_node attributes names) = record { number = n; kind = Dir; mode = attributes.mode; links = 1; size = 0 }
 stat_in n (file_node attributes links bytes) =

@@ -1,13 +1,13 @@
 -- What changing a file's size comes to.
 use Rattle.std.specs.Prelude.{ℕ, ◌≡◌, Option, Some, None, Ok}
-use Rattle.model.specs.Records.{cut}
+use Rattle.model.specs.Records.{truncate}
 use Rattle.model.specs.Trees.{Description}
 use Rattle.model.specs.Volumes.{Volume}
 use Rattle.calls.specs.Changing.{said_by}
-use Rattle.records.specs.Rewriting.{CutsBytes}
+use Rattle.records.specs.Rewriting.{TruncatesBytes}
 use Rattle.calls.specs.declared.changed.Changing.{Changing}
 
 -- the record that gives this size to the file with this number, or nothing where it has the size
-abbrev pub CutsFile : ℕ → Volume → (ℕ → Option Description) → ℕ → ℕ → Option Changing → Type 0
-CutsFile inodes v table n size None = CutsBytes inodes v table n size (Ok None)
-CutsFile inodes v table n size (Some c) = (said_by c.change ≡ cut n size) × CutsBytes inodes v table n size (Ok (Some c.prepared))
+abbrev pub TruncatesFile : ℕ → Volume → (ℕ → Option Description) → ℕ → ℕ → Option Changing → Type 0
+TruncatesFile inodes v table n size None = TruncatesBytes inodes v table n size (Ok None)
+TruncatesFile inodes v table n size (Some c) = (said_by c.change ≡ truncate n size) × TruncatesBytes inodes v table n size (Ok (Some c.prepared))

@@ -43,7 +43,7 @@ pub enum OwnedChange {
         name: EntryName,
     },
     /// The name is taken away, and what has no other name.
-    Unname {
+    RemoveName {
         parent: InodeNumber,
         name: EntryName,
     },
@@ -60,7 +60,7 @@ pub enum OwnedChange {
         mode: Mode,
     },
     /// The file gets this size, in bytes.
-    Cut {
+    Truncate {
         number: InodeNumber,
         size: u64,
     },
@@ -110,9 +110,9 @@ impl OwnedChange {
                     name: &name.bytes,
                 }
             }
-            OwnedChange::Unname { parent, name } => {
+            OwnedChange::RemoveName { parent, name } => {
                 let _ = parent.get();
-                Record::Unname {
+                Record::RemoveName {
                     parent: *parent,
                     name: &name.bytes,
                 }
@@ -138,9 +138,9 @@ impl OwnedChange {
                     mode: *mode,
                 }
             }
-            OwnedChange::Cut { number, size } => {
+            OwnedChange::Truncate { number, size } => {
                 let _ = (number.get(), *size);
-                Record::Cut {
+                Record::Truncate {
                     number: *number,
                     size: *size,
                 }

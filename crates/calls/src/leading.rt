@@ -12,7 +12,8 @@ use paths::{Parts, Place, refusal_of_text, resolve};
 use records::Failure;
 use std::alloc::Global;
 
-/// The number of what stands where parts lead from the root, or the refusal: ENOENT where nothing stands there.
+/// The number of what stands where parts lead from the root, or the refusal: ENOENT where nothing
+/// stands there.
 pub(crate) fn find_object<B: Blocks>(
     alloc: Global,
     inodes: &mut InodeFile,
@@ -32,7 +33,7 @@ pub(crate) fn find_object<B: Blocks>(
             number,
         } => Ok(number),
         Place::Refusal(errno) => Err(Failure::Refused(errno)),
-        Place::Gap {
+        Place::Missing {
             trail: _trail,
             name: _name,
         } => Err(Failure::Refused(Errno::ENOENT)),

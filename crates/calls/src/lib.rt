@@ -1,5 +1,6 @@
-//! Calls by a path over the image in memory: those that only look, and those that change something, which are prepared as a record
-//! of the log with all memory taken and all blocks read. Each answers as the definitions say, refusals in the order of their tests.
+//! Calls by a path over the image in memory: those that only look, and those that change something,
+//! which are prepared as a record of the log with all memory taken and all blocks read. Each
+//! answers as the definitions say, refusals in the order of their tests.
 #![tactic(auto)]
 
 mod changed;
@@ -20,7 +21,7 @@ pub use preparing::open::{Opened, open_along};
 pub use preparing::rename::rename;
 pub use preparing::rmdir::remove_directory;
 pub use preparing::symlink::symlink;
-pub use preparing::truncate::{cut_file, refusal_of_size, truncate};
+pub use preparing::truncate::{refusal_of_size, truncate, truncate_file};
 pub use preparing::unlink::unlink;
 pub use reading::get::get;
 pub use reading::list::list;

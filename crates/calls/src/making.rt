@@ -10,8 +10,7 @@ ghost use Rattle.calls.specs.Making.{CreatesObject, HasNoNumber, MakesIn};
 ghost use Rattle.calls.specs.Preparing.{Prepares};
 
 use crate::{Changing, Creation, EntryName, OwnedChange, OwnedObject};
-use blocktree::ReadError;
-use buffers::Blocks;
+use buffers::{BlockError, Blocks};
 use inode::Object;
 use inofile::InodeFile;
 use layout::{FIRST_NUMBER, InodeNumber};
@@ -20,9 +19,9 @@ use paths::{Parts, Place, refusal_of_new_text, resolve};
 use records::{Failure, is_vacant, new_object, prepare_new};
 use std::alloc::Global;
 
-/// Makes an object where a path leads, as far as nothing of it is seen yet: prepares its record, or tells why the call is refused.
-/// NoMemory; Device where a read failed; Damaged where a block on the way is outside its format, or where a number that is free has
-/// an object.
+/// Makes an object where a path leads, as far as nothing of it is seen yet: prepares its record, or
+/// tells why the call is refused. NoMemory; Device where a read failed; Damaged where a block on
+/// the way is outside its format, or where a number that is free has an object.
 pub(crate) fn make<B: Blocks>(
     alloc: Global,
     inodes: &mut InodeFile,
@@ -43,7 +42,7 @@ pub(crate) fn make<B: Blocks>(
     }
     let place = resolve(alloc, inodes, blocks, parts, false)?;
     let (trail, name) = match place {
-        Place::Gap { trail, name } => (trail, name),
+        Place::Missing { trail, name } => (trail, name),
         Place::Refusal(errno) => return Err(Failure::Refused(errno)),
         Place::Directory(_trail) => return Err(Failure::Refused(Errno::EEXIST)),
         Place::Entry {
@@ -75,7 +74,7 @@ pub(crate) fn make_in<B: Blocks>(
     let number = InodeNumber::new(free);
     let vacant = is_vacant(alloc, inodes, blocks, number)?;
     if !vacant {
-        return Err(Failure::Read(ReadError::Damaged));
+        return Err(Failure::Read(BlockError::Damaged));
     }
     let Some(name) = EntryName::new(name) else {
         return Err(Failure::Refused(Errno::DIRFULL));
@@ -93,7 +92,8 @@ pub(crate) fn make_in<B: Blocks>(
     })
 }
 
-// The refusal where no number is left: a full directory is told before. Any number shows whether it is full.
+// The refusal where no number is left: a full directory is told before. Any number shows whether it
+// is full.
 fn refuse_in<B: Blocks>(
     alloc: Global,
     inodes: &mut InodeFile,

@@ -39,10 +39,10 @@ no_tree_past r zero count past has = omega (arith, past)
 no_tree_past r (suc k) count past has = let none : Hole ≡ Block has.0 = sym (get_or_past r.snapshots k Hole (omega (arith, count, past))) ∙ has.1 in cc
 
 -- a plane that no tree has isn't marked
-pub stays_clean : (r : Root) (trees : List Tree) (Known : Tree → Type 0) (before after : List ℕ) → AreTrees r trees Known → ((t : Tree) → Known t → HasTree r t.plane)
+pub stays_clean : (r : Root) (trees : List Tree) (NumberTable : Tree → Type 0) (before after : List ℕ) → AreTrees r trees NumberTable → ((t : Tree) → NumberTable t → HasTree r t.plane)
     → ((k : ℕ) → ((i : ℕ) → PlaneAt trees i k → ⊥) → (b : ℕ) → HasBit k (slice_index after b) ↔ HasBit k (slice_index before b))
     → ((k b : ℕ) → (HasTree r k → ⊥) → HasBit k (slice_index before b) → ⊥) → (k b : ℕ) → (HasTree r k → ⊥) → HasBit k (slice_index after b) → ⊥
-stays_clean r trees Known before after are has stays clean k b none bit =
+stays_clean r trees NumberTable before after are has stays clean k b none bit =
     clean k b none ((stays k (λ i at. none (subst (HasTree r) at.2 (has at.0 (are.each at.0 (contains trees i at.0 at.1))))) b).0 bit)
 
 module _ (disk : Blocks) (r : Root) (marks : List ℕ) (trees : List Tree) (are : AreTrees r trees (HasEnded disk r marks)) where

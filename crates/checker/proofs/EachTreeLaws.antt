@@ -25,8 +25,8 @@ use Rattle.checker.specs.Findings.{IsFindingUnder, IsTreeFinding, StandsIn, faul
 use Rattle.checker.specs.Nodes.{SharesNone}
 use Rattle.checker.specs.Trees.{HasEnded, IsApart, IsOut, IsRootOf, IsSeen, IsSeenTo, IsTreeAt}
 use Rattle.checker.specs.declared.error.CheckError.{CheckError}
-use Rattle.checker.specs.declared.error.Halt.{Halt}
-use Rattle.checker.specs.declared.error.Halt.TheVariants as halts
+use Rattle.checker.specs.declared.error.CheckEnd.{CheckEnd}
+use Rattle.checker.specs.declared.error.CheckEnd.TheVariants as halts
 use Rattle.checker.specs.declared.fault.Fault.{Fault}
 use Rattle.checker.specs.declared.fault.Fault.TheVariants as faults
 use Rattle.checker.specs.declared.fault.FileNode.{FileNode}
@@ -52,13 +52,13 @@ not_apart P (Some (faults.Links number names links)) block first second roots sl
 not_apart P (Some (faults.Log found)) block first second roots slots told apart = apart
 
 -- what a part of a check comes to, by what it passes
-pub passed : (Is : Type 0) (Found : Fault → Type 0) (checked : Result (Unit {0}) Halt) (result : Result (Option Fault) CheckError) → Passes (λ (_ : Unit {0}). Is) Found checked → TellsFault checked result → result ≡ Ok None → Is
+pub passed : (Is : Type 0) (Found : Fault → Type 0) (checked : Result (Unit {0}) CheckEnd) (result : Result (Option Fault) CheckError) → Passes (λ (_ : Unit {0}). Is) Found checked → TellsFault checked result → result ≡ Ok None → Is
 passed Is Found (Ok done) result passes tells none = passes
 passed Is Found (Err halts.NoMemory) result passes tells none = absurd (cc (tells, none))
 passed Is Found (Err halts.Device) result passes tells none = absurd (cc (tells, none))
 passed Is Found (Err (halts.Fault fault)) result passes tells none = absurd (cc (tells, none))
 
-pub found_out : (Is : Type 0) (Found : Fault → Type 0) (fault : Fault) (checked : Result (Unit {0}) Halt) (result : Result (Option Fault) CheckError) → Passes (λ (_ : Unit {0}). Is) Found checked → TellsFault checked result
+pub found_out : (Is : Type 0) (Found : Fault → Type 0) (fault : Fault) (checked : Result (Unit {0}) CheckEnd) (result : Result (Option Fault) CheckError) → Passes (λ (_ : Unit {0}). Is) Found checked → TellsFault checked result
     → result ≡ Ok (Some fault) → Found fault
 found_out Is Found fault (Ok done) result passes tells is = absurd (cc (tells, is))
 found_out Is Found fault (Err halts.NoMemory) result passes tells is = absurd (cc (tells, is))

@@ -1,10 +1,10 @@
 -- What was found first.
 use Rattle.std.proofs.Common.{◌≡◌, ℕ, List, Bool, true, false, Option, Some, None, Result, Ok, Err, length, refl, inl, subst, sym, ap, ◌∙◌}
 use Rattle.std.specs.Prelude.{IfErr, IfSome, if◌then◌else◌, nat_le}
-use Rattle.station.specs.Images.{Images, Unchanged}
+use Rattle.station.specs.Images.{Images}
 use Rattle.station.specs.Calls.{OnlyReads}
-use Rattle.station.specs.Moments.{Goes, HasGrown, IsSameStation, LeavesJust, Meaning}
-use Rattle.station.proofs.Moments.{grown_since, may_grow_twice, same_twice, unchanged_twice}
+use Rattle.station.specs.Moments.{HasGrown, IsSameStation, Meaning}
+use Rattle.station.proofs.Moments.{grown_since, may_grow_twice, same_twice, still_left, unchanged_twice}
 use Rattle.layout.specs.Opens.{IsNewest}
 use Rattle.layout.specs.declared.TheConstants.{SLOT_A, SLOT_B}
 use Rattle.layout.specs.declared.root.Root.{Root}
@@ -68,14 +68,6 @@ module _ (r : Root) (w : Whole) (nvram : List ℕ) where
   if_found (Some found) are = are
 
 -- ---- what a station leaves
-
--- reads change nothing of what a cut leaves
-pub still_left : (old new : Meaning) (i : Images) → IsSameStation old new → Goes Unchanged old new
-    → LeavesJust old i → LeavesJust new i
-still_left old new i same goes just honest c may =
-    let was = same.honest.1 honest in
-    let before = (goes was).now c may in
-    before.2 ∙ just was before.0 before.1
 
 -- reads behind what was settled
 pub settled_read : {T U V E : Type 0} {F : E → Type 0} {a b c : Meaning} {v : U} {o : Result T E} (r : Result V CheckError) → Settles a b (Ok v) → OnlyReads F b c o

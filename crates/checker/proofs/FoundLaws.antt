@@ -6,7 +6,7 @@ use Rattle.std.proofs.lemmas.Bool.{cond-true, cond-false, eq-eqb, ne_eqb}
 use Rattle.model.proofs.OptionLaws.{none_some}
 use Rattle.model.proofs.ListLaws.{get_pushed}
 use Rattle.checker.specs.Names.{AreWithin}
-use Rattle.checker.specs.Walks.{GoesOn, nameless}
+use Rattle.checker.specs.Walks.{GoesOn, unnamed_rows}
 use Rattle.checker.specs.declared.names.NumberRow.{NumberRow}
 
 module _ {X : Type 0} where
@@ -39,8 +39,8 @@ weight_some row some = cond-false (row.names == 0) 1 0 (ne_eqb row.names 0 some)
 
 -- one row has another value, with more names
 module _ (table : List NumberRow) (n : ℕ) (old new : NumberRow) (low : n < length table) (is : get_or table n old ≡ old) (some : new.names ≢ 0) where
-  nameless_set : nameless (set table n new) + weight old ≡ nameless table
-  nameless_set =
+  unnamed_set : unnamed_rows (set table n new) + weight old ≡ unnamed_rows table
+  unnamed_set =
       let sums = sum_by-set weight table n new old low in
       let here : weight (get_or table n old) ≡ weight old = ap weight is in
       let none : weight new ≡ 0 = weight_some new some in
@@ -50,7 +50,7 @@ module _ (table : List NumberRow) (n : ℕ) (old new : NumberRow) (low : n < len
   goes_named found = record {
     length_is = length-set table n new;
     keeps = λ i m at. at;
-    fewer = omega (arith, nameless_set);
+    fewer = omega (arith, unnamed_set);
     within = λ are. are;
   }
 
@@ -58,7 +58,7 @@ module _ (table : List NumberRow) (n : ℕ) (old new : NumberRow) (low : n < len
   goes_found found none least = record {
     length_is = length-set table n new;
     keeps = λ i m at. get_front found (n ∷ []) i m at;
-    fewer = omega (arith, nameless_set, weight_none old none, length-append found (n ∷ []));
+    fewer = omega (arith, unnamed_set, weight_none old none, length-append found (n ∷ []));
     within = λ are i m at. elim (get_pushed found n i m at) [
       | inl before ↦ are i m before
       | inr here ↦ subst (λ (k : ℕ). (1 ≤ k) × (k < length table)) (sym here.1) (least, low)

@@ -21,8 +21,8 @@ use Rattle.checker.specs.Findings.{IsTreeFinding, first_fault, tree_in}
 use Rattle.checker.specs.Nodes.{IsAny, KeepsMarks, MarksFor}
 use Rattle.checker.specs.Rows.{AddsToEach, ComparesBits, IsMappedAs, KeepsTrees, SeesInode}
 use Rattle.checker.specs.Trees.{IsOut, IsSeenTo, IsTreeOf}
-use Rattle.checker.specs.declared.error.Halt.{Halt}
-use Rattle.checker.specs.declared.error.Halt.TheVariants as halts
+use Rattle.checker.specs.declared.error.CheckEnd.{CheckEnd}
+use Rattle.checker.specs.declared.error.CheckEnd.TheVariants as halts
 use Rattle.checker.specs.declared.fault.Fault.{Fault}
 use Rattle.checker.specs.declared.fault.Fault.TheVariants as faults
 use Rattle.checker.specs.declared.fault.TreeFault.{TreeFault}
@@ -34,19 +34,19 @@ use Rattle.checker.proofs.OutLaws.{again, first_found, seen_added}
 
 -- ---- what was answered
 
-pub marked_ok : (m : Result (Unit {0}) Halt) → TellsFault m (Ok None) → (done : Unit {0}) × (m ≡ Ok done)
+pub marked_ok : (m : Result (Unit {0}) CheckEnd) → TellsFault m (Ok None) → (done : Unit {0}) × (m ≡ Ok done)
 marked_ok (Ok done) told = (done, refl)
 marked_ok (Err halts.NoMemory) told = cc
 marked_ok (Err halts.Device) told = cc
 marked_ok (Err (halts.Fault fault)) told = cc
 
-pub marked_fault : (m : Result (Unit {0}) Halt) (fault : Fault) → TellsFault m (Ok (Some fault)) → m ≡ Err (halts.Fault fault)
+pub marked_fault : (m : Result (Unit {0}) CheckEnd) (fault : Fault) → TellsFault m (Ok (Some fault)) → m ≡ Err (halts.Fault fault)
 marked_fault (Ok done) fault told = cc
 marked_fault (Err halts.NoMemory) fault told = cc
 marked_fault (Err halts.Device) fault told = cc
 marked_fault (Err (halts.Fault found)) fault told = cc
 
-pub told_none : (m : Result (Unit {0}) Halt) (o : Option Fault) → ((x : Fault) → o ≡ Some x → ⊥) → TellsFault m (Ok o) → TellsFault m (Ok None)
+pub told_none : (m : Result (Unit {0}) CheckEnd) (o : Option Fault) → ((x : Fault) → o ≡ Some x → ⊥) → TellsFault m (Ok o) → TellsFault m (Ok None)
 told_none m None other told = told
 told_none m (Some x) other told = absurd (other x refl)
 

@@ -1,16 +1,16 @@
 -- Records that were replayed, as the log has them.
-use Rattle.std.proofs.Common.{◌≡◌, ◌⊎◌, ◌∙◌, ◌<◌, ◌≤◌, ◌^◌, ℕ, Bool, true, false, List, [], ◌∷◌, ◌++◌, Result, Ok, Err, length, length-append, arith, ◌+◌, ◌*◌, refl, sym, ap, subst, inl, inr}
-use Rattle.std.specs.Prelude.{All, IfErr, IsSome, MatchResult, if◌then◌else◌}
+use Rattle.std.proofs.Common.{◌≡◌, ◌⊎◌, ◌∙◌, ◌<◌, ◌≤◌, ◌^◌, ℕ, List, [], ◌∷◌, ◌++◌, Result, Ok, Err, length, length-append, arith, ◌+◌, ◌*◌, refl, sym, ap, subst, inl, inr}
+use Rattle.std.specs.Prelude.{All, IfErr, IsSome, MatchResult}
 use Rattle.std.specs.Result.{IsErrAnd}
 use Rattle.std.proofs.lemmas.List.Elements.{All-cons, All-head, All-tail}
-use Rattle.blocktree.specs.declared.error.ReadError.{ReadError}
-use Rattle.blocktree.specs.declared.error.ReadError.TheVariants as errors
+use Rattle.buffers.specs.declared.error.BlockError.{BlockError}
+use Rattle.buffers.specs.declared.error.BlockError.TheVariants as errors
 use Rattle.layout.specs.Limits.{Sizes}
 use Rattle.layout.specs.Places.{Blocks}
 use Rattle.layout.specs.Log.{HoldsBodies, LogHolds, record_of}
 use Rattle.layout.specs.Record.{Change, IsChange}
 use Rattle.layout.specs.declared.root.Root.{Root}
-use Rattle.model.specs.Records.{applied, costs, count_nameless, pledged_for}
+use Rattle.model.specs.Records.{applied, costs, count_orphans, pledged_for}
 use Rattle.model.specs.Volumes.{IsGraph, Volume}
 use Rattle.images.specs.Contents.{tree_contents}
 use Rattle.images.specs.Faults.{HasLog, IsFaultless}
@@ -19,7 +19,7 @@ use Rattle.images.specs.Nodes.{held}
 use Rattle.images.specs.Roots.{Whole, whole}
 use Rattle.images.specs.Sizes.{HoldsVolumeIn}
 use Rattle.images.specs.Soundness.{by_sizes}
-use Rattle.oplog.specs.LogEnd.{LogEnd, all_bodies}
+use Rattle.oplog.specs.LogEnd.{all_bodies}
 use Rattle.oplog.specs.SavedLog.{HoldsLeaving, Saved, TellsLog, end_of}
 use Rattle.inofile.specs.Volumes.{IsVolumeIn}
 use Rattle.inofile.specs.declared.inode_file.InodeFile.{InodeFile}
@@ -27,13 +27,13 @@ use Rattle.loading.specs.Images.{AreInodesIn, inodes_of}
 use Rattle.model.specs.declared.limits.TheConstants.{FIRST_NUMBER, ROOT_NUMBER}
 use Rattle.replay.specs.Volumes.{AppliesIn, HasVolumeIn, LeadTo, ReplaysIn, SpellsRecord, bodies_of}
 use Rattle.replay.proofs.RecordLaws.{none_behind, one_in_front}
-use Rattle.replay.proofs.SavedLaws.{LeadOn, costs_joined, joined_bodies, lead_on}
+use Rattle.replay.proofs.SavedLaws.{LeadOn, costs_joined, end_half, joined_bodies, lead_on}
 use Rattle.checker.specs.Checks.{Passes}
-use Rattle.checker.specs.Errors.{IsHaltFault, OrFault}
+use Rattle.checker.specs.Errors.{IsCheckEndFault, OrFault}
 use Rattle.checker.specs.Findings.{IsFindingUnder}
 use Rattle.checker.specs.Logs.{IsLogged, IsRecordFault, TellsRecords}
-use Rattle.checker.specs.declared.error.Halt.{Halt}
-use Rattle.checker.specs.declared.error.Halt.TheVariants as halts
+use Rattle.checker.specs.declared.error.CheckEnd.{CheckEnd}
+use Rattle.checker.specs.declared.error.CheckEnd.TheVariants as halts
 use Rattle.checker.specs.declared.fault.Fault.{Fault}
 use Rattle.checker.specs.declared.fault.TreeName.TheVariants.{Image}
 use Rattle.checker.specs.declared.log.Logged.{Logged}
@@ -53,14 +53,6 @@ leaving [] records held = (length records, none_behind records held)
 leaving (body ∷ bodies) records (after, short, is, held) =
     let more = leaving bodies after held in
     (more.0, one_in_front body records after bodies more.0 short is more.1)
-
-half_of_any : (x y : Bool) (p q s : LogEnd) (half : ℕ) → p.half ≡ half → q.half ≡ half → s.half ≡ half → (if x then p else (if y then q else s)).half ≡ half
-half_of_any true y p q s half one two three = one
-half_of_any false true p q s half one two three = two
-half_of_any false false p q s half one two three = three
-
-end_half : (saved : Saved) (first second : ℕ) → (end_of saved first second).half ≡ saved.half
-end_half saved first second = half_of_any saved.second.is_open saved.first.is_open _ _ _ saved.half refl refl refl
 
 -- records one after the other
 within_more : (inodes : ℕ) (one two : List Change) (v mid w : Volume) → ReplaysIn by_sizes inodes v one mid → ReplaysIn by_sizes inodes mid two w → ReplaysWithin inodes v (one ++ two) w
@@ -100,15 +92,15 @@ module _ (r : Root) (w : Whole) (nvram : List ℕ) (saved : Saved) (half : saved
       )
 
   -- what both halves tell is told of the log
-  pub is_logged : (one two : List Change) (mid last : Volume) (nameless : ℕ) (l a b : Logged)
+  pub is_logged : (one two : List Change) (mid last : Volume) (orphans : ℕ) (l a b : Logged)
       → LeadTo by_sizes r.geometry.inodes saved.first.records one v mid
       → LeadTo by_sizes r.geometry.inodes saved.second.records two mid last
-      → nameless ≡ count_nameless r.geometry.inodes v
+      → orphans ≡ count_orphans r.geometry.inodes v
       → a.records ≡ length one → b.records ≡ length two
       → a.pledged ≡ costs v one → b.pledged ≡ costs mid two
-      → l.records ≡ a.records + b.records → l.pledged ≡ 4 * nameless + a.pledged + b.pledged
+      → l.records ≡ a.records + b.records → l.pledged ≡ 4 * orphans + a.pledged + b.pledged
       → IsLogged r w nvram l
-  is_logged one two mid last nameless l a b leads leads_on counted few more cost other records pledged =
+  is_logged one two mid last orphans l a b leads leads_on counted few more cost other records pledged =
       let has = has_log one two mid last leads leads_on in
       let all = costs_joined by_sizes r.geometry.inodes one two v mid leads.replays in record {
         changes = one ++ two;
@@ -132,12 +124,12 @@ log_leads r w nvram saved half generation tells changes log = lead_on by_sizes r
 
 -- ---- what was loaded
 
-pub loaded : {T : Type 0} (P : T → Type 0) (Q : ReadError → Type 0) (fault : Fault) (read : Result T ReadError) (x : T) → OrFault fault read (Ok x) → MatchResult read P Q → P x
+pub loaded : {T : Type 0} (P : T → Type 0) (Q : BlockError → Type 0) (fault : Fault) (read : Result T BlockError) (x : T) → OrFault fault read (Ok x) → MatchResult read P Q → P x
 loaded P Q fault (Ok y) x is told = (let same : y ≡ x = cc in subst P same told)
 loaded P Q fault (Err e) x is told = absurd (cc)
 
 -- where memory ran out or a device call failed, nothing is told
-pub not_loaded : {T U : Type 0} (P : T → Type 0) (Is : U → Type 0) (Found : Fault → Type 0) (fault : Fault) (read : Result T ReadError) (h : Halt) (q : Result U Halt)
+pub not_loaded : {T U : Type 0} (P : T → Type 0) (Is : U → Type 0) (Found : Fault → Type 0) (fault : Fault) (read : Result T BlockError) (h : CheckEnd) (q : Result U CheckEnd)
     → IsErrAnd q (λ f. f ≡ h) → OrFault fault read (Err h) → MatchResult read P (λ e. (e ≡ errors.NoMemory) ⊎ (e ≡ errors.Device)) → Passes Is Found q
 not_loaded P Is Found fault (Ok y) h q passed is told = absurd (cc (is))
 not_loaded P Is Found fault (Err e) h (Ok y) passed is told = absurd passed
@@ -149,7 +141,7 @@ not_loaded P Is Found fault (Err errors.Damaged) h (Err (halts.Fault f)) passed 
 not_loaded P Is Found fault (Err errors.Damaged) h (Err (halts.Fault f)) passed is (inr device) = absurd (cc)
 
 -- a device call failed where a read says so
-pub load_device : {T Grown : Type 0} (fault : Fault) (read : Result T ReadError) (h : Halt) → OrFault fault read (Err h) → IfErr read (λ e. e ≡ errors.Device → Grown) → IsHaltFault h → Grown
+pub load_device : {T Grown : Type 0} (fault : Fault) (read : Result T BlockError) (h : CheckEnd) → OrFault fault read (Err h) → IfErr read (λ e. e ≡ errors.Device → Grown) → IsCheckEndFault h → Grown
 load_device fault (Ok y) h is told failed = absurd (cc (is))
 load_device fault (Err errors.NoMemory) h is told failed = absurd (cc (is, failed))
 load_device fault (Err errors.Device) h is told failed = told refl
@@ -169,7 +161,7 @@ has_volume disk r count inodes v is are holds graph numbers = record {
 
 -- ---- a half that has a fault
 
-pub failed : (r : Root) (w : Whole) (nvram : List ℕ) (q : Result Logged Halt) (h : Halt)
+pub failed : (r : Root) (w : Whole) (nvram : List ℕ) (q : Result Logged CheckEnd) (h : CheckEnd)
     → IsFaultless r.geometry w.active → IsErrAnd q (λ f. f ≡ h)
     → Passes {T = Logged} (λ _. Unit {0}) IsRecordFault (Err h)
     → ((changes : List Change) → HasLog r w nvram changes → Passes {T = Logged} (λ _. Unit {0}) (λ _. ⊥) (Err h)) → TellsRecords r w nvram q
@@ -177,9 +169,9 @@ failed r w nvram (Ok count) h faultless passed faults refutes = absurd passed
 failed r w nvram (Err halts.NoMemory) h faultless passed faults refutes = tt
 failed r w nvram (Err halts.Device) h faultless passed faults refutes = tt
 failed r w nvram (Err (halts.Fault fault)) h faultless passed faults refutes =
-    let is : IsRecordFault fault = subst (λ (e : Halt). Passes {T = Logged} (λ _. Unit {0}) IsRecordFault (Err e)) (sym passed) faults in
+    let is : IsRecordFault fault = subst (λ (e : CheckEnd). Passes {T = Logged} (λ _. Unit {0}) IsRecordFault (Err e)) (sym passed) faults in
     subst (IsFindingUnder r w nvram Image) (sym is.2)
-    (faultless, λ changes log. subst (λ (e : Halt). Passes {T = Logged} (λ _. Unit {0}) (λ _. ⊥) (Err e)) (sym passed) (refutes changes log))
+    (faultless, λ changes log. subst (λ (e : CheckEnd). Passes {T = Logged} (λ _. Unit {0}) (λ _. ⊥) (Err e)) (sym passed) (refutes changes log))
 
 -- records by the sizes and the bytes that they are read by
 pub lead_over : (s t : Sizes) (records bytes : List ℕ) (changes : List Change) (v w : Volume) → s ≡ t → records ≡ bytes → LeadTo by_sizes t.inodes bytes changes v w → LeadTo by_sizes s.inodes records changes v w
@@ -187,7 +179,7 @@ lead_over s t records bytes changes v w sizes same leads =
     subst (λ (x : Sizes). LeadTo by_sizes x.inodes records changes v w) (sym sizes) (subst (λ (b : List ℕ). LeadTo by_sizes t.inodes b changes v w) (sym same) leads)
 
 -- what is true of a fault's answer says nothing of other ones
-pub refuted : (Is : Logged → Type 0) (h : Halt) → Passes Is (λ _. ⊥) (Err h)
+pub refuted : (Is : Logged → Type 0) (h : CheckEnd) → Passes Is (λ _. ⊥) (Err h)
     → Passes {T = Logged} (λ _. Unit {0}) (λ _. ⊥) (Err h)
 refuted Is halts.NoMemory told = tt
 refuted Is halts.Device told = tt

@@ -25,8 +25,8 @@ use Rattle.images.proofs.EmptyLaws.{held_inode, node_bytes}
 use Rattle.images.proofs.OverlayLaws.{held_up}
 use Rattle.images.proofs.ReadingLaws.{highest, none_above}
 use Rattle.checker.specs.Nodes.{AreIndirect, HasNodes, IsAmong, IsAny, MarksFile, MarksFor, MarksThese}
-use Rattle.checker.specs.declared.error.Halt.{Halt}
-use Rattle.checker.specs.declared.error.Halt.TheVariants as halts
+use Rattle.checker.specs.declared.error.CheckEnd.{CheckEnd}
+use Rattle.checker.specs.declared.error.CheckEnd.TheVariants as halts
 use Rattle.checker.specs.declared.nodes.Shared.{Shared}
 use Rattle.checker.proofs.NodeLaws.{hole_under, looks_none}
 use Rattle.checker.proofs.NodeSteps.{looks_same}
@@ -85,19 +85,19 @@ module _ (d : Blocks) (f : Inode) (s : Sizes) (blocks count : ℕ) (same : s.blo
   )
 
   -- a fault in an indirect block is one of the file
-  file_err : (S : ℕ → ℕ → Type 0) (number bits : ℕ) (o n p q : List ℕ) (b a x y : List (Option Shared)) (e : Halt)
+  file_err : (S : ℕ → ℕ → Type 0) (number bits : ℕ) (o n p q : List ℕ) (b a x y : List (Option Shared)) (e : CheckEnd)
       → MarksThese blocks d (held d f) S number count bits o n b a (Err e) → MarksFile d s f number bits p q x y (Err e)
   file_err S number bits o n p q b a x y halts.NoMemory marked = tt
   file_err S number bits o n p q b a x y halts.Device marked = tt
   file_err S number bits o n p q b a x y (halts.Fault fault) marked = ((λ grammar. marked.0 (indirect_of S grammar)), marked.1, marked.2)
 
-  pub file_passed : (S : ℕ → ℕ → Type 0) (now number bits : ℕ) (o n p q : List ℕ) (b a x y : List (Option Shared)) (result : Result (Unit {0}) Halt) (e : Halt)
+  pub file_passed : (S : ℕ → ℕ → Type 0) (now number bits : ℕ) (o n p q : List ℕ) (b a x y : List (Option Shared)) (result : Result (Unit {0}) CheckEnd) (e : CheckEnd)
       → now ≡ blocks → IsErrAnd result (λ f. f ≡ e)
       → MarksThese now d (held d f) S number count bits o n b a (Err e) → MarksFile d s f number bits p q x y result
   file_passed S now number bits o n p q b a x y (Ok done) e there is marked = absurd is
   file_passed S now number bits o n p q b a x y (Err g) e there is marked =
       file_err S number bits o n p q b a x y g
-      (subst (λ (z : Halt). MarksThese blocks d (held d f) S number count bits o n b a (Err z)) (sym is)
+      (subst (λ (z : CheckEnd). MarksThese blocks d (held d f) S number count bits o n b a (Err z)) (sym is)
       (subst (λ (z : ℕ). MarksThese z d (held d f) S number count bits o n b a (Err e)) there marked))
 
   -- the highest nodes are those of the inode's pointers

@@ -14,8 +14,8 @@ use Rattle.blocktree.specs.Names.{nodes_at}
 use Rattle.images.specs.BlockMap.{HasBit}
 use Rattle.images.specs.Nodes.{Held}
 use Rattle.checker.specs.Nodes.{AreIndirect, HasNodes, IsAmong, IsAt, IsUnder, KeepsMarks, KeepsShared, LooksUnder, MarksFor, MarksThese, SharesNone}
-use Rattle.checker.specs.declared.error.Halt.{Halt}
-use Rattle.checker.specs.declared.error.Halt.TheVariants as halts
+use Rattle.checker.specs.declared.error.CheckEnd.{CheckEnd}
+use Rattle.checker.specs.declared.error.CheckEnd.TheVariants as halts
 use Rattle.checker.specs.declared.fault.FileNode.{FileNode}
 use Rattle.checker.specs.declared.nodes.Shared.{Shared}
 use Rattle.checker.specs.declared.nodes.TheConstants.{PLANES}
@@ -285,18 +285,18 @@ pointer_below a b used r bytes p good low same is =
     subst (PointsBelow b) (sym is) (subst (λ (n : ℕ). PointsBelow n (indirect_pointer bytes r)) same (good.within r low).0)
 
 -- an error is passed on
-these_err : (blocks : ℕ) (disk : Blocks) (h : Held) (S1 S : ℕ → ℕ → Type 0) (number count bits : ℕ) (o n p q : List ℕ) (b a c d : List (Option Shared)) (e : Halt) → ((m i : ℕ) → S1 m i → S m i)
+these_err : (blocks : ℕ) (disk : Blocks) (h : Held) (S1 S : ℕ → ℕ → Type 0) (number count bits : ℕ) (o n p q : List ℕ) (b a c d : List (Option Shared)) (e : CheckEnd) → ((m i : ℕ) → S1 m i → S m i)
     → MarksThese blocks disk h S1 number count bits o n b a (Err e) → MarksThese blocks disk h S number count bits p q c d (Err e)
 these_err blocks disk h S1 S number count bits o n p q b a c d halts.NoMemory sub marked = tt
 these_err blocks disk h S1 S number count bits o n p q b a c d halts.Device sub marked = tt
 these_err blocks disk h S1 S number count bits o n p q b a c d (halts.Fault fault) sub marked =
     ((λ are. marked.0 (λ m i x under there. are m i x (sub (suc m) i under) there)), marked.1, marked.2)
 
-pub err_marked : (blocks now : ℕ) (disk : Blocks) (h : Held) (S1 S : ℕ → ℕ → Type 0) (number count bits : ℕ) (o n p q : List ℕ) (b a c d : List (Option Shared)) (result : Result (Unit {0}) Halt) (e : Halt)
+pub err_marked : (blocks now : ℕ) (disk : Blocks) (h : Held) (S1 S : ℕ → ℕ → Type 0) (number count bits : ℕ) (o n p q : List ℕ) (b a c d : List (Option Shared)) (result : Result (Unit {0}) CheckEnd) (e : CheckEnd)
     → now ≡ blocks → IsErrAnd result (λ f. f ≡ e) → ((m i : ℕ) → S1 m i → S m i)
     → MarksThese now disk h S1 number count bits o n b a (Err e) → MarksThese blocks disk h S number count bits p q c d result
 err_marked blocks now disk h S1 S number count bits o n p q b a c d (Ok done) e same is sub marked = absurd is
 err_marked blocks now disk h S1 S number count bits o n p q b a c d (Err f) e same is sub marked =
     these_err blocks disk h S1 S number count bits o n p q b a c d f sub
-    (subst (λ (x : Halt). MarksThese blocks disk h S1 number count bits o n b a (Err x)) (sym is)
+    (subst (λ (x : CheckEnd). MarksThese blocks disk h S1 number count bits o n b a (Err x)) (sym is)
     (subst (λ (x : ℕ). MarksThese x disk h S1 number count bits o n b a (Err e)) same marked))

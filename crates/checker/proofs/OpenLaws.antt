@@ -32,8 +32,8 @@ use Rattle.checker.specs.Checks.{Passes}
 use Rattle.checker.specs.Findings.{IsTreeFinding, tree_in}
 use Rattle.checker.specs.Nodes.{IsAny, LooksUnder, MarksFile, SharesNone}
 use Rattle.checker.specs.Trees.{HasInodes, HasMarked, IsBefore, IsOpened, IsOut, IsSeenTo, IsTreeOf, SharesBlock}
-use Rattle.checker.specs.declared.error.Halt.{Halt}
-use Rattle.checker.specs.declared.error.Halt.TheVariants as halts
+use Rattle.checker.specs.declared.error.CheckEnd.{CheckEnd}
+use Rattle.checker.specs.declared.error.CheckEnd.TheVariants as halts
 use Rattle.checker.specs.declared.fault.Fault.{Fault}
 use Rattle.checker.specs.declared.fault.FileNode.{FileNode}
 use Rattle.checker.specs.declared.nodes.Shared.{Shared}
@@ -48,7 +48,7 @@ TellsOut r t fault = IsOut (Some fault) × IsTreeFinding r t fault
 
 -- ---- its inode file
 
-pub mark_failed : {T : Type 0} (Is : T → Type 0) (r : Root) (t : HeldTree) (disk : Blocks) (s : Sizes) (top : Inode) (bits : ℕ) (old new : List ℕ) (before after : List (Option Shared)) (e : Halt)
+pub mark_failed : {T : Type 0} (Is : T → Type 0) (r : Root) (t : HeldTree) (disk : Blocks) (s : Sizes) (top : Inode) (bits : ℕ) (old new : List ℕ) (before after : List (Option Shared)) (e : CheckEnd)
     → MarksFile disk s top 0 bits old new before after (Err e) → (IsTreeGrammar r.geometry t → IsFileGrammar s (held disk top)) → Passes Is (TellsOut r t) (Err e)
 mark_failed Is r t disk s top bits old new before after halts.NoMemory told grammar = tt
 mark_failed Is r t disk s top bits old new before after halts.Device told grammar = tt

@@ -24,10 +24,10 @@ use Rattle.checker.specs.declared.fault.TreeName.TheVariants as names
 use Rattle.checker.specs.declared.tree.Tree.{Tree}
 
 -- the trees of a root and of its first so many slots
-pub record AreTreesTo (r : Root) (n : ℕ) (trees : List Tree) (Known : Tree → Type 0) : Type 0 where
+pub record AreTreesTo (r : Root) (n : ℕ) (trees : List Tree) (NumberTable : Tree → Type 0) : Type 0 where
   pub first : (t : Tree) (rest : List Tree) → trees ≡ t ∷ rest → t.plane ≡ 0
   pub some : 1 ≤ length trees
-  pub each : (t : Tree) → Contains trees t → Known t × (t.plane ≤ n)
+  pub each : (t : Tree) → Contains trees t → NumberTable t × (t.plane ≤ n)
   pub all : (k : ℕ) → HasTree r k → k ≤ n → (t : Tree) × Contains trees t × (t.plane ≡ k)
   pub once : (i j : ℕ) (t q : Tree) → slice_get trees i ≡ Some t → slice_get trees j ≡ Some q → t.plane ≡ q.plane → i ≡ j
 
@@ -49,8 +49,8 @@ one_first : (xs : List Tree) (y t : Tree) (rest : List Tree) → ((q : Tree) (mo
 one_first [] y t rest first some is = absurd (omega (arith, some))
 one_first (x ∷ xs) y t rest first some is = let same : x ≡ t = cc in ap (λ (q : Tree). q.plane) (sym same) ∙ first x xs refl
 
-module _ (r : Root) (n : ℕ) (trees : List Tree) (Known : Tree → Type 0) (are : AreTreesTo r n trees Known) where
-  pub trees_skip : (HasTree r (n + 1) → ⊥) → AreTreesTo r (n + 1) trees Known
+module _ (r : Root) (n : ℕ) (trees : List Tree) (NumberTable : Tree → Type 0) (are : AreTreesTo r n trees NumberTable) where
+  pub trees_skip : (HasTree r (n + 1) → ⊥) → AreTreesTo r (n + 1) trees NumberTable
   trees_skip none = record {
     first = are.first;
     some = are.some;
@@ -63,7 +63,7 @@ module _ (r : Root) (n : ℕ) (trees : List Tree) (Known : Tree → Type 0) (are
   }
 
   -- one more
-  module _ (Now : Tree → Type 0) (more : List Tree) (t : Tree) (is : more ≡ trees ++ t ∷ []) (plane : t.plane ≡ n + 1) (known : Now t) (keeps : (q : Tree) → q.plane ≤ n → Known q → Now q) where
+  module _ (Now : Tree → Type 0) (more : List Tree) (t : Tree) (is : more ≡ trees ++ t ∷ []) (plane : t.plane ≡ n + 1) (known : Now t) (keeps : (q : Tree) → q.plane ≤ n → NumberTable q → Now q) where
     apart : (q : Tree) (i : ℕ) → slice_get trees i ≡ Some q → q.plane ≡ n + 1 → ⊥
     apart q i there same = omega (arith, (are.each q (get_contains trees q i there)).1, same)
 
@@ -95,13 +95,13 @@ module _ (r : Root) (n : ℕ) (trees : List Tree) (Known : Tree → Type 0) (are
     })
 
 -- the root's own
-pub trees_start : (r : Root) (Known : Tree → Type 0) (trees : List Tree) (t : Tree) → trees ≡ [] ++ t ∷ [] → t.plane ≡ 0 → Known t → AreTreesTo r 0 trees Known
-trees_start r Known trees t is plane known = subst (λ (xs : List Tree). AreTreesTo r 0 xs Known) (sym is) (record {
+pub trees_start : (r : Root) (NumberTable : Tree → Type 0) (trees : List Tree) (t : Tree) → trees ≡ [] ++ t ∷ [] → t.plane ≡ 0 → NumberTable t → AreTreesTo r 0 trees NumberTable
+trees_start r NumberTable trees t is plane known = subst (λ (xs : List Tree). AreTreesTo r 0 xs NumberTable) (sym is) (record {
   first = λ q rest same. let at : t ≡ q = cc in ap (λ (x : Tree). x.plane) (sym at) ∙ plane;
   some = omega arith;
   each = λ q there. elim (Contains-push_cases [] t q there) [
     | inl before ↦ absurd (omega (arith, before.1))
-    | inr last ↦ (subst Known last known, omega (arith, ap (λ (x : Tree). x.plane) last, plane))
+    | inr last ↦ (subst NumberTable last known, omega (arith, ap (λ (x : Tree). x.plane) last, plane))
   ];
   all = λ k has le. (t, Contains-push [] t, omega (arith, plane, le));
   once = λ i j p q one other same. omega (arith, slice_get_within (t ∷ []) i p one, slice_get_within (t ∷ []) j q other);
@@ -115,8 +115,8 @@ tree_lies r (suc k) has = elim (cases_lt k (length r.snapshots)) [
 ]
 
 -- all
-pub trees_end : (r : Root) (trees : List Tree) (Known : Tree → Type 0) (n : ℕ) → length r.snapshots ≤ n → AreTreesTo r n trees Known → AreTrees r trees Known
-trees_end r trees Known n most are = record {
+pub trees_end : (r : Root) (trees : List Tree) (NumberTable : Tree → Type 0) (n : ℕ) → length r.snapshots ≤ n → AreTreesTo r n trees NumberTable → AreTrees r trees NumberTable
+trees_end r trees NumberTable n most are = record {
   first = are.first;
   some = are.some;
   each = λ t there. (are.each t there).0;

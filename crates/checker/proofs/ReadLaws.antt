@@ -5,7 +5,7 @@ use Rattle.station.specs.Moments.{HasGrown, MayGrow}
 use Rattle.station.proofs.Moments.{grown_since, may_grow_twice}
 use Rattle.buffers.specs.Reads.{ReadsBlocks}
 use Rattle.buffers.specs.declared.blocks.Blocks.{Ghosts}
-use Rattle.checker.specs.Errors.{Looks}
+use Rattle.checker.specs.Errors.{ReadsForFaults}
 
 -- nothing was done but reading, and a call may have failed
 pub record HasLooked {B : Type 0} (G : Ghosts B) (old new : B) : Type 0 where
@@ -32,7 +32,7 @@ module _ {B : Type 0} {G : Ghosts B} where
   forgotten count failed reads same = record { count = count; grown = inl failed; reads = reads; same = same }
 
   -- a function that only looks
-  pub looked : {T E : Type 0} {F : E → Type 0} {a b : B} {r : Result T E} → Looks G F a b r → HasLooked G a b
+  pub looked : {T E : Type 0} {F : E → Type 0} {a b : B} {r : Result T E} → ReadsForFaults G F a b r → HasLooked G a b
   looked look = record { count = look.count; grown = look.grown; reads = look.reads; same = look.same }
 
   -- a function that only reads, by what is known of a count that reads change
@@ -45,11 +45,11 @@ module _ {B : Type 0} {G : Ghosts B} where
   looked_at {a = a} {b = b} nothing grows count reads same = record { count = count; grown = grows a b (reads a (nothing a)); reads = reads; same = same }
 
   -- an answer
-  pub looks_ok : {T E : Type 0} {F : E → Type 0} {a b : B} {y : T} → HasLooked G a b → Looks G F a b (Ok y)
+  pub looks_ok : {T E : Type 0} {F : E → Type 0} {a b : B} {y : T} → HasLooked G a b → ReadsForFaults G F a b (Ok y)
   looks_ok look = record { count = look.count; grown = look.grown; device = tt; reads = look.reads; same = look.same }
 
   -- an error: it says that a call failed where the last step's does
-  pub looks_err : {T E : Type 0} {F : E → Type 0} {a b c : B} {e : E} → HasLooked G a b → HasLooked G b c → (F e → HasGrown (G.failed b) (G.failed c)) → Looks {T = T} G F a c (Err e)
+  pub looks_err : {T E : Type 0} {F : E → Type 0} {a b c : B} {e : E} → HasLooked G a b → HasLooked G b c → (F e → HasGrown (G.failed b) (G.failed c)) → ReadsForFaults {T = T} G F a c (Err e)
   looks_err {a = a} {b = b} {c = c} first last device =
       let all = looked_more first last in
       record {
@@ -62,6 +62,6 @@ module _ {B : Type 0} {G : Ghosts B} where
 
   -- the same, where it is passed on
   pub looks_passed : {T E E' : Type 0} {F : E → Type 0} {F' : E' → Type 0} {a b c : B} {e : E'} (q : Result T E) → (conv : E' → E) → ((x : E') → F (conv x) → F' x) → IsErrAnd q (λ f. f ≡ conv e)
-      → HasLooked G a b → HasLooked G b c → (F' e → HasGrown (G.failed b) (G.failed c)) → Looks G F a c q
+      → HasLooked G a b → HasLooked G b c → (F' e → HasGrown (G.failed b) (G.failed c)) → ReadsForFaults G F a c q
   looks_passed (Ok y) conv same is first last device = absurd is
   looks_passed {F = F} {e = e} (Err f) conv same is first last device = looks_err first last (λ fault. device (same e (subst F is fault)))

@@ -29,7 +29,7 @@ use Rattle.images.specs.Nodes.{Held, file_block, held}
 use Rattle.images.specs.Roots.{HeldTree, whole}
 use Rattle.images.specs.Soundness.{IsFileGrammar, IsReadable}
 use Rattle.checker.specs.Checks.{Passes}
-use Rattle.checker.specs.Errors.{IsFault, IsHaltFault, halt}
+use Rattle.checker.specs.Errors.{IsFault, IsCheckEndFault, halt}
 use Rattle.checker.specs.Findings.{tree_in}
 use Rattle.checker.specs.Trees.{IsTreeOf}
 use Rattle.checker.specs.declared.tree.Tree.{Tree}
@@ -40,8 +40,8 @@ use Rattle.checker.specs.Names.{AreDirectories, AreWithin, IsFirst, IsTable, IsU
 use Rattle.checker.specs.Walks.{HasCountedRows, HasFile, IsToCount, LooksInto}
 use Rattle.checker.specs.declared.error.CheckError.{CheckError}
 use Rattle.checker.specs.declared.error.CheckError.TheVariants as check
-use Rattle.checker.specs.declared.error.Halt.{Halt}
-use Rattle.checker.specs.declared.error.Halt.TheVariants as halts
+use Rattle.checker.specs.declared.error.CheckEnd.{CheckEnd}
+use Rattle.checker.specs.declared.error.CheckEnd.TheVariants as halts
 use Rattle.checker.specs.declared.fault.Fault.{Fault}
 use Rattle.checker.specs.declared.names.NumberRow.{NumberRow}
 use Rattle.checker.proofs.NameLaws.{rows_all}
@@ -177,19 +177,19 @@ module _ (disk : Blocks) (r : Root) (tree : Tree) (n blocks : ℕ) (inode : Inod
 -- ---- what ends a part of a check
 
 module _ {T : Type 0} (Is Other : T → Type 0) (Found : Fault → Type 0) where
-  pub passes_then : (r : Result T Halt) → ((x : T) → Is x → Other x) → Passes Is Found r → Passes Other Found r
+  pub passes_then : (r : Result T CheckEnd) → ((x : T) → Is x → Other x) → Passes Is Found r → Passes Other Found r
   passes_then (Ok x) more told = more x told
   passes_then (Err halts.NoMemory) more told = tt
   passes_then (Err halts.Device) more told = tt
   passes_then (Err (halts.Fault fault)) more told = told
 
 -- where memory ran out or a device call failed, nothing is told
-pub passes_halt : {T : Type 0} (Is : T → Type 0) (Found : Fault → Type 0) (q : Result T Halt) (e : CheckError) → IsErrAnd q (λ h. h ≡ halt e) → Passes Is Found q
+pub passes_halt : {T : Type 0} (Is : T → Type 0) (Found : Fault → Type 0) (q : Result T CheckEnd) (e : CheckError) → IsErrAnd q (λ h. h ≡ halt e) → Passes Is Found q
 passes_halt Is Found (Ok x) e is = absurd is
-passes_halt Is Found (Err h) check.NoMemory is = subst (λ (k : Halt). Passes Is Found (Err k)) (sym is) tt
-passes_halt Is Found (Err h) check.Device is = subst (λ (k : Halt). Passes Is Found (Err k)) (sym is) tt
+passes_halt Is Found (Err h) check.NoMemory is = subst (λ (k : CheckEnd). Passes Is Found (Err k)) (sym is) tt
+passes_halt Is Found (Err h) check.Device is = subst (λ (k : CheckEnd). Passes Is Found (Err k)) (sym is) tt
 
-pub device_halt : (e : CheckError) → IsHaltFault (halt e) → IsFault e
+pub device_halt : (e : CheckError) → IsCheckEndFault (halt e) → IsFault e
 device_halt check.NoMemory is = cc
 device_halt check.Device is = refl
 

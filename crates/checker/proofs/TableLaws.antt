@@ -19,7 +19,7 @@ use Rattle.model.proofs.ListLaws.{get_pushed}
 use Rattle.images.specs.Faults.{IsTreeGrammar}
 use Rattle.images.specs.Nodes.{Held, file_block, held}
 use Rattle.images.specs.Roots.{inode_part, whole}
-use Rattle.checker.specs.Errors.{IsFault, Looks}
+use Rattle.checker.specs.Errors.{IsFault, ReadsForFaults}
 use Rattle.checker.specs.Findings.{tree_in}
 use Rattle.checker.specs.Tables.{ArePlaces, AreRowsAt, IsRowAt}
 use Rattle.checker.specs.Trees.{IsTreeOf}
@@ -107,6 +107,6 @@ row_is disk r tree places n row is grammar found some low at =
 -- ---- what ends a reading
 
 -- behind what was read, something that takes memory alone
-pub looks_pushed : {B T : Type 0} {G : Ghosts B} {a b : B} (r : Result T CheckError) → HasLooked G a b → (r ≡ Err check.Device → ⊥) → Looks G IsFault a b r
+pub looks_pushed : {B T : Type 0} {G : Ghosts B} {a b : B} (r : Result T CheckError) → HasLooked G a b → (r ≡ Err check.Device → ⊥) → ReadsForFaults G IsFault a b r
 looks_pushed (Ok x) look fine = looks_ok look
 looks_pushed (Err e) look fine = looks_failed look (λ is. absurd (fine (ap Err is)))

@@ -18,8 +18,8 @@ use Rattle.checker.specs.Findings.{HasTree, IsFinding, IsFindingUnder, tree_in}
 use Rattle.checker.specs.Trees.{IsApart}
 use Rattle.checker.specs.declared.error.CheckError.{CheckError}
 use Rattle.checker.specs.declared.error.CheckError.TheVariants.{Device}
-use Rattle.checker.specs.declared.error.Halt.{Halt}
-use Rattle.checker.specs.declared.error.Halt.TheVariants as halts
+use Rattle.checker.specs.declared.error.CheckEnd.{CheckEnd}
+use Rattle.checker.specs.declared.error.CheckEnd.TheVariants as halts
 use Rattle.checker.specs.declared.fault.Fault.{Fault}
 use Rattle.checker.specs.declared.fault.Finding.{Finding}
 use Rattle.checker.specs.declared.report.Report.{Report}
@@ -27,8 +27,9 @@ use Rattle.checker.specs.declared.report.Report.TheVariants.{Bad, Good}
 use Rattle.checker.specs.declared.report.Summary.{Summary}
 use Rattle.checker.specs.declared.tree.Tree.{Tree}
 
--- a part of a check passes, or a fault is found; nothing is said where memory ran out or a device call failed
-abbrev pub Passes : {T : Type 0} → (T → Type 0) → (Fault → Type 0) → Result T Halt → Type 0
+-- a part of a check passes, or a fault is found; nothing is said where memory ran out or a device
+-- call failed
+abbrev pub Passes : {T : Type 0} → (T → Type 0) → (Fault → Type 0) → Result T CheckEnd → Type 0
 Passes Is Found (Ok value) = Is value
 Passes Is Found (Err halts.NoMemory) = Unit {0}
 Passes Is Found (Err halts.Device) = Unit {0}
@@ -39,7 +40,8 @@ abbrev pub is_block : Pointer → Bool
 is_block Hole = false
 is_block (Block block) = true
 
--- the figures of an image without faults, under its newest root, of this volume and with these records over it
+-- the figures of an image without faults, under its newest root, of this volume and with these
+-- records over it
 pub record TellsSummary (r : Root) (w : Whole) (first : Volume) (changes : List Change) (s : Summary) : Type 0 where
   pub generation_is : s.generation ≡ r.generation
   pub snapshots_are : s.snapshots ≡ count_by is_block r.snapshots
@@ -76,8 +78,8 @@ pub record Settles {T : Type 0} (old new : Meaning) (result : Result T CheckErro
   pub device : IfErr result (λ e. e ≡ Device → HasFailed old new)
   pub settled : OnOk result (LeavesJust new old.seen)
 
--- what was found first, of trees that were looked at: whether none is out of its grammar or names a block twice, and none has a fault where
--- nothing was found
+-- what was found first, of trees that were looked at: whether none is out of its grammar or names a
+-- block twice, and none has a fault where nothing was found
 pub record TellsTrees (first : Option Finding) (trees : List Tree) (are_apart : Bool) : Type 0 where
   pub apart : IsTrue are_apart → (i : ℕ) (t : Tree) → slice_get trees i ≡ Some t → IsApart t.fault
   pub told : first ≡ None → (i : ℕ) (t : Tree) → slice_get trees i ≡ Some t → t.fault ≡ None
@@ -106,8 +108,8 @@ pub record IsFaultlessBy (r : Root) (w : Whole) (nvram : List ℕ) (s : Summary)
   pub under : IsFaultlessUnder r w nvram changes
   pub figures : TellsSummary r w under.log.first changes s
 
--- no fault stands in the trees of a root, whose files are no larger than its version allows, and in its block map, which can be read and
--- has so many free blocks
+-- no fault stands in the trees of a root, whose files are no larger than its version allows, and in
+-- its block map, which can be read and has so many free blocks
 pub record AreFaultless (r : Root) (w : Whole) (free : ℕ) : Type 0 where
   pub trees : (k : ℕ) → HasTree r k → IsFaultless r.geometry (tree_in w k)
   pub within : (k : ℕ) → HasTree r k → IsWithin r.version (tree_in w k)

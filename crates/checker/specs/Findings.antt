@@ -82,7 +82,8 @@ HasTree r (suc k) = (block : ℕ) × (slot r (suc k) ≡ Block block)
 abbrev pub name_bytes : SnapshotName → List ℕ
 name_bytes name = take name.length name.bytes
 
--- the tree of a name: that of a snapshot stands under the root block in the slot, which has this name
+-- the tree of a name: that of a snapshot stands under the root block in the slot, which has this
+-- name
 abbrev pub IsNamedTree : Root → Whole → TreeName → ℕ → Type 0
 IsNamedTree r w trees.Image k = ⊥
 IsNamedTree r w trees.Newest k = k ≡ 0
@@ -93,7 +94,8 @@ IsNamedTree r w (trees.Snapshot slot name) k =
 abbrev pub StandsIn : HeldTree → FileNode → ℕ → Type 0
 StandsIn t node block = (t node.number).place node.height node.index ≡ Block block
 
--- bits that a block's entry should have: those of the trees that name it, and of the system's own blocks
+-- bits that a block's entry should have: those of the trees that name it, and of the system's own
+-- blocks
 pub record ShouldHave (r : Root) (w : Whole) (block bits : ℕ) : Type 0 where
   pub active : HasBit 0 bits ↔ Reach w.active block
   pub frozen : (k : ℕ) → 1 ≤ k → k ≢ 31 → HasBit k bits ↔ Reach (w.frozen k) block
@@ -112,8 +114,8 @@ HasOneName Directory = Unit {0}
 HasOneName Link = Unit {0}
 HasOneName _ = ⊥
 
--- the numbers that are told with a fault of the directories are those of a directory, of nothing that may be named, and of an
--- object that has one name
+-- the numbers that are told with a fault of the directories are those of a directory, of nothing
+-- that may be named, and of an object that has one name
 abbrev pub TellsNumbers : HeldTree → DirectoryFault → Type 0
 TellsNumbers t (Entries d block) = (t d).inode.kind ≡ Directory
 TellsNumbers t (Repeated d) = (t d).inode.kind ≡ Directory
@@ -146,7 +148,8 @@ AreApart r w k l =
     (s q : Snapshot) → HasSnapshot r w k s → HasSnapshot r w l q
     → (s.name ≢ q.name) × (s.order ≢ q.order)
 
--- the block of a slot is no root of a snapshot that fits the root, or that of an earlier slot isn't apart from it
+-- the block of a slot is no root of a snapshot that fits the root, or that of an earlier slot isn't
+-- apart from it
 abbrev pub TellsSlotFault : Root → Whole → ℕ → SnapshotFault → Type 0
 TellsSlotFault r w k NoSnapshot = (s : Snapshot) → FitsRoot r (w.head k) s → ⊥
 TellsSlotFault r w k (SameAs l) = (l < k) × (AreApart r w l k → ⊥)

@@ -7,7 +7,7 @@ use Rattle.images.specs.Faults.{HasLog}
 use Rattle.images.specs.Roots.{Whole}
 use Rattle.checker.specs.Checks.{Passes}
 use Rattle.checker.specs.Findings.{IsFindingUnder}
-use Rattle.checker.specs.declared.error.Halt.{Halt}
+use Rattle.checker.specs.declared.error.CheckEnd.{CheckEnd}
 use Rattle.checker.specs.declared.fault.Fault.{Fault}
 use Rattle.checker.specs.declared.fault.Fault.TheVariants.{Log}
 use Rattle.checker.specs.declared.fault.LogFault.TheVariants.{Record}
@@ -26,6 +26,6 @@ pub record IsLogged (r : Root) (w : Whole) (nvram : List ℕ) (logged : Logged) 
   pub pledged_is : logged.pledged ≡ pledged_for r.geometry.inodes log.first changes
 
 -- so much is told of it, or that it has a fault
-abbrev pub TellsRecords : Root → Whole → List ℕ → Result Logged Halt → Type 0
+abbrev pub TellsRecords : Root → Whole → List ℕ → Result Logged CheckEnd → Type 0
 TellsRecords r w nvram result =
     Passes (IsLogged r w nvram) (IsFindingUnder r w nvram Image) result

@@ -2,8 +2,8 @@
 use Rattle.std.specs.Prelude.{ℕ, ◌≡◌, ◌≢◌, ◌+◌, ◌-◌, ◌*◌, ◌<◌, ◌==◌, if◌then◌else◌, min, List, slice_index}
 use Rattle.layout.specs.Maps.{map_entry}
 use Rattle.images.specs.Sums.{sum_below}
-use Rattle.checker.specs.declared.error.Halt.{Halt}
-use Rattle.checker.specs.declared.error.Halt.TheVariants as halts
+use Rattle.checker.specs.declared.error.CheckEnd.{CheckEnd}
+use Rattle.checker.specs.declared.error.CheckEnd.TheVariants as halts
 use Rattle.checker.specs.declared.fault.Fault.{Fault}
 use Rattle.checker.specs.declared.fault.Fault.TheVariants.{MapBit}
 
@@ -24,7 +24,7 @@ IsMapFault bytes blocks j marks fault =
     × (fault ≡ MapBit (1024 * j + i) (map_entry bytes i) (slice_index marks (1024 * j + i)))
 
 -- a part of a check ended by a fault
-abbrev pub IsFound : Halt → Type 0
+abbrev pub IsFound : CheckEnd → Type 0
 IsFound (halts.Fault fault) = Unit {0}
 IsFound halts.NoMemory = ⊥
 IsFound halts.Device = ⊥

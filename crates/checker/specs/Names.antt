@@ -32,7 +32,8 @@ pub record IsUsed (s : Sizes) (t : HeldTree) (x : Name) (n : ℕ) : Type 0 where
 abbrev pub IsFirst : List ℕ → ℕ → ℕ → Type 0
 IsFirst found count n = (i : ℕ) × (i < count) × (slice_get found i ≡ Some n)
 
--- These names are counted, all of them of the first so many directories that were found; and these are all that the names lead to.
+-- These names are counted, all of them of the first so many directories that were found; and these
+-- are all that the names lead to.
 pub record IsCounted (s : Sizes) (t : HeldTree) (e : Entries) (count : ℕ) (found : List ℕ) (table : List NumberRow) : Type 0 where
   pub rows : IsTable s t table
   pub from : (d n : ℕ) (x : Name) → e d x ≡ Some n → IsFirst found count d
@@ -45,11 +46,13 @@ pub record IsCounted (s : Sizes) (t : HeldTree) (e : Entries) (count : ℕ) (fou
   pub reached : (n : ℕ) → IsFirst found (length found) n
       → ((t n).inode.kind ≡ Directory) × ((p : Path) × (number_at e p ≡ Some n))
 
--- the first so many directories that were found can be read, and have these names, each of them all that its blocks give it
+-- the first so many directories that were found can be read, and have these names, each of them all
+-- that its blocks give it
 abbrev pub AreDirectories : Sizes → HeldTree → Entries → ℕ → List ℕ → Type 0
 AreDirectories s t e count found = (d : ℕ) → IsFirst found count d → IsReadable (t d) × IsDirectoryOf s.inodes (content_of (t d)) (e d)
 
--- What is known of a tree when the first so many directories that were found were looked into: these are their names.
+-- What is known of a tree when the first so many directories that were found were looked into:
+-- these are their names.
 pub record IsWalked (s : Sizes) (t : HeldTree) (e : Entries) (count : ℕ) (found : List ℕ) (table : List NumberRow) : Type 0 where
   pub counted : IsCounted s t e count found table
   pub names : AreDirectories s t e count found

@@ -9,8 +9,8 @@ use Rattle.blocktree.specs.Names.{nodes_at}
 use Rattle.images.specs.BlockMap.{HasBit}
 use Rattle.images.specs.Soundness.{IsFileGrammar}
 use Rattle.images.specs.Nodes.{Held, held}
-use Rattle.checker.specs.declared.error.Halt.{Halt}
-use Rattle.checker.specs.declared.error.Halt.TheVariants as halts
+use Rattle.checker.specs.declared.error.CheckEnd.{CheckEnd}
+use Rattle.checker.specs.declared.error.CheckEnd.TheVariants as halts
 use Rattle.checker.specs.declared.fault.Fault.TheVariants as faults
 use Rattle.checker.specs.declared.fault.FileNode.{FileNode}
 use Rattle.checker.specs.declared.fault.TreeFault.{TreeFault}
@@ -32,8 +32,8 @@ IsAt node m i = (m ≡ node.height) × (i ≡ node.index)
 abbrev pub IsAny : ℕ → ℕ → Type 0
 IsAny m i = Unit {0}
 
--- The nodes of a file that are told by S were marked for tree k, from these marks to those: none of their blocks was marked for it before,
--- and none has two of them.
+-- The nodes of a file that are told by S were marked for tree k, from these marks to those: none of
+-- their blocks was marked for it before, and none has two of them.
 pub record MarksNodes (h : Held) (S : ℕ → ℕ → Type 0) (k : ℕ) (old new : List ℕ) : Type 0 where
   pub marks : (b : ℕ) → HasBit k (slice_index new b)
       ↔ (HasBit k (slice_index old b) ⊎ ((m : ℕ) × (i : ℕ) × S m i × (h.place m i ≡ Block b)))
@@ -59,7 +59,8 @@ KeepsShared before after =
 pub record LooksUnder (h : Held) (S : ℕ → ℕ → Type 0) (k number : ℕ) (old new : List ℕ) (before after : List (Option Shared)) : Type 0 where
   -- where it names nothing twice, its blocks are marked
   pub marked : SharesNone after k → MarksNodes h S k old new
-  -- where it does now, and didn't before, one block is: by the node that is told, and by a node before it
+  -- where it does now, and didn't before, one block is: by the node that is told, and by a node
+  -- before it
   pub shared : SharesNone before k → (s : Shared) → slice_index_or after k None ≡ Some s
       → (s.second.number ≡ number) × S s.second.height s.second.index
       × (h.place s.second.height s.second.index ≡ Block s.block)
@@ -77,8 +78,9 @@ pub record KeepsMarks (bits : ℕ) (old new : List ℕ) (before after : List (Op
   pub others : (k : ℕ) → (HasBit k bits → ⊥) → StaysFor k old new before after
   pub kept : KeepsShared before after
 
--- the file of an inode was looked through: what it names is marked, and each indirect block is in its grammar; or one isn't
-abbrev pub MarksFile : Blocks → Sizes → Inode → ℕ → ℕ → List ℕ → List ℕ → List (Option Shared) → List (Option Shared) → Result (Unit {0}) Halt → Type 0
+-- the file of an inode was looked through: what it names is marked, and each indirect block is in
+-- its grammar; or one isn't
+abbrev pub MarksFile : Blocks → Sizes → Inode → ℕ → ℕ → List ℕ → List ℕ → List (Option Shared) → List (Option Shared) → Result (Unit {0}) CheckEnd → Type 0
 MarksFile disk s inode number bits old new before after (Ok done) =
     MarksFor (held disk inode) IsAny number bits old new before after × IsFileGrammar s (held disk inode)
 MarksFile disk s inode number bits old new before after (Err halts.NoMemory) = Unit {0}
@@ -98,7 +100,7 @@ AreIndirect blocks disk h count S =
     → IsIndirectBlock blocks (nodes_at count m - 1024 * i) (disk b)
 
 -- the nodes of a file of so many blocks that are told by S were looked at
-abbrev pub MarksThese : ℕ → Blocks → Held → (ℕ → ℕ → Type 0) → ℕ → ℕ → ℕ → List ℕ → List ℕ → List (Option Shared) → List (Option Shared) → Result (Unit {0}) Halt → Type 0
+abbrev pub MarksThese : ℕ → Blocks → Held → (ℕ → ℕ → Type 0) → ℕ → ℕ → ℕ → List ℕ → List ℕ → List (Option Shared) → List (Option Shared) → Result (Unit {0}) CheckEnd → Type 0
 MarksThese blocks disk h S number count bits old new before after (Ok done) =
     MarksFor h S number bits old new before after × AreIndirect blocks disk h count S
 MarksThese blocks disk h S number count bits old new before after (Err halts.NoMemory) = Unit {0}

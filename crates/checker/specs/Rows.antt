@@ -56,7 +56,8 @@ pub record MarksTrees (old new : List Tree) (marks more : List ℕ) (before afte
 abbrev pub AreAllBelow : ℕ → List PlaceMap → Type 0
 AreAllBelow blocks places = (l : ℕ) (p : PlaceMap) → slice_get places l ≡ Some p → AreBelow blocks p
 
--- they are those of the blocks of the trees' inode files, where the indirect blocks over these are in their grammar
+-- they are those of the blocks of the trees' inode files, where the indirect blocks over these are
+-- in their grammar
 abbrev pub ArePlacesOfTrees : ℕ → Blocks → List Tree → List PlaceMap → Type 0
 ArePlacesOfTrees blocks disk trees places =
     (l : ℕ) (t : Tree) (p : PlaceMap) → slice_get trees l ≡ Some t → slice_get places l ≡ Some p
@@ -125,7 +126,8 @@ ComparesBits number kind bits old new =
     ⊎ (HasBit t.plane bits × (IsMappedAs number kind t.numbers.items → ⊥) × ((taken : Bool)
     × (IsTrue taken ↔ IsTaken t.numbers.items number) × (q.fault ≡ Some (first_fault t.fault (InodeMap number taken)))))
 
--- of the trees of these bits, whose inode files have these bytes at a number, what was known before is known after it
+-- of the trees of these bits, whose inode files have these bytes at a number, what was known before
+-- is known after it
 abbrev pub SeesInode : Blocks → Root → ℕ → List ℕ → ℕ → (Tree → Type 0) → (Tree → Type 0) → List Tree → List Tree → Type 0
 SeesInode disk r bits bytes number Before After old new =
     (l : ℕ) (t q : Tree) → slice_get old l ≡ Some t → slice_get new l ≡ Some q → HasBit t.plane bits

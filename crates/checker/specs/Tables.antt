@@ -13,7 +13,7 @@ use Rattle.blocktree.specs.declared.place_map.PlaceMap.{PlaceMap}
 use Rattle.blocktree.specs.declared.tree.BlockTree.{BlockTree}
 use Rattle.images.specs.Roots.{inode_part}
 use Rattle.checker.specs.declared.names.NumberRow.{NumberRow}
-use Rattle.checker.specs.declared.table.Known.{Known}
+use Rattle.checker.specs.declared.table.NumberTable.{NumberTable}
 
 -- where an inode of a number stands at these places, a row has what it has, and no name yet
 pub record IsRowAt (disk : Blocks) (places : PlaceMap) (n : ℕ) (row : NumberRow) : Type 0 where
@@ -27,7 +27,7 @@ abbrev pub AreRowsAt : Blocks → PlaceMap → List NumberRow → Type 0
 AreRowsAt disk places rows = (n : ℕ) (row : NumberRow) → slice_get rows n ≡ Some row → IsRowAt disk places n row
 
 -- rows that are known are those of their places
-abbrev pub IsKnown : Blocks → Option Known → Type 0
+abbrev pub IsKnown : Blocks → Option NumberTable → Type 0
 IsKnown disk None = Unit {0}
 IsKnown disk (Some known) = AreRowsAt disk known.places known.rows.items
 

@@ -35,7 +35,8 @@ use Rattle.checker.specs.declared.fault.TreeName.TheVariants.{Image}
 use Rattle.checker.specs.declared.fault.Fault.TheVariants as faults
 use Rattle.checker.specs.declared.tree.Tree.{Tree}
 
--- what memory has of a tree of a root: its number, its name, the inode of its inode file, and that file
+-- what memory has of a tree of a root: its number, its name, the inode of its inode file, and that
+-- file
 pub record IsTreeOf (disk : Blocks) (r : Root) (t : Tree) : Type 0 where
   pub has : HasTree r t.plane
   pub named : IsNamedTree r (whole disk r) t.name t.plane
@@ -85,7 +86,8 @@ IsOut None = ⊥
 IsOut (Some (faults.Tree found)) = Unit {0}
 IsOut (Some fault) = ⊥
 
--- the maps of a tree are in their grammar, and these are the bytes of its inode map, where their files are in theirs
+-- the maps of a tree are in their grammar, and these are the bytes of its inode map, where their
+-- files are in theirs
 pub record HasMaps (s : Sizes) (t : HeldTree) (numbers : List ℕ) : Type 0 where
   pub inode_map : IsFileGrammar s (t 1) → IsMapGrammar (t 1)
   pub block_map : IsFileGrammar s (t 2) → IsMapGrammar (t 2)
@@ -93,12 +95,14 @@ pub record HasMaps (s : Sizes) (t : HeldTree) (numbers : List ℕ) : Type 0 wher
   pub bytes_are : IsFileGrammar s (t 1) → numbers ≡ content_bytes (content_of (t 1))
   pub within : MapsWithin s.inodes numbers
 
--- a number was looked at, where so many places of the inode files were: number 0 stands for the inode file, which comes first
+-- a number was looked at, where so many places of the inode files were: number 0 stands for the
+-- inode file, which comes first
 abbrev pub IsBefore : ℕ → ℕ → Type 0
 IsBefore places m = (m ≡ 0) ⊎ (m < places)
 
--- the first so many places of a tree's inode file are inodes in their grammar, with the indirect blocks over their files, and these are
--- no larger than a version allows; behind those of the first so many of its blocks zeros stand
+-- the first so many places of a tree's inode file are inodes in their grammar, with the indirect
+-- blocks over their files, and these are no larger than a version allows; behind those of the first
+-- so many of its blocks zeros stand
 pub record HasInodes (version : ℕ) (s : Sizes) (t : HeldTree) (blocks places : ℕ) : Type 0 where
   pub files : (m : ℕ) → IsBefore places m → IsFileGrammar s (t m)
   pub within : (m : ℕ) → IsBefore places m → (t m).inode.size ≤ greatest_size version
@@ -107,7 +111,8 @@ pub record HasInodes (version : ℕ) (s : Sizes) (t : HeldTree) (blocks places :
       → drop (INODE_BYTES * INODES_PER_BLOCK) (file_block (t 0) i)
       ≡ zeros (BLOCK_BYTES - INODE_BYTES * INODES_PER_BLOCK)
 
--- no block is named twice by the files that were looked at, and those that they name are marked for tree k
+-- no block is named twice by the files that were looked at, and those that they name are marked for
+-- tree k
 pub record HasMarked (t : HeldTree) (places k : ℕ) (marks : List ℕ) : Type 0 where
   pub each : (m : ℕ) → IsBefore places m → IsOnce (t m)
   pub apart : (m l b : ℕ) → IsBefore places m → IsBefore places l
@@ -119,7 +124,8 @@ abbrev pub AreMapped : HeldTree → List ℕ → ℕ → Type 0
 AreMapped t numbers places =
     (m : ℕ) → m < places → IsTaken numbers m ↔ ((m < FIRST_NUMBER) ⊎ ((t m).inode.kind ≡ Free → ⊥))
 
--- What is known of a tree when so many blocks of the inode files, and so many places, were looked at.
+-- What is known of a tree when so many blocks of the inode files, and so many places, were looked
+-- at.
 pub record IsSeenTo (disk : Blocks) (r : Root) (blocks places : ℕ) (marks : List ℕ) (shared : List (Option Shared)) (t : Tree) : Type 0 where
   pub tree : IsTreeOf disk r t
   pub fault : HasFaultOrNone disk r t
@@ -131,11 +137,12 @@ pub record IsSeenTo (disk : Blocks) (r : Root) (blocks places : ℕ) (marks : Li
       → SharesBlock (tree_in (whole disk r) t.plane) s
   pub mapped : t.fault ≡ None → AreMapped (tree_in (whole disk r) t.plane) t.numbers.items places
 
--- these are the trees of a root, each once, its own before those of its snapshots, and so much is known of each
-pub record AreTrees (r : Root) (trees : List Tree) (Known : Tree → Type 0) : Type 0 where
+-- these are the trees of a root, each once, its own before those of its snapshots, and so much is
+-- known of each
+pub record AreTrees (r : Root) (trees : List Tree) (NumberTable : Tree → Type 0) : Type 0 where
   pub first : (t : Tree) (rest : List Tree) → trees ≡ t ∷ rest → t.plane ≡ 0
   pub some : 1 ≤ length trees
-  pub each : (t : Tree) → Contains trees t → Known t
+  pub each : (t : Tree) → Contains trees t → NumberTable t
   pub all : (k : ℕ) → HasTree r k → (t : Tree) × Contains trees t × (t.plane ≡ k)
   pub once : (i j : ℕ) (t q : Tree) → slice_get trees i ≡ Some t → slice_get trees j ≡ Some q
       → t.plane ≡ q.plane → i ≡ j
@@ -146,7 +153,8 @@ IsApart (Some (faults.Tree found)) = ⊥
 IsApart (Some (faults.Shared block first second)) = ⊥
 IsApart fault = Unit {0}
 
--- all numbers of a tree were looked at, and what it names twice is told: what is left are its directories, links and the block map
+-- all numbers of a tree were looked at, and what it names twice is told: what is left are its
+-- directories, links and the block map
 pub record IsSeen (disk : Blocks) (r : Root) (marks : List ℕ) (t : Tree) : Type 0 where
   pub tree : IsTreeOf disk r t
   pub fault : HasFaultOrNone disk r t
@@ -160,7 +168,8 @@ pub record IsSeen (disk : Blocks) (r : Root) (marks : List ℕ) (t : Tree) : Typ
 abbrev pub HasEnded : Blocks → Root → List ℕ → Tree → Type 0
 HasEnded disk r marks t = IsSeen disk r marks t × (t.fault ≡ None → IsFaultless r.geometry (tree_in (whole disk r) t.plane))
 
--- what a slot of a root was found to hold: a snapshot's root block in its grammar, of no name and order of one in a slot before it; or a fault
+-- what a slot of a root was found to hold: a snapshot's root block in its grammar, of no name and
+-- order of one in a slot before it; or a fault
 abbrev pub TellsSlot : Blocks → Root → ℕ → Option Fault → Type 0
 TellsSlot disk r k None =
     IsSnapshotAt r.geometry r.generation disk (slice_index_or r.snapshots k Hole)

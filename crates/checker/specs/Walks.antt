@@ -17,14 +17,14 @@ use Rattle.checker.specs.Names.{AreWithin, IsCounted, IsFirst, AreDirectories}
 use Rattle.checker.specs.declared.names.NumberRow.{NumberRow}
 
 -- how many numbers have no name yet
-abbrev pub nameless : List NumberRow → ℕ
-nameless table = sum_by (λ row. if row.names == 0 then 1 else 0) table
+abbrev pub unnamed_rows : List NumberRow → ℕ
+unnamed_rows table = sum_by (λ row. if row.names == 0 then 1 else 0) table
 
 -- a table of as many numbers, and more that are found: each that is found has a name more
 pub record GoesOn (table : List NumberRow) (found : List ℕ) (later : List NumberRow) (more : List ℕ) : Type 0 where
   pub length_is : length later ≡ length table
   pub keeps : (i n : ℕ) → slice_get found i ≡ Some n → slice_get more i ≡ Some n
-  pub fewer : nameless later + length more ≤ nameless table + length found
+  pub fewer : unnamed_rows later + length more ≤ unnamed_rows table + length found
   pub within : AreWithin (length table) found → AreWithin (length table) more
 
 -- a file in memory has the bytes of a held one, and is in its grammar, where that can be read
@@ -33,7 +33,8 @@ pub record HasFile (blocks : ℕ) (disk : Blocks) (file : File) (h : Held) : Typ
   pub block_is : (i : ℕ) → files.file_block disk file i ≡ file_block h i
   pub sound : IsReadable h → (i : ℕ) → IsSoundAt blocks disk file.tree i
 
--- What is known on the way: these names are counted, no directory is found twice, and whatever graph the tree holds has these names.
+-- What is known on the way: these names are counted, no directory is found twice, and whatever
+-- graph the tree holds has these names.
 pub record IsOnWay (s : Sizes) (t : HeldTree) (e : Entries) (count : ℕ) (found : List ℕ) (table : List NumberRow) : Type 0 where
   pub counted : IsCounted s t e count found table
   pub distinct : (i j n : ℕ) → slice_get found i ≡ Some n → slice_get found j ≡ Some n → i ≡ j

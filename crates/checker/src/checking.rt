@@ -18,14 +18,14 @@ ghost use Rattle.images.specs.Snapshots.{AreSnapshots};
 ghost use Rattle.images.specs.States.{Opens};
 ghost use Rattle.loading.specs.Slots.{FitsStation};
 ghost use Rattle.checker.specs.Checks.{AreFaultless, AreFindings, HasFailed, IsFaultlessBy, IsGood, Reports, Settles, TellsTrees, found_in, report_of};
-ghost use Rattle.checker.specs.Errors.{IsFault, Looks};
+ghost use Rattle.checker.specs.Errors.{IsFault, ReadsForFaults};
 ghost use Rattle.checker.specs.Findings.{IsFinding, IsFindingUnder, IsFirstTold};
 ghost use Rattle.checker.specs.Rows.{AreSeenTo, KeepsTrees};
 ghost use Rattle.checker.specs.Tables.{IsKnown};
 ghost use Rattle.checker.specs.Trees.{AreTrees, HasEnded, IsRootOf, IsSeenTo};
 ghost use Rattle.checker.specs.Watches.{KeepsTelling};
 
-use crate::error::{Halt, fault_of};
+use crate::error::{CheckEnd, fault_of};
 use crate::findings::Findings;
 use crate::log::{Logged, check_log};
 use crate::map::{compare_map, mark_system};
@@ -35,10 +35,12 @@ use crate::nodes::{PLANES, SharedBlocks};
 use crate::numbers::check_numbers;
 use crate::owners::first_owner;
 use crate::snapshots::{count_snapshots, fault_in_slot};
-use crate::table::Known;
+use crate::table::NumberTable;
 use crate::tree::Tree;
 use crate::trees::open_trees;
-use crate::{CheckError, Fault, Finding, LetsGo, Report, RootsFault, Summary, TreeName, Watch};
+use crate::{
+    CheckError, Fault, Finding, Report, RootsFault, Summary, TreeName, UncachedReads, Watch,
+};
 use buffers::Buffers;
 use images::{
     blocks_are_where_pointers_lead, files_hold_one_volume, images_that_open_have_no_fault,
@@ -51,10 +53,12 @@ use model::fixed_cost;
 use station::Station;
 use std::alloc::Global;
 
-/// Looks for faults in the image of a station. It settles what reads give, and writes nothing. `Good` says that none of the nine faults
-/// stands in the image, with its figures; `Bad` tells one that does, and comes for no image that opens to a state. It is the first of those
-/// that were told to the watch, of which there are none behind `Good`. Err comes for want of memory and where a device call failed. No data of files and no link's text is read, but a block
-/// into a part of which a record of the log writes: whether others can be read isn't known of a good image.
+/// Looks for faults in the image of a station. It makes durable what reads give, and writes
+/// nothing. `Good` says that none of the nine faults stands in the image, with its figures; `Bad`
+/// tells one that does, and comes for no image that opens to a state. It is the first of those that
+/// were told to the watch, of which there are none behind `Good`. Err comes for want of memory and
+/// where a device call failed. No data of files and no link's text is read, but a block into a part
+/// of which a record of the log writes: whether others can be read isn't known of a good image.
 pub fn check<S: Station, W: Watch>(
     alloc: Global,
     mut station: S,
@@ -104,8 +108,8 @@ fn report(first: Option<Finding>, summary: Option<Summary>) -> Report
     }
 }
 
-/// Settles what reads give: a cut may have left writes that a later one could take back.
-fn settle<S: Station>(station: &mut S) -> Result<(), CheckError>
+/// Makes durable what reads give: a cut may have left writes that a later one could take back.
+fn make_durable<S: Station>(station: &mut S) -> Result<(), CheckError>
     ensures { Settles (S.meaning station.old) (S.meaning station.new) result }
 {
     let Ok(()) = station.sync() else {
@@ -114,7 +118,7 @@ fn settle<S: Station>(station: &mut S) -> Result<(), CheckError>
     Ok(())
 }
 
-/// Settles what reads give, and finds the newest root; None where the roots have a fault.
+/// Makes durable what reads give, and finds the newest root; None where the roots have a fault.
 fn find_root<S: Station, W: Watch>(
     station: &mut S,
     findings: &mut Findings<'_, W>,
@@ -133,7 +137,7 @@ fn find_root<S: Station, W: Watch>(
         (IsFinding (S.meaning station.old).sectors (S.meaning station.old).seen.disk
         (S.meaning station.old).seen.nvram)) }
 {
-    settle(station)?;
+    make_durable(station)?;
     match newest_root(station) {
         Ok(newest) => Ok(Some(newest.root)),
         Err(RootError::Device) => Err(CheckError::Device),
@@ -189,16 +193,17 @@ fn check_image<S: Station, W: Watch>(
             has_reserve: has_reserve(&logged, root.geometry.blocks(), free),
         })),
         Ok(_) => Ok(None),
-        Err(Halt::Fault(fault)) => {
+        Err(CheckEnd::Fault(fault)) => {
             findings.find(TreeName::Image, fault);
             Ok(None)
         }
-        Err(Halt::NoMemory) => Err(CheckError::NoMemory),
-        Err(Halt::Device) => Err(CheckError::Device),
+        Err(CheckEnd::NoMemory) => Err(CheckError::NoMemory),
+        Err(CheckEnd::Device) => Err(CheckError::Device),
     }
 }
 
-/// Whether so many free blocks are as many as the next consistency point may store: for what the log has, and whatever changed.
+/// Whether so many free blocks are as many as the next consistency point may store: for what the
+/// log has, and whatever changed.
 fn has_reserve(logged: &Logged, blocks: u32, free: u32) -> bool
     ensures { IsTrue result ↔ (logged.now.pledged + fixed_of blocks ≤ free) }
 {
@@ -208,14 +213,14 @@ fn has_reserve(logged: &Logged, blocks: u32, free: u32) -> bool
 }
 
 /// Tests the snapshots' root blocks.
-fn check_snapshots<B: LetsGo, W: Watch>(
+fn check_snapshots<B: UncachedReads, W: Watch>(
     blocks: &mut B,
     root: &Root,
     findings: &mut Findings<'_, W>,
 ) -> Result<(), CheckError>
     requires root { IsRoot root.now }
     requires size { B.count blocks.old ≡ root.now.geometry.blocks }
-    ensures reads { Looks B.Blocks IsFault blocks.old blocks.new result }
+    ensures reads { ReadsForFaults B.Blocks IsFault blocks.old blocks.new result }
     ensures found { (disk : ℕ → List ℕ) (nvram : List ℕ) → B.Shows blocks.old disk
         → AreFindings root.now (whole disk root.now) nvram findings.old.first
         → OnOk result (AreFindings root.now (whole disk root.now) nvram findings.new.first) }
@@ -232,8 +237,9 @@ fn check_snapshots<B: LetsGo, W: Watch>(
     Ok(())
 }
 
-/// Looks for faults in each tree, and in the block map. It tells whether the newest root's tree has none, and how many blocks are free.
-fn check_trees<B: LetsGo, W: Watch>(
+/// Looks for faults in each tree, and in the block map. It tells whether the newest root's tree has
+/// none, and how many blocks are free.
+fn check_trees<B: UncachedReads, W: Watch>(
     alloc: Global,
     blocks: &mut B,
     root: &Root,
@@ -241,7 +247,7 @@ fn check_trees<B: LetsGo, W: Watch>(
 ) -> Result<(bool, u32), CheckError>
     requires root { IsRoot root.now }
     requires size { B.count blocks.old ≡ root.now.geometry.blocks }
-    ensures reads { Looks B.Blocks IsFault blocks.old blocks.new result }
+    ensures reads { ReadsForFaults B.Blocks IsFault blocks.old blocks.new result }
     ensures found { (disk : ℕ → List ℕ) (nvram : List ℕ) → B.Shows blocks.old disk
         → AreSnapshots root.now (whole disk root.now)
         → AreFindings root.now (whole disk root.now) nvram findings.old.first
@@ -270,18 +276,18 @@ fn check_trees<B: LetsGo, W: Watch>(
     }
     match compare_map(alloc, blocks, geometry, &trees[0], &marks) {
         Ok(free) => Ok((is_faultless, free)),
-        Err(Halt::Fault(fault)) => {
+        Err(CheckEnd::Fault(fault)) => {
             findings.find(TreeName::Image, fault);
             Ok((is_faultless, 0))
         }
-        Err(Halt::NoMemory) => Err(CheckError::NoMemory),
-        Err(Halt::Device) => Err(CheckError::Device),
+        Err(CheckEnd::NoMemory) => Err(CheckError::NoMemory),
+        Err(CheckEnd::Device) => Err(CheckError::Device),
     }
 }
 
-/// Looks for the faults of each tree that its inodes alone don't tell, and tells all that were found. It tells whether each tree is in its
-/// grammar and names no block twice.
-fn check_each<B: LetsGo, W: Watch>(
+/// Looks for the faults of each tree that its inodes alone don't tell, and tells all that were
+/// found. It tells whether each tree is in its grammar and names no block twice.
+fn check_each<B: UncachedReads, W: Watch>(
     alloc: Global,
     blocks: &mut B,
     geometry: Geometry,
@@ -289,7 +295,7 @@ fn check_each<B: LetsGo, W: Watch>(
     shared: &SharedBlocks,
     findings: &mut Findings<'_, W>,
 ) -> Result<bool, CheckError>
-    ensures reads { Looks B.Blocks IsFault blocks.old blocks.new result }
+    ensures reads { ReadsForFaults B.Blocks IsFault blocks.old blocks.new result }
     ensures trees { OnOk result (KeepsTrees trees.old.items trees.new.items) }
     ensures found { (disk : ℕ → List ℕ) (r : Root) (marks nvram : List ℕ) → B.Shows blocks.old disk
         → IsRootOf r geometry (B.count blocks.old)
@@ -320,15 +326,15 @@ fn check_each<B: LetsGo, W: Watch>(
 }
 
 /// Looks for the faults of a tree that its inodes alone don't tell.
-fn check_tree<B: LetsGo>(
+fn check_tree<B: UncachedReads>(
     alloc: Global,
     blocks: &mut B,
     geometry: Geometry,
     tree: &mut Tree,
     shared: &SharedBlocks,
-    known: &mut Option<Known>,
+    known: &mut Option<NumberTable>,
 ) -> Result<(), CheckError>
-    ensures reads { Looks B.Blocks IsFault blocks.old blocks.new result }
+    ensures reads { ReadsForFaults B.Blocks IsFault blocks.old blocks.new result }
     ensures known { (disk : ℕ → List ℕ) → B.Shows blocks.old disk
         → IsKnown disk known.old → IsKnown disk known.new }
     ensures same { record tree.old { fault = tree.new.fault } ≡ tree.new }

@@ -1,7 +1,7 @@
 //! Why an image isn't checked to its end.
 
 use crate::Fault;
-use blocktree::ReadError;
+use buffers::BlockError;
 use std::alloc::{AllocError, AllocFailed};
 use thiserror::Error;
 
@@ -17,7 +17,7 @@ pub enum CheckError {
 
 /// Why a part of a check ends: there is no report, or a fault is found.
 #[derive(Clone, Copy, Debug)]
-pub(crate) enum Halt {
+pub(crate) enum CheckEnd {
     NoMemory,
     Device,
     Fault(Fault),
@@ -45,63 +45,63 @@ impl<T: Drop> From<AllocFailed<T>> for CheckError {
     }
 }
 
-impl From<AllocError> for Halt {
+impl From<AllocError> for CheckEnd {
     ghost use Rattle.std.specs.Prelude.{◌≡◌};
-    ghost use Rattle.checker.specs.declared.error.Halt.TheVariants.{NoMemory};
+    ghost use Rattle.checker.specs.declared.error.CheckEnd.TheVariants.{NoMemory};
 
     ghost from_gives = { λ _ e. e ≡ NoMemory };
 
-    fn from(_: AllocError) -> Halt {
-        Halt::NoMemory
+    fn from(_: AllocError) -> CheckEnd {
+        CheckEnd::NoMemory
     }
 }
 
-impl<T: Drop> From<AllocFailed<T>> for Halt {
+impl<T: Drop> From<AllocFailed<T>> for CheckEnd {
     ghost use Rattle.std.specs.Prelude.{◌≡◌};
-    ghost use Rattle.checker.specs.declared.error.Halt.TheVariants.{NoMemory};
+    ghost use Rattle.checker.specs.declared.error.CheckEnd.TheVariants.{NoMemory};
 
     ghost from_gives = { λ _ e. e ≡ NoMemory };
 
-    fn from(_: AllocFailed<T>) -> Halt {
-        Halt::NoMemory
+    fn from(_: AllocFailed<T>) -> CheckEnd {
+        CheckEnd::NoMemory
     }
 }
 
-impl From<CheckError> for Halt {
+impl From<CheckError> for CheckEnd {
     ghost use Rattle.std.specs.Prelude.{◌≡◌};
     ghost use Rattle.checker.specs.Errors.{halt};
 
     ghost from_gives = { λ c e. e ≡ halt c };
 
-    fn from(error: CheckError) -> Halt {
+    fn from(error: CheckError) -> CheckEnd {
         match error {
-            CheckError::NoMemory => Halt::NoMemory,
-            CheckError::Device => Halt::Device,
+            CheckError::NoMemory => CheckEnd::NoMemory,
+            CheckError::Device => CheckEnd::Device,
         }
     }
 }
 
 /// What was read, where a block outside its grammar is this fault.
-pub(crate) fn or_fault<T>(read: Result<T, ReadError>, fault: Fault) -> Result<T, Halt>
+pub(crate) fn or_fault<T>(read: Result<T, BlockError>, fault: Fault) -> Result<T, CheckEnd>
     ensures { OrFault fault read result }
 {
     match read {
         Ok(value) => Ok(value),
-        Err(ReadError::NoMemory) => Err(Halt::NoMemory),
-        Err(ReadError::Device) => Err(Halt::Device),
-        Err(ReadError::Damaged) => Err(Halt::Fault(fault)),
+        Err(BlockError::NoMemory) => Err(CheckEnd::NoMemory),
+        Err(BlockError::Device) => Err(CheckEnd::Device),
+        Err(BlockError::Damaged) => Err(CheckEnd::Fault(fault)),
     }
 }
 
 /// What a part of a check comes to: a fault, or none.
-pub(crate) fn fault_of(done: Result<(), Halt>) -> Result<Option<Fault>, CheckError>
+pub(crate) fn fault_of(done: Result<(), CheckEnd>) -> Result<Option<Fault>, CheckError>
     ensures { TellsFault done result }
 {
     match done {
         Ok(()) => Ok(None),
-        Err(Halt::NoMemory) => Err(CheckError::NoMemory),
-        Err(Halt::Device) => Err(CheckError::Device),
-        Err(Halt::Fault(fault)) => Ok(Some(fault)),
+        Err(CheckEnd::NoMemory) => Err(CheckError::NoMemory),
+        Err(CheckEnd::Device) => Err(CheckError::Device),
+        Err(CheckEnd::Fault(fault)) => Ok(Some(fault)),
     }
 }
 

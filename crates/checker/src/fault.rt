@@ -13,7 +13,8 @@ pub enum Fault {
         block: u32,
         found: SnapshotFault,
     },
-    /// 3: an inode, an indirect block or a map of a tree is outside its grammar, as each of these blocks is that can't be read.
+    /// 3: an inode, an indirect block or a map of a tree is outside its grammar, as each of these
+    /// blocks is that can't be read.
     Tree(TreeFault),
     /// 4: a tree names a block twice.
     Shared {
@@ -56,7 +57,8 @@ pub enum RootsFault {
 /// What is wrong with a snapshot's root block.
 #[derive(Clone, Copy, Debug, PartialEq, Eq)]
 pub enum SnapshotFault {
-    /// It is outside its grammar or can't be read, or its order number is above the newest root's generation.
+    /// It is outside its grammar or can't be read, or its order number is above the newest root's
+    /// generation.
     NoSnapshot,
     /// It has the name or the order number of the one in another slot.
     SameAs(u32),
@@ -75,8 +77,8 @@ pub enum TreeFault {
     BlockMap,
 }
 
-/// A node of a file: its inode's number, 0 for the file of inodes; how many heights it stands over the file's blocks; and which one
-/// of its height it is.
+/// A node of a file: its inode's number, 0 for the file of inodes; how many heights it stands over
+/// the file's blocks; and which one of its height it is.
 #[derive(Clone, Copy, Debug, PartialEq, Eq)]
 pub struct FileNode {
     pub number: u32,
@@ -104,8 +106,8 @@ pub enum DirectoryFault {
 pub enum LogFault {
     /// A half's header is no gate, or is open for an epoch that isn't its own or too late.
     Header,
-    /// The record whose gate stands at this byte of a half is malformed, or doesn't apply, or writes into a part of a block that can't be
-    /// read.
+    /// The record whose gate stands at this byte of a half is malformed, or doesn't apply, or
+    /// writes into a part of a block that can't be read.
     Record { half: u32, at: u32 },
 }
 

@@ -1,5 +1,5 @@
-//! The checker: whether one of nine faults stands in an image. It reads each tree's inodes, indirect blocks, maps and directories, and
-//! replays the log in memory; it writes nothing.
+//! The checker: whether one of nine faults stands in an image. It reads each tree's inodes,
+//! indirect blocks, maps and directories, and replays the log in memory; it writes nothing.
 #![tactic(auto)]
 
 mod checking;
@@ -7,7 +7,6 @@ mod error;
 mod fault;
 mod fault_text;
 mod findings;
-mod letting_go;
 mod log;
 mod map;
 mod marks;
@@ -22,6 +21,7 @@ mod snapshots;
 mod table;
 mod tree;
 mod trees;
+mod uncached_reads;
 
 pub use checking::check;
 pub use error::CheckError;
@@ -30,5 +30,5 @@ pub use fault::{
     TreeFault, TreeName,
 };
 pub use findings::Watch;
-pub use letting_go::LetsGo;
 pub use report::{Report, Summary};
+pub use uncached_reads::UncachedReads;

@@ -17,20 +17,19 @@ ghost use Rattle.oplog.specs.SavedLog.{TellsLog};
 ghost use Rattle.replay.specs.Volumes.{HasVolumeIn, LeadTo};
 ghost use Rattle.replay.specs.declared.costs.TheConstants.{MOST_COST};
 ghost use Rattle.checker.specs.Checks.{Passes};
-ghost use Rattle.checker.specs.Errors.{IsHaltFault, Looks};
+ghost use Rattle.checker.specs.Errors.{IsCheckEndFault, ReadsForFaults};
 ghost use Rattle.checker.specs.Logs.{IsRecordFault, TellsRecords};
 
-use crate::error::{Halt, or_fault};
-use crate::{Fault, LetsGo, LogFault, TreeFault};
-use blocktree::ReadError;
-use buffers::Buffers;
+use crate::error::{CheckEnd, or_fault};
+use crate::{Fault, LogFault, TreeFault, UncachedReads};
+use buffers::{BlockError, Buffers};
 use images::faultless_trees_hold_graphs;
 use inofile::InodeFile;
 use layout::{FIRST_GATE, Gate, Root, read_gate};
 use loading::load_inodes;
-use model::NAMELESS_COST;
+use model::ORPHAN_COST;
 use oplog::{SavedLog, SavedLogError};
-use replay::{count_nameless, replay_record};
+use replay::{count_orphans, replay_record};
 use station::Station;
 use std::alloc::Global;
 
@@ -39,21 +38,21 @@ use std::alloc::Global;
 pub(crate) struct Logged {
     /// How many records.
     pub(crate) records: u64,
-    /// How many blocks a consistency point may store for them, and for the root's files without names.
+    /// How many blocks a consistency point may store for them, and for the root's orphans.
     pub(crate) pledged: u64,
 }
 
-/// Replays the log over the newest root's tree in memory, and counts its records. A record that writes into a part of a block that can't
-/// be read is a fault.
+/// Replays the log over the newest root's tree in memory, and counts its records. A record that
+/// writes into a part of a block that can't be read is a fault.
 pub(crate) fn check_log<S: Station>(
     alloc: Global,
     blocks: &mut Buffers<S>,
     root: &Root,
-) -> Result<Logged, Halt>
+) -> Result<Logged, CheckEnd>
     requires root { IsRoot root.now }
     requires fits { FitsStation root.now (S.meaning blocks.old.station) }
     ensures reads { ReadsOn (S.meaning blocks.old.station) (S.meaning blocks.new.station) }
-    ensures device { result ≡ Err Halt.Device → HasGrown
+    ensures device { result ≡ Err CheckEnd.Device → HasGrown
         (S.meaning blocks.old.station).failed_reads (S.meaning blocks.new.station).failed_reads }
     ensures passes { (disk : ℕ → List ℕ)
         → ShowsDisk (S.meaning blocks.old.station) blocks.old.kept disk
@@ -64,25 +63,26 @@ pub(crate) fn check_log<S: Station>(
 {
     let saved = match SavedLog::load(alloc, &mut blocks.station, root.geometry, root.generation) {
         Ok(saved) => saved,
-        Err(SavedLogError::NoMemory) => return Err(Halt::NoMemory),
-        Err(SavedLogError::Device) => return Err(Halt::Device),
-        Err(SavedLogError::Damaged) => return Err(Halt::Fault(Fault::Log(LogFault::Header))),
+        Err(SavedLogError::NoMemory) => return Err(CheckEnd::NoMemory),
+        Err(SavedLogError::Device) => return Err(CheckEnd::Device),
+        Err(SavedLogError::Damaged) => return Err(CheckEnd::Fault(Fault::Log(LogFault::Header))),
     };
     replay_saved(alloc, blocks, root, &saved)
 }
 
-/// Replays what was saved over the newest root's tree in memory, and counts the records and what they cost.
-fn replay_saved<B: LetsGo>(
+/// Replays what was saved over the newest root's tree in memory, and counts the records and what
+/// they cost.
+fn replay_saved<B: UncachedReads>(
     alloc: Global,
     blocks: &mut B,
     root: &Root,
     saved: &SavedLog,
-) -> Result<Logged, Halt>
+) -> Result<Logged, CheckEnd>
     requires root { IsRoot root.now }
     requires size { B.count blocks.old ≡ root.now.geometry.blocks }
     requires half { saved.now.half ≡ root.now.geometry.half }
     requires generation { saved.now.generation ≡ root.now.generation }
-    ensures reads { Looks B.Blocks IsHaltFault blocks.old blocks.new result }
+    ensures reads { ReadsForFaults B.Blocks IsCheckEndFault blocks.old blocks.new result }
     ensures passes { (disk : ℕ → List ℕ) (nvram : List ℕ) → B.Shows blocks.old disk
         → TellsLog nvram saved.now → IsFaultless root.now.geometry (whole disk root.now).active
         → IsWithin root.now.version (whole disk root.now).active
@@ -92,27 +92,27 @@ fn replay_saved<B: LetsGo>(
     let fault = Fault::Tree(TreeFault::InodeMap);
     let loaded = load_inodes(alloc, blocks, root.version, root.geometry, root.inode_file);
     let mut inodes = or_fault(loaded, fault)?;
-    let counted = count_nameless(&inodes, blocks);
-    let nameless = or_fault(counted, fault)?;
+    let counted = count_orphans(&inodes, blocks);
+    let orphans = or_fault(counted, fault)?;
     let half = (root.generation.epoch_after(1).get() % 2) as u32;
     let first = replay_half(alloc, &mut inodes, blocks, saved.first_records(), half)?;
     let second = replay_half(alloc, &mut inodes, blocks, saved.second_records(), 1 - half)?;
     Ok(Logged {
         records: first.records + second.records,
-        pledged: NAMELESS_COST * u64::from(nameless) + first.pledged + second.pledged,
+        pledged: ORPHAN_COST * u64::from(orphans) + first.pledged + second.pledged,
     })
 }
 
 /// Replays the records of a half over the inodes in memory, and counts them and what they cost.
-fn replay_half<B: LetsGo>(
+fn replay_half<B: UncachedReads>(
     alloc: Global,
     inodes: &mut InodeFile,
     blocks: &mut B,
     records: &[u8],
     half: u32,
-) -> Result<Logged, Halt>
+) -> Result<Logged, CheckEnd>
     requires { length records.now ≤ MOST_HALF }
-    ensures reads { Looks B.Blocks IsHaltFault blocks.old blocks.new result }
+    ensures reads { ReadsForFaults B.Blocks IsCheckEndFault blocks.old blocks.new result }
     ensures geometry { inodes.new.geometry ≡ inodes.old.geometry }
     ensures few { IfOk result (λ l. l.records ≤ length records.now) }
     ensures cheap { IfOk result (λ l. l.pledged ≤ MOST_COST * l.records) }
@@ -137,7 +137,7 @@ fn replay_half<B: LetsGo>(
     let mut cost = 0;
     loop {
         let at = FIRST_GATE + (records.len() - rest.len()) as u32;
-        let fault = Halt::Fault(Fault::Log(LogFault::Record { half, at }));
+        let fault = CheckEnd::Fault(Fault::Log(LogFault::Record { half, at }));
         match read_gate(rest) {
             Gate::Closed => {
                 return Ok(Logged {
@@ -149,9 +149,9 @@ fn replay_half<B: LetsGo>(
             Gate::Open { body, rest: after } => {
                 match replay_record(alloc, inodes, blocks, body) {
                     Ok(more) => cost += more,
-                    Err(ReadError::NoMemory) => return Err(Halt::NoMemory),
-                    Err(ReadError::Device) => return Err(Halt::Device),
-                    Err(ReadError::Damaged) => return Err(fault),
+                    Err(BlockError::NoMemory) => return Err(CheckEnd::NoMemory),
+                    Err(BlockError::Device) => return Err(CheckEnd::Device),
+                    Err(BlockError::Damaged) => return Err(fault),
                 }
                 count += 1;
                 rest = after;

@@ -10,18 +10,18 @@ ghost use Rattle.images.specs.Room.{free_under};
 ghost use Rattle.images.specs.Roots.{whole};
 ghost use Rattle.images.specs.Soundness.{IsReadable};
 ghost use Rattle.checker.specs.Checks.{Passes};
-ghost use Rattle.checker.specs.Errors.{IsHaltFault, Looks};
+ghost use Rattle.checker.specs.Errors.{IsCheckEndFault, ReadsForFaults};
 ghost use Rattle.checker.specs.Findings.{IsFindingUnder, ShouldHave};
 ghost use Rattle.checker.specs.Maps.{HasEntries, IsFound, IsMapFault};
 ghost use Rattle.checker.specs.Trees.{IsTreeAt};
 ghost use Rattle.checker.specs.declared.fault.TreeName.TheVariants.{Image};
 
-use crate::error::{Halt, or_fault};
-use crate::letting_go::read_into;
+use crate::error::{CheckEnd, or_fault};
 use crate::marks::Marks;
 use crate::table::find_places;
 use crate::tree::Tree;
-use crate::{Fault, LetsGo, TreeFault};
+use crate::uncached_reads::read_into;
+use crate::{Fault, TreeFault, UncachedReads};
 use buffers::Block;
 use images::inodes_are_what_their_bytes_spell;
 use inode::{File, based_trees_are_sound};
@@ -54,16 +54,17 @@ pub(crate) fn mark_system(root: &Root, marks: &mut Marks)
     }
 }
 
-/// Compares the entries of the newest root's block map with what the trees name, and counts the free ones. All of its blocks are read.
-pub(crate) fn compare_map<B: LetsGo>(
+/// Compares the entries of the newest root's block map with what the trees name, and counts the
+/// free ones. All of its blocks are read.
+pub(crate) fn compare_map<B: UncachedReads>(
     alloc: Global,
     blocks: &mut B,
     geometry: Geometry,
     tree: &Tree,
     marks: &Marks,
-) -> Result<u32, Halt>
+) -> Result<u32, CheckEnd>
     requires { length marks.now ≡ geometry.blocks }
-    ensures reads { Looks B.Blocks IsHaltFault blocks.old blocks.new result }
+    ensures reads { ReadsForFaults B.Blocks IsCheckEndFault blocks.old blocks.new result }
     ensures passes { (disk : ℕ → List ℕ) (r : Root) (nvram : List ℕ) → B.Shows blocks.old disk
         → IsTreeAt disk r geometry (B.count blocks.old) tree.now → tree.now.plane ≡ 0
         → ((b : ℕ) → ShouldHave r (whole disk r) b (slice_index marks.now b))
@@ -85,10 +86,10 @@ pub(crate) fn compare_map<B: LetsGo>(
     let mut free = 0;
     for j in 0..geometry.blocks().div_ceil(BLOCK_POINTERS as u32) {
         let Pointer::Block(place) = places.at(j) else {
-            return Err(Halt::Fault(fault));
+            return Err(CheckEnd::Fault(fault));
         };
         if !read_into(blocks, place, &mut block)? {
-            return Err(Halt::Fault(fault));
+            return Err(CheckEnd::Fault(fault));
         }
         free += compare_block(block.bytes(), geometry.blocks(), j, marks)?;
     }
@@ -96,7 +97,12 @@ pub(crate) fn compare_map<B: LetsGo>(
 }
 
 /// Compares the entries of block `j` of the map, and counts the free ones.
-fn compare_block(bytes: &[u8; BLOCK_BYTES], blocks: u32, j: u32, marks: &Marks) -> Result<u32, Halt>
+fn compare_block(
+    bytes: &[u8; BLOCK_BYTES],
+    blocks: u32,
+    j: u32,
+    marks: &Marks,
+) -> Result<u32, CheckEnd>
     requires table { length marks.now ≡ blocks }
     requires within { 1024 * j < blocks }
     requires low { blocks < 2 ^ 31 }
@@ -110,7 +116,7 @@ fn compare_block(bytes: &[u8; BLOCK_BYTES], blocks: u32, j: u32, marks: &Marks) 
         let entry = map_entry(bytes, r);
         let expected = marks.entry(first + r);
         if entry != expected {
-            return Err(Halt::Fault(Fault::MapBit {
+            return Err(CheckEnd::Fault(Fault::MapBit {
                 block: first + r,
                 entry,
                 expected,

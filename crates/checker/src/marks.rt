@@ -7,7 +7,8 @@ use layout::BlockNumber;
 use std::alloc::{AllocError, Global};
 use std::marker::Model;
 
-/// The entry that each block of the disk should have in the block map: bit k says that tree k names the block.
+/// The entry that each block of the disk should have in the block map: bit k says that tree k names
+/// the block.
 #[derive(Drop)]
 pub(crate) struct Marks {
     entries: Vec<u32>,

@@ -7,7 +7,7 @@ ghost use Rattle.layout.specs.declared.root.Root.{Root};
 ghost use Rattle.images.specs.Faults.{HoldsGraph, HoldsNames};
 ghost use Rattle.images.specs.Roots.{whole};
 ghost use Rattle.checker.specs.Checks.{Passes};
-ghost use Rattle.checker.specs.Errors.{IsHaltFault, Looks};
+ghost use Rattle.checker.specs.Errors.{IsCheckEndFault, ReadsForFaults};
 ghost use Rattle.checker.specs.Findings.{IsNamedKind, IsTreeFinding, tree_in};
 ghost use Rattle.checker.specs.Trees.{IsRootOf, IsSeen, IsTreeAt};
 ghost use Rattle.std.specs.Prelude.{◌+◌, ◌/◌, IsFalse, OnOk, Some, slice_get};
@@ -28,12 +28,12 @@ ghost use Rattle.checker.specs.Tables.{IsKnown};
 ghost use Rattle.checker.specs.Names.{IsAllWalked, IsFirst, IsTable, IsUnnamed};
 ghost use Rattle.checker.specs.Walks.{GoesOn, HasCounted, HasCountedRows, HasFile, IsAwaited, IsOnWay, IsToCount, LooksInto};
 
-use crate::error::{Halt, or_fault};
+use crate::error::{CheckEnd, or_fault};
 use crate::owners::read_inode;
 use crate::seen::Seen;
-use crate::table::{KEPT, Known, forget_over, read_table};
+use crate::table::{CACHE_LIMIT, NumberTable, forget_over, read_table};
 use crate::tree::Tree;
-use crate::{DirectoryFault, Fault, LetsGo, TreeFault};
+use crate::{DirectoryFault, Fault, TreeFault, UncachedReads};
 use blocktree::PlaceMap;
 use images::files_hold_one_volume;
 use inode::{File, based_trees_are_sound};
@@ -51,16 +51,17 @@ pub(crate) struct NumberRow {
     pub(crate) names: u32,
 }
 
-/// Tests the directories of a tree: each block of entries, that no name stands twice, that each leads to an object, to a directory or a
-/// link at most one, that these are reached from the root; and then that each file has as many names as links.
-pub(crate) fn check_names<B: LetsGo>(
+/// Tests the directories of a tree: each block of entries, that no name stands twice, that each
+/// leads to an object, to a directory or a link at most one, that these are reached from the root;
+/// and then that each file has as many names as links.
+pub(crate) fn check_names<B: UncachedReads>(
     alloc: Global,
     blocks: &mut B,
     geometry: Geometry,
     tree: &Tree,
-    known: &mut Option<Known>,
-) -> Result<(), Halt>
-    ensures reads { Looks B.Blocks IsHaltFault blocks.old blocks.new result }
+    known: &mut Option<NumberTable>,
+) -> Result<(), CheckEnd>
+    ensures reads { ReadsForFaults B.Blocks IsCheckEndFault blocks.old blocks.new result }
     ensures known { (disk : ℕ → List ℕ) → B.Shows blocks.old disk
         → IsKnown disk known.old → IsKnown disk known.new }
     ensures passes { (disk : ℕ → List ℕ) (r : Root) (marks : List ℕ) → B.Shows blocks.old disk
@@ -80,17 +81,17 @@ pub(crate) fn check_names<B: LetsGo>(
 }
 
 /// Looks into each directory that is reached from the root.
-fn walk<B: LetsGo>(
+fn walk<B: UncachedReads>(
     alloc: Global,
     blocks: &mut B,
     geometry: Geometry,
     tree: &Tree,
     places: &PlaceMap,
     table: &mut Vec<NumberRow>,
-) -> Result<(), Halt>
+) -> Result<(), CheckEnd>
     requires table { vec_len table.old ≡ geometry.inodes }
     requires below { AreBelow (B.count blocks.old) places.now }
-    ensures reads { Looks B.Blocks IsHaltFault blocks.old blocks.new result }
+    ensures reads { ReadsForFaults B.Blocks IsCheckEndFault blocks.old blocks.new result }
     ensures table { vec_len table.new ≡ vec_len table.old }
     ensures walked { (disk : ℕ → List ℕ) (r : Root) → B.Shows blocks.old disk
         → IsTreeAt disk r geometry (B.count blocks.old) tree.now → LeadsToRows disk r tree.now places.now
@@ -112,13 +113,14 @@ fn walk<B: LetsGo>(
             alloc, blocks, geometry, tree, place, directory, table, &mut found,
         )?;
         next += 1;
-        kept = forget_over(blocks, kept + size / 4096 + 2, KEPT);
+        kept = forget_over(blocks, kept + size / 4096 + 2, CACHE_LIMIT);
     }
     Ok(())
 }
 
-/// Counts the names of a directory, and adds the directories among them to those that are found. It tells the directory's bytes.
-fn look_into<B: LetsGo>(
+/// Counts the names of a directory, and adds the directories among them to those that are found. It
+/// tells the directory's bytes.
+fn look_into<B: UncachedReads>(
     alloc: Global,
     blocks: &mut B,
     geometry: Geometry,
@@ -127,12 +129,12 @@ fn look_into<B: LetsGo>(
     directory: u32,
     table: &mut Vec<NumberRow>,
     found: &mut Vec<u32>,
-) -> Result<u64, Halt>
+) -> Result<u64, CheckEnd>
     requires low { 1 ≤ directory }
     requires high { directory < geometry.inodes }
     requires below { PointsBelow (B.count blocks.old) place }
     requires table { vec_len table.old ≡ geometry.inodes }
-    ensures reads { Looks B.Blocks IsHaltFault blocks.old blocks.new result }
+    ensures reads { ReadsForFaults B.Blocks IsCheckEndFault blocks.old blocks.new result }
     ensures goes { GoesOn table.old.items found.old.items table.new.items found.new.items }
     ensures size { IfOk result (λ size. size ≤ greatest_size VERSION) }
     ensures looked { (disk : ℕ → List ℕ) (r : Root) (e : Entries) (count : ℕ)
@@ -146,7 +148,7 @@ fn look_into<B: LetsGo>(
 {
     based_trees_are_sound();
     let Some(inode) = read_inode(blocks, geometry, place, directory)? else {
-        return Err(Halt::Fault(Fault::Tree(TreeFault::Inode(directory))));
+        return Err(CheckEnd::Fault(Fault::Tree(TreeFault::Inode(directory))));
     };
     let file = File::load(alloc, inode)?;
     count_blocks(
@@ -162,7 +164,7 @@ fn look_into<B: LetsGo>(
 }
 
 /// Counts the names of the directory of a file.
-fn count_blocks<B: LetsGo>(
+fn count_blocks<B: UncachedReads>(
     alloc: Global,
     blocks: &mut B,
     inodes: u32,
@@ -170,9 +172,9 @@ fn count_blocks<B: LetsGo>(
     directory: u32,
     table: &mut Vec<NumberRow>,
     found: &mut Vec<u32>,
-) -> Result<(), Halt>
+) -> Result<(), CheckEnd>
     requires { vec_len table.old ≡ inodes }
-    ensures reads { Looks B.Blocks IsHaltFault blocks.old blocks.new result }
+    ensures reads { ReadsForFaults B.Blocks IsCheckEndFault blocks.old blocks.new result }
     ensures goes { GoesOn table.old.items found.old.items table.new.items found.new.items }
     ensures counted { (disk : ℕ → List ℕ) (r : Root) (t : HeldTree) (e : Entries) (count : ℕ)
         → B.Shows blocks.old disk → r.geometry.inodes ≡ inodes
@@ -208,9 +210,9 @@ fn count_entries(
     names: &mut Seen,
     table: &mut Vec<NumberRow>,
     found: &mut Vec<u32>,
-) -> Result<(), Halt>
+) -> Result<(), CheckEnd>
     requires { vec_len table.old ≡ inodes }
-    ensures device { result ≡ Err Halt.Device → ⊥ }
+    ensures device { result ≡ Err CheckEnd.Device → ⊥ }
     ensures goes { GoesOn table.old.items found.old.items table.new.items found.new.items }
     ensures counted { (r : Root) (t : HeldTree) (e : Entries) (count : ℕ)
         → r.geometry.inodes ≡ inodes
@@ -224,7 +226,7 @@ fn count_entries(
 {
     match next_entry(bytes, inodes) {
         NextEntry::End => Ok(()),
-        NextEntry::Malformed => Err(Halt::Fault(Fault::Directory(DirectoryFault::Entries {
+        NextEntry::Malformed => Err(CheckEnd::Fault(Fault::Directory(DirectoryFault::Entries {
             directory,
             block,
         }))),
@@ -267,10 +269,10 @@ fn count_entry(
     names: &mut Seen,
     table: &mut Vec<NumberRow>,
     found: &mut Vec<u32>,
-) -> Result<(), Halt>
+) -> Result<(), CheckEnd>
     requires low { 1 ≤ entry.now.number }
     requires high { entry.now.number < vec_len table.old }
-    ensures device { result ≡ Err Halt.Device → ⊥ }
+    ensures device { result ≡ Err CheckEnd.Device → ⊥ }
     ensures goes { GoesOn table.old.items found.old.items table.new.items found.new.items }
     ensures counted { (r : Root) (t : HeldTree) (e : Entries) (count : ℕ)
         → IsOnWay r.geometry t e count found.old.items table.old.items
@@ -289,7 +291,7 @@ fn count_entry(
 {
     let is_new = names.add(entry.name)?;
     if !is_new {
-        return Err(Halt::Fault(Fault::Directory(DirectoryFault::Repeated { directory })));
+        return Err(CheckEnd::Fault(Fault::Directory(DirectoryFault::Repeated { directory })));
     }
     count_name(entry.number.get(), directory, table, found)
 }
@@ -300,10 +302,10 @@ fn count_name(
     directory: u32,
     table: &mut Vec<NumberRow>,
     found: &mut Vec<u32>,
-) -> Result<(), Halt>
+) -> Result<(), CheckEnd>
     requires low { 1 ≤ number }
     requires high { number < vec_len table.old }
-    ensures device { result ≡ Err Halt.Device → ⊥ }
+    ensures device { result ≡ Err CheckEnd.Device → ⊥ }
     ensures goes { GoesOn table.old.items found.old.items table.new.items found.new.items }
     ensures counted { (r : Root) (t : HeldTree) (e : Entries) (count : ℕ) (x : Name)
         → IsOnWay r.geometry t e count found.old.items table.old.items
@@ -315,14 +317,14 @@ fn count_name(
 {
     let row = table[number as usize];
     if !may_be_named(row.kind) {
-        return Err(Halt::Fault(Fault::Directory(DirectoryFault::Unused { directory, number })));
+        return Err(CheckEnd::Fault(Fault::Directory(DirectoryFault::Unused { directory, number })));
     }
     if !takes_name(row) {
-        return Err(Halt::Fault(Fault::Directory(DirectoryFault::Twice { number })));
+        return Err(CheckEnd::Fault(Fault::Directory(DirectoryFault::Twice { number })));
     }
     // No disk has room for so many names.
     let Some(names) = row.names.checked_add(1) else {
-        return Err(Halt::NoMemory);
+        return Err(CheckEnd::NoMemory);
     };
     table[number as usize] = NumberRow { names, ..row };
     if !is_directory(row.kind) {
@@ -333,30 +335,30 @@ fn count_name(
 }
 
 /// Tests that each directory but the root, and each link, has a name.
-fn check_reached(table: &Vec<NumberRow>) -> Result<(), Halt>
+fn check_reached(table: &Vec<NumberRow>) -> Result<(), CheckEnd>
     requires { vec_len table.now < 2 ^ 32 }
-    ensures device { result ≡ Err Halt.Device → ⊥ }
+    ensures device { result ≡ Err CheckEnd.Device → ⊥ }
     ensures rows { Passes (λ _. AreReached table.now.items) (IsUnreached table.now.items) result }
 {
     for number in FIRST_NUMBER..table.len() as u32 {
         let named = table[number as usize];
         if named.names == 0 && (named.kind == Kind::Directory || named.kind == Kind::Link) {
-            return Err(Halt::Fault(Fault::Directory(DirectoryFault::Unreached { number })));
+            return Err(CheckEnd::Fault(Fault::Directory(DirectoryFault::Unreached { number })));
         }
     }
     Ok(())
 }
 
 /// Tests that each file has as many names as links.
-fn check_links(table: &Vec<NumberRow>) -> Result<(), Halt>
+fn check_links(table: &Vec<NumberRow>) -> Result<(), CheckEnd>
     requires { vec_len table.now < 2 ^ 32 }
-    ensures device { result ≡ Err Halt.Device → ⊥ }
+    ensures device { result ≡ Err CheckEnd.Device → ⊥ }
     ensures rows { Passes (λ _. AreLinked table.now.items) (IsUnlinked table.now.items) result }
 {
     for number in FIRST_NUMBER..table.len() as u32 {
         let NumberRow { kind, links, names } = table[number as usize];
         if kind == Kind::File && names != links {
-            return Err(Halt::Fault(Fault::Links {
+            return Err(CheckEnd::Fault(Fault::Links {
                 number,
                 names,
                 links,

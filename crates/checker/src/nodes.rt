@@ -9,15 +9,15 @@ ghost use Rattle.layout.specs.Pointer.{PointsBelow};
 ghost use Rattle.layout.specs.Version.{greatest_size, level_of};
 ghost use Rattle.layout.specs.declared.version.TheConstants.{VERSION};
 ghost use Rattle.blocktree.specs.Names.{nodes_at};
-ghost use Rattle.checker.specs.Errors.{IsFault, IsHaltFault, Looks};
+ghost use Rattle.checker.specs.Errors.{IsFault, IsCheckEndFault, ReadsForFaults};
 ghost use Rattle.images.specs.BlockMap.{HasBit};
 ghost use Rattle.images.specs.Nodes.{Held};
 ghost use Rattle.checker.specs.Nodes.{HasNodes, IsAmong, IsAt, IsUnder, KeepsMarks, KeepsShared, MarksFile, MarksFor, MarksThese, SharesNone};
 
-use crate::error::Halt;
-use crate::letting_go::read_into;
+use crate::error::CheckEnd;
 use crate::marks::Marks;
-use crate::{CheckError, Fault, FileNode, LetsGo, TreeFault};
+use crate::uncached_reads::read_into;
+use crate::{CheckError, Fault, FileNode, TreeFault, UncachedReads};
 use buffers::Block;
 use layout::{
     BLOCK_BYTES, BLOCK_POINTERS, BODY_POINTERS, BlockNumber, Body, Inode, Pointer, SNAPSHOT_SLOTS,
@@ -25,7 +25,8 @@ use layout::{
 };
 use std::alloc::{AllocError, Global};
 
-/// Trees that are marked at once, each with a bit of a block's entry: the newest root's, and those of snapshots.
+/// Trees that are marked at once, each with a bit of a block's entry: the newest root's, and those
+/// of snapshots.
 pub(crate) const PLANES: usize = SNAPSHOT_SLOTS + 1;
 
 /// Nodes under one indirect block.
@@ -38,7 +39,8 @@ pub(crate) struct Shared {
     pub(crate) second: FileNode,
 }
 
-/// What the trees name twice, each its first such block; and memory for a block that is looked through.
+/// What the trees name twice, each its first such block; and memory for a block that is looked
+/// through.
 #[derive(Debug, Drop)]
 pub(crate) struct SharedBlocks {
     pub(crate) of: [Option<Shared>; PLANES],
@@ -78,20 +80,20 @@ fn add_shared(of: &mut [Option<Shared>; PLANES], bits: u32, shared: Shared)
     }
 }
 
-/// Marks the blocks of the file of an inode for the trees of these bits, the indirect ones among them. A fault is that of an
-/// indirect block outside its grammar.
-pub(crate) fn mark_file<B: LetsGo>(
+/// Marks the blocks of the file of an inode for the trees of these bits, the indirect ones among
+/// them. A fault is that of an indirect block outside its grammar.
+pub(crate) fn mark_file<B: UncachedReads>(
     blocks: &mut B,
     inode: &Inode,
     number: u32,
     bits: u32,
     marks: &mut Marks,
     shared: &mut SharedBlocks,
-) -> Result<(), Halt>
+) -> Result<(), CheckEnd>
     requires fits { (s : Sizes) × (s.blocks ≡ B.count blocks.old) × IsInode VERSION s inode.now }
     requires table { length marks.old ≡ B.count blocks.old }
     requires planes { (k : ℕ) → HasBit k bits → k < PLANES }
-    ensures reads { Looks B.Blocks IsHaltFault blocks.old blocks.new result }
+    ensures reads { ReadsForFaults B.Blocks IsCheckEndFault blocks.old blocks.new result }
     ensures keeps { KeepsMarks bits marks.old marks.new shared.old.of shared.new.of }
     ensures marked { (disk : ℕ → List ℕ) (s : Sizes) → B.Shows blocks.old disk
         → s.blocks ≡ B.count blocks.old → IsInode VERSION s inode.now
@@ -129,7 +131,7 @@ fn top_height(size: u64) -> u32
 }
 
 /// Marks the node at a pointer of an inode, of a file of so many blocks, and those below it.
-fn mark_top<B: LetsGo>(
+fn mark_top<B: UncachedReads>(
     blocks: &mut B,
     pointer: Pointer,
     node: FileNode,
@@ -137,11 +139,11 @@ fn mark_top<B: LetsGo>(
     bits: u32,
     marks: &mut Marks,
     shared: &mut SharedBlocks,
-) -> Result<(), Halt>
+) -> Result<(), CheckEnd>
     requires pointer { PointsBelow (B.count blocks.old) pointer }
     requires table { length marks.old ≡ B.count blocks.old }
     requires planes { (k : ℕ) → HasBit k bits → k < PLANES }
-    ensures reads { Looks B.Blocks IsHaltFault blocks.old blocks.new result }
+    ensures reads { ReadsForFaults B.Blocks IsCheckEndFault blocks.old blocks.new result }
     ensures keeps { KeepsMarks bits marks.old marks.new shared.old.of shared.new.of }
     ensures marked { (disk : ℕ → List ℕ) (h : Held) → B.Shows blocks.old disk
         → h.place node.height node.index ≡ pointer → HasNodes disk h node.height
@@ -159,9 +161,10 @@ fn mark_top<B: LetsGo>(
     mark_node(blocks, pointer, node, count, bits, marks, shared)
 }
 
-/// Marks the node at a pointer, of a file of so many blocks, and those below it. The file's blocks below an indirect one that all of
-/// these trees named before aren't marked again, so that none is looked through twice for one tree.
-fn mark_node<B: LetsGo>(
+/// Marks the node at a pointer, of a file of so many blocks, and those below it. The file's blocks
+/// below an indirect one that all of these trees named before aren't marked again, so that none is
+/// looked through twice for one tree.
+fn mark_node<B: UncachedReads>(
     blocks: &mut B,
     pointer: Pointer,
     node: FileNode,
@@ -169,11 +172,11 @@ fn mark_node<B: LetsGo>(
     bits: u32,
     marks: &mut Marks,
     shared: &mut SharedBlocks,
-) -> Result<(), Halt>
+) -> Result<(), CheckEnd>
     requires pointer { PointsBelow (B.count blocks.old) pointer }
     requires table { length marks.old ≡ B.count blocks.old }
     requires planes { (k : ℕ) → HasBit k bits → k < PLANES }
-    ensures reads { Looks B.Blocks IsHaltFault blocks.old blocks.new result }
+    ensures reads { ReadsForFaults B.Blocks IsCheckEndFault blocks.old blocks.new result }
     ensures keeps { KeepsMarks bits marks.old marks.new shared.old.of shared.new.of }
     ensures marked { (disk : ℕ → List ℕ) (h : Held) → B.Shows blocks.old disk
         → h.place node.height node.index ≡ pointer → HasNodes disk h node.height
@@ -191,7 +194,7 @@ fn mark_node<B: LetsGo>(
     let first = GROUP.saturating_mul(node.index);
     let used = used_below(count, height, node.index);
     if !read_indirect(blocks, place, used, &mut shared.block)? {
-        return Err(Halt::Fault(Fault::Tree(TreeFault::Indirect {
+        return Err(CheckEnd::Fault(Fault::Tree(TreeFault::Indirect {
             number: node.number,
             block: place.get(),
         })));
@@ -218,15 +221,16 @@ fn mark_node<B: LetsGo>(
     Ok(())
 }
 
-/// Reads the block at a place into this one, and tells whether it is an indirect block over so many nodes.
-fn read_indirect<B: LetsGo>(
+/// Reads the block at a place into this one, and tells whether it is an indirect block over so many
+/// nodes.
+fn read_indirect<B: UncachedReads>(
     blocks: &mut B,
     place: BlockNumber,
     used: u32,
     block: &mut Block,
 ) -> Result<bool, CheckError>
     requires { PointsBelow (B.count blocks.old) (Pointer.Block place) }
-    ensures reads { Looks B.Blocks IsFault blocks.old blocks.new result }
+    ensures reads { ReadsForFaults B.Blocks IsFault blocks.old blocks.new result }
     ensures good { IfOk result (λ good. IsTrue good
         → IsIndirectBlock (B.count blocks.old) used block.new) }
     ensures block { (disk : ℕ → List ℕ) → B.Shows blocks.old disk
@@ -240,7 +244,8 @@ fn read_indirect<B: LetsGo>(
     Ok(is_indirect_block(block.bytes(), blocks.count(), used))
 }
 
-/// Marks the file's blocks from one on, to which the first so many pointers of an indirect block lead.
+/// Marks the file's blocks from one on, to which the first so many pointers of an indirect block
+/// lead.
 fn mark_leaves(
     bytes: &[u8; BLOCK_BYTES],
     number: u32,
@@ -295,7 +300,8 @@ fn mark_block(
     before
 }
 
-/// How many nodes stand at a height over so many blocks, from those under node `index` of the height above on.
+/// How many nodes stand at a height over so many blocks, from those under node `index` of the
+/// height above on.
 fn used_below(count: u32, height: u32, index: u32) -> u32
     ensures used { result ≡ nodes_at count height - 1024 * index }
     ensures low { 1 ≤ result → 1024 * index + result < 2 ^ 32 }

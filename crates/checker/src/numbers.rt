@@ -11,7 +11,7 @@ ghost use Rattle.layout.specs.declared.root.Root.{Root};
 ghost use Rattle.images.specs.BlockMap.{HasBit};
 ghost use Rattle.images.specs.Nodes.{file_block};
 ghost use Rattle.images.specs.Roots.{inode_part, whole};
-ghost use Rattle.checker.specs.Errors.{IsFault, Looks};
+ghost use Rattle.checker.specs.Errors.{IsFault, ReadsForFaults};
 ghost use Rattle.checker.specs.Nodes.{KeepsMarks};
 ghost use Rattle.checker.specs.declared.nodes.Shared.{Shared};
 ghost use Rattle.checker.specs.Rows.{AddsToEach, AreAllBelow, ArePlacesOfTrees, AreReadAt, AreRows, AreSeenInBlock, AreSeenTo, AreTwins, ComparesBits, KeepsTrees, LeadsToRow, MarksTrees, SeesInode, row_added, rows_of};
@@ -25,7 +25,7 @@ use crate::nodes::{PLANES, SharedBlocks, mark_file};
 use crate::rows::Rows;
 use crate::table::find_places;
 use crate::tree::Tree;
-use crate::{CheckError, Fault, LetsGo, TreeFault};
+use crate::{CheckError, Fault, TreeFault, UncachedReads};
 use blocktree::PlaceMap;
 use images::inodes_are_what_their_bytes_spell;
 use inode::based_trees_are_sound;
@@ -35,9 +35,9 @@ use layout::{
 use loading::{inode_at, is_zero_from};
 use std::alloc::Global;
 
-/// Tests the inodes of the trees and the indirect blocks under them, marks the blocks that they name, and compares their kinds with the
-/// inode maps. The first fault of each tree is told in it.
-pub(crate) fn check_numbers<B: LetsGo>(
+/// Tests the inodes of the trees and the indirect blocks under them, marks the blocks that they
+/// name, and compares their kinds with the inode maps. The first fault of each tree is told in it.
+pub(crate) fn check_numbers<B: UncachedReads>(
     alloc: Global,
     blocks: &mut B,
     root: &Root,
@@ -48,7 +48,7 @@ pub(crate) fn check_numbers<B: LetsGo>(
     requires root { IsRoot root.now }
     requires size { B.count blocks.old ≡ root.now.geometry.blocks }
     requires table { length marks.old ≡ root.now.geometry.blocks }
-    ensures reads { Looks B.Blocks IsFault blocks.old blocks.new result }
+    ensures reads { ReadsForFaults B.Blocks IsFault blocks.old blocks.new result }
     ensures marked { MarksTrees trees.old.items trees.new.items marks.old marks.new
         shared.old.of shared.new.of }
     ensures seen { (disk : ℕ → List ℕ) → B.Shows blocks.old disk
@@ -65,12 +65,12 @@ pub(crate) fn check_numbers<B: LetsGo>(
 }
 
 /// Where the blocks of each tree's inode file are.
-fn places_of_trees<B: LetsGo>(
+fn places_of_trees<B: UncachedReads>(
     alloc: Global,
     blocks: &mut B,
     trees: &Vec<Tree>,
 ) -> Result<Vec<PlaceMap>, CheckError>
-    ensures reads { Looks B.Blocks IsFault blocks.old blocks.new result }
+    ensures reads { ReadsForFaults B.Blocks IsFault blocks.old blocks.new result }
     ensures length { IfOk result (λ places. vec_len places ≡ vec_len trees.now) }
     ensures below { IfOk result (λ places. AreAllBelow (B.count blocks.old) places.items) }
     ensures places { (disk : ℕ → List ℕ) → B.Shows blocks.old disk → IfOk result (λ places.
@@ -85,7 +85,7 @@ fn places_of_trees<B: LetsGo>(
 }
 
 /// Looks at the inodes of block `i` of each tree's inode file.
-fn check_block<B: LetsGo>(
+fn check_block<B: UncachedReads>(
     alloc: Global,
     blocks: &mut B,
     root: &Root,
@@ -101,7 +101,7 @@ fn check_block<B: LetsGo>(
     requires root { IsRoot root.now }
     requires size { B.count blocks.old ≡ root.now.geometry.blocks }
     requires table { length marks.old ≡ root.now.geometry.blocks }
-    ensures reads { Looks B.Blocks IsFault blocks.old blocks.new result }
+    ensures reads { ReadsForFaults B.Blocks IsFault blocks.old blocks.new result }
     ensures marked { MarksTrees trees.old.items trees.new.items marks.old marks.new
         shared.old.of shared.new.of }
     ensures seen { (disk : ℕ → List ℕ) → B.Shows blocks.old disk
@@ -119,7 +119,7 @@ fn check_block<B: LetsGo>(
 }
 
 /// Block `i` of each tree's inode file; of one that is out of its grammar any block.
-fn read_rows<B: LetsGo>(
+fn read_rows<B: UncachedReads>(
     alloc: Global,
     blocks: &mut B,
     trees: &mut Vec<Tree>,
@@ -128,7 +128,7 @@ fn read_rows<B: LetsGo>(
 ) -> Result<Rows, CheckError>
     requires places { vec_len places.now ≡ vec_len trees.old }
     requires below { AreAllBelow (B.count blocks.old) places.now.items }
-    ensures reads { Looks B.Blocks IsFault blocks.old blocks.new result }
+    ensures reads { ReadsForFaults B.Blocks IsFault blocks.old blocks.new result }
     ensures trees { KeepsTrees trees.old.items trees.new.items }
     ensures length { IfOk result (λ rows. length (rows_of rows) ≡ vec_len trees.new) }
     ensures rows { (disk : ℕ → List ℕ) (r : Root) (marks : List ℕ)
@@ -148,8 +148,9 @@ fn read_rows<B: LetsGo>(
     Ok(rows)
 }
 
-/// Adds block `i` of a tree's inode file, which is at this place, to those of other trees; of one that is out of its grammar any block.
-fn read_row<B: LetsGo>(
+/// Adds block `i` of a tree's inode file, which is at this place, to those of other trees; of one
+/// that is out of its grammar any block.
+fn read_row<B: UncachedReads>(
     alloc: Global,
     blocks: &mut B,
     tree: &mut Tree,
@@ -158,7 +159,7 @@ fn read_row<B: LetsGo>(
     rows: &mut Rows,
 ) -> Result<(), CheckError>
     requires { PointsBelow (B.count blocks.old) place }
-    ensures reads { Looks B.Blocks IsFault blocks.old blocks.new result }
+    ensures reads { ReadsForFaults B.Blocks IsFault blocks.old blocks.new result }
     ensures same { record tree.old { fault = tree.new.fault } ≡ tree.new }
     ensures added { OnOk result (rows_of rows.new
         ≡ rows_of rows.old ++ row_added rows.old rows.new ∷ []) }
@@ -204,7 +205,7 @@ fn is_ended(bytes: &[u8; BLOCK_BYTES]) -> bool
 }
 
 /// Looks at the inode of a number in each tree, once for all trees that have the same there.
-fn check_number<B: LetsGo>(
+fn check_number<B: UncachedReads>(
     blocks: &mut B,
     root: &Root,
     trees: &mut Vec<Tree>,
@@ -220,7 +221,7 @@ fn check_number<B: LetsGo>(
     requires root { IsRoot root.now }
     requires size { B.count blocks.old ≡ root.now.geometry.blocks }
     requires table { length marks.old ≡ root.now.geometry.blocks }
-    ensures reads { Looks B.Blocks IsFault blocks.old blocks.new result }
+    ensures reads { ReadsForFaults B.Blocks IsFault blocks.old blocks.new result }
     ensures marked { MarksTrees trees.old.items trees.new.items marks.old marks.new
         shared.old.of shared.new.of }
     ensures seen { (disk : ℕ → List ℕ) (i : ℕ) → B.Shows blocks.old disk
@@ -244,7 +245,7 @@ fn check_number<B: LetsGo>(
 }
 
 /// Looks at the inode that these bytes are at a number, for the trees of these bits.
-fn check_inode<B: LetsGo>(
+fn check_inode<B: UncachedReads>(
     blocks: &mut B,
     root: &Root,
     trees: &mut Vec<Tree>,
@@ -258,7 +259,7 @@ fn check_inode<B: LetsGo>(
     requires root { IsRoot root.now }
     requires size { B.count blocks.old ≡ root.now.geometry.blocks }
     requires table { length marks.old ≡ root.now.geometry.blocks }
-    ensures reads { Looks B.Blocks IsFault blocks.old blocks.new result }
+    ensures reads { ReadsForFaults B.Blocks IsFault blocks.old blocks.new result }
     ensures keeps { KeepsMarks bits marks.old marks.new shared.old.of shared.new.of }
     ensures trees { KeepsTrees trees.old.items trees.new.items }
     ensures others { (l : ℕ) (t q : Tree) → slice_get trees.old.items l ≡ Some t
@@ -284,7 +285,8 @@ fn check_inode<B: LetsGo>(
     Ok(())
 }
 
-/// The bits of the trees from the k-th on that have the same bytes as it at a place of their blocks, its own among them.
+/// The bits of the trees from the k-th on that have the same bytes as it at a place of their
+/// blocks, its own among them.
 fn twins(trees: &Vec<Tree>, rows: &Rows, k: usize, place: u32) -> u32
     requires tree { k < vec_len trees.now }
     requires rows { length (rows_of rows.now) ≡ vec_len trees.now }
@@ -355,7 +357,8 @@ fn is_among(tree: &Tree, bits: u32) -> bool
     (bits >> tree.plane) % 2 == 1
 }
 
-/// Tests that the inode maps of the trees of these bits say of a number whether its inode is in use.
+/// Tests that the inode maps of the trees of these bits say of a number whether its inode is in
+/// use.
 fn check_bits(trees: &mut Vec<Tree>, bits: u32, number: u32, inode: &Inode)
     ensures trees { KeepsTrees trees.old.items trees.new.items }
     ensures compared { ComparesBits number inode.now.kind bits trees.old.items trees.new.items }

@@ -15,18 +15,19 @@ ghost use Rattle.images.specs.Nodes.{held};
 ghost use Rattle.images.specs.Roots.{inode_part, whole};
 ghost use Rattle.loading.specs.Images.{IsFileOfInode};
 ghost use Rattle.loading.specs.InodeBlocks.{HasKindOfPlace};
-ghost use Rattle.checker.specs.Errors.{IsFault, Looks};
+ghost use Rattle.checker.specs.Errors.{IsFault, ReadsForFaults};
 ghost use Rattle.checker.specs.Findings.{StandsIn, tree_in};
 ghost use Rattle.checker.specs.Rows.{LeadsToRow};
 ghost use Rattle.checker.specs.Trees.{IsAloneAt, IsNode, IsOwner, IsTreeAt, SharesBlock};
 ghost use Rattle.checker.specs.declared.tree.Tree.{Tree};
 
-use crate::letting_go::read_block;
 use crate::nodes::Shared;
 use crate::table::find_places;
 use crate::tree::Tree;
-use crate::{CheckError, FileNode, LetsGo};
-use blocktree::{PlaceMap, ReadError};
+use crate::uncached_reads::read_block;
+use crate::{CheckError, FileNode, UncachedReads};
+use blocktree::PlaceMap;
+use buffers::BlockError;
 use images::inodes_are_what_their_bytes_spell;
 use inode::{File, based_trees_are_sound, nodes_are_where_pointers_lead};
 use layout::{
@@ -35,16 +36,16 @@ use layout::{
 use loading::inode_at;
 use std::alloc::Global;
 
-/// The first node of a tree, by number and then by height, that stands in a block which the tree names twice, but for the node that is told
-/// of it.
-pub(crate) fn first_owner<B: LetsGo>(
+/// The first node of a tree, by number and then by height, that stands in a block which the tree
+/// names twice, but for the node that is told of it.
+pub(crate) fn first_owner<B: UncachedReads>(
     alloc: Global,
     blocks: &mut B,
     geometry: Geometry,
     tree: &Tree,
     shared: &Shared,
 ) -> Result<FileNode, CheckError>
-    ensures reads { Looks B.Blocks IsFault blocks.old blocks.new result }
+    ensures reads { ReadsForFaults B.Blocks IsFault blocks.old blocks.new result }
     ensures stands { (disk : ℕ → List ℕ) (r : Root) → B.Shows blocks.old disk
         → IsTreeAt disk r geometry (B.count blocks.old) tree.now
         → SharesBlock (tree_in (whole disk r) tree.now.plane) shared.now
@@ -72,8 +73,9 @@ pub(crate) fn first_owner<B: LetsGo>(
     Ok(shared.second)
 }
 
-/// The inode of a number, whose block in the inode file is at this place; None where its bytes spell none.
-pub(crate) fn read_inode<B: LetsGo>(
+/// The inode of a number, whose block in the inode file is at this place; None where its bytes
+/// spell none.
+pub(crate) fn read_inode<B: UncachedReads>(
     blocks: &mut B,
     geometry: Geometry,
     place: Pointer,
@@ -82,7 +84,7 @@ pub(crate) fn read_inode<B: LetsGo>(
     requires low { 1 ≤ number }
     requires high { number < geometry.inodes }
     requires below { PointsBelow (B.count blocks.old) place }
-    ensures reads { Looks B.Blocks IsFault blocks.old blocks.new result }
+    ensures reads { ReadsForFaults B.Blocks IsFault blocks.old blocks.new result }
     ensures fits { IfOk result (λ found. IfSome found (IsInode VERSION geometry)) }
     ensures is { (disk : ℕ → List ℕ) (r : Root) (tree : Tree) → B.Shows blocks.old disk
         → IsTreeAt disk r geometry (B.count blocks.old) tree
@@ -98,7 +100,8 @@ pub(crate) fn read_inode<B: LetsGo>(
     Ok(inode_in(blocks.bytes(at), number, geometry))
 }
 
-/// The inode of a number, of whose block in the inode file these are the bytes; None where they spell none.
+/// The inode of a number, of whose block in the inode file these are the bytes; None where they
+/// spell none.
 fn inode_in(bytes: &[u8; BLOCK_BYTES], number: u32, geometry: Geometry) -> Option<Inode>
     requires low { 1 ≤ number }
     requires high { number < geometry.inodes }
@@ -111,15 +114,16 @@ fn inode_in(bytes: &[u8; BLOCK_BYTES], number: u32, geometry: Geometry) -> Optio
     inode_at(&bytes[at..at + INODE_BYTES], number, VERSION, geometry)
 }
 
-/// The first node of a file that stands in a block which is named twice, but for the one that is told of it.
-fn node_in<B: LetsGo>(
+/// The first node of a file that stands in a block which is named twice, but for the one that is
+/// told of it.
+fn node_in<B: UncachedReads>(
     alloc: Global,
     blocks: &mut B,
     file: &File,
     number: u32,
     shared: &Shared,
 ) -> Result<Option<FileNode>, CheckError>
-    ensures reads { Looks B.Blocks IsFault blocks.old blocks.new result }
+    ensures reads { ReadsForFaults B.Blocks IsFault blocks.old blocks.new result }
     ensures stands { (disk : ℕ → List ℕ) (s : Sizes) (inode : Inode) → B.Shows blocks.old disk
         → IsInode VERSION s inode → IsFileOfInode inode file.now
         → IfOk result (λ found. IfSome found (IsOwner shared.now number (held disk inode))) }
@@ -133,9 +137,9 @@ fn node_in<B: LetsGo>(
     for height in 0..=tree.depth() {
         let nodes = match tree.settled_nodes(alloc, blocks, height) {
             Ok(nodes) => nodes,
-            Err(ReadError::NoMemory) => return Err(CheckError::NoMemory),
-            Err(ReadError::Device) => return Err(CheckError::Device),
-            Err(ReadError::Damaged) => return Ok(None),
+            Err(BlockError::NoMemory) => return Err(CheckError::NoMemory),
+            Err(BlockError::Device) => return Err(CheckError::Device),
+            Err(BlockError::Damaged) => return Ok(None),
         };
         if let Some(node) = node_at(&nodes, tree.count(), number, height, shared) {
             return Ok(Some(node));
@@ -144,7 +148,8 @@ fn node_in<B: LetsGo>(
     Ok(None)
 }
 
-/// The first of so many nodes at a height that stands in a block which is named twice, but for the one that is told of it.
+/// The first of so many nodes at a height that stands in a block which is named twice, but for the
+/// one that is told of it.
 fn node_at(
     nodes: &PlaceMap,
     count: u32,
@@ -172,7 +177,8 @@ fn node_at(
     None
 }
 
-/// Whether a node at a place stands in a block that is named twice, and isn't the one that is told of it.
+/// Whether a node at a place stands in a block that is named twice, and isn't the one that is told
+/// of it.
 fn is_other(node: FileNode, place: BlockNumber, shared: &Shared) -> bool
     ensures other { IsTrue result → (place ≡ shared.now.block) × (node ≢ shared.now.second) }
     ensures same { IsFalse result → place ≡ shared.now.block → node ≡ shared.now.second }

@@ -23,7 +23,8 @@ pub struct Summary {
     pub records: u64,
     /// How many blocks are free in its map.
     pub free: u32,
-    /// Whether these are as many as the next consistency point may store. The program keeps so many free.
+    /// Whether these are as many as the next consistency point may store. The program keeps so many
+    /// free.
     pub has_reserve: bool,
 }
 

@@ -1,15 +1,16 @@
-//! A block of each tree's inode file, side by side: what several trees have at one place is kept once.
+//! A block of each tree's inode file, side by side: what several trees have at one place is kept
+//! once.
 
 ghost use Rattle.std.specs.Prelude.{◌≡◌, ◌<◌, ◌++◌, ◌∷◌, [], ℕ, List, IfOk, IfSome, IsFalse, IsTrue, OnOk, Some, length, slice_get, slice_index_or, All};
 ghost use Rattle.layout.specs.Bytes.{zeros};
 ghost use Rattle.layout.specs.Pointer.{PointsBelow};
 ghost use Rattle.layout.specs.Places.{pointed};
 ghost use Rattle.buffers.specs.Disks.{IsWhole};
-ghost use Rattle.checker.specs.Errors.{IsFault, Looks};
+ghost use Rattle.checker.specs.Errors.{IsFault, ReadsForFaults};
 ghost use Rattle.checker.specs.declared.error.CheckError.TheVariants as check;
 
-use crate::letting_go::read_block;
-use crate::{CheckError, LetsGo};
+use crate::uncached_reads::read_block;
+use crate::{CheckError, UncachedReads};
 use buffers::Block;
 use layout::{BLOCK_BYTES, Pointer};
 use std::alloc::{AllocError, Global};
@@ -45,15 +46,16 @@ impl Rows {
         }
     }
 
-    /// Has for one tree more the block at a place, or zeros where it can't be read. It tells whether it can.
-    pub(crate) fn read<B: LetsGo>(
+    /// Has for one tree more the block at a place, or zeros where it can't be read. It tells
+    /// whether it can.
+    pub(crate) fn read<B: UncachedReads>(
         &mut self,
         alloc: Global,
         blocks: &mut B,
         place: Pointer,
     ) -> Result<bool, CheckError>
         requires { PointsBelow (B.count blocks.old) place }
-        ensures reads { Looks B.Blocks IsFault blocks.old blocks.new result }
+        ensures reads { ReadsForFaults B.Blocks IsFault blocks.old blocks.new result }
         ensures added { OnOk result (rows_of self.new
             ≡ rows_of self.old ++ row_added self.old self.new ∷ []) }
         ensures read { (disk : ℕ → List ℕ) → B.Shows blocks.old disk
@@ -124,9 +126,13 @@ impl Rows {
 }
 
 /// The block at a place.
-fn read_at<B: LetsGo>(alloc: Global, blocks: &mut B, place: Pointer) -> Result<Row, CheckError>
+fn read_at<B: UncachedReads>(
+    alloc: Global,
+    blocks: &mut B,
+    place: Pointer,
+) -> Result<Row, CheckError>
     requires { PointsBelow (B.count blocks.old) place }
-    ensures reads { Looks B.Blocks IsFault blocks.old blocks.new result }
+    ensures reads { ReadsForFaults B.Blocks IsFault blocks.old blocks.new result }
     ensures read { (disk : ℕ → List ℕ) → B.Shows blocks.old disk
         → IfOk result (λ r. r.block ≡ pointed disk r.place) }
     ensures whole { IfOk result (λ r. IsTrue r.is_whole → r.place ≡ place) }

@@ -1,5 +1,5 @@
-//! The names of a directory that were seen so far: one behind the other in one text, as long as each is greater than those before it,
-//! which most directories' are; and a set of them else.
+//! The names of a directory that were seen so far: one behind the other in one text, as long as
+//! each is greater than those before it, which most directories' are; and a set of them else.
 
 ghost use Rattle.std.specs.Prelude.{◌≡◌, ◌↔◌, ◌⊎◌, ◌<◌, ◌≤◌, All, IfOk, IsFalse, IsTrue, OnOk, drop, length, true, is_some, slice_get, Some, None};
 ghost use Rattle.layout.specs.DirectoryNames.{NameMap};

@@ -7,19 +7,19 @@ ghost use Rattle.layout.specs.declared.pointer.Pointer.TheVariants.{Block, Hole}
 ghost use Rattle.layout.specs.declared.version.TheConstants.{SNAPSHOT_SLOTS};
 ghost use Rattle.loading.specs.Snapshots.{AreApartAt};
 ghost use Rattle.checker.specs.Checks.{is_block};
-ghost use Rattle.checker.specs.Errors.{IsFault, Looks};
+ghost use Rattle.checker.specs.Errors.{IsFault, ReadsForFaults};
 ghost use Rattle.checker.specs.Trees.{TellsSlot, TellsSnapshot};
 
-use crate::letting_go::read_block;
-use crate::{CheckError, Fault, LetsGo, SnapshotFault, SnapshotName};
-use blocktree::ReadError;
+use crate::uncached_reads::read_block;
+use crate::{CheckError, Fault, SnapshotFault, SnapshotName, UncachedReads};
+use buffers::BlockError;
 use images::snapshots_are_what_their_bytes_spell;
 use layout::{BlockNumber, Inode, Pointer, Root, SnapRoot};
 use loading::{are_apart, check_snapshot};
 
-/// The first fault of the root block in a slot of a root: that it is no snapshot's, or of the name or the number of one in a slot before
-/// it.
-pub(crate) fn fault_in_slot<B: LetsGo>(
+/// The first fault of the root block in a slot of a root: that it is no snapshot's, or of the name
+/// or the number of one in a slot before it.
+pub(crate) fn fault_in_slot<B: UncachedReads>(
     blocks: &mut B,
     root: &Root,
     k: usize,
@@ -27,7 +27,7 @@ pub(crate) fn fault_in_slot<B: LetsGo>(
     requires root { IsRoot root.now }
     requires size { B.count blocks.old ≡ root.now.geometry.blocks }
     requires slot { k < SNAPSHOT_SLOTS }
-    ensures reads { Looks B.Blocks IsFault blocks.old blocks.new result }
+    ensures reads { ReadsForFaults B.Blocks IsFault blocks.old blocks.new result }
     ensures tells { (disk : ℕ → List ℕ) → B.Shows blocks.old disk
         → IfOk result (TellsSlot disk root.now k) }
 {
@@ -38,11 +38,11 @@ pub(crate) fn fault_in_slot<B: LetsGo>(
     };
     match check_snapshot(blocks, pointer, root) {
         Ok(()) => {}
-        Err(ReadError::Damaged) => {
+        Err(BlockError::Damaged) => {
             return Ok(Some(slot_fault(k, block, SnapshotFault::NoSnapshot)));
         }
-        Err(ReadError::NoMemory) => return Err(CheckError::NoMemory),
-        Err(ReadError::Device) => return Err(CheckError::Device),
+        Err(BlockError::NoMemory) => return Err(CheckError::NoMemory),
+        Err(BlockError::Device) => return Err(CheckError::Device),
     }
     for l in 0..k {
         if !differ(blocks, root.snapshots[l], root.snapshots[k])? {
@@ -52,19 +52,20 @@ pub(crate) fn fault_in_slot<B: LetsGo>(
     Ok(None)
 }
 
-/// Whether the snapshots at two pointers, if there are two that can be read, differ in name and in order.
-fn differ<B: LetsGo>(blocks: &mut B, a: Pointer, b: Pointer) -> Result<bool, CheckError>
+/// Whether the snapshots at two pointers, if there are two that can be read, differ in name and in
+/// order.
+fn differ<B: UncachedReads>(blocks: &mut B, a: Pointer, b: Pointer) -> Result<bool, CheckError>
     requires first { PointsBelow (B.count blocks.old) a }
     requires second { PointsBelow (B.count blocks.old) b }
-    ensures reads { Looks B.Blocks IsFault blocks.old blocks.new result }
+    ensures reads { ReadsForFaults B.Blocks IsFault blocks.old blocks.new result }
     ensures apart { (disk : ℕ → List ℕ) → B.Shows blocks.old disk
         → IfOk result (λ apart. IsTrue apart ↔ AreApartAt disk a b) }
 {
     match are_apart(blocks, a, b) {
         Ok(apart) => Ok(apart),
-        Err(ReadError::Damaged) => Ok(true),
-        Err(ReadError::NoMemory) => Err(CheckError::NoMemory),
-        Err(ReadError::Device) => Err(CheckError::Device),
+        Err(BlockError::Damaged) => Ok(true),
+        Err(BlockError::NoMemory) => Err(CheckError::NoMemory),
+        Err(BlockError::Device) => Err(CheckError::Device),
     }
 }
 
@@ -80,13 +81,14 @@ fn slot_fault(k: usize, block: BlockNumber, found: SnapshotFault) -> Fault
     }
 }
 
-/// The name of the snapshot at a pointer, and the inode of its inode file, if one is there and can be read.
-pub(crate) fn snapshot_at<B: LetsGo>(
+/// The name of the snapshot at a pointer, and the inode of its inode file, if one is there and can
+/// be read.
+pub(crate) fn snapshot_at<B: UncachedReads>(
     blocks: &mut B,
     pointer: Pointer,
 ) -> Result<Option<(SnapshotName, Inode)>, CheckError>
     requires { PointsBelow (B.count blocks.old) pointer }
-    ensures reads { Looks B.Blocks IsFault blocks.old blocks.new result }
+    ensures reads { ReadsForFaults B.Blocks IsFault blocks.old blocks.new result }
     ensures tells { (disk : ℕ → List ℕ) → B.Shows blocks.old disk
         → IfOk result (TellsSnapshot disk pointer) }
     ensures there { IfOk result

@@ -13,7 +13,7 @@ ghost use Rattle.layout.specs.Places.{pointed};
 ghost use Rattle.blocktree.specs.PlaceMaps.{AreBelow, place_at};
 ghost use Rattle.blocktree.specs.Trees.{AreSound};
 ghost use Rattle.images.specs.Roots.{whole};
-ghost use Rattle.checker.specs.Errors.{IsFault, Looks};
+ghost use Rattle.checker.specs.Errors.{IsFault, ReadsForFaults};
 ghost use Rattle.checker.specs.Findings.{tree_in};
 ghost use Rattle.checker.specs.Names.{IsTable, IsUnnamed};
 ghost use Rattle.checker.specs.Rows.{LeadsToRows};
@@ -21,21 +21,23 @@ ghost use Rattle.checker.specs.Tables.{ArePlaces, AreRowsAt, IsKnown};
 ghost use Rattle.checker.specs.Trees.{IsTreeAt};
 ghost use Rattle.checker.specs.declared.error.CheckError.TheVariants as check;
 
-use crate::letting_go::read_block;
 use crate::names::NumberRow;
 use crate::rows::is_same;
 use crate::tree::Tree;
-use crate::{CheckError, LetsGo};
-use blocktree::{PlaceMap, ReadError};
+use crate::uncached_reads::read_block;
+use crate::{CheckError, UncachedReads};
+use blocktree::PlaceMap;
+use buffers::BlockError;
 use inode::{File, based_trees_are_sound};
 use layout::{BLOCK_BYTES, Geometry, INODE_BYTES, INODES_PER_BLOCK, Inode, Kind, Pointer};
 use std::alloc::{AllocError, Global};
 
-/// Numbers, or blocks of directories and inodes, after which the blocks that are kept are let go of.
-pub(crate) const KEPT: u64 = 256;
+/// Numbers, or blocks of directories and inodes, after which the blocks that are kept are let go
+/// of.
+pub(crate) const CACHE_LIMIT: u64 = 256;
 
 /// Lets go of the blocks that are kept where these are more than that. It tells how many are kept.
-pub(crate) fn forget_over<B: LetsGo>(blocks: &mut B, kept: u64, most: u64) -> u64
+pub(crate) fn forget_over<B: UncachedReads>(blocks: &mut B, kept: u64, most: u64) -> u64
     ensures few { result ≤ most }
     ensures reads { HasOnlyRead B.Blocks blocks.old blocks.new }
 {
@@ -46,22 +48,24 @@ pub(crate) fn forget_over<B: LetsGo>(blocks: &mut B, kept: u64, most: u64) -> u6
     kept
 }
 
-/// Rows of numbers as they were read, no name found yet, and where the blocks of inodes are that they were read of.
+/// Rows of numbers as they were read, no name found yet, and where the blocks of inodes are that
+/// they were read of.
 #[derive(Drop)]
-pub(crate) struct Known {
+pub(crate) struct NumberTable {
     pub(crate) places: PlaceMap,
     pub(crate) rows: Vec<NumberRow>,
 }
 
-/// What the tree has of each number, no name found yet. Rows of blocks that another tree has at the same place are known from it.
-pub(crate) fn read_table<B: LetsGo>(
+/// What the tree has of each number, no name found yet. Rows of blocks that another tree has at the
+/// same place are known from it.
+pub(crate) fn read_table<B: UncachedReads>(
     alloc: Global,
     blocks: &mut B,
     geometry: Geometry,
     tree: &Tree,
-    known: &Option<Known>,
-) -> Result<Known, CheckError>
-    ensures reads { Looks B.Blocks IsFault blocks.old blocks.new result }
+    known: &Option<NumberTable>,
+) -> Result<NumberTable, CheckError>
+    ensures reads { ReadsForFaults B.Blocks IsFault blocks.old blocks.new result }
     ensures length { IfOk result (λ now. vec_len now.rows ≡ geometry.inodes) }
     ensures below { IfOk result (λ now. AreBelow (B.count blocks.old) now.places) }
     ensures known { (disk : ℕ → List ℕ) → B.Shows blocks.old disk → IsKnown disk known.now
@@ -77,19 +81,19 @@ pub(crate) fn read_table<B: LetsGo>(
     based_trees_are_sound();
     let places = find_places(alloc, blocks, &tree.file)?;
     let rows = rows_at(alloc, blocks, geometry, &places, known)?;
-    Ok(Known { places, rows })
+    Ok(NumberTable { places, rows })
 }
 
 /// The rows of all numbers, of the blocks of inodes at these places.
-fn rows_at<B: LetsGo>(
+fn rows_at<B: UncachedReads>(
     alloc: Global,
     blocks: &mut B,
     geometry: Geometry,
     places: &PlaceMap,
-    known: &Option<Known>,
+    known: &Option<NumberTable>,
 ) -> Result<Vec<NumberRow>, CheckError>
     requires { AreBelow (B.count blocks.old) places.now }
-    ensures reads { Looks B.Blocks IsFault blocks.old blocks.new result }
+    ensures reads { ReadsForFaults B.Blocks IsFault blocks.old blocks.new result }
     ensures length { IfOk result (λ rows. vec_len rows ≡ geometry.inodes) }
     ensures rows { (disk : ℕ → List ℕ) → B.Shows blocks.old disk → IsKnown disk known.now
         → IfOk result (λ rows. AreRowsAt disk places.now rows.items) }
@@ -101,14 +105,15 @@ fn rows_at<B: LetsGo>(
             continue;
         }
         read_rows(blocks, places, geometry, i, &mut rows)?;
-        kept = forget_over(blocks, kept + 1, KEPT);
+        kept = forget_over(blocks, kept + 1, CACHE_LIMIT);
     }
     Ok(rows)
 }
 
-/// Adds the rows of block `i` of those at these places, where they are known. It tells whether they are.
+/// Adds the rows of block `i` of those at these places, where they are known. It tells whether they
+/// are.
 fn take_rows(
-    known: &Option<Known>,
+    known: &Option<NumberTable>,
     places: &PlaceMap,
     geometry: Geometry,
     i: u32,
@@ -141,12 +146,12 @@ fn take_rows(
 }
 
 /// Where the blocks of a file are: nowhere, where one over them is out of its grammar.
-pub(crate) fn find_places<B: LetsGo>(
+pub(crate) fn find_places<B: UncachedReads>(
     alloc: Global,
     blocks: &mut B,
     file: &File,
 ) -> Result<PlaceMap, CheckError>
-    ensures reads { Looks B.Blocks IsFault blocks.old blocks.new result }
+    ensures reads { ReadsForFaults B.Blocks IsFault blocks.old blocks.new result }
     ensures below { IfOk result (AreBelow (B.count blocks.old)) }
     ensures places { (disk : ℕ → List ℕ) → B.Shows blocks.old disk
         → AreSound (B.count blocks.old) disk file.now.tree
@@ -154,14 +159,14 @@ pub(crate) fn find_places<B: LetsGo>(
 {
     match file.tree().settled_nodes(alloc, blocks, 0) {
         Ok(places) => Ok(places),
-        Err(ReadError::NoMemory) => Err(CheckError::NoMemory),
-        Err(ReadError::Device) => Err(CheckError::Device),
-        Err(ReadError::Damaged) => Ok(PlaceMap::new(alloc)),
+        Err(BlockError::NoMemory) => Err(CheckError::NoMemory),
+        Err(BlockError::Device) => Err(CheckError::Device),
+        Err(BlockError::Damaged) => Ok(PlaceMap::new(alloc)),
     }
 }
 
 /// Adds the rows of the numbers in block `i` of those at these places.
-fn read_rows<B: LetsGo>(
+fn read_rows<B: UncachedReads>(
     blocks: &mut B,
     places: &PlaceMap,
     geometry: Geometry,
@@ -171,7 +176,7 @@ fn read_rows<B: LetsGo>(
     requires below { AreBelow (B.count blocks.old) places.now }
     requires block { INODES_PER_BLOCK * i < geometry.inodes }
     requires length { vec_len rows.old ≡ INODES_PER_BLOCK * i }
-    ensures reads { Looks B.Blocks IsFault blocks.old blocks.new result }
+    ensures reads { ReadsForFaults B.Blocks IsFault blocks.old blocks.new result }
     ensures length { OnOk result (vec_len rows.new ≡ min (INODES_PER_BLOCK * (i + 1)) geometry.inodes) }
     ensures rows { (disk : ℕ → List ℕ) → B.Shows blocks.old disk
         → AreRowsAt disk places.now rows.old.items

@@ -12,7 +12,8 @@ use layout::Inode;
 #[derive(Debug, Drop)]
 pub(crate) struct Tree {
     pub(crate) name: TreeName,
-    /// The bit of a block's entry that tells whether the tree names the block: 0 for the newest root's, else the snapshot's slot.
+    /// The bit of a block's entry that tells whether the tree names the block: 0 for the newest
+    /// root's, else the snapshot's slot.
     pub(crate) plane: u32,
     pub(crate) top: Inode,
     pub(crate) file: File,

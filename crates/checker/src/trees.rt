@@ -9,21 +9,21 @@ ghost use Rattle.layout.specs.declared.version.TheConstants.{SNAPSHOT_SLOTS, VER
 ghost use Rattle.images.specs.BlockMap.{HasBit};
 ghost use Rattle.images.specs.Roots.{whole};
 ghost use Rattle.images.specs.Snapshots.{AreSnapshots};
-ghost use Rattle.checker.specs.Errors.{IsFault, Looks};
+ghost use Rattle.checker.specs.Errors.{IsFault, ReadsForFaults};
 ghost use Rattle.checker.specs.Findings.{HasTree, IsNamedTree, tree_in};
 ghost use Rattle.checker.specs.Nodes.{SharesNone, StaysFor};
 ghost use Rattle.std.specs.Prelude.{Some};
 ghost use Rattle.checker.specs.Checks.{Passes};
-ghost use Rattle.checker.specs.Errors.{IsHaltFault};
+ghost use Rattle.checker.specs.Errors.{IsCheckEndFault};
 ghost use Rattle.checker.specs.Findings.{IsTreeFinding};
 ghost use Rattle.checker.specs.Trees.{AreTrees, IsOpened, IsOut, IsSeenTo, IsTreeOf};
 
-use crate::error::{Halt, fault_of, or_fault};
+use crate::error::{CheckEnd, fault_of, or_fault};
 use crate::marks::Marks;
 use crate::nodes::{SharedBlocks, mark_file};
 use crate::snapshots::snapshot_at;
 use crate::tree::Tree;
-use crate::{CheckError, Fault, LetsGo, TreeFault, TreeName};
+use crate::{CheckError, Fault, TreeFault, TreeName, UncachedReads};
 use images::inodes_are_what_their_bytes_spell;
 use inode::{File, based_trees_are_sound, nodes_are_where_pointers_lead};
 use layout::{Geometry, Inode, Kind, Root, SNAPSHOT_SLOTS, VERSION};
@@ -34,7 +34,7 @@ use loading::{
 use std::alloc::Global;
 
 /// The trees of a root and of its snapshots, with what they name of their inode files marked.
-pub(crate) fn open_trees<B: LetsGo>(
+pub(crate) fn open_trees<B: UncachedReads>(
     alloc: Global,
     blocks: &mut B,
     root: &Root,
@@ -44,7 +44,7 @@ pub(crate) fn open_trees<B: LetsGo>(
     requires root { IsRoot root.now }
     requires size { B.count blocks.old ≡ root.now.geometry.blocks }
     requires table { length marks.old ≡ root.now.geometry.blocks }
-    ensures reads { Looks B.Blocks IsFault blocks.old blocks.new result }
+    ensures reads { ReadsForFaults B.Blocks IsFault blocks.old blocks.new result }
     ensures length { length marks.new ≡ length marks.old }
     ensures some { IfOk result (λ trees. 1 ≤ vec_len trees) }
     ensures trees { (disk : ℕ → List ℕ) → B.Shows blocks.old disk
@@ -92,7 +92,7 @@ pub(crate) fn open_trees<B: LetsGo>(
 }
 
 /// The tree under the inode of an inode file.
-fn open_tree<B: LetsGo>(
+fn open_tree<B: UncachedReads>(
     alloc: Global,
     blocks: &mut B,
     geometry: Geometry,
@@ -106,7 +106,7 @@ fn open_tree<B: LetsGo>(
     requires top { IsInode VERSION geometry top.now }
     requires size { B.count blocks.old ≡ geometry.blocks }
     requires table { length marks.old ≡ geometry.blocks }
-    ensures reads { Looks B.Blocks IsFault blocks.old blocks.new result }
+    ensures reads { ReadsForFaults B.Blocks IsFault blocks.old blocks.new result }
     ensures length { length marks.new ≡ length marks.old }
     ensures others { (k : ℕ) → (k ≡ plane → ⊥)
         → StaysFor k marks.old marks.new shared.old.of shared.new.of }
@@ -133,19 +133,20 @@ fn open_tree<B: LetsGo>(
     Ok(tree)
 }
 
-/// Marks the blocks of the inode file, reads the inode map, and tests which blocks of the block map are stored.
-fn open_files<B: LetsGo>(
+/// Marks the blocks of the inode file, reads the inode map, and tests which blocks of the block map
+/// are stored.
+fn open_files<B: UncachedReads>(
     alloc: Global,
     blocks: &mut B,
     geometry: Geometry,
     tree: &mut Tree,
     marks: &mut Marks,
     shared: &mut SharedBlocks,
-) -> Result<(), Halt>
+) -> Result<(), CheckEnd>
     requires top { IsInode VERSION geometry tree.old.top }
     requires size { B.count blocks.old ≡ geometry.blocks }
     requires table { length marks.old ≡ geometry.blocks }
-    ensures reads { Looks B.Blocks IsHaltFault blocks.old blocks.new result }
+    ensures reads { ReadsForFaults B.Blocks IsCheckEndFault blocks.old blocks.new result }
     ensures length { length marks.new ≡ length marks.old }
     ensures same { tree.new ≡ record tree.old { numbers = tree.new.numbers } }
     ensures others { (k : ℕ) → (k ≡ tree.old.plane → ⊥)

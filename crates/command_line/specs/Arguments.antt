@@ -25,7 +25,8 @@ flag_rule id = record (new_rule id) { long = Some id; action = Some SetTrue }
 abbrev pub option_rule : Text → Rule
 option_rule id = record (new_rule id) { long = Some id; value_names = 1 }
 
--- an option of `make`, which is required: its number may have a suffix, so that clap takes each text
+-- an option of `make`, which is required: its number may have a suffix, so that clap takes each
+-- text
 abbrev pub size_rule : Text → Rule
 size_rule id = record (option_rule id) { required = true }
 

@@ -36,7 +36,8 @@ pub record FaultsValue : Type 0 where
   pub bytes : ℕ
   pub fail_sync : Option ℕ
 
--- what a line of the program asks for, its texts by their bytes; of help and the version not which text is shown
+-- what a line of the program asks for, its texts by their bytes; of help and the version not which
+-- text is shown
 pub data LineValue : Type 0 where
   make : (disk nvram : Text) → (blocks inodes half : ℕ) → (is_new : Bool) → LineValue
   run : (disk nvram script : Text) → (stops : Bool) → FaultsValue → LineValue
@@ -195,7 +196,8 @@ abbrev pub unless : {V : Type 0} → Kinds → Result V Refusal → Result V Ref
 unless [] r = r
 unless (k ∷ ks) r = Err not_understood
 
--- what words ask for that clap reads, where nothing is wrong with them: the line that clap's matches name
+-- what words ask for that clap reads, where nothing is wrong with them: the line that clap's
+-- matches name
 abbrev pub asked_by : List Text → Wait → Result AskedValue Refusal
 asked_by words wait =
     unless (faults_of words) (given (needed (command_of words)) (λ sub. asked_at sub.0 sub.1 wait))

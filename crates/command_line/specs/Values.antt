@@ -62,7 +62,8 @@ digits_in text = if unit_in text == 1 then text else take (length text - 1) text
 abbrev pub whole_count : ℕ → ℕ → Result ℕ Refusal
 whole_count size total = if total % size == 0 then Ok (total / size) else Err out_of_range
 
--- how many a text names of what has this size in bytes: without a suffix its number, and with one so many bytes
+-- how many a text names of what has this size in bytes: without a suffix its number, and with one
+-- so many bytes
 abbrev pub amount_of : ℕ → Text → Result ℕ Refusal
 amount_of size text = given (needed (spelled_number (digits_in text)))
     (λ n. whole_count (if unit_in text == 1 then 1 else size) (n * unit_in text))

@@ -18,14 +18,16 @@ is_wait word = bytes_eq word (codes "--wait") || starts_with nat_eq word (codes 
 abbrev pub is_option : Text → Bool
 is_option word = not (bytes_eq word (codes "-")) && starts_with nat_eq word (codes "-")
 
--- the word says how long is waited: neither the program's name does so, nor what stands behind `--` or in a command of `do`
+-- the word says how long is waited: neither the program's name does so, nor what stands behind `--`
+-- or in a command of `do`
 abbrev pub says_wait : Stand → Text → Bool
 says_wait stand.Start word = false
 says_wait stand.Words word = false
 says_wait _ word = is_wait word
 
--- what stands before the word behind one that is no option: the first such word behind the program's name is the command's
--- name, and behind that of `do` come DISK, NVRAM and its own command's words
+-- what stands before the word behind one that is no option: the first such word behind the
+-- program's name is the command's name, and behind that of `do` come DISK, NVRAM and its own
+-- command's words
 abbrev pub after_place : Stand → Text → Stand
 after_place stand.Program word = if bytes_eq word (codes "do") then stand.Do else stand.Command
 after_place stand.Do word = stand.Disk
@@ -59,8 +61,8 @@ others_of words = others_in stand.Start words
 abbrev pub seconds_of : Text → Result Wait Refusal
 seconds_of text = given (needed (spelled_number text)) (λ n. Ok (wait.Seconds n))
 
--- how long such a word says that is waited: `--wait=` and a number so many seconds, `--wait` as long as it takes, and none not
--- at all
+-- how long such a word says that is waited: `--wait=` and a number so many seconds, `--wait` as
+-- long as it takes, and none not at all
 abbrev pub wait_by : Option Text → Result Wait Refusal
 wait_by None = Ok wait.No
 wait_by (Some word) = if starts_with nat_eq word (codes "--wait=")

@@ -2,7 +2,8 @@
 
 use std::alloc::{AllocError, Global};
 
-/// The calls that name a path, with their fields in capitals; one that may be left out stands in brackets.
+/// The calls that name a path, with their fields in capitals; one that may be left out stands in
+/// brackets.
 const CALLS: [&str; 13] = [
     "list PATH",
     "stat PATH",

@@ -1,5 +1,6 @@
-//! The command line: what the words of the program ask for, which `clap` reads, and what its help says; the line of a script
-//! that words of the program spell; and why a line of a script is no command, and how it would be spelled.
+//! The command line: what the words of the program ask for, which `clap` reads, and what its help
+//! says; the line of a script that words of the program spell; and why a line of a script is no
+//! command, and how it would be spelled.
 #![tactic(auto)]
 
 mod arguments;

@@ -28,7 +28,8 @@ pub struct Asked<'a> {
 /// How what a command line asks for is done and told: the flags, each of the commands that have it.
 #[derive(Clone, Copy, Debug)]
 pub struct Options {
-    /// `--explain`: what is wrong with a script or an image is told in a second line, on no terminal too.
+    /// `--explain`: what is wrong with a script or an image is told in a second line, on no
+    /// terminal too.
     pub explains: bool,
     /// `--encoded`: paths, names and words are spelled as in a script.
     pub is_encoded: bool,
@@ -44,7 +45,8 @@ pub struct Options {
 /// What a command line asks for.
 #[derive(Debug, Drop)]
 pub enum Line<'a> {
-    /// `wafl make DISK NVRAM --blocks N --inodes N --half N [--new] [--force]`: makes both files and an empty image on them.
+    /// `wafl make DISK NVRAM --blocks N --inodes N --half N [--new] [--force]`: makes both files
+    /// and an empty image on them.
     Make {
         disk: &'a str,
         nvram: &'a str,
@@ -55,8 +57,8 @@ pub enum Line<'a> {
         /// Files that are there and not empty aren't replaced.
         is_new: bool,
     },
-    /// `wafl run DISK NVRAM SCRIPT [--stop] [--cut N] [--keep none|all|BITS] [--bytes K] [--fail-sync N]`: mounts the image
-    /// and runs a script.
+    /// `wafl run DISK NVRAM SCRIPT [--stop] [--cut N] [--keep none|all|BITS] [--bytes K]
+    /// [--fail-sync N]`: mounts the image and runs a script.
     Run {
         disk: &'a str,
         nvram: &'a str,
@@ -108,7 +110,8 @@ pub enum Line<'a> {
         /// The snapshot that it is read from, in place of the running tree.
         snapshot: Option<&'a str>,
     },
-    /// `wafl restore DISK NVRAM SNAPSHOT PATH [NEWPATH]`: brings a file or a link of a snapshot into the running tree.
+    /// `wafl restore DISK NVRAM SNAPSHOT PATH [NEWPATH]`: brings a file or a link of a snapshot
+    /// into the running tree.
     Restore {
         disk: &'a str,
         nvram: &'a str,
@@ -141,8 +144,8 @@ pub enum Kept<'a> {
     Nothing,
     /// `all`.
     Everything,
-    /// A nonempty text of 0, 1 and 2, used again from its start: write i is dropped where its character is 0 and kept where it
-    /// is 1, and where it is 2 the sector can't be read then.
+    /// A nonempty text of 0, 1 and 2, used again from its start: write i is dropped where its
+    /// character is 0 and kept where it is 1, and where it is 2 the sector can't be read then.
     Bits(&'a str),
 }
 
@@ -168,7 +171,8 @@ impl From<AllocError> for LineError {
     }
 }
 
-/// What the words ask for. The first is the program's name, as in `env::args`. The words that clap reads come into `others`.
+/// What the words ask for. The first is the program's name, as in `env::args`. The words that clap
+/// reads come into `others`.
 pub fn read_line<'w, 'a, S: AsStr>(
     alloc: Global,
     words: &'w [S],

@@ -1,4 +1,5 @@
-//! The numbers of `make`: decimal, or with a suffix that multiplies, each within the range that images have.
+//! The numbers of `make`: decimal, or with a suffix that multiplies, each within the range that
+//! images have.
 
 ghost use Rattle.std.specs.Prelude.{◌≡◌, ◌<◌, ◌*◌, ◌==◌, IfOk};
 ghost use Rattle.command_line.specs.Lines.{IsMisunderstood, Yields};

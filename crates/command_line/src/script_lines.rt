@@ -6,8 +6,8 @@ use crate::script_words::{shown, word_reason};
 use std::alloc::{AllocError, Global};
 use std::io::Write;
 
-/// Tells the text of a script's line of this number, counted from 1, and why it is no command. Where there is no memory for
-/// that, nothing.
+/// Tells the text of a script's line of this number, counted from 1, and why it is no command.
+/// Where there is no memory for that, nothing.
 pub fn explain_line<E: Write>(alloc: Global, script: &[u8], number: usize, err: &mut E) {
     let mut lines = script.split(|byte| *byte == b'\n');
     let Some(line) = lines.nth(number.saturating_sub(1)) else {

@@ -26,7 +26,8 @@ pub fn word_reason(
     }
 }
 
-/// Bytes as they are told: all but printable ASCII as `\x` and two digits, and no more than 80 of them.
+/// Bytes as they are told: all but printable ASCII as `\x` and two digits, and no more than 80 of
+/// them.
 pub fn shown(alloc: Global, bytes: &[u8]) -> Result<String, AllocError> {
     let mut text = String::new(alloc);
     for byte in bytes.iter().take(SHOWN_BYTES) {
@@ -61,8 +62,8 @@ fn text_reason(alloc: Global, word: &[u8]) -> Result<Option<String>, AllocError>
     spelled(alloc, word, &spelling)
 }
 
-/// The spelling of the text that a word was meant as: what stands behind a `%` is a byte, where it is two digits of either
-/// case, and all else is meant as it stands.
+/// The spelling of the text that a word was meant as: what stands behind a `%` is a byte, where it
+/// is two digits of either case, and all else is meant as it stands.
 fn text_word(alloc: Global, word: &[u8]) -> Result<Vec<u8>, AllocError> {
     let mut spelling = Vec::new(alloc);
     let mut rest = word;

@@ -4,7 +4,8 @@ use crate::forms::{call_form, command_form, default_mode};
 use crate::script_words::encoded;
 use std::alloc::{AllocError, Global};
 
-/// The line of one command that words spell, with its end. Where they spell none it is a line that is no command.
+/// The line of one command that words spell, with its end. Where they spell none it is a line that
+/// is no command.
 pub fn line_of_words(alloc: Global, words: &[&str]) -> Result<Vec<u8>, AllocError> {
     let mut line = Vec::new(alloc);
     if are_words(words) {
@@ -21,8 +22,8 @@ pub fn line_of_words(alloc: Global, words: &[&str]) -> Result<Vec<u8>, AllocErro
     Ok(line)
 }
 
-/// Whether words with a space between are one line of these words: none is empty or has a blank or a line's end in it, and
-/// they don't begin as a comment does.
+/// Whether words with a space between are one line of these words: none is empty or has a blank or
+/// a line's end in it, and they don't begin as a comment does.
 pub fn are_words(words: &[&str]) -> bool {
     let Some(first) = words.first() else {
         return false;
@@ -37,8 +38,9 @@ fn is_word(word: &[u8]) -> bool {
             .all(|byte| *byte != b' ' && *byte != b'\t' && *byte != b'\n')
 }
 
-/// The line of one command that words name as a user types them, with its end: paths, texts and names are encoded, and modes
-/// are spelled as in a script. Words of no command are all encoded, so that they are one line that is no command.
+/// The line of one command that words name as a user types them, with its end: paths, texts and
+/// names are encoded, and modes are spelled as in a script. Words of no command are all encoded, so
+/// that they are one line that is no command.
 pub fn line_of_typed(alloc: Global, words: &[&str]) -> Result<Vec<u8>, AllocError> {
     let mut typed = Vec::new(alloc);
     for word in words {
@@ -52,8 +54,9 @@ pub fn line_of_typed(alloc: Global, words: &[&str]) -> Result<Vec<u8>, AllocErro
     Ok(line)
 }
 
-/// The line of a script that a line of `shell` is meant as, where a user types it, with its end or without: a carriage return at
-/// its end goes, and modes are spelled as in a script. What is no command stays as it is.
+/// The line of a script that a line of `shell` is meant as, where a user types it, with its end or
+/// without: a carriage return at its end goes, and modes are spelled as in a script. What is no
+/// command stays as it is.
 pub fn typed_line(alloc: Global, line: &[u8]) -> Result<Vec<u8>, AllocError> {
     let (text, end): (&[u8], &[u8]) = match line {
         [text @ .., b'\n'] => (text, b"\n"),
@@ -72,7 +75,8 @@ pub fn typed_line(alloc: Global, line: &[u8]) -> Result<Vec<u8>, AllocError> {
     Ok(spelled)
 }
 
-/// Adds the words of a command, spelled as in a script. Where they begin as no command does it adds nothing and says so.
+/// Adds the words of a command, spelled as in a script. Where they begin as no command does it adds
+/// nothing and says so.
 fn push_command(
     alloc: Global,
     line: &mut Vec<u8>,
@@ -117,7 +121,8 @@ fn push_words(
     Ok(())
 }
 
-/// A word as a script spells it in the place of this field. None where it is the mode that isn't written.
+/// A word as a script spells it in the place of this field. None where it is the mode that isn't
+/// written.
 fn field_word(
     alloc: Global,
     form: &str,

@@ -1,4 +1,5 @@
-//! How long a command waits for an image that another program has in use: what `--wait` says, among the program's words.
+//! How long a command waits for an image that another program has in use: what `--wait` says, among
+//! the program's words.
 
 ghost use Rattle.std.specs.Prelude.{◌≡◌, IfOk, None, map, option_map};
 ghost use Rattle.command_line.specs.Lines.{IsMisunderstood, Yields};
@@ -41,8 +42,8 @@ enum Stand {
     Words,
 }
 
-/// Takes the words that say how long is waited out of the program's words: the others come into `others`, and the last of
-/// them counts.
+/// Takes the words that say how long is waited out of the program's words: the others come into
+/// `others`, and the last of them counts.
 pub fn take_wait<'w, S: AsStr>(
     alloc: Global,
     words: &'w [S],

@@ -5,7 +5,7 @@ use Rattle.station.specs.Moments.{Meaning, MayLeave, EachCut, Shows, After, Goes
 use Rattle.station.proofs.Moments.{started, goes_on, weaker, joined, at_the_end}
 use Rattle.std.proofs.Math.Seq.{take-length}
 use Rattle.buffers.specs.Disks.{ShowsDisk, disk_with_sector}
-use Rattle.buffers.specs.declared.kept.Kept.{Kept}
+use Rattle.buffers.specs.declared.block_cache.BlockCache.{BlockCache}
 use Rattle.conspoint.specs.Cuts.{StaysOutside, HasNewRoot, HasRootOrLost, LosesSlot, HoldsWritten, HoldsBlocks, disk_so_far, disk_with_blocks}
 use Rattle.conspoint.specs.Plans.{Planned}
 use Rattle.conspoint.specs.declared.plan.PlannedBlock.{PlannedBlock}
@@ -24,7 +24,7 @@ unfolding disk_with_blocks
 so_far_none p disk none = ap (λ (n : ℕ). disk_with_blocks (take n p.blocks) disk) none
 
 -- the disk that is shown before and after
-pub shown_none : (m : Meaning) (kept : Kept) (p : Planned) (disk : ℕ → List ℕ) → p.written ≡ 0 → ShowsDisk m kept disk → ShowsDisk m kept (disk_so_far p disk)
+pub shown_none : (m : Meaning) (kept : BlockCache) (p : Planned) (disk : ℕ → List ℕ) → p.written ≡ 0 → ShowsDisk m kept disk → ShowsDisk m kept (disk_so_far p disk)
 shown_none m kept p disk none shows = subst (ShowsDisk m kept) (sym (so_far_none p disk none)) shows
 
 so_far_all : (p q : Planned) (disk : ℕ → List ℕ) → q ≡ record p { written = q.written } → q.written ≡ length p.blocks → disk_so_far q disk ≡ disk_with_blocks p.blocks disk
@@ -32,7 +32,7 @@ so_far_all p q disk is all =
     ap (λ (x : Planned). disk_so_far x disk) is ∙ ap (λ (n : ℕ). disk_with_blocks (take n p.blocks) disk) all
     ∙ ap (λ (l : List PlannedBlock). disk_with_blocks l disk) (take-length p.blocks)
 
-pub shown_all : (m : Meaning) (kept : Kept) (p q : Planned) (disk : ℕ → List ℕ) → q ≡ record p { written = q.written } → q.written ≡ length p.blocks
+pub shown_all : (m : Meaning) (kept : BlockCache) (p q : Planned) (disk : ℕ → List ℕ) → q ≡ record p { written = q.written } → q.written ≡ length p.blocks
     → ShowsDisk m kept (disk_with_sector m.seen.disk q.slot (disk_so_far q disk)) → ShowsDisk m kept (disk_with_sector m.seen.disk p.slot (disk_with_blocks p.blocks disk))
 shown_all m kept p q disk is all shows =
     subst (λ (d : ℕ → List ℕ). ShowsDisk m kept (disk_with_sector m.seen.disk p.slot d)) (so_far_all p q disk is all)

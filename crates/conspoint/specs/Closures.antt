@@ -11,8 +11,8 @@ use Rattle.conspoint.specs.Groups.{pointer_at}
 abbrev pub IsInTouchedPart : Draft → ℕ → Type 0
 IsInTouchedPart d b = IsTouched d.map.parts.items (b / 1024)
 
--- Of the map's own nodes, those that moved have reserved places, each its own, and the map has room for the entries of the new
--- place and of the one before.
+-- Of the map's own nodes, those that moved have reserved places, each its own, and the map has room
+-- for the entries of the new place and of the one before.
 pub record IsClosedOver (d : Draft) (settled places : List Pointer) : Type 0 where
   pub reserved : (k b : ℕ) → pointer_at places k ≡ Block b → IsReserved d b
   pub new : (k b : ℕ) → pointer_at places k ≡ Block b → IsInTouchedPart d b

@@ -2,8 +2,8 @@
 use Rattle.std.specs.Prelude.{ℕ, ◌≡◌, ◌≢◌, ◌⊎◌, ◌+◌, ◌*◌, ◌/◌, ◌≤◌, List, [], ◌∷◌, take, All}
 use Rattle.station.specs.Images.{Images, Sector, sector_with, unreadable}
 use Rattle.buffers.specs.Disks.{IsBlock, disk_with_block}
-use Rattle.buffers.specs.declared.error.BufferError.{BufferError}
-use Rattle.buffers.specs.declared.error.BufferError.TheVariants.{Device}
+use Rattle.buffers.specs.declared.error.BlockError.{BlockError}
+use Rattle.buffers.specs.declared.error.BlockError.TheVariants.{Device}
 use Rattle.conspoint.specs.declared.plan.PlannedBlock.{PlannedBlock}
 use Rattle.conspoint.specs.Plans.{Planned}
 
@@ -11,8 +11,8 @@ use Rattle.conspoint.specs.Plans.{Planned}
 abbrev pub IsOutside : List PlannedBlock → ℕ → Type 0
 IsOutside blocks n = All (λ b. b.place ≢ n / 8) blocks
 
--- Nothing changes but what lies in these blocks, and of that no more is said: none of them may be written, or some, or
--- parts of some. So it holds of one write and of any number of them.
+-- Nothing changes but what lies in these blocks, and of that no more is said: none of them may be
+-- written, or some, or parts of some. So it holds of one write and of any number of them.
 pub record StaysOutside (blocks : List PlannedBlock) (old new : Images) : Type 0 where
   pub nvram : new.nvram ≡ old.nvram
   pub disk : (n : ℕ) → IsOutside blocks n → new.disk n ≡ old.disk n
@@ -56,5 +56,5 @@ abbrev pub ReadsAs : ℕ → Images → (ℕ → List ℕ) → Type 0
 ReadsAs sectors c e = (b : ℕ) → 8 * b + 8 ≤ sectors → IsBlock c.disk b (e b)
 
 -- the error says that a device call failed
-abbrev pub IsFault : BufferError → Type 0
+abbrev pub IsFault : BlockError → Type 0
 IsFault e = e ≡ Device

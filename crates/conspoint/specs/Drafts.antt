@@ -1,5 +1,5 @@
--- A plan that is being made: what is said of it holds on every disk that has the blocks planned so far. Such facts last, as
--- the plan only grows.
+-- A plan that is being made: what is said of it holds on every disk that has the blocks planned so
+-- far. Such facts last, as the plan only grows.
 use Rattle.std.specs.Prelude.{ℕ, ◌≡◌, ◌≢◌, ◌<◌, ◌≤◌, List, All}
 use Rattle.layout.specs.Places.{Blocks}
 use Rattle.blockmap.specs.Maps.{IsFree, KeepsSettled}

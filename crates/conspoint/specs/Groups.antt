@@ -15,8 +15,8 @@ use Rattle.conspoint.specs.Drafts.{WasTaken}
 abbrev pub pointer_at : List Pointer → ℕ → Pointer
 pointer_at pointers i = slice_index_or pointers i Hole
 
--- Of 1,024 nodes and the pointer over them, on a disk e: all are as they were, or a block spells the nodes,
--- of which some is no hole, or all are holes.
+-- Of 1,024 nodes and the pointer over them, on a disk e: all are as they were, or a block spells
+-- the nodes, of which some is no hole, or all are holes.
 pub data IsGroup (e : Blocks) (settled : Pointer) (old new : ℕ → Pointer) (over : Pointer) : Type 0 where
   keeps : (is : over ≡ settled) → (same : (i : ℕ) → i < BLOCK_POINTERS → new i ≡ old i)
       → IsGroup e settled old new over
@@ -28,7 +28,8 @@ pub data IsGroup (e : Blocks) (settled : Pointer) (old new : ℕ → Pointer) (o
   none : (is : over ≡ Hole) → (under : (i : ℕ) → i < BLOCK_POINTERS → new i ≡ Hole)
       → IsGroup e settled old new over
 
--- The pointer over 1,024 nodes is a hole where all of them are, and where none moved it is as it was.
+-- The pointer over 1,024 nodes is a hole where all of them are, and where none moved it is as it
+-- was.
 pub record Follows (settled : Pointer) (old new : ℕ → Pointer) (over : Pointer) : Type 0 where
   pub none : ((i : ℕ) → i < BLOCK_POINTERS → new i ≡ Hole) → over ≡ Hole
   pub same : ((i : ℕ) → i < BLOCK_POINTERS → new i ≡ old i) → (over ≡ settled) ⊎ ((i : ℕ) → i < BLOCK_POINTERS → new i ≡ Hole)

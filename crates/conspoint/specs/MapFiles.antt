@@ -1,4 +1,5 @@
--- The block map's own file, which a consistency point stores with all others: where its nodes stand, and what its inode leads to.
+-- The block map's own file, which a consistency point stores with all others: where its nodes
+-- stand, and what its inode leads to.
 use Rattle.std.specs.Prelude.{ℕ, ◌≡◌, ◌≢◌, ◌⊎◌, ◌↔◌, ◌+◌, ◌/◌, ◌%◌, ◌<◌, List, length, nat_le, if◌then◌else◌, Bool, true, false}
 use Rattle.std.specs.Int.{bit_at}
 use Rattle.blockmap.specs.Bits.{HasBit}
@@ -20,8 +21,8 @@ use Rattle.conspoint.specs.declared.draft.Draft.{Draft}
 use Rattle.conspoint.specs.Drafts.{OnEach, WasTaken}
 use Rattle.conspoint.specs.Groups.{pointer_at}
 
--- the nodes of a map of so many blocks: its blocks, and behind them the indirect block over them where the inode has no room
--- for their pointers
+-- the nodes of a map of so many blocks: its blocks, and behind them the indirect block over them
+-- where the inode has no room for their pointers
 abbrev pub map_nodes : ℕ → ℕ
 map_nodes blocks = if nat_le blocks BODY_POINTERS then blocks else blocks + 1
 
@@ -48,8 +49,9 @@ pub record StoresPart (parts : List Part) (j : ℕ) (bytes : List ℕ) : Type 0 
 abbrev pub AreTouched : List Part → Type 0
 AreTouched parts = (j : ℕ) → j < length parts → IsTouched parts j
 
--- The disk has the settled entries under this inode, in its grammar, and its nodes stand here. A block that the next consistency
--- point stores anew may be missing, or have other entries: an empty file is one whose blocks are all stored then.
+-- The disk has the settled entries under this inode, in its grammar, and its nodes stand here. A
+-- block that the next consistency point stores anew may be missing, or have other entries: an empty
+-- file is one whose blocks are all stored then.
 pub record IsSettledMap (s : Sizes) (d : Blocks) (f : Inode) (map : BlockMap) (nodes : List Pointer) : Type 0 where
   pub sizes : AreSizes s
   pub blocks : map.count ≡ s.blocks
@@ -65,8 +67,9 @@ pub record IsSettledMap (s : Sizes) (d : Blocks) (f : Inode) (map : BlockMap) (n
   pub lowest : (k : ℕ) → k < length map.parts.items → pointer_at nodes k ≡ (held d f).place 0 k
   pub over : level_of f.size ≡ 2 → pointer_at nodes (length map.parts.items) ≡ (held d f).place 1 0
 
--- The disk e has the map under this inode, in its grammar, with these entries. Each of its nodes stands where that of the settled map
--- does, or in a taken block; of the blocks of the settled one, those are freed that it doesn't name.
+-- The disk e has the map under this inode, in its grammar, with these entries. Each of its nodes
+-- stands where that of the settled map does, or in a taken block; of the blocks of the settled one,
+-- those are freed that it doesn't name.
 pub record IsMapOn (s : Sizes) (d e : Blocks) (old new : Inode) (taken freed : ℕ → Bool) (entry_of : ℕ → ℕ) : Type 0 where
   pub kind : new.kind ≡ kinds.BlockMap
   pub entries : (b : ℕ) → map_entry (file_block (held e new) (b / 1024)) (b % 1024) ≡ entry_of b
@@ -78,8 +81,9 @@ pub record IsMapOn (s : Sizes) (d e : Blocks) (old new : Inode) (taken freed : �
   pub sound : IsSoundFile s (held e new)
   pub no_hole : HasNoHole (held e new)
 
--- The map's file is planned: the blocks that were taken for it, and those that are freed, are marked, and nothing else; and each
--- disk that has the planned blocks and those of the settled map has it under this inode.
+-- The map's file is planned: the blocks that were taken for it, and those that are freed, are
+-- marked, and nothing else; and each disk that has the planned blocks and those of the settled map
+-- has it under this inode.
 pub record PlansMap (before after : Draft) (settled : List Pointer) (f : Inode) : Type 0 where
   pub taken : ℕ → Bool
   pub freed : ℕ → Bool

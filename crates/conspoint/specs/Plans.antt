@@ -5,7 +5,8 @@ use Rattle.blockmap.specs.Maps.{IsTouched, entry_at, settled_at}
 use Rattle.blockmap.specs.Parts.{Part}
 use Rattle.conspoint.specs.declared.plan.PlannedBlock.{PlannedBlock}
 
--- the blocks in the order of their writing, how many of them are written, the sector of the new root, and its bytes
+-- the blocks in the order of their writing, how many of them are written, the sector of the new
+-- root, and its bytes
 pub record Planned : Type 0 where
   pub blocks : List PlannedBlock
   pub written : ℕ
@@ -17,7 +18,8 @@ abbrev pub AreApart : List PlannedBlock → Type 0
 AreApart blocks = (i j : ℕ) (d : PlannedBlock)
     → i < j → j < length blocks → (get_or blocks i d).place ≢ (get_or blocks j d).place
 
--- whole blocks, each behind the two that the slots of the roots lie in, and each at a place of its own
+-- whole blocks, each behind the two that the slots of the roots lie in, and each at a place of its
+-- own
 pub record ArePlacedBehindSlots (blocks : List PlannedBlock) : Type 0 where
   pub behind : All (λ b. 2 ≤ b.place) blocks
   pub sizes : All (λ b. length b.bytes ≡ BLOCK_BYTES) blocks
@@ -45,7 +47,8 @@ pub record AreDrafted (count next : ℕ) (IsFree : ℕ → Type 0) (blocks : Lis
   pub within : All (λ b. b.place < count) blocks
   pub free : All (λ b. IsFree b.place) blocks
 
--- A changed entry of a block of the disk lies in a part of the map that is stored anew. Behind the disk's end a 0 stays.
+-- A changed entry of a block of the disk lies in a part of the map that is stored anew. Behind the
+-- disk's end a 0 stays.
 pub record ChangesTouched (count : ℕ) (parts : List Part) : Type 0 where
   pub within : (b : ℕ) → b < count → entry_at parts b ≢ settled_at parts b → IsTouched parts (b / 1024)
   pub past : (b : ℕ) → count ≤ b → settled_at parts b ≡ 0 → entry_at parts b ≡ 0

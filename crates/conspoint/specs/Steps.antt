@@ -1,5 +1,6 @@
--- What each step of a plan promises of the draft: it only grows, and what was reserved stays so. So many blocks are taken at the most;
--- for want of space a step fails only where fewer are left, and else only for want of memory.
+-- What each step of a plan promises of the draft: it only grows, and what was reserved stays so. So
+-- many blocks are taken at the most; for want of space a step fails only where fewer are left, and
+-- else only for want of memory.
 use Rattle.std.specs.Prelude.{ℕ, ◌≡◌, Result, OnOk, IfErr, IsErrOf}
 use Rattle.layout.specs.declared.pointer.Pointer.{Pointer}
 use Rattle.images.specs.Sums.{sum_below}
@@ -26,7 +27,8 @@ pub record Places {T : Type 0} (n : ℕ) (old new : Draft) (result : Result T Pl
   pub lacks : IsErrOf result NoSpace → Lacks n old
   pub shortage : IfErr result IsShortage
 
--- a step that places indirect blocks over so many groups of nodes: as many are taken as count each group over which one is stored
+-- a step that places indirect blocks over so many groups of nodes: as many are taken as count each
+-- group over which one is stored
 pub record PlacesOver {T : Type 0} (count : ℕ) (settled nodes : ℕ → ℕ → Pointer) (old new : Draft) (result : Result T PlanError) : Type 0 where
   pub grows : Grows old new
   pub parts : new.map.parts.items ≡ old.map.parts.items

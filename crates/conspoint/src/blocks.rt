@@ -35,8 +35,9 @@ fn store_shared(draft: &mut Draft, block: &SharedBlock) -> Result<BlockNumber, P
     draft.store(shared)
 }
 
-/// The places of a changed file's blocks, where these are the settled ones that count still: of its first `count` blocks each
-/// changed one gets a new place, by rising index. The blocks before `first` aren't looked at, and keep the settled places.
+/// The places of a changed file's blocks, where these are the settled ones that count still: of its
+/// first `count` blocks each changed one gets a new place, by rising index. The blocks before
+/// `first` aren't looked at, and keep the settled places.
 pub fn place_blocks(
     draft: &mut Draft,
     tree: &BlockTree,

@@ -64,7 +64,8 @@ fn next_node(draft: &Draft, places: &[Pointer]) -> Option<usize>
     }
 }
 
-/// Reserves a place for a node that stood at a place before, with room in the map for the entries of both.
+/// Reserves a place for a node that stood at a place before, with room in the map for the entries
+/// of both.
 fn move_node(draft: &mut Draft, before: Pointer) -> Result<BlockNumber, PlanError>
     requires { (b : ℕ) → before ≡ Block b → b < draft.old.map.count }
     ensures step { Takes 1 draft.old draft.new result }
@@ -83,9 +84,10 @@ fn move_node(draft: &mut Draft, before: Pointer) -> Result<BlockNumber, PlanErro
     Ok(place)
 }
 
-/// Reserves a place for each node of the map that is to be stored: the map's blocks, and behind them the indirect blocks over
-/// each 1,024 of them, where there are any. A new place needs room for its own entry in the map, and for that of the node's
-/// place before, so that further blocks of the map have to be stored.
+/// Reserves a place for each node of the map that is to be stored: the map's blocks, and behind
+/// them the indirect blocks over each 1,024 of them, where there are any. A new place needs room
+/// for its own entry in the map, and for that of the node's place before, so that further blocks of
+/// the map have to be stored.
 pub fn reserve_map(
     draft: &mut Draft,
     settled: &[Pointer],

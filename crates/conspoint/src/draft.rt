@@ -4,7 +4,7 @@ ghost use Rattle.std.specs.Prelude.{◌≡◌, ◌≢◌, ◌<◌, ◌≤◌, �
 ghost use Rattle.blockmap.specs.Maps.{HasSetAt, IsFree, IsTouched, HoldsPart, entry_at, settled_at, OnlyChanges};
 ghost use Rattle.std.specs.Int.{bit_at};
 ghost use Rattle.blockmap.specs.Bits.{SetsBit, SetsPlane};
-ghost use Rattle.blockmap.specs.declared.map.TheConstants.{SYSTEM_SET};
+ghost use Rattle.blockmap.specs.declared.map.TheConstants.{SYSTEM_PLANE};
 ghost use Rattle.conspoint.specs.Plans.{AreDrafted, ChangesTouched, FitsDisk, IsSlot};
 
 use crate::error::PlanError;
@@ -101,7 +101,8 @@ impl Draft {
         Ok(())
     }
 
-    /// Puts a block into the active tree's set of the map, or takes it out, where the map has room for it.
+    /// Puts a block into the active tree's set of the map, or takes it out, where the map has room
+    /// for it.
     pub fn mark_touched(&mut self, block: BlockNumber, is_in: bool)
         requires within { block < self.old.map.count }
         requires room { IsInTouchedPart self.old block }
@@ -119,7 +120,7 @@ impl Draft {
     pub fn mark_system(&mut self, block: BlockNumber, is_in: bool) -> Result<(), PlanError>
         requires { block < self.old.map.count }
         ensures step { Marks self.old self.new result }
-        ensures bit { OnOk result (SetsBit SYSTEM_SET is_in
+        ensures bit { OnOk result (SetsBit SYSTEM_PLANE is_in
             (entry_at self.old.map.parts.items block)
             (entry_at self.new.map.parts.items block)) }
         ensures stay { OnOk result (OnlyChanges block self.old.map.parts.items
@@ -145,7 +146,8 @@ impl Draft {
         Ok(())
     }
 
-    /// Makes the active tree's set of the map that of a snapshot under the settled root. Each block of the map is stored for it.
+    /// Makes the active tree's set of the map that of a snapshot under the settled root. Each block
+    /// of the map is stored for it.
     pub fn load_plane(&mut self, set: u32) -> Result<(), PlanError>
         requires { set < 32 }
         ensures step { Marks self.old self.new result }
@@ -159,7 +161,8 @@ impl Draft {
         Ok(())
     }
 
-    /// Makes a set of the map empty. Of the map's blocks only those are stored for it in which an entry changes.
+    /// Makes a set of the map empty. Of the map's blocks only those are stored for it in which an
+    /// entry changes.
     pub fn clear_plane(&mut self, set: u32) -> Result<(), PlanError>
         requires { set < 32 }
         ensures step { Marks self.old self.new result }

@@ -1,10 +1,11 @@
 //! Why no consistency point was planned.
 
-use blocktree::ReadError;
+use buffers::BlockError;
 use std::alloc::{AllocError, AllocFailed};
 use thiserror::Error;
 
-/// Why a point was not planned. Nothing was written. The numbers are those of the file system's inner refusals.
+/// Why a point was not planned. Nothing was written. The numbers are those of the file system's
+/// inner refusals.
 #[derive(Clone, Copy, Debug, PartialEq, Eq, Error)]
 pub enum PlanError {
     #[error("no memory")]
@@ -42,17 +43,17 @@ impl<T: Drop> From<AllocFailed<T>> for PlanError {
     }
 }
 
-impl From<ReadError> for PlanError {
+impl From<BlockError> for PlanError {
     ghost use Rattle.std.specs.Prelude.{◌≡◌};
     ghost use Rattle.conspoint.specs.Errors.{plan_error};
 
     ghost from_gives = { λ r e. e ≡ plan_error r };
 
-    fn from(error: ReadError) -> PlanError {
+    fn from(error: BlockError) -> PlanError {
         match error {
-            ReadError::NoMemory => PlanError::NoMemory,
-            ReadError::Device => PlanError::Device,
-            ReadError::Damaged => PlanError::Damaged,
+            BlockError::NoMemory => PlanError::NoMemory,
+            BlockError::Device => PlanError::Device,
+            BlockError::Damaged => PlanError::Damaged,
         }
     }
 }

@@ -77,8 +77,8 @@ fn same_pointers(old: &[Pointer], new: &[Pointer]) -> bool
     true
 }
 
-/// The pointer over 1,024 nodes: a hole where all are holes, the settled one where no node moved, else one to a new block
-/// that spells them.
+/// The pointer over 1,024 nodes: a hole where all are holes, the settled one where no node moved,
+/// else one to a new block that spells them.
 pub fn place_group(
     alloc: Global,
     draft: &mut Draft,
@@ -129,8 +129,8 @@ fn next_group(nodes: &PlaceMap, from: u32, to: u32) -> Option<u32>
     }
 }
 
-/// The places over nodes, one over each 1,024 of them, by rising index, for so many groups. Over a group without a node that is
-/// stored there is none.
+/// The places over nodes, one over each 1,024 of them, by rising index, for so many groups. Over a
+/// group without a node that is stored there is none.
 pub fn place_over(
     alloc: Global,
     draft: &mut Draft,

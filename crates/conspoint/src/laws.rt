@@ -11,8 +11,8 @@ ghost use Rattle.conspoint.specs.Cuts.{StaysOutside, HasNewRoot, LosesSlot, Read
 ghost use Rattle.conspoint.specs.Finished.{IsAbsent, disk_after};
 ghost use Rattle.conspoint.specs.declared.plan.PlannedBlock.{PlannedBlock};
 
-/// Before the root is written every block that isn't planned reads as it did. After it all the planned ones are there, and
-/// every other block behind those of the slots reads as it did.
+/// Before the root is written every block that isn't planned reads as it did. After it all the
+/// planned ones are there, and every other block behind those of the slots reads as it did.
 pub fn cuts_leave_blocks()
     ensures before { (sectors : ℕ) (blocks : List PlannedBlock) (old new : Images)
         (d e : ℕ → List ℕ) (b : ℕ)
@@ -34,8 +34,9 @@ pub fn written_disks_have_the_blocks()
         → All (λ b. b.place ≢ n) blocks → disk_with_blocks blocks disk n ≡ disk n }
 {}
 
-/// What a cut leaves of a plan is what images' laws on points speak of: before the root is written only sectors of planned blocks
-/// differ, after it they all are there with the new root, and where its sector is lost that differs too. It does nothing.
+/// What a cut leaves of a plan is what images' laws on points speak of: before the root is written
+/// only sectors of planned blocks differ, after it they all are there with the new root, and where
+/// its sector is lost that differs too. It does nothing.
 pub fn cuts_are_those_of_images()
     ensures unfinished { (blocks : List PlannedBlock) (old new : Images)
         → StaysOutside blocks old new
@@ -46,8 +47,8 @@ pub fn cuts_are_those_of_images()
         → points.LosesSlot (writes_of p.blocks) p.slot old.disk new.disk }
 {}
 
-/// A point that is carried out leaves just one disk, whatever stood where its blocks and its root go, and other blocks behind the
-/// slots stay. It does nothing.
+/// A point that is carried out leaves just one disk, whatever stood where its blocks and its root
+/// go, and other blocks behind the slots stay. It does nothing.
 pub fn finished_disks_are_one()
     ensures is { (p : Planned) (old : Images) → IsPlanned p
         → HasNewRoot p old (record { disk = disk_after p old.disk; nvram = old.nvram }) }

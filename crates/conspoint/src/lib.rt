@@ -1,7 +1,8 @@
-//! The checkpoint, or consistency point (conspoint): all places and bytes of one are planned first; then its blocks are
-//! written, at places that the settled root doesn't need; then its root comes into force by a write of one sector. So a
-//! power cut leaves the tree of before or the new one. After Hitz, Lau and Malcolm, "File System Design for an NFS File
-//! Server Appliance", USENIX Winter 1994.
+//! The checkpoint, or consistency point (conspoint): all places and bytes of one are planned first;
+//! then its blocks are written, at places that the settled root doesn't need; then its root comes
+//! into force by a write of one sector. So a power cut leaves the tree of before or the new one.
+//! After Hitz, Lau and Malcolm, "File System Design for an NFS File Server Appliance", USENIX
+//! Winter 1994.
 #![tactic(auto)]
 
 mod blocks;

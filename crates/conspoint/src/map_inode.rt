@@ -25,7 +25,8 @@ use layout::{BLOCK_BYTES, BLOCK_POINTERS, BODY_POINTERS, Body, Inode, Kind, Poin
 use model::Attributes;
 use std::alloc::{AllocError, Global};
 
-/// Puts the block at a node into the active tree's set, or takes it out, where the node has a new place.
+/// Puts the block at a node into the active tree's set, or takes it out, where the node has a new
+/// place.
 fn mark_node(draft: &mut Draft, node: Pointer, place: Pointer, is_in: bool)
     requires within { (b : ℕ) → node ≡ Pointer.Block b → b < draft.old.map.count }
     requires room { (b : ℕ) → place ≢ Hole → node ≡ Pointer.Block b → IsInTouchedPart draft.old b }
@@ -154,7 +155,8 @@ fn store_over(
     Ok(())
 }
 
-/// The node that the first pointer of the map's inode leads to: block 0 of the map, or the indirect block over so many.
+/// The node that the first pointer of the map's inode leads to: block 0 of the map, or the indirect
+/// block over so many.
 fn first_top(count: usize) -> usize
     ensures { result ≡ (if nat_le count BODY_POINTERS then 0 else count) }
 {
@@ -196,7 +198,8 @@ fn map_inode(pointers: [Pointer; BODY_POINTERS], blocks: u32) -> Inode
     }
 }
 
-/// Plans all nodes of the map that are to be stored, over so many new places, none of them given out.
+/// Plans all nodes of the map that are to be stored, over so many new places, none of them given
+/// out.
 fn store_nodes(
     alloc: Global,
     draft: &mut Draft,
@@ -229,9 +232,10 @@ fn store_nodes(
     Ok(map_inode(pointers, draft.block_count()))
 }
 
-/// Plans all that is to be stored of the block map, once the marks of all other files are in it: its nodes get places, these are
-/// marked and those of before are not any more, and it has an entry for each block then. `settled` are the places of its settled
-/// nodes: its blocks, and behind them the indirect block over them, where there is one. The answer is its inode.
+/// Plans all that is to be stored of the block map, once the marks of all other files are in it:
+/// its nodes get places, these are marked and those of before are not any more, and it has an entry
+/// for each block then. `settled` are the places of its settled nodes: its blocks, and behind them
+/// the indirect block over them, where there is one. The answer is its inode.
 pub fn store_own_map(
     alloc: Global,
     draft: &mut Draft,

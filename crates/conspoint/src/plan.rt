@@ -7,7 +7,7 @@ ghost use Rattle.buffers.specs.Disks.{ShowsDisk, disk_with_sector};
 ghost use Rattle.conspoint.specs.Plans.{Planned, ArePlacedBehindSlots, IsPlanned, IsSlot, FitsDisk};
 ghost use Rattle.conspoint.specs.Cuts.{StaysOutside, HoldsWritten, HasNewRoot, HasRootOrLost, IsFault, disk_so_far};
 
-use buffers::{BufferError, Buffers, SharedBlock};
+use buffers::{BlockError, Buffers, SharedBlock};
 use layout::{BlockNumber, ROOT_BYTES};
 use station::Station;
 use std::marker::Model;
@@ -19,8 +19,8 @@ pub struct PlannedBlock {
     pub bytes: SharedBlock,
 }
 
-/// All blocks of a consistency point and its root, and how much of it is written. Where a call fails, the plan is given
-/// up: what its blocks hold isn't known then.
+/// All blocks of a consistency point and its root, and how much of it is written. Where a call
+/// fails, the plan is given up: what its blocks hold isn't known then.
 #[derive(Debug, Drop)]
 pub struct Plan {
     /// In the order of their writing.
@@ -72,12 +72,13 @@ impl Plan {
         self.blocks.len() - self.written
     }
 
-    /// Writes up to so many of the blocks that aren't written yet, and what is kept of the disk follows. It takes no memory.
+    /// Writes up to so many of the blocks that aren't written yet, and what is kept of the disk
+    /// follows. It takes no memory.
     pub fn write_some<S: Station>(
         &mut self,
         buffers: &mut Buffers<S>,
         count: usize,
-    ) -> Result<(), BufferError>
+    ) -> Result<(), BlockError>
         requires fits { FitsDisk (S.meaning buffers.old.station).sectors self.old }
         ensures planned { IsPlanned self.old }
         ensures plan { self.new ≡ record self.old { written = self.new.written } }
@@ -104,7 +105,7 @@ impl Plan {
     }
 
     /// Writes the next block.
-    fn write_next<S: Station>(&mut self, buffers: &mut Buffers<S>) -> Result<(), BufferError>
+    fn write_next<S: Station>(&mut self, buffers: &mut Buffers<S>) -> Result<(), BlockError>
         requires fits { FitsDisk (S.meaning buffers.old.station).sectors self.old }
         requires more { self.old.written < length self.old.blocks }
         ensures plan { self.new ≡ record self.old { written = self.new.written } }
@@ -129,14 +130,14 @@ impl Plan {
     }
 
     /// Brings the new root into force, once all blocks are written. It takes no memory.
-    pub fn finish<S: Station>(&self, buffers: &mut Buffers<S>) -> Result<(), BufferError>
+    pub fn finish<S: Station>(&self, buffers: &mut Buffers<S>) -> Result<(), BlockError>
         requires fits { FitsDisk (S.meaning buffers.old.station).sectors self.now }
         requires all { self.now.written ≡ length self.now.blocks }
         ensures writes { OnlyWrites IsFault
             (S.meaning buffers.old.station) (S.meaning buffers.new.station) result }
         ensures device { IfErr result IsFault }
-        // A cut at any moment leaves what one might have left before, or all the blocks with the new root, or what was there
-        // before with the root's sector lost.
+        // A cut at any moment leaves what one might have left before, or all the blocks with the
+        // new root, or what was there before with the root's sector lost.
         ensures any_moment { Shows (S.meaning buffers.old.station) (HoldsWritten self.now)
             → LeavesOnly (S.meaning buffers.old.station) (S.meaning buffers.new.station)
             (λ c. MayLeave (S.meaning buffers.old.station) c

@@ -8,11 +8,11 @@ ghost use Rattle.conspoint.specs.Plans.{FitsDisk, IsPlanned};
 ghost use Rattle.conspoint.specs.Cuts.{StaysOutside, HoldsWritten, HasNewRoot, HasRootOrLost, IsFault, disk_so_far, disk_with_blocks};
 
 use crate::plan::Plan;
-use buffers::{BufferError, Buffers};
+use buffers::{BlockError, Buffers};
 use station::Station;
 
 /// Writes the blocks of a plan that aren't written yet, and then its root. It takes no memory.
-pub fn write_rest<S: Station>(mut plan: Plan, buffers: &mut Buffers<S>) -> Result<(), BufferError>
+pub fn write_rest<S: Station>(mut plan: Plan, buffers: &mut Buffers<S>) -> Result<(), BlockError>
     requires { FitsDisk (S.meaning buffers.old.station).sectors plan }
     ensures planned { IsPlanned plan }
     ensures writes { OnlyWrites IsFault
@@ -39,14 +39,14 @@ pub fn write_rest<S: Station>(mut plan: Plan, buffers: &mut Buffers<S>) -> Resul
 }
 
 /// Writes all blocks of a plan, and then its root. It takes no memory.
-pub fn write_point<S: Station>(plan: Plan, buffers: &mut Buffers<S>) -> Result<(), BufferError>
+pub fn write_point<S: Station>(plan: Plan, buffers: &mut Buffers<S>) -> Result<(), BlockError>
     requires fits { FitsDisk (S.meaning buffers.old.station).sectors plan }
     requires none { plan.written ≡ 0 }
     ensures writes { OnlyWrites IsFault
         (S.meaning buffers.old.station) (S.meaning buffers.new.station) result }
     ensures device { IfErr result IsFault }
-    // A cut at any moment leaves what one might have left before, with some of the blocks, or all of them with the new root, or
-    // such a disk with the root's sector lost.
+    // A cut at any moment leaves what one might have left before, with some of the blocks, or all
+    // of them with the new root, or such a disk with the root's sector lost.
     ensures any_moment { LeavesOnly (S.meaning buffers.old.station) (S.meaning buffers.new.station)
         (λ c. After (StaysOutside plan.blocks) (S.meaning buffers.old.station) c
         ⊎ HasRootOrLost plan (S.meaning buffers.old.station).seen c) }

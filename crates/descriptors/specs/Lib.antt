@@ -1,4 +1,4 @@
 pub mod Files
 pub mod Tables
 pub mod Fits
-pub mod Nameless
+pub mod Orphans

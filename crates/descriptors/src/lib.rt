@@ -1,5 +1,6 @@
-//! The open file table (descriptors): the open files of a mounted system, by their descriptors. The table takes no memory
-//! beside its own, and keeps with each open file its size and its links, so that no call on a descriptor has to look for these.
+//! The open file table (descriptors): the open files of a mounted system, by their descriptors. The
+//! table takes no memory beside its own, and keeps with each open file its size and its links, so
+//! that no call on a descriptor has to look for these.
 #![tactic(auto)]
 
 mod laws;

@@ -25,7 +25,8 @@ pub struct OpenFile {
 impl OpenFile {
     ghost use Rattle.descriptors.specs.Files.{KeepsBounds, description_of, figures_of, relinked_file, resized_file};
 
-    /// The file with a number as it is just opened with these flags, at offset 0; it has so many bytes and so many names.
+    /// The file with a number as it is just opened with these flags, at offset 0; it has so many
+    /// bytes and so many names.
     pub fn opened(number: u32, flags: Flags, size: u64, links: u32) -> OpenFile
         ensures described { description_of result ≡ described_by number flags }
         ensures figures { figures_of result ≡ record { links = links; size = size } }

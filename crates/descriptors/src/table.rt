@@ -3,7 +3,7 @@
 ghost use Rattle.std.specs.Prelude.{ℕ, ◌≡◌, ◌≤◌, ◌<◌, Some, None, IfSome, IsFalse, IsSome, length, slice_index_or};
 ghost use Rattle.std.specs.Option.{ForSome, option_map};
 ghost use Rattle.model.specs.Outcomes.{lowest_free};
-ghost use Rattle.model.specs.Records.{count_nameless};
+ghost use Rattle.model.specs.Records.{count_orphans};
 ghost use Rattle.model.specs.Steps.{has_open_below};
 ghost use Rattle.model.specs.Trees.{Tree};
 ghost use Rattle.model.specs.Volumes.{IsMounted, IsVolume, Volume, is_numbered, is_open};
@@ -27,7 +27,7 @@ pub struct Descriptors {
 
 impl Descriptors {
     ghost use Rattle.descriptors.specs.Fits.{ChangesFigures, FitsVolume, IsFileOf};
-    ghost use Rattle.descriptors.specs.Nameless.{is_first_nameless};
+    ghost use Rattle.descriptors.specs.Orphans.{is_first_of_orphan};
     ghost use Rattle.descriptors.specs.Tables.{moved_to, open_at, put_open, table_of};
 
     /// The table with no file open.
@@ -81,16 +81,17 @@ impl Descriptors {
         found
     }
 
-    /// How many files with no name are open, each counted once: of a mounted volume, all its files that have no name.
-    pub fn nameless_files(&self) -> u32
+    /// How many files with no name are open, each counted once: of a mounted volume, all its files
+    /// that have no name.
+    pub fn open_orphans(&self) -> u32
         ensures few { result ≤ OPEN_FILES }
         ensures counted { (inodes : ℕ) (v : Volume) → IsVolume inodes v
             → IsMounted v (table_of self.now) → FitsVolume self.now v
-            → result ≡ count_nameless inodes v }
+            → result ≡ count_orphans inodes v }
     {
         let mut count = 0;
         for fd in 0..OPEN_FILES {
-            if self.is_first_nameless(fd) {
+            if self.is_first_of_orphan(fd) {
                 count += 1;
             }
         }
@@ -98,9 +99,9 @@ impl Descriptors {
     }
 
     // Whether a descriptor is the lowest that is open for its file, and this has no name.
-    fn is_first_nameless(&self, fd: u32) -> bool
+    fn is_first_of_orphan(&self, fd: u32) -> bool
         requires { fd < OPEN_FILES }
-        ensures { result ≡ is_first_nameless self.now fd }
+        ensures { result ≡ is_first_of_orphan self.now fd }
     {
         match self.files[fd as usize] {
             Some(file) => file.links == 0 && !self.is_open_among(fd, file.number),
@@ -157,7 +158,8 @@ impl Descriptors {
         self.put(fd, file);
     }
 
-    /// Frees a descriptor, and gives the file that was open there; None, and nothing changes, where it was free.
+    /// Frees a descriptor, and gives the file that was open there; None, and nothing changes, where
+    /// it was free.
     pub fn close(&mut self, fd: u32) -> Option<OpenFile>
         ensures closed { result ≡ open_at self.old fd }
         ensures files { (d : ℕ) → open_at self.new d ≡ put_open fd None (open_at self.old) d }

@@ -7,8 +7,8 @@ use Rattle.layout.specs.DirectoryNames.{number_of, NameMap, AreNames, HoldNames}
 use Rattle.entries.specs.Entries.{without}
 use Rattle.dirs.specs.Directory.{HasCount, first_entries, with_name, with_at}
 use Rattle.dirs.specs.Errors.{add_error}
-use Rattle.blocktree.specs.declared.error.ReadError.{ReadError}
-use Rattle.blocktree.specs.declared.error.ReadError.TheVariants as below
+use Rattle.buffers.specs.declared.error.BlockError.{BlockError}
+use Rattle.buffers.specs.declared.error.BlockError.TheVariants as below
 use Rattle.dirs.specs.declared.error.AddError.TheVariants.{Damaged}
 use Rattle.dirs.proofs.CountLaws.{count_is}
 use Rattle.dirs.proofs.NameLaws.{removed, added_to, with_at-here, with_at-else}
@@ -90,7 +90,7 @@ pub has_count : (inodes count : ℕ) (block : ℕ → List ℕ) (names : NameMap
 has_count inodes count block names n h is = subst (HasCount names) (sym is) (count_is h.entries names h.are count h.past)
 
 -- an error of reading that becomes this one of adding
-pub damaged_below : (r : ReadError) → add_error r ≡ Damaged → r ≡ below.Damaged
+pub damaged_below : (r : BlockError) → add_error r ≡ Damaged → r ≡ below.Damaged
 damaged_below below.NoMemory e = absurd cc
 damaged_below below.Device e = absurd cc
 damaged_below below.Damaged e = refl

@@ -2,7 +2,7 @@
 use Rattle.std.proofs.Common.{◌≡◌, inl, inr, ℕ, ◌<◌, ◌+◌, List, Option, Some, None, Result, Ok, Err, IfOk, sym, subst, arith}
 use Rattle.std.proofs.lemmas.Bool.{cases_eq}
 use Rattle.model.specs.Paths.{Name}
-use Rattle.blocktree.specs.declared.error.ReadError.{ReadError}
+use Rattle.buffers.specs.declared.error.BlockError.{BlockError}
 use Rattle.dirs.specs.Edits.{HasNumber, IsFirstFound}
 use Rattle.entries.specs.Looks.{TellsEntries}
 use Rattle.entries.specs.declared.look.Look.{Look}
@@ -25,6 +25,6 @@ first_same inodes count old new name same (Some n) f =
     (f.0, f.1, λ i below. subst (λ b. HasNumber inodes b name None) (sym (same i)) (f.2 i below), subst (λ b. HasNumber inodes b name (Some n)) (sym (same f.0)) f.3)
 first_same inodes count old new name same None f = λ i below. subst (λ b. HasNumber inodes b name None) (sym (same i)) (f i below)
 
-pub first_same_ok : (inodes count : ℕ) (old new : ℕ → List ℕ) (name : Name) → ((i : ℕ) → new i ≡ old i) → (r : Result (Option ℕ) ReadError) → IfOk r (IsFirstFound inodes old count name) → IfOk r (IsFirstFound inodes new count name)
+pub first_same_ok : (inodes count : ℕ) (old new : ℕ → List ℕ) (name : Name) → ((i : ℕ) → new i ≡ old i) → (r : Result (Option ℕ) BlockError) → IfOk r (IsFirstFound inodes old count name) → IfOk r (IsFirstFound inodes new count name)
 first_same_ok inodes count old new name same (Ok number) f = first_same inodes count old new name same number f
 first_same_ok inodes count old new name same (Err e) f = tt

@@ -31,7 +31,8 @@ HasEditedNames inodes disk f e names = HoldNames inodes e.count (edited_block di
 abbrev pub IsDirectory : ℕ → (ℕ → List ℕ) → File → NameMap → Type 0
 IsDirectory inodes disk f names = HoldNames inodes (f.size / 4096) (file_block disk f) names
 
--- The file has room for what an edit changes, and the directory gets no more blocks than it had, or few.
+-- The file has room for what an edit changes, and the directory gets no more blocks than it had, or
+-- few.
 pub record FitsIn (f : File) (e : Edit) : Type 0 where
   pub room : (i : ℕ) → tree.ContainsKey nat_cmp e.changed i → HasRoom f.tree i
   pub grown : (e.count ≤ f.size / BLOCK_BYTES) ⊎ (e.count ≤ GROWN_BLOCKS)
@@ -54,7 +55,8 @@ abbrev pub HasNumber : ℕ → List ℕ → Name → Option ℕ → Type 0
 HasNumber inodes bytes name number =
     (entries : List Named) × HoldsEntries inodes bytes entries × (number_of name entries ≡ number)
 
--- the number that a name has in the first block where it stands: up to there, or else all, the blocks are in their grammar
+-- the number that a name has in the first block where it stands: up to there, or else all, the
+-- blocks are in their grammar
 abbrev pub IsFirstFound : ℕ → (ℕ → List ℕ) → ℕ → Name → Option ℕ → Type 0
 IsFirstFound inodes block count name (Some number) =
     (at : ℕ) × (at < count) × ((i : ℕ) → i < at → HasNumber inodes (block i) name None) × HasNumber inodes (block at) name (Some number)

@@ -1,11 +1,11 @@
 -- Errors of the layer below, as those of this one.
 use Rattle.std.specs.Prelude.{◌≡◌}
-use Rattle.blocktree.specs.declared.error.ReadError.{ReadError}
-use Rattle.blocktree.specs.declared.error.ReadError.TheVariants as below
+use Rattle.buffers.specs.declared.error.BlockError.{BlockError}
+use Rattle.buffers.specs.declared.error.BlockError.TheVariants as below
 use Rattle.dirs.specs.declared.error.AddError.{AddError}
 use Rattle.dirs.specs.declared.error.AddError.TheVariants.{NoMemory, Device, Damaged}
 
-abbrev pub add_error : ReadError → AddError
+abbrev pub add_error : BlockError → AddError
 add_error below.NoMemory = NoMemory
 add_error below.Device = Device
 add_error below.Damaged = Damaged

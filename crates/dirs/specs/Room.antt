@@ -13,7 +13,8 @@ piece_count e = btree_map_len e.changed
 abbrev pub AddsPiece : Edit → Edit → Type 0
 AddsPiece old new = piece_count new ≤ piece_count old + 1
 
--- So many blocks at the most are changed that weren't, and a consistency point may store no more for them than an edit's room.
+-- So many blocks at the most are changed that weren't, and a consistency point may store no more
+-- for them than an edit's room.
 pub record ChangesFew (k : ℕ) (old new : File) : Type 0 where
   pub changed : (n : ℕ) → changed_below new.tree n ≤ changed_below old.tree n + k
   pub room : file_room new ≤ file_room old + edit_room k

@@ -26,7 +26,8 @@ next_place i number (Some first) = Some first
 next_place i (Some number) None = Some (record { block = i; number = number })
 next_place i None None = None
 
--- it counts the names of the first so many blocks, tells where one stands, and finds the first block with room for so many bytes
+-- it counts the names of the first so many blocks, tells where one stands, and finds the first
+-- block with room for so many bytes
 pub record SurveysBlocks (inodes : ℕ) (block : ℕ → List ℕ) (count : ℕ) (name : Name) (bytes : ℕ) (s : Survey) : Type 0 where
   pub place : (entries : ℕ → List Named) → AllHold inodes count block entries → IsNamePlace entries count name s.place
   pub names : (entries : ℕ → List Named) → AllHold inodes count block entries → s.names ≡ length (first_entries entries count)

@@ -3,15 +3,14 @@
 ghost use Rattle.std.specs.Prelude.{[], ◌∷◌, ◌++◌, ◌+◌, length, Some, ◌≢◌, OnErr, ◌≤◌, ◌≡◌, ◌<◌, ℕ, List, OnOk, IfOk, IsErrOf, IsFalse, IsSome, IsTrue, None};
 ghost use Rattle.layout.specs.Directory.{Named, HoldsEntries, IsEntry, named_of, entry_bytes};
 ghost use Rattle.buffers.specs.Reads.{ReadsBlocks};
-ghost use Rattle.blocktree.specs.Errors.{IsFault};
+ghost use Rattle.buffers.specs.Errors.{IsFault};
 ghost use Rattle.dirs.specs.Errors.{IsAddFault};
 ghost use Rattle.model.specs.declared.limits.TheConstants.{DIRECTORY_NAMES};
 ghost use Rattle.dirs.specs.declared.TheConstants.{GROWN_BLOCKS};
 
 use crate::survey::survey_of;
 use crate::{AddError, Edit};
-use blocktree::ReadError;
-use buffers::Blocks;
+use buffers::{BlockError, Blocks};
 use entries::{Known, add};
 use inode::File;
 use layout::{BLOCK_BYTES, Entry};
@@ -29,8 +28,9 @@ impl Edit {
     ghost use Rattle.dirs.specs.Room.{AddsPiece};
     ghost use Rattle.entries.specs.Known.{Knows};
 
-    /// Prepares that a name is added, in the first block with room for it, else in a new last one; or answers that it isn't,
-    /// where it stands in the directory already. DirFull where the directory has as many names as it may have.
+    /// Prepares that a name is added, in the first block with room for it, else in a new last one;
+    /// or answers that it isn't, where it stands in the directory already. DirFull where the
+    /// directory has as many names as it may have.
     pub fn prepare_add<B: Blocks>(
         &mut self,
         alloc: Global,
@@ -118,7 +118,7 @@ impl Edit {
         i: u32,
         inodes: u32,
         entry: &Entry<'_>,
-    ) -> Result<(), ReadError>
+    ) -> Result<(), BlockError>
         requires { IsEntry inodes (named_of entry.now) }
         ensures reads { ReadsBlocks B.Blocks IsFault blocks.old blocks.new result }
         ensures file { IsSameFile file.old file.new }
@@ -141,7 +141,7 @@ impl Edit {
             OnErr result
             (edited_block disk file.new self.new j ≡ edited_block disk file.old self.old j) }
         ensures damaged { (disk : ℕ → List ℕ) → B.Shows blocks.old disk →
-            IsErrOf result ReadError.Damaged →
+            IsErrOf result BlockError.Damaged →
             IsSoundAt (B.count blocks.old) disk file.old.tree i → ⊥ }
     {
         let mut bytes = [0; BLOCK_BYTES];

@@ -6,8 +6,8 @@ ghost use Rattle.std.specs.Cmp.Lexicographic.{slice_cmp};
 ghost use Rattle.std.specs.List.Sorted.{IsStrictlySortedBy};
 ghost use Rattle.layout.specs.Directory.{Named, HoldsEntries};
 ghost use Rattle.buffers.specs.Reads.{ReadsBlocks};
-ghost use Rattle.blocktree.specs.Errors.{IsFault};
-ghost use Rattle.blocktree.specs.declared.error.ReadError.TheVariants.{Damaged};
+ghost use Rattle.buffers.specs.Errors.{IsFault};
+ghost use Rattle.buffers.specs.declared.error.BlockError.TheVariants.{Damaged};
 ghost use Rattle.inode.specs.Files.{file_block};
 ghost use Rattle.model.specs.Paths.{Name};
 ghost use Rattle.layout.specs.DirectoryNames.{number_of, NameMap};
@@ -18,8 +18,7 @@ ghost use Rattle.dirs.specs.Edits.{IsDirectory, IsReached, IsFirstFound};
 ghost use Rattle.dirs.specs.Listings.{IsListingOfNames, lists_name};
 
 use crate::Edit;
-use blocktree::ReadError;
-use buffers::Blocks;
+use buffers::{BlockError, Blocks};
 use entries::Known;
 use inode::File;
 use layout::{BLOCK_BYTES, NextEntry, is_directory_block, next_entry};
@@ -35,7 +34,7 @@ pub fn find<B: Blocks>(
     blocks: &mut B,
     inodes: u32,
     name: &[u8],
-) -> Result<Option<u32>, ReadError>
+) -> Result<Option<u32>, BlockError>
     ensures reads { ReadsBlocks B.Blocks IsFault blocks.old blocks.new result }
     ensures knows { (disk : ℕ → List ℕ) → B.Shows blocks.old disk →
         Knows inodes (file_block disk file.now) known.old →
@@ -49,7 +48,7 @@ pub fn find<B: Blocks>(
         (IsFirstFound inodes (file_block disk file.now) (file.now.size / 4096) name.now) }
     ensures ordinary { IfOk result (λ number. IfSome number (IsObjectNumber inodes)) }
     ensures damaged { (disk : ℕ → List ℕ) → B.Shows blocks.old disk →
-        IsErrOf result ReadError.Damaged →
+        IsErrOf result BlockError.Damaged →
         IsReached (B.count blocks.old) disk file.now (file.now.size / 4096) →
         AreDirectoryBlocks inodes (file.now.size / 4096) (file_block disk file.now) → ⊥ }
 {
@@ -63,14 +62,14 @@ pub fn list<B: Blocks>(
     file: &File,
     blocks: &mut B,
     inodes: u32,
-) -> Result<Names, ReadError>
+) -> Result<Names, BlockError>
     ensures reads { ReadsBlocks B.Blocks IsFault blocks.old blocks.new result }
     ensures listed { (disk : ℕ → List ℕ) (names : NameMap) → B.Shows blocks.old disk →
         IsDirectory inodes disk file.now names → IfOk result (IsListingOfNames names) }
     ensures sound { (disk : ℕ → List ℕ) → B.Shows blocks.old disk →
         OnOk result (AreDirectoryBlocks inodes (file.now.size / 4096) (file_block disk file.now)) }
     ensures damaged { (disk : ℕ → List ℕ) → B.Shows blocks.old disk →
-        IsErrOf result ReadError.Damaged →
+        IsErrOf result BlockError.Damaged →
         IsReached (B.count blocks.old) disk file.now (file.now.size / 4096) →
         AreDirectoryBlocks inodes (file.now.size / 4096) (file_block disk file.now) → ⊥ }
 {
@@ -88,17 +87,17 @@ fn add_names(
     names: &mut BTreeSet<Vec<u8>>,
     bytes: &[u8; BLOCK_BYTES],
     inodes: u32,
-) -> Result<(), ReadError>
+) -> Result<(), BlockError>
     ensures names { (entries : List Named) → HoldsEntries inodes bytes.now entries →
         OnOk result ((name : Name) → lists_name (map (λ n. n.items) names.new.keys) name
         ≡ (lists_name (map (λ n. n.items) names.old.keys) name || is_some (number_of name entries))) }
     ensures sound { OnOk result ((entries : List Named) × HoldsEntries inodes bytes.now entries) }
-    ensures damaged { IsErrOf result ReadError.Damaged → (entries : List Named) →
+    ensures damaged { IsErrOf result BlockError.Damaged → (entries : List Named) →
         HoldsEntries inodes bytes.now entries → ⊥ }
-    ensures device { IsErrOf result ReadError.Device → ⊥ }
+    ensures device { IsErrOf result BlockError.Device → ⊥ }
 {
     if !is_directory_block(bytes, inodes) {
-        return Err(ReadError::Damaged);
+        return Err(BlockError::Damaged);
     }
     add_each(alloc, names, bytes, inodes)?;
     Ok(())

@@ -1,15 +1,15 @@
 //! An edit of a directory, prepared before it is made.
 
 use crate::FILE_BLOCKS;
-use blocktree::ReadError;
-use buffers::{Blocks, SharedBlock};
+use buffers::{BlockError, Blocks, SharedBlock};
 use entries::{Known, Look, hash_of};
 use inode::File;
 use layout::BLOCK_BYTES;
 use std::alloc::{AllocError, Global};
 use std::collections::BTreeMap;
 
-/// A prepared edit of one directory: what its blocks will be. Until it is committed the directory is as it was.
+/// A prepared edit of one directory: what its blocks will be. Until it is committed the directory
+/// is as it was.
 #[derive(Debug, Drop)]
 pub struct Edit {
     /// The changed blocks, by index.
@@ -34,7 +34,7 @@ ghost use Rattle.std.specs.Ordering.{nat_cmp};
 ghost use Rattle.std.specs.BTreeMap as tree;
 ghost use Rattle.layout.specs.Directory.{Named, HoldsEntries};
 ghost use Rattle.buffers.specs.Reads.{ReadsBlocks};
-ghost use Rattle.blocktree.specs.Errors.{IsFault};
+ghost use Rattle.buffers.specs.Errors.{IsFault};
 ghost use Rattle.dirs.specs.declared.TheConstants.{FILE_BLOCKS};
 
 impl Edit {
@@ -84,7 +84,7 @@ impl Edit {
         inodes: u32,
         name: &[u8],
         hash: usize,
-    ) -> Result<Look, ReadError>
+    ) -> Result<Look, BlockError>
         requires { hash ≡ hash_of name.now }
         ensures reads { ReadsBlocks B.Blocks IsFault blocks.old blocks.new result }
         ensures tells { (disk : ℕ → List ℕ) → B.Shows blocks.old disk →
@@ -96,7 +96,7 @@ impl Edit {
         ensures ordinary { IfOk result (λ l. IfSome l.number (IsObjectNumber inodes)) }
         ensures likely { IfOk result IsLikely }
         ensures damaged { (disk : ℕ → List ℕ) → B.Shows blocks.old disk →
-            IsErrOf result ReadError.Damaged →
+            IsErrOf result BlockError.Damaged →
             IsSoundAt (B.count blocks.old) disk file.now.tree i → (entries : List Named) →
             HoldsEntries inodes (edited_block disk file.now self.now i) entries → ⊥ }
     {
@@ -119,12 +119,12 @@ impl Edit {
         blocks: &mut B,
         i: u32,
         out: &mut [u8; BLOCK_BYTES],
-    ) -> Result<(), ReadError>
+    ) -> Result<(), BlockError>
         ensures reads { ReadsBlocks B.Blocks IsFault blocks.old blocks.new result }
         ensures bytes { (disk : ℕ → List ℕ) → B.Shows blocks.old disk →
             OnOk result (out.new ≡ edited_block disk file.now self.now i) }
         ensures damaged { (disk : ℕ → List ℕ) → B.Shows blocks.old disk →
-            IsErrOf result ReadError.Damaged →
+            IsErrOf result BlockError.Damaged →
             IsSoundAt (B.count blocks.old) disk file.now.tree i → ⊥ }
     {
         if let Some(block) = self.changed.get(&i) {
@@ -173,7 +173,7 @@ impl Edit {
         blocks: &mut B,
         inodes: u32,
         name: &[u8],
-    ) -> Result<Option<Place>, ReadError>
+    ) -> Result<Option<Place>, BlockError>
         ensures reads { ReadsBlocks B.Blocks IsFault blocks.old blocks.new result }
         ensures within { IfOk result (λ place. IfSome place (λ p. p.block < self.now.count)) }
         ensures ordinary { IfOk result (λ place. IfSome place
@@ -190,7 +190,7 @@ impl Edit {
             IfOk result (λ place. IsFirstFound inodes (edited_block disk file.now self.now)
             self.now.count name.now (option_map (λ p. p.number) place)) }
         ensures damaged { (disk : ℕ → List ℕ) → B.Shows blocks.old disk →
-            IsErrOf result ReadError.Damaged →
+            IsErrOf result BlockError.Damaged →
             IsReached (B.count blocks.old) disk file.now self.now.count →
             IsSoundEdit inodes disk file.now self.now → ⊥ }
     {
@@ -204,7 +204,8 @@ impl Edit {
         Ok(None)
     }
 
-    /// The number that a name of the edited directory stands for; None where it is none of its names.
+    /// The number that a name of the edited directory stands for; None where it is none of its
+    /// names.
     pub fn find<B: Blocks>(
         &self,
         file: &File,
@@ -212,7 +213,7 @@ impl Edit {
         blocks: &mut B,
         inodes: u32,
         name: &[u8],
-    ) -> Result<Option<u32>, ReadError>
+    ) -> Result<Option<u32>, BlockError>
         ensures reads { ReadsBlocks B.Blocks IsFault blocks.old blocks.new result }
         ensures knows { (disk : ℕ → List ℕ) → B.Shows blocks.old disk →
             Knows inodes (edited_block disk file.now self.now) known.old →
@@ -227,7 +228,7 @@ impl Edit {
             self.now.count name.now) }
         ensures ordinary { IfOk result (λ number. IfSome number (IsObjectNumber inodes)) }
         ensures damaged { (disk : ℕ → List ℕ) → B.Shows blocks.old disk →
-            IsErrOf result ReadError.Damaged →
+            IsErrOf result BlockError.Damaged →
             IsReached (B.count blocks.old) disk file.now self.now.count →
             IsSoundEdit inodes disk file.now self.now → ⊥ }
     {
@@ -237,7 +238,8 @@ impl Edit {
         }
     }
 
-    /// Makes the edit: the directory's file has the prepared blocks from now on. The answer is what is known of them.
+    /// Makes the edit: the directory's file has the prepared blocks from now on. The answer is what
+    /// is known of them.
     pub fn commit(self, file: &mut File) -> Known
         requires { FitsIn file.old self }
         ensures size { file.new.size ≡ 4096 * self.count }

@@ -1,6 +1,6 @@
 //! Why a name was not added.
 
-use blocktree::ReadError;
+use buffers::BlockError;
 use std::alloc::{AllocError, AllocFailed};
 use thiserror::Error;
 
@@ -42,17 +42,17 @@ impl<T: Drop> From<AllocFailed<T>> for AddError {
     }
 }
 
-impl From<ReadError> for AddError {
+impl From<BlockError> for AddError {
     ghost use Rattle.std.specs.Prelude.{◌≡◌};
     ghost use Rattle.dirs.specs.Errors.{add_error};
 
     ghost from_gives = { λ r e. e ≡ add_error r };
 
-    fn from(error: ReadError) -> AddError {
+    fn from(error: BlockError) -> AddError {
         match error {
-            ReadError::NoMemory => AddError::NoMemory,
-            ReadError::Device => AddError::Device,
-            ReadError::Damaged => AddError::Damaged,
+            BlockError::NoMemory => AddError::NoMemory,
+            BlockError::Device => AddError::Device,
+            BlockError::Damaged => AddError::Damaged,
         }
     }
 }

@@ -1,5 +1,6 @@
-//! Directories: a map from names to numbers, in blocks of entries. What is changed of a directory is prepared as one edit, which
-//! may take names away and add one, and is committed without failing. Nothing here knows where a block lies.
+//! Directories: a map from names to numbers, in blocks of entries. What is changed of a directory
+//! is prepared as one edit, which may take names away and add one, and is committed without
+//! failing. Nothing here knows where a block lies.
 #![tactic(auto)]
 
 mod adding;
@@ -16,5 +17,6 @@ pub use error::AddError;
 /// Blocks that the greatest file has.
 const FILE_BLOCKS: u32 = 16_777_216;
 
-/// Blocks that a directory has at the most to which a block was added: those of a file without a third height of indirect blocks.
+/// Blocks that a directory has at the most to which a block was added: those of a file without a
+/// third height of indirect blocks.
 const GROWN_BLOCKS: u32 = 16_384;

@@ -3,11 +3,10 @@
 ghost use Rattle.std.specs.Prelude.{[], OnErr, ◌≤◌, ◌≡◌, ◌<◌, ℕ, List, Option, IfOk, OnOk, IsErrOf, None};
 ghost use Rattle.layout.specs.Directory.{Named};
 ghost use Rattle.buffers.specs.Reads.{ReadsBlocks};
-ghost use Rattle.blocktree.specs.Errors.{IsFault};
+ghost use Rattle.buffers.specs.Errors.{IsFault};
 
 use crate::Edit;
-use blocktree::ReadError;
-use buffers::Blocks;
+use buffers::{BlockError, Blocks};
 use entries::{Known, count, hash_of};
 use inode::File;
 use layout::BLOCK_BYTES;
@@ -30,7 +29,7 @@ impl Edit {
         blocks: &mut B,
         inodes: u32,
         end: u32,
-    ) -> Result<u32, ReadError>
+    ) -> Result<u32, BlockError>
         ensures reads { ReadsBlocks B.Blocks IsFault blocks.old blocks.new result }
         ensures within { IfOk result (λ count. count ≤ end) }
         ensures knows { (disk : ℕ → List ℕ) → B.Shows blocks.old disk →
@@ -41,7 +40,7 @@ impl Edit {
             AllHold inodes end (edited_block disk file.now self.now) entries →
             IfOk result (λ count. (i : ℕ) → count ≤ i → i < end → entries i ≡ []) }
         ensures damaged { (disk : ℕ → List ℕ) → B.Shows blocks.old disk →
-            IsErrOf result ReadError.Damaged →
+            IsErrOf result BlockError.Damaged →
             IsReached (B.count blocks.old) disk file.now end →
             AreDirectoryBlocks inodes end (edited_block disk file.now self.now) → ⊥ }
     {
@@ -55,8 +54,8 @@ impl Edit {
         Ok(0)
     }
 
-    /// Prepares that a name is taken away: its block is closed up, and empty blocks at the directory's end are cut away.
-    /// Nothing happens where the name doesn't stand.
+    /// Prepares that a name is taken away: its block is closed up, and empty blocks at the
+    /// directory's end are cut away. Nothing happens where the name doesn't stand.
     pub fn prepare_remove<B: Blocks>(
         &mut self,
         alloc: Global,
@@ -65,7 +64,7 @@ impl Edit {
         blocks: &mut B,
         inodes: u32,
         name: &[u8],
-    ) -> Result<(), ReadError>
+    ) -> Result<(), BlockError>
         ensures reads { ReadsBlocks B.Blocks IsFault blocks.old blocks.new result }
         ensures file { IsSameFile file.old file.new }
         ensures keeps { KeepsRoom file.old.tree file.new.tree }
@@ -86,7 +85,7 @@ impl Edit {
             HasEditedNames inodes disk file.old self.old names →
             OnErr result (HasEditedNames inodes disk file.new self.new names) }
         ensures damaged { (disk : ℕ → List ℕ) → B.Shows blocks.old disk →
-            IsErrOf result ReadError.Damaged →
+            IsErrOf result BlockError.Damaged →
             IsReached (B.count blocks.old) disk file.old self.old.count →
             IsSoundEdit inodes disk file.old self.old → ⊥ }
     {

@@ -2,15 +2,14 @@
 
 ghost use Rattle.std.specs.Prelude.{◌≡◌, ◌+◌, ◌^◌, ◌<◌, ◌≤◌, ℕ, List, IfOk, IsErrOf, None};
 ghost use Rattle.buffers.specs.Reads.{ReadsBlocks};
-ghost use Rattle.blocktree.specs.Errors.{IsFault};
+ghost use Rattle.buffers.specs.Errors.{IsFault};
 ghost use Rattle.entries.specs.Known.{Knows};
 ghost use Rattle.dirs.specs.Edits.{edited_block, IsReached, IsSoundEdit};
 ghost use Rattle.dirs.specs.Surveys.{SurveysBlocks, IsBounded, next_place, next_room};
 
 use crate::Edit;
 use crate::edit::Place;
-use blocktree::ReadError;
-use buffers::Blocks;
+use buffers::{BlockError, Blocks};
 use entries::{Known, Look, hash_of};
 use inode::File;
 use layout::BLOCK_BYTES;
@@ -26,7 +25,8 @@ pub(crate) struct Survey {
     pub(crate) room: Option<u32>,
 }
 
-/// Counts the names of a directory, looks for one, and finds the first block with room for an entry of so many bytes.
+/// Counts the names of a directory, looks for one, and finds the first block with room for an entry
+/// of so many bytes.
 pub(crate) fn survey_of<B: Blocks>(
     edit: &Edit,
     file: &File,
@@ -35,7 +35,7 @@ pub(crate) fn survey_of<B: Blocks>(
     inodes: u32,
     name: &[u8],
     bytes: usize,
-) -> Result<Survey, ReadError>
+) -> Result<Survey, BlockError>
     requires { bytes ≤ 260 }
     ensures reads { ReadsBlocks B.Blocks IsFault blocks.old blocks.new result }
     ensures knows { (disk : ℕ → List ℕ) → B.Shows blocks.old disk →
@@ -47,7 +47,7 @@ pub(crate) fn survey_of<B: Blocks>(
         (SurveysBlocks inodes (edited_block disk file.now edit.now) edit.now.count name.now bytes) }
     ensures bounded { IfOk result (λ s. IsBounded edit.now.count s s.room) }
     ensures damaged { (disk : ℕ → List ℕ) → B.Shows blocks.old disk →
-        IsErrOf result ReadError.Damaged →
+        IsErrOf result BlockError.Damaged →
         IsReached (B.count blocks.old) disk file.now edit.now.count →
         IsSoundEdit inodes disk file.now edit.now → ⊥ }
 {

@@ -1,4 +1,5 @@
-//! The entries of one block. A block outside its grammar is safe to look at, and nothing is said of what comes out.
+//! The entries of one block. A block outside its grammar is safe to look at, and nothing is said of
+//! what comes out.
 
 ghost use Rattle.std.specs.Prelude.{◌≡◌, ◌+◌, ◌<◌, ◌≤◌, ◌∷◌, [], ◌++◌, List, length, Option, IfSome, IfNone, None, Some, take, drop};
 ghost use Rattle.layout.specs.Bytes.{zeros};

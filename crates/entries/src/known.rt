@@ -2,14 +2,14 @@
 
 ghost use Rattle.std.specs.Prelude.{◌≡◌, ◌≤◌, ◌<◌, ◌+◌, [], ◌∷◌, ◌++◌, ℕ, List, length, IfOk, IfErr, IfSome, OnErr, None};
 ghost use Rattle.layout.specs.Directory.{Named, HoldsEntries, IsEntry, entry_bytes, named_of};
-ghost use Rattle.blocktree.specs.declared.error.ReadError.TheVariants.{Damaged};
+ghost use Rattle.buffers.specs.declared.error.BlockError.TheVariants.{Damaged};
 ghost use Rattle.entries.specs.Entries.{IsObjectNumber, used_by, without};
 
 use crate::MOST_KNOWN;
 use crate::entries::{add, remove};
 use crate::look::{Look, look_at};
 use crate::summary::Summary;
-use blocktree::ReadError;
+use buffers::BlockError;
 use layout::{BLOCK_BYTES, Entry};
 use std::alloc::Global;
 
@@ -36,7 +36,8 @@ impl Known {
         }
     }
 
-    /// What is known of block `i` where it hasn't this name, of which this is the hash; None where nothing is known, or it may have the name.
+    /// What is known of block `i` where it hasn't this name, of which this is the hash; None where
+    /// nothing is known, or it may have the name.
     pub fn skim(&self, i: u32, name: &[u8], hash: usize) -> Option<Look>
         requires { hash ≡ hash_of name.now }
         ensures tells { (inodes : ℕ) (block : ℕ → List ℕ) → Knows inodes block self.now →
@@ -50,8 +51,9 @@ impl Known {
         }
     }
 
-    /// Looks at block `i`, which has these bytes, for a name. Where nothing is known of it, its entries are walked, and what they tell is
-    /// learned, if that is asked for; Damaged where it is outside its grammar.
+    /// Looks at block `i`, which has these bytes, for a name. Where nothing is known of it, its
+    /// entries are walked, and what they tell is learned, if that is asked for; Damaged where it is
+    /// outside its grammar.
     pub fn look_at(
         &mut self,
         i: u32,
@@ -59,7 +61,7 @@ impl Known {
         inodes: u32,
         name: &[u8],
         learns: bool,
-    ) -> Result<Look, ReadError>
+    ) -> Result<Look, BlockError>
         ensures tells { (block : ℕ → List ℕ) → Knows inodes block self.old → block i ≡ bytes.now →
             IfOk result (TellsEntries inodes bytes.now name.now) }
         ensures ordinary { IfOk result (λ l. IfSome l.number (IsObjectNumber inodes)) }
@@ -80,8 +82,8 @@ impl Known {
         Ok(look)
     }
 
-    /// Adds an entry behind the others of block `i`, which has these bytes, where they leave room for it. What is known of the block
-    /// follows.
+    /// Adds an entry behind the others of block `i`, which has these bytes, where they leave room
+    /// for it. What is known of the block follows.
     pub fn add(&mut self, i: u32, bytes: &mut [u8; BLOCK_BYTES], inodes: u32, entry: &Entry<'_>)
         requires { IsEntry inodes (named_of entry.now) }
         ensures length { length bytes.new ≡ length bytes.old }
@@ -102,7 +104,8 @@ impl Known {
         add(bytes, inodes, entry);
     }
 
-    /// Takes the entry with a name out of block `i`, which has these bytes, if there is one. What is known of the block follows.
+    /// Takes the entry with a name out of block `i`, which has these bytes, if there is one. What
+    /// is known of the block follows.
     pub fn remove(&mut self, i: u32, bytes: &mut [u8; BLOCK_BYTES], inodes: u32, name: &[u8])
         ensures length { length bytes.new ≡ length bytes.old }
         ensures holds { (entries : List Named) → HoldsEntries inodes bytes.old entries →

@@ -1,4 +1,5 @@
-//! A block of a directory: its entries, what a look at it tells of a name, and what is known of blocks that were looked at before.
+//! A block of a directory: its entries, what a look at it tells of a name, and what is known of
+//! blocks that were looked at before.
 #![tactic(auto)]
 
 mod entries;
@@ -27,7 +28,8 @@ const SHARED: u8 = 255;
 /// Blocks of one directory of which a summary is kept: its first ones.
 const MOST_KNOWN: u32 = 256;
 
-/// Changes that a summary follows. The marks of names that were taken away stay, so it is made anew before they are many.
+/// Changes that a summary follows. The marks of names that were taken away stay, so it is made anew
+/// before they are many.
 const MOST_CHANGES: u32 = 256;
 
 /// Entries that a block has at the most.

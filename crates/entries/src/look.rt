@@ -2,11 +2,11 @@
 
 ghost use Rattle.std.specs.Prelude.{◌≡◌, ◌≤◌, ◌*◌, List, IfOk, IfErr, IfSome, IfNone, OnErr, length};
 ghost use Rattle.layout.specs.Directory.{Named, HoldsEntries};
-ghost use Rattle.blocktree.specs.declared.error.ReadError.TheVariants.{Damaged};
+ghost use Rattle.buffers.specs.declared.error.BlockError.TheVariants.{Damaged};
 ghost use Rattle.entries.specs.Entries.{IsObjectNumber};
 ghost use Rattle.entries.specs.Looks.{TellsEntries, IsLikely};
 
-use blocktree::ReadError;
+use buffers::BlockError;
 use layout::{BLOCK_BYTES, NextEntry, next_entry};
 
 /// What a look at a block tells.
@@ -25,7 +25,7 @@ pub(crate) fn look_at(
     bytes: &[u8; BLOCK_BYTES],
     inodes: u32,
     name: &[u8],
-) -> Result<Look, ReadError>
+) -> Result<Look, BlockError>
     ensures tells { IfOk result (TellsEntries inodes bytes.now name.now) }
     ensures ordinary { IfOk result (λ l. IfSome l.number (IsObjectNumber inodes)) }
     ensures likely { IfOk result IsLikely }
@@ -34,7 +34,7 @@ pub(crate) fn look_at(
     ensures only { IfErr result (λ e. e ≡ Damaged) }
 {
     let Some(look) = look_from(bytes, inodes, name) else {
-        return Err(ReadError::Damaged);
+        return Err(BlockError::Damaged);
     };
     Ok(look)
 }

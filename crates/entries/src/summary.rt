@@ -55,7 +55,8 @@ impl Summary {
         })
     }
 
-    /// What it tells of a name, of which this is the hash, that its block hasn't; None where the block may have it.
+    /// What it tells of a name, of which this is the hash, that its block hasn't; None where the
+    /// block may have it.
     pub(crate) fn skim(&self, name: &[u8], hash: usize) -> Option<Look>
         requires { hash ≡ hash_of name.now }
         ensures tells { (inodes : ℕ) (bytes : List ℕ) → Summarizes inodes bytes self.now →
@@ -87,8 +88,9 @@ impl Summary {
         }
     }
 
-    /// Adds an entry behind the others of the bytes that it tells of, and tells of the new ones from now on; false where nothing happened:
-    /// where they leave no room, or it followed many changes.
+    /// Adds an entry behind the others of the bytes that it tells of, and tells of the new ones
+    /// from now on; false where nothing happened: where they leave no room, or it followed many
+    /// changes.
     pub(crate) fn add(
         &mut self,
         bytes: &mut [u8; BLOCK_BYTES],
@@ -116,8 +118,9 @@ impl Summary {
         true
     }
 
-    /// Takes the entry with a name out of the bytes that it tells of, and tells of the new ones from now on; false where nothing happened:
-    /// where the name doesn't stand among them, it followed many changes, or what would be left is more than so many entries have.
+    /// Takes the entry with a name out of the bytes that it tells of, and tells of the new ones
+    /// from now on; false where nothing happened: where the name doesn't stand among them, it
+    /// followed many changes, or what would be left is more than so many entries have.
     pub(crate) fn remove(&mut self, bytes: &mut [u8; BLOCK_BYTES], inodes: u32, name: &[u8]) -> bool
         ensures same { IsFalse result → bytes.new ≡ bytes.old }
         ensures holds { (entries : List Named) → HoldsEntries inodes bytes.old entries →

@@ -69,8 +69,8 @@ abbrev pub nvram_step : Part → ℕ → List ℕ → List ℕ → List ℕ → 
 nvram_step Disk at bytes = LeavesFile
 nvram_step Nvram at bytes = PrefixKept at bytes
 
--- A file went on by a step from one moment to another: whatever a cut leaves of it within or after that is what one
--- might have left before, after the step. Earlier moments stay as they were.
+-- A file went on by a step from one moment to another: whatever a cut leaves of it within or after
+-- that is what one might have left before, after the step. Earlier moments stay as they were.
 pub record FileWent (step : List ℕ → List ℕ → Type 0) (from to : ℕ)
     (old new : FileMeaning) : Type 0 where
   pub kept : (t : ℕ) (f : List ℕ) → t ≤ from → new.left_at t f ↔ old.left_at t f

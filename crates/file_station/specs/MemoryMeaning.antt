@@ -8,7 +8,8 @@ use Rattle.file_station.specs.declared.image_files.Part.TheVariants.{Disk, Nvram
 use Rattle.file_station.specs.declared.memory_files.FileWrite.{FileWrite}
 use Rattle.file_station.specs.declared.memory_files.MemoryFiles.{MemoryFiles}
 
--- a file that held this first, after these writes: each is a moment, after which a cut leaves just what was written
+-- a file that held this first, after these writes: each is a moment, after which a cut leaves just
+-- what was written
 abbrev pub file_known : Part → List ℕ → List FileWrite → FileMeaning
 file_known part first writes = record {
   length = length first;

@@ -20,15 +20,17 @@ pub enum SizeError {
     /// A file's size can't be read.
     #[error("the file's size can't be read")]
     Unreadable,
-    /// The disk's size is no multiple of 512 bytes, or a count of sectors or bytes doesn't fit 32 bits.
+    /// The disk's size is no multiple of 512 bytes, or a count of sectors or bytes doesn't fit 32
+    /// bits.
     #[error("no station has a file of this size")]
     BadSize,
 }
 
-/// A station over two files: the disk's sectors one after the other, and the NVRAM's bytes. It is honest where the
-/// files are. Each NVRAM write is followed by a sync of the NVRAM's file, since a station keeps what such a write
-/// wrote. A sync is one of both files, so that an NVRAM write whose own sync failed is settled by the next sync. A block's
-/// sectors are read at once, and are at hand until another block is read or the disk is written.
+/// A station over two files: the disk's sectors one after the other, and the NVRAM's bytes. It is
+/// honest where the files are. Each NVRAM write is followed by a sync of the NVRAM's file, since a
+/// station keeps what such a write wrote. A sync is one of both files, so that an NVRAM write whose
+/// own sync failed is settled by the next sync. A block's sectors are read at once, and are at hand
+/// until another block is read or the disk is written.
 #[derive(Drop)]
 pub struct FileStation<M: ImageFiles> {
     files: M,
@@ -42,8 +44,8 @@ pub struct FileStation<M: ImageFiles> {
 }
 
 impl<M: ImageFiles + Drop> FileStation<M> {
-    /// A station over these files. BadSize exactly where the disk's file is no whole number of sectors, or a count
-    /// (of sectors, of NVRAM bytes) is past `u32::MAX`.
+    /// A station over these files. BadSize exactly where the disk's file is no whole number of
+    /// sectors, or a count (of sectors, of NVRAM bytes) is past `u32::MAX`.
     pub fn over(files: M) -> Result<FileStation<M>, SizeError>
         ensures files { IfOk result (λ s. s.files ≡ files) }
         ensures no_fault { IfOk result (λ s. (s.failed_reads ≡ 0) × (s.failed_writes ≡ 0)) }
@@ -97,7 +99,8 @@ impl<M: ImageFiles + Drop> FileStation<M> {
         }
     }
 
-    /// Reads a block, as far as the disk has its sectors. It is at hand then, but where the file can't be read so.
+    /// Reads a block, as far as the disk has its sectors. It is at hand then, but where the file
+    /// can't be read so.
     fn fetch(&mut self, block: u32)
         requires { 8 * block < (M.meaning self.old.files).disk.length / 512 }
         ensures same { AreSameFiles (M.meaning self.old.files) (M.meaning self.new.files) }
@@ -197,8 +200,8 @@ impl<M: ImageFiles + Drop> Station for FileStation<M> {
         self.files.len(Part::Nvram) as u32
     }
 
-    /// Always true where it succeeds: a file that can't be read is a call that fails. Where the block can't be read at once, the
-    /// sector alone may be.
+    /// Always true where it succeeds: a file that can't be read is a call that fails. Where the
+    /// block can't be read at once, the sector alone may be.
     fn read_sector(&mut self, n: u32, out: &mut [u8; 512]) -> Result<bool, DeviceFault> {
         let block = n / BLOCK_SECTORS;
         if !self.has(block) {

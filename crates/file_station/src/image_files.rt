@@ -14,15 +14,18 @@ pub enum Part {
     Nvram,
 }
 
-/// The two files of an image, of lengths that don't change, under one clock: moments pass for both together. Every
-/// call may fail. The words that the clauses below use speak of files that are *honest*, which means that they keep to
-/// these rules:
+/// The two files of an image, of lengths that don't change, under one clock: moments pass for both
+/// together. Every call may fail. The words that the clauses below use speak of files that are
+/// *honest*, which means that they keep to these rules:
 /// - a read gives what was written last;
-/// - a write to the disk's file that isn't synced yet, or that failed, leaves in each aligned sector of 512 bytes,
+/// - a write to the disk's file that isn't synced yet, or that failed, leaves in each aligned
+///   sector of 512 bytes,
 ///   independently of the others, what was there or what the write made of it;
-/// - a write to the NVRAM's file that isn't synced yet, or that failed, leaves a beginning of its bytes, from none to
+/// - a write to the NVRAM's file that isn't synced yet, or that failed, leaves a beginning of its
+///   bytes, from none to
 ///   all; reads of one that failed may give another beginning than a cut leaves;
-/// - a sync of a file that succeeds settles what its reads give: a cut leaves just that of it;
+/// - a sync of a file that succeeds makes durable what its reads give: a cut leaves just that of
+///   it;
 /// - a cut leaves each of the two files independently of the other.
 ///
 /// `MemoryFiles` are honest.
@@ -53,7 +56,7 @@ pub trait ImageFiles {
         ensures written { OnOk result (ShowsFile (meaning self.old) part
             (λ file. (file_of (meaning self.new) part).seen ≡ file_with at bytes.now file)) };
 
-    /// Settles what reads of this file give.
+    /// Makes durable what reads of this file give.
     fn sync(&mut self, part: Part) -> io::Result<()>
         ensures same { AreSameFiles (meaning self.old) (meaning self.new) }
         ensures goes { FilesGo LeavesFile LeavesFile (meaning self.old) (meaning self.new) }

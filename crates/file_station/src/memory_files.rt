@@ -17,8 +17,9 @@ pub(crate) struct FileWrite {
     bytes: Vec<u8>,
 }
 
-/// Two files in memory, where each write is settled at once. They keep the list of their writes, from which their
-/// meaning tells past moments. A write for which there is no memory fails and changes nothing.
+/// Two files in memory, where each write is settled at once. They keep the list of their writes,
+/// from which their meaning tells past moments. A write for which there is no memory fails and
+/// changes nothing.
 ///
 /// They show that the rules at `ImageFiles` can be met, and serve tests.
 #[derive(Drop)]

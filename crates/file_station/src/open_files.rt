@@ -11,8 +11,8 @@ use std::fs::OpenFile;
 use std::io;
 use std::os::unix::fs::FileExt;
 
-/// Two open files, of the lengths that they had when they were given. A station tells of a call only that it failed, so the
-/// first one that the system let fail is kept here.
+/// Two open files, of the lengths that they had when they were given. A station tells of a call
+/// only that it failed, so the first one that the system let fail is kept here.
 #[derive(Drop)]
 pub struct OpenFiles<F> {
     disk: F,
@@ -23,9 +23,9 @@ pub struct OpenFiles<F> {
 }
 
 impl<F: FileExt + OpenFile + Drop> FileStation<OpenFiles<F>> {
-    /// A station over these files, open for reading and writing. Unreadable where a file's length can't be had,
-    /// BadSize where the disk's is no whole number of sectors, or a count (of sectors, of NVRAM bytes) is past
-    /// `u32::MAX`.
+    /// A station over these files, open for reading and writing. Unreadable where a file's length
+    /// can't be had, BadSize where the disk's is no whole number of sectors, or a count (of
+    /// sectors, of NVRAM bytes) is past `u32::MAX`.
     pub fn new(disk: F, nvram: F) -> Result<FileStation<OpenFiles<F>>, SizeError>
         ensures files { IfOk result (λ s. (s.files.disk ≡ disk) × (s.files.nvram ≡ nvram)) }
         ensures sizes { IfOk result
@@ -58,9 +58,10 @@ pub(crate) fn size_of_file<F: OpenFile>(file: &F) -> Result<u64, SizeError> {
     }
 }
 
-// No contract can say what a file of the operating system keeps, so nothing is claimed of one: these files are never
-// honest, and no clause on honest files or on an honest station says anything of them. That a file system keeps to the
-// rules at `ImageFiles` is a premise outside the proof, and this block, which calls it, is all that rests on it.
+// No contract can say what a file of the operating system keeps, so nothing is claimed of one:
+// these files are never honest, and no clause on honest files or on an honest station says anything
+// of them. That a file system keeps to the rules at `ImageFiles` is a premise outside the proof,
+// and this block, which calls it, is all that rests on it.
 impl<F: FileExt + OpenFile + Drop> ImageFiles for OpenFiles<F> {
     ghost meaning = { λ s. claims_nothing s.disk_bytes s.nvram_bytes };
 

@@ -1,4 +1,5 @@
-//! The two files of an image as open files that are read with other bytes over theirs, and never written.
+//! The two files of an image as open files that are read with other bytes over theirs, and never
+//! written.
 
 ghost use Rattle.std.specs.Prelude.{◌≡◌, IfOk};
 ghost use Rattle.file_station.specs.Files.{claims_nothing};
@@ -18,8 +19,8 @@ pub struct Patch {
     pub bytes: Vec<u8>,
 }
 
-/// Two open files with patches over them, of any lengths: behind a file's end there are zeros. A write fails, and a sync has
-/// nothing to settle.
+/// Two open files with patches over them, of any lengths: behind a file's end there are zeros. A
+/// write fails, and a sync has nothing to settle.
 #[derive(Drop)]
 pub struct PatchedFiles<F> {
     disk: F,
@@ -34,9 +35,9 @@ pub struct PatchedFiles<F> {
 }
 
 impl<F: FileExt + OpenFile + Drop> FileStation<PatchedFiles<F>> {
-    /// A station over these files, open for reading, as if they had these lengths and were patched so. Unreadable where a file's
-    /// own length can't be had, BadSize where the disk's is no whole number of sectors, or a count (of sectors, of NVRAM bytes)
-    /// is past `u32::MAX`.
+    /// A station over these files, open for reading, as if they had these lengths and were patched
+    /// so. Unreadable where a file's own length can't be had, BadSize where the disk's is no whole
+    /// number of sectors, or a count (of sectors, of NVRAM bytes) is past `u32::MAX`.
     pub fn patched(
         disk: F,
         nvram: F,

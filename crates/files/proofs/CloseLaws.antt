@@ -9,15 +9,15 @@ use Rattle.model.specs.Edits.{IsSwept, with_descriptor}
 use Rattle.model.specs.Outcomes.{Outcome, changes_swept}
 use Rattle.model.specs.Room.{nothing}
 use Rattle.model.specs.Trees.{Tree, Description}
-use Rattle.model.specs.Volumes.{IsMounted, IsVolume, Node, Volume, directory_node, file_node, link_node, is_file_node, is_nameless, is_open, swept, swept_node, tree_of, with_node}
+use Rattle.model.specs.Volumes.{IsMounted, IsVolume, Node, Volume, directory_node, file_node, link_node, is_file_node, is_orphan, is_open, swept, swept_node, tree_of, with_node}
 use Rattle.model.specs.declared.reply.Reply.TheVariants.{Done, Refused}
 use Rattle.model.specs.declared.errno.Errno.TheVariants.{EBADF}
-use Rattle.blocktree.specs.Errors.{IsFault}
-use Rattle.blocktree.specs.declared.error.ReadError.{ReadError}
+use Rattle.buffers.specs.Errors.{IsFault}
+use Rattle.buffers.specs.declared.error.BlockError.{BlockError}
 use Rattle.buffers.specs.declared.blocks.Blocks.{Ghosts}
 use Rattle.model.proofs.OptionLaws.{some_same}
 use Rattle.model.proofs.RecordLemmas.{swept_twice}
-use Rattle.model.proofs.SweepLemmas.{IsNameless, found_open, opened_by, stays_named, stays_open, swept_from}
+use Rattle.model.proofs.SweepLemmas.{IsOrphan, found_open, opened_by, stays_named, stays_open, swept_from}
 use Rattle.inofile.specs.declared.inode_file.InodeFile.{InodeFile}
 use Rattle.paths.specs.Standing.{Looks}
 use Rattle.paths.proofs.Looks.{looks_ok}
@@ -29,7 +29,7 @@ use Rattle.descriptors.specs.Fits.{FitsVolume}
 use Rattle.descriptors.specs.Tables.{open_at, put_open, table_of}
 use Rattle.descriptors.specs.declared.open_file.OpenFile.{OpenFile}
 use Rattle.descriptors.specs.declared.table.Descriptors.{Descriptors}
-use Rattle.files.specs.Closing.{ClosesReady, IsOpenNameless, PreparesClose, swept_at}
+use Rattle.files.specs.Closing.{ClosesReady, IsOpenOrphan, PreparesClose, swept_at}
 use Rattle.files.specs.Opened.{tree_with}
 use Rattle.records.specs.Opened.{HasNumbers}
 use Rattle.files.proofs.OpenLaws as laws
@@ -45,8 +45,8 @@ stays_any true o is = stays_open o
 stays_any false o is = is
 
 -- a file with names isn't nameless
-not_nameless : (o : Option Node) (figures : Figures) → node_figures o ≡ Some figures → 0 < figures.links → ¬ IsNameless o
-not_nameless o figures is some (attributes, bytes, same) =
+not_orphan : (o : Option Node) (figures : Figures) → node_figures o ≡ Some figures → 0 < figures.links → ¬ IsOrphan o
+not_orphan o figures is some (attributes, bytes, same) =
     let none : 0 ≡ figures.links = ap (λ (k : Figures). k.links) (some_same (sym (ap node_figures same) ∙ is)) in omega (arith, none, some)
 
 module _ (old new : Descriptors) (fd : ℕ) (freed : table_of new ≡ put_open fd None (table_of old)) where
@@ -156,7 +156,7 @@ module _ (table : ℕ → Option Description) (n : ℕ) (v : Volume) where
   open_stays opened = stays_at (ap (λ (b : Bool). swept_node b (v n)) opened ∙ stays_open (v n))
 
   pub named_stays : (figures : Figures) → node_figures (v n) ≡ Some figures → 0 < figures.links → v ≡ swept_at table n v
-  named_stays figures is some = stays_at (stays_named (is_open table 32 n) (v n) (not_nameless (v n) figures is some))
+  named_stays figures is some = stays_at (stays_named (is_open table 32 n) (v n) (not_orphan (v n) figures is some))
 
 -- a descriptor less changes no number
 pub freed_numbers : (inodes : ℕ) (old new : Descriptors) (fd : ℕ) → ((d : ℕ) → open_at new d ≡ put_open fd None (open_at old) d) → HasNumbers inodes old → HasNumbers inodes new
@@ -169,16 +169,16 @@ freed_numbers inodes old new fd files has = record {
 }
 
 -- the file of a descriptor has no name in the volume
-pub open_nameless : (table : Descriptors) (fd : ℕ) (f : OpenFile) (v : Volume) → FitsVolume table v → open_at table fd ≡ Some f → f.links ≡ 0 → IsOpenNameless v table fd
-open_nameless table fd f v fits some none = (f, some, nameless (v f.number) (figures_of f) (fits.files fd f some) none)
+pub open_orphan : (table : Descriptors) (fd : ℕ) (f : OpenFile) (v : Volume) → FitsVolume table v → open_at table fd ≡ Some f → f.links ≡ 0 → IsOpenOrphan v table fd
+open_orphan table fd f v fits some none = (f, some, orphans (v f.number) (figures_of f) (fits.files fd f some) none)
   where
-    nameless : (o : Option Node) (figures : Figures) → node_figures o ≡ Some figures → figures.links ≡ 0 → is_nameless o ≡ true
-    nameless None figures is none = cc
-    nameless (Some (directory_node attributes names)) figures is none = cc
-    nameless (Some (file_node attributes zero bytes)) figures is none = refl
-    nameless (Some (file_node attributes (suc links) bytes)) figures is none =
+    orphans : (o : Option Node) (figures : Figures) → node_figures o ≡ Some figures → figures.links ≡ 0 → is_orphan o ≡ true
+    orphans None figures is none = cc
+    orphans (Some (directory_node attributes names)) figures is none = cc
+    orphans (Some (file_node attributes zero bytes)) figures is none = refl
+    orphans (Some (file_node attributes (suc links) bytes)) figures is none =
         let many : suc links ≡ figures.links = ap (λ (k : Figures). k.links) (some_same is) in absurd (omega (arith, many, none))
-    nameless (Some (link_node attributes text)) figures is none = cc
+    orphans (Some (link_node attributes text)) figures is none = cc
 
 on_err : {T E : Type 0} {P : Type 0} (r : Result T E) → P → OnErr r P
 on_err (Ok x) is = tt
@@ -186,13 +186,13 @@ on_err (Err e) is = is
 
 -- ---- before a descriptor is freed
 
-ready_by : {T : Type 0} (table : Descriptors) (fd : ℕ) (r : Result T ReadError) (t : InodeFile) (f : OpenFile) → open_at table fd ≡ Some f → OnOk r (IsAtHand t f.number)
+ready_by : {T : Type 0} (table : Descriptors) (fd : ℕ) (r : Result T BlockError) (t : InodeFile) (f : OpenFile) → open_at table fd ≡ Some f → OnOk r (IsAtHand t f.number)
     → OnOk r (ClosesReady t table fd)
 ready_by table fd (Err e) t f some here = tt
 ready_by table fd (Ok x) t f some here = λ g is none. subst (λ (k : OpenFile). IsAtHand t k.number) (some_same (sym some ∙ is)) here
 
 module _ {B T : Type 0} {G : Ghosts B} {table : Descriptors} {fd : ℕ} where
-  -- nothing is needed where no file without a name is open there
+  -- nothing is needed where no orphan is open there
   pub needs_nothing : {a : B} {s : InodeFile} {x : T} → ((f : OpenFile) → open_at table fd ≡ Some f → f.links ≡ 0 → ⊥) → PreparesClose G a a s s table fd (Ok x)
   needs_nothing other = record {
     looks = looks_ok no_look;
@@ -204,13 +204,13 @@ module _ {B T : Type 0} {G : Ghosts B} {table : Descriptors} {fd : ℕ} where
   }
 
   -- and else this file is taken into memory
-  pub prepared : {a b : B} {s t : InodeFile} {r : Result T ReadError} → Looks G IsFault a b s t r → (f : OpenFile) → OnOk r (IsAtHand t f.number) → NeverDamaged G a s r
+  pub prepared : {a b : B} {s t : InodeFile} {r : Result T BlockError} → Looks G IsFault a b s t r → (f : OpenFile) → OnOk r (IsAtHand t f.number) → NeverDamaged G a s r
       → open_at table fd ≡ Some f → f.links ≡ 0 → PreparesClose G a b s t table fd r
   prepared {t = t} {r = r} looks f here sound some none = record {
     looks = looks;
     ready = ready_by table fd r t f some here;
-    sure = λ disk settled v stands volume mounted fits. on_err r (open_nameless table fd f v fits some none);
-    still = λ disk settled v stands volume mounted fits named. absurd (named (open_nameless table fd f v fits some none));
+    sure = λ disk settled v stands volume mounted fits. on_err r (open_orphan table fd f v fits some none);
+    still = λ disk settled v stands volume mounted fits named. absurd (named (open_orphan table fd f v fits some none));
     linked = λ is. absurd (is f some none);
     damaged = sound;
   }

@@ -4,6 +4,6 @@ pub mod SeekLaws
 pub mod CloseLaws
 pub mod ReadLaws
 pub mod WriteLaws
-pub mod CutLaws
+pub mod FtruncateLaws
 pub mod NameLaws
 pub mod OpeningLaws

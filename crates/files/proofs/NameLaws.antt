@@ -7,7 +7,7 @@ use Rattle.model.specs.Laws.{VolumesTellLinks}
 use Rattle.model.specs.Reading.{tells_stat}
 use Rattle.model.specs.Room.{nothing}
 use Rattle.model.specs.Trees.{Description, HasPath, Tree, file}
-use Rattle.model.specs.Volumes.{IsVolume, Node, Volume, directory_node, file_node, link_node, is_file_node, is_nameless, number_at, entries, object_at, object_of, tree_of}
+use Rattle.model.specs.Volumes.{IsVolume, Node, Volume, directory_node, file_node, link_node, is_file_node, is_orphan, number_at, entries, object_at, object_of, tree_of}
 use Rattle.model.specs.declared.errno.Errno.{Errno}
 use Rattle.model.specs.declared.reply.Reply.TheVariants as replies
 use Rattle.model.specs.declared.reply.Stat.{Stat}
@@ -34,20 +34,20 @@ module _ (inodes n : ℕ) (v : Volume) (table : ℕ → Option Description) (tel
   abbrev t : Tree
   t = tree_of v table
 
-  path_by : (attributes : Attributes) (links : ℕ) (bytes : List ℕ) → v n ≡ Some (file_node attributes links bytes) → is_nameless (v n) ≡ false → HasPath t n
-  path_by attributes zero bytes is named = absurd (false≢true (sym named ∙ ap is_nameless is))
+  path_by : (attributes : Attributes) (links : ℕ) (bytes : List ℕ) → v n ≡ Some (file_node attributes links bytes) → is_orphan (v n) ≡ false → HasPath t n
+  path_by attributes zero bytes is named = absurd (false≢true (sym named ∙ ap is_orphan is))
   path_by attributes (suc links) bytes is named = let one = tell_links inodes v table n attributes (suc links) bytes volume is in (one.0, file n, one.1, refl)
 
-  pub has_path : is_nameless (v n) ≡ false → HasPath t n
+  pub has_path : is_orphan (v n) ≡ false → HasPath t n
   has_path named = let f = file_of (v n) a_file in path_by f.0 f.1 f.2 f.3 named
 
-  name_by : (attributes : Attributes) (links : ℕ) (bytes : List ℕ) → v n ≡ Some (file_node attributes links bytes) → HasPath t n → is_nameless (v n) ≡ false
+  name_by : (attributes : Attributes) (links : ℕ) (bytes : List ℕ) → v n ≡ Some (file_node attributes links bytes) → HasPath t n → is_orphan (v n) ≡ false
   name_by attributes zero bytes is (p, o, at, same) =
       let number_is = found_number v (number_at (entries v) p) o n at same in
       absurd (tell_links inodes v table n attributes 0 bytes volume is p (ap (object_at v) number_is ∙ ap (object_of n) is))
-  name_by attributes (suc links) bytes is path = ap is_nameless is
+  name_by attributes (suc links) bytes is path = ap is_orphan is
 
-  pub has_name : HasPath t n → is_nameless (v n) ≡ false
+  pub has_name : HasPath t n → is_orphan (v n) ≡ false
   has_name path = let f = file_of (v n) a_file in name_by f.0 f.1 f.2 f.3 path
 
 -- ---- what is told of an open file

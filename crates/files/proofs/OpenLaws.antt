@@ -13,7 +13,7 @@ use Rattle.model.specs.declared.errno.Errno.TheVariants.{EBADF}
 use Rattle.model.specs.declared.reply.Reply.{Reply}
 use Rattle.model.specs.declared.reply.Reply.TheVariants.{Refused}
 use Rattle.model.proofs.OptionLaws.{some_same}
-use Rattle.paths.specs.Numbers.{IsNumber}
+use Rattle.paths.specs.Numbers.{IsInodeNumber}
 use Rattle.records.specs.Opened.{HasNumbers}
 use Rattle.descriptors.specs.Files.{description_of, figures_of}
 use Rattle.descriptors.specs.Fits.{IsFileOf}
@@ -67,7 +67,7 @@ moved_numbers inodes old new fd place f some files has = record {
       elim (cases_eq d fd) [
         | inl same ↦
             let is : Some (record f { offset = place }) ≡ Some g = sym (cond-true (d == fd) _ _ (eq-eqb d fd same)) ∙ sym (files d) ∙ e in
-            subst (λ (k : OpenFile). IsNumber inodes k.number) (some_same is) (has.numbers fd f some)
+            subst (λ (k : OpenFile). IsInodeNumber inodes k.number) (some_same is) (has.numbers fd f some)
         | inr other ↦ has.numbers d g (sym (cond-false (d == fd) _ _ (ne_eqb d fd other)) ∙ sym (files d) ∙ e)
       ];
 }

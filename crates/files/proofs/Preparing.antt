@@ -5,14 +5,14 @@ use Rattle.std.specs.Result.{IsErrAnd}
 use Rattle.std.proofs.lemmas.Result.{IfOk-weaker}
 use Rattle.model.specs.Volumes.{Volume}
 use Rattle.model.specs.declared.errno.Errno.{Errno}
-use Rattle.blocktree.specs.Errors.{IsFault}
-use Rattle.blocktree.specs.declared.error.ReadError.{ReadError}
+use Rattle.buffers.specs.Errors.{IsFault}
+use Rattle.buffers.specs.declared.error.BlockError.{BlockError}
 use Rattle.buffers.specs.declared.blocks.Blocks.{Ghosts}
 use Rattle.inofile.specs.declared.inode_file.InodeFile.{InodeFile}
 use Rattle.paths.specs.Loads.{IsAny}
 use Rattle.paths.specs.Standing.{Looks}
 use Rattle.paths.proofs.Looks.{looks_err, looks_ok}
-use Rattle.records.specs.Failures.{told}
+use Rattle.records.specs.Failures.{read_outcome}
 use Rattle.records.specs.Prepared.{Does, IsReady}
 use Rattle.records.specs.Shown.{NeverDamaged, OnVolumes}
 use Rattle.records.specs.declared.failure.Failure.{Failure}
@@ -28,9 +28,9 @@ use Rattle.files.specs.Opened.{OnOpen}
 use Rattle.files.specs.Preparing.{AnswersOpen, Changes, PreparesOpen, PreparesTold, of_changing}
 use Rattle.files.specs.Reading.{AnswersMoving}
 
-module _ {B T : Type 0} {changes : Changes T} {W : T → Type 0} {G : Ghosts B} {a b : B} {s t : InodeFile} {Told : Result (Result T Errno) ReadError → Type 0} where
+module _ {B T : Type 0} {changes : Changes T} {W : T → Type 0} {G : Ghosts B} {a b : B} {s t : InodeFile} {Told : Result (Result T Errno) BlockError → Type 0} where
   -- the call isn't refused
-  pub grants : {X : Type 0} {x : X} {y : T} → Looks {T = X} {E = ReadError} G IsFault a b s t (Ok x) → W y → changes y (λ p change. IsReady t p)
+  pub grants : {X : Type 0} {x : X} {y : T} → Looks {T = X} {E = BlockError} G IsFault a b s t (Ok x) → W y → changes y (λ p change. IsReady t p)
       → OnVolumes G a s (λ disk settled v. changes y (λ p change. Does disk settled t v p change)) → Told (Ok (Ok y)) → PreparesTold changes W G a b s t Told (Ok y)
   grants looks within ready does says = record {
     looks = looks_ok looks;
@@ -43,7 +43,7 @@ module _ {B T : Type 0} {changes : Changes T} {W : T → Type 0} {G : Ghosts B} 
   }
 
   -- the call is refused by an errno
-  pub refuses : {X : Type 0} {x : X} {e : Errno} → Looks {T = X} {E = ReadError} G IsFault a b s t (Ok x) → IsTrue (is_path_refusal e) → Told (Ok (Err e))
+  pub refuses : {X : Type 0} {x : X} {e : Errno} → Looks {T = X} {E = BlockError} G IsFault a b s t (Ok x) → IsTrue (is_path_refusal e) → Told (Ok (Err e))
       → PreparesTold changes W G a b s t Told (Err (Refused e))
   refuses looks own says = record {
     looks = looks_ok looks;
@@ -56,7 +56,7 @@ module _ {B T : Type 0} {changes : Changes T} {W : T → Type 0} {G : Ghosts B} 
   }
 
   -- a block wasn't read
-  pub stops : {X : Type 0} {e : ReadError} → Looks {T = X} G IsFault a b s t (Err e) → NeverDamaged {T = X} G a s (Err e) → Told (Err e)
+  pub stops : {X : Type 0} {e : BlockError} → Looks {T = X} G IsFault a b s t (Err e) → NeverDamaged {T = X} G a s (Err e) → Told (Err e)
       → PreparesTold changes W G a b s t Told (Err (Read e))
   stops {e = e} looks sound says = record {
     looks = looks_err (Err e) refl looks;
@@ -94,7 +94,7 @@ module _ {B T : Type 0} {G : Ghosts B} {a b : B} {s t : InodeFile} {table : Desc
     ready = all.ready;
     does = all.does;
     answers = λ disk settled v stands volume mounted fits.
-        IfOk-weaker (told r) _ _ (gives disk settled v stands volume mounted fits) (all.answers disk settled v (table_of table) stands volume mounted);
+        IfOk-weaker (read_outcome r) _ _ (gives disk settled v stands volume mounted fits) (all.answers disk settled v (table_of table) stands volume mounted);
     damaged = all.damaged;
   }
 
@@ -107,7 +107,7 @@ module _ {B T : Type 0} {G : Ghosts B} {a b : B} {s t : InodeFile} {table : Desc
     within = any r;
     ready = any r;
     does = λ disk settled v stands. any r;
-    answers = λ disk settled v stands volume mounted fits. IfOk-weaker (told r) _ _ (gives disk settled v stands volume mounted fits) (seen.tells disk settled v stands);
+    answers = λ disk settled v stands volume mounted fits. IfOk-weaker (read_outcome r) _ _ (gives disk settled v stands volume mounted fits) (seen.tells disk settled v stands);
     damaged = seen.damaged;
   }
 

@@ -15,12 +15,12 @@ use Rattle.model.specs.Volumes.{IsMounted, Volume, is_file_node, tree_of}
 use Rattle.model.specs.declared.errno.Errno.{Errno}
 use Rattle.model.specs.declared.errno.Errno.TheVariants.{EFBIG}
 use Rattle.model.specs.declared.reply.Reply.TheVariants.{Refused, Wrote}
-use Rattle.blocktree.specs.Errors.{IsFault}
-use Rattle.blocktree.specs.declared.error.ReadError.{ReadError}
+use Rattle.buffers.specs.Errors.{IsFault}
+use Rattle.buffers.specs.declared.error.BlockError.{BlockError}
 use Rattle.buffers.specs.declared.blocks.Blocks.{Ghosts}
 use Rattle.inofile.specs.declared.inode_file.InodeFile.{InodeFile}
 use Rattle.paths.specs.Standing.{Looks}
-use Rattle.records.specs.Failures.{told}
+use Rattle.records.specs.Failures.{read_outcome}
 use Rattle.records.specs.Rewriting.{GoesOver, PutsBytes}
 use Rattle.records.specs.Shown.{NeverDamaged, OnMounted}
 use Rattle.records.specs.declared.failure.Failure.{Failure}
@@ -128,14 +128,14 @@ module _ (inodes : ℕ) (v : Volume) (table : Descriptors) (fd : ℕ) (f : OpenF
 -- ---- a write through a descriptor
 
 -- so bytes are put into an open file
-abbrev Puts : {B : Type 0} → Ghosts B → B → InodeFile → OpenFile → ℕ → List ℕ → Result (Result (Option Writing) Errno) ReadError → Type 0
+abbrev Puts : {B : Type 0} → Ghosts B → B → InodeFile → OpenFile → ℕ → List ℕ → Result (Result (Option Writing) Errno) BlockError → Type 0
 Puts G a s f offset bytes x = OnMounted G a s (λ v opened. IsFileOf v f → IfOk x (PutsFile s.geometry.inodes v opened f offset bytes))
 
 module _ {B : Type 0} {G : Ghosts B} {a b : B} {s t : InodeFile} {n : ℕ} (f : OpenFile) (offset : ℕ) (bytes : List ℕ) (same : n ≡ f.number) where
   -- nothing is put into the file of a number, for its size or a block that wasn't read
-  pub put_failed : (e : Failure) (q : Result (Option Writing) Failure) → IsErrAnd q (λ g. g ≡ e) → Looks {T = Result (Option Prepared) Errno} G IsFault a b s t (told (Err e))
-      → IfOk (told {T = Option Prepared} (Err e)) (λ r. IfErr r (λ k. k ≡ EFBIG)) → NeverDamaged {T = Result (Option Prepared) Errno} G a s (told (Err e))
-      → OnMounted G a s (λ v opened. is_file_node (v n) ≡ true → IfOk (told (Err e)) (PutsBytes s.geometry.inodes v opened n offset bytes))
+  pub put_failed : (e : Failure) (q : Result (Option Writing) Failure) → IsErrAnd q (λ g. g ≡ e) → Looks {T = Result (Option Prepared) Errno} G IsFault a b s t (read_outcome (Err e))
+      → IfOk (read_outcome {T = Option Prepared} (Err e)) (λ r. IfErr r (λ k. k ≡ EFBIG)) → NeverDamaged {T = Result (Option Prepared) Errno} G a s (read_outcome (Err e))
+      → OnMounted G a s (λ v opened. is_file_node (v n) ≡ true → IfOk (read_outcome (Err e)) (PutsBytes s.geometry.inodes v opened n offset bytes))
       → PreparesTold (of_writing bytes) (IsTransfer bytes) G a b s t (Puts G a s f offset bytes) q
   put_failed (failures.Refused e) q is looks big sound put =
       carried (PreparesTold (of_writing bytes) (IsTransfer bytes) G a b s t (Puts G a s f offset bytes)) q is
@@ -157,7 +157,7 @@ module _ {B : Type 0} {G : Ghosts B} {a b : B} {s t : InodeFile} {r : Result (Op
     ready = put.ready;
     does = put.does;
     answers = λ disk settled v stands volume mounted fits.
-        IfOk-weaker (told r) _ _ (gives disk settled v stands volume mounted fits) (put.answers disk settled v (table_of table) stands volume mounted (fits.files fd f some));
+        IfOk-weaker (read_outcome r) _ _ (gives disk settled v stands volume mounted fits) (put.answers disk settled v (table_of table) stands volume mounted (fits.files fd f some));
     damaged = put.damaged;
   }
     where

@@ -4,11 +4,11 @@ use Rattle.layout.specs.declared.inode.Inode.{Inode}
 use Rattle.model.specs.Descriptors.{closes}
 use Rattle.model.specs.Room.{nothing}
 use Rattle.model.specs.Trees.{Description}
-use Rattle.model.specs.Volumes.{IsMounted, IsVolume, Volume, is_nameless, is_open, swept, swept_node, with_node}
+use Rattle.model.specs.Volumes.{IsMounted, IsVolume, Volume, is_orphan, is_open, swept, swept_node, with_node}
 use Rattle.model.specs.declared.errno.Errno.{Errno}
 use Rattle.model.specs.declared.limits.TheConstants.{OPEN_FILES}
-use Rattle.blocktree.specs.Errors.{IsFault}
-use Rattle.blocktree.specs.declared.error.ReadError.{ReadError}
+use Rattle.buffers.specs.Errors.{IsFault}
+use Rattle.buffers.specs.declared.error.BlockError.{BlockError}
 use Rattle.buffers.specs.declared.blocks.Blocks.{Ghosts}
 use Rattle.inofile.specs.Room.{memory_room}
 use Rattle.inofile.specs.Volumes.{IsVolumeOf}
@@ -30,8 +30,8 @@ abbrev pub ClosesReady : InodeFile → Descriptors → ℕ → Type 0
 ClosesReady s table fd = (f : OpenFile) → open_at table fd ≡ Some f → f.links ≡ 0 → IsAtHand s f.number
 
 -- a descriptor is open for a file of the volume that has no name
-abbrev pub IsOpenNameless : Volume → Descriptors → ℕ → Type 0
-IsOpenNameless v table fd = (f : OpenFile) × (open_at table fd ≡ Some f) × IsTrue (is_nameless (v f.number))
+abbrev pub IsOpenOrphan : Volume → Descriptors → ℕ → Type 0
+IsOpenOrphan v table fd = (f : OpenFile) × (open_at table fd ≡ Some f) × IsTrue (is_orphan (v f.number))
 
 -- a descriptor is open for a file that has a link, or isn't open
 abbrev pub IsLinked : Descriptors → ℕ → Type 0
@@ -41,17 +41,19 @@ IsLinked table fd = (f : OpenFile) → open_at table fd ≡ Some f → f.links �
 abbrev pub swept_at : (ℕ → Option Description) → ℕ → Volume → Volume
 swept_at table n v = with_node n (swept_node (is_open table OPEN_FILES n) (v n)) v
 
--- What freeing a descriptor needs is in memory then. Only for a file that has no name anything may fail, and only for one a block is read;
--- whatever an image holds, for one that has no link by the table.
-pub record PreparesClose {B T : Type 0} (G : Ghosts B) (blocks after : B) (s t : InodeFile) (table : Descriptors) (fd : ℕ) (result : Result T ReadError) : Type 0 where
+-- What freeing a descriptor needs is in memory then. Only for a file that has no name anything may
+-- fail, and only for one a block is read; whatever an image holds, for one that has no link by the
+-- table.
+pub record PreparesClose {B T : Type 0} (G : Ghosts B) (blocks after : B) (s t : InodeFile) (table : Descriptors) (fd : ℕ) (result : Result T BlockError) : Type 0 where
   pub looks : Looks G IsFault blocks after s t result
   pub ready : OnOk result (ClosesReady t table fd)
-  pub sure : OnOpen G blocks s table (λ v. OnErr result (IsOpenNameless v table fd))
-  pub still : OnOpen G blocks s table (λ v. (IsOpenNameless v table fd → ⊥) → after ≡ blocks)
+  pub sure : OnOpen G blocks s table (λ v. OnErr result (IsOpenOrphan v table fd))
+  pub still : OnOpen G blocks s table (λ v. (IsOpenOrphan v table fd → ⊥) → after ≡ blocks)
   pub linked : IsLinked table fd → (after ≡ blocks) × OnErr result ⊥
   pub damaged : NeverDamaged G blocks s result
 
--- A descriptor is freed, and its file is gone where it has neither name nor another descriptor. A refusal changes nothing.
+-- A descriptor is freed, and its file is gone where it has neither name nor another descriptor. A
+-- refusal changes nothing.
 pub record Closes {T : Type 0} (s t : InodeFile) (table after : Descriptors) (fd : ℕ) (result : Result T Errno) : Type 0 where
   pub geometry : t.geometry ≡ s.geometry
   pub answers : (n : ℕ) (v : Volume) → IsVolume n v → IsMounted v (table_of table)

@@ -6,5 +6,5 @@ pub mod Seeking
 pub mod Closing
 pub mod Reading
 pub mod Writing
-pub mod Cutting
+pub mod Ftruncate
 pub mod Opening

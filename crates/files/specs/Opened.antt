@@ -1,4 +1,5 @@
--- What calls on descriptors promise over memory that stands for a volume, beside the table of open files.
+-- What calls on descriptors promise over memory that stands for a volume, beside the table of open
+-- files.
 use Rattle.std.specs.Prelude.{ℕ, List}
 use Rattle.layout.specs.declared.inode.Inode.{Inode}
 use Rattle.model.specs.Trees.{Tree}

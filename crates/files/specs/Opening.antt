@@ -8,7 +8,7 @@ use Rattle.model.specs.Volumes.{IsMounted, Volume, swept, tree_of}
 use Rattle.model.specs.declared.errno.Errno.{Errno}
 use Rattle.model.specs.declared.limits.TheConstants.{OPEN_FILES}
 use Rattle.model.specs.declared.reply.Reply.TheVariants.{Fd, Refused}
-use Rattle.paths.specs.Numbers.{IsNumber}
+use Rattle.paths.specs.Numbers.{IsInodeNumber}
 use Rattle.calls.specs.Changing.{said_by}
 use Rattle.calls.specs.declared.changed.Changing.{Changing}
 use Rattle.descriptors.specs.Files.{KeepsBounds, description_of}
@@ -25,7 +25,7 @@ of_opening o P = of_changing o.changing P
 
 -- the descriptor is free, and the file and its number keep to the limits
 abbrev pub CanOpen : Descriptors → ℕ → Opening → Type 0
-CanOpen table inodes o = (o.fd < OPEN_FILES) × (open_at table o.fd ≡ None) × KeepsBounds o.file × IsNumber inodes o.file.number
+CanOpen table inodes o = (o.fd < OPEN_FILES) × (open_at table o.fd ≡ None) × KeepsBounds o.file × IsInodeNumber inodes o.file.number
 
 -- the descriptors with the file open
 abbrev pub with_opened : Opening → Descriptors → ℕ → Option Description

@@ -3,13 +3,13 @@ use Rattle.std.specs.Prelude.{Option, Result, IfErr, IfOk, IfSome, IsTrue}
 use Rattle.model.specs.Records.{Change}
 use Rattle.model.specs.Volumes.{Volume}
 use Rattle.model.specs.declared.errno.Errno.{Errno}
-use Rattle.blocktree.specs.Errors.{IsFault}
-use Rattle.blocktree.specs.declared.error.ReadError.{ReadError}
+use Rattle.buffers.specs.Errors.{IsFault}
+use Rattle.buffers.specs.declared.error.BlockError.{BlockError}
 use Rattle.buffers.specs.declared.blocks.Blocks.{Ghosts}
 use Rattle.inofile.specs.declared.inode_file.InodeFile.{InodeFile}
 use Rattle.paths.specs.Loads.{IsAny}
 use Rattle.paths.specs.Standing.{Looks}
-use Rattle.records.specs.Failures.{told}
+use Rattle.records.specs.Failures.{read_outcome}
 use Rattle.records.specs.Prepared.{Does, IsReady}
 use Rattle.records.specs.Shown.{NeverDamaged, OnVolumes}
 use Rattle.records.specs.declared.failure.Failure.{Failure}
@@ -28,17 +28,18 @@ Changes T = T → (Prepared → Change → Type 0) → Type 0
 abbrev pub of_changing : Changes (Option Changing)
 of_changing o P = IfSome o (λ c. P c.prepared (said_by c.change))
 
--- Nothing is done but looking. The call is refused by an errno of paths; or what it is to change is prepared, with room for it in
--- memory, and does what its record says. What is told of it, is told; and no damage is found.
-pub record PreparesTold {B T : Type 0} (changes : Changes T) (IsWithin : T → Type 0) (G : Ghosts B) (blocks after : B) (s t : InodeFile) (Told : Result (Result T Errno) ReadError → Type 0)
+-- Nothing is done but looking. The call is refused by an errno of paths; or what it is to change is
+-- prepared, with room for it in memory, and does what its record says. What is told of it, is told;
+-- and no damage is found.
+pub record PreparesTold {B T : Type 0} (changes : Changes T) (IsWithin : T → Type 0) (G : Ghosts B) (blocks after : B) (s t : InodeFile) (Told : Result (Result T Errno) BlockError → Type 0)
     (result : Result T Failure) : Type 0 where
-  pub looks : Looks G IsFault blocks after s t (told result)
-  pub own : IfOk (told result) (λ r. IfErr r (λ e. IsTrue (is_path_refusal e)))
+  pub looks : Looks G IsFault blocks after s t (read_outcome result)
+  pub own : IfOk (read_outcome result) (λ r. IfErr r (λ e. IsTrue (is_path_refusal e)))
   pub within : IfOk result IsWithin
   pub ready : IfOk result (λ x. changes x (λ p change. IsReady t p))
   pub does : OnVolumes G blocks s (λ disk settled v. IfOk result (λ x. changes x (λ p change. Does disk settled t v p change)))
-  pub answers : Told (told result)
-  pub damaged : NeverDamaged G blocks s (told result)
+  pub answers : Told (read_outcome result)
+  pub damaged : NeverDamaged G blocks s (read_outcome result)
 
 -- the same of a call that is answered so on each mounted volume that the table fits
 abbrev pub PreparesOpen : {B T : Type 0} → Changes T → (T → Type 0) → Ghosts B → B → B → InodeFile → InodeFile → Descriptors

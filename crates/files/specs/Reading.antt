@@ -6,11 +6,11 @@ use Rattle.model.specs.Trees.{Description}
 use Rattle.model.specs.Volumes.{IsMounted, Volume, bytes_of_node}
 use Rattle.model.specs.declared.errno.Errno.{Errno}
 use Rattle.model.specs.declared.errno.Errno.TheVariants.{EBADF, EINVAL}
-use Rattle.blocktree.specs.Errors.{IsFault}
+use Rattle.buffers.specs.Errors.{IsFault}
 use Rattle.buffers.specs.declared.blocks.Blocks.{Ghosts}
 use Rattle.inofile.specs.declared.inode_file.InodeFile.{InodeFile}
 use Rattle.paths.specs.Standing.{Looks}
-use Rattle.records.specs.Failures.{told}
+use Rattle.records.specs.Failures.{read_outcome}
 use Rattle.records.specs.Opened.{HasNumbers}
 use Rattle.records.specs.Shown.{NeverDamaged}
 use Rattle.records.specs.declared.failure.Failure.{Failure}
@@ -26,7 +26,8 @@ use Rattle.files.specs.Opened.{OnOpen}
 abbrev pub read_tests : Bool → Description → Tests
 read_tests is_wrong f = (not f.reads, EBADF) ∷ (is_wrong, EINVAL) ∷ []
 
--- the file that is open at a descriptor and passes these tests, or the refusal: EBADF where none is open
+-- the file that is open at a descriptor and passes these tests, or the refusal: EBADF where none is
+-- open
 abbrev pub PassesOpen : (Description → Tests) → Descriptors → ℕ → Result OpenFile Errno → Type 0
 PassesOpen tests table fd (Ok f) = (open_at table fd ≡ Some f) × (first_refusal (tests (description_of f)) ≡ None)
 PassesOpen tests table fd (Err errno) =
@@ -38,15 +39,16 @@ abbrev pub ReadsFile : Volume → ℕ → ℕ → ℕ → Result (List ℕ) Errn
 ReadsFile v n offset count (Ok bytes) = bytes ≡ read_at offset count (unwrap_or (bytes_of_node (v n)) [])
 ReadsFile v n offset count (Err errno) = ⊥
 
--- Nothing is done but looking, and offsets may move in the table; after an error or a refusal none has moved. A call is answered so on
--- each mounted volume that the table fits; and no damage is found.
+-- Nothing is done but looking, and offsets may move in the table; after an error or a refusal none
+-- has moved. A call is answered so on each mounted volume that the table fits; and no damage is
+-- found.
 pub record AnswersMoving {B T : Type 0} (G : Ghosts B) (blocks after : B) (s t : InodeFile) (table moved : Descriptors) (answer : Volume → Result T Errno → Type 0)
     (result : Result T Failure) : Type 0 where
-  pub looks : Looks G IsFault blocks after s t (told result)
-  pub own : IfOk (told result) (λ r. IfErr r (λ e. IsTrue (is_path_refusal e)))
-  pub answers : OnOpen G blocks s table (λ v. IfOk (told result) (answer v))
+  pub looks : Looks G IsFault blocks after s t (read_outcome result)
+  pub own : IfOk (read_outcome result) (λ r. IfErr r (λ e. IsTrue (is_path_refusal e)))
+  pub answers : OnOpen G blocks s table (λ v. IfOk (read_outcome result) (answer v))
   pub fits : (v : Volume) → FitsVolume table v → FitsVolume moved v
   pub mounted : (v : Volume) → IsMounted v (table_of table) → IsMounted v (table_of moved)
   pub numbers : (n : ℕ) → HasNumbers n table → HasNumbers n moved
   pub refused : OnErr result (moved ≡ table)
-  pub damaged : NeverDamaged G blocks s (told result)
+  pub damaged : NeverDamaged G blocks s (read_outcome result)

@@ -57,7 +57,8 @@ PutsFile inodes v table f offset bytes (Ok None) = PutsBytes inodes v table f.nu
 PutsFile inodes v table f offset bytes (Ok (Some w)) =
     IsBehindWritten f offset bytes w.written × PutsBytes inodes v table f.number offset bytes (Ok (Some w.prepared))
 
--- what a write comes to: a refusal, nothing where there are no bytes, or what its record does, with these descriptors then
+-- what a write comes to: a refusal, nothing where there are no bytes, or what its record does, with
+-- these descriptors then
 abbrev pub WritesFile : Outcome → ℕ → Volume → Descriptors → List ℕ → (Written → ℕ → Option Description) → Result (Option Writing) Errno → Type 0
 WritesFile outcome inodes v table bytes after (Err errno) = outcome (Refused errno) (tree_with table v) nothing
 WritesFile outcome inodes v table bytes after (Ok None) = outcome (Wrote 0) (tree_with table v) nothing

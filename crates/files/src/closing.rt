@@ -11,25 +11,24 @@ ghost use Rattle.descriptors.specs.Fits.{IsFileOf};
 ghost use Rattle.descriptors.specs.Tables.{table_of};
 ghost use Rattle.files.specs.Closing.{Closes, ClosesReady, PreparesClose, swept_at};
 
-use blocktree::ReadError;
-use buffers::Blocks;
+use buffers::{BlockError, Blocks};
 use descriptors::{Descriptors, OpenFile, tables_follow_volumes};
 use inofile::InodeFile;
 use layout::InodeNumber;
 use model::Errno;
-use records::{drop_nameless, load_to_change};
+use records::{drop_orphan, load_to_change};
 use std::alloc::Global;
 
-/// Takes what a close needs: where the descriptor is open for a file that has no name, this file into memory, with room to drop
-/// it. NoMemory; Device where a read failed; Damaged where a block on the way is outside its format; none of them but for such a
-/// file.
+/// Takes what a close needs: where the descriptor is open for a file that has no name, this file
+/// into memory, with room to drop it. NoMemory; Device where a read failed; Damaged where a block
+/// on the way is outside its format; none of them but for such a file.
 pub fn prepare_close<B: Blocks>(
     alloc: Global,
     inodes: &mut InodeFile,
     blocks: &mut B,
     table: &Descriptors,
     fd: u32,
-) -> Result<(), ReadError>
+) -> Result<(), BlockError>
     requires { HasNumbers inodes.old.geometry.inodes table.now }
     ensures { PreparesClose B.Blocks blocks.old blocks.new inodes.old inodes.new table.now fd
         result }
@@ -45,8 +44,9 @@ pub fn prepare_close<B: Blocks>(
     }
 }
 
-/// Frees a descriptor; EBADF where it isn't open, and then nothing has changed. It takes no memory and calls no device. Where the
-/// file has neither name nor another descriptor, it is gone; no other file goes.
+/// Frees a descriptor; EBADF where it isn't open, and then nothing has changed. It takes no memory
+/// and calls no device. Where the file has neither name nor another descriptor, it is gone; no
+/// other file goes.
 pub fn close(inodes: &mut InodeFile, table: &mut Descriptors, fd: u32) -> Result<(), Errno>
     requires { ClosesReady inodes.old table.old fd }
     ensures { Closes inodes.old inodes.new table.old table.new fd result }
@@ -75,6 +75,6 @@ fn drop_unused(inodes: &mut InodeFile, table: &Descriptors, file: &OpenFile)
         ≤ memory_room base inodes.old v }
 {
     if file.links == 0 && !table.is_open(file.number) {
-        drop_nameless(inodes, InodeNumber::new(file.number));
+        drop_orphan(inodes, InodeNumber::new(file.number));
     }
 }

@@ -2,14 +2,14 @@
 
 ghost use Rattle.std.specs.Prelude.{ℕ, Option, ◌↔◌, IsFalse, IsTrue};
 ghost use Rattle.model.specs.Trees.{Description, HasPath};
-ghost use Rattle.model.specs.Volumes.{IsVolume, Volume, is_file_node, is_nameless, tree_of};
+ghost use Rattle.model.specs.Volumes.{IsVolume, Volume, is_file_node, is_orphan, tree_of};
 
 use model::volumes_tell_links;
 
 /// A file of a volume stands at a path just where it has a name.
 pub fn named_files_have_paths()
     ensures { (inodes n : ℕ) (v : Volume) (table : ℕ → Option Description) → IsVolume inodes v
-        → IsTrue (is_file_node (v n)) → HasPath (tree_of v table) n ↔ IsFalse (is_nameless (v n)) }
+        → IsTrue (is_file_node (v n)) → HasPath (tree_of v table) n ↔ IsFalse (is_orphan (v n)) }
 {
     volumes_tell_links();
 }

@@ -1,25 +1,27 @@
-//! The calls on descriptors (files), over memory that stands for a volume and the table of open files beside it. They are `open`,
-//! `read`, `pread`, `write`, `pwrite`, `ftruncate`, `fstat`, `lseek`, `fsync` and `close`, of which `lseek` and `fsync` take no
-//! memory and call no device, nor does a `close` of a file with a name. What changes a file is prepared, with all memory taken
-//! and all blocks read; its record is for the caller to log; and then it is put in force, which can't fail.
+//! The calls on descriptors (files), over memory that stands for a volume and the table of open
+//! files beside it. They are `open`, `read`, `pread`, `write`, `pwrite`, `ftruncate`, `fstat`,
+//! `lseek`, `fsync` and `close`, of which `lseek` and `fsync` take no memory and call no device,
+//! nor does a `close` of a file with a name. What changes a file is prepared, with all memory taken
+//! and all blocks read; its record is for the caller to log; and then it is put in force, which
+//! can't fail.
 #![tactic(auto)]
 
 mod closing;
-mod cutting;
+mod ftruncate;
 mod laws;
+mod open_stat;
 mod opening;
 mod reading;
 mod seeking;
-mod stating;
 mod writing;
 mod written;
 
 pub use closing::{close, prepare_close};
-pub use cutting::prepare_ftruncate;
+pub use ftruncate::prepare_ftruncate;
 pub use laws::named_files_have_paths;
+pub use open_stat::fstat;
 pub use opening::{Opening, prepare_open};
 pub use reading::{pread, read};
 pub use seeking::{fsync, lseek};
-pub use stating::fstat;
 pub use writing::{prepare_pwrite, prepare_write};
 pub use written::{Writing, Written};

@@ -25,16 +25,18 @@ pub struct Opening {
     pub fd: u32,
     /// The file as it is open then.
     pub file: OpenFile,
-    /// What is changed beside: the file is made, or cut to no bytes.
+    /// What is changed beside: the file is made, or truncated to no bytes.
     pub changing: Option<Changing>,
 }
 
-/// Opens the file where a path leads, or makes one where the flags say so, as far as nothing of it is seen yet: prepares the
-/// record, if there is one, and tells the descriptor and the open file that the table is to have. Or tells why the call is
-/// refused: EINVAL where the flags want a new file and don't say that one is made, or want a file cut that isn't for writing;
-/// EMFILE where no descriptor is free; EEXIST where a new file is wanted and something stands there; EISDIR of a directory;
-/// ENOENT where nothing stands there and no file is to be made. NoMemory; Device where a read failed; Damaged where a block on the
-/// way is outside its format, or where a number that is free has an object.
+/// Opens the file where a path leads, or makes one where the flags say so, as far as nothing of it
+/// is seen yet: prepares the record, if there is one, and tells the descriptor and the open file
+/// that the table is to have. Or tells why the call is refused: EINVAL where the flags want a new
+/// file and don't say that one is made, or want a file truncated that isn't for writing; EMFILE
+/// where no descriptor is free; EEXIST where a new file is wanted and something stands there;
+/// EISDIR of a directory; ENOENT where nothing stands there and no file is to be made. NoMemory;
+/// Device where a read failed; Damaged where a block on the way is outside its format, or where a
+/// number that is free has an object.
 pub fn prepare_open<B: Blocks>(
     alloc: Global,
     inodes: &mut InodeFile,
@@ -68,7 +70,8 @@ pub fn prepare_open<B: Blocks>(
     })
 }
 
-// Why flags are refused: they want a new file and don't say that one is made, or want a file cut that isn't for writing.
+// Why flags are refused: they want a new file and don't say that one is made, or want a file
+// truncated that isn't for writing.
 fn refusal_of_flags(flags: Flags) -> Option<Errno>
     ensures first { result ≡ first_refusal (open_tests flags) }
     ensures own { IfSome result (λ e. IsTrue (is_path_refusal e)) }

@@ -5,7 +5,7 @@ ghost use Rattle.model.specs.Descriptors.{is_reading, reads, reads_from};
 ghost use Rattle.model.specs.Reading.{is_negative, is_too_many};
 ghost use Rattle.model.specs.Room.{nothing};
 ghost use Rattle.model.specs.Volumes.{is_file_node};
-ghost use Rattle.paths.specs.Numbers.{IsNumber};
+ghost use Rattle.paths.specs.Numbers.{IsInodeNumber};
 ghost use Rattle.calls.specs.Get.{data_reply};
 ghost use Rattle.calls.specs.Refusals.{is_path_refusal};
 ghost use Rattle.calls.specs.Seeing.{Tells};
@@ -23,9 +23,10 @@ use model::{Access, Errno, GREATEST_OFFSET, TRANSFER_BYTES, Text};
 use records::{Failure, read_bytes};
 use std::alloc::Global;
 
-/// As many bytes as asked and there, from a descriptor's offset on, which moves behind them; or why the call is refused: EBADF where
-/// the descriptor isn't open, or not for reading, EINVAL where one call doesn't read so many. NoMemory; Device where a read failed;
-/// Damaged where a block on the way is outside its format. After an error or a refusal no offset has moved.
+/// As many bytes as asked and there, from a descriptor's offset on, which moves behind them; or why
+/// the call is refused: EBADF where the descriptor isn't open, or not for reading, EINVAL where one
+/// call doesn't read so many. NoMemory; Device where a read failed; Damaged where a block on the
+/// way is outside its format. After an error or a refusal no offset has moved.
 pub fn read<B: Blocks>(
     alloc: Global,
     inodes: &mut InodeFile,
@@ -45,9 +46,10 @@ pub fn read<B: Blocks>(
     Ok(text)
 }
 
-/// As many bytes as asked and there, from an offset on, of the file of a descriptor, whose own offset stays; or why the call is
-/// refused: EBADF where the descriptor isn't open, or not for reading, EINVAL where the offset is negative or one call doesn't read
-/// so many. NoMemory; Device where a read failed; Damaged where a block on the way is outside its format.
+/// As many bytes as asked and there, from an offset on, of the file of a descriptor, whose own
+/// offset stays; or why the call is refused: EBADF where the descriptor isn't open, or not for
+/// reading, EINVAL where the offset is negative or one call doesn't read so many. NoMemory; Device
+/// where a read failed; Damaged where a block on the way is outside its format.
 pub fn pread<B: Blocks>(
     alloc: Global,
     inodes: &mut InodeFile,
@@ -117,7 +119,7 @@ fn read_file<B: Blocks>(
     offset: u64,
     count: u32,
 ) -> Result<Text, Failure>
-    requires { IsNumber inodes.old.geometry.inodes number }
+    requires { IsInodeNumber inodes.old.geometry.inodes number }
     ensures { Tells B.Blocks blocks.old blocks.new inodes.old inodes.new (λ v found.
         IsTrue (is_file_node (v number)) → ReadsFile v number offset count found) result }
 {

@@ -16,9 +16,10 @@ ghost use Rattle.files.specs.Seeking.{AnswersFromTable, IsPlace};
 use descriptors::{Descriptors, OpenFile};
 use model::{Errno, GREATEST_OFFSET, Whence};
 
-/// Moves a descriptor's offset to a place that counts from the file's start, from the offset, or from the file's end, and gives
-/// the place in bytes; or tells why the call is refused: EBADF where the descriptor isn't open, EINVAL where the place is before
-/// the start, EOVERFLOW where it is past the greatest offset. After a refusal nothing has changed.
+/// Moves a descriptor's offset to a place that counts from the file's start, from the offset, or
+/// from the file's end, and gives the place in bytes; or tells why the call is refused: EBADF where
+/// the descriptor isn't open, EINVAL where the place is before the start, EOVERFLOW where it is
+/// past the greatest offset. After a refusal nothing has changed.
 pub fn lseek(table: &mut Descriptors, fd: u32, whence: Whence, offset: i64) -> Result<u64, Errno>
     ensures { AnswersFromTable table.old table.new (λ t. seeks t fd whence offset) place_reply
         result }
@@ -46,7 +47,8 @@ fn base_of(file: &OpenFile, whence: Whence) -> u64
     }
 }
 
-// The place so far from another one; EINVAL where it is negative, EOVERFLOW where it is past the greatest offset.
+// The place so far from another one; EINVAL where it is negative, EOVERFLOW where it is past the
+// greatest offset.
 fn place_from(base: u64, offset: i64) -> Result<u64, Errno>
     requires { base ≤ GREATEST_OFFSET }
     ensures place { IsPlace (pos base +ℤ offset) result }
@@ -66,7 +68,8 @@ fn place_from(base: u64, offset: i64) -> Result<u64, Errno>
     Ok(base + distance)
 }
 
-/// Keeps what was written through a descriptor, which every answered call does already; EBADF where the descriptor isn't open.
+/// Keeps what was written through a descriptor, which every answered call does already; EBADF where
+/// the descriptor isn't open.
 pub fn fsync(table: &Descriptors, fd: u32) -> Result<(), Errno>
     ensures answers { (v : Volume) → syncs_open (tree_with table.now v) fd (done_reply result)
         (tree_with table.now v) nothing }

@@ -23,10 +23,11 @@ use model::{Access, Errno, TRANSFER_BYTES};
 use records::{Failure, write_bytes};
 use std::alloc::Global;
 
-/// Prepares that bytes are written at a descriptor's offset, or behind the last byte under append; none where there are no bytes; or
-/// tells why the call is refused: EBADF where the descriptor isn't open, or not for writing, EINVAL where one call doesn't write so
-/// many, EFBIG where the file would be too great. NoMemory; Device where a read failed; Damaged where a block on the way is outside
-/// its format.
+/// Prepares that bytes are written at a descriptor's offset, or behind the last byte under append;
+/// none where there are no bytes; or tells why the call is refused: EBADF where the descriptor
+/// isn't open, or not for writing, EINVAL where one call doesn't write so many, EFBIG where the
+/// file would be too great. NoMemory; Device where a read failed; Damaged where a block on the way
+/// is outside its format.
 pub fn prepare_write<B: Blocks>(
     alloc: Global,
     inodes: &mut InodeFile,
@@ -44,10 +45,11 @@ pub fn prepare_write<B: Blocks>(
     write_file(alloc, inodes, blocks, &file, place_of(&file), bytes)
 }
 
-/// Prepares that bytes are written at an offset, whatever the descriptor's own; none where there are no bytes; or tells why the call
-/// is refused: EBADF where the descriptor isn't open, or not for writing, EINVAL where the offset is negative or one call doesn't
-/// write so many, EFBIG where the file would be too great. NoMemory; Device where a read failed; Damaged where a block on the way is
-/// outside its format.
+/// Prepares that bytes are written at an offset, whatever the descriptor's own; none where there
+/// are no bytes; or tells why the call is refused: EBADF where the descriptor isn't open, or not
+/// for writing, EINVAL where the offset is negative or one call doesn't write so many, EFBIG where
+/// the file would be too great. NoMemory; Device where a read failed; Damaged where a block on the
+/// way is outside its format.
 pub fn prepare_pwrite<B: Blocks>(
     alloc: Global,
     inodes: &mut InodeFile,

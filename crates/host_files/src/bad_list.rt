@@ -10,8 +10,9 @@ use std::alloc::{AllocError, Global};
 /// The byte behind each line.
 const LINE_FEED: u8 = b'\n';
 
-/// The sectors that a text names, of a disk of so many. The last line may lack its end. BadLine where one isn't the number
-/// of a sector behind the one before, in decimal digits without needless zeros.
+/// The sectors that a text names, of a disk of so many. The last line may lack its end. BadLine
+/// where one isn't the number of a sector behind the one before, in decimal digits without needless
+/// zeros.
 pub fn read_list<'a>(
     alloc: Global,
     path: &'a str,
@@ -73,7 +74,8 @@ fn least_behind(list: &[u32], sectors: u32) -> u32
     }
 }
 
-/// The number that a word spells: one that it parses as, where the word is what this number is written as.
+/// The number that a word spells: one that it parses as, where the word is what this number is
+/// written as.
 fn read_number(alloc: Global, word: &[u8]) -> Result<Option<u32>, AllocError>
     ensures { IfOk result (λ read. IfSome read (λ n. word.now ≡ decimal n)) }
 {

@@ -11,7 +11,8 @@ use thiserror::Error;
 /// Why a file isn't read or written, or an image isn't loaded.
 #[derive(Debug, Drop, Error)]
 pub enum FileError<'a> {
-    /// A call of the system failed on this file, or on the new one beside it, or no memory was left for its bytes.
+    /// A call of the system failed on this file, or on the new one beside it, or no memory was left
+    /// for its bytes.
     #[error("{path}: {error}")]
     Io {
         path: &'a str,
@@ -55,8 +56,8 @@ pub enum FileError<'a> {
         least: u32,
         sectors: u32,
     },
-    /// This file may not be written, and an image with a list of sectors that can't be read is written even where it is only to be
-    /// read.
+    /// This file may not be written, and an image with a list of sectors that can't be read is
+    /// written even where it is only to be read.
     #[error("{path}: {error}; it has to be written, since {bad} is there")]
     IsListed {
         path: &'a str,

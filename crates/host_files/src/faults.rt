@@ -11,8 +11,8 @@ const TEXT_BYTES: usize = 320;
 /// What the text of a system's error has behind the system's own words.
 const NUMBER: &str = " (os error ";
 
-/// Tells a call that failed: the file's name as the user gave it, the call, and the system's own words. Nothing where none
-/// failed.
+/// Tells a call that failed: the file's name as the user gave it, the call, and the system's own
+/// words. Nothing where none failed.
 pub fn tell_fault<E: Write>(image: Image<'_>, fault: Option<&FileFault>, err: &mut E) {
     let Some(FileFault { part, call, error }) = fault else {
         return;

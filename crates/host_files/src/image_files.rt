@@ -20,8 +20,8 @@ use std::io::{ErrorKind, Read};
 use std::rt::{Clock, Files};
 use std::{fs, io};
 
-/// Both files of an image, open and under their locks as long as this lives, and the sectors of its disk that couldn't be
-/// read when they were loaded.
+/// Both files of an image, open and under their locks as long as this lives, and the sectors of its
+/// disk that couldn't be read when they were loaded.
 #[derive(Drop)]
 pub struct Held {
     disk: Option<File>,
@@ -29,8 +29,8 @@ pub struct Held {
     pub(crate) bad: Vec<u32>,
 }
 
-/// Opens both files of an image, which are there and two. Between two tries neither is held, so that nobody waits for a file
-/// of this program's while this one waits for one of theirs.
+/// Opens both files of an image, which are there and two. Between two tries neither is held, so
+/// that nobody waits for a file of this program's while this one waits for one of theirs.
 fn open_both<'a, R: Files<File = File> + Clock>(
     rt: &R,
     image: Image<'a>,
@@ -76,7 +76,8 @@ pub fn open_shared<'a, R: Files<File = File> + Clock>(
     open_both(rt, image, Purpose::Reading, patience)
 }
 
-/// An image whose files are there, for one who writes: open for reading and writing, under exclusive locks.
+/// An image whose files are there, for one who writes: open for reading and writing, under
+/// exclusive locks.
 pub fn open_image<'a, R: Files<File = File> + AllocGlobal + Clock>(
     rt: &R,
     image: Image<'a>,
@@ -94,8 +95,9 @@ pub fn open_image<'a, R: Files<File = File> + AllocGlobal + Clock>(
     }
 }
 
-/// An image whose files are there, for one who reads: open for reading alone, so that every write to it fails, under shared
-/// locks. Where there is a list of sectors that can't be read, it is as for one who writes, since it is stored again.
+/// An image whose files are there, for one who reads: open for reading alone, so that every write
+/// to it fails, under shared locks. Where there is a list of sectors that can't be read, it is as
+/// for one who writes, since it is stored again.
 pub fn open_to_read<'a, R: Files<File = File> + AllocGlobal + Clock>(
     rt: &R,
     image: Image<'a>,
@@ -183,8 +185,9 @@ fn list_text<'a, R: Files + AllocGlobal>(
     }
 }
 
-/// A station in memory with what two files that are there hold, of which the sectors of the list can't be read, and what
-/// holds these files until the image is stored again. Its power is on, and no call of it is to fail.
+/// A station in memory with what two files that are there hold, of which the sectors of the list
+/// can't be read, and what holds these files until the image is stored again. Its power is on, and
+/// no call of it is to fail.
 pub fn load_station<'a, R: Files<File = File> + AllocGlobal + Clock>(
     rt: &R,
     image: Image<'a>,
@@ -199,7 +202,8 @@ pub fn load_station<'a, R: Files<File = File> + AllocGlobal + Clock>(
     load_files(rt.alloc(), image, disk, nvram, &text)
 }
 
-/// A station in memory with what two open files hold, of which the sectors of a list with this text can't be read.
+/// A station in memory with what two open files hold, of which the sectors of a list with this text
+/// can't be read.
 fn load_files<'a>(
     alloc: Global,
     image: Image<'a>,
@@ -242,7 +246,8 @@ fn read_to_end<'a, I: Read>(
     Ok(bytes)
 }
 
-/// The bytes of a script: a file's, or those of standard input, which is `input`, where the name is `-`.
+/// The bytes of a script: a file's, or those of standard input, which is `input`, where the name is
+/// `-`.
 pub fn read_script<'a, R: Files + AllocGlobal, I: Read>(
     rt: &R,
     path: &'a str,
@@ -254,8 +259,9 @@ pub fn read_script<'a, R: Files + AllocGlobal, I: Read>(
     on(path, fs::read(rt, path))
 }
 
-/// Holds both files of an image where they are there and are to be replaced. With `is_new` refuses those that have bytes, and
-/// a list of sectors that can't be read, too. Between two tries neither is held.
+/// Holds both files of an image where they are there and are to be replaced. With `is_new` refuses
+/// those that have bytes, and a list of sectors that can't be read, too. Between two tries neither
+/// is held.
 pub fn hold_both<'a, R: Files<File = File> + AllocGlobal + Clock>(
     rt: &R,
     image: Image<'a>,
@@ -296,7 +302,8 @@ fn try_to_hold<'a, R: Files<File = File> + AllocGlobal>(
     Ok(held)
 }
 
-/// Holds a file that is to be replaced, where one is there. Exists where it is to be a new one, and has bytes.
+/// Holds a file that is to be replaced, where one is there. Exists where it is to be a new one, and
+/// has bytes.
 fn hold<'a, R: Files<File = File>>(
     rt: &R,
     path: &'a str,

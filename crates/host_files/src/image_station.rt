@@ -20,8 +20,8 @@ pub enum ImageStation {
     Files(FileStation<OpenFiles<File>>),
     /// A station over the files with other bytes over theirs, which are never written.
     Patched(FileStation<PatchedFiles<File>>),
-    /// Where an image has a list of sectors that can't be read, or something is to go wrong: a station in memory, and what
-    /// holds the files until the image is stored again.
+    /// Where an image has a list of sectors that can't be read, or something is to go wrong: a
+    /// station in memory, and what holds the files until the image is stored again.
     Memory(Sim, Held),
 }
 
@@ -36,9 +36,9 @@ impl ImageStation {
         }
     }
 
-    /// Lets go of the image, and gives the first call of the system that failed on one of its files, if one did. What was done
-    /// in memory is stored in the files where that is asked for; else they stay as they were. The locks are held until all is
-    /// done.
+    /// Lets go of the image, and gives the first call of the system that failed on one of its
+    /// files, if one did. What was done in memory is stored in the files where that is asked for;
+    /// else they stay as they were. The locks are held until all is done.
     pub fn close<'a, R: Files<File = File> + AllocGlobal>(
         self,
         rt: &R,

@@ -1,5 +1,6 @@
-//! Files of the host's: opening them under locks, where their names lead, replacing them whole, and the holes and modes of
-//! new ones; and the files of an image, as a station over them or as one in memory.
+//! Files of the host's: opening them under locks, where their names lead, replacing them whole, and
+//! the holes and modes of new ones; and the files of an image, as a station over them or as one in
+//! memory.
 #![tactic(auto)]
 
 mod bad_list;

@@ -1,5 +1,5 @@
-//! Opening files under a lock, which is held as long as they are open. Between programs that all take it, nobody reads what
-//! another one is writing, and nobody writes beside another one.
+//! Opening files under a lock, which is held as long as they are open. Between programs that all
+//! take it, nobody reads what another one is writing, and nobody writes beside another one.
 
 use crate::error::{FileError, on};
 use std::fs::{File, Metadata, OpenOptions, TryLockError};
@@ -53,8 +53,9 @@ pub enum Purpose {
     Replacing,
 }
 
-/// Opens a file that is there, and takes its lock without waiting for it: a shared one for reading, and else an exclusive
-/// one. InUse where another program's lock is in the way, NotAFile where this is neither a file nor a block device.
+/// Opens a file that is there, and takes its lock without waiting for it: a shared one for reading,
+/// and else an exclusive one. InUse where another program's lock is in the way, NotAFile where this
+/// is neither a file nor a block device.
 pub fn open_locked<'a, R: Files<File = File>>(
     rt: &R,
     path: &'a str,
@@ -64,7 +65,8 @@ pub fn open_locked<'a, R: Files<File = File>>(
         check_kind(path, &on(path, fs::metadata(rt, path))?)?;
         let file = on(path, options(purpose).open(rt, path))?;
         take_lock(&file, path, purpose)?;
-        // Before the lock was taken, another program may have put another file in the place of this one.
+        // Before the lock was taken, another program may have put another file in the place of this
+        // one.
         if on(path, is_still_at(rt, &file, path))? {
             return Ok(file);
         }
@@ -72,7 +74,8 @@ pub fn open_locked<'a, R: Files<File = File>>(
     Err(FileError::InUse { path })
 }
 
-/// Refuses what waits for another program when it is opened, such as a FIFO, and what has no bytes of its own.
+/// Refuses what waits for another program when it is opened, such as a FIFO, and what has no bytes
+/// of its own.
 fn check_kind<'a>(path: &'a str, found: &Metadata) -> Result<(), FileError<'a>> {
     if found.is_file() || found.file_type().is_block_device() {
         return Ok(());

@@ -10,7 +10,8 @@ use std::io::{ErrorKind, Write};
 use std::rt::Files;
 use std::{fs, io};
 
-/// A list that is whole and synced, beside the place that it is to have. There is no file for one without sectors.
+/// A list that is whole and synced, beside the place that it is to have. There is no file for one
+/// without sectors.
 #[derive(Drop)]
 pub struct NewList<'a> {
     place: Place<'a>,

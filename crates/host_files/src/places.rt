@@ -39,8 +39,8 @@ pub enum Found {
     File(Metadata),
     /// A folder.
     Folder,
-    /// Something that is written into: a device, a FIFO, or a file that a program has open and that is named by its
-    /// descriptor.
+    /// Something that is written into: a device, a FIFO, or a file that a program has open and that
+    /// is named by its descriptor.
     Stream,
 }
 
@@ -64,7 +64,8 @@ pub fn find_place<'a, R: Files + AllocGlobal>(
     Ok(Place { name, path, found })
 }
 
-/// The path of a name in a folder. An error of kind `InvalidInput` where the name isn't UTF-8, and so has no path here.
+/// The path of a name in a folder. An error of kind `InvalidInput` where the name isn't UTF-8, and
+/// so has no path here.
 pub fn place_in<'a, R: AllocGlobal>(
     rt: &R,
     folder: &'a str,
@@ -109,7 +110,8 @@ fn is_of_open_file<R: Files>(rt: &R, link: &Metadata) -> bool {
     }
 }
 
-/// The path that a link's text means: from the folder that the link stands in, where it isn't absolute.
+/// The path that a link's text means: from the folder that the link stands in, where it isn't
+/// absolute.
 fn from_link(alloc: Global, link: &str, text: &str) -> io::Result<String> {
     let folder = Path::new(link).parent().unwrap_or(Path::new(""));
     Ok(folder.join(alloc, text)?.into_string())

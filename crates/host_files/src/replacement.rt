@@ -1,6 +1,6 @@
-//! Replacing the files of an image by new ones, once these are whole and synced. Nothing else that is there is touched:
-//! each new file is made under a name that nothing had, and only what was made here is removed, or an image's own list of
-//! sectors that can't be read.
+//! Replacing the files of an image by new ones, once these are whole and synced. Nothing else that
+//! is there is touched: each new file is made under a name that nothing had, and only what was made
+//! here is removed, or an image's own list of sectors that can't be read.
 
 ghost use Rattle.std.specs.Prelude.{IsErr};
 ghost use Rattle.host_files.specs.Names.{HasOneName};
@@ -29,10 +29,12 @@ const OTHERS: u32 = 0o007;
 /// Of these, the ones that aren't for the group or for others.
 const OWNER: u32 = 0o1700;
 
-/// The mode of a new file until it has that of the one which it will replace: nobody else may use it.
+/// The mode of a new file until it has that of the one which it will replace: nobody else may use
+/// it.
 const OWN: u32 = 0o600;
 
-/// The mode that a new file in an empty place is made with where none is asked for, less the bits of the process's mask.
+/// The mode that a new file in an empty place is made with where none is asked for, less the bits
+/// of the process's mask.
 const NEW: u32 = 0o666;
 
 /// Both new files, which lie beside those that they will replace.
@@ -84,8 +86,9 @@ impl<'a> Replacement<'a> {
         }
     }
 
-    /// Puts both new files in place, which are whole and synced, and the list that belongs to the new disk behind that. Each is
-    /// settled in its folder before the next one is put. Where the disk's can't be put there, removes them all.
+    /// Puts both new files in place, which are whole and synced, and the list that belongs to the
+    /// new disk behind that. Each is settled in its folder before the next one is put. Where the
+    /// disk's can't be put there, removes them all.
     pub fn finish<R: Files>(self, rt: &R, list: NewList<'a>) -> Result<(), FileError<'a>> {
         match self.disk.replace(rt, self.new_disk.as_str()) {
             Ok(()) => {
@@ -107,7 +110,8 @@ impl<'a> Replacement<'a> {
         remove(rt, self.new_nvram.as_str());
     }
 
-    /// Puts the new NVRAM in place, behind the disk. Where that fails it stays where it is, so that nothing is lost.
+    /// Puts the new NVRAM in place, behind the disk. Where that fails it stays where it is, so that
+    /// nothing is lost.
     fn replace_nvram<R: Files>(self, rt: &R) -> Result<(), FileError<'a>> {
         match fs::rename(rt, self.new_nvram.as_str(), self.nvram.path.as_str()) {
             Ok(()) => {
@@ -133,8 +137,9 @@ impl<'a> Place<'a> {
     }
 }
 
-/// Syncs the folder that a path stands in, so that a power cut of the host leaves this name as it is now, where it leaves one
-/// that is changed later. A folder that can't be synced is no error: all that was asked for is done.
+/// Syncs the folder that a path stands in, so that a power cut of the host leaves this name as it
+/// is now, where it leaves one that is changed later. A folder that can't be synced is no error:
+/// all that was asked for is done.
 pub(crate) fn sync_folder<R: Files>(rt: &R, path: &str) {
     if let Ok(folder) = fs::open(rt, folder_of(path)) {
         let _ = folder.sync_all();
@@ -162,8 +167,8 @@ pub(crate) fn find_file_place<'a, R: Files + AllocGlobal>(
     }
 }
 
-/// Makes the NVRAM's new file beside the disk's. With the same letters behind them, two names of one place are two
-/// names of one new file, which tells them where nothing is there yet.
+/// Makes the NVRAM's new file beside the disk's. With the same letters behind them, two names of
+/// one place are two names of one new file, which tells them where nothing is there yet.
 fn make_second<'a, R: Files<File = File> + AllocGlobal>(
     rt: &R,
     first: &NewFile,
@@ -177,9 +182,9 @@ fn make_second<'a, R: Files<File = File> + AllocGlobal>(
     make_beside(rt, nvram, None, disk.path.as_str(), nvram.path.as_str())
 }
 
-/// Makes an empty file beside a place, under a name that nothing has and that leads to neither of two files. Where a file is
-/// in that place, the new one gets its owner, its group and its mode; else the mode that is asked for, less the bits of the
-/// process's mask.
+/// Makes an empty file beside a place, under a name that nothing has and that leads to neither of
+/// two files. Where a file is in that place, the new one gets its owner, its group and its mode;
+/// else the mode that is asked for, less the bits of the process's mask.
 pub fn make_beside<'a, R: Files<File = File> + AllocGlobal>(
     rt: &R,
     place: &Place<'a>,
@@ -245,8 +250,9 @@ fn make_file<R: Files<File = File>>(
     }
 }
 
-/// Gives a new file the owner, the group and the mode of an old one. Where this program may not give a file away, the new one
-/// stays with its user, and has no bits by which more people could use it than the old one.
+/// Gives a new file the owner, the group and the mode of an old one. Where this program may not
+/// give a file away, the new one stays with its user, and has no bits by which more people could
+/// use it than the old one.
 fn take_over(file: &File, old: &Metadata) -> io::Result<()> {
     let _ = fchown(file, None, Some(old.gid()));
     let _ = fchown(file, Some(old.uid()), None);
@@ -260,7 +266,8 @@ fn take_over(file: &File, old: &Metadata) -> io::Result<()> {
     file.set_permissions(Permissions::from_mode(mode & OWNER | shared << 3 | shared))
 }
 
-/// Removes a file that was made here. One that can't be removed stays, beside what it should have replaced.
+/// Removes a file that was made here. One that can't be removed stays, beside what it should have
+/// replaced.
 pub fn remove<R: Files>(rt: &R, path: &str) {
     let _ = fs::remove_file(rt, path);
 }

@@ -13,10 +13,11 @@ const STANDARD_ERROR: i32 = 2;
 /// What is opened in place of a closed descriptor.
 const STAND_IN: &str = "/dev/null";
 
-/// Opens a stand-in for each of the descriptors 0, 1 and 2 that is closed, which stays open. It has to be called before any
-/// file is opened: else that file would get the number, and what the program tells would be written into it. A stand-in
-/// refuses what its descriptor is for: a closed standard input can't be read, and neither a closed standard output nor a
-/// closed standard error can be written.
+/// Opens a stand-in for each of the descriptors 0, 1 and 2 that is closed, which stays open. It has
+/// to be called before any file is opened: else that file would get the number, and what the
+/// program tells would be written into it. A stand-in refuses what its descriptor is for: a closed
+/// standard input can't be read, and neither a closed standard output nor a closed standard error
+/// can be written.
 pub fn open_descriptors(rt: &HostRuntime) {
     for _ in STANDARD_INPUT..=STANDARD_ERROR {
         // The system gives a file the lowest number that is free.

@@ -15,14 +15,15 @@ use std::io;
 use std::io::{Seek, Write};
 use std::rt::Files;
 
-/// Stores what a station in memory holds in new files, which then replace those of the image. It takes no locks: whoever loaded
-/// the image holds its files until this is done.
+/// Stores what a station in memory holds in new files, which then replace those of the image. It
+/// takes no locks: whoever loaded the image holds its files until this is done.
 ///
-/// Three files can't be replaced at once. A sector leaves the list before the disk is replaced, and comes into it behind that.
-/// So whatever stops this in between: of the old disk, what could be read still can, and what couldn't reads as zeros at worst
-/// where it was written since; of the new disk, all that was written can be read, and what a cut made unreadable reads as
-/// zeros. That was written since the last sync, so it is no root, or a block of no tree that a root has. The NVRAM is replaced
-/// last: the new disk's root covers what the old log holds, or has that log's epoch.
+/// Three files can't be replaced at once. A sector leaves the list before the disk is replaced, and
+/// comes into it behind that. So whatever stops this in between: of the old disk, what could be
+/// read still can, and what couldn't reads as zeros at worst where it was written since; of the new
+/// disk, all that was written can be read, and what a cut made unreadable reads as zeros. That was
+/// written since the last sync, so it is no root, or a block of no tree that a root has. The NVRAM
+/// is replaced last: the new disk's root covers what the old log holds, or has that log's epoch.
 pub(crate) fn store_image<'a, R: Files<File = File> + AllocGlobal>(
     rt: &R,
     image: Image<'a>,
@@ -41,7 +42,8 @@ pub(crate) fn store_image<'a, R: Files<File = File> + AllocGlobal>(
     }
 }
 
-/// Fills the new files, makes the new list, and takes those sectors off the old one that can be read now.
+/// Fills the new files, makes the new list, and takes those sectors off the old one that can be
+/// read now.
 fn prepare<'a, R: Files<File = File> + AllocGlobal>(
     rt: &R,
     image: Image<'a>,

@@ -4,7 +4,7 @@ use Rattle.std.proofs.lemmas.Bool.Decides.{nat_tests}
 use Rattle.layout.specs.DirectoryNames.{HoldNames}
 use Rattle.model.specs.declared.attributes.Attributes.{Attributes}
 use Rattle.model.specs.Paths.{Name, Path}
-use Rattle.model.specs.Records.{without_nameless, is_vacant}
+use Rattle.model.specs.Records.{without_orphans, is_vacant}
 use Rattle.model.specs.States.{ForgetsOpenFiles}
 use Rattle.model.specs.Trees.{root_alone}
 use Rattle.model.specs.Volumes.{file_node, entries, enter, number_at, object_at, IsNode, IsVolume, tree_of}
@@ -114,8 +114,8 @@ tree_alone = λ i. record {
 }
 
 -- a mount finds it so
-pub alone_forgets : (inodes : ℕ) → ForgetsOpenFiles (root_alone 0o755) (tree_of (without_nameless alone) (λ d. None))
-alone_forgets inodes = subst (λ t. ForgetsOpenFiles t (tree_of (without_nameless alone) (λ d. None))) tree_alone
+pub alone_forgets : (inodes : ℕ) → ForgetsOpenFiles (root_alone 0o755) (tree_of (without_orphans alone) (λ d. None))
+alone_forgets inodes = subst (λ t. ForgetsOpenFiles t (tree_of (without_orphans alone) (λ d. None))) tree_alone
     (mounts_forget inodes alone alone (λ d. None) (alone_volume inodes) (record { kept = λ n some. refl; rest = λ n none. vacant n none }))
   where
     vacant : (n : ℕ) → alone n ≡ None → is_vacant (alone n) ≡ true

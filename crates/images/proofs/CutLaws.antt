@@ -26,7 +26,7 @@ use Rattle.images.proofs.BaseLaws.{step_base, step_plane, step_sound}
 use Rattle.images.proofs.StepLaws.{step_holds}
 use Rattle.images.proofs.BehindLaws.{needed_behind}
 use Rattle.images.proofs.RoomLaws.{keeps_own}
-use Rattle.images.proofs.SettlingLaws.{newest_first, newest_second}
+use Rattle.images.proofs.NewRootLaws.{newest_first, newest_second}
 use Rattle.layout.proofs.PointerLaws.{same_block}
 use Rattle.images.proofs.EmptyLaws.{no_bit}
 

@@ -7,7 +7,7 @@ use Rattle.layout.specs.Limits.{Sizes}
 use Rattle.layout.specs.Places.{Blocks, blocks_of}
 use Rattle.layout.specs.Record.{IsChange}
 use Rattle.model.specs.Counting.{Counts}
-use Rattle.model.specs.Records.{Applies, CanRename, CanReplace, Change, Replays, applied, change_mode, create, cut, link, rename, unname, write}
+use Rattle.model.specs.Records.{Applies, CanRename, CanReplace, Change, Replays, applied, change_mode, create, truncate, link, rename, remove_name, write}
 use Rattle.model.proofs.MoveLemmas.{records_keep_volumes}
 use Rattle.model.proofs.CountLemmas.{one_less, same_count}
 use Rattle.model.proofs.ListingLemmas.{names_apart}
@@ -175,10 +175,10 @@ module _ (inodes : ℕ) (v : Volume) (volume : IsVolume inodes v) (d : ℕ) (x :
 leaves_place : (inodes : ℕ) (v : Volume) (change : Change) → IsVolume inodes v → Applies inodes v change → LeavesPlace v change
 leaves_place inodes v (create number parent made name) volume can = tt
 leaves_place inodes v (link number parent name) volume can = tt
-leaves_place inodes v (unname parent name) volume can = tt
+leaves_place inodes v (remove_name parent name) volume can = tt
 leaves_place inodes v (rename d x k y) volume can = move_leaves_place inodes v volume d x k y can
 leaves_place inodes v (write number offset bytes) volume can = tt
-leaves_place inodes v (cut number size) volume can = tt
+leaves_place inodes v (truncate number size) volume can = tt
 leaves_place inodes v (change_mode number mode) volume can = tt
 
 -- over a volume no limit is passed, and over that of its lowest bytes all that is changed in part can be read

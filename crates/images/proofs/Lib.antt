@@ -19,7 +19,7 @@ mod StepLaws
 mod AloneLaws
 mod SlotLaws
 pub mod FirstLaws
-mod SettlingLaws
+mod NewRootLaws
 pub mod ReadingLaws
 mod SpanLaws
 mod BehindLaws

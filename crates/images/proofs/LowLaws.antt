@@ -9,7 +9,7 @@ use Rattle.model.specs.declared.attributes.Attributes.{Attributes}
 use Rattle.model.specs.Counting.{Counts}
 use Rattle.model.specs.Edits.{resized, written}
 use Rattle.model.specs.Paths.{Name}
-use Rattle.model.specs.Records.{Applies, CanReplace, Change, IsBelow, IsEmpty, Made, TakesName, applied, change_mode, create, cut, directory, file, is_vacant, link, node_of, rename, symbolic_link, unname, with_file_bytes, with_node_mode, write}
+use Rattle.model.specs.Records.{Applies, CanReplace, Change, IsBelow, IsEmpty, Made, TakesName, applied, change_mode, create, truncate, directory, file, is_vacant, link, node_of, rename, symbolic_link, remove_name, with_file_bytes, with_node_mode, write}
 use Rattle.model.specs.Volumes.{Entries, Node, Volume, directory_node, entries, file_node, is_directory_node, is_file_node, link_node, released, set_name, with_entry, with_name_less, with_name_more, with_node}
 use Rattle.model.specs.declared.limits.TheConstants.{DIRECTORY_NAMES}
 use Rattle.model.proofs.MoveLemmas.{bytes_by, bytes_names}
@@ -139,13 +139,13 @@ pub low_applied : (change : Change) (v : Volume) → IsChange change → low (ap
 low_applied (create number parent made name) v is =
     entry_low parent name (Some number) _ _ (node_low number (Some (node_of made)) v ∙ ap (λ (o : Option Node). with_node number o (low v)) (made_low made))
 low_applied (link number parent name) v is = entry_low parent name (Some number) _ _ (change_low with_name_more more number v)
-low_applied (unname parent name) v is =
+low_applied (remove_name parent name) v is =
     entry_low parent name None _ _ (released_low (entries v parent name) v ∙ ap (λ (e : Entries). released (e parent name) (low v)) (sym (low_entries v)))
 low_applied (rename d x k y) v is =
     entry_low k y (entries v d x) _ _ (entry_low d x None _ _ (released_low (entries v k y) v ∙ ap (λ (e : Entries). released (e k y) (low v)) (sym (low_entries v))))
     ∙ ap (λ (e : Entries). with_entry k y (e d x) (with_entry d x None (released (entries (low v) k y) (low v)))) (sym (low_entries v))
 low_applied (write number offset bytes) v is = change_low (with_file_bytes (written offset bytes)) (with_bytes (written offset bytes) (λ b. low_written offset bytes b is.fields.1)) number v
-low_applied (cut number size) v is = change_low (with_file_bytes (resized size)) (with_bytes (resized size) (low_resized size)) number v
+low_applied (truncate number size) v is = change_low (with_file_bytes (resized size)) (with_bytes (resized size) (low_resized size)) number v
 low_applied (change_mode number mode) v is = change_low (with_node_mode mode) (moded mode) number v
 
 -- ---- a record that applies to the one applies to the other
@@ -190,7 +190,7 @@ module _ (v : Volume) where
       record { low = c.low; high = c.high; vacant = bytes_by is_vacant vacant_alike low_bytes (v number) ∙ c.vacant; takes = takes parent name c.takes; good = c.good }
   low_applies inodes (link number parent name) c =
       record { attributes = c.attributes; links = c.links; bytes = low_bytes c.bytes; file = ap low_node c.file; few = c.few; takes = takes parent name c.takes }
-  low_applies inodes (unname parent name) c =
+  low_applies inodes (remove_name parent name) c =
       record { number = c.number; there = by_entries (λ e. e parent name ≡ Some c.number) c.there; empty = empty c.number c.empty }
   low_applies inodes (rename d x k y) c = record {
     number = c.number;
@@ -201,18 +201,18 @@ module _ (v : Volume) where
     replaces = by_entries (λ e. CanReplace (low v) d k y c.number (e k y)) (replaces d k y c.number (entries v k y) c.replaces);
   }
   low_applies inodes (write number offset bytes) can = (is_file number ∙ can.0, can.1, can.2, can.3)
-  low_applies inodes (cut number size) can = (is_file number ∙ can.0, can.1)
+  low_applies inodes (truncate number size) can = (is_file number ∙ can.0, can.1)
   low_applies inodes (change_mode number mode) can =
       (bytes_by (λ o. is_file_node o || is_directory_node o) (λ attributes links a b. refl) low_bytes (v number) ∙ can.0, can.1)
 
   pub low_place : (change : Change) → LeavesPlace v change → LeavesPlace (low v) change
   low_place (create number parent made name) place = tt
   low_place (link number parent name) place = tt
-  low_place (unname parent name) place = tt
+  low_place (remove_name parent name) place = tt
   low_place (rename d x k y) place = by_entries
       (λ e. (count : ℕ) × Counts (λ (z : Name). IsSome (e k z) × (z ≢ y) × (d ≡ k → z ≢ x)) count × (count < DIRECTORY_NAMES)) place
   low_place (write number offset bytes) place = tt
-  low_place (cut number size) place = tt
+  low_place (truncate number size) place = tt
   low_place (change_mode number mode) place = tt
 
   read : (o : Option Node) (k : ℕ) → slice_index (bytes_of_node (low_node o)) k < 256
@@ -224,8 +224,8 @@ module _ (v : Volume) where
   pub low_reads : (change : Change) → ReadsParts (low v) change
   low_reads (create number parent made name) = tt
   low_reads (link number parent name) = tt
-  low_reads (unname parent name) = tt
+  low_reads (remove_name parent name) = tt
   low_reads (rename d x k y) = tt
   low_reads (write number offset bytes) = λ i part. read (v number) (4096 * i)
-  low_reads (cut number size) = λ cuts. read (v number) (4096 * (size / 4096))
+  low_reads (truncate number size) = λ cuts. read (v number) (4096 * (size / 4096))
   low_reads (change_mode number mode) = tt

@@ -12,7 +12,7 @@ use Rattle.layout.proofs.Formats.{some_is}
 use Rattle.layout.proofs.OpenLaws.{newest_once, log_once}
 use Rattle.layout.proofs.RecordLaws.{change_injective}
 use Rattle.model.specs.Paths.{Name}
-use Rattle.model.specs.Records.{Replays, applied, without_nameless}
+use Rattle.model.specs.Records.{Replays, applied, without_orphans}
 use Rattle.model.specs.States.{State, Forgets, going}
 use Rattle.model.specs.Trees.{Tree}
 use Rattle.model.specs.Volumes.{Volume, tree_of}
@@ -49,7 +49,7 @@ snapshot_once r w k l s q one other same = some_is s q (sym one.read ∙ ap (λ 
 
 frozen_once : (inodes : ℕ) (t : HeldTree) (tree other : Tree) → inodes ≤ 2 ^ 32 → IsFrozenTree inodes t tree → IsFrozenTree inodes t other → tree ≡ other
 frozen_once inodes t tree other limit one two =
-    one.3 ∙ ap (λ (v : Volume). tree_of (without_nameless v) (λ d. None)) (volume_once inodes (tree_contents t) one.0 two.0 limit one.1 two.1) ∙ sym two.3
+    one.3 ∙ ap (λ (v : Volume). tree_of (without_orphans v) (λ d. None)) (volume_once inodes (tree_contents t) one.0 two.0 limit one.1 two.1) ∙ sym two.3
 
 -- a root has one list of snapshots
 kept_once : (r : Root) (w : Whole) (above : ℕ) (pairs others : List (Name × Tree)) → r.geometry.inodes ≤ 2 ^ 32 → AreSnapshots r w
@@ -76,7 +76,7 @@ newest_is_root r a b (inr second) = second.0.root
 
 abbrev found : Root → Volume → List (Name × Tree) → State
 found r last snapshots =
-    record { inodes = r.geometry.inodes; tree = tree_of (without_nameless last) (λ d. None); snapshots = snapshots; mark = going }
+    record { inodes = r.geometry.inodes; tree = tree_of (without_orphans last) (λ d. None); snapshots = snapshots; mark = going }
 
 -- what images open to is one state, once open files are forgotten
 pub opens_once : (sectors : ℕ) (disk : ℕ → List ℕ) (nvram : List ℕ) (s t : State) → Opens sectors disk nvram s → Opens sectors disk nvram t → (u : State) × Forgets s u × Forgets t u

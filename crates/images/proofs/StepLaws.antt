@@ -13,7 +13,7 @@ use Rattle.layout.specs.declared.root.Root.{Root}
 use Rattle.layout.specs.declared.version.TheConstants.{VERSION}
 use Rattle.model.specs.Paths.{Name}
 use Rattle.model.specs.Trees.{Tree}
-use Rattle.model.specs.Records.{without_nameless}
+use Rattle.model.specs.Records.{without_orphans}
 use Rattle.model.specs.Volumes.{Volume, IsVolume, tree_of}
 use Rattle.images.specs.Contents.{Content, HoldsVolume, tree_contents}
 use Rattle.images.specs.Nodes.{Agrees}
@@ -250,7 +250,7 @@ module _ (d e : Blocks) (r new : Root) (files : ℕ → Content) (first v : Volu
     others_sound l block other there = subst (IsSoundTree r.geometry) (sym (trees l other)) (holds.sound.frozen l block (sym (slots l other) ∙ there))
 
   taken_holds : (k : ℕ) (s : Snapshot) → CanTake r (whole d r) k s → (block : ℕ) → SetsSlot r new k (Block block) → pointed e (slot new k) ≡ snapshot_bytes s
-      → Keeps (snapshots ++ (s.name, tree_of (without_nameless first) (λ n. None)) ∷ [])
+      → Keeps (snapshots ++ (s.name, tree_of (without_orphans first) (λ n. None)) ∷ [])
   taken_holds k s can block sets head =
       let spelled = read_snapshot s can.is in
       let head_bytes = head_is e new k (snapshot_bytes s) head in
@@ -272,8 +272,8 @@ module _ (d e : Blocks) (r new : Root) (files : ℕ → Content) (first v : Volu
         inode_file = subst (λ (g : Sizes). IsInode VERSION g s.inode_file) (sym plan.geometry) (subst (IsInode VERSION r.geometry) (sym can.tree) root.inode_file);
       })
       holds.sound.snapshots)
-      (snapshots ++ (s.name, tree_of (without_nameless first) (λ n. None)) ∷ [])
-      (taken_kept r new (whole d r) (whole e new) k sets.others heads_stay plan.geometry later s can has (trees k sets.others) (tree_of (without_nameless first) (λ n. None)) (
+      (snapshots ++ (s.name, tree_of (without_orphans first) (λ n. None)) ∷ [])
+      (taken_kept r new (whole d r) (whole e new) k sets.others heads_stay plan.geometry later s can has (trees k sets.others) (tree_of (without_orphans first) (λ n. None)) (
         first,
         subst (λ (t : HeldTree). HoldsVolume new.geometry.inodes (tree_contents t) first) (sym tree_is)
             (subst (λ (g : Sizes). HoldsVolume g.inodes (tree_contents (whole d r).active) first) (sym plan.geometry) holds.holds),

@@ -19,8 +19,8 @@ pub data IsSystem (r : Root) (b : ℕ) : Type 0 where
   roots : (low : b < 2) → IsSystem r b
   head : (k : ℕ) → (is : slot r k ≡ Block b) → IsSystem r b
 
--- Bit 0 of an entry says that the active tree names the block, bit k of 1 to 30 that the tree of the snapshot in slot k does,
--- bit 31 that it is the system's own. No other bit is set.
+-- Bit 0 of an entry says that the active tree names the block, bit k of 1 to 30 that the tree of
+-- the snapshot in slot k does, bit 31 that it is the system's own. No other bit is set.
 pub record IsExact (r : Root) (w : Whole) : Type 0 where
   pub active : (b : ℕ) → HasBit 0 (entry w.active b) ↔ Reach w.active b
   pub frozen : (b k : ℕ) → 1 ≤ k → k ≢ 31 → HasBit k (entry w.active b) ↔ Reach (w.frozen k) b

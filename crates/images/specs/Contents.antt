@@ -1,4 +1,5 @@
--- What a file is, without places: what its inode says, and its blocks. And what object it stands for.
+-- What a file is, without places: what its inode says, and its blocks. And what object it stands
+-- for.
 use Rattle.std.specs.Prelude.{ℕ, ◌≡◌, ◌/◌, List, Option, Some, None}
 use Rattle.layout.specs.DirectoryNames.{NameMap, HoldNames}
 use Rattle.layout.specs.FileBytes.{byte_in, first_bytes}

@@ -28,7 +28,8 @@ pub record Write : Type 0 where
 abbrev pub IsOutsideWrites : List Write → ℕ → Type 0
 IsOutsideWrites writes n = All (λ w. w.place ≢ n / 8) writes
 
--- only sectors of these blocks differ from one disk to the other, whether they are written yet or not
+-- only sectors of these blocks differ from one disk to the other, whether they are written yet or
+-- not
 abbrev pub StaysOutsideWrites : List Write → (ℕ → List ℕ) → (ℕ → List ℕ) → Type 0
 StaysOutsideWrites writes d e = (n : ℕ) → IsOutsideWrites writes n → e n ≡ d n
 
@@ -68,15 +69,16 @@ Plans step d r writes new files =
     (e : Blocks) → All (λ w. e w.place ≡ w.bytes) writes → Agrees (Needs r (whole d r)) d e
     → PlansOn step d r e new files
 
--- on each disk that has the planned blocks, the new root leaves no fewer free than the old one, but for so many
+-- on each disk that has the planned blocks, the new root leaves no fewer free than the old one, but
+-- for so many
 abbrev pub LeavesFree : ℕ → Root → Blocks → List Write → Root → Type 0
 LeavesFree spent r d writes new =
     (e : Blocks) → All (λ w. e w.place ≡ w.bytes) writes → Agrees (Needs r (whole d r)) d e
     → free_under (whole d r).active r.geometry.blocks
     ≤ free_under (whole e new).active r.geometry.blocks + spent
 
--- A consistency point over a disk with a root is planned, that leads to this volume: the blocks that it writes, and the new
--- root with its sector. So is what it does with the snapshots.
+-- A consistency point over a disk with a root is planned, that leads to this volume: the blocks
+-- that it writes, and the new root with its sector. So is what it does with the snapshots.
 pub record IsPointWith (step : SnapshotStep) (r : Root) (d : ℕ → List ℕ) (writes : List Write) (sector : ℕ) (new : Root) (v : Volume) : Type 0 where
   pub free : AreFree r d writes
   pub long : All (λ w. length w.bytes ≡ BLOCK_BYTES) writes

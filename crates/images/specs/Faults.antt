@@ -29,7 +29,8 @@ pub record HasSizesOf (r : Root) (sectors nvram_bytes : ℕ) : Type 0 where
   pub disk : sectors ≡ 8 * r.geometry.blocks
   pub nvram : nvram_bytes ≡ 2 * r.geometry.half
 
--- this is the newest root of the two slots, any other one is older and of its sizes, and the station has these sizes
+-- this is the newest root of the two slots, any other one is older and of its sizes, and the
+-- station has these sizes
 pub record HasRoots (r : Root) (sectors : ℕ) (disk : ℕ → List ℕ) (nvram : List ℕ) : Type 0 where
   pub newest : IsNewest r (disk SLOT_A) (disk SLOT_B)
   pub sizes : HasSizesOf r sectors (length nvram)
@@ -82,8 +83,8 @@ pub record IsFaultless (s : Sizes) (t : HeldTree) : Type 0 where
 
 -- ---- 9: the log
 
--- the log holds records, which apply one after the other, within the limits, over the volume of a root's tree, and change in part
--- only blocks that can be read
+-- the log holds records, which apply one after the other, within the limits, over the volume of a
+-- root's tree, and change in part only blocks that can be read
 pub record HasLog (r : Root) (w : Whole) (nvram : List ℕ) (changes : List Change) : Type 0 where
   pub first : Volume
   pub last : Volume
@@ -93,8 +94,9 @@ pub record HasLog (r : Root) (w : Whole) (nvram : List ℕ) (changes : List Chan
 
 -- ---- all
 
--- None of the nine faults stands under a root, beside those of the roots: in its snapshots, in its tree and each of theirs, whose files
--- are no larger than its version allows, in its block map, and in the log of these records.
+-- None of the nine faults stands under a root, beside those of the roots: in its snapshots, in its
+-- tree and each of theirs, whose files are no larger than its version allows, in its block map, and
+-- in the log of these records.
 pub record IsFaultlessUnder (r : Root) (w : Whole) (nvram : List ℕ) (changes : List Change) : Type 0 where
   pub snapshots : AreSnapshots r w
   pub active : IsFaultless r.geometry w.active

@@ -1,4 +1,5 @@
--- The root of an image that has nothing but an empty root directory, as the first consistency point makes it.
+-- The root of an image that has nothing but an empty root directory, as the first consistency point
+-- makes it.
 use Rattle.std.specs.Prelude.{ℕ, zero, suc, ◌≡◌, ◌≢◌, ◌↔◌, ◌<◌, ◌≤◌, None, Some}
 use Rattle.layout.specs.Bytes.{zeros}
 use Rattle.layout.specs.Limits.{Sizes}
@@ -26,7 +27,8 @@ abbrev pub empty_directory : Inode
 empty_directory =
     record { kind = kinds.Directory; attributes = new_attributes 0o755; links = 1; size = 0; body = Inline (zeros INLINE_BYTES) }
 
--- the inode of each number, where these are those of the inode file, the inode map and the block map
+-- the inode of each number, where these are those of the inode file, the inode map and the block
+-- map
 abbrev pub first_inodes : Inode → Inode → Inode → ℕ → Inode
 first_inodes top numbers map zero = top
 first_inodes top numbers map (suc zero) = numbers
@@ -45,8 +47,9 @@ root_alone_volume (suc (suc zero)) = None
 root_alone_volume (suc (suc (suc zero))) = Some (directory_node (new_attributes 0o755) (λ x. None))
 root_alone_volume (suc (suc (suc (suc n)))) = None
 
--- What a disk e has under the inode of an inode file, where these are the inodes of the two maps: the file system's own three files in
--- their grammar, and in the map of the blocks just those that they name.
+-- What a disk e has under the inode of an inode file, where these are the inodes of the two maps:
+-- the file system's own three files in their grammar, and in the map of the blocks just those that
+-- they name.
 pub record IsFirstTree (s : Sizes) (e : Blocks) (top numbers map : Inode) : Type 0 where
   pub numbers_kind : numbers.kind ≡ kinds.InodeMap
   pub map_kind : map.kind ≡ kinds.BlockMap

@@ -15,9 +15,10 @@ abbrev pub pointers_of : Body → List Pointer
 pointers_of (Inline bytes) = []
 pointers_of (Pointers pointers) = pointers
 
--- An inode and all that hangs from it, by height: node i at height 0 is block i of the file, and node i at height m + 1 is
--- the indirect block over nodes 1,024 * i and on at height m. There are nodes below the file's level, and the inode has the
--- pointers to the highest. So a block's address is the same at each level.
+-- An inode and all that hangs from it, by height: node i at height 0 is block i of the file, and
+-- node i at height m + 1 is the indirect block over nodes 1,024 * i and on at height m. There are
+-- nodes below the file's level, and the inode has the pointers to the highest. So a block's address
+-- is the same at each level.
 pub record Held : Type 0 where
   pub inode : Inode
   pub place : ℕ → ℕ → Pointer

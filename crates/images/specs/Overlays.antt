@@ -14,8 +14,8 @@ use Rattle.layout.specs.declared.pointer.Pointer.TheVariants.{Hole, Block}
 use Rattle.images.specs.Nodes.{Held, held, Names, Agrees, file_block, body_block}
 use Rattle.images.specs.Contents.{Content}
 
--- What memory has of a changed file: what its inode says, and the blocks that differ from the settled file's. Of the
--- settled blocks those below `kept` still count.
+-- What memory has of a changed file: what its inode says, and the blocks that differ from the
+-- settled file's. Of the settled blocks those below `kept` still count.
 pub record Overlay : Type 0 where
   pub kind : Kind
   pub attributes : Attributes
@@ -43,8 +43,9 @@ overlaid_content h c =
       block = overlaid_block h c;
     }
 
--- A table has the place of each node of the changed file, by height and index. Of 1,024 nodes and the indirect block over
--- them, on a disk e: all as the settled file has them, or spelled by a block, or holes.
+-- A table has the place of each node of the changed file, by height and index. Of 1,024 nodes and
+-- the indirect block over them, on a disk e: all as the settled file has them, or spelled by a
+-- block, or holes.
 pub data Group (e : Blocks) (h : Held) (table : ℕ → ℕ → Pointer) (m j : ℕ) : Type 0 where
   keeps : (level : suc m < level_of h.inode.size) → (over : table (suc m) j ≡ h.place (suc m) j)
       → (under : (i : ℕ) → i / 1024 ≡ j → table m i ≡ h.place m i) → Group e h table m j
@@ -69,8 +70,8 @@ pub record IsInline (h : Held) (c : Overlay) (f : Inode) : Type 0 where
   pub body : f.body ≡ Inline bytes
   pub blocks : (i : ℕ) → body_block (Inline bytes) [] i ≡ overlaid_block h c i
 
--- The changed file stands in these places of a disk e, under the inode f. Each node stands where the settled file has it, or
--- in a block that was taken, each for one node.
+-- The changed file stands in these places of a disk e, under the inode f. Each node stands where
+-- the settled file has it, or in a block that was taken, each for one node.
 pub record IsLaid (e : Blocks) (h : Held) (c : Overlay) (f : Inode) (taken : ℕ → Bool) (table : ℕ → ℕ → Pointer) : Type 0 where
   pub top : ℕ
   pub level : level_of f.size ≡ suc top
@@ -84,7 +85,8 @@ pub record IsLaid (e : Blocks) (h : Held) (c : Overlay) (f : Inode) (taken : ℕ
   pub once : (m i k j b : ℕ) → m ≤ top → k ≤ top → table m i ≡ Block b → table k j ≡ Block b
       → taken b ≡ true → (m ≡ k) × (i ≡ j)
 
--- a disk e has the settled file's blocks as d has them, and holds the changed file in some table of places
+-- a disk e has the settled file's blocks as d has them, and holds the changed file in some table of
+-- places
 pub record LaysOut (d e : Blocks) (old : Inode) (c : Overlay) (f : Inode) (taken : ℕ → Bool) : Type 0 where
   pub same : Agrees (Names (held d old)) d e
   pub table : ℕ → ℕ → Pointer

@@ -12,15 +12,16 @@ use Rattle.images.specs.BlockMap.{HasBit, entry, IsExact, IsSystem, NamesOnce}
 use Rattle.images.specs.Contents.{Content, StandsAs, content_of, tree_contents}
 use Rattle.images.specs.Soundness.{IsSoundFile, FitsNumber, SpellsInodes, MapsNumbers, HasNoHole}
 
--- Plane 0 of the map after the blocks of the changed files were taken out, as the old tree names them, and put in, as the new
--- one does. The old tree's own plane was this one.
+-- Plane 0 of the map after the blocks of the changed files were taken out, as the old tree names
+-- them, and put in, as the new one does. The old tree's own plane was this one.
 abbrev pub MarksPlane : (ℕ → Bool) → HeldTree → ℕ → HeldTree → (ℕ → ℕ) → (ℕ → ℕ) → Type 0
 MarksPlane changed old plane new before after =
     (b : ℕ) → HasBit 0 (after b)
     ↔ ((HasBit plane (before b) × ((n : ℕ) → changed n ≡ true → Names (old n) b → ⊥))
     ⊎ ((n : ℕ) × (changed n ≡ true) × Names (new n) b))
 
--- what becomes of the snapshot in slot k, and of plane k: it stays, is taken of the old root, or is deleted
+-- what becomes of the snapshot in slot k, and of plane k: it stays, is taken of the old root, or is
+-- deleted
 pub data Slot (e : Blocks) (r new : Root) (before after : ℕ → ℕ) (k : ℕ) : Type 0 where
   stays : (same : slot new k ≡ slot r k)
       → (plane : (b : ℕ) → HasBit k (after b) ↔ HasBit k (before b)) → Slot e r new before after k
@@ -30,16 +31,17 @@ pub data Slot (e : Blocks) (r new : Root) (before after : ℕ → ℕ) (k : ℕ)
   drops : (none : slot new k ≡ Hole) → (plane : (b : ℕ) → HasBit k (after b) → ⊥)
       → Slot e r new before after k
 
--- The tree that a point starts from, and its plane of the old map: the active one with plane 0, or (to restore a snapshot) a
--- frozen one with its own.
+-- The tree that a point starts from, and its plane of the old map: the active one with plane 0, or
+-- (to restore a snapshot) a frozen one with its own.
 pub record IsBase (d : Blocks) (r : Root) (t : HeldTree) (plane : ℕ) : Type 0 where
   pub exact : (b : ℕ) → HasBit plane (entry (whole d r).active b) ↔ Reach t b
   pub once : NamesOnce t
   pub needed : (b : ℕ) → Reach t b → Needs r (whole d r) b
   pub read : (n : ℕ) → t n ≡ held d (t n).inode
 
--- What is planned, on a disk e that has the planned blocks: which files are changed, the inode of each file, and the blocks
--- that were taken for it: each node of it stands where it stood, or in one of them. Of the files 0 to 2, which are the file system's own, nobody asks what they hold.
+-- What is planned, on a disk e that has the planned blocks: which files are changed, the inode of
+-- each file, and the blocks that were taken for it: each node of it stands where it stood, or in
+-- one of them. Of the files 0 to 2, which are the file system's own, nobody asks what they hold.
 pub record IsPlannedOn (w : Whole) (t : HeldTree) (plane : ℕ) (r : Root) (e : Blocks) (new : Root) (files : ℕ → Content) : Type 0 where
   pub inode : ℕ → Inode
   pub changed : ℕ → Bool
@@ -77,8 +79,8 @@ pub record IsUnderNewRoot (r new : Root) (w now : Whole) (files : ℕ → Conten
   pub exact : IsExact new now
   pub once : NamesOnce now.active
 
--- What is planned is in its grammar, on a disk e that has the planned blocks: the inode of each file, and which are changed, being
--- these.
+-- What is planned is in its grammar, on a disk e that has the planned blocks: the inode of each
+-- file, and which are changed, being these.
 pub record IsSoundPlan (s : Sizes) (e : Blocks) (inode : ℕ → Inode) (changed : ℕ → Bool) : Type 0 where
   pub files : (n : ℕ) → changed n ≡ true → IsSoundFile s (held e (inode n))
   pub kinds : (n : ℕ) → changed n ≡ true → FitsNumber n (inode n).kind

@@ -1,17 +1,18 @@
--- Records that a replay takes, over volumes whose directories may have any count of names, and whose files may have blocks that
--- can't be read.
+-- Records that a replay takes, over volumes whose directories may have any count of names, and
+-- whose files may have blocks that can't be read.
 use Rattle.std.specs.Prelude.{ℕ, ◌≡◌, ◌≢◌, ◌/◌, ◌<◌, IsSome, List, [], ◌∷◌, length, Option, Some}
 use Rattle.layout.specs.declared.TheConstants.{BLOCK_BYTES}
 use Rattle.model.specs.Counting.{Counts}
 use Rattle.model.specs.Paths.{Name}
-use Rattle.model.specs.Records.{Applies, Change, applied, cut, rename, write}
+use Rattle.model.specs.Records.{Applies, Change, applied, truncate, rename, write}
 use Rattle.model.specs.Volumes.{Node, Volume, entries, file_node}
 use Rattle.model.specs.declared.limits.TheConstants.{DIRECTORY_NAMES}
-use Rattle.images.specs.Edges.{CutsBlock, IsPartlyWritten}
+use Rattle.images.specs.Edges.{TruncatesBlock, IsPartlyWritten}
 use Rattle.images.specs.Sizes.{IsReadBlock}
 use Rattle.images.specs.Soundness.{Detail, by_bytes, by_sizes}
 
--- no limit is passed by a move: the directory that gets the name has place for it, when the names are gone that the move takes away
+-- no limit is passed by a move: the directory that gets the name has place for it, when the names
+-- are gone that the move takes away
 abbrev pub LeavesPlace : Volume → Change → Type 0
 LeavesPlace v (rename d x k y) =
     (count : ℕ) × Counts (λ (z : Name). IsSome (entries v k z) × (z ≢ y) × (d ≡ k → z ≢ x)) count × (count < DIRECTORY_NAMES)
@@ -25,7 +26,7 @@ bytes_of_node o = []
 -- the blocks of a file that a change leaves in part can be read
 abbrev pub ReadsParts : Volume → Change → Type 0
 ReadsParts v (write n offset bytes) = (i : ℕ) → IsPartlyWritten offset (length bytes) i → IsReadBlock (bytes_of_node (v n)) i
-ReadsParts v (cut n size) = CutsBlock (length (bytes_of_node (v n))) size → IsReadBlock (bytes_of_node (v n)) (size / BLOCK_BYTES)
+ReadsParts v (truncate n size) = TruncatesBlock (length (bytes_of_node (v n))) size → IsReadBlock (bytes_of_node (v n)) (size / BLOCK_BYTES)
 ReadsParts v change = Unit {0}
 
 -- the same, where this isn't known of all blocks

@@ -34,7 +34,8 @@ inode_part block s = take INODE_BYTES (drop (INODE_BYTES * s) block)
 abbrev pub inode_bytes_at : (ℕ → List ℕ) → ℕ → List ℕ
 inode_bytes_at block n = inode_part (block (n / INODES_PER_BLOCK)) (n % INODES_PER_BLOCK)
 
--- All that a root's tree holds, file by file. Number 0 stands for the inode file, and past the last number all is free.
+-- All that a root's tree holds, file by file. Number 0 stands for the inode file, and past the last
+-- number all is free.
 abbrev pub HeldTree : Type 0
 HeldTree = ℕ → Held
 

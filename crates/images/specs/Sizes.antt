@@ -1,4 +1,5 @@
--- What is known of a volume where the bytes of files are not: how many there are, and which of their blocks can be read.
+-- What is known of a volume where the bytes of files are not: how many there are, and which of
+-- their blocks can be read.
 use Rattle.std.specs.Prelude.{ℕ, ◌≡◌, ◌↔◌, ◌*◌, ◌<◌, List, length, slice_index, Option, Some}
 use Rattle.layout.specs.declared.TheConstants.{BLOCK_BYTES}
 use Rattle.layout.specs.declared.kind.Kind.{Kind}
@@ -20,8 +21,8 @@ abbrev pub CanReadBlock : Detail → (ℕ → List ℕ) → ℕ → Type 0
 CanReadBlock by_bytes block i = Unit {0}
 CanReadBlock by_sizes block i = length (block i) ≡ BLOCK_BYTES
 
--- The object of this kind that a content stands for, but that the bytes of a file or link may be any others of its size. A
--- directory's blocks can be read.
+-- The object of this kind that a content stands for, but that the bytes of a file or link may be
+-- any others of its size. A directory's blocks can be read.
 abbrev pub IsSizedAs : Kind → ℕ → Content → Option Node → Type 0
 IsSizedAs kinds.File inodes c o =
     (bytes : List ℕ) × (length bytes ≡ c.size) × TellsBlocks c.block bytes
@@ -32,7 +33,8 @@ IsSizedAs kinds.Link inodes c o =
     (text : List ℕ) × (length text ≡ c.size) × (o ≡ Some (link_node c.attributes text))
 IsSizedAs kind inodes c o = StandsAs kind inodes c o
 
--- a content of this kind stands for this object of a volume of so many inodes, or for none, in so much detail
+-- a content of this kind stands for this object of a volume of so many inodes, or for none, in so
+-- much detail
 abbrev pub StandsAsIn : Detail → Kind → ℕ → Content → Option Node → Type 0
 StandsAsIn by_bytes kind inodes content found = StandsAs kind inodes content found
 StandsAsIn by_sizes kind inodes content found = IsSizedAs kind inodes content found

@@ -7,20 +7,22 @@ use Rattle.layout.specs.declared.pointer.Pointer.TheVariants.{Hole, Block}
 use Rattle.layout.specs.declared.root.Root.{Root}
 use Rattle.layout.specs.declared.version.TheConstants.{SNAPSHOT_SLOTS}
 use Rattle.model.specs.Paths.{Name}
-use Rattle.model.specs.Records.{without_nameless}
+use Rattle.model.specs.Records.{without_orphans}
 use Rattle.model.specs.Trees.{Tree}
 use Rattle.model.specs.Volumes.{Volume, tree_of}
 use Rattle.images.specs.Roots.{HeldTree, Whole, slot}
 use Rattle.images.specs.Snapshots.{HasSnapshot}
 
--- the snapshots are left alone, or this one is taken into a slot, or the one in a slot, of this name, is deleted or restored
+-- the snapshots are left alone, or this one is taken into a slot, or the one in a slot, of this
+-- name, is deleted or restored
 pub data SnapshotStep : Type 0 where
   unchanged : SnapshotStep
   taken : (k : ℕ) → Snapshot → SnapshotStep
   deleted : (k : ℕ) → Name → SnapshotStep
   restored : (k : ℕ) → Name → SnapshotStep
 
--- the tree that the point starts from, and its plane of the block map: the active one, or that of a snapshot to be restored
+-- the tree that the point starts from, and its plane of the block map: the active one, or that of a
+-- snapshot to be restored
 abbrev pub base_tree : SnapshotStep → Whole → HeldTree
 base_tree (restored k name) w = w.frozen k
 base_tree _ w = w.active
@@ -34,8 +36,8 @@ pub record IsSlotNumber (k : ℕ) : Type 0 where
   pub first : 1 ≤ k
   pub last : k ≤ SNAPSHOT_SLOTS
 
--- A snapshot of what a root holds may be taken into a slot: this is free, no other snapshot has the name, and all have lower order
--- numbers.
+-- A snapshot of what a root holds may be taken into a slot: this is free, no other snapshot has the
+-- name, and all have lower order numbers.
 pub record CanTake (r : Root) (w : Whole) (k : ℕ) (s : Snapshot) : Type 0 where
   pub number : IsSlotNumber k
   pub free : slot r k ≡ Hole
@@ -78,10 +80,11 @@ HasHead (taken k s) new e = pointed e (slot new k) ≡ snapshot_bytes s
 HasHead (deleted k name) new e = Unit {0}
 HasHead (restored k name) new e = Unit {0}
 
--- The names and trees of the snapshots after a step, oldest first, where these were there before, and the root held this volume: the
--- tree of a snapshot that is taken is the volume's, without the files that have no name.
+-- The names and trees of the snapshots after a step, oldest first, where these were there before,
+-- and the root held this volume: the tree of a snapshot that is taken is the volume's, without the
+-- files that have no name.
 abbrev pub kept_after : SnapshotStep → Volume → List (Name × Tree) → List (Name × Tree)
 kept_after unchanged first pairs = pairs
-kept_after (taken k s) first pairs = pairs ++ (s.name, tree_of (without_nameless first) (λ d. None)) ∷ []
+kept_after (taken k s) first pairs = pairs ++ (s.name, tree_of (without_orphans first) (λ d. None)) ∷ []
 kept_after (deleted k name) first pairs = filter (λ pair. not (bytes_eq pair.0 name)) pairs
 kept_after (restored k name) first pairs = pairs

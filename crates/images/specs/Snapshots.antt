@@ -6,7 +6,7 @@ use Rattle.layout.specs.declared.version.TheConstants.{VERSION}
 use Rattle.layout.specs.declared.pointer.Pointer.TheVariants.{Block}
 use Rattle.layout.specs.declared.root.Root.{Root}
 use Rattle.model.specs.Paths.{Name}
-use Rattle.model.specs.Records.{without_nameless}
+use Rattle.model.specs.Records.{without_orphans}
 use Rattle.model.specs.Trees.{Tree}
 use Rattle.model.specs.Volumes.{Volume, IsVolume, tree_of}
 use Rattle.images.specs.Roots.{HeldTree, Whole, slot}
@@ -44,7 +44,7 @@ pub record IsNext (r : Root) (w : Whole) (above k : ℕ) (s : Snapshot) : Type 0
 abbrev pub IsFrozenTree : ℕ → HeldTree → Tree → Type 0
 IsFrozenTree inodes t tree =
     (v : Volume) × HoldsVolume inodes (tree_contents t) v × IsVolume inodes v
-    × (tree ≡ tree_of (without_nameless v) (λ d. None))
+    × (tree ≡ tree_of (without_orphans v) (λ d. None))
 
 -- the names and trees of the snapshots with order numbers above this one, oldest first
 abbrev pub AreKeptAbove : Root → Whole → ℕ → List (Name × Tree) → Type 0

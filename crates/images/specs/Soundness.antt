@@ -1,4 +1,5 @@
--- The grammars that a tree keeps: its inodes, indirect blocks, maps and the bytes past the ends of its files.
+-- The grammars that a tree keeps: its inodes, indirect blocks, maps and the bytes past the ends of
+-- its files.
 use Rattle.std.specs.Prelude.{ℕ, zero, suc, ◌≡◌, ◌≢◌, ◌⊎◌, ◌↔◌, ◌-◌, ◌*◌, ◌<◌, ◌≤◌, List, length, drop}
 use Rattle.layout.specs.Bytes.{zeros}
 use Rattle.layout.specs.FileBytes.{byte_in, EndsAt}
@@ -37,7 +38,8 @@ abbrev pub KnowsBytes : Detail → Held → Type 0
 KnowsBytes by_bytes h = HasBytes h
 KnowsBytes by_sizes h = Unit {0}
 
--- a file in its grammar, in an image of these sizes: its inode, and each indirect block that is stored; and its bytes
+-- a file in its grammar, in an image of these sizes: its inode, and each indirect block that is
+-- stored; and its bytes
 pub record IsHeldFile (detail : Detail) (s : Sizes) (h : Held) : Type 0 where
   pub inode : IsInode VERSION s h.inode
   pub indirect : (m i b : ℕ) → h.place (suc m) i ≡ Block b
@@ -72,8 +74,8 @@ FitsNumber (suc (suc (suc n))) kind = IsOrdinary kind
 abbrev pub HasNoHole : Held → Type 0
 HasNoHole h = (i : ℕ) → 1 ≤ level_of h.inode.size → i < nodes_of_size h.inode.size 0 → h.place 0 i ≢ Hole
 
--- The blocks of the inode file spell the inodes of a tree, and zeros elsewhere: for number 0, past the last number, and behind
--- the last inode of each block.
+-- The blocks of the inode file spell the inodes of a tree, and zeros elsewhere: for number 0, past
+-- the last number, and behind the last inode of each block.
 pub record SpellsInodes (inodes : ℕ) (block : ℕ → List ℕ) (t : HeldTree) : Type 0 where
   pub each : (n : ℕ) → 1 ≤ n → n < inodes → inode_bytes_at block n ≡ inode_bytes (t n).inode
   pub first : inode_bytes_at block 0 ≡ zeros INODE_BYTES
@@ -81,7 +83,8 @@ pub record SpellsInodes (inodes : ℕ) (block : ℕ → List ℕ) (t : HeldTree)
   pub behind : (i : ℕ) → drop (INODE_BYTES * INODES_PER_BLOCK) (block i)
       ≡ zeros (BLOCK_BYTES - INODE_BYTES * INODES_PER_BLOCK)
 
--- the inode map's file says which numbers are in use: the first four, and those of the inodes that aren't free
+-- the inode map's file says which numbers are in use: the first four, and those of the inodes that
+-- aren't free
 abbrev pub MapsNumbers : HeldTree → Type 0
 MapsNumbers t =
     (n : ℕ) → IsTaken (content_bytes (content_of (t 1))) n

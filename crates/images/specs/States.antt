@@ -8,7 +8,7 @@ use Rattle.layout.specs.declared.TheConstants.{SLOT_A, SLOT_B}
 use Rattle.layout.specs.declared.pointer.Pointer.TheVariants.{Block}
 use Rattle.layout.specs.declared.root.Root.{Root}
 use Rattle.model.specs.Paths.{Name}
-use Rattle.model.specs.Records.{Replays, pledged_for, without_nameless}
+use Rattle.model.specs.Records.{Replays, pledged_for, without_orphans}
 use Rattle.model.specs.Room.{fixed_of}
 use Rattle.model.specs.States.{State, Forgets, going}
 use Rattle.model.specs.Trees.{Tree}
@@ -30,36 +30,39 @@ pub record IsSound (r : Root) (w : Whole) : Type 0 where
   pub exact : IsExact r w
   pub own : KeepsOwn r w
 
--- What a root holds, all of it in its grammar: the objects of its active tree, its files without names among them, and the
--- names and trees of its snapshots, oldest first.
+-- What a root holds, all of it in its grammar: the objects of its active tree, its orphans among
+-- them, and the names and trees of its snapshots, oldest first.
 pub record Holds (r : Root) (w : Whole) (v : Volume) (snapshots : List (Name × Tree)) : Type 0 where
   pub sound : IsSound r w
   pub holds : HoldsVolume r.geometry.inodes (tree_contents w.active) v
   pub volume : IsVolume r.geometry.inodes v
   pub kept : AreKept r w snapshots
 
--- The log holds these records, which a root doesn't cover: those of the next epoch, and then those of the one after it.
+-- The log holds these records, which a root doesn't cover: those of the next epoch, and then those
+-- of the one after it.
 pub record LogHoldsChanges (r : Root) (nvram : List ℕ) (changes : List Change) : Type 0 where
   pub are : All IsChange changes
   pub log : LogHolds r.geometry.half r.generation nvram (map change_bytes changes)
 
--- as many blocks are free under a root as may be stored for these records over its volume, and what every point stores
+-- as many blocks are free under a root as may be stored for these records over its volume, and what
+-- every point stores
 abbrev pub HasReserve : Root → Whole → Volume → List Change → Type 0
 HasReserve r w first changes =
     pledged_for r.geometry.inodes first changes + fixed_of r.geometry.blocks
     ≤ free_under w.active r.geometry.blocks
 
--- the state of these objects, files without names aside, and of these snapshots
+-- the state of these objects, orphans aside, and of these snapshots
 abbrev pub state_of : ℕ → Volume → List (Name × Tree) → State
 state_of inodes v snapshots = record {
   inodes = inodes;
-  tree = tree_of (without_nameless v) (λ d. None);
+  tree = tree_of (without_orphans v) (λ d. None);
   snapshots = snapshots;
   mark = going;
 }
 
--- The disk and the NVRAM stand for this state with its open files forgotten: the objects that the newest root holds, changed
--- by the records that it doesn't cover, without the files that have no name then.
+-- The disk and the NVRAM stand for this state with its open files forgotten: the objects that the
+-- newest root holds, changed by the records that it doesn't cover, without the files that have no
+-- name then.
 pub record Opens (sectors : ℕ) (disk : ℕ → List ℕ) (nvram : List ℕ) (s : State) : Type 0 where
   pub root : Root
   pub newest : IsNewest root (disk SLOT_A) (disk SLOT_B)
@@ -80,6 +83,7 @@ pub record OpensBy (sectors : ℕ) (disk : ℕ → List ℕ) (nvram : List ℕ) 
   pub opens : Opens sectors disk nvram s
   pub these : opens.changes ≡ changes
 
--- two disks have the same in all sectors of blocks that aren't free in the map that the first one has under a root
+-- two disks have the same in all sectors of blocks that aren't free in the map that the first one
+-- has under a root
 abbrev pub SameButFree : Root → (ℕ → List ℕ) → (ℕ → List ℕ) → Type 0
 SameButFree r d e = (n : ℕ) → entry (whole (blocks_of d) r).active (n / 8) ≢ 0 → e n ≡ d n

@@ -17,22 +17,24 @@ ghost use Rattle.images.specs.Roots.{Needs, whole};
 ghost use Rattle.images.specs.SnapshotSteps.{SnapshotStep, kept_after, unchanged};
 ghost use Rattle.images.specs.States.{Holds, IsSound, LogHoldsChanges, Opens, OpensBy, state_of};
 
-/// What a root in its grammar needs are blocks of its disk, none of the two that hold the roots. It does nothing.
+/// What a root in its grammar needs are blocks of its disk, none of the two that hold the roots. It
+/// does nothing.
 pub fn needed_blocks_are_of_the_disk()
     ensures { (d : Blocks) (r : Root) (b : ℕ) → IsRoot r → IsSound r (whole d r)
         → Needs r (whole d r) b → IsOfDisk r.geometry.blocks b }
 {}
 
-/// Before its root is written, a consistency point leaves images that open as before, by the same records. It does
-/// nothing.
+/// Before its root is written, a consistency point leaves images that open as before, by the same
+/// records. It does nothing.
 pub fn unfinished_points_open_as_before()
     ensures { (sectors : ℕ) (d e : ℕ → List ℕ) (nvram : List ℕ) (s : State) (writes : List Write)
         → (o : Opens sectors d nvram s) → AreFree o.root d writes → StaysOutsideWrites writes d e
         → OpensBy sectors e nvram s o.changes }
 {}
 
-/// Where the sector that its root goes to can't be read afterwards, a consistency point leaves images that open as before, by
-/// the same records: the newest root stands in the other slot. It does nothing.
+/// Where the sector that its root goes to can't be read afterwards, a consistency point leaves
+/// images that open as before, by the same records: the newest root stands in the other slot. It
+/// does nothing.
 pub fn lost_slots_open_as_before()
     ensures { (sectors : ℕ) (d e : ℕ → List ℕ) (nvram : List ℕ) (s : State) (writes : List Write)
         (sector : ℕ) → (o : Opens sectors d nvram s) → AreFree o.root d writes
@@ -40,8 +42,9 @@ pub fn lost_slots_open_as_before()
         → OpensBy sectors e nvram s o.changes }
 {}
 
-/// Once its root is written, that is the newest one, and it holds the planned volume and the same snapshots, but for one that
-/// it takes or deletes. As many blocks are free as was planned. It does nothing.
+/// Once its root is written, that is the newest one, and it holds the planned volume and the same
+/// snapshots, but for one that it takes or deletes. As many blocks are free as was planned. It does
+/// nothing.
 pub fn finished_points_hold()
     ensures newest { (sectors : ℕ) (d e : ℕ → List ℕ) (nvram : List ℕ) (s : State)
         (writes : List Write) (sector : ℕ) (new : Root) (v : Volume) (step : SnapshotStep)
@@ -62,8 +65,9 @@ pub fn finished_points_hold()
         ≤ free_under (whole (blocks_of e) new).active o.root.geometry.blocks + spent }
 {}
 
-/// And where the point leaves room for the records that the new root doesn't cover, the images open by these, to what they lead
-/// to from the planned volume and to the snapshots as before, but for one that it takes or deletes. It does nothing.
+/// And where the point leaves room for the records that the new root doesn't cover, the images open
+/// by these, to what they lead to from the planned volume and to the snapshots as before, but for
+/// one that it takes or deletes. It does nothing.
 pub fn finished_points_open()
     ensures { (sectors : ℕ) (d e : ℕ → List ℕ) (nvram : List ℕ) (s : State)
         (writes : List Write) (sector : ℕ) (new : Root) (v : Volume) (step : SnapshotStep)
@@ -80,7 +84,8 @@ pub fn finished_points_open()
         → OpensBy sectors e nvram t rest }
 {}
 
-/// A point that changes nothing but the generation can be planned: what is asked of a plan can be met. It does nothing.
+/// A point that changes nothing but the generation can be planned: what is asked of a plan can be
+/// met. It does nothing.
 pub fn nothing_can_be_planned()
     ensures { (d : Blocks) (r : Root) (generation : ℕ) → IsSound r (whole d r)
         → PlansOn unchanged d r d (record r { generation = generation }) (tree_contents (whole d r).active) }

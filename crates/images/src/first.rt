@@ -15,20 +15,23 @@ ghost use Rattle.images.specs.Soundness.{IsSoundFile};
 ghost use Rattle.images.specs.States.{HasReserve, Holds, OpensBy};
 ghost use Rattle.model.specs.States.{empty};
 
-/// A root whose image has nothing but an empty root directory holds that, and no snapshots. It does nothing.
+/// A root whose image has nothing but an empty root directory holds that, and no snapshots. It does
+/// nothing.
 pub fn first_roots_hold()
     ensures { (r : Root) (e : Blocks) (numbers map : Inode) → IsFirst r e numbers map
         → Holds r (whole e r) root_alone_volume [] }
 {}
 
-/// A free inode is in the grammar and names no block: a file may be placed over it. It does nothing.
+/// A free inode is in the grammar and names no block: a file may be placed over it. It does
+/// nothing.
 pub fn free_files_hold_nothing()
     ensures sound { (s : Sizes) (d : Blocks) → IsSoundFile s (held d free_inode) }
     ensures none { (d : Blocks) (b : ℕ) → Names (held d free_inode) b → ⊥ }
 {}
 
-/// A disk whose newest root holds nothing but an empty root directory, with a log that holds no records, opens by none to the state
-/// with an empty root directory and no snapshots. It does nothing.
+/// A disk whose newest root holds nothing but an empty root directory, with a log that holds no
+/// records, opens by none to the state with an empty root directory and no snapshots. It does
+/// nothing.
 pub fn first_images_open_to_the_empty_state()
     ensures { (sectors : ℕ) (disk : ℕ → List ℕ) (nvram : List ℕ) (r : Root)
         → IsNewest r (disk SLOT_A) (disk SLOT_B) → sectors ≡ 8 * r.geometry.blocks

@@ -7,7 +7,8 @@ ghost use Rattle.layout.specs.declared.root.Root.{Root};
 ghost use Rattle.images.specs.Nodes.{Agrees, Names, held};
 ghost use Rattle.images.specs.Roots.{tree, Reach, whole, Needs};
 
-/// Disks that agree on what a file or a tree names, or on what a root needs, hold the same under it. It does nothing.
+/// Disks that agree on what a file or a tree names, or on what a root needs, hold the same under
+/// it. It does nothing.
 pub fn disks_that_agree_hold_the_same()
     ensures file { (d e : Blocks) (f : Inode) → Agrees (Names (held d f)) d e
         → held e f ≡ held d f }

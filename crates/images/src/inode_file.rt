@@ -7,7 +7,8 @@ ghost use Rattle.images.specs.Nodes.{Held};
 ghost use Rattle.images.specs.Overlays.{Overlay, overlaid_block};
 ghost use Rattle.images.specs.Roots.{inode_bytes_at};
 
-/// The inode that was put last is there, and all else of the inode file is as before. It does nothing.
+/// The inode that was put last is there, and all else of the inode file is as before. It does
+/// nothing.
 pub fn inodes_are_put_one_by_one()
     ensures there { (h : Held) (c : Overlay) (n : ℕ) (bytes : List ℕ) → FitsPlace h c n bytes
         → inode_bytes_at (overlaid_block h (with_inode h c n bytes)) n ≡ bytes }

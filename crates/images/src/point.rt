@@ -27,8 +27,8 @@ pub fn free_blocks_are_unneeded()
         → entry (whole d r).active b ≡ 0 → Needs r (whole d r) b → ⊥ }
 {}
 
-/// A consistency point may start from the active tree, or from a snapshot's: so from that of each step that may be made. It does
-/// nothing.
+/// A consistency point may start from the active tree, or from a snapshot's: so from that of each
+/// step that may be made. It does nothing.
 pub fn trees_are_bases()
     ensures active { (d : Blocks) (r : Root) → IsExact r (whole d r) → NamesOnce (whole d r).active
         → IsBase d r (whole d r).active 0 }
@@ -42,8 +42,8 @@ pub fn trees_are_bases()
         → IsSoundTree r.geometry (base_tree step (whole d r)) }
 {}
 
-/// A changed file that is laid out reads as it is in memory, and its blocks are the settled file's or were taken. It does
-/// nothing.
+/// A changed file that is laid out reads as it is in memory, and its blocks are the settled file's
+/// or were taken. It does nothing.
 pub fn files_stand_as_laid()
     ensures content { (d e : Blocks) (old : Inode) (c : Overlay) (f : Inode) (taken : ℕ → Bool)
         → LaysOut d e old c f taken → content_of (held e f) ≡ overlaid_content (held d old) c }
@@ -54,7 +54,8 @@ pub fn files_stand_as_laid()
         → LaysOut d e old c f taken → IsOnce (held d old) → IsOnce (held e f) }
 {}
 
-/// A changed file whose inode has the bytes itself reads as it is in memory, and names no block. It does nothing.
+/// A changed file whose inode has the bytes itself reads as it is in memory, and names no block. It
+/// does nothing.
 pub fn files_stand_inline()
     ensures content { (e : Blocks) (h : Held) (c : Overlay) (f : Inode)
         → IsInline h c f → content_of (held e f) ≡ overlaid_content h c }
@@ -62,8 +63,9 @@ pub fn files_stand_inline()
         → IsInline h c f → Names (held e f) b → ⊥ }
 {}
 
-/// On any disk that has the planned blocks and those that the old root needs, the new root holds what was planned: the
-/// changed contents, a map that is exact, and the frozen trees. It does nothing.
+/// On any disk that has the planned blocks and those that the old root needs, the new root holds
+/// what was planned: the changed contents, a map that is exact, and the frozen trees. It does
+/// nothing.
 pub fn planned_points_settle()
     ensures { (d e : Blocks) (r new : Root) (t : HeldTree) (plane : ℕ) (files : ℕ → Content)
         → IsRoot r → IsExact r (whole d r) → IsBase d r t plane
@@ -71,9 +73,10 @@ pub fn planned_points_settle()
         → IsUnderNewRoot r new (whole d r) (whole e new) files }
 {}
 
-/// Where the old root held a volume, and what was planned of the tree that the step starts from is in its grammar, the new root
-/// holds the planned volume, and the same snapshots but for one that is taken or deleted: the tree of a snapshot that is taken is that of the old
-/// root's volume, without the files that have no name. It does nothing.
+/// Where the old root held a volume, and what was planned of the tree that the step starts from is
+/// in its grammar, the new root holds the planned volume, and the same snapshots but for one that
+/// is taken or deleted: the tree of a snapshot that is taken is that of the old root's volume,
+/// without the files that have no name. It does nothing.
 pub fn planned_points_hold()
     ensures { (d e : Blocks) (r new : Root) (files : ℕ → Content) (first v : Volume)
         (snapshots : List (Name × Tree))

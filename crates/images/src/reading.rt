@@ -17,7 +17,8 @@ ghost use Rattle.images.specs.Nodes.{file_block, held};
 ghost use Rattle.images.specs.Roots.{free_inode, frozen_inode_file, inode_bytes_at, tree};
 ghost use Rattle.images.specs.Soundness.{Detail, IsHeldFile};
 
-/// A tree has the inode that the inode file's bytes spell, and past the last number free ones. It does nothing.
+/// A tree has the inode that the inode file's bytes spell, and past the last number free ones. It
+/// does nothing.
 pub fn inodes_are_what_their_bytes_spell()
     ensures spelled { (s : Sizes) (d : Blocks) (top i : Inode) (n : ℕ)
         → AreSizes s → 1 ≤ n → n < s.inodes → IsInode VERSION s i
@@ -34,8 +35,8 @@ pub fn snapshots_are_what_their_bytes_spell()
         × (frozen_inode_file (snapshot_bytes v) ≡ v.inode_file) }
 {}
 
-/// Of a file in its grammar whose inode has pointers, the blocks before its end are those that the pointers lead to, and zeros
-/// stand behind them. It does nothing.
+/// Of a file in its grammar whose inode has pointers, the blocks before its end are those that the
+/// pointers lead to, and zeros stand behind them. It does nothing.
 pub fn blocks_are_where_pointers_lead()
     ensures { (detail : Detail) (s : Sizes) (d : Blocks) (f : Inode) (pointers : List Pointer)
         (i : ℕ) → IsHeldFile detail s (held d f) → f.body ≡ Pointers pointers
@@ -45,8 +46,8 @@ pub fn blocks_are_where_pointers_lead()
         else zeros BLOCK_BYTES) }
 {}
 
-/// Of a file in its grammar whose inode has the bytes itself, they are the first block up to the size, with zeros behind them.
-/// It does nothing.
+/// Of a file in its grammar whose inode has the bytes itself, they are the first block up to the
+/// size, with zeros behind them. It does nothing.
 pub fn inline_bytes_are_the_first_block()
     ensures first { (s : Sizes) (d : Blocks) (f : Inode) (bytes : List ℕ) → IsInode VERSION s f
         → f.body ≡ Inline bytes

@@ -13,9 +13,10 @@ ghost use Rattle.images.specs.Room.{IsNewHead, TakesBelow, TakesFirst, free_unde
 ghost use Rattle.images.specs.SnapshotSteps.{CanStep, SnapshotStep, base_plane, base_tree};
 ghost use Rattle.images.specs.States.{IsSound};
 
-/// A consistency point leaves as many blocks free as there were, but for those that were free before the last block that it
-/// takes for files and snapshots. Of the block map's file none counts, and the nodes over the inode
-/// file's first block are given back, where no snapshot is taken. It does nothing.
+/// A consistency point leaves as many blocks free as there were, but for those that were free
+/// before the last block that it takes for files and snapshots. Of the block map's file none
+/// counts, and the nodes over the inode file's first block are given back, where no snapshot is
+/// taken. It does nothing.
 pub fn points_leave_room()
     ensures all { (d e : Blocks) (r new : Root) (files : ℕ → Content) → IsRoot r → IsRoot new
         → IsSound r (whole d r) → Agrees (Needs r (whole d r)) d e

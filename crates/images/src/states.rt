@@ -21,15 +21,16 @@ pub fn files_hold_one_volume()
         → HoldsVolume inodes files v → HoldsVolume inodes files w → v ≡ w }
 {}
 
-/// No images open to two states: what they open to is one state, once its open files are forgotten. It does nothing.
+/// No images open to two states: what they open to is one state, once its open files are forgotten.
+/// It does nothing.
 pub fn images_open_to_one_state()
     ensures { (sectors : ℕ) (disk : ℕ → List ℕ) (nvram : List ℕ) (s t : State)
         → Opens sectors disk nvram s → Opens sectors disk nvram t
         → (u : State) × Forgets s u × Forgets t u }
 {}
 
-/// Free blocks are no matter: disks that differ in sectors of blocks alone whose entries are 0 open to the same states, by the same
-/// records. It does nothing.
+/// Free blocks are no matter: disks that differ in sectors of blocks alone whose entries are 0 open
+/// to the same states, by the same records. It does nothing.
 pub fn free_blocks_are_no_matter()
     ensures { (sectors : ℕ) (d e : ℕ → List ℕ) (nvram : List ℕ) (s : State)
         → (o : Opens sectors d nvram s) → SameButFree o.root d e
@@ -45,8 +46,9 @@ pub fn images_that_open_have_no_fault()
         → Opens sectors disk nvram s → HasNoFault sectors disk nvram }
 {}
 
-/// A tree without a fault holds a volume by the sizes of its files; the names of each that it holds so are a graph, and of its numbers only
-/// ordinary ones and the root directory's are in use. It does nothing.
+/// A tree without a fault holds a volume by the sizes of its files; the names of each that it holds
+/// so are a graph, and of its numbers only ordinary ones and the root directory's are in use. It
+/// does nothing.
 pub fn faultless_trees_hold_graphs()
     ensures holds { (d : Blocks) (r : Root) → IsFaultless r.geometry (whole d r).active
         → (v : Volume) × HoldsVolumeIn by_sizes r.geometry.inodes (tree_contents (whole d r).active) v }
@@ -59,7 +61,8 @@ pub fn faultless_trees_hold_graphs()
         → (n ≡ ROOT_NUMBER) ⊎ ((FIRST_NUMBER ≤ n) × (n < r.geometry.inodes)) }
 {}
 
-/// Of one root, the volume and the records are one: so what is told of the images without faults is told of the same. It does nothing.
+/// Of one root, the volume and the records are one: so what is told of the images without faults is
+/// told of the same. It does nothing.
 pub fn faultless_images_have_one_root()
     ensures { (sectors : ℕ) (disk : ℕ → List ℕ) (nvram : List ℕ) (r : Root)
         → HasNoFault sectors disk nvram → HasRoots r sectors disk nvram

@@ -4,7 +4,7 @@ use Rattle.std.proofs.lemmas.Bool.{cases_lt}
 use Rattle.std.proofs.lemmas.Bool.Decides.{nat_tests}
 use Rattle.std.proofs.lemmas.List.{get_or_append_left, get_or-append_right, length-take, length-drop, get_or_past, get_or_default, length_push}
 use Rattle.layout.specs.Bytes.{zeros}
-use Rattle.buffers.specs.Positions.{with_bytes_at, laid, cut}
+use Rattle.buffers.specs.Positions.{with_bytes_at, laid, truncate}
 use Rattle.blocktree.specs.Places.{block_count}
 use Rattle.layout.specs.FileBytes.{byte_in}
 use Rattle.inode.specs.Changes.{changed_block}
@@ -109,71 +109,71 @@ write_laid blocks old_size size offset bytes first pieces first_is some size_is 
       ]
     ]
 
--- ---- cutting
+-- ---- truncating
 
-pub cut_below : (f : ℕ → ℕ) (size p : ℕ) → p < size → cut f size p ≡ f p
-cut_below f size p lt = grind (arith, nat_tests)
+pub truncated_below : (f : ℕ → ℕ) (size p : ℕ) → p < size → truncate f size p ≡ f p
+truncated_below f size p lt = grind (arith, nat_tests)
 
-pub cut_past : (f : ℕ → ℕ) (size p : ℕ) → size ≤ p → cut f size p ≡ 0
-cut_past f size p le = grind (arith, nat_tests)
+pub truncated_past : (f : ℕ → ℕ) (size p : ℕ) → size ≤ p → truncate f size p ≡ 0
+truncated_past f size p le = grind (arith, nat_tests)
 
 pub laid_none : {X : Type 0} (f : ℕ → X) (first i : ℕ) → laid f first [] i ≡ f i
 laid_none f first i = elim (cases_lt i first) [ inl lt ↦ laid_below f first [] i lt | inr le ↦ laid_past f first [] i (omega arith) ]
 
 -- nothing of the last block is cut away
-pub cut_laid_none : (blocks : ℕ → List ℕ) (old_size size first : ℕ) (pieces : List (List ℕ)) → pieces ≡ [] → ((old_size ≤ size) ⊎ (size % 4096 ≡ 0)) → ((p : ℕ) → old_size ≤ p → byte_in blocks p ≡ 0)
-    → (p : ℕ) → byte_in (changed_block blocks size first pieces) p ≡ cut (byte_in blocks) size p
-cut_laid_none blocks old_size size first pieces none whole zero_past p =
+pub truncated_laid_none : (blocks : ℕ → List ℕ) (old_size size first : ℕ) (pieces : List (List ℕ)) → pieces ≡ [] → ((old_size ≤ size) ⊎ (size % 4096 ≡ 0)) → ((p : ℕ) → old_size ≤ p → byte_in blocks p ≡ 0)
+    → (p : ℕ) → byte_in (changed_block blocks size first pieces) p ≡ truncate (byte_in blocks) size p
+truncated_laid_none blocks old_size size first pieces none whole zero_past p =
     elim (cases_lt (p / 4096) (block_count size)) [
-      | inr past ↦ changed_past blocks size first pieces p past ∙ sym (cut_past (byte_in blocks) size p (omega arith))
+      | inr past ↦ changed_past blocks size first pieces p past ∙ sym (truncated_past (byte_in blocks) size p (omega arith))
       | inl within ↦
           changed_within blocks size first pieces p within
           ∙ ap (λ (ps : List (List ℕ)). slice_index (laid blocks first ps (p / 4096)) (p % 4096)) none
           ∙ ap (λ (b : List ℕ). slice_index b (p % 4096)) (laid_none blocks first (p / 4096))
           ∙ elim (cases_lt p size) [
-            | inl lt ↦ sym (cut_below (byte_in blocks) size p lt)
+            | inl lt ↦ sym (truncated_below (byte_in blocks) size p lt)
             | inr le ↦ elim whole [
-              | inl wide ↦ zero_past p (omega arith) ∙ sym (cut_past (byte_in blocks) size p le)
+              | inl wide ↦ zero_past p (omega arith) ∙ sym (truncated_past (byte_in blocks) size p le)
               | inr even ↦ absurd (omega arith)
             ]
           ]
     ]
 
 -- what is cut away of the last block is zeros
-pub cut_laid_hole : (blocks : ℕ → List ℕ) (size first : ℕ) (pieces : List (List ℕ)) → pieces ≡ [] → blocks (size / 4096) ≡ zeros 4096
-    → (p : ℕ) → byte_in (changed_block blocks size first pieces) p ≡ cut (byte_in blocks) size p
-cut_laid_hole blocks size first pieces none hole p =
+pub truncated_laid_hole : (blocks : ℕ → List ℕ) (size first : ℕ) (pieces : List (List ℕ)) → pieces ≡ [] → blocks (size / 4096) ≡ zeros 4096
+    → (p : ℕ) → byte_in (changed_block blocks size first pieces) p ≡ truncate (byte_in blocks) size p
+truncated_laid_hole blocks size first pieces none hole p =
     elim (cases_lt (p / 4096) (block_count size)) [
-      | inr past ↦ changed_past blocks size first pieces p past ∙ sym (cut_past (byte_in blocks) size p (omega arith))
+      | inr past ↦ changed_past blocks size first pieces p past ∙ sym (truncated_past (byte_in blocks) size p (omega arith))
       | inl within ↦
           changed_within blocks size first pieces p within
           ∙ ap (λ (ps : List (List ℕ)). slice_index (laid blocks first ps (p / 4096)) (p % 4096)) none
           ∙ ap (λ (b : List ℕ). slice_index b (p % 4096)) (laid_none blocks first (p / 4096))
           ∙ elim (cases_lt p size) [
-            | inl lt ↦ sym (cut_below (byte_in blocks) size p lt)
+            | inl lt ↦ sym (truncated_below (byte_in blocks) size p lt)
             | inr le ↦
                 let here : p / 4096 ≡ size / 4096 = omega arith in
                 ap (λ (i : ℕ). slice_index (blocks i) (p % 4096)) here
                 ∙ ap (λ (b : List ℕ). slice_index b (p % 4096)) hole
                 ∙ slice_index-zeros 4096 (p % 4096)
-                ∙ sym (cut_past (byte_in blocks) size p le)
+                ∙ sym (truncated_past (byte_in blocks) size p le)
           ]
     ]
 
--- the last block is cut
-pub cut_laid_one : (blocks : ℕ → List ℕ) (size first rest : ℕ) (block : List ℕ) (pieces : List (List ℕ)) → first ≡ size / 4096 → rest ≡ size % 4096 → (rest ≡ 0 → ⊥) → pieces ≡ block ∷ []
-    → ((r : ℕ) → r < 4096 → slice_index block r ≡ cut (slice_index (blocks first)) rest r)
-    → (p : ℕ) → byte_in (changed_block blocks size first pieces) p ≡ cut (byte_in blocks) size p
-cut_laid_one blocks size first rest block pieces first_is rest_is some one block_is p =
+-- the last block is truncated
+pub truncated_laid_one : (blocks : ℕ → List ℕ) (size first rest : ℕ) (block : List ℕ) (pieces : List (List ℕ)) → first ≡ size / 4096 → rest ≡ size % 4096 → (rest ≡ 0 → ⊥) → pieces ≡ block ∷ []
+    → ((r : ℕ) → r < 4096 → slice_index block r ≡ truncate (slice_index (blocks first)) rest r)
+    → (p : ℕ) → byte_in (changed_block blocks size first pieces) p ≡ truncate (byte_in blocks) size p
+truncated_laid_one blocks size first rest block pieces first_is rest_is some one block_is p =
     elim (cases_lt (p / 4096) (block_count size)) [
-      | inr past ↦ changed_past blocks size first pieces p past ∙ sym (cut_past (byte_in blocks) size p (omega arith))
+      | inr past ↦ changed_past blocks size first pieces p past ∙ sym (truncated_past (byte_in blocks) size p (omega arith))
       | inl within ↦
           changed_within blocks size first pieces p within
           ∙ ap (λ (ps : List (List ℕ)). slice_index (laid blocks first ps (p / 4096)) (p % 4096)) one
           ∙ elim (cases_lt (p / 4096) first) [
             | inl below ↦
                 ap (λ (b : List ℕ). slice_index b (p % 4096)) (laid_below blocks first (block ∷ []) (p / 4096) below)
-                ∙ sym (cut_below (byte_in blocks) size p (omega arith))
+                ∙ sym (truncated_below (byte_in blocks) size p (omega arith))
             | inr reached ↦
                 let here : p / 4096 ≡ first = omega arith in
                 let none : p / 4096 - first ≡ 0 = omega arith in
@@ -181,14 +181,14 @@ cut_laid_one blocks size first rest block pieces first_is rest_is some one block
                 ∙ ap (λ (n : ℕ). slice_index (get_or (block ∷ []) n []) (p % 4096)) none
                 ∙ block_is (p % 4096) (omega arith)
                 ∙ elim (cases_lt p size) [
-                  | inl lt ↦ cut_below (slice_index (blocks first)) rest (p % 4096) (omega arith) ∙ ap (λ (n : ℕ). slice_index (blocks n) (p % 4096)) (sym here) ∙ sym (cut_below (byte_in blocks) size p lt)
-                  | inr le ↦ cut_past (slice_index (blocks first)) rest (p % 4096) (omega arith) ∙ sym (cut_past (byte_in blocks) size p le)
+                  | inl lt ↦ truncated_below (slice_index (blocks first)) rest (p % 4096) (omega arith) ∙ ap (λ (n : ℕ). slice_index (blocks n) (p % 4096)) (sym here) ∙ sym (truncated_below (byte_in blocks) size p lt)
+                  | inr le ↦ truncated_past (slice_index (blocks first)) rest (p % 4096) (omega arith) ∙ sym (truncated_past (byte_in blocks) size p le)
                 ]
           ]
     ]
 
-pub cut_same : (f g : ℕ → ℕ) (size p : ℕ) → f p ≡ g p → cut f size p ≡ cut g size p
-cut_same f g size p e = ap (λ (x : ℕ). if ltb p size then x else 0) e
+pub truncated_same : (f g : ℕ → ℕ) (size p : ℕ) → f p ≡ g p → truncate f size p ≡ truncate g size p
+truncated_same f g size p e = ap (λ (x : ℕ). if ltb p size then x else 0) e
 
 -- one more block of a write
 pub piece_more : (pieces more : List (List ℕ)) (block : List ℕ) (first i : ℕ) (f : ℕ → ℕ) → more ≡ pieces ++ block ∷ [] → first + length pieces ≡ i

@@ -77,7 +77,7 @@ leaves_part offset count i above below some = record {
   ];
 }
 
--- a file is cut off, or stays in its inode
-pub cut_level : (old new : ℕ) → (new < old) ⊎ ((old < new) × (new ≤ INLINE_BYTES)) → (new < old) ⊎ (new ≤ INLINE_BYTES)
-cut_level old new (inl smaller) = inl smaller
-cut_level old new (inr within) = inr within.1
+-- a file is truncated, or stays in its inode
+pub truncated_level : (old new : ℕ) → (new < old) ⊎ ((old < new) × (new ≤ INLINE_BYTES)) → (new < old) ⊎ (new ≤ INLINE_BYTES)
+truncated_level old new (inl smaller) = inl smaller
+truncated_level old new (inr within) = inr within.1

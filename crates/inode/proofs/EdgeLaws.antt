@@ -5,9 +5,9 @@ use Rattle.std.proofs.lemmas.List.{get_or_append_left, get_or-append_right, get_
 use Rattle.std.proofs.lemmas.List.FromFn.{get_or-map-range_with_len, fill_by_all}
 use Rattle.layout.specs.Bytes.{zeros}
 use Rattle.layout.specs.FileBytes.{first_bytes}
-use Rattle.buffers.specs.Positions.{with_bytes_at, cut}
+use Rattle.buffers.specs.Positions.{with_bytes_at, truncate}
 use Rattle.inode.specs.Edges.{filled, written_list}
-use Rattle.inode.proofs.BytePositions.{slice_index-zeros, written_below, written_above, written_in, cut_below}
+use Rattle.inode.proofs.BytePositions.{slice_index-zeros, written_below, written_above, written_in, truncated_below}
 use Rattle.layout.proofs.PartLaws.{length-first_bytes}
 use Rattle.layout.proofs.ZeroLaws.{length-zeros}
 
@@ -27,9 +27,9 @@ length-filled : (f : ℕ → ℕ) (size n : ℕ) → length (take n (first_bytes
 length-filled f size n = omega (arith, length-append (take n (first_bytes f size)) (zeros (n - size)), length-take n (first_bytes f size), length-first_bytes f size, length-zeros (n - size))
 
 -- a truncation gives the first bytes, filled up with zeros
-cut_gives : (f : ℕ → ℕ) (size n : ℕ) → ((p : ℕ) → size ≤ p → f p ≡ 0) → first_bytes (cut f n) n ≡ take n (first_bytes f size) ++ zeros (n - size)
-cut_gives f size n zero_past =
-    sym (fill_by_all (cut f n) (take n (first_bytes f size) ++ zeros (n - size)) n 0 (length-filled f size n) (λ k lt. filled_byte f size n k zero_past lt ∙ sym (cut_below f n k lt)))
+truncated_gives : (f : ℕ → ℕ) (size n : ℕ) → ((p : ℕ) → size ≤ p → f p ≡ 0) → first_bytes (truncate f n) n ≡ take n (first_bytes f size) ++ zeros (n - size)
+truncated_gives f size n zero_past =
+    sym (fill_by_all (truncate f n) (take n (first_bytes f size) ++ zeros (n - size)) n 0 (length-filled f size n) (λ k lt. filled_byte f size n k zero_past lt ∙ sym (truncated_below f n k lt)))
 
 abbrev front : (ℕ → ℕ) → ℕ → ℕ → List ℕ
 front f size offset = take offset (first_bytes f size) ++ zeros (offset - size)
@@ -68,8 +68,8 @@ same_first : (f g : ℕ → ℕ) (n : ℕ) → ((p : ℕ) → f p ≡ g p) → f
 same_first f g n same = fill_by_all g (first_bytes f n) n 0 (length-first_bytes f n) (λ k lt. byte_of f n k lt ∙ same k)
 
 -- the list of bytes after a truncation
-pub list_of_cut : (f g : ℕ → ℕ) (old size : ℕ) → ((p : ℕ) → old ≤ p → f p ≡ 0) → ((p : ℕ) → g p ≡ cut f size p) → first_bytes g size ≡ filled size (first_bytes f old)
-list_of_cut f g old size zero_past is = same_first g (cut f size) size is ∙ cut_gives f old size zero_past ∙ rw (length-first_bytes f old) refl
+pub list_of_truncated : (f g : ℕ → ℕ) (old size : ℕ) → ((p : ℕ) → old ≤ p → f p ≡ 0) → ((p : ℕ) → g p ≡ truncate f size p) → first_bytes g size ≡ filled size (first_bytes f old)
+list_of_truncated f g old size zero_past is = same_first g (truncate f size) size is ∙ truncated_gives f old size zero_past ∙ rw (length-first_bytes f old) refl
 
 -- the list of bytes after a write
 pub list_of_write : (f g : ℕ → ℕ) (old size offset : ℕ) (bytes : List ℕ) → size ≡ max old (offset + length bytes) → ((p : ℕ) → old ≤ p → f p ≡ 0) → ((p : ℕ) → g p ≡ with_bytes_at f offset bytes p)

@@ -17,7 +17,7 @@ use Rattle.images.specs.Sums.{sum_below}
 use Rattle.images.proofs.SumLaws.{sums_each}
 use Rattle.inode.specs.Files.{IsCommitted, IsSameFile}
 use Rattle.inode.specs.Room.{changed_below, changed_count, edit_room, far_tops, file_room, level_room, more_over, top_over, tops_over, write_room, StoresMore, TOP_BLOCKS}
-use Rattle.inode.specs.declared.change.Change.{Change}
+use Rattle.inode.specs.declared.file_update.FileUpdate.{FileUpdate}
 use Rattle.inode.specs.declared.file.File.{File}
 use Rattle.inode.proofs.GroupLaws.{at_one, changed_tops, far_adds, group_keeps, mark, none_far, tops_add, tops_changed, tops_most, tops_none}
 pub use Rattle.inode.proofs.GroupLaws.{more_at_most, none_top, one_top, top_at_most}
@@ -175,7 +175,7 @@ edit_grows f g k few tops low grown = elim (cases_lt 67108864 g.size) [
   ]
 ]
 
-module _ (f : File) (w : Change) where
+module _ (f : File) (w : FileUpdate) where
   -- a change brings as many changed blocks as it has, at the most
   pieces_more : (g : File) → IsCommitted f w g → changed_count g.tree ≤ changed_count f.tree + length w.pieces.items
   pieces_more g done =
@@ -247,7 +247,7 @@ module _ (f : File) (w : Change) where
 -- ---- what is prepared
 
 -- a write that has as many pieces as blocks are touched
-pub stores_write : (f : File) (w : Change) (size offset count : ℕ) → w.size ≡ max size (offset + count) → count ≤ 65536 → offset / 4096 + length w.pieces.items ≤ block_count (offset + count)
+pub stores_write : (f : File) (w : FileUpdate) (size offset count : ℕ) → w.size ≡ max size (offset + count) → count ≤ 65536 → offset / 4096 + length w.pieces.items ≤ block_count (offset + count)
     → StoresMore f w (write_room size offset count)
 stores_write f w size offset count is short pieces = elim (cases_lt 67108864 (max size (offset + count))) [
   | inl large ↦ (λ g done.
@@ -259,9 +259,9 @@ stores_write f w size offset count is short pieces = elim (cases_lt 67108864 (ma
 ]
 
 -- A new size with a piece: of a file that stays at its level, or has none then.
-pub stores_cut : (f : File) (w : Change) → length w.pieces.items ≡ 1 → w.first ≡ w.size / 4096 → (w.size % 4096 ≡ 0 → ⊥) → ((w.size < f.size) ⊎ (w.size ≤ INLINE_BYTES))
+pub stores_truncated : (f : File) (w : FileUpdate) → length w.pieces.items ≡ 1 → w.first ≡ w.size / 4096 → (w.size % 4096 ≡ 0 → ⊥) → ((w.size < f.size) ⊎ (w.size ≤ INLINE_BYTES))
     → ((w.size ≤ INLINE_BYTES) ⊎ (w.first < f.tree.kept) ⊎ IsChanged f.tree w.first) → StoresMore f w 4
-stores_cut f w one first part how was = elim (cases_lt 67108864 w.size) [
+stores_truncated f w one first part how was = elim (cases_lt 67108864 w.size) [
   | inl large ↦
       let old : 67108864 < f.size = elim how [ inl less ↦ omega (arith, less, large) | inr small ↦ absurd (omega (arith, small, large)) ] in
       elim was [

@@ -10,7 +10,7 @@ use Rattle.inode.specs.Bases.{KeepsBase}
 use Rattle.blocktree.specs.declared.tree.BlockTree.{BlockTree}
 use Rattle.inode.specs.Changes.{changed_block}
 use Rattle.inode.specs.declared.file.File.{File}
-use Rattle.inode.specs.declared.change.Change.{Change}
+use Rattle.inode.specs.declared.file_update.FileUpdate.{FileUpdate}
 
 -- block i of a file
 abbrev pub file_block : (ℕ → List ℕ) → File → ℕ → List ℕ
@@ -33,30 +33,31 @@ abbrev pub bytes_of_file : (ℕ → List ℕ) → File → List ℕ
 bytes_of_file disk f = first_bytes (byte_at disk f) f.size
 
 -- block i of a file as if a change were in force
-abbrev pub block_with : (ℕ → List ℕ) → File → Change → ℕ → List ℕ
+abbrev pub block_with : (ℕ → List ℕ) → File → FileUpdate → ℕ → List ℕ
 block_with disk f w = changed_block (file_block disk f) w.size w.first w.pieces.items
 
 -- the byte at a position of a file as if a change were in force
-abbrev pub byte_with : (ℕ → List ℕ) → File → Change → ℕ → ℕ
+abbrev pub byte_with : (ℕ → List ℕ) → File → FileUpdate → ℕ → ℕ
 byte_with disk f w = byte_in (block_with disk f w)
 
 -- the bytes of a file as if a change were in force
-abbrev pub bytes_with : (ℕ → List ℕ) → File → Change → List ℕ
+abbrev pub bytes_with : (ℕ → List ℕ) → File → FileUpdate → List ℕ
 bytes_with disk f w = first_bytes (byte_with disk f w) w.size
 
 -- there is room for each block of a change
-abbrev pub Fits : BlockTree → Change → Type 0
+abbrev pub Fits : BlockTree → FileUpdate → Type 0
 Fits t w = (j : ℕ) → j < length w.pieces.items → HasRoom t (w.first + j)
 
--- What a prepared change makes of a file's blocks: it puts these anew, and has read those; up to the new end the rest stays as it was.
-pub record ChangesBlocks (disk : ℕ → List ℕ) (f : File) (w : Change) (Read Put : ℕ → Type 0) : Type 0 where
+-- What a prepared change makes of a file's blocks: it puts these anew, and has read those; up to
+-- the new end the rest stays as it was.
+pub record ChangesBlocks (disk : ℕ → List ℕ) (f : File) (w : FileUpdate) (Read Put : ℕ → Type 0) : Type 0 where
   pub read : (i : ℕ) → Read i → length (file_block disk f i) ≡ BLOCK_BYTES
   pub put : (i : ℕ) → Put i → length (block_with disk f w i) ≡ BLOCK_BYTES
   pub past : (i : ℕ) → block_count w.size ≤ i → length (block_with disk f w i) ≡ BLOCK_BYTES
   pub rest : (i : ℕ) → (Put i → ⊥) → i < block_count w.size → block_with disk f w i ≡ file_block disk f i
 
 -- a prepared change changes block j
-abbrev pub IsPiece : Change → ℕ → Type 0
+abbrev pub IsPiece : FileUpdate → ℕ → Type 0
 IsPiece w j = (w.first ≤ j) × (j < w.first + length w.pieces.items)
 
 -- the same file, whatever the disk
@@ -69,7 +70,7 @@ pub record IsSameFile (old new : File) : Type 0 where
   pub changes : SameChanges old.tree new.tree
 
 -- a prepared change was put in force
-pub record IsCommitted (old : File) (w : Change) (new : File) : Type 0 where
+pub record IsCommitted (old : File) (w : FileUpdate) (new : File) : Type 0 where
   pub size : new.size ≡ w.size
   pub blocks : (disk : ℕ → List ℕ) (i : ℕ) → file_block disk new i ≡ block_with disk old w i
   pub base : KeepsBase old.tree new.tree

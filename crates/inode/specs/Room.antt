@@ -1,4 +1,5 @@
--- What a consistency point may store of a file in memory: a bound that no change raises by more than the change costs.
+-- What a consistency point may store of a file in memory: a bound that no change raises by more
+-- than the change costs.
 use Rattle.std.specs.Prelude.{ℕ, zero, suc, ◌+◌, ◌-◌, ◌*◌, ◌/◌, ◌≤◌, ◌==◌, min, max, nat_lt, if◌then◌else◌}
 use Rattle.std.specs.Ordering.{nat_cmp}
 use Rattle.std.specs.BTreeMap as tree
@@ -12,7 +13,7 @@ use Rattle.blocktree.specs.Trees.{slot_stores}
 use Rattle.blocktree.specs.declared.tree.BlockTree.{BlockTree}
 use Rattle.images.specs.Sums.{sum_below}
 use Rattle.inode.specs.Files.{IsCommitted}
-use Rattle.inode.specs.declared.change.Change.{Change}
+use Rattle.inode.specs.declared.file_update.FileUpdate.{FileUpdate}
 use Rattle.inode.specs.declared.file.File.{File}
 
 -- how many of the first n blocks are changed
@@ -23,7 +24,8 @@ changed_below t n = sum_below (λ i. slot_stores (tree.get nat_cmp t.slots i)) n
 abbrev pub changed_count : BlockTree → ℕ
 changed_count t = changed_below t (block_count (greatest_size VERSION))
 
--- One indirect block more where settled blocks were cut off, or the file has another level than it had: of a file that has settled blocks.
+-- One indirect block more where settled blocks were cut off, or the file has another level than it
+-- had: of a file that has settled blocks.
 abbrev pub more_over : File → ℕ
 more_over f =
     if nat_lt (min f.tree.kept (block_count f.size)) f.tree.count
@@ -34,8 +36,8 @@ more_over f =
 abbrev pub TOP_BLOCKS : ℕ
 TOP_BLOCKS = BLOCK_POINTERS * BLOCK_POINTERS
 
--- one for group g of so many blocks, where one of these is changed, or the last settled block that counts is among them and more is
--- stored over it
+-- one for group g of so many blocks, where one of these is changed, or the last settled block that
+-- counts is among them and more is stored over it
 abbrev pub top_over : File → ℕ → ℕ
 top_over f g =
     min 1 (sum_below (λ k. slot_stores (tree.get nat_cmp f.tree.slots (TOP_BLOCKS * g + k))) TOP_BLOCKS
@@ -49,8 +51,9 @@ far_tops f = sum_below (λ g. top_over f (suc g)) (BODY_POINTERS - 1)
 abbrev pub tops_over : File → ℕ
 tops_over f = top_over f 0 + far_tops f
 
--- The bound at a level: each changed block may bring an indirect block with it, and where there is a third height, those there are
--- counted. Bytes that stand in the inode are one changed block, which isn't stored.
+-- The bound at a level: each changed block may bring an indirect block with it, and where there is
+-- a third height, those there are counted. Bytes that stand in the inode are one changed block,
+-- which isn't stored.
 abbrev pub level_room : ℕ → ℕ → ℕ → ℕ → ℕ
 level_room zero changed more top = 2 * (changed - 1)
 level_room (suc zero) changed more top = 2 * changed + more
@@ -61,11 +64,12 @@ abbrev pub file_room : File → ℕ
 file_room f = level_room (level_of f.size) (changed_count f.tree) (more_over f) (top_over f 0) + far_tops f
 
 -- put in force on a file, a change raises the bound by so much at the most
-abbrev pub StoresMore : File → Change → ℕ → Type 0
+abbrev pub StoresMore : File → FileUpdate → ℕ → Type 0
 StoresMore f w k = (new : File) → IsCommitted f w new → file_room new ≤ file_room f + k
 
--- By so much a write of no more bytes than a call may write, into a file of this size: twice the blocks that it touches, and three where the
--- file leaves its inode; three more where there is a third height over its blocks then.
+-- By so much a write of no more bytes than a call may write, into a file of this size: twice the
+-- blocks that it touches, and three where the file leaves its inode; three more where there is a
+-- third height over its blocks then.
 abbrev pub write_room : ℕ → ℕ → ℕ → ℕ
 write_room size offset count =
     2 * touched offset count + (if nat_lt SINGLE_FILE (max size (offset + count)) then 6 else 3)
@@ -74,7 +78,7 @@ write_room size offset count =
 abbrev pub size_room : ℕ → ℕ → ℕ
 size_room size to = 4
 
--- and so much an edit of a directory that changes so many blocks: with a third height three for each. A directory that grows, or was
--- in its inode, has none.
+-- and so much an edit of a directory that changes so many blocks: with a third height three for
+-- each. A directory that grows, or was in its inode, has none.
 abbrev pub edit_room : ℕ → ℕ
 edit_room pieces = 2 * pieces + 3 + (pieces - 1)

@@ -3,15 +3,15 @@
 ghost use Rattle.std.specs.Prelude.{◌≡◌, ◌≢◌, ◌⊎◌, ℕ, ◌+◌, ◌*◌, ◌<◌, ◌≤◌, ◌/◌, ◌%◌, List, length, slice_index, OnOk, OnErr, IsErrOf, IsFalse, IsTrue, IfOk, max};
 ghost use Rattle.layout.specs.Version.{greatest_size};
 ghost use Rattle.buffers.specs.Reads.{ReadsBlocks};
-ghost use Rattle.blocktree.specs.Errors.{IsFault};
-ghost use Rattle.buffers.specs.Positions.{with_bytes_at, cut};
+ghost use Rattle.buffers.specs.Errors.{IsFault};
+ghost use Rattle.buffers.specs.Positions.{with_bytes_at, truncate};
 ghost use Rattle.blocktree.specs.Places.{block_count};
-ghost use Rattle.images.specs.Edges.{CutsBlock};
+ghost use Rattle.images.specs.Edges.{TruncatesBlock};
 ghost use Rattle.inode.specs.Errors.{IsChangeFault};
 
-use crate::{Change, ChangeError, File};
-use blocktree::{Location, ReadError};
-use buffers::{Block, Blocks, SharedBlock};
+use crate::{ChangeError, File, FileUpdate};
+use blocktree::Location;
+use buffers::{Block, BlockError, Blocks, SharedBlock};
 use layout::{INLINE_BYTES, VERSION, greatest_size};
 use std::alloc::{AllocError, Global};
 
@@ -23,12 +23,13 @@ fn block_count(size: u64) -> u32
     size.div_ceil(4096) as u32
 }
 
-/// Whether a new size leaves the block that the file then ends in as it is: where it ends at that block's end, or nothing is cut
-/// off. Bytes that the inode can hold are block 0 all the same, zeros too, so that it goes to a place as the file grows further.
+/// Whether a new size leaves the block that the file then ends in as it is: where it ends at that
+/// block's end, or nothing is truncated off. Bytes that the inode can hold are block 0 all the
+/// same, zeros too, so that it goes to a place as the file grows further.
 fn keeps_last_block(old: u64, new: u64) -> bool
     ensures whole { IsTrue result → (old ≤ new) ⊎ (new % 4096 ≡ 0) }
-    ensures cuts { IsFalse result → CutsBlock old new }
-    ensures only { CutsBlock old new → IsFalse result }
+    ensures truncates { IsFalse result → TruncatesBlock old new }
+    ensures only { TruncatesBlock old new → IsFalse result }
 {
     if new % 4096 == 0 {
         return true;
@@ -79,8 +80,8 @@ impl File {
         self.tree.set(i, block);
     }
 
-    /// Writes these bytes into block `i`, from one place in it on, where it is changed already, and tells whether it is. Where it isn't,
-    /// or there is no memory, nothing happens.
+    /// Writes these bytes into block `i`, from one place in it on, where it is changed already, and
+    /// tells whether it is. Where it isn't, or there is no memory, nothing happens.
     pub fn put_in_block(
         &mut self,
         alloc: Global,
@@ -110,7 +111,8 @@ impl File {
         self.tree.put(alloc, i, at, bytes)
     }
 
-    /// Makes the file of this size. Blocks past it are cut off; within the last one nothing is cleared.
+    /// Makes the file of this size. Blocks past it are cut off; within the last one nothing is
+    /// cleared.
     pub fn set_size(&mut self, size: u64)
         requires { size ≤ greatest_size VERSION }
         ensures size { self.new.size ≡ size }
@@ -136,7 +138,7 @@ impl File {
         blocks: &mut B,
         offset: u64,
         bytes: &[u8],
-    ) -> Result<Change, ChangeError>
+    ) -> Result<FileUpdate, ChangeError>
         requires { 0 < length bytes.now }
         ensures reads { ReadsBlocks B.Blocks IsChangeFault blocks.old blocks.new result }
         ensures same { IsSameFile self.old self.new }
@@ -174,14 +176,15 @@ impl File {
             let block = self.new_block(alloc, blocks, i, offset, bytes)?;
             pieces.push(block)?;
         }
-        Ok(Change {
+        Ok(FileUpdate {
             size: self.size.max(end),
             first,
             pieces,
         })
     }
 
-    /// Block `i` with those bytes of a write that fall into it, and room for it. Nothing changes by it.
+    /// Block `i` with those bytes of a write that fall into it, and room for it. Nothing changes by
+    /// it.
     fn new_block<B: Blocks>(
         &mut self,
         alloc: Global,
@@ -189,7 +192,7 @@ impl File {
         i: u32,
         offset: u64,
         bytes: &[u8],
-    ) -> Result<SharedBlock, ReadError>
+    ) -> Result<SharedBlock, BlockError>
         requires end { offset + length bytes.now ≤ greatest_size VERSION }
         requires above { 4096 * i < offset + length bytes.now }
         requires below { offset < 4096 * i + 4096 }
@@ -198,7 +201,7 @@ impl File {
             (IsPartlyWritten offset (length bytes.now) i
             → IsSoundAt (B.count blocks.old) disk self.old.tree i) }
         ensures damaged { (disk : ℕ → List ℕ) → B.Shows blocks.old disk
-            → IsErrOf result ReadError.Damaged → (IsPartlyWritten offset (length bytes.now) i
+            → IsErrOf result BlockError.Damaged → (IsPartlyWritten offset (length bytes.now) i
             → IsSoundAt (B.count blocks.old) disk self.old.tree i) → ⊥ }
         ensures whole { (disk : ℕ → List ℕ) → B.Shows blocks.old disk → OnOk result
             (IsPartlyWritten offset (length bytes.now) i → length (file_block disk self.old i) ≡ 4096) }
@@ -231,12 +234,12 @@ impl File {
         blocks: &mut B,
         i: u32,
         bytes: u64,
-    ) -> Result<Block, ReadError>
+    ) -> Result<Block, BlockError>
         ensures reads { ReadsBlocks B.Blocks IsFault blocks.old blocks.new result }
         ensures sound { (disk : ℕ → List ℕ) → B.Shows blocks.old disk
             → OnOk result (bytes ≢ 4096 → IsSoundAt (B.count blocks.old) disk self.now.tree i) }
         ensures damaged { (disk : ℕ → List ℕ) → B.Shows blocks.old disk
-            → IsErrOf result ReadError.Damaged
+            → IsErrOf result BlockError.Damaged
             → (bytes ≢ 4096 → IsSoundAt (B.count blocks.old) disk self.now.tree i) → ⊥ }
         ensures bytes { (disk : ℕ → List ℕ) → B.Shows blocks.old disk
             → IfOk result (λ b. bytes ≢ 4096 → b ≡ file_block disk self.now i) }
@@ -249,15 +252,15 @@ impl File {
         self.copy(alloc, blocks, i)
     }
 
-    /// Whether a file of this size ends within a hole, of which nothing is to be cut away. Of a size that the inode can hold the
-    /// bytes are block 0, zeros too.
-    fn ends_in_hole<B: Blocks>(&self, blocks: &mut B, size: u64) -> Result<bool, ReadError>
+    /// Whether a file of this size ends within a hole, of which nothing is to be cut away. Of a
+    /// size that the inode can hold the bytes are block 0, zeros too.
+    fn ends_in_hole<B: Blocks>(&self, blocks: &mut B, size: u64) -> Result<bool, BlockError>
         requires { size ≤ greatest_size VERSION }
         ensures reads { ReadsBlocks B.Blocks IsFault blocks.old blocks.new result }
         ensures sound { (disk : ℕ → List ℕ) → B.Shows blocks.old disk
             → OnOk result (IsSoundAt (B.count blocks.old) disk self.now.tree (size / 4096)) }
         ensures damaged { (disk : ℕ → List ℕ) → B.Shows blocks.old disk
-            → IsErrOf result ReadError.Damaged
+            → IsErrOf result BlockError.Damaged
             → IsSoundAt (B.count blocks.old) disk self.now.tree (size / 4096) → ⊥ }
         ensures hole { (disk : ℕ → List ℕ) → B.Shows blocks.old disk → IfOk result (λ is.
             IsTrue is → file_block disk self.now (size / 4096) ≡ zeros 4096) }
@@ -271,23 +274,23 @@ impl File {
         }
     }
 
-    /// Prepares a new size: nothing changes before the commit. Bytes past a smaller one are gone, and those up to a greater
-    /// one are zeros.
-    pub fn prepare_cut<B: Blocks>(
+    /// Prepares a new size: nothing changes before the commit. Bytes past a smaller one are gone,
+    /// and those up to a greater one are zeros.
+    pub fn prepare_truncate<B: Blocks>(
         &mut self,
         alloc: Global,
         blocks: &mut B,
         size: u64,
-    ) -> Result<Change, ChangeError>
+    ) -> Result<FileUpdate, ChangeError>
         ensures reads { ReadsBlocks B.Blocks IsChangeFault blocks.old blocks.new result }
         ensures same { IsSameFile self.old self.new }
         ensures within { OnOk result (size ≤ greatest_size VERSION) }
         ensures too_big { IsErrOf result ChangeError.TooBig → greatest_size VERSION < size }
         ensures sound { (disk : ℕ → List ℕ) → B.Shows blocks.old disk → OnOk result
-            (CutsBlock self.old.size size
+            (TruncatesBlock self.old.size size
             → IsSoundAt (B.count blocks.old) disk self.old.tree (size / 4096)) }
         ensures damaged { (disk : ℕ → List ℕ) → B.Shows blocks.old disk
-            → IsErrOf result ChangeError.Damaged → (CutsBlock self.old.size size
+            → IsErrOf result ChangeError.Damaged → (TruncatesBlock self.old.size size
             → IsSoundAt (B.count blocks.old) disk self.old.tree (size / 4096)) → ⊥ }
         ensures blocks { (disk : ℕ → List ℕ) → B.Shows blocks.old disk → IfOk result
             (λ w. ChangesBlocks disk self.old w (EndsIn self.old.size size) (EndsIn self.old.size size)) }
@@ -295,7 +298,7 @@ impl File {
         ensures fits { IfOk result (λ w. Fits self.new.tree w) }
         ensures bytes { (disk : ℕ → List ℕ) → B.Shows blocks.old disk → IsFile disk self.old
             → IfOk result (λ w. (p : ℕ)
-            → byte_with disk self.old w p ≡ cut (byte_at disk self.old) size p) }
+            → byte_with disk self.old w p ≡ truncate (byte_at disk self.old) size p) }
         ensures list { (disk : ℕ → List ℕ) → B.Shows blocks.old disk → IsFile disk self.old
             → IfOk result (λ w. bytes_with disk self.old w ≡ filled size (bytes_of_file disk self.old)) }
         ensures stores { IfOk result (λ w. StoresMore self.new w (size_room self.old.size size)) }
@@ -306,7 +309,7 @@ impl File {
         let first = (size / 4096) as u32;
         let mut pieces = Vec::new(alloc);
         if keeps_last_block(self.size, size) {
-            return Ok(Change {
+            return Ok(FileUpdate {
                 size,
                 first,
                 pieces,
@@ -314,7 +317,7 @@ impl File {
         }
         let in_hole = self.ends_in_hole(blocks, size)?;
         if in_hole {
-            return Ok(Change {
+            return Ok(FileUpdate {
                 size,
                 first,
                 pieces,
@@ -322,10 +325,10 @@ impl File {
         }
         self.make_room(first)?;
         let mut block = self.copy(alloc, blocks, first)?;
-        block.cut((size % 4096) as usize);
+        block.truncate((size % 4096) as usize);
         let shared = SharedBlock::new(alloc, block)?;
         pieces.push(shared)?;
-        Ok(Change {
+        Ok(FileUpdate {
             size,
             first,
             pieces,
@@ -333,11 +336,11 @@ impl File {
     }
 
     /// Puts a prepared change in force.
-    pub fn commit(&mut self, change: Change)
+    pub fn commit(&mut self, change: FileUpdate)
         requires { Fits self.old.tree change }
         ensures { IsCommitted self.old change self.new }
     {
-        let Change {
+        let FileUpdate {
             size,
             first,
             pieces,
@@ -374,7 +377,7 @@ impl File {
         Ok(())
     }
 
-    /// Makes the file of this size: it is cut, or filled up with zeros.
+    /// Makes the file of this size: it is truncated, or filled up with zeros.
     pub fn resize<B: Blocks>(
         &mut self,
         alloc: Global,
@@ -391,7 +394,7 @@ impl File {
         ensures list { (disk : ℕ → List ℕ) → B.Shows blocks.old disk → IsFile disk self.old
             → OnOk result (bytes_of_file disk self.new ≡ filled size (bytes_of_file disk self.old)) }
     {
-        let change = self.prepare_cut(alloc, blocks, size)?;
+        let change = self.prepare_truncate(alloc, blocks, size)?;
         self.commit(change);
         Ok(())
     }

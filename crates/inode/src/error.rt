@@ -1,6 +1,6 @@
 //! Why a change of a file was not prepared.
 
-use blocktree::ReadError;
+use buffers::BlockError;
 use std::alloc::{AllocError, AllocFailed};
 use thiserror::Error;
 
@@ -42,17 +42,17 @@ impl<T: Drop> From<AllocFailed<T>> for ChangeError {
     }
 }
 
-impl From<ReadError> for ChangeError {
+impl From<BlockError> for ChangeError {
     ghost use Rattle.std.specs.Prelude.{◌≡◌};
     ghost use Rattle.inode.specs.Errors.{change_error};
 
     ghost from_gives = { λ r e. e ≡ change_error r };
 
-    fn from(error: ReadError) -> ChangeError {
+    fn from(error: BlockError) -> ChangeError {
         match error {
-            ReadError::NoMemory => ChangeError::NoMemory,
-            ReadError::Device => ChangeError::Device,
-            ReadError::Damaged => ChangeError::Damaged,
+            BlockError::NoMemory => ChangeError::NoMemory,
+            BlockError::Device => ChangeError::Device,
+            BlockError::Damaged => ChangeError::Damaged,
         }
     }
 }

@@ -4,14 +4,14 @@ ghost use Rattle.std.specs.Prelude.{◌≡◌, ◌⊎◌, ℕ, ◌+◌, ◌<◌,
 ghost use Rattle.layout.specs.Version.{greatest_size};
 ghost use Rattle.layout.specs.declared.version.TheConstants.{VERSION};
 ghost use Rattle.buffers.specs.Reads.{ReadsBlocks};
-ghost use Rattle.blocktree.specs.Errors.{IsFault};
+ghost use Rattle.buffers.specs.Errors.{IsFault};
 ghost use Rattle.blocktree.specs.Places.{block_count};
 ghost use Rattle.buffers.specs.Positions.{IsPart};
 
 use crate::laws::settled_files_are_as_held;
 use crate::loading::settled_tree;
-use blocktree::{BlockTree, Location, ReadError};
-use buffers::{Block, Blocks};
+use blocktree::{BlockTree, Location};
+use buffers::{Block, BlockError, Blocks};
 use layout::{BLOCK_BYTES, Inode};
 use std::alloc::{AllocError, Global};
 
@@ -86,7 +86,7 @@ impl File {
     }
 
     /// Finds block `i`, and makes it resident where it is on the disk.
-    pub fn locate<B: Blocks>(&self, blocks: &mut B, i: u32) -> Result<Location, ReadError>
+    pub fn locate<B: Blocks>(&self, blocks: &mut B, i: u32) -> Result<Location, BlockError>
         ensures reads { ReadsBlocks B.Blocks IsFault blocks.old blocks.new result }
         ensures resident { IfOk result (λ l. OnDisk l (B.IsResident blocks.new)) }
         ensures found { (disk : ℕ → List ℕ) → B.Shows blocks.old disk
@@ -96,7 +96,7 @@ impl File {
         ensures sound { (disk : ℕ → List ℕ) → B.Shows blocks.old disk
             → OnOk result (IsSoundAt (B.count blocks.old) disk self.now.tree i) }
         ensures damaged { (disk : ℕ → List ℕ) → B.Shows blocks.old disk
-            → IsErrOf result ReadError.Damaged
+            → IsErrOf result BlockError.Damaged
             → IsSoundAt (B.count blocks.old) disk self.now.tree i → ⊥ }
     {
         self.tree.locate(blocks, i)
@@ -117,7 +117,12 @@ impl File {
     }
 
     /// A copy of block `i`.
-    pub fn copy<B: Blocks>(&self, alloc: Global, blocks: &mut B, i: u32) -> Result<Block, ReadError>
+    pub fn copy<B: Blocks>(
+        &self,
+        alloc: Global,
+        blocks: &mut B,
+        i: u32,
+    ) -> Result<Block, BlockError>
         ensures reads { ReadsBlocks B.Blocks IsFault blocks.old blocks.new result }
         ensures bytes { (disk : ℕ → List ℕ) → B.Shows blocks.old disk
             → IfOk result (λ b. b ≡ file_block disk self.now i) }
@@ -125,7 +130,7 @@ impl File {
         ensures sound { (disk : ℕ → List ℕ) → B.Shows blocks.old disk
             → OnOk result (IsSoundAt (B.count blocks.old) disk self.now.tree i) }
         ensures damaged { (disk : ℕ → List ℕ) → B.Shows blocks.old disk
-            → IsErrOf result ReadError.Damaged
+            → IsErrOf result BlockError.Damaged
             → IsSoundAt (B.count blocks.old) disk self.now.tree i → ⊥ }
     {
         let location = self.tree.locate(blocks, i)?;
@@ -139,7 +144,7 @@ impl File {
         blocks: &mut B,
         offset: u64,
         out: &mut [u8],
-    ) -> Result<(), ReadError>
+    ) -> Result<(), BlockError>
         requires { offset + length out.old ≤ greatest_size VERSION }
         ensures reads { ReadsBlocks B.Blocks IsFault blocks.old blocks.new result }
         ensures bytes { (disk : ℕ → List ℕ) → B.Shows blocks.old disk
@@ -148,7 +153,7 @@ impl File {
             → offset ≤ p → p < offset + length out.old
             → IsSoundAt (B.count blocks.old) disk self.now.tree (p / 4096)) }
         ensures damaged { (disk : ℕ → List ℕ) → B.Shows blocks.old disk
-            → IsErrOf result ReadError.Damaged
+            → IsErrOf result BlockError.Damaged
             → ((i : ℕ) → IsSoundAt (B.count blocks.old) disk self.now.tree i) → ⊥ }
     {
         let mut done = 0usize;

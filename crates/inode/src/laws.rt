@@ -25,9 +25,9 @@ pub fn settled_files_are_as_held()
     images::inline_bytes_are_the_first_block();
 }
 
-/// Of a file in its grammar each node stands, at each height, where the inode's pointers lead at the depth under them, and what
-/// stands over it is in its grammar. From the file's level on, and past as many nodes as its size has, all are holes. It does
-/// nothing.
+/// Of a file in its grammar each node stands, at each height, where the inode's pointers lead at
+/// the depth under them, and what stands over it is in its grammar. From the file's level on, and
+/// past as many nodes as its size has, all are holes. It does nothing.
 pub fn nodes_are_where_pointers_lead()
     ensures places { (disk : ℕ → List ℕ) (f : Inode) (pointers : List Pointer)
         (depth height i : ℕ) → f.body ≡ Pointers pointers
@@ -44,8 +44,9 @@ pub fn nodes_are_where_pointers_lead()
         → (held disk f).place height i ≡ Hole }
 {}
 
-/// What stands over the settled blocks of a tree that is based on a file in its grammar is in its grammar, and where the file's
-/// stored blocks can be read, so can those of the tree. It does nothing.
+/// What stands over the settled blocks of a tree that is based on a file in its grammar is in its
+/// grammar, and where the file's stored blocks can be read, so can those of the tree. It does
+/// nothing.
 pub fn based_trees_are_sound()
     ensures all { (detail : Detail) (s : Sizes) (disk : ℕ → List ℕ) (i : Inode) (t : BlockTree)
         → IsHeldFile detail s (held disk i) → IsBased i t → AreSound s.blocks disk t }

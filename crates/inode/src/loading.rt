@@ -13,7 +13,8 @@ use buffers::{Block, SharedBlock};
 use layout::{Body, INLINE_BYTES};
 use std::alloc::{AllocError, Global};
 
-/// The blocks of a settled file with this body and size. The bytes of a small one become a changed block.
+/// The blocks of a settled file with this body and size. The bytes of a small one become a changed
+/// block.
 pub(crate) fn settled_tree(alloc: Global, body: Body, size: u64) -> Result<BlockTree, AllocError>
     requires { size ≤ greatest_size VERSION }
     ensures blocks { IfOk result (λ t. (disk : ℕ → List ℕ) (i : ℕ)
@@ -27,7 +28,8 @@ pub(crate) fn settled_tree(alloc: Global, body: Body, size: u64) -> Result<Block
     }
 }
 
-/// The blocks of a file whose bytes stand in its inode: block 0 is changed, and of an empty file none is.
+/// The blocks of a file whose bytes stand in its inode: block 0 is changed, and of an empty file
+/// none is.
 fn inline_tree(
     alloc: Global,
     bytes: &[u8; INLINE_BYTES],

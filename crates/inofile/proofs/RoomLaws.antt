@@ -5,8 +5,8 @@ use Rattle.std.specs.Ordering.{nat_cmp}
 use Rattle.std.specs.BTreeMap.{BTreeMap, get, Updates}
 use Rattle.std.proofs.lemmas.Bool.{cases_eq}
 use Rattle.layout.specs.declared.inode.Inode.{Inode}
-use Rattle.model.specs.Records.{count_nameless}
-use Rattle.model.specs.Volumes.{Node, Volume, is_nameless, with_node}
+use Rattle.model.specs.Records.{count_orphans}
+use Rattle.model.specs.Volumes.{Node, Volume, is_orphan, with_node}
 use Rattle.model.proofs.ObjectLaws.{node_here, node_other}
 use Rattle.images.specs.Sums.{sum_below}
 use Rattle.images.proofs.SumLaws.{change_at, sums_each}
@@ -16,7 +16,7 @@ use Rattle.inode.specs.declared.object.Object.{Object}
 use Rattle.inode.proofs.RoomLaws.{loaded_none, same_room}
 use Rattle.inofile.specs.Inodes.{loaded, slot_object, HasNoChange, IsChangedSlot}
 use Rattle.inofile.specs.Objects.{IsSameOrNone, IsUntouched}
-use Rattle.inofile.specs.Room.{has_moved, memory_room, nameless_room, number_room, room_of, slot_room, NeedsNoMore}
+use Rattle.inofile.specs.Room.{has_moved, memory_room, orphan_room, number_room, room_of, slot_room, NeedsNoMore}
 use Rattle.inofile.specs.Volumes.{IsVolumeIn, SlotStandsFor, slot_with}
 use Rattle.inofile.specs.declared.inode_file.ObjectSlot.{ObjectSlot}
 use Rattle.inofile.specs.declared.inode_file.ObjectSlot.TheVariants.{AsSettled, Loaded, Changed}
@@ -117,18 +117,18 @@ moved_once (Some a) (Some b) = omega arith
 
 -- a file or directory is changed, and needs so many blocks more; it has a name if it had one
 pub changed_room : (slot : Option ObjectSlot) (settled : Option Node) (old new : Node) (o p : Object) (k : ℕ) → file_room o.file ≤ slot_room slot → file_room p.file ≤ file_room o.file + k
-    → nameless_room (Some new) ≤ nameless_room (Some old) → room_of (Some (Changed (Some p))) settled (Some new) ≤ room_of slot settled (Some old) + (k + 2)
+    → orphan_room (Some new) ≤ orphan_room (Some old) → room_of (Some (Changed (Some p))) settled (Some new) ≤ room_of slot settled (Some old) + (k + 2)
 changed_room slot None old new o p k had needs names = omega (arith, had, needs, names)
 changed_room slot (Some was) old new o p k had needs names = omega (arith, had, needs, names)
 
 -- the same where it may lose its last name
 pub unnamed_room : (slot : Option ObjectSlot) (settled : Option Node) (old new : Node) (o p : Object) (k : ℕ) → file_room o.file ≤ slot_room slot → file_room p.file ≤ file_room o.file + k
-    → nameless_room (Some new) ≤ 4 → room_of (Some (Changed (Some p))) settled (Some new) ≤ room_of slot settled (Some old) + (k + 6)
+    → orphan_room (Some new) ≤ 4 → room_of (Some (Changed (Some p))) settled (Some new) ≤ room_of slot settled (Some old) + (k + 6)
 unnamed_room slot None old new o p k had needs names = omega (arith, had, needs, names)
 unnamed_room slot (Some was) old new o p k had needs names = omega (arith, had, needs, names)
 
 -- an object is made
-pub made_room : (slot : Option ObjectSlot) (settled now : Option Node) (new : Node) (p : Object) → nameless_room (Some new) ≡ 0
+pub made_room : (slot : Option ObjectSlot) (settled now : Option Node) (new : Node) (p : Object) → orphan_room (Some new) ≡ 0
     → room_of (Some (Changed (Some p))) settled (Some new) ≤ room_of slot settled now + (3 + file_room p.file)
 made_room slot settled now new p named = omega (arith, moved_once settled (Some new), named)
 
@@ -136,9 +136,9 @@ made_room slot settled now new p named = omega (arith, moved_once settled (Some 
 pub gone_room : (slot : Option ObjectSlot) (settled now : Option Node) → room_of (Some (Changed None)) settled None ≤ room_of slot settled now + 3
 gone_room slot settled now = omega (arith, moved_once settled None)
 
--- a file without a name goes, and nothing more is needed
-pub dropped_room : (slot : Option ObjectSlot) (settled now : Option Node) → nameless_room now ≡ 4 → room_of (Some (Changed None)) settled None ≤ room_of slot settled now
-dropped_room slot settled now nameless = omega (arith, moved_once settled None, nameless)
+-- an orphan goes, and nothing more is needed
+pub dropped_room : (slot : Option ObjectSlot) (settled now : Option Node) → orphan_room now ≡ 4 → room_of (Some (Changed None)) settled None ≤ room_of slot settled now
+dropped_room slot settled now orphans = omega (arith, moved_once settled None, orphans)
 
 -- ---- memory without a change
 
@@ -152,15 +152,15 @@ unmoved : (o : Option Node) → has_moved o o ≡ 0
 unmoved None = refl
 unmoved (Some node) = refl
 
-pub nameless_four : (o : Option Node) → nameless_room o ≡ 4 * (if is_nameless o then 1 else 0)
-nameless_four o = of_bool (is_nameless o)
+pub orphan_four : (o : Option Node) → orphan_room o ≡ 4 * (if is_orphan o then 1 else 0)
+orphan_four o = of_bool (is_orphan o)
   where
     of_bool : (b : Bool) → (if b then 4 else 0) ≡ 4 * (if b then 1 else 0)
     of_bool true = refl
     of_bool false = refl
 
--- behind a point, and as an image is opened, what is kept for the files without a name is all
-pub clean_room : (s : InodeFile) (v : Volume) → HasNoChange s → (n : ℕ) → sum_below (number_room v s v) n ≡ 4 * count_nameless n v
+-- behind a point, and as an image is opened, what is kept for the orphans is all
+pub clean_room : (s : InodeFile) (v : Volume) → HasNoChange s → (n : ℕ) → sum_below (number_room v s v) n ≡ 4 * count_orphans n v
 unfolding sum_below
 clean_room s v none zero = refl
-clean_room s v none (suc n) = omega (arith, clean_room s v none n, no_change (get nat_cmp s.slots n) (none n), unmoved (v n), nameless_four (v n))
+clean_room s v none (suc n) = omega (arith, clean_room s v none n, no_change (get nat_cmp s.slots n) (none n), unmoved (v n), orphan_four (v n))

@@ -16,8 +16,9 @@ use Rattle.inofile.specs.Volumes.{IsVolumeIn, IsVolumeWithout}
 use Rattle.inofile.specs.declared.inode_file.InodeFile.{InodeFile}
 use Rattle.inofile.specs.declared.inode_file.ObjectSlot.TheVariants.{Changed}
 
--- The number has this object, or none, and the next consistency point stores it. All others are as they were. What a point may store
--- changes for this number alone, over memory as it was, or as it was before an object was taken out of the number.
+-- The number has this object, or none, and the next consistency point stores it. All others are as
+-- they were. What a point may store changes for this number alone, over memory as it was, or as it
+-- was before an object was taken out of the number.
 pub record IsGiven (number : ℕ) (object : Option Object) (old new : InodeFile) : Type 0 where
   pub geometry : new.geometry ≡ old.geometry
   pub file : new.file ≡ old.file

@@ -35,9 +35,9 @@ IsObjectKind kinds.InodeFile = ⊥
 IsObjectKind kinds.InodeMap = ⊥
 IsObjectKind kinds.BlockMap = ⊥
 
--- An object in memory stands for this one of a volume, in so much detail. Its mode, links and size are such as its kind allows in an
--- image of any sizes, it ends at its size, its tree is based on the inode that is settled under its number, and what is known of a
--- directory's blocks is so.
+-- An object in memory stands for this one of a volume, in so much detail. Its mode, links and size
+-- are such as its kind allows in an image of any sizes, it ends at its size, its tree is based on
+-- the inode that is settled under its number, and what is known of a directory's blocks is so.
 pub record IsObjectIn (detail : Detail) (disk : ℕ → List ℕ) (inodes : ℕ) (settled : Inode) (o : Object) (found : Option Node) : Type 0 where
   pub kind : IsObjectKind o.status.kind
   pub attributes : AreAttributes o.status.attributes
@@ -56,8 +56,8 @@ abbrev pub IsObjectOrNone : Detail → (ℕ → List ℕ) → ℕ → Inode → 
 IsObjectOrNone detail disk inodes settled (Some o) found = IsObjectIn detail disk inodes settled o found
 IsObjectOrNone detail disk inodes settled None found = found ≡ None
 
--- An object as it is loaded: where its bytes don't stand in its inode, no block of its file is changed, and all settled ones count; where
--- they do, at the most the first block is.
+-- An object as it is loaded: where its bytes don't stand in its inode, no block of its file is
+-- changed, and all settled ones count; where they do, at the most the first block is.
 pub record IsUntouched (o : Object) : Type 0 where
   pub kept : 1 ≤ level_of o.file.size → o.file.tree.kept ≡ o.file.tree.count
   pub count : 1 ≤ level_of o.file.size → o.file.tree.count ≡ block_count o.file.size

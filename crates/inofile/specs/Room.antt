@@ -2,7 +2,7 @@
 use Rattle.std.specs.Prelude.{ℕ, ◌+◌, ◌≤◌, if◌then◌else◌, Option, Some, None}
 use Rattle.std.specs.Ordering.{nat_cmp}
 use Rattle.std.specs.BTreeMap as tree
-use Rattle.model.specs.Volumes.{Node, Volume, is_nameless}
+use Rattle.model.specs.Volumes.{Node, Volume, is_orphan}
 use Rattle.images.specs.Sums.{sum_below}
 use Rattle.inode.specs.Room.{file_room}
 use Rattle.inofile.specs.declared.inode_file.ObjectSlot.{ObjectSlot}
@@ -29,13 +29,14 @@ has_moved None (Some new) = 1
 has_moved (Some old) None = 1
 has_moved (Some old) (Some new) = 0
 
--- what is kept for a file without a name, which a later point has to drop
-abbrev pub nameless_room : Option Node → ℕ
-nameless_room o = if is_nameless o then 4 else 0
+-- what is kept for an orphan, which a later point has to drop
+abbrev pub orphan_room : Option Node → ℕ
+orphan_room o = if is_orphan o then 4 else 0
 
--- what memory has of a number, over a settled tree that has the one object, and standing for the other
+-- what memory has of a number, over a settled tree that has the one object, and standing for the
+-- other
 abbrev pub room_of : Option ObjectSlot → Option Node → Option Node → ℕ
-room_of slot settled now = slot_room slot + has_moved settled now + nameless_room now
+room_of slot settled now = slot_room slot + has_moved settled now + orphan_room now
 
 abbrev pub number_room : Volume → InodeFile → Volume → ℕ → ℕ
 number_room base s v n = room_of (tree.get nat_cmp s.slots n) (base n) (v n)

@@ -44,8 +44,9 @@ unless_free kinds.BlockMap content = Some content
 abbrev pub settled_content : (ℕ → List ℕ) → Inode → Option Content
 settled_content disk i = unless_free i.kind (held_content disk i)
 
--- The inode file of an image of this version and these sizes has these inodes, each of a file in its grammar, on a disk of so many blocks. Number
--- 0 stands for the inode file itself, whose inode stands elsewhere, and past the last number all are free.
+-- The inode file of an image of this version and these sizes has these inodes, each of a file in
+-- its grammar, on a disk of so many blocks. Number 0 stands for the inode file itself, whose inode
+-- stands elsewhere, and past the last number all are free.
 pub record AreSettledIn (detail : Detail) (blocks : ℕ) (disk : ℕ → List ℕ) (version : ℕ) (sizes : Sizes) (file : File) (settled : ℕ → Inode) : Type 0 where
   pub count : sizes.blocks ≡ blocks
   pub spelled : (n : ℕ) → 1 ≤ n → n < sizes.inodes

@@ -25,7 +25,8 @@ SlotStandsFor detail disk inodes settled (Some (Changed object)) found =
     IsObjectOrNone detail disk inodes settled object found
 SlotStandsFor detail disk inodes settled None found = StandsForIn detail inodes (held_content disk settled) found
 
--- the inode map's bytes say which numbers are taken: the file system's own, and those of the objects
+-- the inode map's bytes say which numbers are taken: the file system's own, and those of the
+-- objects
 abbrev pub MapsVolume : List ℕ → Volume → Type 0
 MapsVolume bytes v = (n : ℕ) → IsTaken bytes n ↔ ((n < FIRST_NUMBER) ⊎ IsSome (v n))
 
@@ -33,7 +34,8 @@ MapsVolume bytes v = (n : ℕ) → IsTaken bytes n ↔ ((n < FIRST_NUMBER) ⊎ I
 abbrev pub HasNoOwn : Volume → Type 0
 HasNoOwn v = (n : ℕ) → n < ROOT_NUMBER → v n ≡ None
 
--- Memory stands for this volume, in so much detail, over a disk of so many blocks with these inodes settled.
+-- Memory stands for this volume, in so much detail, over a disk of so many blocks with these inodes
+-- settled.
 pub record IsVolumeIn (detail : Detail) (blocks : ℕ) (disk : ℕ → List ℕ) (settled : ℕ → Inode) (s : InodeFile) (v : Volume) : Type 0 where
   pub inodes : AreSettledIn detail blocks disk s.version s.geometry s.file settled
   pub mapped : MapsVolume s.numbers.bytes.items v

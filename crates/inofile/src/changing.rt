@@ -62,7 +62,8 @@ impl InodeFile {
         let _ = self.slots.insert(number, ObjectSlot::Changed(object));
     }
 
-    /// Takes an object out, to be prepared or changed, until it is put back or set. Till then its number has none.
+    /// Takes an object out, to be prepared or changed, until it is put back or set. Till then its
+    /// number has none.
     pub fn take(&mut self, number: u32) -> Option<Object>
         requires { IsKnown self.old number }
         ensures geometry { self.new.geometry ≡ self.old.geometry }
@@ -141,9 +142,10 @@ impl InodeFile {
         }
     }
 
-    /// Takes in a consistency point, which settled all that was changed: this is the inode file now, in the newest version, and nothing is
-    /// in memory. What was there is freed by `let_past_go`.
-    pub fn settle(&mut self, file: File)
+    /// Takes in a consistency point, which settled all that was changed: this is the inode file
+    /// now, in the newest version, and nothing is in memory. What was there is freed by
+    /// `let_past_go`.
+    pub fn switch_to_new_root(&mut self, file: File)
         ensures version { self.new.version ≡ VERSION }
         ensures geometry { self.new.geometry ≡ self.old.geometry }
         ensures file { self.new.file ≡ file }
@@ -163,7 +165,8 @@ impl InodeFile {
         self.past.take_in(&mut self.slots);
     }
 
-    /// Frees the objects that were in memory until the last consistency point was planned, once that ends. Nothing else changes by it.
+    /// Frees the objects that were in memory until the last consistency point was planned, once
+    /// that ends. Nothing else changes by it.
     pub fn let_past_go(&mut self)
         ensures { self.new ≡ self.old }
     {

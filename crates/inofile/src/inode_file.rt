@@ -3,8 +3,7 @@
 use crate::Numbers;
 use crate::past::Past;
 use crate::settled::read_inode;
-use blocktree::ReadError;
-use buffers::Blocks;
+use buffers::{BlockError, Blocks};
 use inode::{File, Object};
 use layout::{Geometry, INODES_PER_BLOCK, Inode, Kind};
 use std::alloc::{AllocError, Global};
@@ -51,7 +50,7 @@ ghost use Rattle.model.specs.declared.limits.TheConstants.{ROOT_NUMBER};
 ghost use Rattle.layout.specs.declared.version.TheConstants.{VERSION};
 ghost use Rattle.model.specs.Volumes.{Node, Volume};
 ghost use Rattle.buffers.specs.Reads.{ReadsBlocks};
-ghost use Rattle.blocktree.specs.Errors.{IsFault};
+ghost use Rattle.buffers.specs.Errors.{IsFault};
 ghost use Rattle.images.specs.Nodes.{held};
 ghost use Rattle.images.specs.Sizes.{HoldsVolumeIn, StandsForIn};
 ghost use Rattle.images.specs.Soundness.{Detail, IsHeldFile, IsOrdinary};
@@ -76,7 +75,8 @@ impl InodeFile {
     ghost use Rattle.inofile.specs.Volumes.{IsVolumeIn, MapsVolume};
     ghost use Rattle.layout.specs.Maps.{IsTaken};
 
-    /// The inodes of this settled inode file, in a version of the layout, with the bytes of the inode map.
+    /// The inodes of this settled inode file, in a version of the layout, with the bytes of the
+    /// inode map.
     pub fn new(
         alloc: Global,
         version: u32,
@@ -109,8 +109,9 @@ impl InodeFile {
         }
     }
 
-    /// Reads a settled inode; Damaged where it isn't one of its version. Number 0 stands for the inode file, whose own inode stands elsewhere.
-    pub fn settled_inode<B: Blocks>(&self, blocks: &mut B, number: u32) -> Result<Inode, ReadError>
+    /// Reads a settled inode; Damaged where it isn't one of its version. Number 0 stands for the
+    /// inode file, whose own inode stands elsewhere.
+    pub fn settled_inode<B: Blocks>(&self, blocks: &mut B, number: u32) -> Result<Inode, BlockError>
         requires low { 1 ≤ number }
         requires high { number < self.now.geometry.inodes }
         ensures reads { ReadsBlocks B.Blocks IsFault blocks.old blocks.new result }
@@ -120,7 +121,7 @@ impl InodeFile {
         ensures fits { IfOk result (IsInode VERSION self.now.geometry) }
         ensures within { IfOk result (λ i. i.size ≤ greatest_size self.now.version) }
         ensures damaged { (detail : Detail) (disk : ℕ → List ℕ) (settled : ℕ → Inode)
-            → B.Shows blocks.old disk → IsErrOf result ReadError.Damaged
+            → B.Shows blocks.old disk → IsErrOf result BlockError.Damaged
             → AreSettledIn detail (B.count blocks.old) disk self.now.version self.now.geometry
             self.now.file settled → ⊥ }
     {
@@ -140,7 +141,7 @@ impl InodeFile {
         alloc: Global,
         blocks: &mut B,
         number: u32,
-    ) -> Result<(), ReadError>
+    ) -> Result<(), BlockError>
         requires low { ROOT_NUMBER ≤ number }
         requires high { number < self.old.geometry.inodes }
         ensures reads { ReadsBlocks B.Blocks IsFault blocks.old blocks.new result }
@@ -165,7 +166,7 @@ impl InodeFile {
             → IsVolumeIn detail (B.count blocks.old) disk settled self.old v
             → IsVolumeIn detail (B.count blocks.old) disk settled self.new v }
         ensures damaged { (detail : Detail) (disk : ℕ → List ℕ) (settled : ℕ → Inode)
-            → B.Shows blocks.old disk → IsErrOf result ReadError.Damaged
+            → B.Shows blocks.old disk → IsErrOf result BlockError.Damaged
             → AreSettledIn detail (B.count blocks.old) disk self.old.version self.old.geometry
             self.old.file settled → ⊥ }
     {
@@ -176,7 +177,7 @@ impl InodeFile {
         let object = load_object(alloc, inode)?;
         match self.slots.insert(number, ObjectSlot::Loaded(object)) {
             Ok(_) => Ok(()),
-            Err(_) => Err(ReadError::NoMemory),
+            Err(_) => Err(BlockError::NoMemory),
         }
     }
 
@@ -241,7 +242,8 @@ impl InodeFile {
         self.slots.keys().any(|n| self.is_changed(*n))
     }
 
-    /// Whether the inode map has a number as taken: an object has it, or it is one of the file system's own.
+    /// Whether the inode map has a number as taken: an object has it, or it is one of the file
+    /// system's own.
     pub fn is_taken(&self, number: u32) -> bool
         requires { number < self.now.geometry.inodes }
         ensures taken { IsTrue result ↔ IsTaken self.now.numbers.bytes.items number }

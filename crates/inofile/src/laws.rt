@@ -18,8 +18,8 @@ ghost use Rattle.inofile.specs.declared.inode_file.InodeFile.{InodeFile};
 use images::files_hold_one_volume;
 use inode::based_trees_are_sound;
 
-/// The files of all numbers hold the volume that memory stands for, and those that aren't changed are as they are settled. It
-/// does nothing.
+/// The files of all numbers hold the volume that memory stands for, and those that aren't changed
+/// are as they are settled. It does nothing.
 pub fn memory_holds_its_volume()
     ensures holds { (count : ℕ) (disk : ℕ → List ℕ) (settled : ℕ → Inode) (s : InodeFile)
         (v : Volume) → IsVolumeOf count disk settled s v
@@ -29,7 +29,8 @@ pub fn memory_holds_its_volume()
         → files_of disk settled s n ≡ held_content disk (settled n) }
 {}
 
-/// Where no object is changed, memory stands for the volume that the settled inodes hold. It does nothing.
+/// Where no object is changed, memory stands for the volume that the settled inodes hold. It does
+/// nothing.
 pub fn unchanged_memory_is_settled()
     ensures { (count : ℕ) (disk : ℕ → List ℕ) (settled : ℕ → Inode) (s : InodeFile) (v w : Volume)
         → s.geometry.inodes ≤ 2 ^ 32 → IsVolumeOf count disk settled s v → HasNoChange s
@@ -38,7 +39,8 @@ pub fn unchanged_memory_is_settled()
     files_hold_one_volume();
 }
 
-/// All that stands over a block of an object in memory is in its grammar, where the block can be read. It does nothing.
+/// All that stands over a block of an object in memory is in its grammar, where the block can be
+/// read. It does nothing.
 pub fn objects_stand_in_their_grammar()
     ensures { (detail : Detail) (count : ℕ) (disk : ℕ → List ℕ) (settled : ℕ → Inode)
         (s : InodeFile) (v : Volume) (n i : ℕ) (o : Object) (found : Option Node)

@@ -1,5 +1,6 @@
-//! The inode map (inofile): the inodes of an image, a map from numbers to objects. It reads as the settled inode file does,
-//! with the changes since laid over it in memory, and knows the least number that none has.
+//! The inode map (inofile): the inodes of an image, a map from numbers to objects. It reads as the
+//! settled inode file does, with the changes since laid over it in memory, and knows the least
+//! number that none has.
 #![tactic(auto)]
 
 mod changing;

@@ -8,8 +8,8 @@ use std::collections::BTreeMap;
 use std::marker::Model;
 use std::mem;
 
-/// What was in memory before the last consistency point was planned: freed when that ends, so that the command which plans it doesn't
-/// wait for it. Contracts see nothing of it.
+/// What was in memory before the last consistency point was planned: freed when that ends, so that
+/// the command which plans it doesn't wait for it. Contracts see nothing of it.
 #[derive(Debug, Drop)]
 pub(crate) struct Past {
     slots: BTreeMap<u32, ObjectSlot>,

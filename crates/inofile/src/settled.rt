@@ -5,19 +5,20 @@ ghost use Rattle.layout.specs.Inode.{IsInode, inode_bytes};
 ghost use Rattle.layout.specs.Version.{greatest_size};
 ghost use Rattle.layout.specs.declared.inode.Inode.{Inode};
 ghost use Rattle.layout.specs.declared.version.TheConstants.{VERSION};
-ghost use Rattle.blocktree.specs.declared.error.ReadError.TheVariants.{Damaged};
+ghost use Rattle.buffers.specs.declared.error.BlockError.TheVariants.{Damaged};
 ghost use Rattle.images.specs.Roots.{inode_part};
 
-use blocktree::ReadError;
+use buffers::BlockError;
 use layout::{BLOCK_BYTES, Geometry, INODE_BYTES, Inode};
 
-/// Reads inode `index` of a block of the inode file; Damaged where its bytes are no inode of an image of this version and geometry.
+/// Reads inode `index` of a block of the inode file; Damaged where its bytes are no inode of an
+/// image of this version and geometry.
 pub(crate) fn read_inode(
     bytes: &[u8; BLOCK_BYTES],
     index: u32,
     version: u32,
     geometry: Geometry,
-) -> Result<Inode, ReadError>
+) -> Result<Inode, BlockError>
     requires { index < 21 }
     ensures read { (i : Inode) → IsInode VERSION geometry i
         → i.size ≤ greatest_size version → inode_part bytes.now index ≡ inode_bytes i
@@ -30,12 +31,12 @@ pub(crate) fn read_inode(
 {
     let _ = geometry.inodes();
     let Some(inode) = Inode::read(part(bytes, index)) else {
-        return Err(ReadError::Damaged);
+        return Err(BlockError::Damaged);
     };
     if inode.fits(version, geometry) {
         Ok(inode)
     } else {
-        Err(ReadError::Damaged)
+        Err(BlockError::Damaged)
     }
 }
 

@@ -5,8 +5,8 @@ use Rattle.std.proofs.lemmas.List.{nil_from_length}
 use Rattle.layout.specs.Bytes.{little, IsBytes}
 use Rattle.layout.specs.Format.{Format}
 use Rattle.layout.specs.Reading.{◌>>=◌, number_read, counted_at, all_of}
-use Rattle.layout.specs.Record.{Made, file, directory, symbolic_link, Change, create, link, unname, rename, write, cut, change_mode, create_head, link_fields, unname_fields, rename_fields, write_fields, cut_fields, change_mode_fields, kind_of_made, mode_of_made, text_bytes, change_bytes, KeepsMadeLimits, FitsFields, IsChange}
-use Rattle.layout.specs.RecordReading.{link_in, unname_in, rename_in, write_in, cut_in, change_mode_in, made_in, create_in, change_in}
+use Rattle.layout.specs.Record.{Made, file, directory, symbolic_link, Change, create, link, remove_name, rename, write, truncate, change_mode, create_head, link_fields, remove_name_fields, rename_fields, write_fields, truncate_fields, change_mode_fields, kind_of_made, mode_of_made, text_bytes, change_bytes, KeepsMadeLimits, FitsFields, IsChange}
+use Rattle.layout.specs.RecordReading.{link_in, remove_name_in, rename_in, write_in, truncate_in, change_mode_in, made_in, create_in, change_in}
 use Rattle.layout.proofs.NumberLaws.{little_one}
 use Rattle.layout.proofs.Formats.{bind_some, some_is, if_then, tried, IsExact, num_exact, ranged_exact, counted_exact, then_exact, whole_takes, made_again, byte_again, IsBytes-behind}
 
@@ -16,17 +16,17 @@ create_exact = then_exact (num_exact 4) (then_exact (num_exact 4) (then_exact (n
 link_exact : IsExact link_fields
 link_exact = then_exact (num_exact 4) (then_exact (num_exact 4) (counted_exact 1))
 
-unname_exact : IsExact unname_fields
-unname_exact = then_exact (num_exact 4) (counted_exact 1)
+remove_name_exact : IsExact remove_name_fields
+remove_name_exact = then_exact (num_exact 4) (counted_exact 1)
 
 rename_exact : IsExact rename_fields
-rename_exact = then_exact (num_exact 4) (then_exact (counted_exact 1) unname_exact)
+rename_exact = then_exact (num_exact 4) (then_exact (counted_exact 1) remove_name_exact)
 
 write_exact : IsExact write_fields
 write_exact = then_exact (num_exact 4) (then_exact (num_exact 8) (counted_exact 4))
 
-cut_exact : IsExact cut_fields
-cut_exact = then_exact (num_exact 4) (num_exact 8)
+truncate_exact : IsExact truncate_fields
+truncate_exact = then_exact (num_exact 4) (num_exact 8)
 
 change_mode_exact : IsExact change_mode_fields
 change_mode_exact = then_exact (num_exact 4) (ranged_exact 2 0 4095 (omega arith))
@@ -101,7 +101,7 @@ spelled_by op bytes x rest c small parts is_op law =
     record { bytes_are = parts ∙ front ∙ law.0; fields = law.1 }
 
 pub change_takes : (bytes : List ℕ) (c : Change) → IsBytes bytes → change_in bytes ≡ Some c → Spelled bytes c
-unfolding change_in link_in unname_in rename_in write_in cut_in change_mode_in
+unfolding change_in link_in remove_name_in rename_in write_in truncate_in change_mode_in
 change_takes bytes c fits e =
     let w = bind_some (number_read 1 bytes) _ c e in
     let rest = w.0.1 in
@@ -110,10 +110,10 @@ change_takes bytes c fits e =
     let by = λ (op : ℕ) (small : op < 256). spelled_by op bytes w.0.0 rest c small t.0.parts in
     tried (eqb w.0.0 1) _ _ c w.2 (λ is e. by 1 (omega arith) is (create_takes rest c ok e)) (λ e.
     tried (eqb w.0.0 2) _ _ c e (λ is e. by 2 (omega arith) is (fields_take 2 link_exact (λ v. link v.0 v.1.0 v.1.1) (λ v fits ok. (refl, fits)) rest c ok e)) (λ e.
-    tried (eqb w.0.0 3) _ _ c e (λ is e. by 3 (omega arith) is (fields_take 3 unname_exact (λ v. unname v.0 v.1) (λ v fits ok. (refl, fits)) rest c ok e)) (λ e.
+    tried (eqb w.0.0 3) _ _ c e (λ is e. by 3 (omega arith) is (fields_take 3 remove_name_exact (λ v. remove_name v.0 v.1) (λ v fits ok. (refl, fits)) rest c ok e)) (λ e.
     tried (eqb w.0.0 4) _ _ c e (λ is e. by 4 (omega arith) is (fields_take 4 rename_exact (λ v. rename v.0 v.1.0 v.1.1.0 v.1.1.1) (λ v fits ok. (refl, fits)) rest c ok e)) (λ e.
     tried (eqb w.0.0 5) _ _ c e (λ is e. by 5 (omega arith) is (fields_take 5 write_exact (λ v. write v.0 v.1.0 v.1.1) (λ v fits ok. (refl, (fits, written_bytes v.0 v.1.0 v.1.1 ok))) rest c ok e)) (λ e.
-    tried (eqb w.0.0 6) _ _ c e (λ is e. by 6 (omega arith) is (fields_take 6 cut_exact (λ v. cut v.0 v.1) (λ v fits ok. (refl, fits)) rest c ok e)) (λ e.
+    tried (eqb w.0.0 6) _ _ c e (λ is e. by 6 (omega arith) is (fields_take 6 truncate_exact (λ v. truncate v.0 v.1) (λ v fits ok. (refl, fits)) rest c ok e)) (λ e.
     tried (eqb w.0.0 7) _ _ c e (λ is e. by 7 (omega arith) is (fields_take 7 change_mode_exact (λ v. change_mode v.0 v.1) (λ v fits ok. (refl, fits)) rest c ok e)) (λ e. absurd cc)))))))
 
 object_again : (made : Made) → KeepsMadeLimits made → made_in (kind_of_made made) (mode_of_made made) (text_bytes made) ≡ Some made
@@ -128,17 +128,17 @@ kind_small (directory mode) = omega arith
 kind_small (symbolic_link text) = omega arith
 
 pub change_again : (c : Change) → IsChange c → change_in (change_bytes c) ≡ Some c
-unfolding change_in create_in link_in unname_in rename_in write_in cut_in change_mode_in
+unfolding change_in create_in link_in remove_name_in rename_in write_in truncate_in change_mode_in
 change_again (create number parent made name) is =
     let head = create_exact.again (number, (parent, (kind_of_made made, (mode_of_made made, name)))) (text_bytes made)
     (is.fields.0, (is.fields.1, (kind_small made, ((omega arith, is.fields.2), omega (arith, is.limits.1.short))))) in
     rw (byte_again, head, object_again made is.limits.0) refl
 change_again (link number parent name) is = rw byte_again (made_again link_exact (λ v. link v.0 v.1.0 v.1.1) (number, (parent, name)) is.fields)
-change_again (unname parent name) is = rw byte_again (made_again unname_exact (λ v. unname v.0 v.1) (parent, name) is.fields)
+change_again (remove_name parent name) is = rw byte_again (made_again remove_name_exact (λ v. remove_name v.0 v.1) (parent, name) is.fields)
 change_again (rename parent name new_parent new_name) is =
     rw byte_again (made_again rename_exact (λ v. rename v.0 v.1.0 v.1.1.0 v.1.1.1) (parent, (name, (new_parent, new_name))) is.fields)
 change_again (write number offset bytes) is = rw byte_again (made_again write_exact (λ v. write v.0 v.1.0 v.1.1) (number, (offset, bytes)) is.fields.0)
-change_again (cut number size) is = rw byte_again (made_again cut_exact (λ v. cut v.0 v.1) (number, size) is.fields)
+change_again (truncate number size) is = rw byte_again (made_again truncate_exact (λ v. truncate v.0 v.1) (number, size) is.fields)
 change_again (change_mode number mode) is = rw byte_again (made_again change_mode_exact (λ v. change_mode v.0 v.1) (number, mode) is.fields)
 
 -- no bytes spell two records

@@ -1,7 +1,7 @@
 -- How long the body of each record is.
 use Rattle.std.proofs.Common.{◌≡◌, ℕ, ◌+◌, List, length, arith}
 use Rattle.std.proofs.lemmas.List.{length-append}
-use Rattle.layout.specs.Record.{Made, symbolic_link, create, link, unname, rename, write, cut, change_mode, text_bytes, change_bytes}
+use Rattle.layout.specs.Record.{Made, symbolic_link, create, link, remove_name, rename, write, truncate, change_mode, text_bytes, change_bytes}
 use Rattle.layout.proofs.NumberLaws.{length-little}
 
 pub length-text_bytes : (text : List ℕ) → length (text_bytes (symbolic_link text)) ≡ 2 + length text
@@ -13,8 +13,8 @@ length-create number parent made name = simp (length-append, length-little) (ome
 pub length-link : (number parent : ℕ) (name : List ℕ) → length (change_bytes (link number parent name)) ≡ 10 + length name
 length-link number parent name = simp (length-append, length-little) (omega arith)
 
-pub length-unname : (parent : ℕ) (name : List ℕ) → length (change_bytes (unname parent name)) ≡ 6 + length name
-length-unname parent name = simp (length-append, length-little) (omega arith)
+pub length-remove_name : (parent : ℕ) (name : List ℕ) → length (change_bytes (remove_name parent name)) ≡ 6 + length name
+length-remove_name parent name = simp (length-append, length-little) (omega arith)
 
 pub length-rename : (parent : ℕ) (name : List ℕ) (new_parent : ℕ) (new_name : List ℕ) → length (change_bytes (rename parent name new_parent new_name)) ≡ 11 + length name + length new_name
 length-rename parent name new_parent new_name = simp (length-append, length-little) (omega arith)
@@ -22,8 +22,8 @@ length-rename parent name new_parent new_name = simp (length-append, length-litt
 pub length-write : (number offset : ℕ) (bytes : List ℕ) → length (change_bytes (write number offset bytes)) ≡ 17 + length bytes
 length-write number offset bytes = simp (length-append, length-little) (omega arith)
 
-pub length-cut : (number size : ℕ) → length (change_bytes (cut number size)) ≡ 13
-length-cut number size = simp (length-append, length-little) (omega arith)
+pub length-truncate : (number size : ℕ) → length (change_bytes (truncate number size)) ≡ 13
+length-truncate number size = simp (length-append, length-little) (omega arith)
 
 pub length-change_mode : (number mode : ℕ) → length (change_bytes (change_mode number mode)) ≡ 7
 length-change_mode number mode = simp (length-append, length-little) (omega arith)

@@ -1,5 +1,5 @@
--- A format is a value: how something is read from the front of bytes, its one spelling, and what fits its field. From one
--- list of fields come the reader, the spelling and the limits.
+-- A format is a value: how something is read from the front of bytes, its one spelling, and what
+-- fits its field. From one list of fields come the reader, the spelling and the limits.
 use Rattle.std.specs.Prelude.{ℕ, ◌≡◌, ◌-◌, ◌^◌, ◌<◌, ◌≤◌, List, ◌++◌, length, Option}
 use Rattle.model.specs.declared.limits.TheConstants.{MODE_BITS}
 use Rattle.layout.specs.Bytes.{little, zeros}

@@ -54,7 +54,8 @@ FitsKind kinds.InodeFile s attributes links size = (attributes ≡ no_attributes
 FitsKind kinds.InodeMap s attributes links size = (attributes ≡ no_attributes) × (links ≡ 1) × (size ≡ div_ceil s.inodes 8)
 FitsKind kinds.BlockMap s attributes links size = (attributes ≡ no_attributes) × (links ≡ 1) × (size ≡ 4 * s.blocks)
 
--- how many nodes a file of so many bytes has at a height: its blocks, and over them one for each 1,024 of those below
+-- how many nodes a file of so many bytes has at a height: its blocks, and over them one for each
+-- 1,024 of those below
 unfoldable pub nodes_of_size : ℕ → ℕ → ℕ
 nodes_of_size size zero = div_ceil size BLOCK_BYTES
 nodes_of_size size (suc height) = div_ceil (nodes_of_size size height) BLOCK_POINTERS
@@ -68,7 +69,8 @@ abbrev pub FitsInline : List ℕ → ℕ → Type 0
 FitsInline bytes size =
     (size ≤ INLINE_BYTES) × (length bytes ≡ INLINE_BYTES) × (drop size bytes ≡ zeros (INLINE_BYTES - size))
 
--- pointers to the blocks of a larger file: no pointer leads past the disk, and those behind the size are holes
+-- pointers to the blocks of a larger file: no pointer leads past the disk, and those behind the
+-- size are holes
 abbrev pub FitsPointers : List Pointer → ℕ → ℕ → Type 0
 FitsPointers pointers blocks size =
     (INLINE_BYTES < size) × (length pointers ≡ BODY_POINTERS) × All (PointsBelow blocks) pointers

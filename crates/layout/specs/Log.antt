@@ -1,6 +1,7 @@
--- The two halves of the NVRAM, half 0 from byte 0 on and half 1 from byte `half` on. A half is a gate, an epoch in eight
--- bytes, and records; a record is a gate, its body's length in four bytes, and its body. A gate is 1 where it is open
--- and 0 where it is closed. Epoch e stands in half e mod 2.
+-- The two halves of the NVRAM, half 0 from byte 0 on and half 1 from byte `half` on. A half is a
+-- gate, an epoch in eight bytes, and records; a record is a gate, its body's length in four bytes,
+-- and its body. A gate is 1 where it is open and 0 where it is closed. Epoch e stands in half e mod
+-- 2.
 use Rattle.std.specs.Prelude.{◌≡◌, ◌⊎◌, ℕ, ◌+◌, ◌*◌, ◌%◌, ◌<◌, ◌^◌, List, [], ◌∷◌, ◌++◌, length, take, drop}
 use Rattle.byteorder.specs.Endian.{little_bytes}
 
@@ -37,8 +38,8 @@ IsOpenFor epoch bytes rest = bytes ≡ opened epoch ++ rest
 abbrev pub IsClosed : List ℕ → Type 0
 IsClosed bytes = (rest : List ℕ) × (bytes ≡ 0 ∷ rest)
 
--- the half of an epoch isn't open for it: it is closed, or open for an earlier one of its parity, whose records are no
--- matter
+-- the half of an epoch isn't open for it: it is closed, or open for an earlier one of its parity,
+-- whose records are no matter
 pub record IsUnopened (epoch : ℕ) (bytes : List ℕ) : Type 0 where
   pub earlier : IsClosed bytes ⊎ ((e : ℕ) × (e < epoch) × (e % 2 ≡ epoch % 2) × (rest : List ℕ) × IsOpenFor e bytes rest)
   pub not_open : (rest : List ℕ) → IsOpenFor epoch bytes rest → ⊥
@@ -48,8 +49,8 @@ abbrev pub EpochHolds : ℕ → List ℕ → List (List ℕ) → Type 0
 EpochHolds epoch bytes bodies =
     ((rest : List ℕ) × IsOpenFor epoch bytes rest × HoldsBodies rest bodies) ⊎ (IsUnopened epoch bytes × (bodies ≡ []))
 
--- The log over a root of generation g holds these bodies, which the root doesn't cover: those of the next epoch, and then
--- those of the one after it. No later epoch has begun.
+-- The log over a root of generation g holds these bodies, which the root doesn't cover: those of
+-- the next epoch, and then those of the one after it. No later epoch has begun.
 pub record LogHolds (half g : ℕ) (nvram : List ℕ) (bodies : List (List ℕ)) : Type 0 where
   pub size : length nvram ≡ 2 * half
   pub first : List (List ℕ)

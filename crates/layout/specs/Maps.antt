@@ -11,8 +11,8 @@ use Rattle.layout.specs.declared.pointer.Pointer.TheVariants.{Hole}
 abbrev pub IsTaken : List ℕ → ℕ → Type 0
 IsTaken bytes n = slice_index bytes (n / 8) / 2 ^ (n % 8) % 2 ≡ 1
 
--- Bytes of an inode map of so many inodes, bit i being that of number `first + i`: the numbers 0 to 3 are taken, and none from
--- `inodes` on. A map of several blocks is one such part after the other.
+-- Bytes of an inode map of so many inodes, bit i being that of number `first + i`: the numbers 0 to
+-- 3 are taken, and none from `inodes` on. A map of several blocks is one such part after the other.
 pub record IsInodeMap (first inodes : ℕ) (bytes : List ℕ) : Type 0 where
   pub own : (i : ℕ) → i < 8 * length bytes → first + i < FIRST_NUMBER → IsTaken bytes i
   pub past : (i : ℕ) → i < 8 * length bytes → inodes ≤ first + i → IsTaken bytes i → ⊥
@@ -34,13 +34,14 @@ pub record SetsWord (i x : ℕ) (old new : List ℕ) : Type 0 where
   pub there : word new i ≡ x
   pub others : (k : ℕ) → 4 * k + 4 ≤ length old → k ≢ i → word new k ≡ word old k
 
--- the pointers of an indirect block lead to blocks of the disk, and those behind the first `used` are holes
+-- the pointers of an indirect block lead to blocks of the disk, and those behind the first `used`
+-- are holes
 abbrev pub PointsWithin : ℕ → ℕ → List ℕ → Type 0
 PointsWithin blocks used bytes =
     (i : ℕ) → i < BLOCK_POINTERS → PointsBelow blocks (indirect_pointer bytes i) × (used ≤ i → indirect_pointer bytes i ≡ Hole)
 
--- an indirect block over so many blocks of a file: no pointer leads past the disk, those behind the file's end are holes, and
--- not all are
+-- an indirect block over so many blocks of a file: no pointer leads past the disk, those behind the
+-- file's end are holes, and not all are
 pub record IsIndirectBlock (blocks used : ℕ) (bytes : List ℕ) : Type 0 where
   pub size : length bytes ≡ BLOCK_BYTES
   pub within : PointsWithin blocks used bytes

@@ -1,5 +1,5 @@
--- The disk by blocks, and where the nodes of a file lie: each node at a depth is a pointer of the inode or, one deeper, of
--- an indirect block.
+-- The disk by blocks, and where the nodes of a file lie: each node at a depth is a pointer of the
+-- inode or, one deeper, of an indirect block.
 use Rattle.std.specs.Prelude.{ℕ, zero, suc, ◌+◌, ◌*◌, ◌/◌, ◌%◌, List, ◌++◌, slice_index_or}
 use Rattle.layout.specs.Bytes.{zeros}
 use Rattle.layout.specs.Maps.{indirect_pointer}
@@ -27,8 +27,8 @@ abbrev pub follow : Blocks → Pointer → ℕ → Pointer
 follow disk Hole i = Hole
 follow disk (Block block) i = indirect_pointer (disk block) i
 
--- the pointer to node i at this depth under these of an inode: at depth 0 these, and node i at the next depth is pointer
--- i mod 1,024 of node i / 1,024
+-- the pointer to node i at this depth under these of an inode: at depth 0 these, and node i at the
+-- next depth is pointer i mod 1,024 of node i / 1,024
 unfoldable pub place : Blocks → List Pointer → ℕ → ℕ → Pointer
 place disk pointers zero i = slice_index_or pointers i Hole
 place disk pointers (suc depth) i = follow disk (place disk pointers depth (i / 1024)) (i % 1024)

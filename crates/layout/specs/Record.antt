@@ -3,7 +3,7 @@ use Rattle.std.specs.Prelude.{ℕ, ◌≤◌, ◌<◌, ◌^◌, List, [], ◌∷
 use Rattle.layout.specs.Bytes.{IsBytes}
 use Rattle.layout.specs.Format.{Format, num, counted, mode_bits, ◌▸◌}
 use Rattle.model.specs.Paths.{IsName}
-pub use Rattle.model.specs.Records.{Made, file, directory, symbolic_link, Change, create, link, unname, rename, write, cut, change_mode}
+pub use Rattle.model.specs.Records.{Made, file, directory, symbolic_link, Change, create, link, remove_name, rename, write, truncate, change_mode}
 use Rattle.layout.specs.LinkText.{IsLinkText}
 use Rattle.model.specs.declared.limits.TheConstants.{LINK_MODE, MODE_BITS, TRANSFER_BYTES}
 use Rattle.layout.specs.declared.record.NewObject.{NewObject}
@@ -38,8 +38,8 @@ create_head = num 4 ▸ num 4 ▸ num 1 ▸ mode_bits ▸ counted 1  -- number, 
 abbrev pub link_fields : Format (ℕ × (ℕ × List ℕ))
 link_fields = num 4 ▸ num 4 ▸ counted 1  -- number, parent, name
 
-abbrev pub unname_fields : Format (ℕ × List ℕ)
-unname_fields = num 4 ▸ counted 1  -- parent, name
+abbrev pub remove_name_fields : Format (ℕ × List ℕ)
+remove_name_fields = num 4 ▸ counted 1  -- parent, name
 
 abbrev pub rename_fields : Format (ℕ × (List ℕ × (ℕ × List ℕ)))
 rename_fields = num 4 ▸ counted 1 ▸ num 4 ▸ counted 1  -- parent, name, new parent, new name
@@ -47,8 +47,8 @@ rename_fields = num 4 ▸ counted 1 ▸ num 4 ▸ counted 1  -- parent, name, ne
 abbrev pub write_fields : Format (ℕ × (ℕ × List ℕ))
 write_fields = num 4 ▸ num 8 ▸ counted 4  -- number, offset, bytes
 
-abbrev pub cut_fields : Format (ℕ × ℕ)
-cut_fields = num 4 ▸ num 8  -- number, size
+abbrev pub truncate_fields : Format (ℕ × ℕ)
+truncate_fields = num 4 ▸ num 8  -- number, size
 
 abbrev pub change_mode_fields : Format (ℕ × ℕ)
 change_mode_fields = num 4 ▸ mode_bits  -- number, mode
@@ -58,11 +58,11 @@ abbrev pub change_bytes : Change → List ℕ
 change_bytes (create number parent made name) =
     1 ∷ create_head.text (number, (parent, (kind_of_made made, (mode_of_made made, name)))) ++ text_bytes made
 change_bytes (link number parent name) = 2 ∷ link_fields.text (number, (parent, name))
-change_bytes (unname parent name) = 3 ∷ unname_fields.text (parent, name)
+change_bytes (remove_name parent name) = 3 ∷ remove_name_fields.text (parent, name)
 change_bytes (rename parent name new_parent new_name) =
     4 ∷ rename_fields.text (parent, (name, (new_parent, new_name)))
 change_bytes (write number offset bytes) = 5 ∷ write_fields.text (number, (offset, bytes))
-change_bytes (cut number size) = 6 ∷ cut_fields.text (number, size)
+change_bytes (truncate number size) = 6 ∷ truncate_fields.text (number, size)
 change_bytes (change_mode number mode) = 7 ∷ change_mode_fields.text (number, mode)
 
 -- the limits of what a record says
@@ -74,20 +74,20 @@ KeepsMadeLimits (symbolic_link text) = IsLinkText text
 abbrev pub KeepsLimits : Change → Type 0
 KeepsLimits (create number parent made name) = KeepsMadeLimits made × IsName name
 KeepsLimits (link number parent name) = IsName name
-KeepsLimits (unname parent name) = IsName name
+KeepsLimits (remove_name parent name) = IsName name
 KeepsLimits (rename parent name new_parent new_name) = IsName name × IsName new_name
 KeepsLimits (write number offset bytes) = (1 ≤ length bytes) × (length bytes ≤ TRANSFER_BYTES)
-KeepsLimits (cut number size) = Unit {0}
+KeepsLimits (truncate number size) = Unit {0}
 KeepsLimits (change_mode number mode) = Unit {0}
 
 -- each value fits its field
 abbrev pub FitsFields : Change → Type 0
 FitsFields (create number parent made name) = (number < 2 ^ 32) × (parent < 2 ^ 32) × (mode_of_made made ≤ MODE_BITS)
 FitsFields (link number parent name) = link_fields.Fits (number, (parent, name))
-FitsFields (unname parent name) = unname_fields.Fits (parent, name)
+FitsFields (remove_name parent name) = remove_name_fields.Fits (parent, name)
 FitsFields (rename parent name new_parent new_name) = rename_fields.Fits (parent, (name, (new_parent, new_name)))
 FitsFields (write number offset bytes) = write_fields.Fits (number, (offset, bytes)) × IsBytes bytes
-FitsFields (cut number size) = cut_fields.Fits (number, size)
+FitsFields (truncate number size) = truncate_fields.Fits (number, size)
 FitsFields (change_mode number mode) = change_mode_fields.Fits (number, mode)
 
 -- what can stand in the log
@@ -104,10 +104,10 @@ made_of (objects.Link text) = symbolic_link text.now
 abbrev pub change_of : Record → Change
 change_of (records.Create number parent object name) = create number parent (made_of object) name.now
 change_of (records.Link number parent name) = link number parent name.now
-change_of (records.Unname parent name) = unname parent name.now
+change_of (records.RemoveName parent name) = remove_name parent name.now
 change_of (records.Rename parent name new_parent new_name) = rename parent name.now new_parent new_name.now
 change_of (records.Write number offset bytes) = write number offset bytes.now
-change_of (records.Cut number size) = cut number size
+change_of (records.Truncate number size) = truncate number size
 change_of (records.ChangeMode number mode) = change_mode number mode
 
 -- the body of a record: its bytes in the log

@@ -2,13 +2,13 @@
 use Rattle.std.specs.Prelude.{ℕ, List, length, Option, Some, None, ◌==◌, if◌then◌else◌}
 use Rattle.model.specs.declared.limits.TheConstants.{LINK_MODE}
 use Rattle.layout.specs.Reading.{◌>>=◌, number_read, counted_at, all_of}
-use Rattle.layout.specs.Record.{Made, file, directory, symbolic_link, Change, create, link, unname, rename, write, cut, change_mode, create_head, link_fields, unname_fields, rename_fields, write_fields, cut_fields, change_mode_fields}
+use Rattle.layout.specs.Record.{Made, file, directory, symbolic_link, Change, create, link, remove_name, rename, write, truncate, change_mode, create_head, link_fields, remove_name_fields, rename_fields, write_fields, truncate_fields, change_mode_fields}
 
 unfoldable pub link_in : List ℕ → Option Change
 link_in bytes = all_of link_fields.at bytes >>= λ v. Some (link v.0 v.1.0 v.1.1)
 
-unfoldable pub unname_in : List ℕ → Option Change
-unname_in bytes = all_of unname_fields.at bytes >>= λ v. Some (unname v.0 v.1)
+unfoldable pub remove_name_in : List ℕ → Option Change
+remove_name_in bytes = all_of remove_name_fields.at bytes >>= λ v. Some (remove_name v.0 v.1)
 
 unfoldable pub rename_in : List ℕ → Option Change
 rename_in bytes = all_of rename_fields.at bytes >>= λ v. Some (rename v.0 v.1.0 v.1.1.0 v.1.1.1)
@@ -16,8 +16,8 @@ rename_in bytes = all_of rename_fields.at bytes >>= λ v. Some (rename v.0 v.1.0
 unfoldable pub write_in : List ℕ → Option Change
 write_in bytes = all_of write_fields.at bytes >>= λ v. Some (write v.0 v.1.0 v.1.1)
 
-unfoldable pub cut_in : List ℕ → Option Change
-cut_in bytes = all_of cut_fields.at bytes >>= λ v. Some (cut v.0 v.1)
+unfoldable pub truncate_in : List ℕ → Option Change
+truncate_in bytes = all_of truncate_fields.at bytes >>= λ v. Some (truncate v.0 v.1)
 
 unfoldable pub change_mode_in : List ℕ → Option Change
 change_mode_in bytes = all_of change_mode_fields.at bytes >>= λ v. Some (change_mode v.0 v.1)
@@ -41,9 +41,9 @@ change_in bytes =
     number_read 1 bytes >>= λ x.
     if x.0 == 1 then create_in x.1
     else (if x.0 == 2 then link_in x.1
-    else (if x.0 == 3 then unname_in x.1
+    else (if x.0 == 3 then remove_name_in x.1
     else (if x.0 == 4 then rename_in x.1
     else (if x.0 == 5 then write_in x.1
-    else (if x.0 == 6 then cut_in x.1
+    else (if x.0 == 6 then truncate_in x.1
     else (if x.0 == 7 then change_mode_in x.1
     else None))))))

@@ -59,8 +59,8 @@ pub record IsHead (version generation : ℕ) (s : Sizes) : Type 0 where
   pub last : generation < 2 ^ 62
   pub sizes : AreSizes s
 
--- a root: its inode is that of the inode file of its sizes, its pointers stay on the disk, and the slots that its version doesn't have
--- are free
+-- a root: its inode is that of the inode file of its sizes, its pointers stay on the disk, and the
+-- slots that its version doesn't have are free
 pub record IsRoot (r : Root) : Type 0 where
   pub head : IsHead r.version r.generation r.geometry
   pub kind : r.inode_file.kind ≡ InodeFile

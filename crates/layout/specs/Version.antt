@@ -1,5 +1,5 @@
--- What differs from one version of the layout to the next. The grammar is that of the newest one everywhere: a root of the
--- first version has smaller values.
+-- What differs from one version of the layout to the next. The grammar is that of the newest one
+-- everywhere: a root of the first version has smaller values.
 use Rattle.std.specs.Prelude.{ℕ, ◌≤◌, nat_le, ◌==◌, if◌then◌else◌}
 use Rattle.model.specs.declared.limits.TheConstants.{GREATEST_FILE}
 use Rattle.layout.specs.declared.TheConstants.{DIRECT_BYTES, INLINE_BYTES, SINGLE_BYTES}
@@ -10,7 +10,8 @@ pub record IsVersion (version : ℕ) : Type 0 where
   pub least : FIRST_VERSION ≤ version
   pub most : version ≤ VERSION
 
--- The level of a file of this size: inline, direct, single or double indirect. Versions differ in the greatest size alone.
+-- The level of a file of this size: inline, direct, single or double indirect. Versions differ in
+-- the greatest size alone.
 abbrev pub level_of : ℕ → ℕ
 level_of size =
     if nat_le size INLINE_BYTES

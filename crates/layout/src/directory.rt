@@ -20,8 +20,9 @@ pub enum NextEntry<'a> {
     Malformed,
 }
 
-/// What these bytes, those of a directory's block from an entry's place to its end, begin with in an image of so many
-/// inodes. The first entry's place is the block's beginning, and that of each further one lies behind the last.
+/// What these bytes, those of a directory's block from an entry's place to its end, begin with in
+/// an image of so many inodes. The first entry's place is the block's beginning, and that of each
+/// further one lies behind the last.
 pub fn next_entry(bytes: &[u8], inodes: u32) -> NextEntry<'_>
     ensures { NextEntryIs inodes bytes.now result }
 {
@@ -38,8 +39,9 @@ pub fn next_entry(bytes: &[u8], inodes: u32) -> NextEntry<'_>
     NextEntry::Entry { entry, rest }
 }
 
-/// What the bytes of a directory's block in its grammar begin with, from an entry's place to its end: an entry, and the bytes behind it;
-/// None where no entry is left. Nothing is tested, so it is quick; of bytes outside the grammar it says no more than how it read them.
+/// What the bytes of a directory's block in its grammar begin with, from an entry's place to its
+/// end: an entry, and the bytes behind it; None where no entry is left. Nothing is tested, so it is
+/// quick; of bytes outside the grammar it says no more than how it read them.
 pub fn first_entry(bytes: &[u8]) -> Option<(Entry<'_>, &[u8])>
     ensures spelled { IfSome result
         (λ r. bytes.now ≡ entry_bytes (named_of r.0) ++ r.1.now) }
@@ -61,7 +63,8 @@ pub fn first_entry(bytes: &[u8]) -> Option<(Entry<'_>, &[u8])>
     Some((entry, rest))
 }
 
-/// Whether these bytes are a block of a directory in an image of so many inodes. A name that stands twice is no matter here.
+/// Whether these bytes are a block of a directory in an image of so many inodes. A name that stands
+/// twice is no matter here.
 pub fn is_directory_block(bytes: &[u8; BLOCK_BYTES], inodes: u32) -> bool
     ensures { IsTrue result ↔ ((entries : List Named) × IsDirectoryBlock inodes bytes.now entries) }
 {

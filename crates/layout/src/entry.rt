@@ -22,7 +22,8 @@ pub struct Entry<'a> {
 }
 
 impl<'a> Entry<'a> {
-    /// The entry that the bytes begin with; None where they begin with none in an image of any geometry.
+    /// The entry that the bytes begin with; None where they begin with none in an image of any
+    /// geometry.
     pub fn read(bytes: &'a [u8]) -> Option<Entry<'a>>
         ensures found { IfSome result (λ e. IsEntry MOST_INODES (named_of e)
             × BeginsWith bytes.now (named_of e)) }
@@ -39,7 +40,8 @@ impl<'a> Entry<'a> {
         }
     }
 
-    /// Whether it is an entry of an image of so many inodes: its number is an ordinary one, and its name is a name.
+    /// Whether it is an entry of an image of so many inodes: its number is an ordinary one, and its
+    /// name is a name.
     pub fn fits(&self, inodes: u32) -> bool
         ensures { IsTrue result ↔ IsEntry inodes (named_of self.now) }
     {

@@ -15,7 +15,8 @@ pub const LEAST_HALF: u32 = 131_072;
 /// The most bytes of a half of the NVRAM.
 pub const MOST_HALF: u32 = 8_388_608;
 
-/// The sizes of an image: its blocks, its inodes and the bytes of one half of its NVRAM, each within its limits.
+/// The sizes of an image: its blocks, its inodes and the bytes of one half of its NVRAM, each
+/// within its limits.
 #[derive(Clone, Copy, Debug, PartialEq, Eq)]
 pub struct Geometry {
     blocks: u32,
@@ -39,8 +40,8 @@ ghost use Rattle.std.specs.Prelude.{◌≡◌, ◌*◌, IsSome, IfSome, ◌↔�
 ghost use Rattle.layout.specs.Limits.{AreSizes, sizes};
 
 impl Geometry {
-    /// The geometry of these numbers; None where one is out of its limits: `blocks` from 64 to 1,048,576, `inodes` from
-    /// 32 to 65,536, `half` from 131,072 to 8,388,608 bytes.
+    /// The geometry of these numbers; None where one is out of its limits: `blocks` from 64 to
+    /// 1,048,576, `inodes` from 32 to 65,536, `half` from 131,072 to 8,388,608 bytes.
     pub fn new(blocks: u32, inodes: u32, half: u32) -> Option<Geometry>
         ensures within { IsSome result ↔ AreSizes (sizes blocks inodes half) }
         ensures value { IfSome result (λ g. g ≡ sizes blocks inodes half) }

@@ -9,8 +9,8 @@ use crate::maps::indirect_pointer;
 use crate::{BLOCK_BYTES, BLOCK_POINTERS};
 use std::simd::prelude::*;
 
-/// Whether these bytes are an indirect block over so many blocks of a file, with a block at the first pointer and zeros behind those
-/// in use.
+/// Whether these bytes are an indirect block over so many blocks of a file, with a block at the
+/// first pointer and zeros behind those in use.
 pub(crate) fn is_filled(bytes: &[u8; BLOCK_BYTES], blocks: u32, used: u32) -> bool
     ensures { IsTrue result → IsIndirectBlock blocks used bytes.now }
 {

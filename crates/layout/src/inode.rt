@@ -24,7 +24,8 @@ use model::{Attributes, FILE_NAMES, LINK_MODE, Mode, PATH_BYTES};
 pub enum Body {
     /// Level 0: the bytes, and zeros behind them.
     Inline([u8; INLINE_BYTES]),
-    /// Level 1: pointer i is block i of the file. From level 2 on: pointer i is an indirect block, of 1,024 pointers.
+    /// Level 1: pointer i is block i of the file. From level 2 on: pointer i is an indirect block,
+    /// of 1,024 pointers.
     Pointers([Pointer; BODY_POINTERS]),
 }
 
@@ -53,7 +54,8 @@ impl Inode {
         if inode.fits_some() { Some(inode) } else { None }
     }
 
-    /// The kind and the links of the inode that these bytes spell, by its head alone; None where no head is.
+    /// The kind and the links of the inode that these bytes spell, by its head alone; None where no
+    /// head is.
     pub fn kind_and_links(bytes: &[u8]) -> Option<(Kind, u32)>
         ensures head { result ≡ kind_and_links_in bytes.now }
         ensures only { (s : Sizes) (i : Inode) → IsInode VERSION s i → bytes.now ≡ inode_bytes i
@@ -107,8 +109,8 @@ impl Inode {
     }
 }
 
-// The geometry of an image that has an inode of this kind and size, if one has: of the one whose map or inode file has this
-// size, and for other files of the greatest.
+// The geometry of an image that has an inode of this kind and size, if one has: of the one whose
+// map or inode file has this size, and for other files of the greatest.
 fn likely_geometry(kind: Kind, size: u64) -> Option<Geometry>
     ensures found { IfSome result (λ g. (g ≡ likely_sizes kind size) × AreSizes g) }
     ensures none { IfNone result (size ≤ greatest_size VERSION

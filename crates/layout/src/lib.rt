@@ -1,5 +1,6 @@
-//! The formats (layout), of the disk and of the log: each is a grammar, read and written exactly, so that no crate above
-//! looks at a byte of one again. Nothing here knows a device. All numbers are little-endian.
+//! The formats (layout), of the disk and of the log: each is a grammar, read and written exactly,
+//! so that no crate above looks at a byte of one again. Nothing here knows a device. All numbers
+//! are little-endian.
 #![tactic(auto)]
 
 mod directory;

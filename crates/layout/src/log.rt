@@ -1,5 +1,6 @@
-//! The halves of the NVRAM: a header of a gate and an epoch, and then records, each a gate, its body's length in four
-//! bytes and its body. A gate is 1 where it is open and 0 where it is closed; the first closed one ends the records.
+//! The halves of the NVRAM: a header of a gate and an epoch, and then records, each a gate, its
+//! body's length in four bytes and its body. A gate is 1 where it is open and 0 where it is closed;
+//! the first closed one ends the records.
 
 ghost use Rattle.std.specs.Prelude.{◌∷◌};
 ghost use Rattle.layout.specs.Gates.{HeaderIs, GateIs};

@@ -20,8 +20,9 @@ pub fn is_taken(bytes: &[u8], number: u32) -> bool
     (byte >> (number % 8)) % 2 == 1
 }
 
-/// Whether these are bytes of an inode map of so many inodes, the first bit being that of number `first`: 0 to 3 are taken,
-/// and none from `inodes` on. A map of several blocks is looked at block by block.
+/// Whether these are bytes of an inode map of so many inodes, the first bit being that of number
+/// `first`: 0 to 3 are taken, and none from `inodes` on. A map of several blocks is looked at block
+/// by block.
 pub fn is_inode_map(bytes: &[u8], first: u32, inodes: u32) -> bool
     requires { first + 8 * length bytes.now < 2 ^ 32 }
     ensures { IsTrue result ↔ IsInodeMap first inodes bytes.now }
@@ -40,7 +41,8 @@ pub fn is_inode_map(bytes: &[u8], first: u32, inodes: u32) -> bool
     true
 }
 
-/// Entry `index` of a block of the block map: bit 0 the active tree, bits 1 to 30 the snapshots, bit 31 the system's own.
+/// Entry `index` of a block of the block map: bit 0 the active tree, bits 1 to 30 the snapshots,
+/// bit 31 the system's own.
 pub fn map_entry(bytes: &[u8; BLOCK_BYTES], index: u32) -> u32
     requires { index < BLOCK_POINTERS }
     ensures { result ≡ map_entry bytes.now index }
@@ -84,8 +86,9 @@ pub fn indirect_pointer(bytes: &[u8; BLOCK_BYTES], index: u32) -> Pointer
     Pointer::from_number(word_at(bytes, index as usize))
 }
 
-/// Whether these bytes are a stored indirect block, in an image of so many blocks, over so many blocks of a file: each
-/// pointer is a hole or stays on the disk, those from `used` on are holes, and one is none.
+/// Whether these bytes are a stored indirect block, in an image of so many blocks, over so many
+/// blocks of a file: each pointer is a hole or stays on the disk, those from `used` on are holes,
+/// and one is none.
 pub fn is_indirect_block(bytes: &[u8; BLOCK_BYTES], blocks: u32, used: u32) -> bool
     ensures { IsTrue result ↔ IsIndirectBlock blocks used bytes.now }
 {

@@ -6,7 +6,8 @@ ghost use Rattle.layout.specs.LinkText.{IsLinkText};
 
 use model::{NAME_BYTES, PATH_BYTES};
 
-/// Whether these bytes are a name in a directory: 1 to 255 bytes, none of them `/` or zero, and not `.` or `..`.
+/// Whether these bytes are a name in a directory: 1 to 255 bytes, none of them `/` or zero, and not
+/// `.` or `..`.
 pub fn is_name(name: &[u8]) -> bool
     ensures { IsTrue result ↔ IsName name.now }
 {

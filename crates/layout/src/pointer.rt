@@ -40,7 +40,8 @@ impl Pointer {
         }
     }
 
-    /// Whether it is a hole or names one of the blocks from 2 to `blocks - 1`: the first two hold the roots.
+    /// Whether it is a hole or names one of the blocks from 2 to `blocks - 1`: the first two hold
+    /// the roots.
     pub fn fits(self, blocks: u32) -> bool
         ensures { IsTrue result ↔ PointsBelow blocks self }
     {

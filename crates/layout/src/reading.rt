@@ -136,7 +136,8 @@ pub(crate) fn zeros_at(bytes: &[u8], count: usize) -> Option<&[u8]>
     if is_zero(zeros) { Some(bytes) } else { None }
 }
 
-/// A snapshot's name: its length in one byte, and its bytes, with zeros behind them to the most that it may have.
+/// A snapshot's name: its length in one byte, and its bytes, with zeros behind them to the most
+/// that it may have.
 pub(crate) fn padded_at(bytes: &[u8]) -> Option<(&[u8], &[u8])>
     ensures { option_map (λ x. (x.0.now, x.1.now)) result ≡ padded_at SNAPSHOT_NAME_BYTES bytes.now }
 {

@@ -31,7 +31,7 @@ pub enum Record<'a> {
         name: &'a [u8],
     },
     /// Takes the name away, and what has no other name.
-    Unname {
+    RemoveName {
         parent: InodeNumber,
         name: &'a [u8],
     },
@@ -49,7 +49,7 @@ pub enum Record<'a> {
         bytes: &'a [u8],
     },
     /// Gives the file this size.
-    Cut {
+    Truncate {
         number: InodeNumber,
         size: u64,
     },

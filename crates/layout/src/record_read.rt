@@ -3,7 +3,7 @@
 ghost use Rattle.std.specs.Prelude.{◌≡◌, ◌↔◌, IsTrue, IfSome, IsSomeAnd};
 ghost use Rattle.std.specs.Option.{option_map};
 ghost use Rattle.layout.specs.Record.{Change, IsChange, KeepsLimits, KeepsMadeLimits, body_of, change_bytes, change_of, made_of};
-ghost use Rattle.layout.specs.RecordReading.{create_in, link_in, unname_in, rename_in, write_in, cut_in, change_mode_in, made_in, change_in};
+ghost use Rattle.layout.specs.RecordReading.{create_in, link_in, remove_name_in, rename_in, write_in, truncate_in, change_mode_in, made_in, change_in};
 
 use crate::InodeNumber;
 use crate::name::{is_link_text, is_name};
@@ -38,10 +38,10 @@ impl<'a> Record<'a> {
                 name,
                 ..
             } => object_keeps_limits(object) && is_name(name),
-            Record::Link { name, .. } | Record::Unname { name, .. } => is_name(name),
+            Record::Link { name, .. } | Record::RemoveName { name, .. } => is_name(name),
             Record::Rename { name, new_name, .. } => is_name(name) && is_name(new_name),
             Record::Write { bytes, .. } => !bytes.is_empty() && bytes.len() <= TRANSFER_BYTES,
-            Record::Cut { .. } | Record::ChangeMode { .. } => true,
+            Record::Truncate { .. } | Record::ChangeMode { .. } => true,
         }
     }
 }
@@ -63,10 +63,10 @@ fn read_fields(bytes: &[u8]) -> Option<Record<'_>>
     match op {
         1 => read_create(fields),
         2 => read_link(fields),
-        3 => read_unname(fields),
+        3 => read_remove_name(fields),
         4 => read_rename(fields),
         5 => read_write(fields),
-        6 => read_cut(fields),
+        6 => read_truncate(fields),
         7 => read_change_mode(fields),
         _ => None,
     }
@@ -130,16 +130,16 @@ fn read_link(bytes: &[u8]) -> Option<Record<'_>>
     })
 }
 
-#[tactic(auto, unfolding(crate::specs::RecordReading::unname_in))]
-fn read_unname(bytes: &[u8]) -> Option<Record<'_>>
-    ensures { option_map change_of result ≡ unname_in bytes.now }
+#[tactic(auto, unfolding(crate::specs::RecordReading::remove_name_in))]
+fn read_remove_name(bytes: &[u8]) -> Option<Record<'_>>
+    ensures { option_map change_of result ≡ remove_name_in bytes.now }
 {
     let (parent, bytes) = u32_at(bytes)?;
     let (name, bytes) = name_at(bytes)?;
     if !bytes.is_empty() {
         return None;
     }
-    Some(Record::Unname {
+    Some(Record::RemoveName {
         parent: InodeNumber::new(parent),
         name,
     })
@@ -181,16 +181,16 @@ fn read_write(bytes: &[u8]) -> Option<Record<'_>>
     })
 }
 
-#[tactic(auto, unfolding(crate::specs::RecordReading::cut_in))]
-fn read_cut(bytes: &[u8]) -> Option<Record<'_>>
-    ensures { option_map change_of result ≡ cut_in bytes.now }
+#[tactic(auto, unfolding(crate::specs::RecordReading::truncate_in))]
+fn read_truncate(bytes: &[u8]) -> Option<Record<'_>>
+    ensures { option_map change_of result ≡ truncate_in bytes.now }
 {
     let (number, bytes) = u32_at(bytes)?;
     let (size, bytes) = u64_at(bytes)?;
     if !bytes.is_empty() {
         return None;
     }
-    Some(Record::Cut {
+    Some(Record::Truncate {
         number: InodeNumber::new(number),
         size,
     })

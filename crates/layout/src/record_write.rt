@@ -3,7 +3,7 @@
 ghost use Rattle.std.specs.Prelude.{◌≡◌, ◌≤◌, ◌+◌, length};
 ghost use Rattle.model.specs.declared.limits.TheConstants.{NAME_BYTES, TRANSFER_BYTES};
 ghost use Rattle.layout.specs.Bytes.{Writes, little};
-ghost use Rattle.layout.specs.Record.{KeepsLimits, KeepsMadeLimits, change_bytes, change_of, create, link, unname, rename, write, cut, change_mode, made_of, kind_of_made, mode_of_made, name_bytes, body_of, text_of};
+ghost use Rattle.layout.specs.Record.{KeepsLimits, KeepsMadeLimits, change_bytes, change_of, create, link, remove_name, rename, write, truncate, change_mode, made_of, kind_of_made, mode_of_made, name_bytes, body_of, text_of};
 
 use crate::InodeNumber;
 use crate::record::{NewObject, Record};
@@ -19,10 +19,10 @@ impl Record<'_> {
         match self {
             Record::Create { object, name, .. } => 13 + count_of(name) + object_len(object),
             Record::Link { name, .. } => 10 + count_of(name),
-            Record::Unname { name, .. } => 6 + count_of(name),
+            Record::RemoveName { name, .. } => 6 + count_of(name),
             Record::Rename { name, new_name, .. } => 11 + count_of(name) + count_of(new_name),
             Record::Write { bytes, .. } => 17 + count_of(bytes),
-            Record::Cut { .. } => 13,
+            Record::Truncate { .. } => 13,
             Record::ChangeMode { .. } => 7,
         }
     }
@@ -45,7 +45,7 @@ impl Record<'_> {
                 parent,
                 name,
             } => write_link(*number, *parent, name, out),
-            Record::Unname { parent, name } => write_unname(*parent, name, out),
+            Record::RemoveName { parent, name } => write_remove_name(*parent, name, out),
             Record::Rename {
                 parent,
                 name,
@@ -57,7 +57,7 @@ impl Record<'_> {
                 offset,
                 bytes,
             } => write_write(*number, *offset, bytes, out),
-            Record::Cut { number, size } => write_cut(*number, *size, out),
+            Record::Truncate { number, size } => write_truncate(*number, *size, out),
             Record::ChangeMode { number, mode } => write_change_mode(*number, *mode, out),
         }
     }
@@ -165,10 +165,10 @@ fn write_link(number: InodeNumber, parent: InodeNumber, name: &[u8], out: &mut [
     10 + name.len()
 }
 
-fn write_unname(parent: InodeNumber, name: &[u8], out: &mut [u8]) -> usize
+fn write_remove_name(parent: InodeNumber, name: &[u8], out: &mut [u8]) -> usize
     requires name { length name.now ≤ NAME_BYTES }
     requires room { 6 + length name.now ≤ length out.old }
-    ensures { Writes 0 result (change_bytes (unname parent name.now)) out.old out.new }
+    ensures { Writes 0 result (change_bytes (remove_name parent name.now)) out.old out.new }
 {
     put_byte(out, 0, 3);
     put_number(out, 1, parent);
@@ -211,9 +211,9 @@ fn write_write(number: InodeNumber, offset: u64, bytes: &[u8], out: &mut [u8]) -
     17 + bytes.len()
 }
 
-fn write_cut(number: InodeNumber, size: u64, out: &mut [u8]) -> usize
+fn write_truncate(number: InodeNumber, size: u64, out: &mut [u8]) -> usize
     requires { 13 ≤ length out.old }
-    ensures { Writes 0 result (change_bytes (cut number size)) out.old out.new }
+    ensures { Writes 0 result (change_bytes (truncate number size)) out.old out.new }
 {
     put_byte(out, 0, 6);
     put_number(out, 1, number);

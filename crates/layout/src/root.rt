@@ -43,7 +43,8 @@ pub struct Root {
     pub geometry: Geometry,
     /// The inode of the file of all inodes.
     pub inode_file: Inode,
-    /// The root block of the snapshot in each slot, or a hole where the slot is free or the version doesn't have it.
+    /// The root block of the snapshot in each slot, or a hole where the slot is free or the version
+    /// doesn't have it.
     pub snapshots: [Pointer; SNAPSHOT_SLOTS],
 }
 
@@ -72,7 +73,8 @@ impl Root {
         ROOT_BYTES
     }
 
-    /// Whether it is in the grammar: its inode is of the inode file of its geometry, and its pointers stay on the disk.
+    /// Whether it is in the grammar: its inode is of the inode file of its geometry, and its
+    /// pointers stay on the disk.
     pub fn fits(&self) -> bool
         ensures { IsTrue result ↔ IsRoot self.now }
     {

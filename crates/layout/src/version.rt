@@ -6,7 +6,8 @@ ghost use Rattle.layout.specs.Version.{IsVersion, greatest_size, level_of, snaps
 use crate::{DIRECT_BYTES, INLINE_BYTES, SINGLE_BYTES};
 use model::{GREATEST_FILE, SNAPSHOTS};
 
-/// The first version, which is read only: the first consistency point over such a root writes the newest version.
+/// The first version, which is read only: the first consistency point over such a root writes the
+/// newest version.
 pub const FIRST_VERSION: u32 = 1;
 
 /// The newest version, which is read and written.
@@ -15,8 +16,8 @@ pub const VERSION: u32 = 2;
 /// The slots of snapshots in a root of the first version.
 pub const FIRST_SLOTS: usize = 20;
 
-/// The slots of snapshots in a root of the newest version: one for each that there may be. Those that a version doesn't have
-/// are free in it.
+/// The slots of snapshots in a root of the newest version: one for each that there may be. Those
+/// that a version doesn't have are free in it.
 pub const SNAPSHOT_SLOTS: usize = SNAPSHOTS;
 
 /// Whether this is a version that is read.
@@ -26,8 +27,8 @@ pub fn is_version(version: u32) -> bool
     FIRST_VERSION <= version && version <= VERSION
 }
 
-/// The level of a file of so many bytes: 0 has the bytes in the inode, 1 has pointers to them, 2 has one indirect block
-/// between, 3 has two.
+/// The level of a file of so many bytes: 0 has the bytes in the inode, 1 has pointers to them, 2
+/// has one indirect block between, 3 has two.
 pub fn level_of(size: u64) -> u8
     ensures { result ≡ level_of size }
 {

@@ -14,8 +14,8 @@ use Rattle.layout.specs.declared.root.Root.{Root}
 use Rattle.layout.specs.declared.version.TheConstants.{VERSION}
 use Rattle.model.specs.Volumes.{Volume}
 use Rattle.blocktree.specs.Trees.{IsSoundAt}
-use Rattle.blocktree.specs.declared.error.ReadError.{ReadError}
-use Rattle.blocktree.specs.declared.error.ReadError.TheVariants as errors
+use Rattle.buffers.specs.declared.error.BlockError.{BlockError}
+use Rattle.buffers.specs.declared.error.BlockError.TheVariants as errors
 use Rattle.blockmap.specs.Parts.{Part}
 use Rattle.blockmap.specs.declared.map.BlockMap.{BlockMap}
 use Rattle.inode.specs.Bases.{StartsFrom}
@@ -39,7 +39,7 @@ use Rattle.inode.proofs.HeldLaws.{starts_based}
 use Rattle.loading.proofs.TreeLaws as trees
 
 -- an error that isn't `Damaged`
-pub refused : {T : Type 0} (P : T → Type 0) (r : Result T ReadError) → IsErr r → (IsErrOf r errors.Damaged → ⊥)
+pub refused : {T : Type 0} (P : T → Type 0) (r : Result T BlockError) → IsErr r → (IsErrOf r errors.Damaged → ⊥)
     → MatchResult r P (λ e. (e ≡ errors.NoMemory) ⊎ (e ≡ errors.Device))
 refused P (Ok x) is undamaged = absurd (false≢true is)
 refused P (Err errors.NoMemory) is undamaged = inl refl

@@ -6,9 +6,9 @@ use Rattle.layout.specs.declared.root.Root.{Root}
 use Rattle.buffers.specs.Reads.{ReadsBlocks}
 use Rattle.buffers.specs.declared.blocks.Blocks.{Ghosts}
 use Rattle.buffers.proofs.ReadLaws.{reads_err}
-use Rattle.blocktree.specs.Errors.{IsFault}
-use Rattle.blocktree.specs.declared.error.ReadError.{ReadError}
-use Rattle.blocktree.specs.declared.error.ReadError.TheVariants.{Device, NoMemory}
+use Rattle.buffers.specs.Errors.{IsFault}
+use Rattle.buffers.specs.declared.error.BlockError.{BlockError}
+use Rattle.buffers.specs.declared.error.BlockError.TheVariants.{Device, NoMemory}
 use Rattle.images.specs.Roots.{whole}
 use Rattle.images.specs.Soundness.{Detail, IsReadable}
 use Rattle.loading.specs.Images.{IsLoadedIn, IsReadableIn}
@@ -16,7 +16,7 @@ use Rattle.loading.specs.Loading.{LoadsUnder}
 use Rattle.loading.specs.declared.under_root.Loaded.{Loaded}
 
 -- a step before has failed
-pub not_loaded : {B U : Type 0} {G : Ghosts B} {a b : B} {r : Root} {e : ReadError} (q : Result Loaded ReadError) → IsErrAnd q (λ f. f ≡ e) → ReadsBlocks {T = U} G IsFault a b (Err e)
+pub not_loaded : {B U : Type 0} {G : Ghosts B} {a b : B} {r : Root} {e : BlockError} (q : Result Loaded BlockError) → IsErrAnd q (λ f. f ≡ e) → ReadsBlocks {T = U} G IsFault a b (Err e)
     → ((detail : Detail) (disk : ℕ → List ℕ) → G.Shows a disk → IsReadableIn detail disk r → IsReadable ((whole disk r).active 2) → MatchResult q (λ l. IsLoadedIn detail disk r l.map l.inodes) (λ e. (e ≡ NoMemory) ⊎ (e ≡ Device)))
     → LoadsUnder G a b r q
 not_loaded (Ok l) is reads loads = absurd is

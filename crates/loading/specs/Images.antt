@@ -26,12 +26,14 @@ use Rattle.images.specs.Sizes.{HoldsVolumeIn}
 use Rattle.images.specs.Soundness.{Detail, IsSoundTree, IsWithin, MapsNumbers, by_bytes, by_sizes}
 use Rattle.images.specs.Faults.{IsTreeGrammar}
 
--- A tree is in its grammar; where the sizes of files alone are known, zeros past their ends aren't asked, but of the maps.
+-- A tree is in its grammar; where the sizes of files alone are known, zeros past their ends aren't
+-- asked, but of the maps.
 abbrev pub IsTreeIn : Detail → Sizes → HeldTree → Type 0
 IsTreeIn by_bytes s t = IsSoundTree s t
 IsTreeIn by_sizes s t = IsTreeGrammar s t × MapsNumbers t
 
--- the active tree under a root is in its grammar, with files as large as its version allows, and its root directory is a directory
+-- the active tree under a root is in its grammar, with files as large as its version allows, and
+-- its root directory is a directory
 pub record IsReadableIn (detail : Detail) (disk : Blocks) (r : Root) : Type 0 where
   pub sound : IsTreeIn detail r.geometry (whole disk r).active
   pub within : IsWithin r.version (whole disk r).active
@@ -49,7 +51,8 @@ pub record IsFileOfInode (inode : Inode) (file : File) : Type 0 where
 abbrev pub inodes_of : HeldTree → ℕ → Inode
 inodes_of t n = (t n).inode
 
--- The map in memory has the entries of a tree's map, for so many blocks. None is changed, and no block is given out.
+-- The map in memory has the entries of a tree's map, for so many blocks. None is changed, and no
+-- block is given out.
 pub record IsMapOf (t : HeldTree) (blocks : ℕ) (map : BlockMap) : Type 0 where
   pub count : map.count ≡ blocks
   pub next : map.next ≡ 2
@@ -58,8 +61,9 @@ pub record IsMapOf (t : HeldTree) (blocks : ℕ) (map : BlockMap) : Type 0 where
   pub entries : (b : ℕ) → entry_at map.parts.items b ≡ entry t b
   pub untouched : (j : ℕ) → IsTouched map.parts.items j → ⊥
 
--- The inodes in memory are those of a tree, in an image of this version and these sizes, and so are the numbers that are in use. None is
--- changed: memory stands for the volume that the tree holds, in so much detail.
+-- The inodes in memory are those of a tree, in an image of this version and these sizes, and so are
+-- the numbers that are in use. None is changed: memory stands for the volume that the tree holds,
+-- in so much detail.
 pub record AreInodesIn (detail : Detail) (disk : Blocks) (version : ℕ) (s : Sizes) (t : HeldTree) (inodes : InodeFile) : Type 0 where
   pub is_version : inodes.version ≡ version
   pub geometry : inodes.geometry ≡ s

@@ -19,7 +19,8 @@ pub record HasKindOfPlace (inodes n : ℕ) (kind : Kind) : Type 0 where
   pub none : n ≡ 0 → kind ≡ Free
   pub past : inodes ≤ n → kind ≡ Free
 
--- these bytes are the inode at place n of an inode file, in an image of this version and these sizes
+-- these bytes are the inode at place n of an inode file, in an image of this version and these
+-- sizes
 pub record IsInodeAt (version : ℕ) (s : Sizes) (n : ℕ) (bytes : List ℕ) : Type 0 where
   pub inode : Inode
   pub is : IsInode version s inode

@@ -6,9 +6,9 @@ use Rattle.layout.specs.declared.TheConstants.{BLOCK_POINTERS}
 use Rattle.layout.specs.declared.root.Root.{Root}
 use Rattle.buffers.specs.Reads.{ReadsBlocks}
 use Rattle.buffers.specs.declared.blocks.Blocks.{Ghosts}
-use Rattle.blocktree.specs.Errors.{IsFault}
-use Rattle.blocktree.specs.declared.error.ReadError.{ReadError}
-use Rattle.blocktree.specs.declared.error.ReadError.TheVariants.{Device, NoMemory}
+use Rattle.buffers.specs.Errors.{IsFault}
+use Rattle.buffers.specs.declared.error.BlockError.{BlockError}
+use Rattle.buffers.specs.declared.error.BlockError.TheVariants.{Device, NoMemory}
 use Rattle.images.specs.Roots.{whole}
 use Rattle.images.specs.Soundness.{Detail, IsReadable}
 use Rattle.inode.specs.Files.{file_block}
@@ -18,9 +18,10 @@ use Rattle.loading.specs.InodeBlocks.{AreInodeBlocks}
 use Rattle.loading.specs.Readings.{AreUnchanged}
 use Rattle.loading.specs.declared.under_root.Loaded.{Loaded}
 
--- The block map and the inodes of an image are read. They fit the root's sizes, and where the root's tree is in its grammar, and its
--- block map can be read, they are what the tree has, and it fails only for want of memory and where a device call failed.
-pub record LoadsUnder {B : Type 0} (G : Ghosts B) (old after : B) (root : Root) (result : Result Loaded ReadError) : Type 0 where
+-- The block map and the inodes of an image are read. They fit the root's sizes, and where the
+-- root's tree is in its grammar, and its block map can be read, they are what the tree has, and it
+-- fails only for want of memory and where a device call failed.
+pub record LoadsUnder {B : Type 0} (G : Ghosts B) (old after : B) (root : Root) (result : Result Loaded BlockError) : Type 0 where
   pub reads : ReadsBlocks G IsFault old after result
   pub blocks : IfOk result (λ l. l.map.count ≡ root.geometry.blocks)
   pub parts : IfOk result (λ l. length l.map.parts.items ≡ div_ceil root.geometry.blocks BLOCK_POINTERS)

@@ -14,7 +14,8 @@ use Rattle.inode.specs.Bodies.{inode_block}
 use Rattle.blockmap.specs.Parts.{Part, Spells}
 use Rattle.blockmap.specs.Maps.{no_part, IsTouched}
 
--- on a disk of so many blocks, all that stands over block i of a file with this body and size is in the grammar
+-- on a disk of so many blocks, all that stands over block i of a file with this body and size is in
+-- the grammar
 abbrev pub IsBodyPath : ℕ → Blocks → Body → ℕ → ℕ → Type 0
 IsBodyPath blocks disk (Inline bytes) size i = Unit {0}
 IsBodyPath blocks disk (Pointers pointers) size i =
@@ -48,7 +49,8 @@ inode_byte disk inode = byte_in (inode_block disk inode)
 abbrev pub inode_bytes_of : Blocks → Inode → List ℕ
 inode_bytes_of disk inode = first_bytes (inode_byte disk inode) inode.size
 
--- the file of a map: all its blocks are stored, and zeros stand past its end, in a block that can be read
+-- the file of a map: all its blocks are stored, and zeros stand past its end, in a block that can
+-- be read
 pub record IsMapFile (disk : Blocks) (inode : Inode) : Type 0 where
   pub stored : IsStored disk inode.body inode.size
   pub last : IsWholeAt disk inode.body inode.size (inode.size / BLOCK_BYTES)

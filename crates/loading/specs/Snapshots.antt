@@ -34,7 +34,8 @@ AreApartAt disk Hole b = Unit {0}
 AreApartAt disk (Block a) Hole = Unit {0}
 AreApartAt disk (Block a) (Block b) = AreOfTwoSnapshots (disk a) (disk b)
 
--- a slot of a root is free or has a snapshot's root block, of no name and order of one in a slot before it
+-- a slot of a root is free or has a snapshot's root block, of no name and order of one in a slot
+-- before it
 abbrev pub FitsSlot : Blocks → Root → ℕ → Type 0
 FitsSlot disk r k =
     IsSnapshotAt r.geometry r.generation disk (slice_index_or r.snapshots k Hole)

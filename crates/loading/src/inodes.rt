@@ -6,15 +6,14 @@ ghost use Rattle.layout.specs.declared.TheConstants.{BLOCK_BYTES};
 ghost use Rattle.layout.specs.declared.inode.Inode.{Inode};
 ghost use Rattle.layout.specs.declared.version.TheConstants.{VERSION};
 ghost use Rattle.buffers.specs.Reads.{ReadsBlocks};
-ghost use Rattle.blocktree.specs.Errors.{IsFault};
+ghost use Rattle.buffers.specs.Errors.{IsFault};
 ghost use Rattle.blocktree.specs.Trees.{IsSoundAt};
 ghost use Rattle.inode.specs.Files.{file_block};
 ghost use Rattle.images.specs.Roots.{inode_part};
 ghost use Rattle.images.specs.Soundness.{IsOrdinary};
 ghost use Rattle.loading.specs.InodeBlocks.{AreInodeBlocks, HasKindOfPlace, IsInodeAt, IsInodeBlock};
 
-use blocktree::ReadError;
-use buffers::Blocks;
+use buffers::{BlockError, Blocks};
 use inode::File;
 use layout::{
     BLOCK_BYTES, Geometry, INODE_BYTES, INODES_PER_BLOCK, Inode, Kind, ROOT_NUMBER, VERSION,
@@ -26,12 +25,12 @@ pub(crate) fn check_inodes<B: Blocks>(
     file: &File,
     version: u32,
     geometry: Geometry,
-) -> Result<(), ReadError>
+) -> Result<(), BlockError>
     ensures reads { ReadsBlocks B.Blocks IsFault blocks.old blocks.new result }
     ensures are { (disk : ℕ → List ℕ) → B.Shows blocks.old disk
         → OnOk result (AreInodeBlocks version geometry (file_block disk file.now)) }
     ensures damaged { (disk : ℕ → List ℕ) → B.Shows blocks.old disk
-        → IsErrOf result ReadError.Damaged
+        → IsErrOf result BlockError.Damaged
         → ((i : ℕ) → IsSoundAt (B.count blocks.old) disk file.now.tree i)
         → AreInodeBlocks version geometry (file_block disk file.now) → ⊥ }
 {
@@ -39,7 +38,7 @@ pub(crate) fn check_inodes<B: Blocks>(
         let location = file.locate(blocks, i)?;
         let bytes = file.bytes(blocks, i, location);
         if !is_inode_block(bytes, INODES_PER_BLOCK * i, version, geometry) {
-            return Err(ReadError::Damaged);
+            return Err(BlockError::Damaged);
         }
     }
     Ok(())
@@ -52,7 +51,7 @@ pub fn own_inode<B: Blocks>(
     number: u32,
     kind: Kind,
     geometry: Geometry,
-) -> Result<Inode, ReadError>
+) -> Result<Inode, BlockError>
     requires { number < INODES_PER_BLOCK }
     ensures reads { ReadsBlocks B.Blocks IsFault blocks.old blocks.new result }
     ensures is { IfOk result (IsInode VERSION geometry) }
@@ -60,7 +59,7 @@ pub fn own_inode<B: Blocks>(
     ensures spelled { (disk : ℕ → List ℕ) → B.Shows blocks.old disk
         → IfOk result (λ i. inode_part (file_block disk file.now 0) number ≡ inode_bytes i) }
     ensures damaged { (disk : ℕ → List ℕ) → B.Shows blocks.old disk
-        → IsErrOf result ReadError.Damaged
+        → IsErrOf result BlockError.Damaged
         → IsSoundAt (B.count blocks.old) disk file.now.tree 0
         → (i : Inode) → IsInode VERSION geometry i → i.kind ≡ kind
         → inode_part (file_block disk file.now 0) number ≡ inode_bytes i → ⊥ }
@@ -69,7 +68,7 @@ pub fn own_inode<B: Blocks>(
     let bytes = file.bytes(blocks, 0, location);
     match read_inode(part(bytes, number), VERSION, geometry) {
         Some(inode) if inode.kind == kind => Ok(inode),
-        _ => Err(ReadError::Damaged),
+        _ => Err(BlockError::Damaged),
     }
 }
 
@@ -133,8 +132,8 @@ pub fn inode_at(bytes: &[u8], place: u32, version: u32, geometry: Geometry) -> O
     }
 }
 
-/// Whether the inode at a place may have this kind: the file system's own have theirs, and none is in use at place 0 and past
-/// the last number.
+/// Whether the inode at a place may have this kind: the file system's own have theirs, and none is
+/// in use at place 0 and past the last number.
 fn kind_fits(kind: Kind, place: u32, inodes: u32) -> bool
     requires { ROOT_NUMBER < inodes }
     ensures { IsTrue result ↔ HasKindOfPlace inodes place kind }

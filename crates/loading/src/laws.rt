@@ -35,14 +35,16 @@ pub fn sound_files_have_sound_paths()
     nodes_are_where_pointers_lead();
 }
 
-/// The blocks of a file in its grammar can be read where the stored ones on the disk can. It does nothing.
+/// The blocks of a file in its grammar can be read where the stored ones on the disk can. It does
+/// nothing.
 pub fn readable_files_are_whole()
     ensures { HaveWholeBodies }
 {
     nodes_are_where_pointers_lead();
 }
 
-/// Of a map's file in its grammar all blocks are stored, and zeros stand past its end. It does nothing.
+/// Of a map's file in its grammar all blocks are stored, and zeros stand past its end. It does
+/// nothing.
 pub fn files_without_holes_are_stored()
     ensures { AreMapFiles }
 {
@@ -56,8 +58,8 @@ pub fn volumes_are_readable()
         → Holds r (whole disk r) first snapshots → IsReadable disk r }
 {}
 
-/// Under a root that holds snapshots, the tree of each is the one under the inode of its inode file, and it is readable. It does
-/// nothing.
+/// Under a root that holds snapshots, the tree of each is the one under the inode of its inode
+/// file, and it is readable. It does nothing.
 pub fn snapshots_are_readable()
     ensures tree { (disk : Blocks) (r : Root) (k : ℕ) (s : Snapshot)
         → HasSnapshot r (whole disk r) k s
@@ -70,8 +72,8 @@ pub fn snapshots_are_readable()
         → IsReadable disk (record r { inode_file = s.inode_file }) }
 {}
 
-/// Under a root whose tree is readable, the inode file has the inodes of the tree, in the newest version, and they hold what the tree holds. It does
-/// nothing.
+/// Under a root whose tree is readable, the inode file has the inodes of the tree, in the newest
+/// version, and they hold what the tree holds. It does nothing.
 pub fn readable_inodes_are_settled()
     ensures settled { (disk : Blocks) (r : Root) (file : File) → IsRoot r → IsReadable disk r
         → IsFileOfInode r.inode_file file

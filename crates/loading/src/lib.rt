@@ -1,5 +1,6 @@
-//! The checkpoint as a mount reads it (loading): the newest root, and under it the inode file, the inode map and the block
-//! map. Each is tested against its format; no directory and no other file is read.
+//! The checkpoint as a mount reads it (loading): the newest root, and under it the inode file, the
+//! inode map and the block map. Each is tested against its format; no directory and no other file
+//! is read.
 #![tactic(auto)]
 
 mod error;

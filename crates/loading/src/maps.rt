@@ -11,7 +11,7 @@ ghost use Rattle.layout.specs.declared.pointer.Pointer.TheVariants.{Hole};
 ghost use Rattle.layout.specs.Version.{greatest_size};
 ghost use Rattle.layout.specs.declared.version.TheConstants.{VERSION};
 ghost use Rattle.buffers.specs.Reads.{ReadsBlocks};
-ghost use Rattle.blocktree.specs.Errors.{IsFault};
+ghost use Rattle.buffers.specs.Errors.{IsFault};
 ghost use Rattle.blocktree.specs.PlaceMaps.{place_at};
 ghost use Rattle.blocktree.specs.Places.{block_count};
 ghost use Rattle.blocktree.specs.Trees.{AreSound, IsSoundAt};
@@ -22,8 +22,8 @@ ghost use Rattle.loading.specs.Readings.{AreParts, AreUnchanged, HasAllPlaces, I
 
 use crate::inodes::is_zero_from;
 use blockmap::MapPart;
-use blocktree::{PlaceMap, ReadError};
-use buffers::Blocks;
+use blocktree::PlaceMap;
+use buffers::{BlockError, Blocks};
 use inode::File;
 use layout::{BLOCK_POINTERS, Geometry, Inode, is_inode_map};
 use std::alloc::Global;
@@ -34,7 +34,7 @@ pub fn load_numbers<B: Blocks>(
     blocks: &mut B,
     inode: Inode,
     geometry: Geometry,
-) -> Result<Vec<u8>, ReadError>
+) -> Result<Vec<u8>, BlockError>
     requires is { IsInode VERSION geometry inode }
     requires kind { inode.kind ≡ kinds.InodeMap }
     ensures reads { ReadsBlocks B.Blocks IsFault blocks.old blocks.new result }
@@ -47,7 +47,7 @@ pub fn load_numbers<B: Blocks>(
     ensures bytes { (disk : ℕ → List ℕ) → B.Shows blocks.old disk
         → IfOk result (λ v. v.items ≡ inode_bytes_of disk inode) }
     ensures damaged { (disk : ℕ → List ℕ) → B.Shows blocks.old disk
-        → IsErrOf result ReadError.Damaged
+        → IsErrOf result BlockError.Damaged
         → ((i : ℕ) → IsBodyPath (B.count blocks.old) disk inode.body inode.size i)
         → IsWholeBody disk inode.body inode.size → IsMapFile disk inode
         → IsInodeMap 0 geometry.inodes (inode_bytes_of disk inode) → ⊥ }
@@ -58,12 +58,12 @@ pub fn load_numbers<B: Blocks>(
     if is_inode_map(&bytes, 0, inodes) {
         Ok(bytes)
     } else {
-        Err(ReadError::Damaged)
+        Err(BlockError::Damaged)
     }
 }
 
 /// All bytes of a file.
-fn read_all<B: Blocks>(alloc: Global, blocks: &mut B, file: &File) -> Result<Vec<u8>, ReadError>
+fn read_all<B: Blocks>(alloc: Global, blocks: &mut B, file: &File) -> Result<Vec<u8>, BlockError>
     ensures reads { ReadsBlocks B.Blocks IsFault blocks.old blocks.new result }
     ensures size { IfOk result (λ v. vec_len v ≡ file.now.size) }
     ensures bytes { (disk : ℕ → List ℕ) → B.Shows blocks.old disk
@@ -71,7 +71,7 @@ fn read_all<B: Blocks>(alloc: Global, blocks: &mut B, file: &File) -> Result<Vec
     ensures sound { (disk : ℕ → List ℕ) → B.Shows blocks.old disk → OnOk result ((i : ℕ)
         → i < block_count file.now.size → IsSoundAt (B.count blocks.old) disk file.now.tree i) }
     ensures damaged { (disk : ℕ → List ℕ) → B.Shows blocks.old disk
-        → IsErrOf result ReadError.Damaged
+        → IsErrOf result BlockError.Damaged
         → ((i : ℕ) → IsSoundAt (B.count blocks.old) disk file.now.tree i) → ⊥ }
 {
     let mut bytes = vec![in alloc; 0u8; file.size() as usize]?;
@@ -85,7 +85,7 @@ pub(crate) fn load_parts<B: Blocks>(
     blocks: &mut B,
     inode: Inode,
     geometry: Geometry,
-) -> Result<Vec<MapPart>, ReadError>
+) -> Result<Vec<MapPart>, BlockError>
     requires is { IsInode VERSION geometry inode }
     requires kind { inode.kind ≡ kinds.BlockMap }
     ensures reads { ReadsBlocks B.Blocks IsFault blocks.old blocks.new result }
@@ -98,7 +98,7 @@ pub(crate) fn load_parts<B: Blocks>(
         (div_ceil geometry.blocks BLOCK_POINTERS) parts.items) }
     ensures unchanged { IfOk result (λ parts. AreUnchanged parts.items) }
     ensures damaged { (disk : ℕ → List ℕ) → B.Shows blocks.old disk
-        → IsErrOf result ReadError.Damaged
+        → IsErrOf result BlockError.Damaged
         → ((i : ℕ) → IsBodyPath (B.count blocks.old) disk inode.body inode.size i)
         → IsWholeBody disk inode.body inode.size → IsMapFile disk inode → ⊥ }
 {
@@ -112,8 +112,9 @@ pub(crate) fn load_parts<B: Blocks>(
     Ok(parts)
 }
 
-/// The file of a map: all of its blocks are stored, and zeros stand past its end. Of its blocks only the last one is read.
-pub fn map_file<B: Blocks>(alloc: Global, blocks: &mut B, inode: Inode) -> Result<File, ReadError>
+/// The file of a map: all of its blocks are stored, and zeros stand past its end. Of its blocks
+/// only the last one is read.
+pub fn map_file<B: Blocks>(alloc: Global, blocks: &mut B, inode: Inode) -> Result<File, BlockError>
     requires { inode.size ≤ greatest_size VERSION }
     ensures reads { ReadsBlocks B.Blocks IsFault blocks.old blocks.new result }
     ensures size { IfOk result (λ f. f.size ≡ inode.size) }
@@ -124,7 +125,7 @@ pub fn map_file<B: Blocks>(alloc: Global, blocks: &mut B, inode: Inode) -> Resul
     ensures file { (disk : ℕ → List ℕ) → B.Shows blocks.old disk
         → OnOk result (IsMapFile disk inode) }
     ensures damaged { (disk : ℕ → List ℕ) → B.Shows blocks.old disk
-        → IsErrOf result ReadError.Damaged
+        → IsErrOf result BlockError.Damaged
         → ((i : ℕ) → IsBodyPath (B.count blocks.old) disk inode.body inode.size i)
         → IsMapFile disk inode → ⊥ }
 {
@@ -135,19 +136,19 @@ pub fn map_file<B: Blocks>(alloc: Global, blocks: &mut B, inode: Inode) -> Resul
 }
 
 /// Tests that each block that the settled inode counts is stored.
-fn check_stored<B: Blocks>(alloc: Global, blocks: &mut B, file: &File) -> Result<(), ReadError>
+fn check_stored<B: Blocks>(alloc: Global, blocks: &mut B, file: &File) -> Result<(), BlockError>
     ensures reads { ReadsBlocks B.Blocks IsFault blocks.old blocks.new result }
     ensures stored { (disk : ℕ → List ℕ) → B.Shows blocks.old disk
         → OnOk result (HasAllPlaces disk file.now.tree) }
     ensures damaged { (disk : ℕ → List ℕ) → B.Shows blocks.old disk
-        → IsErrOf result ReadError.Damaged
+        → IsErrOf result BlockError.Damaged
         → AreSound (B.count blocks.old) disk file.now.tree
         → HasAllPlaces disk file.now.tree → ⊥ }
 {
     let tree = file.tree();
     let places = tree.settled_nodes(alloc, blocks, 0)?;
     if has_hole(&places, tree.count()) {
-        return Err(ReadError::Damaged);
+        return Err(BlockError::Damaged);
     }
     Ok(())
 }
@@ -168,7 +169,7 @@ fn has_hole(places: &PlaceMap, count: u32) -> bool
 }
 
 /// Tests that zeros stand past a file's end in its last block.
-fn check_end<B: Blocks>(blocks: &mut B, file: &File) -> Result<(), ReadError>
+fn check_end<B: Blocks>(blocks: &mut B, file: &File) -> Result<(), BlockError>
     ensures reads { ReadsBlocks B.Blocks IsFault blocks.old blocks.new result }
     ensures ends { (disk : ℕ → List ℕ) → B.Shows blocks.old disk
         → OnOk result ((p : ℕ) → file.now.size ≤ p → p / 4096 ≡ file.now.size / 4096
@@ -176,7 +177,7 @@ fn check_end<B: Blocks>(blocks: &mut B, file: &File) -> Result<(), ReadError>
     ensures sound { (disk : ℕ → List ℕ) → B.Shows blocks.old disk
         → OnOk result (IsSoundAt (B.count blocks.old) disk file.now.tree (file.now.size / 4096)) }
     ensures damaged { (disk : ℕ → List ℕ) → B.Shows blocks.old disk
-        → IsErrOf result ReadError.Damaged
+        → IsErrOf result BlockError.Damaged
         → IsSoundAt (B.count blocks.old) disk file.now.tree (file.now.size / 4096)
         → EndsAt file.now.size (byte_at disk file.now) → ⊥ }
 {
@@ -186,6 +187,6 @@ fn check_end<B: Blocks>(blocks: &mut B, file: &File) -> Result<(), ReadError>
     if is_zero_from(file.bytes(blocks, last, location), (size % 4096) as usize) {
         Ok(())
     } else {
-        Err(ReadError::Damaged)
+        Err(BlockError::Damaged)
     }
 }

@@ -21,8 +21,9 @@ pub struct Newest {
     pub slot: u32,
 }
 
-/// Finds the newest root. `NoRoot` where no slot of the station that can be read holds one, `Damaged` where two are of one generation or of
-/// different sizes, or where the station has another size; `Device` where a read failed.
+/// Finds the newest root. `NoRoot` where no slot of the station that can be read holds one,
+/// `Damaged` where two are of one generation or of different sizes, or where the station has
+/// another size; `Device` where a read failed.
 pub fn newest_root<S: Station>(station: &mut S) -> Result<Newest, RootError>
     ensures reads { OnlyReads (λ e. e ≡ RootError.Device)
         (S.meaning station.old) (S.meaning station.new) result }
@@ -132,7 +133,8 @@ fn newer_root(first: Root, second: Root) -> Result<Newest, RootError>
     }
 }
 
-/// The root in a slot, if the station has the slot and a root is there. A slot that can't be read holds none.
+/// The root in a slot, if the station has the slot and a root is there. A slot that can't be read
+/// holds none.
 fn read_slot<S: Station>(station: &mut S, sector: u32) -> Result<Option<Root>, RootError>
     ensures reads { OnlyReads (λ e. e ≡ RootError.Device)
         (S.meaning station.old) (S.meaning station.new) result }

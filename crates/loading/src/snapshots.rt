@@ -9,27 +9,26 @@ ghost use Rattle.layout.specs.declared.version.TheConstants.{SNAPSHOT_SLOTS, VER
 ghost use Rattle.layout.specs.declared.pointer.Pointer.TheVariants.{Hole};
 ghost use Rattle.buffers.specs.Disks.{IsWhole};
 ghost use Rattle.buffers.specs.Reads.{ReadsBlocks};
-ghost use Rattle.blocktree.specs.Errors.{IsFault};
+ghost use Rattle.buffers.specs.Errors.{IsFault};
 ghost use Rattle.images.specs.Roots.{whole};
 ghost use Rattle.images.specs.Snapshots.{AreSnapshots};
 ghost use Rattle.loading.specs.Snapshots.{AreOfTwoSnapshots, AreApartAt, IsSnapshotAt};
 
-use blocktree::ReadError;
-use buffers::Blocks;
+use buffers::{BlockError, Blocks};
 use images::snapshots_are_what_their_bytes_spell;
 use layout::{BLOCK_BYTES, Pointer, Root, SNAPSHOT_SLOTS, SnapRoot, VERSION};
 
-/// Tests the root block of each snapshot of a root: `Damaged` where one is no snapshot's root in an image of
-/// these sizes, or has an order above the root's generation, and where two have one name or one order. So
-/// after Ok each slot that isn't free has a snapshot.
-pub fn check_snapshots<B: Blocks>(blocks: &mut B, root: &Root) -> Result<(), ReadError>
+/// Tests the root block of each snapshot of a root: `Damaged` where one is no snapshot's root in an
+/// image of these sizes, or has an order above the root's generation, and where two have one name
+/// or one order. So after Ok each slot that isn't free has a snapshot.
+pub fn check_snapshots<B: Blocks>(blocks: &mut B, root: &Root) -> Result<(), BlockError>
     requires root { IsRoot root.now }
     requires size { B.count blocks.old ≡ root.now.geometry.blocks }
     ensures reads { ReadsBlocks B.Blocks IsFault blocks.old blocks.new result }
     ensures snapshots { (disk : ℕ → List ℕ) → B.Shows blocks.old disk
         → OnOk result (AreSnapshots root.now (whole disk root.now)) }
     ensures damaged { (disk : ℕ → List ℕ) → B.Shows blocks.old disk
-        → IsErrOf result ReadError.Damaged → AreSnapshots root.now (whole disk root.now) → ⊥ }
+        → IsErrOf result BlockError.Damaged → AreSnapshots root.now (whole disk root.now) → ⊥ }
 {
     snapshots_are_what_their_bytes_spell();
     for k in 0..SNAPSHOT_SLOTS {
@@ -44,7 +43,7 @@ fn check_apart<B: Blocks>(
     blocks: &mut B,
     snapshots: &[Pointer; SNAPSHOT_SLOTS],
     k: usize,
-) -> Result<(), ReadError>
+) -> Result<(), BlockError>
     requires slot { k < SNAPSHOT_SLOTS }
     requires within { All (PointsBelow (B.count blocks.old)) snapshots.now }
     ensures reads { ReadsBlocks B.Blocks IsFault blocks.old blocks.new result }
@@ -52,7 +51,7 @@ fn check_apart<B: Blocks>(
         → AreApartAt disk (slice_index_or snapshots.now l Hole)
         (slice_index_or snapshots.now k Hole)) }
     ensures damaged { (disk : ℕ → List ℕ) → B.Shows blocks.old disk
-        → IsErrOf result ReadError.Damaged
+        → IsErrOf result BlockError.Damaged
         → ((l : ℕ) → l ≤ k → IsWhole (pointed disk (slice_index_or snapshots.now l Hole)))
         → ((l : ℕ) → l < k → AreApartAt disk (slice_index_or snapshots.now l Hole)
         (slice_index_or snapshots.now k Hole)) → ⊥ }
@@ -60,21 +59,21 @@ fn check_apart<B: Blocks>(
     for earlier in 0..k {
         let apart = are_apart(blocks, snapshots[earlier], snapshots[k])?;
         if !apart {
-            return Err(ReadError::Damaged);
+            return Err(BlockError::Damaged);
         }
     }
     Ok(())
 }
 
 /// Whether the snapshots at two pointers, if there are two, differ in name and in order.
-pub fn are_apart<B: Blocks>(blocks: &mut B, a: Pointer, b: Pointer) -> Result<bool, ReadError>
+pub fn are_apart<B: Blocks>(blocks: &mut B, a: Pointer, b: Pointer) -> Result<bool, BlockError>
     requires first { PointsBelow (B.count blocks.old) a }
     requires second { PointsBelow (B.count blocks.old) b }
     ensures reads { ReadsBlocks B.Blocks IsFault blocks.old blocks.new result }
     ensures apart { (disk : ℕ → List ℕ) → B.Shows blocks.old disk
         → IfOk result (λ apart. IsTrue apart ↔ AreApartAt disk a b) }
     ensures damaged { (disk : ℕ → List ℕ) → B.Shows blocks.old disk
-        → IsErrOf result ReadError.Damaged
+        → IsErrOf result BlockError.Damaged
         → IsWhole (pointed disk a) → IsWhole (pointed disk b) → ⊥ }
 {
     let Pointer::Block(a) = a else {
@@ -114,13 +113,13 @@ pub fn check_snapshot<B: Blocks>(
     blocks: &mut B,
     pointer: Pointer,
     root: &Root,
-) -> Result<(), ReadError>
+) -> Result<(), BlockError>
     requires { PointsBelow (B.count blocks.old) pointer }
     ensures reads { ReadsBlocks B.Blocks IsFault blocks.old blocks.new result }
     ensures is { (disk : ℕ → List ℕ) → B.Shows blocks.old disk
         → OnOk result (IsSnapshotAt root.now.geometry root.now.generation disk pointer) }
     ensures damaged { (disk : ℕ → List ℕ) → B.Shows blocks.old disk
-        → IsErrOf result ReadError.Damaged
+        → IsErrOf result BlockError.Damaged
         → IsSnapshotAt root.now.geometry root.now.generation disk pointer → ⊥ }
 {
     let Pointer::Block(place) = pointer else {
@@ -129,6 +128,6 @@ pub fn check_snapshot<B: Blocks>(
     blocks.make_resident(place)?;
     match SnapRoot::read(blocks.bytes(place)) {
         Some(snapshot) if is_of(&snapshot, root) => Ok(()),
-        _ => Err(ReadError::Damaged),
+        _ => Err(BlockError::Damaged),
     }
 }

@@ -14,9 +14,9 @@ use Rattle.layout.specs.declared.pointer.Pointer.TheVariants.{Hole}
 use Rattle.layout.specs.declared.root.Root.{Root}
 use Rattle.layout.specs.Version.{snapshot_slots}
 use Rattle.layout.specs.declared.version.TheConstants.{SNAPSHOT_SLOTS, VERSION}
-use Rattle.model.specs.Records.{count_nameless}
+use Rattle.model.specs.Records.{count_orphans}
 use Rattle.model.specs.Room.{fixed_of}
-use Rattle.model.specs.Volumes.{is_nameless}
+use Rattle.model.specs.Volumes.{is_orphan}
 use Rattle.conspoint.specs.Drafts.{HasAll}
 use Rattle.conspoint.specs.declared.draft.Draft.{Draft}
 use Rattle.images.specs.FirstRoots.{IsFirst, root_alone_volume}
@@ -52,17 +52,17 @@ ones_from f next (suc n) one = elim (cases_lt n next) [
   | inr ge ↦ omega (arith, ones_from f next n one, one n ge)
 ]
 
--- the empty directory is no file without names
-named : (n : ℕ) → is_nameless (root_alone_volume n) ≡ false
+-- the empty directory is no orphan
+named : (n : ℕ) → is_orphan (root_alone_volume n) ≡ false
 named zero = refl
 named (suc zero) = refl
 named (suc (suc zero)) = refl
 named (suc (suc (suc zero))) = refl
 named (suc (suc (suc (suc n)))) = refl
 
-none_nameless : (n : ℕ) → count_nameless n root_alone_volume ≡ 0
-none_nameless zero = refl
-none_nameless (suc n) = rw (named n) (omega (arith, none_nameless n))
+no_orphans : (n : ℕ) → count_orphans n root_alone_volume ≡ 0
+no_orphans zero = refl
+no_orphans (suc n) = rw (named n) (omega (arith, no_orphans n))
 
 module _ (r : Root) (d : Draft) (version : r.version ≡ VERSION) (generation : r.generation ≡ 1) (are : AreSizes r.geometry) (none : r.snapshots ≡ replicate SNAPSHOT_SLOTS Hole) (has : HasTree r.geometry d r.inode_file) where
   pub root_is : (e : Blocks) → HasAll e d.blocks.items → IsRoot r
@@ -91,7 +91,7 @@ module _ (r : Root) (d : Draft) (version : r.version ≡ VERSION) (generation : 
     pub reserve_is : fixed_of r.geometry.blocks + d.map.next ≤ r.geometry.blocks → HasReserve r (whole e r) root_alone_volume []
     reserve_is few =
         let free = ones_from (free_at (whole e r).active) d.map.next r.geometry.blocks (λ b past. one_free (entry (whole e r).active b) (unused b past)) in
-        omega (arith, few, free, none_nameless r.geometry.inodes)
+        omega (arith, few, free, no_orphans r.geometry.inodes)
 
   pub first_is : (e : Blocks) → HasAll e d.blocks.items → IsFirst r e has.numbers has.map
   first_is e all = record { root = root_is e all; version = version; slots = no_slot r none; tree = has.tree e all }

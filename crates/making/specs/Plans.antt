@@ -26,14 +26,16 @@ use Rattle.images.specs.Soundness.{HasNoHole, IsSoundFile}
 use Rattle.images.specs.States.{HasReserve, Holds}
 use Rattle.making.specs.Starts.{system_entry}
 
--- on a disk e the file of this inode is in its grammar and stands in just these blocks, each for one node
+-- on a disk e the file of this inode is in its grammar and stands in just these blocks, each for
+-- one node
 pub record StandsInJust (s : Sizes) (e : Blocks) (f : Inode) (taken : ℕ → Bool) : Type 0 where
   pub named : (b : ℕ) → Names (held e f) b ↔ (taken b ≡ true)
   pub once : IsOnce (held e f)
   pub sound : IsSoundFile s (held e f)
 
--- A file is planned: the blocks that were given out for it are in the active tree's set of the map, which else is as before, and
--- each disk that has the planned blocks, and is one of these, has the file in them.
+-- A file is planned: the blocks that were given out for it are in the active tree's set of the map,
+-- which else is as before, and each disk that has the planned blocks, and is one of these, has the
+-- file in them.
 pub record HasFileOn (IsOne : Blocks → Type 0) (s : Sizes) (old new : Draft) (f : Inode) : Type 0 where
   pub taken : ℕ → Bool
   pub given : (b : ℕ) → taken b ≡ true → WasTaken old new b
@@ -53,7 +55,8 @@ pub record IsNumbersOn (e : Blocks) (f : Inode) : Type 0 where
   pub whole : HasNoHole (held e f)
   pub taken : (n : ℕ) → IsTaken (content_bytes (content_of (held e f))) n ↔ (n < FIRST_NUMBER)
 
--- on a disk e this is the inode of an inode file that has its first block at this place, and no other
+-- on a disk e this is the inode of an inode file that has its first block at this place, and no
+-- other
 pub record IsTopOn (e : Blocks) (first : ℕ) (f : Inode) : Type 0 where
   pub kind : f.kind ≡ kinds.InodeFile
   pub blocks : (i : ℕ) → file_block (held e f) i ≡ (if i == 0 then e first else zeros 4096)
@@ -65,7 +68,8 @@ pub record IsDraftMapOn (e : Blocks) (d : Draft) (f : Inode) : Type 0 where
   pub entries : (b : ℕ) → map_entry (file_block (held e f) (b / 1024)) (b % 1024)
       ≡ entry_at d.map.parts.items b
 
--- the map of a draft is that of a disk of so many blocks of which none is in use, with changes, and is all to be stored
+-- the map of a draft is that of a disk of so many blocks of which none is in use, with changes, and
+-- is all to be stored
 pub record IsPlacedOver (blocks : ℕ) (d : Draft) : Type 0 where
   pub count : d.map.count ≡ blocks
   pub parts : length d.map.parts.items ≡ div_ceil blocks BLOCK_POINTERS
@@ -80,8 +84,9 @@ pub record HasTree (s : Sizes) (d : Draft) (top : Inode) : Type 0 where
   pub free : OnEach d (λ e. (b : ℕ) → d.map.next ≤ b → entry (first_tree e top numbers map) b ≡ 0)
   pub kind : top.kind ≡ kinds.InodeFile
 
--- The first consistency point of an image of these sizes, of which nothing is written: its root, of the first generation and for slot A,
--- leads to the root directory alone on each disk that has the planned blocks.
+-- The first consistency point of an image of these sizes, of which nothing is written: its root, of
+-- the first generation and for slot A, leads to the root directory alone on each disk that has the
+-- planned blocks.
 pub record IsFirstPoint (s : Sizes) (p : Planned) (r : Root) : Type 0 where
   pub none : p.written ≡ 0
   pub slot : p.slot ≡ SLOT_A

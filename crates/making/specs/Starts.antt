@@ -1,4 +1,5 @@
--- What a new image starts from: a disk of zeros of which no block is in use, and the bytes of its first files.
+-- What a new image starts from: a disk of zeros of which no block is in use, and the bytes of its
+-- first files.
 use Rattle.std.specs.Prelude.{ℕ, ◌≡◌, ◌+◌, ◌*◌, ◌<◌, List, ◌∷◌, length, slice_index, true, ◌==◌, nat_lt, if◌then◌else◌}
 use Rattle.std.specs.Int.{div_ceil}
 use Rattle.layout.specs.Bytes.{zeros}

@@ -15,8 +15,8 @@ pub(crate) fn clear<S: Station>(station: &mut S, geometry: Geometry) -> Result<(
     ensures cleared { (S.meaning station.old).is_honest
         → OnOk result (HasNoRoots geometry.half (S.meaning station.new).seen) }
 {
-    // The gates first, so that no record stands behind a root that it isn't of: without its newest root an image might open
-    // by an older one.
+    // The gates first, so that no record stands behind a root that it isn't of: without its newest
+    // root an image might open by an older one.
     close_halves(station, geometry)?;
     empty_slots(station)
 }
@@ -34,7 +34,7 @@ fn close_halves<S: Station>(station: &mut S, geometry: Geometry) -> Result<(), D
     Ok(())
 }
 
-/// Empties both slots, and settles that.
+/// Empties both slots, and makes that durable.
 fn empty_slots<S: Station>(station: &mut S) -> Result<(), DeviceFault>
     requires { 16 ≤ (S.meaning station.old).sectors }
     ensures same { IsSameStation (S.meaning station.old) (S.meaning station.new) }

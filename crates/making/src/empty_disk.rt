@@ -1,9 +1,10 @@
-//! A disk of zeros: a new image's files are placed over nothing, so nothing of a device is read for it.
+//! A disk of zeros: a new image's files are placed over nothing, so nothing of a device is read for
+//! it.
 
 ghost use Rattle.std.specs.Prelude.{◌≡◌, ℕ, IfOk};
 ghost use Rattle.layout.specs.Bytes.{zeros};
 
-use buffers::{Block, Blocks, BufferError};
+use buffers::{Block, BlockError, Blocks};
 use layout::{BLOCK_BYTES, BlockNumber, is_indirect_block};
 use std::alloc::{AllocError, Global};
 
@@ -42,7 +43,7 @@ impl Blocks for EmptyDisk {
         self.count
     }
 
-    fn make_resident(&mut self, _place: BlockNumber) -> Result<(), BufferError> {
+    fn make_resident(&mut self, _place: BlockNumber) -> Result<(), BlockError> {
         Ok(())
     }
 

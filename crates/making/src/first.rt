@@ -27,7 +27,8 @@ use layout::{
 use placement::{place_file, place_file_but_first};
 use std::alloc::{AllocError, Global};
 
-/// The first consistency point of a new image, planned: what is to be written, and the root that comes into force then.
+/// The first consistency point of a new image, planned: what is to be written, and the root that
+/// comes into force then.
 #[derive(Debug, Drop)]
 pub struct FirstPoint {
     pub plan: Plan,
@@ -56,7 +57,8 @@ fn place_numbers(
     Ok(placed.inode)
 }
 
-/// Places the inode file. Of its first block, which has the block map's inode, only the place is reserved.
+/// Places the inode file. Of its first block, which has the block map's inode, only the place is
+/// reserved.
 fn place_top(
     alloc: Global,
     draft: &mut Draft,
@@ -135,8 +137,9 @@ fn plan_files(alloc: Global, draft: &mut Draft, geometry: Geometry) -> Result<In
     Ok(inode)
 }
 
-/// Plans the first consistency point of an image of this geometry: every place and every byte of it, and its root, of generation
-/// 1 and for slot A. Nothing is read and nothing is written. `NoMemory` is the only error: the least disk has room for it.
+/// Plans the first consistency point of an image of this geometry: every place and every byte of
+/// it, and its root, of generation 1 and for slot A. Nothing is read and nothing is written.
+/// `NoMemory` is the only error: the least disk has room for it.
 pub fn plan_first(alloc: Global, geometry: Geometry) -> Result<FirstPoint, PlanError>
     ensures point { IfOk result (λ p. IsFirstPoint geometry p.plan p.root) }
     ensures memory { IfErr result (λ e. e ≡ PlanError.NoMemory) }

@@ -18,11 +18,12 @@ use layout::Geometry;
 use station::Station;
 use std::alloc::Global;
 
-/// Makes an image of an empty root directory on a station of just its size: `8 * blocks` sectors and an NVRAM of
-/// `2 * half` bytes. Whatever the station held before is gone. It is planned whole, then written as a consistency point is.
-/// `BadSize` where a number is out of its range or the station has another size, and `NoMemory` where there was no memory for the
-/// plan, which is all that can refuse one: no device call is made then. `Device` where a device call failed, and what is left
-/// then is no image.
+/// Makes an image of an empty root directory on a station of just its size: `8 * blocks` sectors
+/// and an NVRAM of `2 * half` bytes. Whatever the station held before is gone. It is planned whole,
+/// then written as a consistency point is. `BadSize` where a number is out of its range or the
+/// station has another size, and `NoMemory` where there was no memory for the plan, which is all
+/// that can refuse one: no device call is made then. `Device` where a device call failed, and what
+/// is left then is no image.
 pub fn make<S: Station>(
     alloc: Global,
     station: S,

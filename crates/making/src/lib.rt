@@ -1,5 +1,6 @@
-//! The first checkpoint (making), which makes an image: a consistency point of an empty root directory and the file system's own
-//! three files, is planned over a disk of which no block is in use, and written to a station that is cleared before.
+//! The first checkpoint (making), which makes an image: a consistency point of an empty root
+//! directory and the file system's own three files, is planned over a disk of which no block is in
+//! use, and written to a station that is cleared before.
 #![tactic(auto)]
 
 mod clearing;

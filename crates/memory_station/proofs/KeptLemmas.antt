@@ -9,9 +9,9 @@ use Rattle.station.proofs.DiskLemmas.{cases_reach, reaches-below, reaches-past, 
 use Rattle.memory_station.specs.Device.{IsOneOf, IsLeftOf}
 use Rattle.memory_station.specs.Unsynced.{parts_of, written_to, mark_of, marked, after_mark, kept_value}
 use Rattle.memory_station.specs.declared.history.SectorWrite.{SectorWrite}
-use Rattle.memory_station.specs.declared.keep.Keep.{Keep}
-use Rattle.memory_station.specs.declared.keep.Mark.{Mark}
-use Rattle.memory_station.specs.declared.keep.Mark.TheVariants.{Dropped, Kept, Lost}
+use Rattle.memory_station.specs.declared.cut_outcome.CutOutcome.{CutOutcome}
+use Rattle.memory_station.specs.declared.cut_outcome.Mark.{Mark}
+use Rattle.memory_station.specs.declared.cut_outcome.Mark.TheVariants.{Dropped, Kept, Lost}
 
 pub written_to-append : (n : ℕ) (ws vs : List SectorWrite) → written_to n (ws ++ vs) ≡ written_to n ws ++ written_to n vs
 unfolding written_to
@@ -82,7 +82,7 @@ disk_with-one w disk n whole = rw (reaches-one w n whole) (elim (cases_eq w.sect
 ])
 
 -- one write more
-pub kept_value-push : (keep : Keep) (i : ℕ) (ws : List SectorWrite) (w : SectorWrite) (n : ℕ) (value : Sector) → kept_value keep i (ws ++ w ∷ []) n value ≡ after_mark (mark_of keep (i + length ws)) w n (kept_value keep i ws n value)
+pub kept_value-push : (keep : CutOutcome) (i : ℕ) (ws : List SectorWrite) (w : SectorWrite) (n : ℕ) (value : Sector) → kept_value keep i (ws ++ w ∷ []) n value ≡ after_mark (mark_of keep (i + length ws)) w n (kept_value keep i ws n value)
 unfolding kept_value
 kept_value-push keep i [] w n value = rw add-zero refl
 kept_value-push keep i (x ∷ ws) w n value =
@@ -104,7 +104,7 @@ IsKept-earlier x Dropped bytes value written (inr lost) = inr (lost.0, omega ari
 IsKept-earlier x Kept bytes value written (inr lost) = inr (lost.0, omega arith)
 IsKept-earlier x Lost bytes value written (inr lost) = inr (lost.0, omega arith)
 
-kept_value-kept : (keep : Keep) (i : ℕ) (ws : List SectorWrite) (n : ℕ) (value : Sector) → IsKept (kept_value keep i ws n value) value (written_to n ws)
+kept_value-kept : (keep : CutOutcome) (i : ℕ) (ws : List SectorWrite) (n : ℕ) (value : Sector) → IsKept (kept_value keep i ws n value) value (written_to n ws)
 unfolding kept_value written_to
 kept_value-kept keep i [] n value = inl (inl refl)
 kept_value-kept keep i (w ∷ ws) n value =
@@ -114,11 +114,11 @@ kept_value-kept keep i (w ∷ ws) n value =
     ]
 
 -- a cut may leave it
-pub kept_value-left : (keep : Keep) (ws : List SectorWrite) (n : ℕ) (value : Sector) → IsLeftOf (kept_value keep 0 ws n value) (value ∷ written_to n ws)
+pub kept_value-left : (keep : CutOutcome) (ws : List SectorWrite) (n : ℕ) (value : Sector) → IsLeftOf (kept_value keep 0 ws n value) (value ∷ written_to n ws)
 kept_value-left keep ws n value = elim (kept_value-kept keep 0 ws n value) [ inl one ↦ inl one | inr lost ↦ inr (lost.0, omega (arith, lost.1)) ]
 
 -- after the i-th of the writes
-pub kept_value-more : (keep : Keep) (ws : List SectorWrite) (i : ℕ) (d : SectorWrite) (n : ℕ) (start disk : Sector) → i < length ws → disk ≡ kept_value keep 0 (take i ws) n start → after_mark (mark_of keep i) (get_or ws i d) n disk ≡ kept_value keep 0 (take (i + 1) ws) n start
+pub kept_value-more : (keep : CutOutcome) (ws : List SectorWrite) (i : ℕ) (d : SectorWrite) (n : ℕ) (start disk : Sector) → i < length ws → disk ≡ kept_value keep 0 (take i ws) n start → after_mark (mark_of keep i) (get_or ws i d) n disk ≡ kept_value keep 0 (take (i + 1) ws) n start
 kept_value-more keep ws i d n start disk lt before =
     let place : 0 + length (take i ws) ≡ i = simp length-take (omega arith) in
     rw (take_more ws i d lt, kept_value-push keep 0 (take i ws) (get_or ws i d) n start, place, ← before) refl

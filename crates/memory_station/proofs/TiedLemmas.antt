@@ -10,12 +10,12 @@ use Rattle.memory_station.specs.Unsynced.{parts_of, written_to}
 use Rattle.memory_station.specs.declared.history.Call.{Call}
 use Rattle.memory_station.specs.declared.history.Call.TheVariants.{Read, Write, NvWrite, Sync}
 use Rattle.memory_station.specs.declared.history.SectorWrite.{SectorWrite}
-use Rattle.memory_station.specs.declared.keep.Keep.{Keep}
+use Rattle.memory_station.specs.declared.cut_outcome.CutOutcome.{CutOutcome}
 use Rattle.memory_station.proofs.KeptLemmas.{written_to-append, written_to-write, kept_value-left}
 use Rattle.memory_station.specs.DeviceLaws.{SeenIsHeld}
 use Rattle.memory_station.proofs.DeviceLemmas.{after_all-push}
 
-module _ (d : Device) (disk : ℕ → Sector) (nvram : List ℕ) (st : ℕ → Sector) (un : List SectorWrite) (keep : Keep) where
+module _ (d : Device) (disk : ℕ → Sector) (nvram : List ℕ) (st : ℕ → Sector) (un : List SectorWrite) (keep : CutOutcome) where
   pub tied-read : (is_cut : Bool) → IsTied d disk nvram st un is_cut keep → IsTied (after d Read) disk nvram st un is_cut keep
   unfolding after
   tied-read is_cut tied = tied
@@ -80,7 +80,7 @@ module _ (d : Device) (disk : ℕ → Sector) (nvram : List ℕ) (st : ℕ → S
     nvram = sym tied.nvram_is;
   }
 
-pub tied-load : (bytes nvram bad first_disk first_nvram first_bad : List ℕ) (disk st : ℕ → Sector) (calls : List Call) (un : List SectorWrite) (keep : Keep) → first_disk ≡ bytes → first_nvram ≡ nvram → first_bad ≡ bad → ((n : ℕ) → disk n ≡ sectors_with bytes bad n) → ((n : ℕ) → st n ≡ sectors_with bytes bad n) → calls ≡ [] → un ≡ []
+pub tied-load : (bytes nvram bad first_disk first_nvram first_bad : List ℕ) (disk st : ℕ → Sector) (calls : List Call) (un : List SectorWrite) (keep : CutOutcome) → first_disk ≡ bytes → first_nvram ≡ nvram → first_bad ≡ bad → ((n : ℕ) → disk n ≡ sectors_with bytes bad n) → ((n : ℕ) → st n ≡ sectors_with bytes bad n) → calls ≡ [] → un ≡ []
     → IsTied (after_all (fresh first_disk first_nvram first_bad) calls) disk nvram st un false keep
 unfolding after_all written_to
 tied-load bytes nvram bad first_disk first_nvram first_bad disk st calls un keep b n l d s c u = rw (b, n, l, c, u) record {
@@ -91,7 +91,7 @@ tied-load bytes nvram bad first_disk first_nvram first_bad disk st calls un keep
 }
 
 -- after one call more, which the list has
-module _ (first : Device) (calls calls' : List Call) (disk : ℕ → Sector) (nvram : List ℕ) (st : ℕ → Sector) (un : List SectorWrite) (is_cut : Bool) (keep : Keep) (tied : IsTied (after_all first calls) disk nvram st un is_cut keep) where
+module _ (first : Device) (calls calls' : List Call) (disk : ℕ → Sector) (nvram : List ℕ) (st : ℕ → Sector) (un : List SectorWrite) (is_cut : Bool) (keep : CutOutcome) (tied : IsTied (after_all first calls) disk nvram st un is_cut keep) where
   pub tied_with-read : (added : Bool) → calls' ≡ (if added then calls ++ Read ∷ [] else calls) → IsTied (after_all first calls') disk nvram st un is_cut keep
   tied_with-read false e = rw e tied
   tied_with-read true e = rw (e, after_all-push first calls Read) (tied-read (after_all first calls) disk nvram st un keep is_cut tied)

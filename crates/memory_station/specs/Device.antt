@@ -1,7 +1,7 @@
--- A disk and an NVRAM as their calls leave them, and what a power cut then may leave.
--- A disk writes a sector whole or not at all, and in any order until it is told to sync; an NVRAM keeps each byte that
--- reached it. An NVRAM behind a file system on such a disk is described by Hitz, Lau and Malcolm, "File System Design
--- for an NFS File Server Appliance", USENIX Winter 1994.
+-- A disk and an NVRAM as their calls leave them, and what a power cut then may leave. A disk writes
+-- a sector whole or not at all, and in any order until it is told to sync; an NVRAM keeps each byte
+-- that reached it. An NVRAM behind a file system on such a disk is described by Hitz, Lau and
+-- Malcolm, "File System Design for an NFS File Server Appliance", USENIX Winter 1994.
 use Rattle.std.specs.Prelude.{◌≡◌, ◌⊎◌, ℕ, zero, suc, ◌/◌, ◌%◌, ◌^◌, ◌<◌, ◌≤◌, List, [], ◌∷◌, ◌++◌, length, get_or, take, fold, if◌then◌else◌}
 use Rattle.station.specs.Images.{Images, Sector, unreadable, sector_with, part_of, reaches, disk_with, nvram_with}
 use Rattle.memory_station.specs.Disk.{sectors_with}
@@ -11,7 +11,8 @@ use Rattle.memory_station.specs.declared.history.Call.TheVariants.{Read, Write, 
 pub record Device : Type 0 where
   -- what a read of each sector gives
   pub seen : ℕ → Sector
-  -- what a cut may leave in each sector: its settled value and each one written since the last sync that succeeded
+  -- what a cut may leave in each sector: its settled value and each one written since the last sync
+  -- that succeeded
   pub held : ℕ → List Sector
   pub nvram : List ℕ
 
@@ -60,7 +61,8 @@ IsOneOf x (y ∷ ys) = (x ≡ y) ⊎ IsOneOf x ys
 abbrev pub IsUnsynced : List Sector → Type 0
 IsUnsynced held = 1 < length held
 
--- a cut leaves one of these in a sector, or one that can't be read where it was written since the last sync that succeeded
+-- a cut leaves one of these in a sector, or one that can't be read where it was written since the
+-- last sync that succeeded
 abbrev pub IsLeftOf : Sector → List Sector → Type 0
 IsLeftOf x held = IsOneOf x held ⊎ ((x ≡ unreadable) × IsUnsynced held)
 
@@ -77,7 +79,8 @@ LeftWithin d (NvWrite at bytes kept) c =
     (k : ℕ) × (k ≤ length bytes.items) × MayBeLeft (after d (NvWrite at bytes k)) c
 LeftWithin d (Sync done) c = MayBeLeft d c
 
--- a power cut at this moment of these calls may leave them: moment 0 is before the first call, 1 within it, 2 after it
+-- a power cut at this moment of these calls may leave them: moment 0 is before the first call, 1
+-- within it, 2 after it
 unfoldable pub LeftAt : Device → List Call → ℕ → Images → Type 0
 LeftAt d [] t c = MayBeLeft d c
 LeftAt d (call ∷ calls) zero c = MayBeLeft d c

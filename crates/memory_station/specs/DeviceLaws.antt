@@ -68,7 +68,8 @@ SeenIsHeld-after_all d (call ∷ calls) held = SeenIsHeld-after_all (after d cal
 pub seen_is_held : (s : Sim) → SeenIsHeld (device_of s)
 seen_is_held s = SeenIsHeld-after_all _ s.media.calls.items (λ n. inl refl)
 
--- all that sector n may hold are sectors, where its settled value is one and each write is of whole sectors
+-- all that sector n may hold are sectors, where its settled value is one and each write is of whole
+-- sectors
 IsOneOf-whole : (size n : ℕ) (x v : Sector) (ws : List SectorWrite) → IsSector v → All (IsInRange size) ws → IsOneOf x (v ∷ written_to n ws) → IsSector x
 unfolding written_to
 IsOneOf-whole size n x v [] whole each one = elim one [ inl e ↦ rw e whole | inr none ↦ absurd none ]

@@ -1,7 +1,7 @@
 -- Which calls of a station in memory are to fail, and where its power is to be cut.
 use Rattle.std.specs.Prelude.{◌≡◌, ℕ, ◌+◌, ◌==◌, min, Bool, true, false, List, length, count_by, Option, Some, None, if◌then◌else◌}
-use Rattle.memory_station.specs.declared.keep.Keep.{Keep}
-use Rattle.memory_station.specs.declared.keep.Keep.TheVariants.{Nothing}
+use Rattle.memory_station.specs.declared.cut_outcome.CutOutcome.{CutOutcome}
+use Rattle.memory_station.specs.declared.cut_outcome.CutOutcome.TheVariants.{Nothing}
 use Rattle.memory_station.specs.declared.faults.Fate.{Fate}
 use Rattle.memory_station.specs.declared.faults.Fate.TheVariants.{Done, Fails, IsCut}
 use Rattle.memory_station.specs.declared.faults.Faults.{Faults}
@@ -9,9 +9,10 @@ use Rattle.memory_station.specs.declared.history.Call.{Call}
 use Rattle.memory_station.specs.declared.history.Call.TheVariants.{Read, Write, NvWrite, Sync}
 
 pub record FaultPlan : Type 0 where
-  -- the device write within which the power is cut, what that keeps of the unsynced sector writes, and how many bytes of an NVRAM write
+  -- the device write within which the power is cut, what that keeps of the unsynced sector writes,
+  -- and how many bytes of an NVRAM write
   pub cut_write : Option ℕ
-  pub keep : Keep
+  pub keep : CutOutcome
   pub kept_bytes : ℕ
   -- the call and the sync that fail
   pub failing_call : Option ℕ

@@ -5,7 +5,7 @@ use Rattle.memory_station.specs.FaultPlan.{is_done, cuts_power}
 use Rattle.memory_station.specs.declared.faults.Fate.{Fate}
 use Rattle.memory_station.specs.declared.history.Call.{Call}
 use Rattle.memory_station.specs.declared.history.Call.TheVariants.{Write, NvWrite}
-use Rattle.memory_station.specs.declared.keep.Keep.{Keep}
+use Rattle.memory_station.specs.declared.cut_outcome.CutOutcome.{CutOutcome}
 use Rattle.memory_station.specs.declared.media.Media.{Media}
 
 -- these bytes and this list of sectors that can't be read, before any call
@@ -53,7 +53,7 @@ pub record CameToNothing {T E : Type 0} (old new : Media) (result : Result T E) 
   pub kept : old.is_cut ≡ true → new.keep ≡ old.keep
 
 -- a call was kept, and came to this; a cut did so with the unsynced sector writes
-pub record CameTo {T E : Type 0} (fate : Fate) (keep : Keep) (old new : Media)
+pub record CameTo {T E : Type 0} (fate : Fate) (keep : CutOutcome) (old new : Media)
     (result : Result T E) : Type 0 where
   pub was_on : old.is_cut ≡ false
   pub answer : is_ok result ≡ is_done fate

@@ -12,8 +12,8 @@ use Rattle.memory_station.specs.declared.history.Call.{Call}
 use Rattle.memory_station.specs.declared.history.Call.TheVariants.{Read, Sync}
 use Rattle.memory_station.specs.declared.sim.Sim.{Sim}
 
--- a station of these sizes and counts of failures that was so first, after these calls: even moments lie between calls,
--- odd ones within one
+-- a station of these sizes and counts of failures that was so first, after these calls: even
+-- moments lie between calls, odd ones within one
 abbrev pub known : (sectors nvram_bytes failed_reads failed_writes : ℕ) → Device → List Call → Meaning
 known sectors nvram_bytes failed_reads failed_writes first calls = record {
   sectors = sectors;
@@ -64,8 +64,8 @@ next_write s = fate_of_write (plan_of s) (length (calls_of s)) (count_by is_writ
 abbrev pub next_sync : Sim → Fate
 next_sync s = fate_of_sync (plan_of s) (length (calls_of s)) (count_by is_sync (calls_of s))
 
--- A call followed the plan: it came to its fate and was kept as P says, or it came to nothing. The plan stays, but for
--- a cut.
+-- A call followed the plan: it came to its fate and was kept as P says, or it came to nothing. The
+-- plan stays, but for a cut.
 pub record FollowsPlan {T E : Type 0} (fate : Fate) (P : Type 0) (old new : Sim)
     (result : Result T E) : Type 0 where
   pub call : CameToNothing old.media new.media result
@@ -99,7 +99,8 @@ IsLeftByCut s c =
     (n : ℕ) → c.disk n
     ≡ kept_value s.media.keep 0 (unsynced_writes (calls_of s)) n (settled_of (device_of s) n)
 
--- a station before any call, with these bytes, all settled, of which the sectors in a list can't be read
+-- a station before any call, with these bytes, all settled, of which the sectors in a list can't be
+-- read
 pub record IsLoaded (disk nvram bad : List ℕ) (m : Meaning) : Type 0 where
   pub sectors : 512 * m.sectors ≡ length disk
   pub nvram_bytes : m.nvram_bytes ≡ length nvram

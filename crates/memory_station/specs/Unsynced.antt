@@ -4,10 +4,10 @@ use Rattle.station.specs.Images.{Sector, sector_with, unreadable}
 use Rattle.memory_station.specs.declared.history.Call.{Call}
 use Rattle.memory_station.specs.declared.history.Call.TheVariants.{Read, Write, NvWrite, Sync}
 use Rattle.memory_station.specs.declared.history.SectorWrite.{SectorWrite}
-use Rattle.memory_station.specs.declared.keep.Keep.{Keep}
-use Rattle.memory_station.specs.declared.keep.Keep.TheVariants.{Nothing, Everything, Bits}
-use Rattle.memory_station.specs.declared.keep.Mark.{Mark}
-use Rattle.memory_station.specs.declared.keep.Mark.TheVariants.{Dropped, Kept, Lost}
+use Rattle.memory_station.specs.declared.cut_outcome.CutOutcome.{CutOutcome}
+use Rattle.memory_station.specs.declared.cut_outcome.CutOutcome.TheVariants.{Nothing, Everything, Bits}
+use Rattle.memory_station.specs.declared.cut_outcome.Mark.{Mark}
+use Rattle.memory_station.specs.declared.cut_outcome.Mark.TheVariants.{Dropped, Kept, Lost}
 
 -- the first count sectors' parts of bytes that are written from sector first on
 abbrev pub parts_of : ℕ → List ℕ → ℕ → List SectorWrite
@@ -38,7 +38,7 @@ written_to n (w ∷ ws) =
     if w.sector == n then sector_with w.bytes ∷ written_to n ws else written_to n ws
 
 -- what a cut does with the i-th write, counted from 0
-abbrev pub mark_of : Keep → ℕ → Mark
+abbrev pub mark_of : CutOutcome → ℕ → Mark
 mark_of Nothing i = Dropped
 mark_of Everything i = Kept
 mark_of (Bits marks) i = get_or marks.items (i % length marks.items) Dropped
@@ -53,7 +53,8 @@ marked Lost bytes value = unreadable
 abbrev pub after_mark : Mark → SectorWrite → ℕ → Sector → Sector
 after_mark mark w n value = if w.sector == n then marked mark w.bytes value else value
 
--- what sector n holds after a cut did so with the writes, the first of which is the i-th, where it held value
-unfoldable pub kept_value : Keep → ℕ → List SectorWrite → ℕ → Sector → Sector
+-- what sector n holds after a cut did so with the writes, the first of which is the i-th, where it
+-- held value
+unfoldable pub kept_value : CutOutcome → ℕ → List SectorWrite → ℕ → Sector → Sector
 kept_value keep i [] n value = value
 kept_value keep i (w ∷ ws) n value = kept_value keep (suc i) ws n (after_mark (mark_of keep i) w n value)

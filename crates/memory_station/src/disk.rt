@@ -9,7 +9,8 @@ use crate::history::put;
 use station::SECTOR_BYTES;
 use std::alloc::{AllocError, Global};
 
-/// The bytes of a disk and the numbers of its sectors that can't be read, which rise. Those sectors have zeros.
+/// The bytes of a disk and the numbers of its sectors that can't be read, which rise. Those sectors
+/// have zeros.
 #[derive(Drop)]
 pub(crate) struct Disk {
     pub(crate) bytes: Vec<u8>,

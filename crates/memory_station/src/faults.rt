@@ -1,11 +1,11 @@
 //! Which of a station's calls are to fail, and where its power is to be cut.
 
 ghost use Rattle.std.specs.Prelude.{◌≡◌, ◌≤◌, Some, is_ok};
-ghost use Rattle.memory_station.specs.declared.keep.Keep.TheVariants.{Nothing};
+ghost use Rattle.memory_station.specs.declared.cut_outcome.CutOutcome.TheVariants.{Nothing};
 ghost use Rattle.station.specs.Moments.{counted_up};
 ghost use Rattle.memory_station.specs.FaultPlan.{planned, no_plan, is_next, fate_of_read, fate_of_write, fate_of_sync, kept_of, is_done, cuts_power};
 
-use crate::Keep;
+use crate::CutOutcome;
 use station::DeviceFault;
 use std::mem;
 
@@ -56,7 +56,7 @@ impl Fate {
 #[derive(Drop)]
 pub(crate) struct Faults {
     cut_write: Option<u32>,
-    keep: Keep,
+    keep: CutOutcome,
     kept_bytes: u32,
     failing_call: Option<u32>,
     failing_sync: Option<u32>,
@@ -75,7 +75,7 @@ impl Faults {
     {
         Faults {
             cut_write: None,
-            keep: Keep::Nothing,
+            keep: CutOutcome::Nothing,
             kept_bytes: 0,
             failing_call: None,
             failing_sync: None,
@@ -86,7 +86,7 @@ impl Faults {
     }
 
     /// The power is to be cut within this device write; of an NVRAM write so many bytes are kept.
-    pub(crate) fn cut_at(&mut self, write: u32, keep: Keep, bytes: u32)
+    pub(crate) fn cut_at(&mut self, write: u32, keep: CutOutcome, bytes: u32)
         ensures { self.new
             ≡ record self.old { cut_write = Some write; keep = keep; kept_bytes = bytes } }
     {
@@ -96,11 +96,11 @@ impl Faults {
     }
 
     /// Which unsynced sector writes the cut is to keep.
-    pub(crate) fn take_keep(&mut self) -> Keep
+    pub(crate) fn take_keep(&mut self) -> CutOutcome
         ensures taken { result ≡ self.old.keep }
         ensures left { self.new ≡ record self.old { keep = Nothing } }
     {
-        mem::replace(&mut self.keep, Keep::Nothing)
+        mem::replace(&mut self.keep, CutOutcome::Nothing)
     }
 
     /// How many of so many bytes an NVRAM write keeps.

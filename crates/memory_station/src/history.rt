@@ -7,7 +7,7 @@ ghost use Rattle.memory_station.specs.Sectors.{sectors_at};
 ghost use Rattle.memory_station.specs.Unsynced.{parts_of, IsInRange, after_mark, kept_value};
 
 use crate::disk::Disk;
-use crate::{Keep, Mark};
+use crate::{CutOutcome, Mark};
 use station::SECTOR_BYTES;
 use std::alloc::{AllocError, Global};
 
@@ -16,7 +16,8 @@ use std::alloc::{AllocError, Global};
 pub(crate) enum Call {
     /// A read of the disk or of the NVRAM.
     Read,
-    /// A write of whole sectors from sector `first` on. One that isn't `done` is in no read, and a cut may leave it.
+    /// A write of whole sectors from sector `first` on. One that isn't `done` is in no read, and a
+    /// cut may leave it.
     Write {
         first: u32,
         bytes: Vec<u8>,
@@ -97,7 +98,7 @@ fn sector_write(sector: u32, bytes: &[u8], part: usize) -> SectorWrite
 }
 
 /// Does with these sector writes what a power cut does.
-pub(crate) fn apply_marks(disk: &mut Disk, unsynced: &[SectorWrite], keep: &Keep)
+pub(crate) fn apply_marks(disk: &mut Disk, unsynced: &[SectorWrite], keep: &CutOutcome)
     requires range { All (IsInRange (length disk.old.bytes.items)) unsynced.now }
     requires room { vec_len disk.old.bad + length unsynced.now ≤ vec_capacity disk.old.bad }
     ensures size { length disk.new.bytes.items ≡ length disk.old.bytes.items }

@@ -9,7 +9,7 @@ ghost use Rattle.memory_station.specs.Unsynced.{IsInRange, unsynced_writes};
 
 use crate::disk::Disk;
 use crate::history::{Call, SectorWrite, apply_marks, note_write, put};
-use crate::{Keep, LoadError};
+use crate::{CutOutcome, LoadError};
 use station::SECTOR_BYTES;
 use std::alloc::{AllocError, Global};
 
@@ -26,12 +26,13 @@ pub(crate) struct Media {
     /// What reads give; after the cut, what it left.
     pub(crate) disk: Disk,
     pub(crate) nvram: Vec<u8>,
-    /// The settled value of each sector, and the sector writes since the last sync that succeeded, in their order.
+    /// The settled value of each sector, and the sector writes since the last sync that succeeded,
+    /// in their order.
     settled: Disk,
     unsynced: Vec<SectorWrite>,
     /// The power was cut, which did so with the unsynced sector writes.
     pub(crate) is_cut: bool,
-    keep: Keep,
+    keep: CutOutcome,
     ghost fits: { sectors < 2 ^ 32 },
     ghost nvram_fits: { nvram_bytes < 2 ^ 32 },
     ghost disk_size: { length disk.bytes.items ≡ 512 * sectors },
@@ -84,7 +85,7 @@ impl Media {
             disk: Disk::load(alloc, disk, bad)?,
             nvram,
             is_cut: false,
-            keep: Keep::Nothing,
+            keep: CutOutcome::Nothing,
         })
     }
 
@@ -98,7 +99,8 @@ impl Media {
         Ok(())
     }
 
-    /// Writes whole sectors from sector `first` on. Where it isn't to be `done`, reads stay as they were.
+    /// Writes whole sectors from sector `first` on. Where it isn't to be `done`, reads stay as they
+    /// were.
     pub(crate) fn write(&mut self, first: u32, bytes: &[u8], done: bool) -> Result<(), AllocError>
         requires place { 512 * first + length bytes.now ≤ 512 * self.old.sectors }
         requires whole { length bytes.now % 512 ≡ 0 }
@@ -142,7 +144,7 @@ impl Media {
         Ok(())
     }
 
-    /// Settles what reads give, where it is to be `done`.
+    /// Makes durable what reads give, where it is to be `done`.
     pub(crate) fn sync(&mut self, done: bool) -> Result<(), AllocError>
         requires { self.old.is_cut ≡ false }
         ensures ok { OnOk result (Adds self.old self.new (Sync done)) }
@@ -159,7 +161,7 @@ impl Media {
     }
 
     /// The power is cut: the disk becomes what that leaves of it.
-    pub(crate) fn cut(&mut self, keep: Keep)
+    pub(crate) fn cut(&mut self, keep: CutOutcome)
         requires { self.old.is_cut ≡ false }
         ensures same { Same self.old self.new }
         ensures power { self.new.is_cut ≡ true }

@@ -7,7 +7,7 @@ ghost use Rattle.memory_station.specs.Disk.{images_with, HasPast, HasZeros};
 ghost use Rattle.memory_station.specs.Device.{IsBadSize};
 ghost use Rattle.memory_station.specs.FaultPlan.{IsNumbered};
 
-use crate::Keep;
+use crate::CutOutcome;
 use crate::faults::{Fate, Faults};
 use crate::media::Media;
 use station::{DeviceFault, Station};
@@ -20,8 +20,8 @@ pub enum LoadError {
     /// No memory for the copies that a station keeps.
     #[error("no memory")]
     NoMemory = 1,
-    /// The disk is no whole number of sectors, or it has more than `u32::MAX` sectors or the NVRAM more bytes, or a
-    /// sector that can't be read is past the disk.
+    /// The disk is no whole number of sectors, or it has more than `u32::MAX` sectors or the NVRAM
+    /// more bytes, or a sector that can't be read is past the disk.
     #[error("no station has this size")]
     BadSize = 2,
 }
@@ -37,9 +37,9 @@ impl From<AllocError> for LoadError {
     }
 }
 
-/// A station in memory. It keeps its first images and the list of its calls, from which its meaning tells what a cut
-/// at any moment so far might have left, and beside them what reads give. A call for which it finds no memory to keep
-/// it fails and is counted, and changes nothing else.
+/// A station in memory. It keeps its first images and the list of its calls, from which its meaning
+/// tells what a cut at any moment so far might have left, and beside them what reads give. A call
+/// for which it finds no memory to keep it fails and is counted, and changes nothing else.
 #[derive(Drop)]
 pub struct Sim {
     media: Media,
@@ -55,8 +55,9 @@ impl Sim {
     ghost use Rattle.memory_station.specs.Sim.{sim_meaning, plan_of, calls_of, was_cut, bad_of, IsLeftByCut, IsLoaded, KnowsSame, SameCounts};
     ghost use Rattle.memory_station.specs.Sim.{FollowsRead, FollowsWrite, FollowsNvWrite, FollowsSync, HasCountedRead, HasCountedWrite};
 
-    /// A station with these images, all settled. BadSize exactly where the disk is no whole number of sectors, or a
-    /// count (of sectors, of NVRAM bytes) is past `u32::MAX`; NoMemory where a growth was refused.
+    /// A station with these images, all settled. BadSize exactly where the disk is no whole number
+    /// of sectors, or a count (of sectors, of NVRAM bytes) is past `u32::MAX`; NoMemory where a
+    /// growth was refused.
     pub fn load(alloc: Global, disk: Vec<u8>, nvram: Vec<u8>) -> Result<Sim, LoadError>
         ensures loaded { IfOk result (λ s. IsLoaded disk.items nvram.items [] (sim_meaning s)) }
         ensures power { IfOk result (λ s. was_cut s ≡ false) }
@@ -66,8 +67,9 @@ impl Sim {
         Sim::load_bad(alloc, disk, nvram, &[])
     }
 
-    /// A station with these images, all settled, of which these sectors can't be read: what the disk has there doesn't
-    /// matter. The numbers may stand in any order. BadSize also where one of them is past the disk.
+    /// A station with these images, all settled, of which these sectors can't be read: what the
+    /// disk has there doesn't matter. The numbers may stand in any order. BadSize also where one of
+    /// them is past the disk.
     pub fn load_bad(
         alloc: Global,
         disk: Vec<u8>,
@@ -88,9 +90,9 @@ impl Sim {
         })
     }
 
-    /// The power is to be cut within device write number `write`, counted from 1 since the load. Where it is an NVRAM
-    /// write, its first `bytes` bytes are kept, all of them if it is shorter.
-    pub fn cut_at(&mut self, write: u32, keep: Keep, bytes: u32)
+    /// The power is to be cut within device write number `write`, counted from 1 since the load.
+    /// Where it is an NVRAM write, its first `bytes` bytes are kept, all of them if it is shorter.
+    pub fn cut_at(&mut self, write: u32, keep: CutOutcome, bytes: u32)
         ensures plan { plan_of self.new
             ≡ record (plan_of self.old) { cut_write = Some write; keep = keep; kept_bytes = bytes } }
         ensures same { KnowsSame (sim_meaning self.old) (sim_meaning self.new) }
@@ -100,8 +102,9 @@ impl Sim {
         self.faults.cut_at(write, keep, bytes);
     }
 
-    /// Call number `call` of any kind, counted from 1 since the load, is to fail. A disk write that fails counts as
-    /// unsynced and is in no read; an NVRAM write that fails keeps none of its bytes.
+    /// Call number `call` of any kind, counted from 1 since the load, is to fail. A disk write that
+    /// fails counts as unsynced and is in no read; an NVRAM write that fails keeps none of its
+    /// bytes.
     pub fn fail_at(&mut self, call: u32)
         ensures plan { plan_of self.new ≡ record (plan_of self.old) { failing_call = Some call } }
         ensures same { KnowsSame (sim_meaning self.old) (sim_meaning self.new) }
@@ -128,7 +131,8 @@ impl Sim {
         self.media.is_cut
     }
 
-    /// The disk and the NVRAM: what reads give, or after the cut what it left. Sectors that can't be read have zeros.
+    /// The disk and the NVRAM: what reads give, or after the cut what it left. Sectors that can't
+    /// be read have zeros.
     pub fn images(&self) -> (&[u8], &[u8])
         ensures disk_size { length result.0.now ≡ 512 * (sim_meaning self.now).sectors }
         ensures nvram_size { length result.1.now ≡ (sim_meaning self.now).nvram_bytes }
@@ -144,7 +148,8 @@ impl Sim {
         (&self.media.disk.bytes, &self.media.nvram)
     }
 
-    /// The numbers of the sectors that can't be read, rising: those that reads tell, or after the cut those that it left.
+    /// The numbers of the sectors that can't be read, rising: those that reads tell, or after the
+    /// cut those that it left.
     pub fn bad_sectors(&self) -> &[u32]
         ensures numbers { result.now ≡ bad_of self.now }
         ensures rising { IsStrictlyIncreasing result.now }
@@ -153,8 +158,8 @@ impl Sim {
         &self.media.disk.bad
     }
 
-    /// How many device calls there were since the load; at `u32::MAX` the count stays. A call that came to nothing isn't
-    /// counted: the power was off, or there was no memory to keep it.
+    /// How many device calls there were since the load; at `u32::MAX` the count stays. A call that
+    /// came to nothing isn't counted: the power was off, or there was no memory to keep it.
     pub fn device_calls(&self) -> u32
         ensures { result ≡ min (length (calls_of self.now)) (2 ^ 32 - 1) }
     {
@@ -259,7 +264,7 @@ impl Sim {
         }
     }
 
-    /// Settles what reads give, and tells whether that succeeds.
+    /// Makes durable what reads give, and tells whether that succeeds.
     fn try_sync(&mut self) -> Result<(), DeviceFault>
         ensures follows { FollowsSync self.old self.new result }
         ensures counts { SameCounts self.old self.new }
@@ -289,8 +294,8 @@ impl Sim {
     }
 }
 
-/// Each call also follows the plan: it fails, or the power is cut within it, just where that was planned, or where the
-/// power was off before or there is no memory to keep it.
+/// Each call also follows the plan: it fails, or the power is cut within it, just where that was
+/// planned, or where the power was off before or there is no memory to keep it.
 impl Station for Sim {
     ghost use Rattle.std.specs.Prelude.{take, drop, OnOk, IfOk};
     ghost use Rattle.station.specs.Images.{Unchanged, SectorsWritten, SomeSectorsWritten, NvramWritten, NvramPrefixWritten, Tells};

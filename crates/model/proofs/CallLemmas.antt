@@ -20,7 +20,7 @@ use Rattle.model.proofs.LeadLemmas.{AllPass, all_passed, passed_both, Misses, re
 use Rattle.model.proofs.LooseLemmas.{held_is_tree}
 use Rattle.model.proofs.PlaceLemmas.{directory_joins, file_joins, symlink_joins, link_joins, placed_is_tree, put-here}
 use Rattle.model.proofs.TakeLemmas.{taken_is_loose}
-use Rattle.model.proofs.StayLemmas.{LeavesTree, stays_refused, stays_changed, stays_swept, stays_tested, stays_passed, stays_either, stays_leads, stays_leads_to, stays_names, stays_place, stays_fresh, stays_links, stays_never, stays_by_kind, IsCut, cut_is}
+use Rattle.model.proofs.StayLemmas.{LeavesTree, stays_refused, stays_changed, stays_swept, stays_tested, stays_passed, stays_either, stays_leads, stays_leads_to, stays_names, stays_place, stays_fresh, stays_links, stays_never, stays_by_kind, IsTruncated, truncated_is}
 use Rattle.model.proofs.OptionLaws.{none_some, some_same}
 
 none_from : {X : Type 0} (o : Option X) → ¬ IsSome o → o ≡ None
@@ -133,12 +133,12 @@ module _ (inodes : ℕ) (t : Tree) (tree : IsTree inodes t) where
       stays_passed inodes t tree ((flags.creates && flags.exclusive, EEXIST) ∷ []) _ (λ pass.
       stays_by_kind inodes t tree o _ _ _ (λ n kind. stays_refused inodes t tree EISDIR) (λ n text kind. stays_never inodes t tree) (λ n kind.
       stays_either inodes t tree flags.truncates _ _
-      (λ e. stays_changed inodes t tree (reply.Fd fd) (with_descriptor fd (Some (descriptors.described_by n flags)) (changing.cut_to n 0 t)) (changing.need_of_cut n 0 t) (opened n (at_p ∙ ap (λ x. Some x) kind) (changing.cut_to n 0 t) (cut_is inodes t tree n 0 (inl (p, at_p ∙ ap (λ x. Some x) kind)) (lit≤ tt))))
+      (λ e. stays_changed inodes t tree (reply.Fd fd) (with_descriptor fd (Some (descriptors.described_by n flags)) (changing.truncated_to n 0 t)) (changing.need_of_truncate n 0 t) (opened n (at_p ∙ ap (λ x. Some x) kind) (changing.truncated_to n 0 t) (truncated_is inodes t tree n 0 (inl (p, at_p ∙ ap (λ x. Some x) kind)) (lit≤ tt))))
       (λ e. stays_changed inodes t tree (reply.Fd fd) (with_descriptor fd (Some (descriptors.described_by n flags)) t) nothing (opened n (at_p ∙ ap (λ x. Some x) kind) t (record { is = tree; objects = refl; descriptors = refl })))))
     where
-      opened : (n : ℕ) → t.objects p ≡ Some (file n) → (u : Tree) → IsCut inodes t tree u → IsTree inodes (with_descriptor fd (Some (descriptors.described_by n flags)) u)
-      opened n is u cut =
-          held_is_tree inodes u cut.is fd (descriptors.described_by n flags) below (inl (p, ap (λ f. f p) cut.objects ∙ is)) (lit≤ tt) (λ g at_g. none_some (sym closed ∙ ap (λ f. f fd) (sym cut.descriptors) ∙ at_g))
+      opened : (n : ℕ) → t.objects p ≡ Some (file n) → (u : Tree) → IsTruncated inodes t tree u → IsTree inodes (with_descriptor fd (Some (descriptors.described_by n flags)) u)
+      opened n is u truncate =
+          held_is_tree inodes u truncate.is fd (descriptors.described_by n flags) below (inl (p, ap (λ f. f p) truncate.objects ∙ is)) (lit≤ tt) (λ g at_g. none_some (sym closed ∙ ap (λ f. f fd) (sym truncate.descriptors) ∙ at_g))
 
   stays_opens_new : (p : Path) (name : Name) (flags : Flags) (mode fd : ℕ) → mode ≤ MODE_BITS → Misses t p name → fd < OPEN_FILES → t.descriptors fd ≡ None → LeavesTree inodes (descriptors.opens_new inodes t p name flags mode fd)
   stays_opens_new p name flags mode fd few misses below closed =

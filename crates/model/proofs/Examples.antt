@@ -82,8 +82,8 @@ into_a_gap = refl
 in_the_midst : written 1 (1 ∷ []) (97 ∷ 98 ∷ 99 ∷ []) ≡ 97 ∷ 1 ∷ 99 ∷ []
 in_the_midst = refl
 
-cut_and_grown : resized 4 (resized 1 (97 ∷ 98 ∷ [])) ≡ 97 ∷ 0 ∷ 0 ∷ 0 ∷ []
-cut_and_grown = refl
+truncated_and_grown : resized 4 (resized 1 (97 ∷ 98 ∷ [])) ≡ 97 ∷ 0 ∷ 0 ∷ 0 ∷ []
+truncated_and_grown = refl
 
 past_the_end : read_at 9 5 (97 ∷ 98 ∷ []) ≡ []
 past_the_end = refl
@@ -151,11 +151,11 @@ truncates_what_it_reads = (refl, refl, refl)
 opens_exclusively : opens 32 small (codes "/f") (record plainly { creates = true; exclusive = true }) 0o644 (reply.Refused EEXIST) small nothing
 opens_exclusively = (refl, refl, refl)
 
-opens_and_cuts : opens 32 small (codes "/f") (record plainly { truncates = true }) 0o644 (reply.Fd 1) (with_descriptor 1 (Some (opened 0)) (with_bytes 6 [] small)) (logs (changes_size 3 0))
-opens_and_cuts = (refl, refl, refl)
+opens_and_truncates : opens 32 small (codes "/f") (record plainly { truncates = true }) 0o644 (reply.Fd 1) (with_descriptor 1 (Some (opened 0)) (with_bytes 6 [] small)) (logs (changes_size 3 0))
+opens_and_truncates = (refl, refl, refl)
 
 abbrev full : Room
-full = record { blocks = 64; free = 60; pledged = 0; is_covered = true; nameless_of = λ name. 0 }
+full = record { blocks = 64; free = 60; pledged = 0; is_covered = true; orphans_of = λ name. 0 }
 
 -- states
 no_snapshot : WouldStep full (empty 32) (command.Within (codes "t") (call.Mkdir (codes "/x") 0o755)) (reply.Refused NOSNAP) (empty 32) nothing
@@ -201,30 +201,30 @@ abbrev tiny : Tree
 tiny = with_descriptor 0 (Some (record (opened 0) { number = 4 })) (with_file (name_f ∷ []) 4 0o644 (root_alone 0o755))
 
 -- its name was taken away
-abbrev nameless : Tree
-nameless = without_object (name_f ∷ []) tiny
+abbrev orphans : Tree
+orphans = without_object (name_f ∷ []) tiny
 
 -- it was closed then
 abbrev closed : Tree
-closed = record (with_descriptor 0 None nameless) { bytes = λ n. None; mode = λ n. if n == 3 then Some 0o755 else None }
+closed = record (with_descriptor 0 None orphans) { bytes = λ n. None; mode = λ n. if n == 3 then Some 0o755 else None }
 
-only_root : (p : Path) (o : Object) → nameless.objects p ≡ Some o → o ≡ directory 3
+only_root : (p : Path) (o : Object) → orphans.objects p ≡ Some o → o ≡ directory 3
 only_root p o =
     cond_both (path_eq p (name_f ∷ [])) None _ (λ (r : Option Object). r ≡ Some o → o ≡ directory 3) (λ e is. cc) (λ e.
     cond_both (path_eq p (name_f ∷ [])) (Some (file 4)) _ (λ (r : Option Object). r ≡ Some o → o ≡ directory 3) (λ f is. absurd (false≢true (sym e ∙ f))) (λ f.
     cond_both (path_eq p []) (Some (directory 3)) None (λ (r : Option Object). r ≡ Some o → o ≡ directory 3) (λ g is. cc) (λ g is. cc)))
 
-open_is : (d : ℕ) (g : Description) → nameless.descriptors d ≡ Some g → g.number ≡ 4
+open_is : (d : ℕ) (g : Description) → orphans.descriptors d ≡ Some g → g.number ≡ 4
 open_is d g = cond_both (d == 0) (Some (record (opened 0) { number = 4 })) None (λ (r : Option Description). r ≡ Some g → g.number ≡ 4) (λ e is. cc) (λ e is. cc)
 
-root_used : IsUsed nameless 3
+root_used : IsUsed orphans 3
 root_used = inl ([], directory 3, refl, refl)
 
-file_used : IsUsed nameless 4
+file_used : IsUsed orphans 4
 file_used = inr (0, record (opened 0) { number = 4 }, refl, refl)
 
--- a file without a name that is open keeps its bytes
-unlink_open : unlinks tiny (codes "/f") reply.Done nameless (logs removes_name)
+-- an orphan that is open keeps its bytes
+unlink_open : unlinks tiny (codes "/f") reply.Done orphans (logs removes_name)
 unlink_open = (
   refl,
   record {
@@ -232,40 +232,40 @@ unlink_open = (
     descriptors = refl;
     kept = λ n used. (refl, refl);
     gone = λ n unused. (
-      cond_both (n == 4) (Some []) None (λ (r : Option (List ℕ)). r ≡ None) (λ e. absurd (unused (subst (IsUsed nameless) (sym (eqb-true n 4 e)) file_used))) (λ e. refl),
-      cond_both (n == 4) (Some 0o644) _ (λ (r : Option ℕ). r ≡ None) (λ e. absurd (unused (subst (IsUsed nameless) (sym (eqb-true n 4 e)) file_used))) (λ e. cond_both (n == 3) (Some 0o755) None (λ (r : Option ℕ). r ≡ None) (λ f. absurd (unused (subst (IsUsed nameless) (sym (eqb-true n 3 f)) root_used))) (λ f. refl)),
+      cond_both (n == 4) (Some []) None (λ (r : Option (List ℕ)). r ≡ None) (λ e. absurd (unused (subst (IsUsed orphans) (sym (eqb-true n 4 e)) file_used))) (λ e. refl),
+      cond_both (n == 4) (Some 0o644) _ (λ (r : Option ℕ). r ≡ None) (λ e. absurd (unused (subst (IsUsed orphans) (sym (eqb-true n 4 e)) file_used))) (λ e. cond_both (n == 3) (Some 0o755) None (λ (r : Option ℕ). r ≡ None) (λ f. absurd (unused (subst (IsUsed orphans) (sym (eqb-true n 3 f)) root_used))) (λ f. refl)),
     );
   },
   refl,
 )
 
-used_number : (n : ℕ) → IsUsed nameless n → (n ≡ 3) ⊎ (n ≡ 4)
+used_number : (n : ℕ) → IsUsed orphans n → (n ≡ 3) ⊎ (n ≡ 4)
 used_number n (inl (p, o, is, same)) = inl (sym same ∙ ap number_of_object (only_root p o is))
 used_number n (inr (d, g, is, same)) = inr (sym same ∙ open_is d g is)
 
 -- its number isn't given again while it is open
-next_number : IsFresh 32 nameless 5
+next_number : IsFresh 32 orphans 5
 next_number = record {
   low = lit≤ tt;
   high = lit≤ tt;
   free = λ used. elim (used_number 5 used) [ inl e ↦ cc | inr e ↦ cc ];
-  least = λ k low high. subst (IsUsed nameless) (omega (arith, low, high)) file_used;
+  least = λ k low high. subst (IsUsed orphans) (omega (arith, low, high)) file_used;
 }
 
-closed_used : (n : ℕ) → IsUsed (with_descriptor 0 None nameless) n → n ≡ 3
+closed_used : (n : ℕ) → IsUsed (with_descriptor 0 None orphans) n → n ≡ 3
 closed_used n (inl (p, o, is, same)) = sym same ∙ ap number_of_object (only_root p o is)
 closed_used n (inr (d, g, is, same)) =
     cond_both (d == 0) None _ (λ (r : Option Description). r ≡ Some g → n ≡ 3) (λ e is. cc) (λ e. cond_both (d == 0) (Some (record (opened 0) { number = 4 })) None (λ (r : Option Description). r ≡ Some g → n ≡ 3) (λ f is. absurd (false≢true (sym e ∙ f))) (λ f is. cc)) is
 
 -- a close drops it
-close_last : closes nameless 0 reply.Done closed nothing
+close_last : closes orphans 0 reply.Done closed nothing
 close_last = (
   refl,
   record {
     objects = refl;
     descriptors = refl;
-    kept = λ n used. subst (λ k. (closed.bytes k ≡ nameless.bytes k) × (closed.mode k ≡ nameless.mode k)) (sym (closed_used n used)) (refl, refl);
-    gone = λ n unused. (refl, cond_both (n == 3) (Some 0o755) None (λ (r : Option ℕ). r ≡ None) (λ e. absurd (unused (subst (IsUsed (with_descriptor 0 None nameless)) (sym (eqb-true n 3 e)) (inl ([], directory 3, refl, refl))))) (λ e. refl));
+    kept = λ n used. subst (λ k. (closed.bytes k ≡ orphans.bytes k) × (closed.mode k ≡ orphans.mode k)) (sym (closed_used n used)) (refl, refl);
+    gone = λ n unused. (refl, cond_both (n == 3) (Some 0o755) None (λ (r : Option ℕ). r ≡ None) (λ e. absurd (unused (subst (IsUsed (with_descriptor 0 None orphans)) (sym (eqb-true n 3 e)) (inl ([], directory 3, refl, refl))))) (λ e. refl));
   },
   refl,
 )

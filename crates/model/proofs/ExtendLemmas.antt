@@ -7,10 +7,10 @@ use Rattle.model.specs.Counting.{Counts}
 use Rattle.model.specs.Paths.{Name}
 use Rattle.model.specs.Edits.{written, resized}
 use Rattle.model.specs.Trees.{Description}
-use Rattle.model.specs.Volumes.{Node, directory_node, file_node, link_node, Volume, Entries, bytes_of_node, names_in, entries, with_node, set_name, with_entry, is_file_node, is_directory_node, is_nameless, with_name_less, with_name_more, released, is_open, swept_node, swept}
+use Rattle.model.specs.Volumes.{Node, directory_node, file_node, link_node, Volume, Entries, bytes_of_node, names_in, entries, with_node, set_name, with_entry, is_file_node, is_directory_node, is_orphan, with_name_less, with_name_more, released, is_open, swept_node, swept}
 use Rattle.model.specs.Laws.{ReplayFollows, ReplayEndsSame, ReplaysCostTheSame}
 use Rattle.model.specs.Room.{puts_bytes, changes_size}
-use Rattle.model.specs.Records.{Change, create, link, unname, rename, write, cut, change_mode, node_of, with_file_bytes, with_node_mode, applied, IsBelow, TakesName, IsEmpty, is_vacant, CanReplace, Applies, without_nameless, Extends}
+use Rattle.model.specs.Records.{Change, create, link, remove_name, rename, write, truncate, change_mode, node_of, with_file_bytes, with_node_mode, applied, IsBelow, TakesName, IsEmpty, is_vacant, CanReplace, Applies, without_orphans, Extends}
 use Rattle.model.proofs.OptionLaws.{some_or_none}
 
 -- what has no object has no names, whatever stands for it
@@ -20,9 +20,9 @@ vacant_names (Some (directory_node attributes names)) x vacant = absurd (false�
 vacant_names (Some (file_node attributes links bytes)) x vacant = refl
 vacant_names (Some (link_node attributes text)) x vacant = refl
 
-nameless_vacant : (o : Option Node) → IsTrue (is_nameless o) → IsTrue (is_vacant o)
-nameless_vacant None nameless = refl
-nameless_vacant (Some o) nameless = nameless
+orphan_vacant : (o : Option Node) → IsTrue (is_orphan o) → IsTrue (is_vacant o)
+orphan_vacant None orphans = refl
+orphan_vacant (Some o) orphans = orphans
 
 module _ (v w : Volume) (extends : Extends v w) where
   same_names : (d : ℕ) (x : Name) → entries w d x ≡ entries v d x
@@ -95,11 +95,11 @@ module _ (v w : Volume) (extends : Extends v w) where
     ];
     rest = λ n none. elim (swept_or_stays (is_open table 32 n) (v n)) [
       | inl stays ↦ extends.rest n (sym stays ∙ none)
-      | inr gone ↦ ap is_vacant (kept_by is_nameless refl n gone.1) ∙ nameless_vacant (v n) gone.1
+      | inr gone ↦ ap is_vacant (kept_by is_orphan refl n gone.1) ∙ orphan_vacant (v n) gone.1
     ];
   }
     where
-      swept_or_stays : (b : Bool) (o : Option Node) → (swept_node b o ≡ o) ⊎ ((swept_node b o ≡ None) × IsTrue (is_nameless o))
+      swept_or_stays : (b : Bool) (o : Option Node) → (swept_node b o ≡ o) ⊎ ((swept_node b o ≡ None) × IsTrue (is_orphan o))
       swept_or_stays b None = inl refl
       swept_or_stays b (Some (directory_node attributes names)) = inl refl
       swept_or_stays true (Some (file_node attributes zero bytes)) = inl refl
@@ -162,7 +162,7 @@ module _ (v w : Volume) (extends : Extends v w) where
     few = can.few;
     takes = takes_too parent name can.takes;
   }
-  applies_too inodes (unname parent name) can = record { number = can.number; there = same_names parent name ∙ can.there; empty = empty_too can.number can.empty }
+  applies_too inodes (remove_name parent name) can = record { number = can.number; there = same_names parent name ∙ can.there; empty = empty_too can.number can.empty }
   applies_too inodes (rename parent name new_parent new_name) can = record {
     number = can.number;
     there = same_names parent name ∙ can.there;
@@ -172,13 +172,13 @@ module _ (v w : Volume) (extends : Extends v w) where
     replaces = subst (CanReplace w parent new_parent new_name can.number) (sym (same_names new_parent new_name)) (replaces_too parent new_parent new_name can.number (entries v new_parent new_name) can.replaces);
   }
   applies_too inodes (write number offset bytes) can = (ap is_file_node (file_kept number can.0) ∙ can.0, can.1, can.2, can.3)
-  applies_too inodes (cut number size) can = (ap is_file_node (file_kept number can.0) ∙ can.0, can.1)
+  applies_too inodes (truncate number size) can = (ap is_file_node (file_kept number can.0) ∙ can.0, can.1)
   applies_too inodes (change_mode number mode) can = (ap (λ o. is_file_node o || is_directory_node o) (kept_by (λ o. is_file_node o || is_directory_node o) refl number can.0) ∙ can.0, can.1)
 
   -- behind the last record, both are the same
-  pub same_in_the_end : without_nameless w ≡ without_nameless v
+  pub same_in_the_end : without_orphans w ≡ without_orphans v
   same_in_the_end =
-      fun_ext {f = without_nameless w} {g = without_nameless v} (λ n.
+      fun_ext {f = without_orphans w} {g = without_orphans v} (λ n.
       elim (some_or_none (v n)) [
         | inl some ↦ ap (swept_node false) (extends.kept n some)
         | inr none ↦ vacant_gone (w n) (extends.rest n none) ∙ ap (swept_node false) (sym none)
@@ -239,7 +239,7 @@ applied_too v w extends inodes (create number parent made name) can =
 applied_too v w extends inodes (link number parent name) can =
     with_name (with_node number (with_name_more (v number)) v) (with_node number (with_name_more (w number)) w)
     (with_same v w extends number (with_name_more (v number)) (with_name_more (w number)) (ap with_name_more (extends.kept number (ap is_some can.file)))) parent name (Some number)
-applied_too v w extends inodes (unname parent name) can =
+applied_too v w extends inodes (remove_name parent name) can =
     with_name (released (entries v parent name) v) (released (entries w parent name) w) (with_less v w extends (entries v parent name) (entries w parent name) (same_names v w extends parent name)) parent name None
 applied_too v w extends inodes (rename parent name new_parent new_name) can =
     let less = with_less v w extends (entries v new_parent new_name) (entries w new_parent new_name) (same_names v w extends new_parent new_name) in
@@ -247,7 +247,7 @@ applied_too v w extends inodes (rename parent name new_parent new_name) can =
     (with_name (released (entries v new_parent new_name) v) (released (entries w new_parent new_name) w) less parent name None)
     new_parent new_name (entries v parent name) (entries w parent name) (same_names v w extends parent name)
 applied_too v w extends inodes (write number offset bytes) can = with_both v w extends number (with_file_bytes (written offset bytes)) refl (bytes_vacant (written offset bytes))
-applied_too v w extends inodes (cut number size) can = with_both v w extends number (with_file_bytes (resized size)) refl (bytes_vacant (resized size))
+applied_too v w extends inodes (truncate number size) can = with_both v w extends number (with_file_bytes (resized size)) refl (bytes_vacant (resized size))
 applied_too v w extends inodes (change_mode number mode) can = with_both v w extends number (with_node_mode mode) refl (mode_vacant mode)
 
 pub extends_on : ReplayFollows
@@ -262,8 +262,8 @@ ends_same v w extends = same_in_the_end v w extends
 pub costs_the_same : ReplaysCostTheSame
 costs_the_same inodes v w (create number parent made name) extends can = refl
 costs_the_same inodes v w (link number parent name) extends can = refl
-costs_the_same inodes v w (unname parent name) extends can = refl
+costs_the_same inodes v w (remove_name parent name) extends can = refl
 costs_the_same inodes v w (rename parent name new_parent new_name) extends can = refl
 costs_the_same inodes v w (write number offset bytes) extends can = ap (λ o. puts_bytes (length (unwrap_or (bytes_of_node o) [])) offset (length bytes)) (file_kept v w extends number can.0)
-costs_the_same inodes v w (cut number size) extends can = ap (λ o. changes_size (length (unwrap_or (bytes_of_node o) [])) size) (file_kept v w extends number can.0)
+costs_the_same inodes v w (truncate number size) extends can = ap (λ o. changes_size (length (unwrap_or (bytes_of_node o) [])) size) (file_kept v w extends number can.0)
 costs_the_same inodes v w (change_mode number mode) extends can = refl

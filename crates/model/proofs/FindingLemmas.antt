@@ -10,7 +10,7 @@ use Rattle.model.specs.Paths.{Name, Path, behind, parts, is_dot, is_dot_dot, is_
 use Rattle.model.specs.Trees.{Tree, Description}
 use Rattle.model.specs.Resolution as tree
 use Rattle.model.specs.Volumes.{Node, directory_node, file_node, link_node, Volume, Entries, entries, enter, number_at, object_at, object_of, tree_of}
-use Rattle.model.specs.Finding.{here, Trails, Place, at_entry, at_gap, at_refusal, Turn, stays_on, enters, ends_at, follows, finds_nothing, finds_damage, finds_long, turn_at, turn_by, turn, Halt, halts, halts_at_link, find_along, find_on, find_within, IsPlaceOf}
+use Rattle.model.specs.Finding.{here, Trails, Place, at_entry, at_missing, at_refusal, Turn, stays_on, enters, ends_at, follows, finds_nothing, finds_damage, finds_long, turn_at, turn_by, turn, WalkEnd, halts, halts_at_link, find_along, find_on, find_within, IsPlaceOf}
 use Rattle.model.specs.Laws.{ResolvesByNumbers, TrailsTellBelow, BelowIsByPaths}
 use Rattle.model.proofs.VolumeLemmas.{alone}
 use Rattle.model.proofs.WalkLemmas.{number_at-push, behind-append, behind-is}
@@ -74,7 +74,7 @@ module _ (v : Volume) (used : (d n : ℕ) (x : Name) → entries v d x ≡ Some 
   IsTurnOf trail p x finds_long tree.too_long = Unit {0}
   IsTurnOf trail p x _ _ = ⊥
 
-  abbrev IsHaltOf : Halt → tree.Stop → Type 0
+  abbrev IsHaltOf : WalkEnd → tree.Stop → Type 0
   IsHaltOf (halts place) (tree.at answer) = IsPlaceOf v place answer
   IsHaltOf (halts_at_link trail text rest) (tree.at_link p other more) = Trails (entries v) p trail × (other ≡ text) × (more ≡ rest)
   IsHaltOf _ _ = ⊥
@@ -108,12 +108,12 @@ module _ (v : Volume) (used : (d n : ℕ) (x : Name) → entries v d x ≡ Some 
               ]
         ]
 
-  abbrev after_in : Bool → List ℕ → Name → List Name → Turn → Halt
+  abbrev after_in : Bool → List ℕ → Name → List Name → Turn → WalkEnd
   after_in follow trail part rest (stays_on next) = find_along v follow next rest
   after_in follow trail part rest (enters n) = cond (is_empty rest) (halts (at_entry trail part n)) (find_along v follow (trail ++ n ∷ []) rest)
   after_in follow trail part rest (ends_at n) = halts (cond (is_empty rest) (at_entry trail part n) (at_refusal ENOTDIR))
   after_in follow trail part rest (follows n text) = cond (is_empty rest && not follow) (halts (at_entry trail part n)) (halts_at_link trail text rest)
-  after_in follow trail part rest finds_nothing = halts (cond (is_empty rest) (at_gap trail part) (at_refusal ENOENT))
+  after_in follow trail part rest finds_nothing = halts (cond (is_empty rest) (at_missing trail part) (at_refusal ENOENT))
   after_in follow trail part rest finds_damage = halts (at_refusal DAMAGED)
   after_in follow trail part rest finds_long = halts (at_refusal ENAMETOOLONG)
 
@@ -139,7 +139,7 @@ module _ (v : Volume) (used : (d n : ℕ) (x : Name) → entries v d x ≡ Some 
   after_matches follow rest more p part trail trails (follows n text) (tree.link other) is =
       chosen IsHaltOf (is_empty rest && not follow) (halts (at_entry trail part n)) (halts_at_link trail text rest) (tree.at (tree.named (p ++ part ∷ []))) (tree.at_link p other rest) (p, trails, refl, is.1) (trails, is.0, refl)
   after_matches follow rest more p part trail trails finds_nothing tree.absent is =
-      chosen (λ place answer. IsPlaceOf v place answer) (is_empty rest) (at_gap trail part) (at_refusal ENOENT) (tree.missing p part) (tree.refused ENOENT) (trails, refl, is) refl
+      chosen (λ place answer. IsPlaceOf v place answer) (is_empty rest) (at_missing trail part) (at_refusal ENOENT) (tree.missing p part) (tree.refused ENOENT) (trails, refl, is) refl
   after_matches follow rest more p part trail trails finds_long tree.too_long is = refl
   after_matches follow rest more p part trail trails _ _ is = absurd is
 
@@ -148,7 +148,7 @@ module _ (v : Volume) (used : (d n : ℕ) (x : Name) → entries v d x ≡ Some 
   walk_matches follow (part ∷ rest) p trail trails =
       after_matches follow rest (λ q next. walk_matches follow rest q next) p part trail trails (turn v trail part) (tree.next t p part) (turn_matches trail p part trails)
 
-  on_matches : (again : List ℕ → List Name → Place) (once_more : Path → List Name → tree.Resolution) → ((p : Path) (trail : List ℕ) (names : List Name) → Trails (entries v) p trail → IsPlaceOf v (again trail names) (once_more p names)) → (h : Halt) (s : tree.Stop) → IsHaltOf h s → IsPlaceOf v (find_on again h) (tree.go_on once_more s)
+  on_matches : (again : List ℕ → List Name → Place) (once_more : Path → List Name → tree.Resolution) → ((p : Path) (trail : List ℕ) (names : List Name) → Trails (entries v) p trail → IsPlaceOf v (again trail names) (once_more p names)) → (h : WalkEnd) (s : tree.Stop) → IsHaltOf h s → IsPlaceOf v (find_on again h) (tree.go_on once_more s)
   on_matches again once_more both (halts place) (tree.at answer) is = is
   on_matches again once_more both (halts_at_link trail text rest) (tree.at_link p other more) is =
       subst (λ o. IsPlaceOf v (again (if starts_with_slash text then [] else trail) (parts text ++ rest)) (once_more (if starts_with_slash o then [] else p) (parts o ++ more))) (sym is.1)

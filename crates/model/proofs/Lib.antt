@@ -22,7 +22,7 @@ pub mod PutLemmas
 pub mod LinkLemmas
 pub mod SweepLemmas
 pub mod FreshLemmas
-pub mod UnnameLemmas
+pub mod RemoveNameLemmas
 pub mod RenameLemmas
 pub mod FindingLemmas
 pub mod ExtendLemmas

@@ -10,14 +10,14 @@ use Rattle.model.specs.Paths.{Name, Path, IsName, behind}
 use Rattle.model.specs.Trees.{Description}
 use Rattle.model.specs.Edits.{written, resized}
 use Rattle.model.specs.Volumes.{Node, directory_node, file_node, link_node, Volume, Entries, names_in, entries, enter, number_at, with_node, with_edge, with_entry, is_file_node, is_directory_node, IsGraph, IsNode, IsVolume, with_name_more, released, created, linked, unnamed, renamed, swept}
-use Rattle.model.specs.Records.{Made, file, directory, symbolic_link, create, link, unname, rename, write, cut, change_mode, node_of, with_file_bytes, with_node_mode, IsMade, CanReplace, CanRename}
+use Rattle.model.specs.Records.{Made, file, directory, symbolic_link, create, link, remove_name, rename, write, truncate, change_mode, node_of, with_file_bytes, with_node_mode, IsMade, CanReplace, CanRename}
 use Rattle.model.specs.Laws.{RecordsKeepVolumes, SweepsKeepVolumes}
 use Rattle.model.proofs.AttributeLaws.{new_fit, set_fit}
 use Rattle.model.proofs.WalkLemmas.{behind-is, edge_other}
 use Rattle.model.proofs.VolumeLemmas.{directory_some, directory_no_file, enters_directory}
 use Rattle.model.proofs.KeptLemmas.{volume-renamed, entries-renamed}
 use Rattle.model.proofs.PutLemmas.{entries-node}
-use Rattle.model.proofs.UnnameLemmas.{edges-unnamed, volume-unnamed}
+use Rattle.model.proofs.RemoveNameLemmas.{edges-unnamed, volume-unnamed}
 use Rattle.model.proofs.AddLemmas.{edges-linked, edges-created, graph-linked, graph-created, graph-altered, graph-swept, same_swept, SameLinks}
 use Rattle.model.proofs.LimitLemmas.{HasFew, good_node, good_entry, good_released, numbers_node, numbers_entry, numbers_released, few_more, few_same, few_less, one_removed, same_in_other, limits_swept}
 use Rattle.model.proofs.EditLaws.{written_short, length-resized}
@@ -265,7 +265,7 @@ records_keep_volumes inodes v (link number parent name) volume can =
         children = subst HasFew (sym edges) (few_more (entries v) parent name (Some number) limits.children refl can.takes.missing can.takes.count can.takes.counts can.takes.room);
       };
     }
-records_keep_volumes inodes v (unname parent name) volume can =
+records_keep_volumes inodes v (remove_name parent name) volume can =
     let is = enters_directory (v parent) name can.number can.there in
     let path = path_to v volume.graph parent is in
     let limits = volume.limits in
@@ -290,7 +290,7 @@ records_keep_volumes inodes v (rename parent name new_parent new_name) volume ca
       };
     }
 records_keep_volumes inodes v (write number offset bytes) volume can = volume-bytes inodes v volume number (written offset bytes) (λ old short. written_short offset bytes old can.3 short)
-records_keep_volumes inodes v (cut number size) volume can = volume-bytes inodes v volume number (resized size) (λ old short. resized_short size old can.1 short)
+records_keep_volumes inodes v (truncate number size) volume can = volume-bytes inodes v volume number (resized size) (λ old short. resized_short size old can.1 short)
 records_keep_volumes inodes v (change_mode number mode) volume can =
     volume-altered inodes v volume number (with_node_mode mode (v number)) (mode_names mode (v number)) (mode_file mode (v number)) (mode_directory mode (v number)) (mode_some mode (v number)) (mode_links mode (v number)) (mode_good mode (v number) can.1 (volume.limits.nodes number))
 

@@ -309,7 +309,7 @@ pub once_seek : (t : Tree) (fd : ℕ) (from : Whence) (offset : ℤ) → Once (d
 once_seek t fd from offset = once_described t fd _ (λ f. once_two t _ _ EINVAL EOVERFLOW _ (once_changes _ _ _))
 
 pub once_ftruncate : (t : Tree) (fd : ℕ) (size : ℤ) → Once (descriptors.truncates_open t fd size)
-once_ftruncate t fd size = once_described t fd _ (λ f. once_tested t ((not f.writes, EINVAL) ∷ changing.size_tests size) (changing.cuts t f.number (nat_abs size)) (once_changes _ _ _))
+once_ftruncate t fd size = once_described t fd _ (λ f. once_tested t ((not f.writes, EINVAL) ∷ changing.size_tests size) (changing.truncates_file t f.number (nat_abs size)) (once_changes _ _ _))
 
 pub once_fstat : (t : Tree) (fd : ℕ) → Once (descriptors.stats_open t fd)
 once_fstat t fd = once_described t fd _ (λ f. once_tells t (file f.number))

@@ -59,7 +59,7 @@ found_pair o x y one other = cc
 once_restores : (room : Room) (s : State) (name : Name) → OnceStep (restores room s name)
 once_restores room s name =
     once_passing s ((is_none (frozen s name), NOSNAP) ∷ (has_open_below s.tree OPEN_FILES, EBUSY) ∷ [])
-    (λ answer new need. (answer ≡ reply.Done) × ((pair : Name × Tree) × (frozen s name ≡ Some pair) × (new ≡ with_tree pair.1 s)) × (need ≡ a_restore (room.nameless_of name)))
+    (λ answer new need. (answer ≡ reply.Done) × ((pair : Name × Tree) × (frozen s name ≡ Some pair) × (new ≡ with_tree pair.1 s)) × (need ≡ a_restore (room.orphans_of name)))
     (λ a b t u m n one other. (
       one.0 ∙ sym other.0,
       one.1.2 ∙ ap (λ (pair : Name × Tree). with_tree pair.1 s) (found_pair (frozen s name) one.1.0 other.1.0 one.1.1 other.1.1) ∙ sym other.1.2,

@@ -311,7 +311,7 @@ own_seek : (t : Tree) (fd : ℕ) (from : Whence) (offset : ℤ) → Own t (descr
 own_seek t fd from offset = own_described t fd _ (λ f. own_two t _ _ EINVAL EOVERFLOW _ refl refl (own_changes _ _ _ _ tt))
 
 own_ftruncate : (t : Tree) (fd : ℕ) (size : ℤ) → Own t (descriptors.truncates_open t fd size)
-own_ftruncate t fd size = own_described t fd _ (λ f. own_three t (not f.writes) (reading.is_negative size) (nat_lt GREATEST_FILE (nat_abs size)) EINVAL EINVAL EFBIG (changing.cuts t f.number (nat_abs size)) refl refl refl (own_changes _ _ _ _ tt))
+own_ftruncate t fd size = own_described t fd _ (λ f. own_three t (not f.writes) (reading.is_negative size) (nat_lt GREATEST_FILE (nat_abs size)) EINVAL EINVAL EFBIG (changing.truncates_file t f.number (nat_abs size)) refl refl refl (own_changes _ _ _ _ tt))
 
 own_fstat : (t : Tree) (fd : ℕ) → Own t (descriptors.stats_open t fd)
 own_fstat t fd = own_described t fd _ (λ f. own_tells t (file f.number))

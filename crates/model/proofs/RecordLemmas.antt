@@ -7,14 +7,14 @@ use Rattle.model.specs.Paths.{Name, Path}
 use Rattle.model.specs.Trees as trees
 use Rattle.model.specs.Trees.{Tree, Description}
 use Rattle.model.specs.Edits.{contents, resized, written, put_at, without_object}
-use Rattle.model.specs.Volumes.{Node, directory_node, file_node, link_node, Volume, names_in, entries, number_at, object_of, object_at, bytes_of_node, mode_of, tree_of, with_node, set_name, with_entry, is_file_node, is_directory_node, is_nameless, IsGraph, IsVolume, with_name_more, released, created, linked, unnamed, is_open, swept_node, swept, IsMounted}
-use Rattle.model.specs.Records.{Made, file, directory, symbolic_link, Change, create, link, unname, rename, write, cut, change_mode, node_of, with_file_bytes, with_node_mode, applied, CanCreate, CanLink, Applies}
+use Rattle.model.specs.Volumes.{Node, directory_node, file_node, link_node, Volume, names_in, entries, number_at, object_of, object_at, bytes_of_node, mode_of, tree_of, with_node, set_name, with_entry, is_file_node, is_directory_node, is_orphan, IsGraph, IsVolume, with_name_more, released, created, linked, unnamed, is_open, swept_node, swept, IsMounted}
+use Rattle.model.specs.Records.{Made, file, directory, symbolic_link, Change, create, link, remove_name, rename, write, truncate, change_mode, node_of, with_file_bytes, with_node_mode, applied, CanCreate, CanLink, Applies}
 use Rattle.model.specs.Changes.{IsAt, with_made, ChangesTree, TakesFreeNumber}
 use Rattle.model.specs.Laws.{RecordsChangeTrees, VolumesAreTrees}
 use Rattle.model.proofs.VolumeLemmas.{enters_directory}
 use Rattle.model.proofs.KeptLemmas.{Kept, kept_through, entry_keeps, released_keeps, keeps, node-here}
 use Rattle.model.proofs.PutLemmas.{objects-created, objects-linked, objects-unnamed, entries-node}
-use Rattle.model.proofs.UnnameLemmas.{volume-unnamed, unnamed_used}
+use Rattle.model.proofs.RemoveNameLemmas.{volume-unnamed, unnamed_used}
 use Rattle.model.proofs.SweepLemmas.{swept_from, stays_open, found_open}
 use Rattle.model.proofs.RenameLemmas.{renamed_swept}
 use Rattle.model.proofs.OnceLemmas.{trees_same}
@@ -25,22 +25,22 @@ use Rattle.model.proofs.ObjectLaws.{directory_object, node_other}
 
 -- what stays swept
 
-swept_as : (b : Bool) (o r : Option Node) → is_nameless r ≡ is_nameless o → swept_node b o ≡ o → swept_node b r ≡ r
+swept_as : (b : Bool) (o r : Option Node) → is_orphan r ≡ is_orphan o → swept_node b o ≡ o → swept_node b r ≡ r
 swept_as b o None same is = refl
 swept_as b o (Some (directory_node attributes names)) same is = refl
 swept_as true o (Some (file_node attributes zero bytes)) same is = refl
 swept_as false o (Some (file_node attributes zero bytes)) same is = absurd (gone o (sym same) is)
   where
-    gone : (o : Option Node) → is_nameless o ≡ true → swept_node false o ≡ o → ⊥
-    gone None nameless is = false≢true nameless
-    gone (Some (directory_node attributes names)) nameless is = false≢true nameless
-    gone (Some (file_node attributes zero bytes)) nameless is = cc
-    gone (Some (file_node attributes (suc links) bytes)) nameless is = false≢true nameless
-    gone (Some (link_node attributes text)) nameless is = false≢true nameless
+    gone : (o : Option Node) → is_orphan o ≡ true → swept_node false o ≡ o → ⊥
+    gone None orphans is = false≢true orphans
+    gone (Some (directory_node attributes names)) orphans is = false≢true orphans
+    gone (Some (file_node attributes zero bytes)) orphans is = cc
+    gone (Some (file_node attributes (suc links) bytes)) orphans is = false≢true orphans
+    gone (Some (link_node attributes text)) orphans is = false≢true orphans
 swept_as b o (Some (file_node attributes (suc links) bytes)) same is = refl
 swept_as b o (Some (link_node attributes text)) same is = refl
 
-stays_named : (b : Bool) (o : Option Node) → is_nameless o ≡ false → swept_node b o ≡ o
+stays_named : (b : Bool) (o : Option Node) → is_orphan o ≡ false → swept_node b o ≡ o
 stays_named b o named = swept_as b None o named refl
 
 pub swept_twice : (b : Bool) (o : Option Node) → swept_node b (swept_node b o) ≡ swept_node b o
@@ -55,48 +55,48 @@ swept_twice b (Some (link_node attributes text)) = refl
 same_volume : (v w : Volume) → ((n : ℕ) → v n ≡ w n) → v ≡ w
 same_volume v w same = fun_ext {f = v} {g = w} same
 
-set_nameless : (x : Name) (to : Option ℕ) (o : Option Node) → is_nameless (set_name x to o) ≡ is_nameless o
-set_nameless x to None = refl
-set_nameless x to (Some (directory_node attributes names)) = refl
-set_nameless x to (Some (file_node attributes zero bytes)) = refl
-set_nameless x to (Some (file_node attributes (suc links) bytes)) = refl
-set_nameless x to (Some (link_node attributes text)) = refl
+set_orphan : (x : Name) (to : Option ℕ) (o : Option Node) → is_orphan (set_name x to o) ≡ is_orphan o
+set_orphan x to None = refl
+set_orphan x to (Some (directory_node attributes names)) = refl
+set_orphan x to (Some (file_node attributes zero bytes)) = refl
+set_orphan x to (Some (file_node attributes (suc links) bytes)) = refl
+set_orphan x to (Some (link_node attributes text)) = refl
 
-entry_nameless : (v : Volume) (d : ℕ) (x : Name) (to : Option ℕ) (m : ℕ) → is_nameless (with_entry d x to v m) ≡ is_nameless (v m)
-entry_nameless v d x to m =
+entry_orphan : (v : Volume) (d : ℕ) (x : Name) (to : Option ℕ) (m : ℕ) → is_orphan (with_entry d x to v m) ≡ is_orphan (v m)
+entry_orphan v d x to m =
     elim (cases_eq m d) [
-      | inl is ↦ ap (λ k. is_nameless (with_entry d x to v k)) is ∙ ap is_nameless (node-here d (set_name x to (v d)) v) ∙ set_nameless x to (v d) ∙ ap (λ k. is_nameless (v k)) (sym is)
-      | inr other ↦ ap is_nameless (node_other d m (set_name x to (v d)) v other)
+      | inl is ↦ ap (λ k. is_orphan (with_entry d x to v k)) is ∙ ap is_orphan (node-here d (set_name x to (v d)) v) ∙ set_orphan x to (v d) ∙ ap (λ k. is_orphan (v k)) (sym is)
+      | inr other ↦ ap is_orphan (node_other d m (set_name x to (v d)) v other)
     ]
 
-more_named : (o : Option Node) → is_nameless (with_name_more o) ≡ false
+more_named : (o : Option Node) → is_orphan (with_name_more o) ≡ false
 more_named None = refl
 more_named (Some (directory_node attributes names)) = refl
 more_named (Some (file_node attributes links bytes)) = named (links + 1) (omega arith)
   where
-    named : (n : ℕ) → 1 ≤ n → is_nameless (Some (file_node attributes n bytes)) ≡ false
+    named : (n : ℕ) → 1 ≤ n → is_orphan (Some (file_node attributes n bytes)) ≡ false
     named zero low = absurd (omega (arith, low))
     named (suc n) low = refl
 more_named (Some (link_node attributes text)) = refl
 
-made_named : (made : Made) → is_nameless (Some (node_of made)) ≡ false
+made_named : (made : Made) → is_orphan (Some (node_of made)) ≡ false
 made_named (file mode) = refl
 made_named (directory mode) = refl
 made_named (symbolic_link text) = refl
 
-bytes_nameless : (f : List ℕ → List ℕ) (o : Option Node) → is_nameless (with_file_bytes f o) ≡ is_nameless o
-bytes_nameless f None = refl
-bytes_nameless f (Some (directory_node attributes names)) = refl
-bytes_nameless f (Some (file_node attributes zero bytes)) = refl
-bytes_nameless f (Some (file_node attributes (suc links) bytes)) = refl
-bytes_nameless f (Some (link_node attributes text)) = refl
+bytes_orphan : (f : List ℕ → List ℕ) (o : Option Node) → is_orphan (with_file_bytes f o) ≡ is_orphan o
+bytes_orphan f None = refl
+bytes_orphan f (Some (directory_node attributes names)) = refl
+bytes_orphan f (Some (file_node attributes zero bytes)) = refl
+bytes_orphan f (Some (file_node attributes (suc links) bytes)) = refl
+bytes_orphan f (Some (link_node attributes text)) = refl
 
-mode_nameless : (bits : ℕ) (o : Option Node) → is_nameless (with_node_mode bits o) ≡ is_nameless o
-mode_nameless bits None = refl
-mode_nameless bits (Some (directory_node attributes names)) = refl
-mode_nameless bits (Some (file_node attributes zero bytes)) = refl
-mode_nameless bits (Some (file_node attributes (suc links) bytes)) = refl
-mode_nameless bits (Some (link_node attributes text)) = refl
+mode_orphan : (bits : ℕ) (o : Option Node) → is_orphan (with_node_mode bits o) ≡ is_orphan o
+mode_orphan bits None = refl
+mode_orphan bits (Some (directory_node attributes names)) = refl
+mode_orphan bits (Some (file_node attributes zero bytes)) = refl
+mode_orphan bits (Some (file_node attributes (suc links) bytes)) = refl
+mode_orphan bits (Some (link_node attributes text)) = refl
 
 -- a choice by a test, through a function
 chosen : {X Y : Type 0} (f : X → Y) (b : Bool) (x y : X) → f (if b then x else y) ≡ (if b then f x else f y)
@@ -118,8 +118,8 @@ module _ (v new : Volume) (table : ℕ → Option Description) (mounted : IsMoun
     offsets = mounted.offsets;
   }
 
--- nothing is dropped where nothing became nameless
-unswept : (v new : Volume) (table : ℕ → Option Description) → IsMounted v table → ((n : ℕ) → (is_nameless (new n) ≡ false) ⊎ (is_nameless (new n) ≡ is_nameless (v n))) → swept table new ≡ new
+-- nothing is dropped where nothing became an orphan
+unswept : (v new : Volume) (table : ℕ → Option Description) → IsMounted v table → ((n : ℕ) → (is_orphan (new n) ≡ false) ⊎ (is_orphan (new n) ≡ is_orphan (v n))) → swept table new ≡ new
 unswept v new table mounted named =
     same_volume (swept table new) new (λ n.
     elim (named n) [
@@ -177,11 +177,11 @@ module _ (inodes : ℕ) (v : Volume) (volume : IsVolume inodes v) (table : ℕ �
     as_before f none same m =
         cond_both (m == number) (f (Some (node_of made))) (f (v m)) (λ o. o ≡ f (v m)) (λ e. same ∙ sym none ∙ ap f (sym free) ∙ ap (λ n. f (v n)) (sym (eqb-true m number e))) (λ e. refl)
 
-    created_named : (m : ℕ) → (is_nameless (new m) ≡ false) ⊎ (is_nameless (new m) ≡ is_nameless (v m))
+    created_named : (m : ℕ) → (is_orphan (new m) ≡ false) ⊎ (is_orphan (new m) ≡ is_orphan (v m))
     created_named m =
         elim (cases_eq m number) [
-          | inl is ↦ inl (entry_nameless more parent name (Some number) m ∙ ap (λ k. is_nameless (more k)) is ∙ ap is_nameless (node-here number (Some (node_of made)) v) ∙ made_named made)
-          | inr other ↦ inr (entry_nameless more parent name (Some number) m ∙ ap is_nameless (node_other number m (Some (node_of made)) v other))
+          | inl is ↦ inl (entry_orphan more parent name (Some number) m ∙ ap (λ k. is_orphan (more k)) is ∙ ap is_orphan (node-here number (Some (node_of made)) v) ∙ made_named made)
+          | inr other ↦ inr (entry_orphan more parent name (Some number) m ∙ ap is_orphan (node_other number m (Some (node_of made)) v other))
         ]
 
     pub created_swept : swept table new ≡ new
@@ -225,18 +225,18 @@ module _ (inodes : ℕ) (v : Volume) (volume : IsVolume inodes v) (table : ℕ �
           (fun_ext (λ m. (link_kept m).bytes)) (fun_ext (λ m. (link_kept m).mode)) refl,
     )
 
-    linked_named : (m : ℕ) → (is_nameless (linked_now m) ≡ false) ⊎ (is_nameless (linked_now m) ≡ is_nameless (v m))
+    linked_named : (m : ℕ) → (is_orphan (linked_now m) ≡ false) ⊎ (is_orphan (linked_now m) ≡ is_orphan (v m))
     linked_named m =
         elim (cases_eq m number) [
-          | inl is ↦ inl (entry_nameless (with_node number (with_name_more (v number)) v) parent name (Some number) m ∙ ap (λ k. is_nameless (with_node number (with_name_more (v number)) v k)) is ∙ ap is_nameless (node-here number (with_name_more (v number)) v) ∙ more_named (v number))
-          | inr other ↦ inr (entry_nameless (with_node number (with_name_more (v number)) v) parent name (Some number) m ∙ ap is_nameless (node_other number m (with_name_more (v number)) v other))
+          | inl is ↦ inl (entry_orphan (with_node number (with_name_more (v number)) v) parent name (Some number) m ∙ ap (λ k. is_orphan (with_node number (with_name_more (v number)) v k)) is ∙ ap is_orphan (node-here number (with_name_more (v number)) v) ∙ more_named (v number))
+          | inr other ↦ inr (entry_orphan (with_node number (with_name_more (v number)) v) parent name (Some number) m ∙ ap is_orphan (node_other number m (with_name_more (v number)) v other))
         ]
 
     linked_swept : swept table linked_now ≡ linked_now
     linked_swept = unswept v linked_now table mounted linked_named
 
   -- one object changes but for its kind, its names and its links
-  module _ (n : ℕ) (o : Option Node) (names : (x : Name) → names_in o x ≡ names_in (v n) x) (object : (m : ℕ) → object_of m o ≡ object_of m (v n)) (nameless : is_nameless o ≡ is_nameless (v n)) where
+  module _ (n : ℕ) (o : Option Node) (names : (x : Name) → names_in o x ≡ names_in (v n) x) (object : (m : ℕ) → object_of m o ≡ object_of m (v n)) (orphans : is_orphan o ≡ is_orphan (v n)) where
     abbrev altered : Volume
     altered = with_node n o v
 
@@ -255,7 +255,7 @@ module _ (inodes : ℕ) (v : Volume) (volume : IsVolume inodes v) (table : ℕ �
     altered_objects = fun_ext (λ r. ap (λ e. object_at altered (number_at e r)) (entries-node n o v names) ∙ altered_at (number_at (entries v) r))
 
     altered_swept : swept table altered ≡ altered
-    altered_swept = unswept v altered table mounted (λ m. inr (by_node is_nameless nameless m))
+    altered_swept = unswept v altered table mounted (λ m. inr (by_node is_orphan orphans m))
 
   bytes_object : (f : List ℕ → List ℕ) (o : Option Node) (m : ℕ) → object_of m (with_file_bytes f o) ≡ object_of m o
   bytes_object f o m = bytes_by (object_of m) (λ attributes links a b. refl) f o
@@ -272,14 +272,14 @@ module _ (inodes : ℕ) (v : Volume) (volume : IsVolume inodes v) (table : ℕ �
   -- a file's bytes change
   module _ (n : ℕ) (f : List ℕ → List ℕ) (is : is_file_node (v n) ≡ true) where
     bytes_swept : swept table (with_node n (with_file_bytes f (v n)) v) ≡ with_node n (with_file_bytes f (v n)) v
-    bytes_swept = altered_swept n (with_file_bytes f (v n)) (bytes_names f (v n)) (bytes_object f (v n)) (bytes_nameless f (v n))
+    bytes_swept = altered_swept n (with_file_bytes f (v n)) (bytes_names f (v n)) (bytes_object f (v n)) (bytes_orphan f (v n))
 
     bytes_tree : tree_of (with_node n (with_file_bytes f (v n)) v) table ≡ record t { bytes = λ k. if k == n then Some (f (contents t n)) else t.bytes k }
     bytes_tree =
         trees_same (tree_of (with_node n (with_file_bytes f (v n)) v) table) (record t { bytes = λ k. if k == n then Some (f (contents t n)) else t.bytes k })
-        (altered_objects n (with_file_bytes f (v n)) (bytes_names f (v n)) (bytes_object f (v n)) (bytes_nameless f (v n)))
+        (altered_objects n (with_file_bytes f (v n)) (bytes_names f (v n)) (bytes_object f (v n)) (bytes_orphan f (v n)))
         (fun_ext (λ k. chosen bytes_of_node (k == n) (with_file_bytes f (v n)) (v k) ∙ ap (λ b. if k == n then b else t.bytes k) (bytes_here f (v n) is)))
-        (fun_ext (λ k. by_node n (with_file_bytes f (v n)) (bytes_names f (v n)) (bytes_object f (v n)) (bytes_nameless f (v n)) mode_of (bytes_mode f (v n)) k)) refl
+        (fun_ext (λ k. by_node n (with_file_bytes f (v n)) (bytes_names f (v n)) (bytes_object f (v n)) (bytes_orphan f (v n)) mode_of (bytes_mode f (v n)) k)) refl
 
   mode_object : (bits : ℕ) (o : Option Node) (m : ℕ) → object_of m (with_node_mode bits o) ≡ object_of m o
   mode_object bits None m = refl
@@ -302,13 +302,13 @@ module _ (inodes : ℕ) (v : Volume) (volume : IsVolume inodes v) (table : ℕ �
   -- a mode changes
   module _ (n bits : ℕ) (is : (is_file_node (v n) || is_directory_node (v n)) ≡ true) where
     modes_swept : swept table (with_node n (with_node_mode bits (v n)) v) ≡ with_node n (with_node_mode bits (v n)) v
-    modes_swept = altered_swept n (with_node_mode bits (v n)) (mode_names bits (v n)) (mode_object bits (v n)) (mode_nameless bits (v n))
+    modes_swept = altered_swept n (with_node_mode bits (v n)) (mode_names bits (v n)) (mode_object bits (v n)) (mode_orphan bits (v n))
 
     modes_tree : tree_of (with_node n (with_node_mode bits (v n)) v) table ≡ record t { mode = λ k. if k == n then Some bits else t.mode k }
     modes_tree =
         trees_same (tree_of (with_node n (with_node_mode bits (v n)) v) table) (record t { mode = λ k. if k == n then Some bits else t.mode k })
-        (altered_objects n (with_node_mode bits (v n)) (mode_names bits (v n)) (mode_object bits (v n)) (mode_nameless bits (v n)))
-        (fun_ext (λ k. by_node n (with_node_mode bits (v n)) (mode_names bits (v n)) (mode_object bits (v n)) (mode_nameless bits (v n)) bytes_of_node (mode_bytes bits (v n)) k))
+        (altered_objects n (with_node_mode bits (v n)) (mode_names bits (v n)) (mode_object bits (v n)) (mode_orphan bits (v n)))
+        (fun_ext (λ k. by_node n (with_node_mode bits (v n)) (mode_names bits (v n)) (mode_object bits (v n)) (mode_orphan bits (v n)) bytes_of_node (mode_bytes bits (v n)) k))
         (fun_ext (λ k. chosen mode_of (k == n) (with_node_mode bits (v n)) (v k) ∙ ap (λ b. if k == n then b else t.mode k) (mode_here bits (v n) is))) refl
 
   -- what a record does to the tree
@@ -319,7 +319,7 @@ module _ (inodes : ℕ) (v : Volume) (volume : IsVolume inodes v) (table : ℕ �
   changes_tree (link number parent name) can free =
       let one = links_tree number parent name can in
       (one.0, one.1, ap (λ w. tree_of w table) (linked_swept number parent name can) ∙ one.2)
-  changes_tree (unname parent name) can free =
+  changes_tree (remove_name parent name) can free =
       let is = enters_directory (v parent) name can.number can.there in
       let place = path_to v graph parent is in (
         place.0,
@@ -339,14 +339,14 @@ module _ (inodes : ℕ) (v : Volume) (volume : IsVolume inodes v) (table : ℕ �
         renamed_swept v graph table mounted.bounded mounted.files from.0 to.0 name new_name parent new_parent can.number m.at_d m.at_k m.there m.d_is m.k_is m.empty m.outside m.other m.distinct m.name,
       )
   changes_tree (write number offset bytes) can free = ap (λ w. tree_of w table) (bytes_swept number (written offset bytes) can.0) ∙ bytes_tree number (written offset bytes) can.0
-  changes_tree (cut number size) can free = ap (λ w. tree_of w table) (bytes_swept number (resized size) can.0) ∙ bytes_tree number (resized size) can.0
+  changes_tree (truncate number size) can free = ap (λ w. tree_of w table) (bytes_swept number (resized size) can.0) ∙ bytes_tree number (resized size) can.0
   changes_tree (change_mode number mode) can free = ap (λ w. tree_of w table) (modes_swept number mode can.0) ∙ modes_tree number mode can.0
 
   -- what was a file is one still
   files_stay : (change : Change) → Applies inodes v change → TakesFreeNumber v change → (n : ℕ) → is_file_node (v n) ≡ true → is_file_node (applied change v n) ≡ true
   files_stay (create number parent made name) can free n is = created_files number parent made name can free n is
   files_stay (link number parent name) can free n is = (link_kept number parent name can n).file ∙ is
-  files_stay (unname parent name) can free n is =
+  files_stay (remove_name parent name) can free n is =
       (kept_through (v n) (released (entries v parent name) v n) (unnamed parent name v n) (released_keeps (entries v parent name) v n (λ there. is)) (entry_keeps parent name None (released (entries v parent name) v) n)).file ∙ is
   files_stay (rename parent name new_parent new_name) can free n is =
       let from = from_path v graph parent name new_parent new_name can in
@@ -354,11 +354,11 @@ module _ (inodes : ℕ) (v : Volume) (volume : IsVolume inodes v) (table : ℕ �
       let m = is_move v graph parent name new_parent new_name can in
       (keeps v graph from.0 to.0 name new_name parent new_parent can.number m.at_d m.at_k m.there m.d_is m.k_is m.empty m.outside m.other n (λ there. is)).file ∙ is
   files_stay (write number offset bytes) can free n is =
-      by_node number (with_file_bytes (written offset bytes) (v number)) (bytes_names (written offset bytes) (v number)) (bytes_object (written offset bytes) (v number)) (bytes_nameless (written offset bytes) (v number)) is_file_node (bytes_by is_file_node (λ attributes links a b. refl) (written offset bytes) (v number)) n ∙ is
-  files_stay (cut number size) can free n is =
-      by_node number (with_file_bytes (resized size) (v number)) (bytes_names (resized size) (v number)) (bytes_object (resized size) (v number)) (bytes_nameless (resized size) (v number)) is_file_node (bytes_by is_file_node (λ attributes links a b. refl) (resized size) (v number)) n ∙ is
+      by_node number (with_file_bytes (written offset bytes) (v number)) (bytes_names (written offset bytes) (v number)) (bytes_object (written offset bytes) (v number)) (bytes_orphan (written offset bytes) (v number)) is_file_node (bytes_by is_file_node (λ attributes links a b. refl) (written offset bytes) (v number)) n ∙ is
+  files_stay (truncate number size) can free n is =
+      by_node number (with_file_bytes (resized size) (v number)) (bytes_names (resized size) (v number)) (bytes_object (resized size) (v number)) (bytes_orphan (resized size) (v number)) is_file_node (bytes_by is_file_node (λ attributes links a b. refl) (resized size) (v number)) n ∙ is
   files_stay (change_mode number mode) can free n is =
-      by_node number (with_node_mode mode (v number)) (mode_names mode (v number)) (mode_object mode (v number)) (mode_nameless mode (v number)) is_file_node (mode_file mode (v number)) n ∙ is
+      by_node number (with_node_mode mode (v number)) (mode_names mode (v number)) (mode_object mode (v number)) (mode_orphan mode (v number)) is_file_node (mode_file mode (v number)) n ∙ is
 
 pub records_change_trees : RecordsChangeTrees
 records_change_trees inodes v table change volume mounted can free = (

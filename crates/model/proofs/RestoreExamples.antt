@@ -11,9 +11,9 @@ use Rattle.model.specs.States.{State, empty, with_tree, with_snapshots}
 use Rattle.model.specs.Steps.{WouldStep}
 use Rattle.model.specs.Circumstances.{IsShortFor}
 
--- a disk of 64 blocks, whose snapshots keep three files without names each
+-- a disk of 64 blocks, whose snapshots keep three orphans each
 abbrev room_of : ℕ → Room
-room_of free = record { blocks = 64; free = free; pledged = 0; is_covered = true; nameless_of = λ name. 3 }
+room_of free = record { blocks = 64; free = free; pledged = 0; is_covered = true; orphans_of = λ name. 3 }
 
 -- `mkdir /a`, `snap take s`
 

@@ -10,7 +10,7 @@ use Rattle.model.specs.declared.command.Flags.{Flags}
 use Rattle.model.specs.Trees.{Tree, Description, directory, symlink, file, root_alone}
 use Rattle.model.specs.Edits.{with_object, without_object, with_directory, with_file, with_bytes, with_descriptor, moved}
 use Rattle.model.specs.Resolution.{resolve, named, missing, refused}
-use Rattle.model.specs.Room.{nothing, logs, adds_name, removes_name, puts_bytes, changes_size, changes_bits, cost, keep, fixed_of}
+use Rattle.model.specs.Room.{nothing, logs, adds_name, removes_name, puts_bytes, changes_size, changes_bits, cost, headroom, fixed_of}
 use Rattle.model.specs.Reading.{stats, reads_link, gets}
 use Rattle.model.specs.Changing.{makes_directory, makes_symlink, removes_directory, unlinks, links, renames}
 use Rattle.model.specs.Descriptors.{opens, closes, reads, reads_from, writes, writes_to, seeks, truncates_open}
@@ -131,10 +131,10 @@ writes_past_the_end = (refl, refl, refl)
 reads_the_gap : reads_from (file_of (replicate 10 0 ++ 42 ∷ []) 11) 0 (pos 8) 9 (reply.Data (0 ∷ 0 ∷ 42 ∷ [])) (file_of (replicate 10 0 ++ 42 ∷ []) 11) nothing
 reads_the_gap = (refl, refl, refl)
 
--- 128 bytes, one more, cut again: the first 128 stay
+-- 128 bytes, one more, truncated again: the first 128 stay
 
-cut_back : truncates_open (file_of (replicate 128 97 ++ 98 ∷ []) 129) 0 (pos 128) reply.Done (with_bytes 4 (replicate 128 97) (file_of (replicate 128 97 ++ 98 ∷ []) 129)) (logs (changes_size 129 128))
-cut_back = (refl, refl, refl)
+truncated_back : truncates_open (file_of (replicate 128 97 ++ 98 ∷ []) 129) 0 (pos 128) reply.Done (with_bytes 4 (replicate 128 97) (file_of (replicate 128 97 ++ 98 ∷ []) 129)) (logs (changes_size 129 128))
+truncated_back = (refl, refl, refl)
 
 reads_the_last : reads_from (file_of (replicate 128 97) 129) 0 (pos 127) 5 (reply.Data (97 ∷ [])) (file_of (replicate 128 97) 129) nothing
 reads_the_last = (refl, refl, refl)
@@ -147,7 +147,7 @@ too_many_at_once = (refl, refl, refl)
 
 -- the blocks that records cost, and that stay free behind them
 
-costs_of_a_name : (cost adds_name ≡ 24) × (keep adds_name ≡ 16) × (cost removes_name ≡ 24) × (keep removes_name ≡ 0)
+costs_of_a_name : (cost adds_name ≡ 24) × (headroom adds_name ≡ 16) × (cost removes_name ≡ 24) × (headroom removes_name ≡ 0)
 costs_of_a_name = (refl, refl, refl, refl)
 
 costs_of_65536_bytes : cost (puts_bytes 0 0 65536) ≡ 38
@@ -167,7 +167,7 @@ costs_of_a_third_height = (refl, refl, refl, refl)
 costs_of_17_blocks : cost (puts_bytes 68719476736 4095 65536) ≡ 42
 costs_of_17_blocks = refl
 
-costs_of_sizes : (cost (changes_size 5 9) ≡ 6) × (keep (changes_size 5 9) ≡ 16) × (keep (changes_size 9 5) ≡ 0) × (cost changes_bits ≡ 2)
+costs_of_sizes : (cost (changes_size 5 9) ≡ 6) × (headroom (changes_size 5 9) ≡ 16) × (headroom (changes_size 9 5) ≡ 0) × (cost changes_bits ≡ 2)
 costs_of_sizes = (refl, refl, refl, refl)
 
 fixed_of_images : (fixed_of 64 ≡ 5) × (fixed_of 1024 ≡ 5) × (fixed_of 1025 ≡ 6) × (fixed_of 1048576 ≡ 1028)

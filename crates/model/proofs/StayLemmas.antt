@@ -140,27 +140,27 @@ module _ (inodes : ℕ) (t : Tree) (tree : IsTree inodes t) where
   pub few_contents : (n : ℕ) → length (contents t n) ≤ GREATEST_FILE
   few_contents n = few_bytes (t.bytes n) (tree.sizes n)
 
-  -- a file cut to a size stays where it is, and open where it is
-  pub record IsCut (u : Tree) : Type 0 where
+  -- a file truncated to a size stays where it is, and open where it is
+  pub record IsTruncated (u : Tree) : Type 0 where
     pub is : IsTree inodes u
     pub objects : u.objects ≡ t.objects
     pub descriptors : u.descriptors ≡ t.descriptors
 
-  pub cut_is : (n size : ℕ) → StandsAtPath t file n ⊎ IsOpen t n → size ≤ GREATEST_FILE → IsCut (changing.cut_to n size t)
-  cut_is n size stands few =
-      cond_both (size == length (contents t n)) t (with_bytes n (resized size (contents t n)) t) IsCut (λ e. record { is = tree; objects = refl; descriptors = refl }) (λ e. record {
+  pub truncated_is : (n size : ℕ) → StandsAtPath t file n ⊎ IsOpen t n → size ≤ GREATEST_FILE → IsTruncated (changing.truncated_to n size t)
+  truncated_is n size stands few =
+      cond_both (size == length (contents t n)) t (with_bytes n (resized size (contents t n)) t) IsTruncated (λ e. record { is = tree; objects = refl; descriptors = refl }) (λ e. record {
         is = bytes_keep inodes t n (resized size (contents t n)) tree stands (subst (λ k. k ≤ GREATEST_FILE) (sym (length-resized size (contents t n))) few);
         objects = refl;
         descriptors = refl;
       })
 
-  stays_cut : (n size : ℕ) → StandsAtPath t file n ⊎ IsOpen t n → size ≤ GREATEST_FILE → LeavesTree inodes (changing.cuts t n size)
-  stays_cut n size stands few = stays_changed reply.Done (changing.cut_to n size t) (changing.need_of_cut n size t) (cut_is n size stands few).is
+  stays_truncated : (n size : ℕ) → StandsAtPath t file n ⊎ IsOpen t n → size ≤ GREATEST_FILE → LeavesTree inodes (changing.truncates_file t n size)
+  stays_truncated n size stands few = stays_changed reply.Done (changing.truncated_to n size t) (changing.need_of_truncate n size t) (truncated_is n size stands few).is
 
   pub stays_truncate : (path : List ℕ) (size : ℤ) → LeavesTree inodes (changing.truncates t path size)
   stays_truncate path size =
       stays_at (changing.size_tests size) true path _ (λ p o pass at_p. stays_by_kind o _ _ _ (λ n is. stays_refused EISDIR) (λ n text is. stays_never)
-      (λ n is. stays_cut n (nat_abs size) (inl (p, at_p ∙ ap (λ r. Some r) is)) (ltb-false GREATEST_FILE (nat_abs size) pass.1.1.1.1.1.1.1.0)))
+      (λ n is. stays_truncated n (nat_abs size) (inl (p, at_p ∙ ap (λ r. Some r) is)) (ltb-false GREATEST_FILE (nat_abs size) pass.1.1.1.1.1.1.1.0)))
 
   pub stays_chmod : (path : List ℕ) (mode : ℕ) → mode ≤ MODE_BITS → LeavesTree inodes (changing.changes_mode t path mode)
   stays_chmod path mode few =
@@ -227,7 +227,7 @@ module _ (inodes : ℕ) (t : Tree) (tree : IsTree inodes t) where
   pub stays_ftruncate : (fd : ℕ) (size : ℤ) → LeavesTree inodes (descriptors.truncates_open t fd size)
   stays_ftruncate fd size =
       stays_described fd _ (λ f at_fd. stays_passed ((not f.writes, EINVAL) ∷ changing.size_tests size) _ (λ pass.
-      stays_cut f.number (nat_abs size) (inr (fd, f, at_fd, refl)) (ltb-false GREATEST_FILE (nat_abs size) pass.1.1.0)))
+      stays_truncated f.number (nat_abs size) (inr (fd, f, at_fd, refl)) (ltb-false GREATEST_FILE (nat_abs size) pass.1.1.0)))
 
   pub stays_fstat : (fd : ℕ) → LeavesTree inodes (descriptors.stats_open t fd)
   stays_fstat fd = stays_described fd _ (λ f at_fd. stays_tells (file f.number))

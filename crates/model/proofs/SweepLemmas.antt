@@ -12,11 +12,11 @@ use Rattle.model.proofs.VolumeLemmas.{ends, directory_some, enters_directory, di
 use Rattle.model.proofs.ObjectLaws.{object_number}
 use Rattle.model.proofs.OptionLaws.{some_same}
 
--- a file without names
-abbrev pub IsNameless : Option Node → Type 0
-IsNameless o = (attributes : Attributes) × (bytes : List ℕ) × (o ≡ Some (file_node attributes 0 bytes))
+-- an orphan
+abbrev pub IsOrphan : Option Node → Type 0
+IsOrphan o = (attributes : Attributes) × (bytes : List ℕ) × (o ≡ Some (file_node attributes 0 bytes))
 
-pub stays_named : (open_now : Bool) (o : Option Node) → ¬ IsNameless o → swept_node open_now o ≡ o
+pub stays_named : (open_now : Bool) (o : Option Node) → ¬ IsOrphan o → swept_node open_now o ≡ o
 stays_named open_now None named = refl
 stays_named open_now (Some (directory_node attributes names)) named = refl
 stays_named open_now (Some (file_node attributes zero bytes)) named = absurd (named (attributes, bytes, refl))
@@ -78,8 +78,8 @@ none_from (Some o) e = absurd (e (λ is. cc))
 
 module _ (v : Volume) (volume : IsGraph v) (table : ℕ → Option Description) (bounded : (d : ℕ) → 32 ≤ d → table d ≡ None) where
   -- what is reached has a name
-  not_nameless : (r : Path) (n : ℕ) → number_at (entries v) r ≡ Some n → ¬ IsNameless (v n)
-  not_nameless r n at_r (attributes, bytes, is) =
+  not_orphan : (r : Path) (n : ℕ) → number_at (entries v) r ≡ Some n → ¬ IsOrphan (v n)
+  not_orphan r n at_r (attributes, bytes, is) =
       elim (ends r) [
         | inl e ↦
             let three : 3 ≡ n = some_same (ap (number_at (entries v)) (sym e) ∙ at_r) in
@@ -92,7 +92,7 @@ module _ (v : Volume) (volume : IsGraph v) (table : ℕ → Option Description) 
 
   object_stays : (r : Path) (o : Option ℕ) → number_at (entries v) r ≡ o → object_at (swept table v) o ≡ object_at v o
   object_stays r None is = refl
-  object_stays r (Some n) is = ap (object_of n) (stays_named (is_open table 32 n) (v n) (not_nameless r n is))
+  object_stays r (Some n) is = ap (object_of n) (stays_named (is_open table 32 n) (v n) (not_orphan r n is))
 
   pub objects-swept : (tree_of (swept table v) table).objects ≡ (tree_of v table).objects
   objects-swept =
@@ -101,7 +101,7 @@ module _ (v : Volume) (volume : IsGraph v) (table : ℕ → Option Description) 
       ∙ object_stays r (number_at (entries v) r) refl)
 
   pub used_stays : (n : ℕ) → IsUsed (tree_of v table) n → swept table v n ≡ v n
-  used_stays n (inl (p, r, is, same)) = stays_named (is_open table 32 n) (v n) (not_nameless p n (found_number v (number_at (entries v) p) r n is same))
+  used_stays n (inl (p, r, is, same)) = stays_named (is_open table 32 n) (v n) (not_orphan p n (found_number v (number_at (entries v) p) r n is same))
   used_stays n (inr (d, f, is, same)) =
       elim (cases_lt d 32) [
         | inl below ↦ ap (λ b. swept_node b (v n)) (found_open table 32 d n f below is same) ∙ stays_open (v n)

@@ -1,5 +1,6 @@
--- What an object has beside its kind, its count of names and its bytes: its mode. Each later field of an object, such as
--- its owner or its times, is a field here, of `new_attributes` and `AreAttributes`, and gets a lens beside `set_mode`.
+-- What an object has beside its kind, its count of names and its bytes: its mode. Each later field
+-- of an object, such as its owner or its times, is a field here, of `new_attributes` and
+-- `AreAttributes`, and gets a lens beside `set_mode`.
 use Rattle.std.specs.Prelude.{ℕ, ◌≤◌}
 use Rattle.model.specs.declared.limits.TheConstants.{MODE_BITS}
 use Rattle.model.specs.declared.attributes.Attributes.{Attributes}

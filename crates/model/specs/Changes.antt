@@ -5,7 +5,7 @@ use Rattle.model.specs.Trees.{Tree}
 use Rattle.model.specs.Trees as trees
 use Rattle.model.specs.Edits.{contents, resized, written, with_object, without_object, with_mode, with_bytes, with_directory, with_file, moved, IsSwept}
 use Rattle.model.specs.Volumes.{Volume}
-use Rattle.model.specs.Records.{Made, file, directory, symbolic_link, Change, create, link, unname, rename, write, cut, change_mode}
+use Rattle.model.specs.Records.{Made, file, directory, symbolic_link, Change, create, link, remove_name, rename, write, truncate, change_mode}
 
 -- the directory of this number stands at the path
 abbrev pub IsAt : Tree → Path → ℕ → Type 0
@@ -23,12 +23,12 @@ ChangesTree (create number parent made name) old new =
     (p : Path) × IsAt old p parent × (new ≡ with_made made (p ++ name ∷ []) number old)
 ChangesTree (link number parent name) old new =
     (p : Path) × IsAt old p parent × (new ≡ with_object (p ++ name ∷ []) (trees.file number) old)
-ChangesTree (unname parent name) old new =
+ChangesTree (remove_name parent name) old new =
     (p : Path) × IsAt old p parent × IsSwept (without_object (p ++ name ∷ []) old) new
 ChangesTree (rename parent name new_parent new_name) old new =
     (p q : Path) × IsAt old p parent × IsAt old q new_parent × IsSwept (moved (p ++ name ∷ []) (q ++ new_name ∷ []) old) new
 ChangesTree (write number offset bytes) old new = new ≡ with_bytes number (written offset bytes (contents old number)) old
-ChangesTree (cut number size) old new = new ≡ with_bytes number (resized size (contents old number)) old
+ChangesTree (truncate number size) old new = new ≡ with_bytes number (resized size (contents old number)) old
 ChangesTree (change_mode number mode) old new = new ≡ with_mode number mode old
 
 -- what a record makes takes a number that no object has

@@ -1,5 +1,5 @@
--- The calls that change a tree by a path (POSIX.1-2017, mkdir(), symlink(), rmdir(), unlink(), link(), rename(), chmod(),
--- truncate()), each with its tests in order.
+-- The calls that change a tree by a path (POSIX.1-2017, mkdir(), symlink(), rmdir(), unlink(),
+-- link(), rename(), chmod(), truncate()), each with its tests in order.
 use Rattle.std.specs.Prelude.{ℕ, ℤ, nat_abs, ◌==◌, nat_le, nat_lt, not, ◌&&◌, ◌||◌, if◌then◌else◌, Bool, true, false, List, [], ◌∷◌, ◌++◌, length, Option, Some, None, is_some}
 use Rattle.std.specs.List.{list_any}
 use Rattle.model.specs.declared.limits.TheConstants.{PATH_BYTES, FILE_NAMES, GREATEST_FILE}
@@ -13,7 +13,8 @@ use Rattle.model.specs.Room.{Need, nothing, logs, adds_name, removes_name, chang
 use Rattle.model.specs.Outcomes.{Outcome, answers, refuses, changes, changes_swept, tested, either, leads, leads_to, with_names, with_place, with_fresh, with_links}
 use Rattle.model.specs.Reading.{is_negative}
 
--- an object is made where a path leads to a missing name: `make` gives the tree, by its path and its number
+-- an object is made where a path leads to a missing name: `make` gives the tree, by its path and
+-- its number
 abbrev pub creates : ℕ → Tree → List ℕ → (Path → ℕ → Tree → Tree) → Outcome
 creates inodes t path make =
     tested t (new_text_tests path) (leads t (resolve t false path)
@@ -69,8 +70,8 @@ abbrev pub is_same_file : Object → Option Object → Bool
 is_same_file (file n) (Some (file k)) = n == k
 is_same_file o r = false
 
--- the tests of a move of the object o from p to q, where r stands or nothing does: a directory doesn't go below itself,
--- and a directory and something else don't replace each other
+-- the tests of a move of the object o from p to q, where r stands or nothing does: a directory
+-- doesn't go below itself, and a directory and something else don't replace each other
 abbrev pub move_tests : Path → Object → Path → Option Object → Tests
 move_tests p o q r =
     (is_directory (Some o) && begins_with q p, EINVAL)
@@ -78,15 +79,15 @@ move_tests p o q r =
     ∷ (not (is_directory (Some o)) && is_directory r, EISDIR)
     ∷ []
 
--- the target of a move can take it: a directory that is replaced is empty, and a directory that gains a name has room
--- for it
+-- the target of a move can take it: a directory that is replaced is empty, and a directory that
+-- gains a name has room for it
 abbrev pub with_target : Tree → Path → Path → Option Object → Outcome → Outcome
 with_target t p q None rest = either (path_eq (parent p) (parent q)) rest (with_place t (parent q) rest)
 with_target t p q (Some (directory n)) rest = with_names t q (λ names. tested t ((not (is_empty names), ENOTEMPTY) ∷ []) rest)
 with_target t p q (Some r) rest = rest
 
--- an object moves from one path to another with all below it, in place of what stood there; nothing changes where both
--- are one path or one file
+-- an object moves from one path to another with all below it, in place of what stood there; nothing
+-- changes where both are one path or one file
 abbrev pub moves : Tree → Path → Object → Path → Outcome
 moves t p o q =
     either (path_eq p q || is_same_file o (t.objects q)) (answers t Done)
@@ -107,17 +108,17 @@ changes_mode t path mode =
       | symlink n text ↦ λ _ _ _. ⊥  -- a final link is followed
     ]))
 
--- the tree with a file cut, or filled with zeros, to a size
-abbrev pub cut_to : ℕ → ℕ → Tree → Tree
-cut_to n size t = if size == length (contents t n) then t else with_bytes n (resized size (contents t n)) t
+-- the tree with a file truncated, or filled with zeros, to a size
+abbrev pub truncated_to : ℕ → ℕ → Tree → Tree
+truncated_to n size t = if size == length (contents t n) then t else with_bytes n (resized size (contents t n)) t
 
 -- what a change of a file's size needs of room: nothing where the file has the size
-abbrev pub need_of_cut : ℕ → ℕ → Tree → Need
-need_of_cut n size t = if size == length (contents t n) then nothing else logs (changes_size (length (contents t n)) size)
+abbrev pub need_of_truncate : ℕ → ℕ → Tree → Need
+need_of_truncate n size t = if size == length (contents t n) then nothing else logs (changes_size (length (contents t n)) size)
 
 -- a file gets this size
-abbrev pub cuts : Tree → ℕ → ℕ → Outcome
-cuts t n size = changes Done (cut_to n size t) (need_of_cut n size t)
+abbrev pub truncates_file : Tree → ℕ → ℕ → Outcome
+truncates_file t n size = changes Done (truncated_to n size t) (need_of_truncate n size t)
 
 -- the tests of a size: it isn't negative, and no file is greater than the limit
 abbrev pub size_tests : ℤ → Tests
@@ -127,7 +128,7 @@ size_tests size = (is_negative size, EINVAL) ∷ (nat_lt GREATEST_FILE (nat_abs 
 abbrev pub truncates : Tree → List ℕ → ℤ → Outcome
 truncates t path size =
     tested t (text_tests_then (size_tests size) path) (leads_to t (resolve t true path) (λ p o. elim o [
-      | file n ↦ cuts t n (nat_abs size)
+      | file n ↦ truncates_file t n (nat_abs size)
       | directory n ↦ refuses t EISDIR
       | symlink n text ↦ λ _ _ _. ⊥  -- a final link is followed
     ]))

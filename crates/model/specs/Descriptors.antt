@@ -1,4 +1,5 @@
--- The calls on descriptors (POSIX.1-2017, open(), close(), read(), write(), lseek(), ftruncate(), fstat(), fsync()).
+-- The calls on descriptors (POSIX.1-2017, open(), close(), read(), write(), lseek(), ftruncate(),
+-- fstat(), fsync()).
 use Rattle.std.specs.Prelude.{ℕ, ℤ, pos, nat_abs, ◌+ℤ◌, ◌+◌, nat_lt, not, ◌&&◌, ◌||◌, if◌then◌else◌, Bool, true, false, List, [], ◌∷◌, ◌++◌, length, Some, None}
 use Rattle.model.specs.declared.limits.TheConstants.{OPEN_FILES, GREATEST_FILE, GREATEST_OFFSET}
 use Rattle.model.specs.declared.errno.Errno.TheVariants.{ENOENT, EISDIR, EEXIST, EINVAL, EBADF, EMFILE, EFBIG, EOVERFLOW}
@@ -15,7 +16,7 @@ use Rattle.model.specs.Resolution.{resolve}
 use Rattle.model.specs.Room.{nothing, logs, adds_name, puts_bytes}
 use Rattle.model.specs.Outcomes.{Outcome, answers, refuses, changes, changes_swept, tested, either, leads, with_place, with_fresh, lowest_free, described}
 use Rattle.model.specs.Reading.{is_negative, is_too_many, tells_stat}
-use Rattle.model.specs.Changing.{cut_to, need_of_cut, cuts, size_tests}
+use Rattle.model.specs.Changing.{truncated_to, need_of_truncate, truncates_file, size_tests}
 
 -- a file opened so may be read
 abbrev pub is_reading : Access → Bool
@@ -35,15 +36,15 @@ described_by n flags = record { number = n; offset = 0; reads = is_reading flags
 abbrev pub with_offset : ℕ → Description → ℕ → Tree → Tree
 with_offset fd f offset t = with_descriptor fd (Some (record f { offset = offset })) t
 
--- `open` where an object stands: a file is opened, and cut to no bytes where the flags say so; a directory is refused,
--- and so is anything where the flags want a new file
+-- `open` where an object stands: a file is opened, and truncated to no bytes where the flags say
+-- so; a directory is refused, and so is anything where the flags want a new file
 abbrev pub opens_object : Tree → Object → Flags → ℕ → Outcome
 opens_object t o flags fd =
     tested t ((flags.creates && flags.exclusive, EEXIST) ∷ []) (elim o [
       | directory n ↦ refuses t EISDIR
       | symlink n text ↦ λ _ _ _. ⊥  -- a final link is followed
       | file n ↦ either flags.truncates
-          (changes (reply.Fd fd) (with_descriptor fd (Some (described_by n flags)) (cut_to n 0 t)) (need_of_cut n 0 t))
+          (changes (reply.Fd fd) (with_descriptor fd (Some (described_by n flags)) (truncated_to n 0 t)) (need_of_truncate n 0 t))
           (changes (reply.Fd fd) (with_descriptor fd (Some (described_by n flags)) t) nothing)
     ])
 
@@ -71,7 +72,8 @@ opens inodes t path flags mode =
 abbrev pub closes : Tree → ℕ → Outcome
 closes t fd = described t fd (λ f. changes_swept reply.Done (with_descriptor fd None t) nothing)
 
--- `read`: as many bytes as asked and there, from the descriptor's offset on, which moves behind them
+-- `read`: as many bytes as asked and there, from the descriptor's offset on, which moves behind
+-- them
 abbrev pub reads : Tree → ℕ → ℕ → Outcome
 reads t fd count =
     described t fd (λ f. tested t ((not f.reads, EBADF) ∷ (is_too_many count, EINVAL) ∷ [])
@@ -83,15 +85,16 @@ reads_from t fd offset count =
     described t fd (λ f. tested t ((not f.reads, EBADF) ∷ (is_negative offset || is_too_many count, EINVAL) ∷ [])
     (answers t (reply.Data (read_at (nat_abs offset) count (contents t f.number)))))
 
--- data goes to a file at an offset: where there is any and the limit holds it, it is written, and what else changes is
--- `also`
+-- data goes to a file at an offset: where there is any and the limit holds it, it is written, and
+-- what else changes is `also`
 abbrev pub puts : Tree → ℕ → ℕ → List ℕ → (Tree → Tree) → Outcome
 puts t n offset given also =
     either (is_empty given) (answers t (reply.Wrote 0))
     (tested t ((nat_lt GREATEST_FILE (offset + length given), EFBIG) ∷ [])
     (changes (reply.Wrote (length given)) (also (with_bytes n (written offset given (contents t n)) t)) (logs (puts_bytes (length (contents t n)) offset (length given)))))
 
--- `write`: data goes to the descriptor's offset, or behind the last byte under append, and the offset moves behind it
+-- `write`: data goes to the descriptor's offset, or behind the last byte under append, and the
+-- offset moves behind it
 abbrev pub writes : Tree → ℕ → List ℕ → Outcome
 writes t fd given =
     described t fd (λ f. tested t ((not f.writes, EBADF) ∷ (is_too_many (length given), EINVAL) ∷ [])
@@ -103,13 +106,15 @@ writes_to t fd offset given =
     described t fd (λ f. tested t ((not f.writes, EBADF) ∷ (is_negative offset || is_too_many (length given), EINVAL) ∷ [])
     (puts t f.number (nat_abs offset) given (λ after. after)))
 
--- from where an offset of `lseek` counts: the start, the descriptor's offset, or the end of the file
+-- from where an offset of `lseek` counts: the start, the descriptor's offset, or the end of the
+-- file
 abbrev pub base_of : Tree → Description → Whence → ℕ
 base_of t f whence.Set = 0
 base_of t f whence.Cur = f.offset
 base_of t f whence.End = length (contents t f.number)
 
--- `lseek`: the descriptor's offset moves to a place counted from the start, from itself or from the end
+-- `lseek`: the descriptor's offset moves to a place counted from the start, from itself or from the
+-- end
 abbrev pub seeks : Tree → ℕ → Whence → ℤ → Outcome
 seeks t fd from offset =
     described t fd (λ f. let place = pos (base_of t f from) +ℤ offset in
@@ -118,7 +123,7 @@ seeks t fd from offset =
 
 -- `ftruncate`: the file of a descriptor for writing gets this size
 abbrev pub truncates_open : Tree → ℕ → ℤ → Outcome
-truncates_open t fd size = described t fd (λ f. tested t ((not f.writes, EINVAL) ∷ size_tests size) (cuts t f.number (nat_abs size)))
+truncates_open t fd size = described t fd (λ f. tested t ((not f.writes, EINVAL) ∷ size_tests size) (truncates_file t f.number (nat_abs size)))
 
 -- `fstat`: what `stat` tells, of the file of a descriptor
 abbrev pub stats_open : Tree → ℕ → Outcome

@@ -3,7 +3,7 @@ use Rattle.std.specs.Prelude.{ℕ, ◌≡◌, ◌==◌, ◌+◌, ◌-◌, if◌t
 use Rattle.model.specs.Paths.{Path, path_eq, behind}
 use Rattle.model.specs.Trees.{Tree, Object, directory, file, Description, IsUsed}
 
--- bytes cut, or filled with zeros, to this size
+-- bytes truncated, or filled with zeros, to this size
 abbrev pub resized : ℕ → List ℕ → List ℕ
 resized size bytes = take size bytes ++ replicate (size - length bytes) 0
 
@@ -51,14 +51,15 @@ with_directory p n mode t = with_object p (directory n) (with_mode n mode t)
 abbrev pub with_file : Path → ℕ → ℕ → Tree → Tree
 with_file p n mode t = with_object p (file n) (with_mode n mode (with_bytes n [] t))
 
--- what a move from p leaves at a path r: below the target what stood below p, below p nothing, and elsewhere what stood
--- there
+-- what a move from p leaves at a path r: below the target what stood below p, below p nothing, and
+-- elsewhere what stood there
 abbrev pub relocate : {X : Type 0} → Option Path → Option Path → Path → (Path → Option X) → Path → Option X
 relocate (Some rest) o p f r = f (p ++ rest)
 relocate None (Some rest) p f r = None
 relocate None None p f r = f r
 
--- a map from paths after a move: what stood at p and below it stands at q and below it, in place of what stood there
+-- a map from paths after a move: what stood at p and below it stands at q and below it, in place of
+-- what stood there
 abbrev pub relocated : {X : Type 0} → Path → Path → (Path → Option X) → Path → Option X
 relocated p q f r = relocate (behind q r) (behind p r) p f r
 
@@ -66,7 +67,8 @@ relocated p q f r = relocate (behind q r) (behind p r) p f r
 abbrev pub moved : Path → Path → Tree → Tree
 moved p q t = record t { objects = relocated p q t.objects }
 
--- the new tree is the old one without the bytes and modes of numbers that have neither path nor descriptor
+-- the new tree is the old one without the bytes and modes of numbers that have neither path nor
+-- descriptor
 pub record IsSwept (old new : Tree) : Type 0 where
   pub objects : new.objects ≡ old.objects
   pub descriptors : new.descriptors ≡ old.descriptors

@@ -1,4 +1,5 @@
--- Resolution as the file system does it: by numbers, with the trail of the directories walked through.
+-- Resolution as the file system does it: by numbers, with the trail of the directories walked
+-- through.
 use Rattle.std.specs.Prelude.{ℕ, zero, suc, ◌≡◌, ◌≤◌, ◌-◌, not, ◌&&◌, if◌then◌else◌, Bool, List, [], ◌∷◌, ◌++◌, length, take, get_or, Option, Some, None}
 use Rattle.model.specs.declared.limits.TheConstants.{ROOT_NUMBER}
 use Rattle.model.specs.declared.errno.Errno.{Errno}
@@ -7,7 +8,8 @@ use Rattle.model.specs.Paths.{Name, Path, parts, is_dot, is_dot_dot, is_empty, i
 use Rattle.model.specs.Resolution.{Resolution, named, missing, refused}
 use Rattle.model.specs.Volumes.{Node, directory_node, file_node, link_node, Volume, Entries, entries, number_at}
 
--- the directory at the end of a trail of numbers, which go from the root's child down; the root's trail is empty
+-- the directory at the end of a trail of numbers, which go from the root's child down; the root's
+-- trail is empty
 abbrev pub here : List ℕ → ℕ
 here trail = get_or trail (length trail - 1) ROOT_NUMBER
 
@@ -20,7 +22,7 @@ pub record Trails (e : Entries) (p : Path) (trail : List ℕ) : Type 0 where
 pub data Place : Type 0 where
   at_directory : List ℕ → Place  -- the one at the end of the trail
   at_entry : List ℕ → Name → ℕ → Place  -- this number stands at this name in the directory at the end of the trail
-  at_gap : List ℕ → Name → Place  -- nothing has this name in it
+  at_missing : List ℕ → Name → Place  -- nothing has this name in it
   at_refusal : Errno → Place
 
 -- what one part of a path does to a search, from a directory
@@ -53,14 +55,15 @@ turn v trail part =
     else if is_too_long part then finds_long
     else turn_by v (entries v (here trail) part)
 
--- where a walk over parts ends: at a place, or at a link that is followed, with its directory's trail, its text and the
--- parts that are left
-pub data Halt : Type 0 where
-  halts : Place → Halt
-  halts_at_link : List ℕ → List ℕ → List Name → Halt
+-- where a walk over parts ends: at a place, or at a link that is followed, with its directory's
+-- trail, its text and the parts that are left
+pub data WalkEnd : Type 0 where
+  halts : Place → WalkEnd
+  halts_at_link : List ℕ → List ℕ → List Name → WalkEnd
 
--- the walk over parts from the end of a trail; follow says whether a link with no part behind it is followed
-abbrev pub find_along : Volume → Bool → List ℕ → List Name → Halt
+-- the walk over parts from the end of a trail; follow says whether a link with no part behind it is
+-- followed
+abbrev pub find_along : Volume → Bool → List ℕ → List Name → WalkEnd
 find_along v follow trail [] = halts (at_directory trail)
 find_along v follow trail (part ∷ rest) =
     elim (turn v trail part) [
@@ -68,13 +71,14 @@ find_along v follow trail (part ∷ rest) =
       | enters n ↦ if is_empty rest then halts (at_entry trail part n) else find_along v follow (trail ++ n ∷ []) rest
       | ends_at n ↦ halts (if is_empty rest then at_entry trail part n else at_refusal ENOTDIR)
       | follows n text ↦ if is_empty rest && not follow then halts (at_entry trail part n) else halts_at_link trail text rest
-      | finds_nothing ↦ halts (if is_empty rest then at_gap trail part else at_refusal ENOENT)
+      | finds_nothing ↦ halts (if is_empty rest then at_missing trail part else at_refusal ENOENT)
       | finds_damage ↦ halts (at_refusal DAMAGED)
       | finds_long ↦ halts (at_refusal ENAMETOOLONG)
     ]
 
--- the search behind a link: its parts are put before the rest, from the root or from the directory that it stands in
-abbrev pub find_on : (List ℕ → List Name → Place) → Halt → Place
+-- the search behind a link: its parts are put before the rest, from the root or from the directory
+-- that it stands in
+abbrev pub find_on : (List ℕ → List Name → Place) → WalkEnd → Place
 find_on again (halts place) = place
 find_on again (halts_at_link trail text rest) = again (if starts_with_slash text then [] else trail) (parts text ++ rest)
 
@@ -87,6 +91,6 @@ find_within (suc links) v follow trail names = find_on (find_within links v foll
 abbrev pub IsPlaceOf : Volume → Place → Resolution → Type 0
 IsPlaceOf v (at_directory trail) (named p) = Trails (entries v) p trail
 IsPlaceOf v (at_entry trail x n) (named q) = (p : Path) × Trails (entries v) p trail × (q ≡ p ++ x ∷ []) × (entries v (here trail) x ≡ Some n)
-IsPlaceOf v (at_gap trail x) (missing p y) = Trails (entries v) p trail × (y ≡ x) × (entries v (here trail) x ≡ None)
+IsPlaceOf v (at_missing trail x) (missing p y) = Trails (entries v) p trail × (y ≡ x) × (entries v (here trail) x ≡ None)
 IsPlaceOf v (at_refusal errno) (refused other) = other ≡ errno
 IsPlaceOf v _ _ = ⊥

@@ -21,7 +21,7 @@ use Rattle.model.specs.States.{State, IsState, empty, ForgetsOpenFiles, Forgets}
 use Rattle.model.specs.Steps.{WouldStep}
 use Rattle.model.specs.Volumes.{Volume, file_node, entries, number_at, is_file_node, IsVolume, tree_of, swept, IsMounted}
 use Rattle.model.specs.Changes.{TakesFreeNumber, ChangesTree}
-use Rattle.model.specs.Records.{Change, applied, IsBelow, Applies, Replays, without_nameless, Extends, work_of}
+use Rattle.model.specs.Records.{Change, applied, IsBelow, Applies, Replays, without_orphans, Extends, work_of}
 
 -- a refusal that tells of the command and the tree, and not of devices, memory or room
 abbrev pub is_own : Errno → Bool
@@ -44,17 +44,17 @@ RefusalsChangeNothing =
     (room : Room) (s new : State) (command : Command) (need : Need) (errno : Errno)
     → WouldStep room s command (Refused errno) new need → (new ≡ s) × (need ≡ nothing)
 
--- a replayed volume follows the running one: a record that applies to this applies to that, and what the running volume
--- drops at once, the replayed one may keep
+-- a replayed volume follows the running one: a record that applies to this applies to that, and
+-- what the running volume drops at once, the replayed one may keep
 abbrev pub ReplayFollows : Type 0
 ReplayFollows =
     (inodes : ℕ) (running replayed : Volume) (table : ℕ → Option Description) (change : Change)
     → Extends running replayed → Applies inodes running change
     → Applies inodes replayed change × Extends (swept table (applied change running)) (applied change replayed)
 
--- once the files without names are dropped, the replayed volume and the running one are the same
+-- once the orphans are dropped, the replayed volume and the running one are the same
 abbrev pub ReplayEndsSame : Type 0
-ReplayEndsSame = (running replayed : Volume) → Extends running replayed → without_nameless replayed ≡ without_nameless running
+ReplayEndsSame = (running replayed : Volume) → Extends running replayed → without_orphans replayed ≡ without_orphans running
 
 -- where nothing comes in its way, a command has at most one outcome
 abbrev pub HasOneOutcome : Type 0
@@ -81,7 +81,8 @@ CommandsLeaveStates =
     (room : Room) (s new : State) (command : Command) (reply : Reply) (need : Need)
     → IsState s → IsCommand command → WouldStep room s command reply new need → IsState new
 
--- each outcome that the definitions allow of a command on a state is a state, whatever came in its way
+-- each outcome that the definitions allow of a command on a state is a state, whatever came in its
+-- way
 abbrev pub AllowedAreStates : Type 0
 AllowedAreStates =
     (c : Circumstances) (s new : State) (command : Command) (reply : Reply)
@@ -100,8 +101,9 @@ RecordsKeepVolumes =
 abbrev pub SweepsKeepVolumes : Type 0
 SweepsKeepVolumes = (inodes : ℕ) (v : Volume) (table : ℕ → Option Description) → IsVolume inodes v → IsVolume inodes (swept table v)
 
--- of a mounted volume, a record that applies leaves a mounted one once what became nameless is dropped, and it does to
--- the tree what the call in whose words it is said does, where a new object takes a number that nothing has
+-- of a mounted volume, a record that applies leaves a mounted one once what became an orphan is
+-- dropped, and it does to the tree what the call in whose words it is said does, where a new object
+-- takes a number that nothing has
 abbrev pub RecordsChangeTrees : Type 0
 RecordsChangeTrees =
     (inodes : ℕ) (v : Volume) (table : ℕ → Option Description) (change : Change)
@@ -120,8 +122,8 @@ ResolvesByNumbers =
     (inodes : ℕ) (v : Volume) (table : ℕ → Option Description) (follow : Bool) (text : List ℕ)
     → IsVolume inodes v → IsPlaceOf v (find_within LINKS_FOLLOWED v follow [] (parts text)) (resolve (tree_of v table) follow text)
 
--- what isn't a file and isn't the root lies on the trail to a directory just where its path is a beginning of that
--- one's
+-- what isn't a file and isn't the root lies on the trail to a directory just where its path is a
+-- beginning of that one's
 abbrev pub TrailsTellBelow : Type 0
 TrailsTellBelow =
     (inodes : ℕ) (v : Volume) (p w : Path) (trail : List ℕ) (n : ℕ)
@@ -158,14 +160,15 @@ abbrev pub ReplaysKeepVolumes : Type 0
 ReplaysKeepVolumes =
     (inodes : ℕ) (v : Volume) (changes : List Change) (w : Volume) → IsVolume inodes v → Replays inodes v changes w → IsVolume inodes w
 
--- a mount finds a mounted volume, with no file open: the replayed one without the files that have no name
+-- a mount finds a mounted volume, with no file open: the replayed one without the files that have
+-- no name
 abbrev pub MountsFind : Type 0
 MountsFind =
     (inodes : ℕ) (w : Volume) → IsVolume inodes w
-    → IsVolume inodes (without_nameless w) × IsMounted (without_nameless w) (λ d. None)
+    → IsVolume inodes (without_orphans w) × IsMounted (without_orphans w) (λ d. None)
 
 -- the tree that a mount finds is that of the running volume with its open files forgotten
 abbrev pub MountsForget : Type 0
 MountsForget =
     (inodes : ℕ) (running replayed : Volume) (table : ℕ → Option Description) → IsVolume inodes running → Extends running replayed
-    → ForgetsOpenFiles (tree_of running table) (tree_of (without_nameless replayed) (λ d. None))
+    → ForgetsOpenFiles (tree_of running table) (tree_of (without_orphans replayed) (λ d. None))

@@ -1,4 +1,5 @@
--- What a call comes to, step by step: its tests in order, what stands where its path leads, and at last its reply.
+-- What a call comes to, step by step: its tests in order, what stands where its path leads, and at
+-- last its reply.
 use Rattle.std.specs.Prelude.{ℕ, zero, suc, ◌≡◌, ◌↔◌, ◌<◌, ◌≤◌, nat_le, is_none, if◌then◌else◌, Bool, true, false, IsSome, Option, Some, None, MatchOption, Contains, List, [], ◌∷◌, ◌++◌, length}
 use Rattle.std.specs.Ordering.{nat_cmp}
 use Rattle.std.specs.Cmp.Lexicographic.{slice_cmp}
@@ -43,7 +44,8 @@ tested t tests rest = elim (first_refusal tests) [ Some errno ↦ refuses t errn
 abbrev pub either : Bool → Outcome → Outcome → Outcome
 either test this other = elim test [ true ↦ this | false ↦ other ]
 
--- a call goes on where a path leads: to what stands there, or to a name that is missing in a directory
+-- a call goes on where a path leads: to what stands there, or to a name that is missing in a
+-- directory
 abbrev pub leads : Tree → Resolution → (Path → Object → Outcome) → (Path → Name → Outcome) → Outcome
 leads t (refused errno) there gone = refuses t errno
 leads t (missing p name) there gone = gone p name
@@ -66,7 +68,8 @@ with_names t p rest reply new need = (names : List Name) × IsListing t p names 
 abbrev pub with_place : Tree → Path → Outcome → Outcome
 with_place t p rest = with_names t p (λ names. tested t ((nat_le DIRECTORY_NAMES (length names), DIRFULL) ∷ []) rest)
 
--- the number of a new object: the least one that it may take and that isn't used, of a file system of so many inodes
+-- the number of a new object: the least one that it may take and that isn't used, of a file system
+-- of so many inodes
 pub record IsFresh (inodes : ℕ) (t : Tree) (n : ℕ) : Type 0 where
   pub low : FIRST_NUMBER ≤ n
   pub high : n < inodes
@@ -87,7 +90,8 @@ abbrev pub with_fresh : ℕ → Tree → (ℕ → Outcome) → Outcome
 with_fresh inodes t rest reply new need =
     (free : Option ℕ) × MatchOption free (HasNoFresh inodes t) (IsFresh inodes t) × at_number t rest free reply new need
 
--- the links that an object shows: of a file as many as paths lead to it, of a directory and a link 1
+-- the links that an object shows: of a file as many as paths lead to it, of a directory and a link
+-- 1
 abbrev pub HasLinks : Tree → Object → ℕ → Type 0
 HasLinks t (directory n) count = count ≡ 1
 HasLinks t (symlink n text) count = count ≡ 1

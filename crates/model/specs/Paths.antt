@@ -30,7 +30,8 @@ is_dot_dot part = bytes_eq part (codes "..")
 abbrev pub is_empty : {X : Type 0} → List X → Bool
 is_empty xs = length xs == 0
 
--- a name that a file may have: 1 to 255 bytes, none of them zero or a slash (47), and not `.` (46) or `..`
+-- a name that a file may have: 1 to 255 bytes, none of them zero or a slash (47), and not `.` (46)
+-- or `..`
 pub record IsName (name : Name) : Type 0 where
   pub some : 1 ≤ length name
   pub short : length name ≤ NAME_BYTES

@@ -1,4 +1,5 @@
--- The calls that read by a path (POSIX.1-2017, stat(), readlink(), read()): the reply is a function of the tree.
+-- The calls that read by a path (POSIX.1-2017, stat(), readlink(), read()): the reply is a function
+-- of the tree.
 use Rattle.std.specs.Prelude.{ℕ, ℤ, pos, negsuc, nat_abs, true, false, Bool, nat_lt, ◌||◌, List, [], ◌∷◌, length, unwrap_or}
 use Rattle.model.specs.declared.limits.TheConstants.{LINK_MODE, TRANSFER_BYTES}
 use Rattle.model.specs.declared.errno.Errno.TheVariants.{ENOTDIR, EISDIR, EINVAL}
@@ -25,8 +26,8 @@ abbrev pub shown_mode : Tree → Object → ℕ
 shown_mode t (symlink n text) = LINK_MODE
 shown_mode t o = unwrap_or (t.mode (number_of_object o)) 0
 
--- what `stat` tells of an object: number, kind, mode, links and size, which is 0 for a directory and the length of its
--- text for a link
+-- what `stat` tells of an object: number, kind, mode, links and size, which is 0 for a directory
+-- and the length of its text for a link
 abbrev pub stat_of : Tree → Object → ℕ → Stat
 stat_of t (directory n) links = record { number = n; kind = kind.Dir; mode = shown_mode t (directory n); links = links; size = 0 }
 stat_of t (symlink n text) links = record { number = n; kind = kind.Link; mode = shown_mode t (symlink n text); links = links; size = length text }
@@ -36,7 +37,8 @@ stat_of t (file n) links = record { number = n; kind = kind.File; mode = shown_m
 abbrev pub tells_stat : Tree → Object → Outcome
 tells_stat t o = with_links t o (λ links. answers t (reply.Stat (stat_of t o links)))
 
--- `stat` and `lstat`: what is told of the object that a path leads to, where `stat` follows a last link
+-- `stat` and `lstat`: what is told of the object that a path leads to, where `stat` follows a last
+-- link
 abbrev pub stats : Tree → Bool → List ℕ → Outcome
 stats t follow path = tested t (text_tests path) (leads_to t (resolve t follow path) (λ p o. tells_stat t o))
 

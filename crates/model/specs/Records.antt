@@ -1,6 +1,6 @@
 -- What the records of the log do to a volume, and when each applies.
 use Rattle.std.specs.Prelude.{ℕ, zero, suc, ◌≡◌, ◌≢◌, ◌⊎◌, ◌+◌, ◌*◌, ◌≤◌, ◌<◌, IsSome, Bool, true, false, IsTrue, ◌||◌, if◌then◌else◌, List, [], ◌∷◌, length, fold, unwrap_or, Option, Some, None}
-use Rattle.model.specs.declared.costs.TheConstants.{NAMELESS_COST}
+use Rattle.model.specs.declared.costs.TheConstants.{ORPHAN_COST}
 use Rattle.model.specs.declared.limits.TheConstants.{FIRST_NUMBER, FILE_NAMES, DIRECTORY_NAMES, TRANSFER_BYTES, GREATEST_FILE, LINK_MODE, MODE_BITS}
 use Rattle.model.specs.declared.attributes.Attributes.{Attributes}
 use Rattle.model.specs.Attributes.{new_attributes, set_mode}
@@ -8,7 +8,7 @@ use Rattle.model.specs.Counting.{Counts}
 use Rattle.model.specs.Paths.{Name, Path, IsName, IsLinkText}
 use Rattle.model.specs.Edits.{written, resized}
 use Rattle.model.specs.Room.{Room, Work, adds_name, removes_name, puts_bytes, changes_size, changes_bits, cost}
-use Rattle.model.specs.Volumes.{Node, directory_node, file_node, link_node, Volume, Entries, entries, enter, bytes_of_node, with_node, is_file_node, is_directory_node, is_nameless, created, linked, unnamed, renamed, swept_node}
+use Rattle.model.specs.Volumes.{Node, directory_node, file_node, link_node, Volume, Entries, entries, enter, bytes_of_node, with_node, is_file_node, is_directory_node, is_orphan, created, linked, unnamed, renamed, swept_node}
 
 -- what a record makes, with all that a call gives it
 pub data Made : Type 0 where
@@ -20,10 +20,10 @@ pub data Made : Type 0 where
 pub data Change : Type 0 where
   create : (number parent : ℕ) → (made : Made) → (name : List ℕ) → Change
   link : (number parent : ℕ) → (name : List ℕ) → Change
-  unname : (parent : ℕ) → (name : List ℕ) → Change
+  remove_name : (parent : ℕ) → (name : List ℕ) → Change
   rename : (parent : ℕ) → (name : List ℕ) → (new_parent : ℕ) → (new_name : List ℕ) → Change
   write : (number offset : ℕ) → (bytes : List ℕ) → Change
-  cut : (number size : ℕ) → Change
+  truncate : (number size : ℕ) → Change
   change_mode : (number mode : ℕ) → Change
 
 -- the object that a record makes, with its one name; a file has no bytes and a directory no names
@@ -47,10 +47,10 @@ with_node_mode mode o = o
 abbrev pub applied : Change → Volume → Volume
 applied (create number parent made name) v = created number parent name (node_of made) v
 applied (link number parent name) v = linked number parent name v
-applied (unname parent name) v = unnamed parent name v
+applied (remove_name parent name) v = unnamed parent name v
 applied (rename parent name new_parent new_name) v = renamed parent name new_parent new_name v
 applied (write number offset bytes) v = with_node number (with_file_bytes (written offset bytes) (v number)) v
-applied (cut number size) v = with_node number (with_file_bytes (resized size) (v number)) v
+applied (truncate number size) v = with_node number (with_file_bytes (resized size) (v number)) v
 applied (change_mode number mode) v = with_node number (with_node_mode mode (v number)) v
 
 -- the number k lies below n, or is it
@@ -76,10 +76,11 @@ IsMade (file mode) = mode ≤ MODE_BITS
 IsMade (directory mode) = mode ≤ MODE_BITS
 IsMade (symbolic_link text) = IsLinkText text
 
--- a new object may have this number in a replay: nothing has it, or a file that has no name any more
+-- a new object may have this number in a replay: nothing has it, or a file that has no name any
+-- more
 abbrev pub is_vacant : Option Node → Bool
 is_vacant None = true
-is_vacant o = is_nameless o
+is_vacant o = is_orphan o
 
 -- the record of a creation applies: its number is vacant, and its name can be put into a directory
 pub record CanCreate (inodes : ℕ) (v : Volume) (number parent : ℕ) (made : Made) (name : Name) : Type 0 where
@@ -89,8 +90,8 @@ pub record CanCreate (inodes : ℕ) (v : Volume) (number parent : ℕ) (made : M
   pub takes : TakesName v parent name
   pub good : IsMade made
 
--- the record of a link applies: its number is that of a file with fewer names than the limit, and its name can be put
--- into a directory
+-- the record of a link applies: its number is that of a file with fewer names than the limit, and
+-- its name can be put into a directory
 pub record CanLink (v : Volume) (number parent : ℕ) (name : Name) : Type 0 where
   pub attributes : Attributes
   pub links : ℕ
@@ -105,13 +106,14 @@ pub record CanUnname (v : Volume) (parent : ℕ) (name : Name) : Type 0 where
   pub there : entries v parent name ≡ Some number
   pub empty : IsEmpty v number
 
--- what may have the new name before a move: nothing, where the directory has the object already or takes one more name;
--- or another object of the kind, a directory only where it is empty
+-- what may have the new name before a move: nothing, where the directory has the object already or
+-- takes one more name; or another object of the kind, a directory only where it is empty
 abbrev pub CanReplace : Volume → ℕ → ℕ → Name → ℕ → Option ℕ → Type 0
 CanReplace v d k y n None = (d ≡ k) ⊎ TakesName v k y
 CanReplace v d k y n (Some m) = (m ≢ n) × (is_directory_node (v m) ≡ is_directory_node (v n)) × IsEmpty v m
 
--- the record of a move applies: its name is there, it puts no directory below itself, and its target can take it
+-- the record of a move applies: its name is there, it puts no directory below itself, and its
+-- target can take it
 pub record CanRename (v : Volume) (d : ℕ) (x : Name) (k : ℕ) (y : Name) : Type 0 where
   pub number : ℕ
   pub there : entries v d x ≡ Some number
@@ -120,16 +122,16 @@ pub record CanRename (v : Volume) (d : ℕ) (x : Name) (k : ℕ) (y : Name) : Ty
   pub outside : ¬ IsBelow (entries v) number k
   pub replaces : CanReplace v d k y number (entries v k y)
 
--- a record applies to a volume of so many inodes: its numbers have the right kinds, its names can be taken away or put
--- in, and no limit is passed
+-- a record applies to a volume of so many inodes: its numbers have the right kinds, its names can
+-- be taken away or put in, and no limit is passed
 abbrev pub Applies : ℕ → Volume → Change → Type 0
 Applies inodes v (create number parent made name) = CanCreate inodes v number parent made name
 Applies inodes v (link number parent name) = CanLink v number parent name
-Applies inodes v (unname parent name) = CanUnname v parent name
+Applies inodes v (remove_name parent name) = CanUnname v parent name
 Applies inodes v (rename parent name new_parent new_name) = CanRename v parent name new_parent new_name
 Applies inodes v (write number offset bytes) =
     IsTrue (is_file_node (v number)) × (1 ≤ length bytes) × (length bytes ≤ TRANSFER_BYTES) × (offset + length bytes ≤ GREATEST_FILE)
-Applies inodes v (cut number size) = IsTrue (is_file_node (v number)) × (size ≤ GREATEST_FILE)
+Applies inodes v (truncate number size) = IsTrue (is_file_node (v number)) × (size ≤ GREATEST_FILE)
 Applies inodes v (change_mode number mode) =
     IsTrue (is_file_node (v number) || is_directory_node (v number)) × (mode ≤ MODE_BITS)
 
@@ -138,12 +140,13 @@ abbrev pub Replays : ℕ → Volume → List Change → Volume → Type 0
 Replays inodes v [] w = w ≡ v
 Replays inodes v (change ∷ changes) w = Applies inodes v change × Replays inodes (applied change v) changes w
 
--- the volume without the files that have no name, as it is behind the last record, when no file is open
-abbrev pub without_nameless : Volume → Volume
-without_nameless v n = swept_node false (v n)
+-- the volume without the files that have no name, as it is behind the last record, when no file is
+-- open
+abbrev pub without_orphans : Volume → Volume
+without_orphans v n = swept_node false (v n)
 
--- a replayed volume has what the running one has, and beside it only files without names, which the running one has
--- dropped
+-- a replayed volume has what the running one has, and beside it only orphans, which the running one
+-- has dropped
 pub record Extends (running replayed : Volume) : Type 0 where
   pub kept : (n : ℕ) → IsSome (running n) → replayed n ≡ running n
   pub rest : (n : ℕ) → running n ≡ None → IsTrue (is_vacant (replayed n))
@@ -156,10 +159,10 @@ size_before v number = length (unwrap_or (bytes_of_node (v number)) [])
 abbrev pub work_of : Volume → Change → Work
 work_of v (create number parent made name) = adds_name
 work_of v (link number parent name) = adds_name
-work_of v (unname parent name) = removes_name
+work_of v (remove_name parent name) = removes_name
 work_of v (rename parent name new_parent new_name) = adds_name
 work_of v (write number offset bytes) = puts_bytes (size_before v number) offset (length bytes)
-work_of v (cut number size) = changes_size (size_before v number) size
+work_of v (truncate number size) = changes_size (size_before v number) size
 work_of v (change_mode number mode) = changes_bits
 
 -- what records cost that change a volume one after the other
@@ -167,22 +170,22 @@ abbrev pub costs : Volume → List Change → ℕ
 costs v [] = 0
 costs v (change ∷ changes) = cost (work_of v change) + costs (applied change v) changes
 
--- how many of the first so many numbers are files without names
-abbrev pub count_nameless : ℕ → Volume → ℕ
-count_nameless zero v = 0
-count_nameless (suc n) v = count_nameless n v + (if is_nameless (v n) then 1 else 0)
+-- how many of the first so many numbers are orphans
+abbrev pub count_orphans : ℕ → Volume → ℕ
+count_orphans zero v = 0
+count_orphans (suc n) v = count_orphans n v + (if is_orphan (v n) then 1 else 0)
 
--- the blocks that a consistency point may store for what the settled root doesn't cover: these records, and each file
--- without names in the settled root's volume
+-- the blocks that a consistency point may store for what the settled root doesn't cover: these
+-- records, and each file without names in the settled root's volume
 abbrev pub pledged_for : ℕ → Volume → List Change → ℕ
-pledged_for inodes settled changes = NAMELESS_COST * count_nameless inodes settled + costs settled changes
+pledged_for inodes settled changes = ORPHAN_COST * count_orphans inodes settled + costs settled changes
 
 -- the settled root has the volume as it is now, and covers every record
 abbrev pub CoversAll : Volume → Volume → List Change → Type 0
 CoversAll settled now changes = (settled ≡ now) × (changes ≡ [])
 
--- the room that a system tells, by the volume of its settled root, the records beside it and its volume now: what is
--- pledged for these, and that it is covered only where that root has all
+-- the room that a system tells, by the volume of its settled root, the records beside it and its
+-- volume now: what is pledged for these, and that it is covered only where that root has all
 pub record TellsRoom (inodes : ℕ) (settled now : Volume) (changes : List Change) (room : Room) : Type 0 where
   pub pledged : room.pledged ≡ pledged_for inodes settled changes
   pub covered : IsTrue room.is_covered → CoversAll settled now changes

@@ -1,6 +1,6 @@
 -- The room of the disk: what a call asks of the blocks that are left.
 use Rattle.std.specs.Prelude.{ℕ, List, ◌+◌, ◌-◌, ◌*◌, ◌/◌, ◌<◌, max, nat_lt, if◌then◌else◌, Bool, IsTrue}
-use Rattle.model.specs.declared.costs.TheConstants.{NAMES_COST, FILE_COST, GREAT_FILE_COST, MODE_COST, NAMELESS_COST, POINT_COST, KEPT_BLOCKS}
+use Rattle.model.specs.declared.costs.TheConstants.{NAMES_COST, FILE_COST, GREAT_FILE_COST, MODE_COST, ORPHAN_COST, POINT_COST, HEADROOM_BLOCKS}
 use Rattle.model.specs.declared.limits.TheConstants.{SINGLE_FILE}
 
 -- the kind of work that a record of the log makes for a consistency point
@@ -15,8 +15,8 @@ pub data Work : Type 0 where
 abbrev pub touched : ℕ → ℕ → ℕ
 touched offset count = (offset + count + 4095) / 4096 - offset / 4096
 
--- the most blocks that a write stores beside its own and those that lead to them: with a third height over the blocks of a
--- file that is or becomes as large, two more
+-- the most blocks that a write stores beside its own and those that lead to them: with a third
+-- height over the blocks of a file that is or becomes as large, two more
 abbrev pub beside : ℕ → ℕ
 beside size = if nat_lt SINGLE_FILE size then GREAT_FILE_COST else FILE_COST
 
@@ -29,12 +29,12 @@ cost (changes_size size to) = FILE_COST
 cost changes_bits = MODE_COST
 
 -- the blocks that stay free behind a record, so that files can still be taken away
-abbrev pub keep : Work → ℕ
-keep adds_name = KEPT_BLOCKS
-keep removes_name = 0
-keep (puts_bytes size offset count) = KEPT_BLOCKS
-keep (changes_size size to) = if nat_lt size to then KEPT_BLOCKS else 0
-keep changes_bits = 0
+abbrev pub headroom : Work → ℕ
+headroom adds_name = HEADROOM_BLOCKS
+headroom removes_name = 0
+headroom (puts_bytes size offset count) = HEADROOM_BLOCKS
+headroom (changes_size size to) = if nat_lt size to then HEADROOM_BLOCKS else 0
+headroom changes_bits = 0
 
 -- the blocks that each consistency point stores whatever changed, on a disk of so many blocks
 abbrev pub fixed_of : ℕ → ℕ
@@ -45,7 +45,7 @@ pub data Need : Type 0 where
   nothing : Need  -- it logs no record
   logs : Work → Need
   a_snapshot : Need  -- it takes one
-  a_restore : (nameless : ℕ) → Need  -- it makes the tree that of one, which keeps so many files without names
+  a_restore : (orphans : ℕ) → Need  -- it makes the tree that of one, which keeps so many orphans
 
 -- the room of the disk at an answer
 pub record Room : Type 0 where
@@ -53,12 +53,12 @@ pub record Room : Type 0 where
   pub free : ℕ  -- the zero entries of the settled root's block map
   pub pledged : ℕ  -- blocks that a consistency point may store for what the settled root doesn't cover
   pub is_covered : Bool  -- the settled root has the tree as it is now, and no record stands beside it
-  pub nameless_of : List ℕ → ℕ  -- files without names that the image keeps under the snapshot of a name
+  pub orphans_of : List ℕ → ℕ  -- orphans that the image keeps under the snapshot of a name
 
 -- the room isn't enough for a need, although the settled root covers all that was done
 abbrev pub IsShort : Room → Need → Type 0
 IsShort room nothing = ⊥
-IsShort room (logs work) = IsTrue room.is_covered × (room.free < room.pledged + cost work + fixed_of room.blocks + keep work)
+IsShort room (logs work) = IsTrue room.is_covered × (room.free < room.pledged + cost work + fixed_of room.blocks + headroom work)
 IsShort room a_snapshot = IsTrue room.is_covered × (room.free < room.pledged + 2 * fixed_of room.blocks + 1)
-IsShort room (a_restore nameless) =
-    IsTrue room.is_covered × (room.free < room.pledged + 2 * fixed_of room.blocks + 1 + NAMELESS_COST * nameless)
+IsShort room (a_restore orphans) =
+    IsTrue room.is_covered × (room.free < room.pledged + 2 * fixed_of room.blocks + 1 + ORPHAN_COST * orphans)

@@ -26,7 +26,8 @@ pub record IsShortName (name : Name) : Type 0 where
   pub some : 1 ≤ length name
   pub short : length name ≤ SNAPSHOT_NAME_BYTES
 
--- what makes these a state: trees within the limits, and no more snapshots than the limit, each with a name of its own
+-- what makes these a state: trees within the limits, and no more snapshots than the limit, each
+-- with a name of its own
 pub record IsState (s : State) : Type 0 where
   pub tree : IsTree s.inodes s.tree
   pub frozen : All (λ pair. IsFrozen s.inodes pair.1) s.snapshots

@@ -77,7 +77,7 @@ abbrev pub take_tests : State → Name → Tests
 take_tests s name =
     (is_bad_name name, BADNAME) ∷ (not (is_none (frozen s name)), SNAPEXISTS) ∷ (nat_le SNAPSHOTS (length s.snapshots), SNAPFULL) ∷ []
 
--- `snap take`: the tree without descriptors and nameless files is put behind the other snapshots
+-- `snap take`: the tree without descriptors and orphans is put behind the other snapshots
 abbrev pub takes : State → Name → Step
 takes s name = passing s (take_tests s name) (λ reply new need.
     (reply ≡ Done) × ((t : Tree) × ForgetsOpenFiles s.tree t × (new ≡ with_snapshots (s.snapshots ++ (name, t) ∷ []) s)) × (need ≡ a_snapshot))
@@ -92,11 +92,12 @@ abbrev pub has_open_below : Tree → ℕ → Bool
 has_open_below t zero = false
 has_open_below t (suc fd) = has_open_below t fd || not (is_none (t.descriptors fd))
 
--- `snap restore`: the tree becomes that of the snapshot of this name, which stays; no file may be open
+-- `snap restore`: the tree becomes that of the snapshot of this name, which stays; no file may be
+-- open
 abbrev pub restores : Room → State → Name → Step
 restores room s name = passing s ((is_none (frozen s name), NOSNAP) ∷ (has_open_below s.tree OPEN_FILES, EBUSY) ∷ [])
     (λ reply new need. (reply ≡ Done) × ((pair : Name × Tree) × (frozen s name ≡ Some pair) × (new ≡ with_tree pair.1 s))
-    × (need ≡ a_restore (room.nameless_of name)))
+    × (need ≡ a_restore (room.orphans_of name)))
 
 -- `in NAME`: a reading call on the snapshot's tree
 abbrev pub views : State → Name → PathCall → Step
@@ -106,7 +107,8 @@ views s name c = elim (frozen s name) [
       (λ reply new need. calls s.inodes pair.1 c reply pair.1 need × (new ≡ s))
 ]
 
--- the reply, the new state and the need of a command, where nothing comes in its way; `df` tells the room at the answer
+-- the reply, the new state and the need of a command, where nothing comes in its way; `df` tells
+-- the room at the answer
 abbrev pub WouldStep : Room → State → Command → Step
 WouldStep room s (command.Path c) = on_tree s (calls s.inodes s.tree c)
 WouldStep room s (command.Open path flags mode) = on_tree s (opens s.inodes s.tree path flags mode)

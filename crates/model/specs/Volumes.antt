@@ -7,8 +7,9 @@ use Rattle.model.specs.Counting.{Counts, CountsUpTo}
 use Rattle.model.specs.Paths.{Name, Path, IsName, IsLinkText}
 use Rattle.model.specs.Trees.{Tree, Object, directory, symlink, file, Description}
 
--- an object with its attributes: a directory with the numbers of its names, a file with its count of names and its
--- bytes, or a link with its text. The count stands beside the attributes, since the names of the volume give it.
+-- an object with its attributes: a directory with the numbers of its names, a file with its count
+-- of names and its bytes, or a link with its text. The count stands beside the attributes, since
+-- the names of the volume give it.
 pub data Node : Type 0 where
   directory_node : Attributes → (Name → Option ℕ) → Node
   file_node : Attributes → ℕ → List ℕ → Node
@@ -103,8 +104,8 @@ is_directory_node _ = false
 abbrev pub HasNames : Entries → ℕ → ℕ → Type 0
 HasNames e n count = Counts (λ (place : ℕ × Name). e place.0 place.1 ≡ Some n) count
 
--- what names and numbers keep: each name leads to an object, only a file has several, and each directory and link is
--- reached from the root
+-- what names and numbers keep: each name leads to an object, only a file has several, and each
+-- directory and link is reached from the root
 pub record IsNaming (v : Volume) : Type 0 where
   pub root : IsTrue (is_directory_node (v ROOT_NUMBER))
   pub not_root : (d : ℕ) (x : Name) → entries v d x ≢ Some ROOT_NUMBER
@@ -136,8 +137,8 @@ pub record KeepsNodeLimits (inodes : ℕ) (v : Volume) : Type 0 where
   pub numbers : (n : ℕ) → IsSome (v n) → (n ≡ ROOT_NUMBER) ⊎ ((FIRST_NUMBER ≤ n) × (n < inodes))
   pub children : (d : ℕ) → CountsUpTo DIRECTORY_NAMES (λ x. IsSome (entries v d x))
 
--- what makes numbered objects a volume of so many inodes; images that open to no state may name none, so where this is
--- needed, it is a premise
+-- what makes numbered objects a volume of so many inodes; images that open to no state may name
+-- none, so where this is needed, it is a premise
 pub record IsVolume (inodes : ℕ) (v : Volume) : Type 0 where
   pub graph : IsGraph v
   pub limits : KeepsNodeLimits inodes v
@@ -169,7 +170,8 @@ linked n d x v = with_entry d x (Some n) (with_node n (with_name_more (v n)) v)
 abbrev pub unnamed : ℕ → Name → Volume → Volume
 unnamed d x v = with_entry d x None (released (entries v d x) v)
 
--- the volume after a move: what has the name x in d has the name y in k, and what had that name has it no more
+-- the volume after a move: what has the name x in d has the name y in k, and what had that name has
+-- it no more
 abbrev pub renamed : ℕ → Name → ℕ → Name → Volume → Volume
 renamed d x k y v = with_entry k y (entries v d x) (with_entry d x None (released (entries v k y) v))
 
@@ -183,12 +185,12 @@ abbrev pub is_open : (ℕ → Option Description) → ℕ → ℕ → Bool
 is_open table zero n = false
 is_open table (suc d) n = is_numbered (table d) n || is_open table d n
 
--- the object is a file without names
-abbrev pub is_nameless : Option Node → Bool
-is_nameless (Some (file_node attributes zero bytes)) = true
-is_nameless _ = false
+-- the object is an orphan: a file that no directory names
+abbrev pub is_orphan : Option Node → Bool
+is_orphan (Some (file_node attributes zero bytes)) = true
+is_orphan _ = false
 
--- an object, or none where it is a file without names that isn't open
+-- an object, or none where it is an orphan that isn't open
 abbrev pub swept_node : Bool → Option Node → Option Node
 swept_node open_now (Some (file_node attributes zero bytes)) = if open_now then Some (file_node attributes zero bytes) else None
 swept_node open_now o = o
@@ -197,7 +199,7 @@ swept_node open_now o = o
 abbrev pub swept : (ℕ → Option Description) → Volume → Volume
 swept table v n = swept_node (is_open table OPEN_FILES n) (v n)
 
--- the descriptors fit the volume: what is open is a file, and files without names are open
+-- the descriptors fit the volume: what is open is a file, and orphans are open
 pub record IsMounted (v : Volume) (table : ℕ → Option Description) : Type 0 where
   pub files : (d : ℕ) (f : Description) → table d ≡ Some f → IsTrue (is_file_node (v f.number))
   pub is_swept : (n : ℕ) → swept table v n ≡ v n

@@ -6,8 +6,8 @@ ghost use Rattle.model.specs.declared.limits.TheConstants.{LINK_MODE};
 
 use crate::{LINK_MODE, Mode};
 
-/// What an object has beside its kind, its count of names and its bytes. Whoever makes one goes through a function of this
-/// file, so that a further field changes no caller.
+/// What an object has beside its kind, its count of names and its bytes. Whoever makes one goes
+/// through a function of this file, so that a further field changes no caller.
 #[derive(Clone, Copy, Debug, PartialEq, Eq)]
 pub struct Attributes {
     pub mode: Mode,

@@ -9,7 +9,8 @@ ghost use Rattle.model.specs.Laws.{ReplaysKeepVolumes, MountsFind, MountsForget}
 
 use crate::{Command, PathCall};
 
-/// Where nothing comes in its way, a command refuses by its own errnos alone: none that tells of devices, memory or room.
+/// Where nothing comes in its way, a command refuses by its own errnos alone: none that tells of
+/// devices, memory or room.
 pub fn commands_refuse_by_their_own()
     ensures { RefusesByItsOwn }
 {}
@@ -24,7 +25,7 @@ pub fn records_keep_volumes()
     ensures { RecordsKeepVolumes }
 {}
 
-/// Dropping the files without names that no descriptor has open leaves a volume.
+/// Dropping the orphans that no descriptor has open leaves a volume.
 pub fn sweeps_keep_volumes()
     ensures { SweepsKeepVolumes }
 {}
@@ -39,12 +40,13 @@ pub fn records_change_trees()
     ensures { RecordsChangeTrees }
 {}
 
-/// A record that applies to the running volume applies to the replayed one, which keeps following it.
+/// A record that applies to the running volume applies to the replayed one, which keeps following
+/// it.
 pub fn replays_follow()
     ensures { ReplayFollows }
 {}
 
-/// Once the files without names are dropped, the replayed volume is the running one without them.
+/// Once the orphans are dropped, the replayed volume is the running one without them.
 pub fn replays_end_same()
     ensures { ReplayEndsSame }
 {}
@@ -74,7 +76,8 @@ pub fn replays_keep_volumes()
     ensures { ReplaysKeepVolumes }
 {}
 
-/// Behind the last record, without the files that have no name, a volume is a mounted one with no file open.
+/// Behind the last record, without the files that have no name, a volume is a mounted one with no
+/// file open.
 pub fn mounts_find_volumes()
     ensures { MountsFind }
 {}
@@ -99,8 +102,9 @@ pub fn refusals_change_nothing()
     ensures { RefusalsChangeNothing }
 {}
 
-/// Each outcome of a command on a state is a state: where nothing comes in its way, and under whatever the definitions
-/// allow. So is a file system as it is made, and what a mount finds of a state.
+/// Each outcome of a command on a state is a state: where nothing comes in its way, and under
+/// whatever the definitions allow. So is a file system as it is made, and what a mount finds of a
+/// state.
 pub fn outcomes_are_states()
     ensures done { CommandsLeaveStates }
     ensures allowed { AllowedAreStates }

@@ -1,5 +1,5 @@
-//! The meaning of the calls (model): their words, their replies and their refusals. What a call means stands in
-//! `specs/`.
+//! The meaning of the calls (model): their words, their replies and their refusals. What a call
+//! means stands in `specs/`.
 #![tactic(auto)]
 
 mod attributes;
@@ -15,7 +15,7 @@ mod text;
 pub use attributes::Attributes;
 pub use command::{Access, Command, Flags, PathCall, Whence};
 pub use costs::{
-    FILE_COST, GREAT_FILE_COST, KEPT_BLOCKS, MODE_COST, NAMELESS_COST, NAMES_COST, POINT_COST,
+    FILE_COST, GREAT_FILE_COST, HEADROOM_BLOCKS, MODE_COST, NAMES_COST, ORPHAN_COST, POINT_COST,
     fixed_cost,
 };
 pub use errno::Errno;

@@ -24,10 +24,12 @@ pub const DIRECTORY_NAMES: usize = 65_536;
 /// Descriptors are below this number.
 pub const OPEN_FILES: u32 = 32;
 
-/// Greatest number of bytes that one call reads or writes, and so of those that a record of the log writes.
+/// Greatest number of bytes that one call reads or writes, and so of those that a record of the log
+/// writes.
 pub const TRANSFER_BYTES: usize = 65_536;
 
-/// Greatest length in bytes of a file that two heights of pointers lead to. Room counts a third one for a write past it.
+/// Greatest length in bytes of a file that two heights of pointers lead to. Room counts a third one
+/// for a write past it.
 pub const SINGLE_FILE: u64 = 67_108_864;
 
 /// Greatest length of a file in bytes.

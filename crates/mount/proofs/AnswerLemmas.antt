@@ -1,15 +1,14 @@
 -- What a file system promises of a command, by the way that it is answered.
-use Rattle.std.proofs.Common.{◌≡◌, ◌≢◌, ◌⊎◌, inl, inr, ℕ, ◌+◌, ◌*◌, ◌≤◌, ◌^◌, List, [], ◌∷◌, Option, Some, None, Bool, false, Result, Ok, Err, refl, ap, sym, subst, ◌∙◌, arith}
+use Rattle.std.proofs.Common.{◌≡◌, ◌≢◌, ◌⊎◌, inl, inr, ℕ, ◌+◌, ◌≤◌, ◌^◌, Bool, false, Result, Ok, Err, refl, ap, sym, subst, ◌∙◌, arith}
 use Rattle.std.specs.Prelude.{IsErrOf, IsFalse, IsTrue}
 use Rattle.std.proofs.lemmas.Bool.{cases_lt, false≢true}
-use Rattle.station.specs.Calls.{Uses}
 use Rattle.station.specs.Moments.{EachCut, Meaning}
 use Rattle.station.specs.declared.station.Station.{Ghosts}
 use Rattle.station.proofs.Calls.{uses_none, uses_twice}
 use Rattle.station.proofs.Moments.{same_none, unchanged_none}
 use Rattle.model.specs.Circumstances.{IsShortFor, IsSure}
 use Rattle.model.specs.Replies.{IsReplyTo}
-use Rattle.model.specs.Room.{Room, cost, fixed_of, keep, logs}
+use Rattle.model.specs.Room.{Room, cost, fixed_of, headroom, logs}
 use Rattle.model.specs.States.{State}
 use Rattle.model.specs.declared.command.Command.{Command}
 use Rattle.model.specs.declared.errno.Errno.{Errno}
@@ -18,9 +17,10 @@ use Rattle.model.specs.declared.reply.Reply.{Reply}
 use Rattle.model.specs.declared.reply.Reply.TheVariants.{Refused}
 use Rattle.system.specs.Counting.{AgesBy, Counted, Failed, LogsNothing, beside_reads, call_error_failed, perhaps_reads}
 use Rattle.system.specs.Images.{OpensTo}
-use Rattle.system.specs.Serving.{HasEmptyLog, IsCall, LacksRoom, ServesState}
-use Rattle.system.specs.Settling.{IsRoomOf}
-use Rattle.system.specs.Slicing.{Fulfils}
+use Rattle.system.specs.Serving.{HasEmptyLog, ServesState}
+use Rattle.dispatch.specs.Serving.{IsCall, LacksRoom}
+use Rattle.system.specs.CheckpointCommands.{IsRoomOf}
+use Rattle.dispatch.specs.Fulfilling.{Fulfils}
 use Rattle.system.specs.Systems as systems
 use Rattle.system.specs.declared.error.CallError.{CallError}
 use Rattle.system.specs.declared.error.CallError.TheVariants as failure
@@ -155,7 +155,7 @@ short_by f s command lacks room is = (
   lacks.step room,
   (
     is.covered,
-    elim (cases_lt f.free (f.pledged + cost lacks.work + fixed_of f.root.geometry.blocks + keep lacks.work)) [
+    elim (cases_lt f.free (f.pledged + cost lacks.work + fixed_of f.root.geometry.blocks + headroom lacks.work)) [
       | inl few ↦ omega (arith, few, is.free, is.pledged, ap fixed_of is.blocks)
       | inr enough ↦ absurd (lacks.short enough)
     ],
@@ -163,14 +163,14 @@ short_by f s command lacks room is = (
 )
 
 -- a call on a covered system that wasn't answered
-pub settled_applied : {S : Type 0} {G : Ghosts S} (old new : Fs S G) (call : Command) (e : CallError) → Attempts old new call (Err e) → IsFalse old.has_failed → HasEmptyLog old.system
+pub checkpoint_applied : {S : Type 0} {G : Ghosts S} (old new : Fs S G) (call : Command) (e : CallError) → Attempts old new call (Err e) → IsFalse old.has_failed → HasEmptyLog old.system
     → (s : State) → Serves (mounted old s) → systems.IsCovered old.system s.tree.descriptors s → IsAppliedAt old s new call (Refused (errno_of_call e))
-settled_applied old new call failure.NoRoom made runs empty s serves covered =
+checkpoint_applied old new call failure.NoRoom made runs empty s serves covered =
     let waits = made.waits s serves (inl refl) in
     let lacks = made.short s serves refl in
     short old new s serves runs call waits.1.not_sure waits.0 (lacks.1 covered) made.counted.uses.reads made.counted.writes (short_by new.system s call lacks.0)
-settled_applied old new call failure.LogFull made runs empty s serves covered = absurd (made.fits s serves refl empty)
-settled_applied old new call e made runs empty s serves covered = made.applied s serves (λ is. cc) (λ is. cc)
+checkpoint_applied old new call failure.LogFull made runs empty s serves covered = absurd (made.fits s serves refl empty)
+checkpoint_applied old new call e made runs empty s serves covered = made.applied s serves (λ is. cc) (λ is. cc)
 
 -- a covered system has no room for a command, and no device is called
 pub no_room_left : {S : Type 0} {G : Ghosts S} (n : ℕ) (P : State → Type 0) (f : Fs S G) (command : Command) → IsFalse f.has_failed

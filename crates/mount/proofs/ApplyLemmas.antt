@@ -21,7 +21,8 @@ use Rattle.mount.specs.Applying.{Between, TimeGoesOn, HasRoomAtPoint, IsApplied,
 use Rattle.mount.specs.Systems.{Mounted, OpensToSome, mounted, file_system_meaning, mark_of, Serves, LeavesState, IsCutShort}
 use Rattle.mount.specs.declared.fs.Fs.{Fs}
 use Rattle.mount.proofs.SpanLemmas.{cases_mark, stands_before, stands_going, stands_failed, leaves_failed}
-use Rattle.mount.proofs.StationLemmas.{same_moment, on_none, on_twice, moved, left_within, left_now, time_on, at_last, left_after}
+use Rattle.station.proofs.Moments.{same_moment}
+use Rattle.mount.proofs.StationLemmas.{on_none, on_twice, moved, left_within, left_now, time_on, at_last, left_after}
 
 -- the flag of a system that failed and the mark of its state
 pub is_going : (flag : Bool) → IsFalse flag → mark_of flag ≡ going
@@ -108,7 +109,7 @@ module _ (s : State) (command : Command) (new t : State) where
 
 -- no room is reckoned
 abbrev pub no_room : Room
-no_room = record { blocks = 0; free = 0; pledged = 0; is_covered = false; nameless_of = λ name. 0 }
+no_room = record { blocks = 0; free = 0; pledged = 0; is_covered = false; orphans_of = λ name. 0 }
 
 -- what came in the way of a command, but for the history of the station
 pub record Came {S : Type 0} {G : Ghosts S} (old : Mounted S G) (command : Command) (new : Mounted S G) (c : Circumstances) : Type 0 where

@@ -1,5 +1,5 @@
 -- What calls and consistency points of a system come to for a command.
-use Rattle.std.proofs.Common.{◌≡◌, ◌≢◌, ◌⊎◌, ◌≤◌, ◌<◌, ◌^◌, ◌+◌, ◌*◌, inl, inr, ℕ, Bool, true, false, refl, sym, ap, subst, ◌∙◌, arith}
+use Rattle.std.proofs.Common.{◌≡◌, ◌≢◌, ◌⊎◌, ◌≤◌, ◌^◌, inl, inr, ℕ, Bool, true, false, refl, sym, ap, subst, ◌∙◌, arith}
 use Rattle.std.specs.Prelude.{IsTrue, IsFalse, Option, None}
 use Rattle.std.proofs.lemmas.Bool.{false≢true}
 use Rattle.conspoint.specs.declared.error.PlanError.TheVariants as plan
@@ -26,10 +26,10 @@ use Rattle.system.specs.Counting.{Counted, beside_reads, call_error_failed, poin
 use Rattle.system.specs.Images.{OpensTo}
 use Rattle.layout.specs.Places.{blocks_of}
 use Rattle.images.specs.Roots.{whole}
-use Rattle.system.specs.Serving.{ServesState, IsCall, WouldCall, IsBrokenOff}
-use Rattle.model.specs.Paths.{Name}
-use Rattle.system.specs.Settling.{IsRoomOf, IsSettled}
-use Rattle.system.specs.Slicing.{IsFulfilled}
+use Rattle.system.specs.Serving.{ServesState, IsBrokenOff}
+use Rattle.dispatch.specs.Serving.{IsCall, WouldCall}
+use Rattle.system.specs.CheckpointCommands.{IsRoomOf, IsCheckpointed}
+use Rattle.dispatch.specs.Fulfilling.{IsFulfilled}
 use Rattle.images.specs.Room.{free_under}
 use Rattle.system.specs.Systems as systems
 use Rattle.system.specs.declared.error.CallError.{CallError}
@@ -44,8 +44,8 @@ use Rattle.mount.specs.Refusals.{errno_of_call, errno_of_point, fails_call, fail
 use Rattle.mount.specs.Systems.{OpensToSome, mounted, HasPoints, Serves}
 use Rattle.mount.specs.declared.fs.Fs.{Fs}
 use Rattle.mount.proofs.ApplyLemmas.{is_going, not_both, allowed_by, allowed_surely, no_room, done, stayed, broken, applied_after}
-use Rattle.mount.proofs.CallLemmas.{not_settling}
-use Rattle.mount.proofs.NamelessLemmas.{nameless_kept, nameless_of, nameless_told}
+use Rattle.mount.proofs.CallLemmas.{no_checkpoint}
+use Rattle.mount.proofs.OrphanLemmas.{orphans_kept, orphans_of, orphans_told}
 use Rattle.mount.proofs.StationLemmas.{told}
 
 -- what came in the way
@@ -60,12 +60,12 @@ room_at f s serves covered = record {
   free = free_under (whole (blocks_of serves.settled.disk) serves.settled.root).active serves.settled.root.geometry.blocks;
   pledged = pledged_for serves.settled.root.geometry.inodes serves.settled.volume serves.lasts.replayed.changes;
   is_covered = covered;
-  nameless_of = nameless_of f s serves;
+  orphans_of = orphans_of f s serves;
 }
 
 has_room : {S : Type 0} {G : Ghosts S} (f : System S G) (s : State) (serves : ServesState f s) (covered : Bool)
     → (IsTrue covered → records.CoversAll serves.settled.volume serves.running serves.lasts.replayed.changes) → HasRoomAtPoint f s (room_at f s serves covered)
-has_room f s serves covered all = record { serves = serves; blocks = refl; free = refl; told = record { pledged = refl; covered = all }; nameless = nameless_told f s serves }
+has_room f s serves covered all = record { serves = serves; blocks = refl; free = refl; told = record { pledged = refl; covered = all }; orphans = orphans_told f s serves }
 
 -- a refusal isn't what is answered to what is done
 not_done : {X : Type 0} (errno : Errno) → Refused errno ≡ Done → X
@@ -76,7 +76,7 @@ allowed_call : (s : State) (c : Command) (read : Bool) (room : Room) (reply : Re
     → IsDone (came read false false room) s c reply t → Allowed (came read false false room) s c reply t
 allowed_call s c read room reply t is is_call (inl sure) done = allowed_surely s c (came read false false room) reply t is sure refl done
 allowed_call s c read room reply t is is_call (inr not_sure) done =
-    allowed_by s c (came read false false room) reply t is not_sure (inl (done, λ settling. absurd (not_settling c is_call settling)))
+    allowed_by s c (came read false false room) reply t is not_sure (inl (done, λ checkpointing. absurd (no_checkpoint c is_call checkpointing)))
 
 -- a system that goes on shows a state that does
 pub still_going : {S : Type 0} {G : Ghosts S} (f : Fs S G) (s : State) → Serves (mounted f s) → IsFalse f.has_failed → s.mark ≡ going
@@ -215,7 +215,7 @@ module _ {S : Type 0} {G : Ghosts S} (old new : Fs S G) (s : State) where
                   free = sym (free_is new.system s.tree.descriptors s covered.serves);
                   blocks = refl;
                   pledged = sym covered.serves.lasts.pledges;
-                  nameless = nameless_kept new.system s covered.serves;
+                  orphans = orphans_kept new.system s covered.serves;
                 }),
                 refl,
               ))),
@@ -247,12 +247,12 @@ module _ {S : Type 0} {G : Ghosts S} (old new : Fs S G) (s : State) where
           s,
           stayed old new s command serves is_still stays (Refused errno) c
               (record { reads = reads; writes = writes; room = λ _. has_room new.system s served false (λ e. absurd (false≢true e)) })
-              (allowed_by s command c (Refused errno) s is_still not_sure (inl ((nothing, step room), λ settling done. not_done errno done))),
+              (allowed_by s command c (Refused errno) s is_still not_sure (inl ((nothing, step room), λ checkpointing done. not_done errno done))),
         )
 
     -- one that was done behind its consistency point
     pub settled : (command : Command) → ¬ IsSure s command → IsSameStation before behind → IsFalse new.has_failed → behind.failed_reads ≡ before.failed_reads → behind.failed_writes ≡ before.failed_writes
-        → IsSettled old.system new.system s command → ((t : State) → ServesState new.system t → EachCut behind (OpensTo behind t)) → IsAppliedAt old s new command Done
+        → IsCheckpointed old.system new.system s command → ((t : State) → ServesState new.system t → EachCut behind (OpensTo behind t)) → IsAppliedAt old s new command Done
     settled command not_sure same runs_on reads writes is opens =
         let t = is.after in
         let covered = is.covered in

@@ -1,26 +1,26 @@
 -- How calls are answered.
 use Rattle.model.specs.declared.command.Command.{Command}
 use Rattle.model.specs.declared.command.Command.TheVariants as command
-use Rattle.model.specs.Circumstances.{IsSettling}
-use Rattle.system.specs.Serving.{IsCall}
+use Rattle.model.specs.Circumstances.{IsCheckpoint}
+use Rattle.dispatch.specs.Serving.{IsCall}
 
 -- not behind a consistency point
-pub not_settling : (c : Command) → IsCall c → ¬ IsSettling c
-not_settling (command.Path c) is settling = settling
-not_settling (command.Open path flags mode) is settling = settling
-not_settling (command.Close fd) is settling = settling
-not_settling (command.Read fd count) is settling = settling
-not_settling (command.Write fd given) is settling = settling
-not_settling (command.Pread fd offset count) is settling = settling
-not_settling (command.Pwrite fd offset given) is settling = settling
-not_settling (command.Lseek fd whence offset) is settling = settling
-not_settling (command.Ftruncate fd size) is settling = settling
-not_settling (command.Fstat fd) is settling = settling
-not_settling (command.Fsync fd) is settling = settling
-not_settling command.Sync is settling = is
-not_settling command.Df is settling = settling
-not_settling (command.SnapTake name) is settling = is
-not_settling (command.SnapDelete name) is settling = is
-not_settling (command.SnapRestore name) is settling = is
-not_settling command.SnapList is settling = settling
-not_settling (command.Within name c) is settling = settling
+pub no_checkpoint : (c : Command) → IsCall c → ¬ IsCheckpoint c
+no_checkpoint (command.Path c) is checkpointing = checkpointing
+no_checkpoint (command.Open path flags mode) is checkpointing = checkpointing
+no_checkpoint (command.Close fd) is checkpointing = checkpointing
+no_checkpoint (command.Read fd count) is checkpointing = checkpointing
+no_checkpoint (command.Write fd given) is checkpointing = checkpointing
+no_checkpoint (command.Pread fd offset count) is checkpointing = checkpointing
+no_checkpoint (command.Pwrite fd offset given) is checkpointing = checkpointing
+no_checkpoint (command.Lseek fd whence offset) is checkpointing = checkpointing
+no_checkpoint (command.Ftruncate fd size) is checkpointing = checkpointing
+no_checkpoint (command.Fstat fd) is checkpointing = checkpointing
+no_checkpoint (command.Fsync fd) is checkpointing = checkpointing
+no_checkpoint command.Sync is checkpointing = is
+no_checkpoint command.Df is checkpointing = checkpointing
+no_checkpoint (command.SnapTake name) is checkpointing = is
+no_checkpoint (command.SnapDelete name) is checkpointing = is
+no_checkpoint (command.SnapRestore name) is checkpointing = is
+no_checkpoint command.SnapList is checkpointing = checkpointing
+no_checkpoint (command.Within name c) is checkpointing = checkpointing

@@ -2,7 +2,7 @@ mod StationLemmas
 mod SpanLemmas
 mod ApplyLemmas
 mod CallLemmas
-mod NamelessLemmas
+mod OrphanLemmas
 mod AttemptLemmas
 mod CountLemmas
 mod LogLemmas

@@ -11,14 +11,15 @@ use Rattle.model.specs.declared.command.Command.{Command}
 use Rattle.model.specs.declared.errno.Errno.{Errno}
 use Rattle.model.specs.declared.reply.Reply.{Reply}
 use Rattle.model.specs.declared.reply.Reply.TheVariants.{Done, Refused}
-use Rattle.oplog.specs.LogEnd.{Bodies, all_bodies, no_bodies}
-use Rattle.system.specs.Serving.{HasLogged, IsAccepted, ServesAsBefore, ServesState}
-use Rattle.system.specs.Settling.{IsSettled}
-use Rattle.system.specs.Slicing.{IsFulfilled}
+use Rattle.oplog.specs.LogEnd.{Bodies, all_bodies}
+use Rattle.system.specs.Serving.{ServesAsBefore, ServesState}
+use Rattle.dispatch.specs.Serving.{HasLogged, IsAccepted}
+use Rattle.system.specs.CheckpointCommands.{IsCheckpointed}
+use Rattle.dispatch.specs.Fulfilling.{IsFulfilled}
 use Rattle.system.specs.Systems.{AreLeft, IsCovered}
 use Rattle.system.specs.declared.system.System.{System}
 use Rattle.system.proofs.CoveredLaws.{no_change}
-use Rattle.mount.specs.Applying.{AnswersCommand, HasSettled, KeepsStates, LogsItsNeed}
+use Rattle.mount.specs.Applying.{AnswersCommand, HasCheckpointed, KeepsStates, LogsItsNeed}
 use Rattle.mount.specs.Systems.{Serves, mounted}
 use Rattle.mount.specs.declared.fs.Fs.{Fs}
 use Rattle.mount.proofs.ApplyLemmas.{no_room}
@@ -30,7 +31,7 @@ idle : (need : Need) (v : Volume) (before after : List Change) → ((work : Work
 idle nothing v before after unlogged is = is
 idle (logs work) v before after unlogged is = absurd (unlogged work refl)
 idle a_snapshot v before after unlogged is = is
-idle (a_restore nameless) v before after unlogged is = is
+idle (a_restore orphans) v before after unlogged is = is
 
 -- none are left of none
 none_of_none : (covered left : List (List ℕ)) → [] ≡ covered ++ left → left ≡ []
@@ -123,17 +124,17 @@ module _ {S : Type 0} {G : Ghosts S} where
         subst (λ (b : Bodies). LogsItsNeed (all_bodies b) s new.system command reply) there.1 (then.logs s (keeps.stays s serves).serves (leads s serves p) accepted there.0)
 
     -- behind a point that covers all, whatever stood there before
-    pub logs_anew : HasSettled old mid → (s : State) → Serves (mounted old s) → P s → IsAccepted reply → (before : List (List ℕ)) → LogsItsNeed before s new.system command reply
+    pub logs_anew : HasCheckpointed old mid → (s : State) → Serves (mounted old s) → P s → IsAccepted reply → (before : List (List ℕ)) → LogsItsNeed before s new.system command reply
     logs_anew made s serves p accepted before =
         let covered = made.covered s serves in
         from_none new.system s command reply
         (subst (λ (b : Bodies). LogsItsNeed (all_bodies b) s new.system command reply) covered.no_record
         (then.logs s (made.keeps.stays s serves).serves (leads s serves p) accepted covered.serves)) before
 
-    pub logs_settled : HasSettled old mid → LogsOf P old new command reply
-    logs_settled made s serves p accepted served = logs_anew made s serves p accepted (all_bodies served.lasts.bodies)
+    pub logs_checkpoint : HasCheckpointed old mid → LogsOf P old new command reply
+    logs_checkpoint made s serves p accepted served = logs_anew made s serves p accepted (all_bodies served.lasts.bodies)
 
   -- a command that was done behind its own point
-  pub settled_logs : (old new : System S G) (s : State) (served : ServesState old s) (command : Command) → IsSettled old new s command → (before : List (List ℕ)) → LogsItsNeed before s new command Done
-  settled_logs old new s served command is =
+  pub checkpoint_logs : (old new : System S G) (s : State) (served : ServesState old s) (command : Command) → IsCheckpointed old new s command → (before : List (List ℕ)) → LogsItsNeed before s new command Done
+  checkpoint_logs old new s served command is =
       covered_logs new s is.after command Done served.running (ap (λ (u : State). u.tree) served.state) no_room (is.need no_room) (is.step no_room) (is.unlogged no_room) is.covered

@@ -1,5 +1,5 @@
 -- What a file system promises of commands that make consistency points.
-use Rattle.std.proofs.Common.{◌≡◌, ◌≢◌, inl, inr, ℕ, ◌+◌, ◌≤◌, ◌^◌, Bool, true, false, Result, Ok, Err, refl, ap, sym, subst, ◌∙◌, arith}
+use Rattle.std.proofs.Common.{◌≡◌, ◌≢◌, inl, inr, ℕ, ◌≤◌, Bool, true, false, Result, Ok, Err, refl, ap, sym, subst, ◌∙◌, arith}
 use Rattle.std.specs.Prelude.{IsFalse}
 use Rattle.std.proofs.lemmas.Bool.{false≢true}
 use Rattle.station.specs.Moments.{Meaning}
@@ -19,14 +19,15 @@ use Rattle.model.specs.declared.reply.Reply.TheVariants.{Done, Refused}
 use Rattle.oplog.specs.LogEnd.{LogEnd, all_bodies}
 use Rattle.system.specs.Counting.{Counted, call_error_failed, no_call}
 use Rattle.system.specs.Images.{OpensTo}
-use Rattle.system.specs.Serving.{IsNoFault, ServesState, WouldCall}
-use Rattle.system.specs.Settling.{Glances, MakesCovered, Settles}
+use Rattle.system.specs.Serving.{IsNoFault, ServesState}
+use Rattle.dispatch.specs.Serving.{WouldCall}
+use Rattle.system.specs.CheckpointCommands.{Glances, MakesCovered, Checkpoints}
 use Rattle.system.specs.Systems as systems
 use Rattle.system.specs.declared.error.CallError.{CallError}
 use Rattle.system.specs.declared.error.PointError.{PointError}
 use Rattle.system.specs.declared.error.PointError.TheVariants.{NoGeneration}
 use Rattle.system.proofs.CountingLaws.{nothing_logged, told_beside_reads}
-use Rattle.mount.specs.Applying.{AnswersAlways, AnswersCommand, HasSettled, KeepsStates, MakesRoom, Stays}
+use Rattle.mount.specs.Applying.{AnswersAlways, AnswersCommand, HasCheckpointed, KeepsStates, MakesRoom, Stays}
 use Rattle.mount.specs.Refusals.{errno_of_call, errno_of_point, fails_point}
 use Rattle.mount.specs.Systems.{HasGenerations, OpensToSome, Serves, mounted}
 use Rattle.mount.specs.declared.fs.Fs.{Fs}
@@ -34,7 +35,7 @@ use Rattle.mount.specs.declared.fs.TheConstants.{POINTS}
 use Rattle.mount.proofs.AttemptLemmas.{answered_as, cut_within, no_point, not_answered, own_refusal, reads_fail_nothing, settled, short, stays_by, stays_read, still_going, synced}
 use Rattle.mount.proofs.ApplyLemmas.{no_room}
 use Rattle.mount.proofs.CountLemmas.{call_eio, call_not_failed, call_written, next_lasts, point_eio, point_fails, point_not_failed, point_refuses, point_written, refused_same}
-use Rattle.mount.proofs.LogLemmas.{covered_logs, logs_kept, refused_logs, settled_logs}
+use Rattle.mount.proofs.LogLemmas.{covered_logs, logs_kept, refused_logs, checkpoint_logs}
 use Rattle.mount.proofs.AnswerLemmas.{AllOpen, ages_same, ages_within, behind_still}
 
 -- ---- a consistency point
@@ -105,7 +106,7 @@ module _ {S : Type 0} {G : Ghosts S} (old new : Fs S G) (runs : IsFalse old.has_
       errno_same x y r q left right is = cc
 
 -- behind it all is in the root, as `sync` promises
-pub synced_by : {S : Type 0} {G : Ghosts S} (n : ℕ) (old new : Fs S G) (runs : IsFalse old.has_failed) → 1 ≤ n → HasSettled old new → AnswersCommand n (λ s. Unit {0}) old new Sync Done
+pub synced_by : {S : Type 0} {G : Ghosts S} (n : ℕ) (old new : Fs S G) (runs : IsFalse old.has_failed) → 1 ≤ n → HasCheckpointed old new → AnswersCommand n (λ s. Unit {0}) old new Sync Done
 synced_by n old new runs le made = record {
   kind = tt;
   uses = made.keeps.counted.uses;
@@ -200,14 +201,14 @@ module _ {S : Type 0} {G : Ghosts S} (P : State → Type 0) (old new : Fs S G) (
   going_state s serves = serves.kept (still_going old s serves runs)
 
   -- it was done
-  pub settles_done : IsReplyTo command Done → Settles old.system new.system P command (Ok true) → IsFalse new.has_failed → AllOpen new.system → AnswersCommand 2 P old new command Done
-  settles_done kind told runs_on now = record {
+  pub checkpoint_done : IsReplyTo command Done → Checkpoints old.system new.system P command (Ok true) → IsFalse new.has_failed → AllOpen new.system → AnswersCommand 2 P old new command Done
+  checkpoint_done kind told runs_on now = record {
     kind = kind;
     uses = told.counted.uses;
     eio = λ same. cc;
     written = λ _. told.counted.writes;
     unlogged = λ errno same. cc;
-    logs = λ s serves p accepted served. settled_logs old.system new.system s served command (told.done s (going_state s serves) p) (all_bodies served.lasts.bodies);
+    logs = λ s serves p accepted served. checkpoint_logs old.system new.system s served command (told.done s (going_state s serves) p) (all_bodies served.lasts.bodies);
     fails = λ lasts stopped. absurd (false≢true (sym runs_on ∙ stopped));
     failed = λ lasts same. cc;
     epoch = told.epoch;
@@ -217,7 +218,7 @@ module _ {S : Type 0} {G : Ghosts S} (P : State → Type 0) (old new : Fs S G) (
   }
 
   -- the disk had no room
-  pub settles_short : Settles old.system new.system P command (Ok false) → IsFalse new.has_failed → AnswersCommand 2 P old new command (Refused ENOSPC)
+  pub settles_short : Checkpoints old.system new.system P command (Ok false) → IsFalse new.has_failed → AnswersCommand 2 P old new command (Refused ENOSPC)
   settles_short told runs_on = record {
     kind = tt;
     uses = told.counted.uses;
@@ -236,8 +237,8 @@ module _ {S : Type 0} {G : Ghosts S} (P : State → Type 0) (old new : Fs S G) (
   }
 
   -- it wasn't done
-  pub settles_not : (e : PointError) (errno : Errno) → errno ≡ errno_of_point e → Settles old.system new.system P command (Err e) → new.has_failed ≡ fails_point e → AnswersCommand 2 P old new command (Refused errno)
-  settles_not e errno is told flag = record {
+  pub checkpoint_not_made : (e : PointError) (errno : Errno) → errno ≡ errno_of_point e → Checkpoints old.system new.system P command (Err e) → new.has_failed ≡ fails_point e → AnswersCommand 2 P old new command (Refused errno)
+  checkpoint_not_made e errno is told flag = record {
     kind = tt;
     uses = told.counted.uses;
     eio = λ same. point_eio start end e told.counted (sym is ∙ refused_same same);

@@ -7,78 +7,78 @@ use Rattle.model.specs.declared.errno.Errno.{Errno}
 use Rattle.model.specs.declared.reply.Reply.{Reply}
 use Rattle.model.specs.declared.reply.Reply.TheVariants as replies
 use Rattle.model.specs.declared.reply.Stat.{Stat}
-use Rattle.mount.specs.Applying.{AppliesCommand, IsAnsweredBy}
+use Rattle.mount.specs.Applying.{AppliesCommand, HasOnlyAnswers}
 use Rattle.mount.specs.declared.fs.Fs.{Fs}
 
 -- it is no other one
-not_other : (P : Reply → Type 0) (command : Command) (reply : Reply) → IsAnsweredBy command P → IsReplyTo command reply → ((errno : Errno) → reply ≢ replies.Refused errno) → P reply
+not_other : (P : Reply → Type 0) (command : Command) (reply : Reply) → HasOnlyAnswers command P → IsReplyTo command reply → ((errno : Errno) → reply ≢ replies.Refused errno) → P reply
 not_other P command (replies.Refused errno) answers is other = absurd (other errno refl)
 not_other P command reply answers is other = answers reply is
 
-pub only_done : (command : Command) (reply : Reply) → IsAnsweredBy command IsDone → IsReplyTo command reply → (reply ≢ replies.Done) → ((errno : Errno) → reply ≢ replies.Refused errno) → ⊥
+pub only_done : (command : Command) (reply : Reply) → HasOnlyAnswers command IsDone → IsReplyTo command reply → (reply ≢ replies.Done) → ((errno : Errno) → reply ≢ replies.Refused errno) → ⊥
 only_done command reply answers is not other = by_kind reply (not_other IsDone command reply answers is other) not
   where
     by_kind : (reply : Reply) → IsDone reply → (reply ≢ replies.Done) → ⊥
     by_kind replies.Done kind not = not refl
     by_kind reply kind not = kind
 
-pub only_descriptor : (command : Command) (reply : Reply) → IsAnsweredBy command IsDescriptor → IsReplyTo command reply → ((a : ℕ) → reply ≢ replies.Fd a) → ((errno : Errno) → reply ≢ replies.Refused errno) → ⊥
+pub only_descriptor : (command : Command) (reply : Reply) → HasOnlyAnswers command IsDescriptor → IsReplyTo command reply → ((a : ℕ) → reply ≢ replies.Fd a) → ((errno : Errno) → reply ≢ replies.Refused errno) → ⊥
 only_descriptor command reply answers is not other = by_kind reply (not_other IsDescriptor command reply answers is other) not
   where
     by_kind : (reply : Reply) → IsDescriptor reply → ((a : ℕ) → reply ≢ replies.Fd a) → ⊥
     by_kind (replies.Fd a) kind not = not a refl
     by_kind reply kind not = kind
 
-pub only_data : (command : Command) (reply : Reply) → IsAnsweredBy command IsData → IsReplyTo command reply → ((a : List ℕ) → reply ≢ replies.Data a) → ((errno : Errno) → reply ≢ replies.Refused errno) → ⊥
+pub only_data : (command : Command) (reply : Reply) → HasOnlyAnswers command IsData → IsReplyTo command reply → ((a : List ℕ) → reply ≢ replies.Data a) → ((errno : Errno) → reply ≢ replies.Refused errno) → ⊥
 only_data command reply answers is not other = by_kind reply (not_other IsData command reply answers is other) not
   where
     by_kind : (reply : Reply) → IsData reply → ((a : List ℕ) → reply ≢ replies.Data a) → ⊥
     by_kind (replies.Data a) kind not = not a refl
     by_kind reply kind not = kind
 
-pub only_written : (command : Command) (reply : Reply) → IsAnsweredBy command IsWritten → IsReplyTo command reply → ((a : ℕ) → reply ≢ replies.Wrote a) → ((errno : Errno) → reply ≢ replies.Refused errno) → ⊥
+pub only_written : (command : Command) (reply : Reply) → HasOnlyAnswers command IsWritten → IsReplyTo command reply → ((a : ℕ) → reply ≢ replies.Wrote a) → ((errno : Errno) → reply ≢ replies.Refused errno) → ⊥
 only_written command reply answers is not other = by_kind reply (not_other IsWritten command reply answers is other) not
   where
     by_kind : (reply : Reply) → IsWritten reply → ((a : ℕ) → reply ≢ replies.Wrote a) → ⊥
     by_kind (replies.Wrote a) kind not = not a refl
     by_kind reply kind not = kind
 
-pub only_offset : (command : Command) (reply : Reply) → IsAnsweredBy command IsOffset → IsReplyTo command reply → ((a : ℕ) → reply ≢ replies.At a) → ((errno : Errno) → reply ≢ replies.Refused errno) → ⊥
+pub only_offset : (command : Command) (reply : Reply) → HasOnlyAnswers command IsOffset → IsReplyTo command reply → ((a : ℕ) → reply ≢ replies.At a) → ((errno : Errno) → reply ≢ replies.Refused errno) → ⊥
 only_offset command reply answers is not other = by_kind reply (not_other IsOffset command reply answers is other) not
   where
     by_kind : (reply : Reply) → IsOffset reply → ((a : ℕ) → reply ≢ replies.At a) → ⊥
     by_kind (replies.At a) kind not = not a refl
     by_kind reply kind not = kind
 
-pub only_text : (command : Command) (reply : Reply) → IsAnsweredBy command IsTextOf → IsReplyTo command reply → ((a : List ℕ) → reply ≢ replies.Text a) → ((errno : Errno) → reply ≢ replies.Refused errno) → ⊥
+pub only_text : (command : Command) (reply : Reply) → HasOnlyAnswers command IsTextOf → IsReplyTo command reply → ((a : List ℕ) → reply ≢ replies.Text a) → ((errno : Errno) → reply ≢ replies.Refused errno) → ⊥
 only_text command reply answers is not other = by_kind reply (not_other IsTextOf command reply answers is other) not
   where
     by_kind : (reply : Reply) → IsTextOf reply → ((a : List ℕ) → reply ≢ replies.Text a) → ⊥
     by_kind (replies.Text a) kind not = not a refl
     by_kind reply kind not = kind
 
-pub only_names : (command : Command) (reply : Reply) → IsAnsweredBy command IsNames → IsReplyTo command reply → ((a : List (List ℕ)) → reply ≢ replies.Names a) → ((errno : Errno) → reply ≢ replies.Refused errno) → ⊥
+pub only_names : (command : Command) (reply : Reply) → HasOnlyAnswers command IsNames → IsReplyTo command reply → ((a : List (List ℕ)) → reply ≢ replies.Names a) → ((errno : Errno) → reply ≢ replies.Refused errno) → ⊥
 only_names command reply answers is not other = by_kind reply (not_other IsNames command reply answers is other) not
   where
     by_kind : (reply : Reply) → IsNames reply → ((a : List (List ℕ)) → reply ≢ replies.Names a) → ⊥
     by_kind (replies.Names a) kind not = not a refl
     by_kind reply kind not = kind
 
-pub only_snapshots : (command : Command) (reply : Reply) → IsAnsweredBy command IsSnapshots → IsReplyTo command reply → ((a : List (List ℕ)) → reply ≢ replies.Snaps a) → ((errno : Errno) → reply ≢ replies.Refused errno) → ⊥
+pub only_snapshots : (command : Command) (reply : Reply) → HasOnlyAnswers command IsSnapshots → IsReplyTo command reply → ((a : List (List ℕ)) → reply ≢ replies.Snaps a) → ((errno : Errno) → reply ≢ replies.Refused errno) → ⊥
 only_snapshots command reply answers is not other = by_kind reply (not_other IsSnapshots command reply answers is other) not
   where
     by_kind : (reply : Reply) → IsSnapshots reply → ((a : List (List ℕ)) → reply ≢ replies.Snaps a) → ⊥
     by_kind (replies.Snaps a) kind not = not a refl
     by_kind reply kind not = kind
 
-pub only_stat : (command : Command) (reply : Reply) → IsAnsweredBy command IsStat → IsReplyTo command reply → ((a : Stat) → reply ≢ replies.Stat a) → ((errno : Errno) → reply ≢ replies.Refused errno) → ⊥
+pub only_stat : (command : Command) (reply : Reply) → HasOnlyAnswers command IsStat → IsReplyTo command reply → ((a : Stat) → reply ≢ replies.Stat a) → ((errno : Errno) → reply ≢ replies.Refused errno) → ⊥
 only_stat command reply answers is not other = by_kind reply (not_other IsStat command reply answers is other) not
   where
     by_kind : (reply : Reply) → IsStat reply → ((a : Stat) → reply ≢ replies.Stat a) → ⊥
     by_kind (replies.Stat a) kind not = not a refl
     by_kind reply kind not = kind
 
-pub only_space : (command : Command) (reply : Reply) → IsAnsweredBy command IsSpace → IsReplyTo command reply → ((a : ℕ) (b : ℕ) (c : ℕ) → reply ≢ replies.Space a b c) → ((errno : Errno) → reply ≢ replies.Refused errno) → ⊥
+pub only_space : (command : Command) (reply : Reply) → HasOnlyAnswers command IsSpace → IsReplyTo command reply → ((a : ℕ) (b : ℕ) (c : ℕ) → reply ≢ replies.Space a b c) → ((errno : Errno) → reply ≢ replies.Refused errno) → ⊥
 only_space command reply answers is not other = by_kind reply (not_other IsSpace command reply answers is other) not
   where
     by_kind : (reply : Reply) → IsSpace reply → ((a : ℕ) (b : ℕ) (c : ℕ) → reply ≢ replies.Space a b c) → ⊥

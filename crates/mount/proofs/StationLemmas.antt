@@ -1,19 +1,14 @@
 -- Calls to a station, one after the other, and what a cut leaves of them.
 use Rattle.std.proofs.Common.{◌≡◌, ◌⊎◌, inl, inr, ℕ, ◌≤◌, Bool, true, false, sym, subst, arith}
 use Rattle.station.specs.Images.{Images}
-use Rattle.station.specs.Moments.{Meaning, MayLeave, EachCut, IsSameStation, LeftOnly, MayGrow}
+use Rattle.station.specs.Moments.{Meaning, EachCut, IsSameStation, LeftOnly, MayGrow}
+use Rattle.station.proofs.Moments.{same_moment}
 use Rattle.model.specs.States.{State, going}
 use Rattle.system.specs.Images.{OpensTo}
 use Rattle.images.specs.States.{Opens}
 use Rattle.mount.specs.Applying.{TimeGoesOn, LeftOnTheWay, LeftNow, TellsOfFault}
 use Rattle.mount.specs.Systems.{OpensToSome}
 use Rattle.mount.proofs.SpanLemmas.{leaves_going}
-
--- the one moment from n to n
-pub same_moment : (m : Meaning) (t : ℕ) (c : Images) → m.moment ≤ t → t ≤ m.moment → m.left_at t c → MayLeave m c
-same_moment m t c low high left =
-    let same : t ≡ m.moment = omega arith in
-    subst (λ (u : ℕ). m.left_at u c) same left
 
 pub on_none : (m : Meaning) → TimeGoesOn m m
 on_none m = record { later = omega arith; kept = λ t c le. (λ left. left, λ left. left) }

@@ -14,7 +14,7 @@ use Rattle.model.specs.declared.reply.Reply.TheVariants.{Done, Refused}
 use Rattle.model.specs.States.{State, going}
 use Rattle.model.specs.Replies.{IsAnswerTo, IsReplyTo}
 use Rattle.model.specs.Room.{Need, Room}
-use Rattle.model.specs.Records.{Change, TellsRoom, count_nameless}
+use Rattle.model.specs.Records.{Change, TellsRoom, count_orphans}
 use Rattle.model.specs.Steps.{WouldStep}
 use Rattle.model.specs.Volumes.{Volume, tree_of}
 use Rattle.model.specs.Circumstances.{Circumstances, IsSure}
@@ -30,7 +30,8 @@ use Rattle.system.specs.Counting.{AgesBy, Counted, LogsNothing, beside_reads, ca
 use Rattle.system.specs.Images.{OpensTo}
 use Rattle.system.specs.Opening.{HasFailed}
 use Rattle.images.specs.Room.{free_under}
-use Rattle.system.specs.Serving.{AnswersAtOnce, HasEmptyLog, HasLogged, IsAccepted, IsAtOnce, LacksRoom, ServesState, TellsNoFault}
+use Rattle.system.specs.Serving.{HasEmptyLog, ServesState}
+use Rattle.dispatch.specs.Serving.{AnswersAtOnce, HasLogged, IsAccepted, IsAtOnce, LacksRoom, TellsNoFault}
 use Rattle.system.specs.Systems as systems
 use Rattle.system.specs.Systems.{AreLeft, IsCovered}
 use Rattle.system.specs.declared.error.CallError.{CallError}
@@ -51,8 +52,8 @@ abbrev pub TellsOfFault : Bool → ℕ → ℕ → Type 0
 TellsOfFault true old new = HasGrown old new
 TellsOfFault false old new = new ≡ old
 
--- The room of a system at a state that it serves: all blocks of its disk, those that are free under its settled root, and those that a
--- consistency point may store for what that root doesn't cover.
+-- The room of a system at a state that it serves: all blocks of its disk, those that are free under
+-- its settled root, and those that a consistency point may store for what that root doesn't cover.
 pub record HasRoomAtPoint {S : Type 0} {G : Ghosts S} (f : System S G) (s : State) (room : Room) : Type 0 where
   pub serves : ServesState f s
   pub blocks : room.blocks ≡ f.root.geometry.blocks
@@ -60,19 +61,19 @@ pub record HasRoomAtPoint {S : Type 0} {G : Ghosts S} (f : System S G) (s : Stat
       let root = serves.settled.root in
       room.free ≡ free_under (whole (blocks_of serves.settled.disk) root).active root.geometry.blocks
   pub told : TellsRoom serves.settled.root.geometry.inodes serves.settled.volume serves.running serves.lasts.replayed.changes room
-  pub nameless : (k : ℕ) (head : Snapshot) (v : Volume)
+  pub orphans : (k : ℕ) (head : Snapshot) (v : Volume)
       → let disk = blocks_of (systems.disk_of f) in
       HasSnapshot f.root (whole disk f.root) k head
       → HoldsVolume f.root.geometry.inodes (tree_contents ((whole disk f.root).frozen k)) v
-      → room.nameless_of head.name ≡ count_nameless f.root.geometry.inodes v
+      → room.orphans_of head.name ≡ count_orphans f.root.geometry.inodes v
 
 -- time went on, and earlier moments stay as they were
 pub record TimeGoesOn (old new : Meaning) : Type 0 where
   pub later : old.moment ≤ new.moment
   pub kept : (t : ℕ) (c : Images) → t ≤ old.moment → new.left_at t c ↔ old.left_at t c
 
--- What came in the way of a command, from one system to the next, whose station has the same history up to there. Nothing is tied to
--- memory_refused: of ENOMEM no theorem tells the cause.
+-- What came in the way of a command, from one system to the next, whose station has the same
+-- history up to there. Nothing is tied to memory_refused: of ENOMEM no theorem tells the cause.
 pub record Between {S : Type 0} {G : Ghosts S} (old : Mounted S G) (command : Command) (new : Mounted S G) (c : Circumstances) : Type 0 where
   pub goes_on : TimeGoesOn (file_system_meaning old) (file_system_meaning new)
   pub reads : TellsOfFault c.read_failed (file_system_meaning old).failed_reads (file_system_meaning new).failed_reads
@@ -90,9 +91,9 @@ LeftOnTheWay old new s P = LeftOf new s old.moment new.moment P
 abbrev pub LeftNow : Meaning → State → (State → Type 0) → Type 0
 LeftNow m s P = LeftOf m s m.moment m.moment P
 
--- A command with this reply led from one system to the next, which serves what it shows. A cut at any moment of the call
--- leaves the state before it or the one after it, and at the answer the one after it; where the command failed the system,
--- a state within it.
+-- A command with this reply led from one system to the next, which serves what it shows. A cut at
+-- any moment of the call leaves the state before it or the one after it, and at the answer the one
+-- after it; where the command failed the system, a state within it.
 pub record IsApplied {S : Type 0} {G : Ghosts S} (old new : Mounted S G) (command : Command) (reply : Reply) : Type 0 where
   pub serves : Serves new
   pub leads : Leads shown_state Between old (command, reply) new
@@ -104,8 +105,9 @@ pub record IsApplied {S : Type 0} {G : Ghosts S} (old new : Mounted S G) (comman
 abbrev pub IsAppliedAt : {S : Type 0} {G : Ghosts S} → Fs S G → State → Fs S G → Command → Reply → Type 0
 IsAppliedAt old s new command reply = (t : State) × IsApplied (mounted old s) (mounted new t) command reply
 
--- What an accepted command logged on a system at a state, beside whose root stood records with these bodies: behind it stand those of
--- them that the newest root doesn't cover, and then one record of its work where the command needed one, and nothing else.
+-- What an accepted command logged on a system at a state, beside whose root stood records with
+-- these bodies: behind it stand those of them that the newest root doesn't cover, and then one
+-- record of its work where the command needed one, and nothing else.
 pub record LogsItsNeed {S : Type 0} {G : Ghosts S} (before : List (List ℕ)) (s : State) (new : System S G)
     (command : Command) (reply : Reply) : Type 0 where
   pub room : Room
@@ -119,11 +121,12 @@ pub record LogsItsNeed {S : Type 0} {G : Ghosts S} (before : List (List ℕ)) (s
   pub left : AreLeft before (map change_bytes uncovered)
   pub logged : HasLogged need running uncovered serves.lasts.replayed.changes
 
--- What a command does to a file system at a state with P, and over any bytes: all that is promised of it. Its reply is of its own kind, or a
--- refusal. It makes so many consistency points at most. EIO comes only where a device call failed, and nothing else where a write failed,
--- which fails the system; a refusal
--- logged nothing, but where EIO came for a record, which stops the log; and a sure command calls no device. Nothing but a failed write
--- fails the system, and FAILED tells only of one that had failed before, as long as the generations last.
+-- What a command does to a file system at a state with P, and over any bytes: all that is promised
+-- of it. Its reply is of its own kind, or a refusal. It makes so many consistency points at most.
+-- EIO comes only where a device call failed, and nothing else where a write failed, which fails the
+-- system; a refusal logged nothing, but where EIO came for a record, which stops the log; and a
+-- sure command calls no device. Nothing but a failed write fails the system, and FAILED tells only
+-- of one that had failed before, as long as the generations last.
 pub record AnswersCommand {S : Type 0} {G : Ghosts S} (points : ℕ) (P : State → Type 0) (old new : Fs S G) (command : Command) (reply : Reply) : Type 0 where
   pub kind : IsReplyTo command reply
   pub uses : Uses (systems.meaning_of old.system) (systems.meaning_of new.system)
@@ -174,8 +177,8 @@ pub record ReadsCut (old new other : Meaning) : Type 0 where
   pub left : LeftBetween new old.moment new.moment other.seen
   pub sectors : other.sectors ≡ new.sectors
 
--- From one file system to another, which goes on, no write failed and nothing was logged, by so many consistency points at most, and each
--- state that the first one serves stays.
+-- From one file system to another, which goes on, no write failed and nothing was logged, by so
+-- many consistency points at most, and each state that the first one serves stays.
 pub record KeepsStates {S : Type 0} {G : Ghosts S} (points : ℕ) (old new : Fs S G) : Type 0 where
   pub counted : Counted (systems.meaning_of old.system) (systems.meaning_of new.system) perhaps_reads
   pub unlogged : LogsNothing (systems.meaning_of old.system) (systems.meaning_of new.system)
@@ -209,13 +212,14 @@ pub record Attempts {S : Type 0} {G : Ghosts S} (old new : Fs S G) (call : Comma
       → LacksRoom new.system s call × (IsCovered old.system s.tree.descriptors s → IsCovered new.system s.tree.descriptors s)
 
 -- All is in the newest root.
-pub record HasSettled {S : Type 0} {G : Ghosts S} (old new : Fs S G) : Type 0 where
+pub record HasCheckpointed {S : Type 0} {G : Ghosts S} (old new : Fs S G) : Type 0 where
   pub keeps : KeepsStates 1 old new
-  pub rests : new.system.blocks.laid ≡ None
+  pub rests : new.system.blocks.pending ≡ None
   pub empty : HasEmptyLog new.system
   pub covered : (s : State) → Serves (mounted old s) → IsCovered new.system s.tree.descriptors s
 
--- What a consistency point does to a file system that goes on, or why there is none: of a command that waits for it, too.
+-- What a consistency point does to a file system that goes on, or why there is none: of a command
+-- that waits for it, too.
 pub record MakesRoom {S : Type 0} {G : Ghosts S} (old new : Fs S G) (result : Result (Unit {0}) Errno) : Type 0 where
   pub uses : Uses (systems.meaning_of old.system) (systems.meaning_of new.system)
   pub eio : IsErrOf result EIO → HasFailed (systems.meaning_of old.system) (systems.meaning_of new.system)
@@ -224,7 +228,7 @@ pub record MakesRoom {S : Type 0} {G : Ghosts S} (old new : Fs S G) (result : Re
   pub fails : HasGenerations 1 old → IsTrue new.has_failed → IsErrOf result EIO
   pub failed : HasGenerations 1 old → IsErrOf result FAILED → ⊥
   pub epoch : AgesBy 1 old.system.log.epoch new.system.log.epoch
-  pub made : OnOk result (HasSettled old new)
+  pub made : OnOk result (HasCheckpointed old new)
   pub applied : (command : Command) (s : State) → Serves (mounted old s) → HasPoints 1 old → ¬ IsSure s command
       → IfErr result (λ errno. IsAppliedAt old s new command (Refused errno))
 
@@ -252,5 +256,5 @@ abbrev pub space_reply : Space → Reply
 space_reply room = replies.Space room.blocks room.free room.pledged
 
 -- a reply to the command that is no refusal is such a one
-abbrev pub IsAnsweredBy : Command → (Reply → Type 0) → Type 0
-IsAnsweredBy command P = (reply : Reply) → IsAnswerTo command reply → P reply
+abbrev pub HasOnlyAnswers : Command → (Reply → Type 0) → Type 0
+HasOnlyAnswers command P = (reply : Reply) → IsAnswerTo command reply → P reply

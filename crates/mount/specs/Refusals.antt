@@ -3,12 +3,8 @@ use Rattle.std.specs.Prelude.{Bool, true, false}
 use Rattle.conspoint.specs.declared.error.PlanError.TheVariants as plan
 use Rattle.model.specs.declared.errno.Errno.{Errno}
 use Rattle.model.specs.declared.errno.Errno.TheVariants.{DAMAGED, EIO, ENOMEM, ENOSPC, FAILED}
-use Rattle.mount.specs.declared.error.MountError.{MountError}
-use Rattle.mount.specs.declared.error.MountError.TheVariants as mount
 use Rattle.system.specs.declared.error.CallError.{CallError}
 use Rattle.system.specs.declared.error.CallError.TheVariants as call
-use Rattle.system.specs.declared.open_error.OpenError.{OpenError}
-use Rattle.system.specs.declared.open_error.OpenError.TheVariants as opening
 use Rattle.system.specs.declared.error.PointError.{PointError}
 use Rattle.system.specs.declared.error.PointError.TheVariants as point
 
@@ -39,10 +35,3 @@ abbrev pub fails_point : PointError → Bool
 fails_point (point.NotPlanned e) = false
 fails_point point.NotWritten = true
 fails_point point.NoGeneration = true
-
--- of an opening
-abbrev pub mount_error : OpenError → MountError
-mount_error opening.NoMemory = mount.NoMemory
-mount_error opening.Device = mount.Device
-mount_error opening.NoRoot = mount.NoRoot
-mount_error opening.Damaged = mount.Damaged

@@ -16,8 +16,8 @@ use Rattle.mount.specs.declared.fs.TheConstants.{POINTS}
 abbrev pub OpensToSome : Meaning → (State → Type 0) → Images → Type 0
 OpensToSome m P c = (s : State) × OpensTo m s c × P s
 
--- A command failed the system at this state and stays under way until the next mount: whatever a cut may leave opens to
--- a state within it.
+-- A command failed the system at this state and stays under way until the next mount: whatever a
+-- cut may leave opens to a state within it.
 pub record IsCutShort (m : Meaning) (s : State) : Type 0 where
   pub command : Command
   pub each : EachCut m (OpensToSome m (IsWithin (record s { mark = going }) command))
@@ -49,8 +49,8 @@ shown_state m = m.state
 abbrev pub mark_of : Bool → Mark
 mark_of has_failed = if has_failed then failed else going
 
--- A file system serves the state that it shows, over an honest station: a cut leaves just that, or where a write failed,
--- a state within the command that was under way.
+-- A file system serves the state that it shows, over an honest station: a cut leaves just that, or
+-- where a write failed, a state within the command that was under way.
 pub record Serves {S : Type 0} {G : Ghosts S} (m : Mounted S G) : Type 0 where
   pub honest : (file_system_meaning m).is_honest
   pub mark : m.state.mark ≡ mark_of m.fs.has_failed

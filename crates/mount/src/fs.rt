@@ -8,12 +8,13 @@ use station::Station;
 use std::alloc::Global;
 use system::{CallError, PreparedSnapshot, SnapshotRequest, Space, System, served_states_open};
 
-/// The most consistency points that one command begins: a `snap take` or a `snap restore` settles what isn't under the newest root, and
-/// then does with the snapshot what is asked for, and a call may plan one ahead before it needs room.
+/// The most consistency points that one command begins: a `snap take` or a `snap restore` settles
+/// what isn't under the newest root, and then does with the snapshot what is asked for, and a call
+/// may plan one ahead before it needs room.
 pub const POINTS: u64 = 2;
 
-/// A mounted file system. Over an honest station it *serves* a state, as long as no device write failed: whatever a power
-/// cut may leave opens to just that state.
+/// A mounted file system. Over an honest station it *serves* a state, as long as no device write
+/// failed: whatever a power cut may leave opens to just that state.
 #[derive(Drop)]
 pub struct Fs<S: Station> {
     pub(crate) alloc: Global,
@@ -33,17 +34,20 @@ impl<S: Station> Fs<S> {
     ghost use Rattle.model.specs.States.{State};
     ghost use Rattle.oplog.specs.LogEnd.{all_bodies};
     ghost use Rattle.snapshots.specs.Prepared.{FitsPrepared, command_of, command_prepared};
-    ghost use Rattle.system.specs.Serving.{AnswersAtOnce, IsAccepted, IsAtOnce, IsCall, ServesState};
-    ghost use Rattle.system.specs.Settling.{IsPrepared};
+    ghost use Rattle.system.specs.Serving.{ServesState};
+    ghost use Rattle.dispatch.specs.Serving.{AnswersAtOnce, IsAccepted, IsAtOnce, IsCall};
+    ghost use Rattle.system.specs.CheckpointCommands.{IsPrepared};
     ghost use Rattle.mount.specs.Applying.{AppliesCommand, AnswersCommand, AnswersAlways, Attempts, IsAppliedAt, LogsItsNeed, MakesRoom, RunsAt, WaitsForPoint};
     ghost use Rattle.mount.specs.Systems.{mounted, Serves, IsYoung, LeavesState};
     ghost use Rattle.mount.specs.declared.fs.Fs.{Fs};
 
-    /// Applies a command and answers it. A command that changes the image is logged before it is answered, by just one record; a
-    /// refused one is not logged. EIO comes only where a device call failed, and where a write or a sync failed nothing else comes; after
-    /// that, and only then as long as the generations last, every command answers FAILED, with no device call. ENOMEM comes where there
-    /// was no memory, ENOSPC where the disk has no room although its newest root covers all, and then nothing changed. `lseek`, `fsync`,
-    /// `df`, and `close` but of a file that has no name call no device and tell no want of memory, whatever the images hold.
+    /// Applies a command and answers it. A command that changes the image is logged before it is
+    /// answered, by just one record; a refused one is not logged. EIO comes only where a device
+    /// call failed, and where a write or a sync failed nothing else comes; after that, and only
+    /// then as long as the generations last, every command answers FAILED, with no device call.
+    /// ENOMEM comes where there was no memory, ENOSPC where the disk has no room although its
+    /// newest root covers all, and then nothing changed. `lseek`, `fsync`, `df`, and `close` but of
+    /// a file that has no name call no device and tell no want of memory, whatever the images hold.
     pub fn apply(&mut self, command: &Command<'_>) -> Reply
         ensures { AppliesCommand self.old self.new command.now result }
     {
@@ -70,7 +74,8 @@ impl<S: Station> Fs<S> {
         }
     }
 
-    /// The same of a command that may read or write: it lets go of the blocks that the last one read.
+    /// The same of a command that may read or write: it lets go of the blocks that the last one
+    /// read.
     fn answer_anew(&mut self, command: &Command<'_>) -> Reply
         requires going { IsFalse self.old.has_failed }
         requires other { command.now ≢ Command.Df }
@@ -117,8 +122,9 @@ impl<S: Station> Fs<S> {
         }
     }
 
-    /// The same of a call on the tree, on a descriptor or on a snapshot's tree, or of `snap list`. Where the disk has no room for
-    /// it, or its record doesn't go into the log, a consistency point runs first.
+    /// The same of a call on the tree, on a descriptor or on a snapshot's tree, or of `snap list`.
+    /// Where the disk has no room for it, or its record doesn't go into the log, a consistency
+    /// point runs first.
     fn call(&mut self, call: &Command<'_>) -> Reply
         requires going { IsFalse self.old.has_failed }
         requires is_call { IsCall call.now }
@@ -129,14 +135,15 @@ impl<S: Station> Fs<S> {
         match self.attempt(call) {
             Ok(reply) => reply,
             Err(error) => match error {
-                CallError::NoRoom | CallError::LogFull => self.call_settled(call),
+                CallError::NoRoom | CallError::LogFull => self.call_after_checkpoint(call),
                 _ => Reply::Refused(errno_of_call(error)),
             },
         }
     }
 
-    /// Runs a consistency point where something is uncovered, and then a call that would change something.
-    fn call_settled(&mut self, call: &Command<'_>) -> Reply
+    /// Runs a consistency point where something is uncovered, and then a call that would change
+    /// something.
+    fn call_after_checkpoint(&mut self, call: &Command<'_>) -> Reply
         requires going { IsFalse self.old.has_failed }
         requires is_call { IsCall call.now }
         ensures answers { AnswersCommand 1 (λ s. WaitsForPoint self.old s call.now)
@@ -151,7 +158,7 @@ impl<S: Station> Fs<S> {
             // Its log is empty, so what lacked was room.
             return Reply::Refused(Errno::ENOSPC);
         }
-        if let Err(errno) = self.settle() {
+        if let Err(errno) = self.checkpoint() {
             return Reply::Refused(errno);
         }
         match self.attempt(call) {
@@ -160,14 +167,15 @@ impl<S: Station> Fs<S> {
         }
     }
 
-    /// A call, with a step of a consistency point at most. The state stays where its record doesn't go into the log.
+    /// A call, with a step of a consistency point at most. The state stays where its record doesn't
+    /// go into the log.
     fn attempt(&mut self, call: &Command<'_>) -> Result<Reply, CallError>
         requires going { IsFalse self.old.has_failed }
         requires is_call { IsCall call.now }
         ensures { Attempts self.old self.new call.now result }
     {
         served_states_open(&self.system);
-        match self.system.call(call) {
+        match dispatch::call(&mut self.system, call) {
             Ok(reply) => {
                 served_states_open(&self.system);
                 Ok(reply)
@@ -188,7 +196,7 @@ impl<S: Station> Fs<S> {
         if self.system.is_covered() {
             return Reply::Done;
         }
-        match self.settle() {
+        match self.checkpoint() {
             Ok(()) => Reply::Done,
             Err(errno) => Reply::Refused(errno),
         }
@@ -227,12 +235,13 @@ impl<S: Station> Fs<S> {
         }
     }
 
-    /// Ends the consistency point under way, makes one where something is uncovered, and says why all isn't covered then.
-    pub(crate) fn settle(&mut self) -> Result<(), Errno>
+    /// Ends the consistency point under way, makes one where something is uncovered, and says why
+    /// all isn't covered then.
+    pub(crate) fn checkpoint(&mut self) -> Result<(), Errno>
         requires { IsFalse self.old.has_failed }
         ensures { MakesRoom self.old self.new result }
     {
-        match self.system.settle() {
+        match self.system.checkpoint() {
             Ok(()) => Ok(()),
             Err(error) => {
                 self.has_failed = fails_point(error);

@@ -11,10 +11,11 @@ use making::MakeError;
 use station::Station;
 use std::alloc::Global;
 
-/// Makes an image of an empty root directory on a station of just its size: `8 * blocks` sectors and an NVRAM of
-/// `2 * half` bytes. Whatever the station held before is gone. `BadSize` where a number is out of its range or the
-/// station has another size, `NoMemory` where there is no memory for the plan of the image, and then no device call is
-/// made; `Device` where one failed, and what is left then is no image.
+/// Makes an image of an empty root directory on a station of just its size: `8 * blocks` sectors
+/// and an NVRAM of `2 * half` bytes. Whatever the station held before is gone. `BadSize` where a
+/// number is out of its range or the station has another size, `NoMemory` where there is no memory
+/// for the plan of the image, and then no device call is made; `Device` where one failed, and what
+/// is left then is no image.
 pub fn make<S: Station>(
     alloc: Global,
     station: S,

@@ -1,9 +1,9 @@
-//! The file system: making an image, mounting one, and applying commands to it. A changing command is logged before it is
-//! answered, so that a power cut at any moment leaves it whole or not at all: the contracts of `make`, `mount`, `Fs::apply`
-//! and `Fs::into_station` say so over an honest station, and the law `cut_opens_to_prefix` joins them.
+//! The file system: making an image, mounting one, and applying commands to it. A changing command
+//! is logged before it is answered, so that a power cut at any moment leaves it whole or not at
+//! all: the contracts of `make`, `mount`, `Fs::apply` and `Fs::into_station` say so over an honest
+//! station, and the law `cut_opens_to_prefix` joins them.
 #![tactic(auto)]
 
-mod error;
 mod fs;
 mod image;
 mod mounting;
@@ -15,10 +15,9 @@ mod replies;
 mod whole_image;
 mod within_snapshots;
 
-pub use error::MountError;
 pub use fs::{Fs, POINTS};
 pub use image::make;
 pub use making::MakeError;
 pub use mounting::mount;
 pub use prefix::cut_opens_to_prefix;
-pub use system::Space;
+pub use system::{MountError, Space};

@@ -11,19 +11,20 @@ ghost use Rattle.system.specs.Opening.{HasFailed, HasNewest};
 ghost use Rattle.system.specs.Systems.{meaning_of, system_parts};
 ghost use Rattle.mount.specs.Systems.{mounted, Serves};
 
-use crate::{Fs, MountError};
+use crate::Fs;
 use station::Station;
 use std::alloc::Global;
-use system::System;
+use system::{MountError, System};
 
-/// Mounts an image: reads its newest root and what hangs from it, and replays its log. Reads give what they
-/// gave before, and a cut leaves what it might have left before. Where what the station reads opens to a
-/// state, Ok serves that state, without open files; `NoRoot` comes where neither slot holds a root, `Damaged`
-/// only where one does but what the station reads opens to no state, `Device` only where a device call
-/// failed. Whatever else the station holds, Ok has taken the newest root, the station has its sizes, the
-/// NVRAM holds a log over it, and each of its slots that isn't free has a snapshot; and where no fault stands
-/// in its tree, every record of that log was applied, and none was passed over. Over images without a fault
-/// neither `NoRoot` nor `Damaged` comes, whatever blocks of files can be read.
+/// Mounts an image: reads its newest root and what hangs from it, and replays its log. Reads give
+/// what they gave before, and a cut leaves what it might have left before. Where what the station
+/// reads opens to a state, Ok serves that state, without open files; `NoRoot` comes where neither
+/// slot holds a root, `Damaged` only where one does but what the station reads opens to no state,
+/// `Device` only where a device call failed. Whatever else the station holds, Ok has taken the
+/// newest root, the station has its sizes, the NVRAM holds a log over it, and each of its slots
+/// that isn't free has a snapshot; and where no fault stands in its tree, every record of that log
+/// was applied, and none was passed over. Over images without a fault neither `NoRoot` nor
+/// `Damaged` comes, whatever blocks of files can be read.
 pub fn mount<S: Station>(alloc: Global, station: S) -> Result<Fs<S>, (MountError, S)>
     ensures same { MatchResult result
         (λ fs. IsSameStation (S.meaning station) (meaning_of fs.system))
@@ -58,6 +59,6 @@ pub fn mount<S: Station>(alloc: Global, station: S) -> Result<Fs<S>, (MountError
             system,
             has_failed: false,
         }),
-        Err((error, station)) => Err((MountError::from(error), station)),
+        Err((error, station)) => Err((error, station)),
     }
 }

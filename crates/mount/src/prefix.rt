@@ -14,8 +14,9 @@ use station::Station;
 
 /// What a power cut leaves of a run opens to a prefix of it. It does nothing.
 ///
-/// Of a going system: on any station that reads what a cut within the run might have left, `mount` finds the state after
-/// the first commands of the run, or one within the next command. A failed system leaves no more than before.
+/// Of a going system: on any station that reads what a cut within the run might have left, `mount`
+/// finds the state after the first commands of the run, or one within the next command. A failed
+/// system leaves no more than before.
 pub fn cut_opens_to_prefix<S: Station, T: Station>()
     ensures going { (old new : Mounted S S.Station) (steps : List (Command × Reply)) (other : T)
         → old.state.mark ≡ going → HasRun old new steps

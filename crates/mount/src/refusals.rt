@@ -7,8 +7,8 @@ use conspoint::PlanError;
 use model::Errno;
 use system::{CallError, PointError};
 
-/// Of a call. Behind a consistency point the log is empty and a record fits, so `LogFull` comes then only over images that open to no
-/// state.
+/// Of a call. Behind a consistency point the log is empty and a record fits, so `LogFull` comes
+/// then only over images that open to no state.
 pub(crate) fn errno_of_call(error: CallError) -> Errno
     ensures { result ≡ refusals.errno_of_call error }
 {
@@ -20,7 +20,8 @@ pub(crate) fn errno_of_call(error: CallError) -> Errno
     }
 }
 
-/// Of a consistency point. Over a served state it has room, so `NoSpace` comes only over images that open to no state.
+/// Of a consistency point. Over a served state it has room, so `NoSpace` comes only over images
+/// that open to no state.
 pub(crate) fn errno_of_point(error: PointError) -> Errno
     ensures { result ≡ refusals.errno_of_point error }
 {

@@ -2,7 +2,7 @@
 
 ghost use Rattle.model.specs.Replies.{IsData, IsDescriptor, IsDone, IsNames, IsOffset, IsSnapshots, IsSpace, IsStat, IsTextOf, IsWritten};
 ghost use Rattle.model.specs.declared.reply.Reply.{Reply};
-ghost use Rattle.mount.specs.Applying.{AppliesCommand, IsAnsweredBy, done_reply, reply_of, space_reply};
+ghost use Rattle.mount.specs.Applying.{AppliesCommand, HasOnlyAnswers, done_reply, reply_of, space_reply};
 
 use crate::Fs;
 use model::{Command, Errno, Names, Reply, Stat, Text};
@@ -12,7 +12,7 @@ use system::Space;
 impl<S: Station> Fs<S> {
     /// Applies a command that is answered that it is done.
     pub(crate) fn apply_for_done(&mut self, command: &Command<'_>) -> Result<(), Errno>
-        requires { IsAnsweredBy command.now IsDone }
+        requires { HasOnlyAnswers command.now IsDone }
         ensures { AppliesCommand self.old self.new command.now (reply_of done_reply result) }
     {
         match self.apply(command) {
@@ -24,7 +24,7 @@ impl<S: Station> Fs<S> {
 
     /// Applies a command that is answered a descriptor.
     pub(crate) fn apply_for_descriptor(&mut self, command: &Command<'_>) -> Result<u32, Errno>
-        requires { IsAnsweredBy command.now IsDescriptor }
+        requires { HasOnlyAnswers command.now IsDescriptor }
         ensures { AppliesCommand self.old self.new command.now (reply_of Reply.Fd result) }
     {
         match self.apply(command) {
@@ -36,7 +36,7 @@ impl<S: Station> Fs<S> {
 
     /// Applies a command that is answered bytes.
     pub(crate) fn apply_for_data(&mut self, command: &Command<'_>) -> Result<Text, Errno>
-        requires { IsAnsweredBy command.now IsData }
+        requires { HasOnlyAnswers command.now IsData }
         ensures { AppliesCommand self.old self.new command.now (reply_of Reply.Data result) }
     {
         match self.apply(command) {
@@ -48,7 +48,7 @@ impl<S: Station> Fs<S> {
 
     /// Applies a command that is answered how many bytes were written.
     pub(crate) fn apply_for_written(&mut self, command: &Command<'_>) -> Result<u32, Errno>
-        requires { IsAnsweredBy command.now IsWritten }
+        requires { HasOnlyAnswers command.now IsWritten }
         ensures { AppliesCommand self.old self.new command.now (reply_of Reply.Wrote result) }
     {
         match self.apply(command) {
@@ -60,7 +60,7 @@ impl<S: Station> Fs<S> {
 
     /// Applies a command that is answered an offset.
     pub(crate) fn apply_for_offset(&mut self, command: &Command<'_>) -> Result<u64, Errno>
-        requires { IsAnsweredBy command.now IsOffset }
+        requires { HasOnlyAnswers command.now IsOffset }
         ensures { AppliesCommand self.old self.new command.now (reply_of Reply.At result) }
     {
         match self.apply(command) {
@@ -72,7 +72,7 @@ impl<S: Station> Fs<S> {
 
     /// Applies a command that is answered a link's text.
     pub(crate) fn apply_for_text(&mut self, command: &Command<'_>) -> Result<Text, Errno>
-        requires { IsAnsweredBy command.now IsTextOf }
+        requires { HasOnlyAnswers command.now IsTextOf }
         ensures { AppliesCommand self.old self.new command.now (reply_of Reply.Text result) }
     {
         match self.apply(command) {
@@ -84,7 +84,7 @@ impl<S: Station> Fs<S> {
 
     /// Applies a command that is answered a directory's names.
     pub(crate) fn apply_for_names(&mut self, command: &Command<'_>) -> Result<Names, Errno>
-        requires { IsAnsweredBy command.now IsNames }
+        requires { HasOnlyAnswers command.now IsNames }
         ensures { AppliesCommand self.old self.new command.now (reply_of Reply.Names result) }
     {
         match self.apply(command) {
@@ -96,7 +96,7 @@ impl<S: Station> Fs<S> {
 
     /// Applies a command that is answered the snapshots' names.
     pub(crate) fn apply_for_snapshots(&mut self, command: &Command<'_>) -> Result<Names, Errno>
-        requires { IsAnsweredBy command.now IsSnapshots }
+        requires { HasOnlyAnswers command.now IsSnapshots }
         ensures { AppliesCommand self.old self.new command.now (reply_of Reply.Snaps result) }
     {
         match self.apply(command) {
@@ -108,7 +108,7 @@ impl<S: Station> Fs<S> {
 
     /// Applies a command that is answered what stands somewhere.
     pub(crate) fn apply_for_stat(&mut self, command: &Command<'_>) -> Result<Stat, Errno>
-        requires { IsAnsweredBy command.now IsStat }
+        requires { HasOnlyAnswers command.now IsStat }
         ensures { AppliesCommand self.old self.new command.now (reply_of Reply.Stat result) }
     {
         match self.apply(command) {
@@ -120,7 +120,7 @@ impl<S: Station> Fs<S> {
 
     /// Applies a command that is answered the room of the disk.
     pub(crate) fn apply_for_space(&mut self, command: &Command<'_>) -> Result<Space, Errno>
-        requires { IsAnsweredBy command.now IsSpace }
+        requires { HasOnlyAnswers command.now IsSpace }
         ensures { AppliesCommand self.old self.new command.now (reply_of space_reply result) }
     {
         match self.apply(command) {

@@ -11,7 +11,8 @@ use Rattle.oplog.specs.declared.log.End.TheVariants.{At}
 abbrev pub start_of : LogEnd → ℕ
 start_of log = log.half * (log.epoch % 2)
 
--- what stands behind the gate of a record with this body: its length, the body, and the next gate, closed
+-- what stands behind the gate of a record with this body: its length, the body, and the next gate,
+-- closed
 pub record IsBehind (body bytes : List ℕ) : Type 0 where
   pub short : length body < 2 ^ 32
   pub spelled : bytes ≡ little_bytes 4 (length body) ++ body ++ 0 ∷ []
@@ -20,13 +21,14 @@ pub record IsBehind (body bytes : List ℕ) : Type 0 where
 abbrev pub IsAnyFault : {E : Type 0} → E → Type 0
 IsAnyFault e = ⊤
 
--- From a log's end on, a cut at any moment left the records that were there; once the answer is Ok, the epoch is open.
+-- From a log's end on, a cut at any moment left the records that were there; once the answer is Ok,
+-- the epoch is open.
 pub record OpensHalf {T E : Type 0} (old new : Meaning) (log : LogEnd) (g : ℕ) (bodies : Bodies) (result : Result T E) : Type 0 where
   pub any_moment : LeavesOnly old new (KeepsDisk old (λ n. LogHolds log.half g n (all_bodies bodies)))
   pub opened : OnOk result (EachCut new (KeepsDisk old (StandsAt (record log { end = At FIRST_GATE }) g bodies)))
 
--- From a log's end on, a cut at any moment left the records that were there, with this one or without it; once the answer
--- is Ok, with it.
+-- From a log's end on, a cut at any moment left the records that were there, with this one or
+-- without it; once the answer is Ok, with it.
 pub record Appends {T E : Type 0} (old new : Meaning) (log : LogEnd) (g : ℕ) (bodies : Bodies) (body : List ℕ) (result : Result T E) : Type 0 where
   pub any_moment : LeavesOnly old new (KeepsDisk old (WithOrWithout log.half g bodies body))
   pub appended : OnOk result (EachCut new (KeepsDisk old (StandsAt (behind_record log body) g (with_body bodies body))))

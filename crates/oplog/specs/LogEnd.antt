@@ -59,8 +59,8 @@ EndsBehind Unopened epoch bytes bodies = IsUnopened epoch bytes × (bodies ≡ [
 EndsBehind (At next) epoch bytes bodies =
     (rest : List ℕ) × IsOpenFor epoch bytes rest × HoldsBodies rest bodies × (next ≡ FIRST_GATE + length (records_of bodies))
 
--- over a root of generation g, the other half holds these bodies: where records go to epoch g + 1, it isn't open for the
--- next one; where they go to epoch g + 2, it is the half of epoch g + 1
+-- over a root of generation g, the other half holds these bodies: where records go to epoch g + 1,
+-- it isn't open for the next one; where they go to epoch g + 2, it is the half of epoch g + 1
 abbrev pub OtherHolds : LogEnd → ℕ → List ℕ → List (List ℕ) → Type 0
 OtherHolds log g nvram older =
     ((log.epoch ≡ g + 1) × IsUnopened (g + 2) (half_of log.half (g + 2) nvram) × (older ≡ []))

@@ -4,8 +4,8 @@ use Rattle.layout.specs.Log.{records_of, HoldsBodies, LogHolds}
 use Rattle.oplog.specs.LogEnd.{LogEnd, Bodies, all_bodies, StandsAt}
 use Rattle.oplog.specs.declared.log.End.TheVariants.{Unopened, At}
 
--- what was read of the half of an epoch: whether it is open for it, and the bytes from the first record's gate on, just a
--- closed gate where it isn't open
+-- what was read of the half of an epoch: whether it is open for it, and the bytes from the first
+-- record's gate on, just a closed gate where it isn't open
 pub record SavedHalf : Type 0 where
   pub is_open : Bool
   pub records : List ℕ
@@ -17,8 +17,8 @@ pub record Saved : Type 0 where
   pub first : SavedHalf
   pub second : SavedHalf
 
--- The log's end, where so many of the bytes that were read of each epoch stand from the closed gate on: records go on in
--- the newest epoch that is open.
+-- The log's end, where so many of the bytes that were read of each epoch stand from the closed gate
+-- on: records go on in the newest epoch that is open.
 abbrev pub end_of : Saved → ℕ → ℕ → LogEnd
 end_of saved first_left second_left =
     if saved.second.is_open then record { half = saved.half; epoch = saved.generation + 2; end = At (saved.half - second_left); is_stopped = false }
@@ -36,8 +36,8 @@ pub record StandsBehind (log : LogEnd) (g : ℕ) (nvram : List ℕ) (in_order : 
   pub all : all_bodies bodies ≡ in_order
   pub stands : StandsAt log g bodies nvram
 
--- What was read tells the log over the root: its bytes hold just the records that the log holds, and it ends where they
--- do.
+-- What was read tells the log over the root: its bytes hold just the records that the log holds,
+-- and it ends where they do.
 pub record TellsLog (nvram : List ℕ) (saved : Saved) : Type 0 where
   pub ends : (first second : List (List ℕ)) (first_left second_left : ℕ)
       → HoldsLeaving saved.first.records first first_left

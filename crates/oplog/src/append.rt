@@ -18,8 +18,8 @@ use std::alloc::{AllocError, Global};
 /// Bytes of an epoch and the first gate behind it.
 const EPOCH_AND_GATE_BYTES: usize = 9;
 
-/// Writes a record of which this is to stand behind its gate, in the half of this epoch, which begins at this byte. It
-/// opens the half first where that isn't open.
+/// Writes a record of which this is to stand behind its gate, in the half of this epoch, which
+/// begins at this byte. It opens the half first where that isn't open.
 pub fn write_record<S: Station>(
     station: &mut S,
     start: u32,
@@ -64,8 +64,9 @@ fn open_half<S: Station>(station: &mut S, start: u32, epoch: Epoch) -> Result<()
 {
     let mut behind = [CLOSED; EPOCH_AND_GATE_BYTES];
     LittleEndian::write_u64(&mut behind, epoch.get());
-    // The gate is closed first: under an open one a cut would leave a part of the epoch, or the epoch with the records
-    // that stood in the half before. It is opened last, when the epoch stands and the first record's gate is closed.
+    // The gate is closed first: under an open one a cut would leave a part of the epoch, or the
+    // epoch with the records that stood in the half before. It is opened last, when the epoch
+    // stands and the first record's gate is closed.
     station.nv_write(start + HEADER_GATE, &[CLOSED])?;
     station.nv_write(start + EPOCH_AT, &behind)?;
     station.nv_write(start + HEADER_GATE, &[OPEN])?;
@@ -86,8 +87,9 @@ fn add_record<S: Station>(station: &mut S, gate: u32, behind: &[u8]) -> Result<(
         → Appends (S.meaning station.old) (S.meaning station.new)
         (record log { end = End.At next }) g bodies body result }
 {
-    // The gate comes last, in one byte that a cut can't tear: behind an open one the record would count before it
-    // stands whole. Behind the record the next gate is closed, or old bytes would count as records.
+    // The gate comes last, in one byte that a cut can't tear: behind an open one the record would
+    // count before it stands whole. Behind the record the next gate is closed, or old bytes would
+    // count as records.
     station.nv_write(gate + 1, behind)?;
     station.nv_write(gate, &[OPEN])?;
     Ok(())

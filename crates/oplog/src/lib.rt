@@ -1,5 +1,6 @@
-//! The journal (oplog): the log in the NVRAM, with what came since the last root. Each epoch's records stand in one
-//! half of the NVRAM, the half of its parity; a record counts once its gate is open.
+//! The journal (oplog): the log in the NVRAM, with what came since the last root. Each epoch's
+//! records stand in one half of the NVRAM, the half of its parity; a record counts once its gate is
+//! open.
 #![tactic(auto)]
 
 mod append;

@@ -94,8 +94,8 @@ impl Log {
         self.epoch
     }
 
-    /// Whether no record stands in the log of the epoch that the next one goes to. The epoch may be open: a cut behind its opening
-    /// leaves it so.
+    /// Whether no record stands in the log of the epoch that the next one goes to. The epoch may be
+    /// open: a cut behind its opening leaves it so.
     pub fn is_empty(&self) -> bool
         ensures { IsTrue result ↔ (next_of self.now.end ≡ FIRST_GATE) }
     {
@@ -110,9 +110,10 @@ impl Log {
         left >= RECORD_HEAD_BYTES + 1 && length <= left - (RECORD_HEAD_BYTES + 1)
     }
 
-    /// Appends a record, and opens its epoch first where that isn't open. The record counts from the moment that its
-    /// gate is written, with a write of its own. `LogFull` where it doesn't fit what is left of the half and `NoMemory`
-    /// change nothing; after `Device` the log has stopped, and makes no more device call.
+    /// Appends a record, and opens its epoch first where that isn't open. The record counts from
+    /// the moment that its gate is written, with a write of its own. `LogFull` where it doesn't fit
+    /// what is left of the half and `NoMemory` change nothing; after `Device` the log has stopped,
+    /// and makes no more device call.
     pub fn append<S: Station>(
         &mut self,
         alloc: Global,
@@ -134,7 +135,8 @@ impl Log {
         ensures refused { IsErrOf result AppendError.LogFull ⊎ IsErrOf result AppendError.NoMemory
             → (station.new ≡ station.old) × (self.new ≡ self.old) }
         ensures end { OnOk result (self.new ≡ behind_record self.old (logged_body (change_of change.now))) }
-        // A cut at any moment leaves the records that were there, with this one or without it; at the answer, with it.
+        // A cut at any moment leaves the records that were there, with this one or without it; at
+        // the answer, with it.
         ensures any_moment { (g : ℕ) (bodies : Bodies)
             → LogStands (S.meaning station.old) self.old g bodies
             → LeavesOnly (S.meaning station.old) (S.meaning station.new)
@@ -154,7 +156,8 @@ impl Log {
         Ok(())
     }
 
-    /// What is to stand behind the gate of a record. It makes no device call: `Device` says that the log has stopped.
+    /// What is to stand behind the gate of a record. It makes no device call: `Device` says that
+    /// the log has stopped.
     fn prepare(&self, alloc: Global, change: &Record) -> Result<Vec<u8>, AppendError>
         requires fits { KeepsLimits (change_of change.now) }
         ensures stopped { IsErrOf result AppendError.Device ↔ IsTrue self.now.is_stopped }

@@ -88,9 +88,9 @@ impl Model for SavedLog {
 }
 
 impl SavedLog {
-    /// Reads what the NVRAM holds of the two epochs that follow a root of this generation. `Damaged` where a header's
-    /// gate is no gate, or an open half has an epoch of the other half or one past these two; `Device` where a read
-    /// failed; `NoMemory`. It writes nothing.
+    /// Reads what the NVRAM holds of the two epochs that follow a root of this generation.
+    /// `Damaged` where a header's gate is no gate, or an open half has an epoch of the other half
+    /// or one past these two; `Device` where a read failed; `NoMemory`. It writes nothing.
     pub fn load<S: Station>(
         alloc: Global,
         station: &mut S,
@@ -134,8 +134,9 @@ impl SavedLog {
         &self.second.records
     }
 
-    /// The log's end, where so many bytes of the records of each epoch are left from the closed gate on: it goes on in
-    /// the newest epoch that is open, and opens the one after the root where none is.
+    /// The log's end, where so many bytes of the records of each epoch are left from the closed
+    /// gate on: it goes on in the newest epoch that is open, and opens the one after the root where
+    /// none is.
     pub fn into_log(self, first_left: usize, second_left: usize) -> Log
         requires first { (1 ≤ first_left) × (first_left ≤ length self.first.records) }
         requires second { (1 ≤ second_left) × (second_left ≤ length self.second.records) }
@@ -165,7 +166,8 @@ impl SavedLog {
     }
 }
 
-/// Reads the half of an epoch. `Damaged` where it can't hold the epoch: no gate, another half's epoch, or a later one.
+/// Reads the half of an epoch. `Damaged` where it can't hold the epoch: no gate, another half's
+/// epoch, or a later one.
 fn read_half<S: Station>(
     alloc: Global,
     station: &mut S,
@@ -214,8 +216,8 @@ fn read_header<S: Station>(station: &mut S, start: u32) -> Result<Header, SavedL
     Header::read(&bytes).ok_or(SavedLogError::Damaged)
 }
 
-/// Whether a half with this header is open for the epoch. `Damaged` where it is open for another half's epoch or a later
-/// one.
+/// Whether a half with this header is open for the epoch. `Damaged` where it is open for another
+/// half's epoch or a later one.
 fn is_open_for(header: Header, epoch: Epoch) -> Result<bool, SavedLogError>
     ensures only { OnErr result (result ≡ Err SavedLogError.Damaged) }
     ensures tells { (half : List ℕ) → HeaderIs (take HEADER_BYTES half) (Some header)

@@ -10,7 +10,7 @@ use Rattle.std.proofs.lemmas.List.{get_or_default}
 use Rattle.conspoint.specs.Finished.{IsAbsent}
 use Rattle.conspoint.specs.declared.plan.PlannedBlock.{PlannedBlock}
 use Rattle.overlay.specs.Indexes.{IsAt, IsIndex, Leads}
-use Rattle.overlay.specs.declared.laid.Entry.{Entry}
+use Rattle.overlay.specs.declared.pending.Entry.{Entry}
 
 module _ (index : List Entry) (blocks : List PlannedBlock) (is : IsIndex index blocks) (place at : ℕ) where
   -- the comparisons with a place rise

@@ -9,22 +9,22 @@ use Rattle.station.specs.Moments.{Meaning, EachCut, Goes, HasSizes, IsSameStatio
 use Rattle.layout.specs.Places.{blocks_of}
 use Rattle.buffers.specs.Disks.{IsBlock, ShowsDisk, disk_with_block, disk_with_sector}
 use Rattle.buffers.specs.declared.block.Block.{Block}
-use Rattle.buffers.specs.declared.kept.Kept.{Kept}
+use Rattle.buffers.specs.declared.block_cache.BlockCache.{BlockCache}
 use Rattle.conspoint.specs.Cuts.{HasNewRoot, HoldsBlocks, HoldsWritten, StaysOutside, disk_so_far, disk_with_blocks}
 use Rattle.conspoint.specs.Finished.{IsAbsent, disk_after}
 use Rattle.conspoint.specs.Plans.{FitsDisk, IsPlanned, IsSlot, Planned}
 use Rattle.conspoint.specs.declared.plan.PlannedBlock.{PlannedBlock}
 use Rattle.overlay.specs.Indexes.{IsAt}
 use Rattle.overlay.specs.Overlays.{HoldsSoFar, ShowsOver, planned_disk}
-use Rattle.overlay.specs.declared.laid.Laid.{Laid}
+use Rattle.overlay.specs.declared.pending.PendingPoint.{PendingPoint}
 
 -- What the station does beside its disk doesn't change what blocks read as, where what is kept goes on showing that.
-pub over_still : (m n : Meaning) (a b : Kept) (laid : Option Laid) (disk : ℕ → List ℕ) → n.seen.disk ≡ m.seen.disk
-    → ((d : ℕ → List ℕ) → ShowsDisk m a d → ShowsDisk n b d) → ShowsOver m a laid disk → ShowsOver n b laid disk
-over_still m n a b laid disk same still shows = record {
+pub over_still : (m n : Meaning) (a b : BlockCache) (pending : Option PendingPoint) (disk : ℕ → List ℕ) → n.seen.disk ≡ m.seen.disk
+    → ((d : ℕ → List ℕ) → ShowsDisk m a d → ShowsDisk n b d) → ShowsOver m a pending disk → ShowsOver n b pending disk
+over_still m n a b pending disk same still shows = record {
   below = subst (λ (d : ℕ → Sector). ShowsDisk n b (blocks_of d)) (sym same) (still (blocks_of m.seen.disk) shows.below);
-  written = subst (HoldsSoFar laid) (sym same) shows.written;
-  is = shows.is ∙ ap (λ (d : ℕ → Sector). blocks_of (planned_disk laid d)) (sym same);
+  written = subst (HoldsSoFar pending) (sym same) shows.written;
+  is = shows.is ∙ ap (λ (d : ℕ → Sector). blocks_of (planned_disk pending d)) (sym same);
 }
 
 -- a planned block is there
@@ -32,11 +32,11 @@ pub at_present : (blocks : List PlannedBlock) (place : ℕ) (block : Block) → 
 at_present blocks place block at absent = All-contains (λ b. b.place ≢ place) blocks (record { place = place; bytes = block }) absent at refl
 
 -- a plan of which nothing is written
-pub laid_over : (m : Meaning) (kept : Kept) (old : Option Laid) (laid : Laid) (disk : ℕ → List ℕ) → laid.plan.written ≡ 0
-    → ShowsOver m kept old disk → ShowsOver m kept (Some laid) (blocks_of (disk_after laid.plan m.seen.disk))
-laid_over m kept old laid disk none shows = record {
+pub pending_over : (m : Meaning) (kept : BlockCache) (old : Option PendingPoint) (pending : PendingPoint) (disk : ℕ → List ℕ) → pending.plan.written ≡ 0
+    → ShowsOver m kept old disk → ShowsOver m kept (Some pending) (blocks_of (disk_after pending.plan m.seen.disk))
+pending_over m kept old pending disk none shows = record {
   below = shows.below;
-  written = subst (λ (n : ℕ). HoldsBlocks (take n laid.plan.blocks) m.seen.disk) (sym none) (λ i d lt. absurd (omega (arith, lt)));
+  written = subst (λ (n : ℕ). HoldsBlocks (take n pending.plan.blocks) m.seen.disk) (sym none) (λ i d lt. absurd (omega (arith, lt)));
   is = refl;
 }
 
@@ -52,7 +52,7 @@ stand (b ∷ blocks) disk all =
     ∙ stand blocks disk (All-tail (λ x. x.bytes ≡ disk x.place) b blocks all)
 
 -- a disk that is shown is the one that is seen, if it is behind the end of that
-shown_is : (m : Meaning) (kept : Kept) (disk : ℕ → List ℕ) → ((b : ℕ) → m.sectors < 8 * b + 8 → disk b ≡ blocks_of m.seen.disk b)
+shown_is : (m : Meaning) (kept : BlockCache) (disk : ℕ → List ℕ) → ((b : ℕ) → m.sectors < 8 * b + 8 → disk b ≡ blocks_of m.seen.disk b)
     → ShowsDisk m kept disk → ShowsDisk m kept (blocks_of m.seen.disk)
 shown_is m kept disk past shows =
     subst (ShowsDisk m kept) (fun_ext {f = disk} {g = blocks_of m.seen.disk} (λ b. elim (cases_lt m.sectors (8 * b + 8)) [
@@ -71,9 +71,9 @@ slot_beside (inr is) behind same = absurd (omega (arith, is, behind, same))
 -- What is below the blocks of a point, where other blocks of the disk that it leaves are as they were: that is given.
 module _ (others : (p : Planned) (disk : ℕ → Sector) (b : ℕ) → IsPlanned p → 2 ≤ b → IsAbsent p.blocks b → blocks_of (disk_after p disk) b ≡ blocks_of disk b) where
   -- a place that isn't planned reads as below
-  pub elsewhere : (m : Meaning) (kept : Kept) (laid : Laid) (place : ℕ) (disk : ℕ → List ℕ) → IsPlanned laid.plan → 2 ≤ place → IsAbsent laid.plan.blocks place
-      → ShowsOver m kept (Some laid) disk → disk place ≡ blocks_of m.seen.disk place
-  elsewhere m kept laid place disk planned behind absent shows = ap (λ (d : ℕ → List ℕ). d place) shows.is ∙ others laid.plan m.seen.disk place planned behind absent
+  pub elsewhere : (m : Meaning) (kept : BlockCache) (pending : PendingPoint) (place : ℕ) (disk : ℕ → List ℕ) → IsPlanned pending.plan → 2 ≤ place → IsAbsent pending.plan.blocks place
+      → ShowsOver m kept (Some pending) disk → disk place ≡ blocks_of m.seen.disk place
+  elsewhere m kept pending place disk planned behind absent shows = ap (λ (d : ℕ → List ℕ). d place) shows.is ∙ others pending.plan m.seen.disk place planned behind absent
 
   -- behind the disk's end two disks read the same that the same disk comes of
   past_same : (p : Planned) (sectors b : ℕ) (d e : ℕ → Sector) → IsPlanned p → FitsDisk sectors p → sectors < 8 * b + 8 → disk_after p e ≡ disk_after p d → blocks_of d b ≡ blocks_of e b
@@ -83,10 +83,10 @@ module _ (others : (p : Planned) (disk : ℕ → Sector) (b : ℕ) → IsPlanned
       sym (others p d b planned behind absent) ∙ sym (ap (λ (x : ℕ → Sector). blocks_of x b) same) ∙ others p e b planned behind absent
 
   module _ (beside : (blocks : List PlannedBlock) (disk : ℕ → List ℕ) (n : ℕ) → All (λ b. b.place ≢ n) blocks → disk_with_blocks blocks disk n ≡ disk n)
-      (m n : Meaning) (a b : Kept) (laid : Laid) (disk : ℕ → List ℕ)
-      (planned : IsPlanned laid.plan) (fits : FitsDisk m.sectors laid.plan) (same : IsSameStation m n) (shows : ShowsOver m a (Some laid) disk) where
+      (m n : Meaning) (a b : BlockCache) (pending : PendingPoint) (disk : ℕ → List ℕ)
+      (planned : IsPlanned pending.plan) (fits : FitsDisk m.sectors pending.plan) (same : IsSameStation m n) (shows : ShowsOver m a (Some pending) disk) where
     abbrev p : Planned
-    p = laid.plan
+    p = pending.plan
 
     abbrev base : ℕ → List ℕ
     base = blocks_of m.seen.disk
@@ -98,7 +98,7 @@ module _ (others : (p : Planned) (disk : ℕ → Sector) (b : ℕ) → IsPlanned
     past_of q past = let size = same.sectors in omega (arith, size, past)
 
     -- some more of its blocks are written
-    pub sliced : {T E : Type 0} (new : Laid) (r : Result T E) → new.plan ≡ record p { written = new.plan.written } → ((old now : Images) → StaysOutside p.blocks old now → disk_after p now.disk ≡ disk_after p old.disk)
+    pub sliced : {T E : Type 0} (new : PendingPoint) (r : Result T E) → new.plan ≡ record p { written = new.plan.written } → ((old now : Images) → StaysOutside p.blocks old now → disk_after p now.disk ≡ disk_after p old.disk)
         → Goes (StaysOutside p.blocks) m n → (Shows m (HoldsWritten p) → OnOk r (Shows n (HoldsWritten new.plan)))
         → ((d : ℕ → List ℕ) → ShowsDisk m a (disk_so_far p d) → OnOk r (ShowsDisk n b (disk_so_far new.plan d))) → OnOk r (ShowsOver n b (Some new) disk)
     sliced new (Err e) is stays goes writes shown = tt
@@ -134,10 +134,10 @@ module _ (others : (p : Planned) (disk : ℕ → Sector) (b : ℕ) → IsPlanned
         }
 
 -- a planned block reads as the disk to come does
-pub here : (m : Meaning) (kept : Kept) (laid : Laid) (place : ℕ) (block : Block) (disk : ℕ → List ℕ) → HoldsBlocks laid.plan.blocks (disk_after laid.plan m.seen.disk)
-    → IsAt laid.plan.blocks place block → ShowsOver m kept (Some laid) disk → block ≡ disk place
-here m kept laid place block disk holds at shows =
-    All-contains (λ b. IsBlock (disk_after laid.plan m.seen.disk) b.place b.bytes) laid.plan.blocks (record { place = place; bytes = block }) holds at
+pub here : (m : Meaning) (kept : BlockCache) (pending : PendingPoint) (place : ℕ) (block : Block) (disk : ℕ → List ℕ) → HoldsBlocks pending.plan.blocks (disk_after pending.plan m.seen.disk)
+    → IsAt pending.plan.blocks place block → ShowsOver m kept (Some pending) disk → block ≡ disk place
+here m kept pending place block disk holds at shows =
+    All-contains (λ b. IsBlock (disk_after pending.plan m.seen.disk) b.place b.bytes) pending.plan.blocks (record { place = place; bytes = block }) holds at
     ∙ sym (ap (λ (d : ℕ → List ℕ). d place) shows.is)
 
 -- what follows where there is none

@@ -4,15 +4,15 @@ use Rattle.std.proofs.Props.{props}
 use Rattle.station.specs.Images.{Sector}
 use Rattle.station.specs.Moments.{Meaning}
 use Rattle.overlay.specs.Overlays.{FitsOver, HoldsHere, HoldsSoFar}
-use Rattle.overlay.specs.declared.laid.Laid.{Laid}
+use Rattle.overlay.specs.declared.pending.PendingPoint.{PendingPoint}
 
-pub FitsOver-prop : (sectors : ℕ) (laid : Option Laid) → IsProp (FitsOver sectors laid)
+pub FitsOver-prop : (sectors : ℕ) (pending : Option PendingPoint) → IsProp (FitsOver sectors pending)
 FitsOver-prop sectors None = hlevel props
-FitsOver-prop sectors (Some laid) = hlevel props
+FitsOver-prop sectors (Some pending) = hlevel props
 
-HoldsSoFar-prop : (laid : Option Laid) (disk : ℕ → Sector) → IsProp (HoldsSoFar laid disk)
+HoldsSoFar-prop : (pending : Option PendingPoint) (disk : ℕ → Sector) → IsProp (HoldsSoFar pending disk)
 HoldsSoFar-prop None disk = hlevel props
-HoldsSoFar-prop (Some laid) disk = hlevel props
+HoldsSoFar-prop (Some pending) disk = hlevel props
 
-pub HoldsHere-prop : (m : Meaning) (laid : Option Laid) → IsProp (HoldsHere m laid)
-HoldsHere-prop m laid = hlevel HoldsSoFar-prop
+pub HoldsHere-prop : (m : Meaning) (pending : Option PendingPoint) → IsProp (HoldsHere m pending)
+HoldsHere-prop m pending = hlevel HoldsSoFar-prop

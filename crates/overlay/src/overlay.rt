@@ -12,32 +12,32 @@ ghost use Rattle.overlay.specs.Props.{FitsOver-prop, HoldsHere-prop};
 ghost use Rattle.conspoint.specs.Finished.{disk_after};
 ghost use Rattle.conspoint.specs.Plans.{FitsDisk};
 
-use crate::laid::Laid;
-use buffers::{Blocks, BufferError, Buffers, SharedBlock};
+use crate::pending::PendingPoint;
+use buffers::{BlockError, Blocks, Buffers, SharedBlock};
 use conspoint::{finished_disks_are_one, write_rest, written_disks_have_the_blocks};
 use layout::{BLOCK_BYTES, BlockNumber, is_indirect_block};
 use station::Station;
 
-/// The blocks of a station, and over them those of a consistency point under way: a place reads as it does once the point is
-/// carried out.
+/// The blocks of a station, and over them those of a consistency point under way: a place reads as
+/// it does once the point is carried out.
 #[derive(Drop)]
 pub struct Overlay<S: Station> {
     pub buffers: Buffers<S>,
-    laid: Option<Laid>,
-    ghost fits: { FitsOver (S.meaning buffers.station).sectors laid } by { FitsOver-prop (S.meaning buffers.station).sectors laid },
-    ghost written: { HoldsHere (S.meaning buffers.station) laid } by { HoldsHere-prop (S.meaning buffers.station) laid },
+    pending: Option<PendingPoint>,
+    ghost fits: { FitsOver (S.meaning buffers.station).sectors pending } by { FitsOver-prop (S.meaning buffers.station).sectors pending },
+    ghost written: { HoldsHere (S.meaning buffers.station) pending } by { HoldsHere-prop (S.meaning buffers.station) pending },
 }
 
 impl<S: Station> Blocks for Overlay<S> {
     ghost use Rattle.std.specs.Prelude.{refl};
     ghost use Rattle.buffers.specs.Readings.{reads_none};
 
-    ghost Shows = { λ b disk. ShowsOver (S.meaning b.buffers.station) b.buffers.kept b.laid disk };
+    ghost Shows = { λ b disk. ShowsOver (S.meaning b.buffers.station) b.buffers.kept b.pending disk };
 
     ghost ReadsOn = { λ a b. ReadsOver (S.meaning a.buffers.station)
-        (S.meaning b.buffers.station) a.laid b.laid };
+        (S.meaning b.buffers.station) a.pending b.pending };
 
-    ghost IsResident = { λ b place. IsHere b.buffers.kept b.laid place };
+    ghost IsResident = { λ b place. IsHere b.buffers.kept b.pending place };
 
     ghost failed = { λ b. (S.meaning b.buffers.station).failed_reads };
 
@@ -47,7 +47,7 @@ impl<S: Station> Blocks for Overlay<S> {
         self.buffers.count()
     }
 
-    fn make_resident(&mut self, place: BlockNumber) -> Result<(), BufferError> {
+    fn make_resident(&mut self, place: BlockNumber) -> Result<(), BlockError> {
         if let Some(_) = self.planned(place) {
             return Ok(());
         }
@@ -69,38 +69,38 @@ impl<S: Station> Blocks for Overlay<S> {
     }
 
     ghost reads_nothing = { λ s.
-        record { below = reads_none (S.meaning s.buffers.station); laid = refl } };
+        record { below = reads_none (S.meaning s.buffers.station); pending = refl } };
 }
 
 impl<S: Station> Overlay<S> {
     /// The blocks of a station; no point is under way.
     pub fn new(buffers: Buffers<S>) -> Overlay<S>
         ensures buffers { result.buffers ≡ buffers }
-        ensures none { result.laid ≡ None }
+        ensures none { result.pending ≡ None }
         ensures shows { ShowsDisk (S.meaning buffers.station) buffers.kept
             (blocks_of (S.meaning buffers.station).seen.disk)
-            → ShowsOver (S.meaning result.buffers.station) result.buffers.kept result.laid
+            → ShowsOver (S.meaning result.buffers.station) result.buffers.kept result.pending
             (blocks_of (S.meaning result.buffers.station).seen.disk) }
     {
         Overlay {
             buffers,
-            laid: None,
+            pending: None,
         }
     }
 
     /// Whether a point is under way.
     pub fn is_under_way(&self) -> bool
-        ensures { IsTrue result ↔ (self.now.laid ≢ None) }
+        ensures { IsTrue result ↔ (self.now.pending ≢ None) }
     {
-        self.laid.is_some()
+        self.pending.is_some()
     }
 
     /// How many blocks of the point under way aren't written yet.
     pub fn left(&self) -> usize
-        ensures { result ≡ unwritten self.now.laid }
+        ensures { result ≡ unwritten self.now.pending }
     {
-        match &self.laid {
-            Some(laid) => laid.plan.left(),
+        match &self.pending {
+            Some(pending) => pending.plan.left(),
             None => 0,
         }
     }
@@ -108,35 +108,36 @@ impl<S: Station> Overlay<S> {
     /// The block that the point under way has for this place, if it has one.
     fn planned(&self, place: BlockNumber) -> Option<&SharedBlock>
         requires { 2 ≤ place }
-        ensures here { IfSome result (λ b. IsPlannedAt self.now.laid place) }
+        ensures here { IfSome result (λ b. IsPlannedAt self.now.pending place) }
         ensures whole { IfSome result (λ b. IsWhole b.now) }
         ensures bytes { (disk : ℕ → List ℕ)
-            → ShowsOver (S.meaning self.now.buffers.station) self.now.buffers.kept self.now.laid
+            → ShowsOver (S.meaning self.now.buffers.station) self.now.buffers.kept self.now.pending
             disk
             → IfSome result (λ b. b.now ≡ disk place) }
-        ensures none { IfNone result (IsPlannedAt self.now.laid place → ⊥) }
+        ensures none { IfNone result (IsPlannedAt self.now.pending place → ⊥) }
         ensures below { (disk : ℕ → List ℕ)
-            → ShowsOver (S.meaning self.now.buffers.station) self.now.buffers.kept self.now.laid
+            → ShowsOver (S.meaning self.now.buffers.station) self.now.buffers.kept self.now.pending
             disk
             → IfNone result (disk place
             ≡ blocks_of (S.meaning self.now.buffers.station).seen.disk place) }
     {
         finished_disks_are_one();
-        match &self.laid {
-            Some(laid) => laid.find(place.get()),
+        match &self.pending {
+            Some(pending) => pending.find(place.get()),
             None => None,
         }
     }
 
-    /// Lets go of the blocks of the disk below that were made resident: they have to be made resident again.
+    /// Lets go of the blocks of the disk below that were made resident: they have to be made
+    /// resident again.
     pub fn let_go(&mut self)
         ensures station { self.new.buffers.station ≡ self.old.buffers.station }
         ensures reads { ReadsOver (S.meaning self.old.buffers.station)
-            (S.meaning self.new.buffers.station) self.old.laid self.new.laid }
+            (S.meaning self.new.buffers.station) self.old.pending self.new.pending }
         ensures same { (disk : ℕ → List ℕ)
-            → ShowsOver (S.meaning self.old.buffers.station) self.old.buffers.kept self.old.laid
+            → ShowsOver (S.meaning self.old.buffers.station) self.old.buffers.kept self.old.pending
             disk
-            → ShowsOver (S.meaning self.new.buffers.station) self.new.buffers.kept self.new.laid
+            → ShowsOver (S.meaning self.new.buffers.station) self.new.buffers.kept self.new.pending
             disk }
         ensures none { IsEmpty self.new.buffers.kept.held }
     {
@@ -144,46 +145,47 @@ impl<S: Station> Overlay<S> {
     }
 
     /// Lays a plan over the blocks, of which nothing is written yet. None is under way.
-    pub fn lay(&mut self, laid: Laid)
-        requires none { self.old.laid ≡ None }
-        requires unwritten { laid.plan.written ≡ 0 }
-        requires fits { FitsDisk (S.meaning self.old.buffers.station).sectors laid.plan }
+    pub fn begin(&mut self, pending: PendingPoint)
+        requires none { self.old.pending ≡ None }
+        requires unwritten { pending.plan.written ≡ 0 }
+        requires fits { FitsDisk (S.meaning self.old.buffers.station).sectors pending.plan }
         ensures buffers { self.new.buffers ≡ self.old.buffers }
-        ensures laid { self.new.laid ≡ Some laid }
+        ensures pending { self.new.pending ≡ Some pending }
         ensures shows { (disk : ℕ → List ℕ)
-            → ShowsOver (S.meaning self.old.buffers.station) self.old.buffers.kept self.old.laid
+            → ShowsOver (S.meaning self.old.buffers.station) self.old.buffers.kept self.old.pending
             disk
-            → ShowsOver (S.meaning self.new.buffers.station) self.new.buffers.kept self.new.laid
-            (blocks_of (disk_after laid.plan
+            → ShowsOver (S.meaning self.new.buffers.station) self.new.buffers.kept self.new.pending
+            (blocks_of (disk_after pending.plan
             (S.meaning self.old.buffers.station).seen.disk)) }
     {
-        self.laid = Some(laid);
+        self.pending = Some(pending);
     }
 
-    /// Writes up to so many blocks of the point under way, and nothing else. What blocks read as stays. It takes no memory. Where a
-    /// write failed, the point is given up.
-    pub fn write_some(&mut self, count: usize) -> Result<(), BufferError>
+    /// Writes up to so many blocks of the point under way, and nothing else. What blocks read as
+    /// stays. It takes no memory. Where a write failed, the point is given up.
+    pub fn write_some(&mut self, count: usize) -> Result<(), BlockError>
         ensures writes { OnlyWrites IsFault (S.meaning self.old.buffers.station)
             (S.meaning self.new.buffers.station) result }
         ensures device { IfErr result IsFault }
-        ensures idle { self.old.laid ≡ None → self.new.buffers ≡ self.old.buffers }
-        ensures slice { SlicesOn count self.old.laid self.new.laid result }
-        // Where a write failed, each sector of a planned block is as before, or written, or can't be read.
-        ensures goes { IfSome self.old.laid (λ l. Goes (StaysOutside l.plan.blocks)
+        ensures idle { self.old.pending ≡ None → self.new.buffers ≡ self.old.buffers }
+        ensures slice { SlicesOn count self.old.pending self.new.pending result }
+        // Where a write failed, each sector of a planned block is as before, or written, or can't
+        // be read.
+        ensures goes { IfSome self.old.pending (λ l. Goes (StaysOutside l.plan.blocks)
             (S.meaning self.old.buffers.station) (S.meaning self.new.buffers.station)) }
         ensures shows { (disk : ℕ → List ℕ)
-            → ShowsOver (S.meaning self.old.buffers.station) self.old.buffers.kept self.old.laid
+            → ShowsOver (S.meaning self.old.buffers.station) self.old.buffers.kept self.old.pending
             disk
             → OnOk result (ShowsOver (S.meaning self.new.buffers.station)
-            self.new.buffers.kept self.new.laid disk) }
+            self.new.buffers.kept self.new.pending disk) }
     {
         finished_disks_are_one();
         written_disks_have_the_blocks();
-        match &mut self.laid {
-            Some(laid) => match laid.plan.write_some(&mut self.buffers, count) {
+        match &mut self.pending {
+            Some(pending) => match pending.plan.write_some(&mut self.buffers, count) {
                 Ok(()) => Ok(()),
                 Err(error) => {
-                    self.laid = None;
+                    self.pending = None;
                     Err(error)
                 }
             },
@@ -191,36 +193,36 @@ impl<S: Station> Overlay<S> {
         }
     }
 
-    /// Writes what is left of the point under way, and then brings its root into force. What blocks read as stays, and no point is
-    /// under way any longer. It takes no memory.
-    pub fn finish(&mut self) -> Result<(), BufferError>
-        ensures none { self.new.laid ≡ None }
+    /// Writes what is left of the point under way, and then brings its root into force. What blocks
+    /// read as stays, and no point is under way any longer. It takes no memory.
+    pub fn finish(&mut self) -> Result<(), BlockError>
+        ensures none { self.new.pending ≡ None }
         ensures writes { OnlyWrites IsFault (S.meaning self.old.buffers.station)
             (S.meaning self.new.buffers.station) result }
         ensures device { IfErr result IsFault }
-        ensures idle { self.old.laid ≡ None → self.new.buffers ≡ self.old.buffers }
-        // A cut at any moment leaves what one might have left before, with some of the blocks, or all of them with the new root, or
-        // such a disk with the root's sector lost.
-        ensures any_moment { IfSome self.old.laid
+        ensures idle { self.old.pending ≡ None → self.new.buffers ≡ self.old.buffers }
+        // A cut at any moment leaves what one might have left before, with some of the blocks, or
+        // all of them with the new root, or such a disk with the root's sector lost.
+        ensures any_moment { IfSome self.old.pending
             (λ l. LeavesOnly (S.meaning self.old.buffers.station)
             (S.meaning self.new.buffers.station)
             (λ c. After (StaysOutside l.plan.blocks) (S.meaning self.old.buffers.station) c
             ⊎ HasRootOrLost l.plan (S.meaning self.old.buffers.station).seen c)) }
-        ensures settled { IfSome self.old.laid (λ l. OnOk result
+        ensures settled { IfSome self.old.pending (λ l. OnOk result
             (EachCut (S.meaning self.new.buffers.station)
             (HasNewRoot l.plan (S.meaning self.old.buffers.station).seen))) }
-        ensures just { IfSome self.old.laid (λ l. OnOk result (LeavesJust
+        ensures just { IfSome self.old.pending (λ l. OnOk result (LeavesJust
             (S.meaning self.new.buffers.station) (S.meaning self.new.buffers.station).seen)) }
         ensures shows { (disk : ℕ → List ℕ)
-            → ShowsOver (S.meaning self.old.buffers.station) self.old.buffers.kept self.old.laid
+            → ShowsOver (S.meaning self.old.buffers.station) self.old.buffers.kept self.old.pending
             disk
             → OnOk result (ShowsOver (S.meaning self.new.buffers.station)
-            self.new.buffers.kept self.new.laid disk) }
+            self.new.buffers.kept self.new.pending disk) }
     {
         finished_disks_are_one();
         written_disks_have_the_blocks();
-        match self.laid.take() {
-            Some(laid) => write_rest(laid.plan, &mut self.buffers),
+        match self.pending.take() {
+            Some(pending) => write_rest(pending.plan, &mut self.buffers),
             None => Ok(()),
         }
     }

@@ -4,7 +4,7 @@ use Rattle.std.specs.Prelude.{if◌then◌else◌, All}
 use Rattle.std.proofs.lemmas.Bool.{cond_both, false≢true}
 use Rattle.std.proofs.lemmas.List.Elements.{All-nil, All-append, All-take, All-get_or, All-cons}
 use Rattle.model.specs.declared.errno.Errno.TheVariants.{ENOENT, ENOTDIR, ELOOP}
-use Rattle.model.specs.Finding.{Place, at_entry, at_gap, at_refusal, here, Halt, halts, halts_at_link, Turn, stays_on, enters, ends_at, follows, finds_nothing, finds_damage, finds_long, turn, turn_at, turn_by, find_along, find_on, find_within}
+use Rattle.model.specs.Finding.{Place, at_entry, at_missing, at_refusal, here, WalkEnd, halts, halts_at_link, Turn, stays_on, enters, ends_at, follows, finds_nothing, finds_damage, finds_long, turn, turn_at, turn_by, find_along, find_on, find_within}
 use Rattle.model.specs.Paths.{Name, parts, is_dot, is_dot_dot, is_empty, is_too_long, starts_with_slash}
 use Rattle.model.specs.Volumes.{Node, directory_node, file_node, link_node, Volume, entries, is_directory_node}
 use Rattle.paths.specs.Ends.{EndsWell, EndsInName, IsAtName}
@@ -62,7 +62,7 @@ module _ (v : Volume) (root : found_in (v 3) ≡ found.Directory) where
       cond_both (is_too_long part) _ _ TurnsWell (λ g. tt) (λ g. by_name (entries v (here trail) part))))
 
   module _ (follow : Bool) where
-    abbrev HaltsWell : Halt → Type 0
+    abbrev HaltsWell : WalkEnd → Type 0
     HaltsWell (halts place) = EndsWell v follow place
     HaltsWell (halts_at_link trail text rest) = AreDirectories trail
 
@@ -81,12 +81,12 @@ module _ (v : Volume) (root : found_in (v 3) ≡ found.Directory) where
           | follows n text ↦ λ well.
               cond_both (is_empty rest && not follow) (halts (at_entry trail part n)) (halts_at_link trail text rest) HaltsWell
               (λ e is. not_followed (is_empty rest) follow e is) (λ e. all)
-          | finds_nothing ↦ λ well. cond_both (is_empty rest) (at_gap trail part) (at_refusal ENOENT) (EndsWell v follow) (λ e. tt) (λ e. tt)
+          | finds_nothing ↦ λ well. cond_both (is_empty rest) (at_missing trail part) (at_refusal ENOENT) (EndsWell v follow) (λ e. tt) (λ e. tt)
           | finds_damage ↦ λ well. tt
           | finds_long ↦ λ well. tt
         ] (turns_well trail part all)
 
-    on : (f : List ℕ → List Name → Place) → ((trail : List ℕ) (names : List Name) → AreDirectories trail → EndsWell v follow (f trail names)) → (h : Halt) → HaltsWell h
+    on : (f : List ℕ → List Name → Place) → ((trail : List ℕ) (names : List Name) → AreDirectories trail → EndsWell v follow (f trail names)) → (h : WalkEnd) → HaltsWell h
         → EndsWell v follow (find_on f h)
     on f well (halts place) ends = ends
     on f well (halts_at_link trail text rest) all =
@@ -110,7 +110,7 @@ names_behind : (a b : List Name) → EndsInName b → EndsInName (a ++ b)
 names_behind [] b plain = plain
 names_behind (x ∷ a) b plain = name_behind x (a ++ b) (names_behind a b plain)
 
-abbrev HaltsAtName : Halt → Type 0
+abbrev HaltsAtName : WalkEnd → Type 0
 HaltsAtName (halts place) = IsAtName place
 HaltsAtName (halts_at_link trail text rest) = EndsInName rest
 
@@ -156,12 +156,12 @@ module _ (v : Volume) where
         | ends_at n ↦ λ by. cond_both (is_empty (y ∷ rest)) (at_entry trail part n) (at_refusal ENOTDIR) IsAtName (λ e. tt) (λ e. tt)
         | follows n text ↦ λ by.
             cond_both (is_empty (y ∷ rest) && not false) (halts (at_entry trail part n)) (halts_at_link trail text (y ∷ rest)) HaltsAtName (λ e. tt) (λ e. plain)
-        | finds_nothing ↦ λ by. cond_both (is_empty (y ∷ rest)) (at_gap trail part) (at_refusal ENOENT) IsAtName (λ e. tt) (λ e. tt)
+        | finds_nothing ↦ λ by. cond_both (is_empty (y ∷ rest)) (at_missing trail part) (at_refusal ENOENT) IsAtName (λ e. tt) (λ e. tt)
         | finds_damage ↦ λ by. tt
         | finds_long ↦ λ by. tt
       ] (turns_by_name trail part)
 
-  on_names : (f : List ℕ → List Name → Place) → ((trail : List ℕ) (names : List Name) → EndsInName names → IsAtName (f trail names)) → (h : Halt) → HaltsAtName h → IsAtName (find_on f h)
+  on_names : (f : List ℕ → List Name → Place) → ((trail : List ℕ) (names : List Name) → EndsInName names → IsAtName (f trail names)) → (h : WalkEnd) → HaltsAtName h → IsAtName (find_on f h)
   on_names f named (halts place) ends = ends
   on_names f named (halts_at_link trail text rest) plain = named (if starts_with_slash text then [] else trail) (parts text ++ rest) (names_behind (parts text) rest plain)
 

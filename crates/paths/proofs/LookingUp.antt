@@ -1,9 +1,9 @@
 -- Looking something up, step by step.
 use Rattle.std.proofs.Common.{◌≡◌, ℕ, List, Result, Ok, Err, refl}
 use Rattle.std.specs.Result.{IsErrAnd, IsErrOf}
-use Rattle.blocktree.specs.Errors.{IsFault}
-use Rattle.blocktree.specs.declared.error.ReadError.{ReadError}
-use Rattle.blocktree.specs.declared.error.ReadError.TheVariants.{Damaged}
+use Rattle.buffers.specs.Errors.{IsFault}
+use Rattle.buffers.specs.declared.error.BlockError.{BlockError}
+use Rattle.buffers.specs.declared.error.BlockError.TheVariants.{Damaged}
 use Rattle.buffers.specs.declared.blocks.Blocks.{Ghosts}
 use Rattle.layout.specs.declared.inode.Inode.{Inode}
 use Rattle.images.specs.Soundness.{Detail}
@@ -14,7 +14,7 @@ use Rattle.paths.specs.Standing.{Looks, NeverDamaged, NeverDamagedIn, OnVolumes,
 use Rattle.paths.proofs.Looks.{HasLooked, as_look, has_looked, loads_more, looked_more, looks_err, looks_ok, looks_then, then_failed}
 
 -- an error carried on, whatever would have come in its place
-pub same_error : {T U : Type 0} (q : Result T ReadError) (e d : ReadError) → IsErrAnd q (λ f. f ≡ e) → IsErrOf q d → IsErrOf {T = U} {E = ReadError} (Err e) d
+pub same_error : {T U : Type 0} (q : Result T BlockError) (e d : BlockError) → IsErrAnd q (λ f. f ≡ e) → IsErrOf q d → IsErrOf {T = U} {E = BlockError} (Err e) d
 same_error (Ok y) e d is bad = absurd is
 same_error (Err f) e d is bad = cc
 
@@ -30,12 +30,12 @@ not_looked = record {
 
 module _ {B T : Type 0} {G : Ghosts B} {a b : B} {s t : InodeFile} {W : T → Type 0} {P : Volume → T → Type 0} where
   -- it is found by a look that came to an end
-  pub finds : {U : Type 0} {u : U} {x : T} → Looks {T = U} {E = ReadError} G IsFault a b s t (Ok u) → OnlyLoads s t → W x → OnVolumes G a s (λ disk settled v. P v x)
+  pub finds : {U : Type 0} {u : U} {x : T} → Looks {T = U} {E = BlockError} G IsFault a b s t (Ok u) → OnlyLoads s t → W x → OnVolumes G a s (λ disk settled v. P v x)
       → LooksUp G a b s t W P (Ok x)
   finds look loads within found = record { looks = looks_ok look; loads = loads; within = within; found = found; damaged = λ disk settled v stands bad. cc }
 
   -- a look has failed
-  pub fails : {U : Type 0} {e : ReadError} (q : Result T ReadError) → IsErrAnd q (λ f. f ≡ e) → Looks {T = U} G IsFault a b s t (Err e) → OnlyLoads s t → NeverDamaged {T = U} G a s (Err e)
+  pub fails : {U : Type 0} {e : BlockError} (q : Result T BlockError) → IsErrAnd q (λ f. f ≡ e) → Looks {T = U} G IsFault a b s t (Err e) → OnlyLoads s t → NeverDamaged {T = U} G a s (Err e)
       → LooksUp G a b s t W P q
   fails (Ok y) is look loads sound = absurd is
   fails {e = e} (Err f) is look loads sound = record {
@@ -47,7 +47,7 @@ module _ {B T : Type 0} {G : Ghosts B} {a b : B} {s t : InodeFile} {W : T → Ty
   }
 
   -- the same of what no file's bytes tell
-  pub finds_into : {U : Type 0} {u : U} {x : T} → Looks {T = U} {E = ReadError} G IsFault a b s t (Ok u) → OnlyLoads s t → W x
+  pub finds_into : {U : Type 0} {u : U} {x : T} → Looks {T = U} {E = BlockError} G IsFault a b s t (Ok u) → OnlyLoads s t → W x
       → ((detail : Detail) (disk : ℕ → List ℕ) (settled : ℕ → Inode) (v : Volume) → StandsIn detail G disk settled v a s → P v x) → LooksInto G a b s t W P (Ok x)
   finds_into look loads within found = record {
     looks = looks_ok look;
@@ -57,7 +57,7 @@ module _ {B T : Type 0} {G : Ghosts B} {a b : B} {s t : InodeFile} {W : T → Ty
     damaged = λ disk settled v stands bad. cc;
   }
 
-  pub fails_into : {U : Type 0} {e : ReadError} (q : Result T ReadError) → IsErrAnd q (λ f. f ≡ e) → Looks {T = U} G IsFault a b s t (Err e) → OnlyLoads s t
+  pub fails_into : {U : Type 0} {e : BlockError} (q : Result T BlockError) → IsErrAnd q (λ f. f ≡ e) → Looks {T = U} G IsFault a b s t (Err e) → OnlyLoads s t
       → ((detail : Detail) → NeverDamagedIn {T = U} detail G a s (Err e)) → LooksInto G a b s t W P q
   fails_into (Ok y) is look loads sound = absurd is
   fails_into {e = e} (Err f) is look loads sound = record {
@@ -68,7 +68,7 @@ module _ {B T : Type 0} {G : Ghosts B} {a b : B} {s t : InodeFile} {W : T → Ty
     damaged = λ disk settled v stands bad. sound _ disk settled v stands (same_error (Err f) e Damaged is bad);
   }
 
-  pub looked_into : {r : Result T ReadError} → LooksInto G a b s t W P r → LooksUp G a b s t W P r
+  pub looked_into : {r : Result T BlockError} → LooksInto G a b s t W P r → LooksUp G a b s t W P r
   looked_into up = record {
     looks = up.looks;
     loads = up.loads;
@@ -82,7 +82,7 @@ module _ {B T : Type 0} {G : Ghosts B} {a b : B} {s t : InodeFile} {W : T → Ty
   at_end looked within found = record { looks = as_look looked; loads = looked.loads; within = within; found = found; damaged = λ disk settled v stands bad. cc }
 
   -- something else failed, as memory does
-  pub gives_up : (e : ReadError) (q : Result T ReadError) → IsErrAnd q (λ f. f ≡ e) → (IsFault e → ⊥) → (e ≡ Damaged → ⊥) → HasLooked G a b s t → LooksUp G a b s t W P q
+  pub gives_up : (e : BlockError) (q : Result T BlockError) → IsErrAnd q (λ f. f ≡ e) → (IsFault e → ⊥) → (e ≡ Damaged → ⊥) → HasLooked G a b s t → LooksUp G a b s t W P q
   gives_up e (Ok y) is other sound looked = absurd is
   gives_up e (Err f) is other sound looked = record {
     looks = then_failed e (Err f) is other looked;
@@ -103,6 +103,6 @@ module _ {B U : Type 0} {G : Ghosts B} {a b c : B} {s t u : InodeFile} {V : U �
     then_finds looked up within found = finds (looks_then looked up.looks) (loads_more s t u looked.loads up.loads) within found
 
     -- one more look has failed
-    pub then_fails : {e : ReadError} (q : Result T ReadError) → IsErrAnd q (λ f. f ≡ e) → HasLooked G a b s t → LooksUp G b c t u V Q (Err e) → LooksUp G a c s u W P q
+    pub then_fails : {e : BlockError} (q : Result T BlockError) → IsErrAnd q (λ f. f ≡ e) → HasLooked G a b s t → LooksUp G b c t u V Q (Err e) → LooksUp G a c s u W P q
     then_fails {e = e} q is looked up =
         fails q is (looks_then looked up.looks) (loads_more s t u looked.loads up.loads) (λ disk settled v stands bad. up.damaged disk settled v (looked.kept disk settled v stands) bad)

@@ -1,7 +1,7 @@
 -- Where the parts of a path lead, from where a walk by numbers ends.
 use Rattle.std.proofs.Common.{◌≡◌, List, [], Bool, Result, sym, subst}
 use Rattle.std.proofs.lemmas.Result.{IfOk-weaker}
-use Rattle.blocktree.specs.declared.error.ReadError.{ReadError}
+use Rattle.buffers.specs.declared.error.BlockError.{BlockError}
 use Rattle.buffers.specs.declared.blocks.Blocks.{Ghosts}
 use Rattle.inofile.specs.declared.inode_file.InodeFile.{InodeFile}
 use Rattle.model.specs.Finding.{find_within}
@@ -20,7 +20,7 @@ use Rattle.paths.proofs.Links.{leads}
 abbrev pub IsLedTo : List Name → Bool → Volume → Place → Type 0
 IsLedTo path follow v p = model_place_of p ≡ find_within 8 v follow [] path
 
-pub resolves : {B : Type 0} {G : Ghosts B} {a b : B} {s t : InodeFile} {path : List Name} {follow : Bool} {r : Result Place ReadError} → ResolvesByNumbers
+pub resolves : {B : Type 0} {G : Ghosts B} {a b : B} {s t : InodeFile} {path : List Name} {follow : Bool} {r : Result Place BlockError} → ResolvesByNumbers
     → LooksUp G a b s t (IsPlaceWithin s.geometry.inodes) (IsLedTo path follow) r → Resolves G a b s t path follow r
 resolves {s = s} {path = path} {follow = follow} {r = r} law up = record {
   looks = up.looks;

@@ -5,10 +5,10 @@ use Rattle.model.specs.Finding.{find_along, here, Turn, stays_on, finds_nothing,
 use Rattle.model.specs.Paths.{Name, is_dot, is_dot_dot, is_too_long}
 use Rattle.model.specs.Volumes.{Volume, entries}
 use Rattle.paths.specs.Steps.{halt_after, after_turn}
-use Rattle.paths.specs.declared.step.Step.{Step}
+use Rattle.paths.specs.declared.step.WalkStep.{WalkStep}
 
 -- where a walk ends that took this step by its next part
-pub stepped : (v : Volume) (follow : Bool) (first trail : List ℕ) (all parts rest : List Name) (name part : Name) (taken step : Step)
+pub stepped : (v : Volume) (follow : Bool) (first trail : List ℕ) (all parts rest : List Name) (name part : Name) (taken step : WalkStep)
     → find_along v follow first all ≡ find_along v follow trail parts → parts ≡ name ∷ rest → part ≡ name → taken ≡ step
     → halt_after v follow trail part rest taken ≡ find_along v follow trail (part ∷ rest) → halt_after v follow trail name rest step ≡ find_along v follow first all
 stepped v follow first trail all parts rest name part taken step so_far next same is took =

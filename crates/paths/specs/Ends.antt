@@ -1,16 +1,17 @@
 -- What stands where a walk along a path ends.
 use Rattle.std.specs.Prelude.{◌≡◌, ◌≢◌, Bool, false, IsTrue, List, [], ◌∷◌}
-use Rattle.model.specs.Finding.{Place, at_directory, at_entry, at_gap, at_refusal, here}
+use Rattle.model.specs.Finding.{Place, at_directory, at_entry, at_missing, at_refusal, here}
 use Rattle.model.specs.Paths.{Name, is_dot, is_dot_dot}
 use Rattle.model.specs.Volumes.{Volume}
 use Rattle.paths.specs.Steps.{found_in}
 use Rattle.paths.specs.declared.lookup.Found.TheVariants as found
 
--- a walk that names a directory by `.`, `..` or no part ends at one, and a last link that is followed isn't where it ends
+-- a walk that names a directory by `.`, `..` or no part ends at one, and a last link that is
+-- followed isn't where it ends
 abbrev pub EndsWell : Volume → Bool → Place → Type 0
 EndsWell v follow (at_directory trail) = found_in (v (here trail)) ≡ found.Directory
 EndsWell v follow (at_entry trail x n) = IsTrue follow → found_in (v n) ≢ found.Link
-EndsWell v follow (at_gap trail x) = Unit {0}
+EndsWell v follow (at_missing trail x) = Unit {0}
 EndsWell v follow (at_refusal errno) = Unit {0}
 
 -- the last of these parts is a name
@@ -23,5 +24,5 @@ EndsInName (x ∷ (y ∷ rest)) = EndsInName (y ∷ rest)
 abbrev pub IsAtName : Place → Type 0
 IsAtName (at_directory trail) = ⊥
 IsAtName (at_entry trail x n) = Unit {0}
-IsAtName (at_gap trail x) = Unit {0}
+IsAtName (at_missing trail x) = Unit {0}
 IsAtName (at_refusal errno) = Unit {0}

@@ -1,16 +1,16 @@
 -- Where a walk ends, in the words of the model.
 use Rattle.std.specs.Prelude.{ℕ}
 use Rattle.model.specs.Finding as model
-use Rattle.paths.specs.Numbers.{AreNumbers}
+use Rattle.paths.specs.Numbers.{AreInodeNumbers}
 use Rattle.paths.specs.Places.{model_place_of, IsPlaceWithin}
-use Rattle.paths.specs.declared.walk.Halt.{Halt}
-use Rattle.paths.specs.declared.walk.Halt.TheVariants.{At, AtLink}
+use Rattle.paths.specs.declared.walk.WalkEnd.{WalkEnd}
+use Rattle.paths.specs.declared.walk.WalkEnd.TheVariants.{At, AtLink}
 
-abbrev pub halt_of : Halt → model.Halt
-halt_of (At place) = model.halts (model_place_of place)
-halt_of (AtLink trail text rest) = model.halts_at_link trail text.items rest
+abbrev pub walk_end_of : WalkEnd → model.WalkEnd
+walk_end_of (At place) = model.halts (model_place_of place)
+walk_end_of (AtLink trail text rest) = model.halts_at_link trail text.items rest
 
 -- each number that it tells is one of an object
-abbrev pub IsHaltWithin : ℕ → Halt → Type 0
-IsHaltWithin inodes (At place) = IsPlaceWithin inodes place
-IsHaltWithin inodes (AtLink trail text rest) = AreNumbers inodes trail
+abbrev pub IsWalkEndWithin : ℕ → WalkEnd → Type 0
+IsWalkEndWithin inodes (At place) = IsPlaceWithin inodes place
+IsWalkEndWithin inodes (AtLink trail text rest) = AreInodeNumbers inodes trail

@@ -7,8 +7,8 @@ use Rattle.model.specs.Resolution.{resolve}
 use Rattle.model.specs.Trees.{Description}
 use Rattle.model.specs.Volumes.{IsVolume, Volume, tree_of}
 use Rattle.model.specs.declared.limits.TheConstants.{LINKS_FOLLOWED}
-use Rattle.blocktree.specs.Errors.{IsFault}
-use Rattle.blocktree.specs.declared.error.ReadError.{ReadError}
+use Rattle.buffers.specs.Errors.{IsFault}
+use Rattle.buffers.specs.declared.error.BlockError.{BlockError}
 use Rattle.buffers.specs.declared.blocks.Blocks.{Ghosts}
 use Rattle.inofile.specs.declared.inode_file.InodeFile.{InodeFile}
 use Rattle.paths.specs.Ends.{EndsInName, EndsWell, IsAtName}
@@ -17,8 +17,9 @@ use Rattle.paths.specs.Places.{model_place_of, IsPlaceWithin}
 use Rattle.paths.specs.Standing.{Looks, NeverDamaged, OnVolumes, Stands}
 use Rattle.paths.specs.declared.place.Place.{Place}
 
--- It is found where the parts of a path lead from the root: as the model says of the numbers, and of the tree.
-pub record Resolves {B : Type 0} (G : Ghosts B) (blocks after : B) (s t : InodeFile) (path : List Name) (follow : Bool) (result : Result Place ReadError) : Type 0 where
+-- It is found where the parts of a path lead from the root: as the model says of the numbers, and
+-- of the tree.
+pub record Resolves {B : Type 0} (G : Ghosts B) (blocks after : B) (s t : InodeFile) (path : List Name) (follow : Bool) (result : Result Place BlockError) : Type 0 where
   pub looks : Looks G IsFault blocks after s t result
   pub loads : OnlyLoads s t
   pub within : IfOk result (IsPlaceWithin s.geometry.inodes)

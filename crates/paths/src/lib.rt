@@ -1,5 +1,6 @@
-//! The path resolution: where paths lead in an image. Each part is looked up by numbers, with the trail of the directories
-//! walked through. What is looked at comes into memory; nothing else changes.
+//! The path resolution: where paths lead in an image. Each part is looked up by numbers, with the
+//! trail of the directories walked through. What is looked at comes into memory; nothing else
+//! changes.
 #![tactic(auto)]
 
 mod loading;

@@ -8,23 +8,23 @@ ghost use Rattle.inofile.specs.Inodes.{IsKnown};
 ghost use Rattle.inofile.specs.Objects.{IsObjectIn};
 ghost use Rattle.inofile.specs.Volumes.{IsVolumeIn};
 ghost use Rattle.paths.specs.Loads.{TakesIn};
-ghost use Rattle.paths.specs.Numbers.{IsNumber};
+ghost use Rattle.paths.specs.Numbers.{IsInodeNumber};
 
-use blocktree::ReadError;
-use buffers::Blocks;
+use buffers::{BlockError, Blocks};
 use inode::Object;
 use inofile::InodeFile;
 use layout::InodeNumber;
 use std::alloc::Global;
 
-/// Takes an object into memory. NoMemory; Device where a read failed; Damaged where a block on the way is outside its format.
+/// Takes an object into memory. NoMemory; Device where a read failed; Damaged where a block on the
+/// way is outside its format.
 pub fn load<B: Blocks>(
     alloc: Global,
     inodes: &mut InodeFile,
     blocks: &mut B,
     number: InodeNumber,
-) -> Result<(), ReadError>
-    requires { IsNumber inodes.old.geometry.inodes number }
+) -> Result<(), BlockError>
+    requires { IsInodeNumber inodes.old.geometry.inodes number }
     ensures { TakesIn B.Blocks blocks.old blocks.new inodes.old inodes.new number result }
 {
     inodes.load(alloc, blocks, number.get())

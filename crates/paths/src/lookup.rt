@@ -2,7 +2,7 @@
 
 ghost use Rattle.std.specs.Prelude.{◌≡◌, ℕ, List, Option, Some, IfOk, IfSome, IsErrOf};
 ghost use Rattle.buffers.specs.Reads.{ReadsBlocks};
-ghost use Rattle.blocktree.specs.Errors.{IsFault};
+ghost use Rattle.buffers.specs.Errors.{IsFault};
 ghost use Rattle.blocktree.specs.Trees.{IsSoundAt};
 ghost use Rattle.dirs.specs.Listings.{IsListingOfNames};
 ghost use Rattle.entries.specs.Entries.{IsObjectNumber};
@@ -14,12 +14,11 @@ ghost use Rattle.layout.specs.declared.kind.Kind.TheVariants as kinds;
 ghost use Rattle.inode.specs.Files.{bytes_of_file};
 ghost use Rattle.model.specs.Volumes.{Node, entries, names_in};
 ghost use Rattle.paths.specs.Loads.{IsAny, LooksInto, LooksUp};
-ghost use Rattle.paths.specs.Numbers.{IsNumber};
+ghost use Rattle.paths.specs.Numbers.{IsInodeNumber};
 ghost use Rattle.paths.specs.Steps.{found_as, found_in, text_in};
 
 use crate::loading::{load, object};
-use blocktree::ReadError;
-use buffers::Blocks;
+use buffers::{BlockError, Blocks};
 use inode::{File, Object};
 use inofile::{InodeFile, objects_stand_in_their_grammar};
 use layout::{InodeNumber, Kind};
@@ -41,8 +40,8 @@ pub fn object_at<B: Blocks>(
     inodes: &mut InodeFile,
     blocks: &mut B,
     number: InodeNumber,
-) -> Result<Found, ReadError>
-    requires { IsNumber inodes.old.geometry.inodes number }
+) -> Result<Found, BlockError>
+    requires { IsInodeNumber inodes.old.geometry.inodes number }
     ensures { LooksInto B.Blocks blocks.old blocks.new inodes.old inodes.new IsAny
         (λ v found. found ≡ found_in (v number)) result }
 {
@@ -72,10 +71,10 @@ pub fn number_at<B: Blocks>(
     blocks: &mut B,
     directory: InodeNumber,
     name: &[u8],
-) -> Result<Option<InodeNumber>, ReadError>
-    requires { IsNumber inodes.old.geometry.inodes directory }
+) -> Result<Option<InodeNumber>, BlockError>
+    requires { IsInodeNumber inodes.old.geometry.inodes directory }
     ensures { LooksInto B.Blocks blocks.old blocks.new inodes.old inodes.new
-        (λ number. IfSome number (IsNumber inodes.old.geometry.inodes))
+        (λ number. IfSome number (IsInodeNumber inodes.old.geometry.inodes))
         (λ v number. number ≡ entries v directory name.now) result }
 {
     load(alloc, inodes, blocks, directory)?;
@@ -88,14 +87,15 @@ pub fn number_at<B: Blocks>(
     numbered(found)
 }
 
-// The number at a name of an object in memory; None where it has no such name. What is known of its blocks may grow.
+// The number at a name of an object in memory; None where it has no such name. What is known of its
+// blocks may grow.
 fn find_in<B: Blocks>(
     alloc: Global,
     object: &mut Option<Object>,
     blocks: &mut B,
     inodes: u32,
     name: &[u8],
-) -> Result<Option<u32>, ReadError>
+) -> Result<Option<u32>, BlockError>
     ensures reads { ReadsBlocks B.Blocks IsFault blocks.old blocks.new result }
     ensures same { IsSameOrNone object.old object.new }
     ensures knows { (disk : ℕ → List ℕ) → B.Shows blocks.old disk →
@@ -105,7 +105,7 @@ fn find_in<B: Blocks>(
         B.Shows blocks.old disk → IsObjectOrNone detail disk inodes settled object.old node →
         IfOk result (λ number. number ≡ names_in node name.now) }
     ensures damaged { (detail : Detail) (disk : ℕ → List ℕ) (settled : Inode) (node : Option Node) →
-        B.Shows blocks.old disk → IsErrOf result ReadError.Damaged →
+        B.Shows blocks.old disk → IsErrOf result BlockError.Damaged →
         IsObjectOrNone detail disk inodes settled object.old node → ((o : Object) →
         object.old ≡ Some o → o.status.kind ≡ kinds.Directory → (i : ℕ) →
         IsSoundAt (B.count blocks.old) disk o.file.tree i) → ⊥ }
@@ -120,7 +120,7 @@ fn find_in<B: Blocks>(
 }
 
 // A number that was looked for.
-fn numbered(found: Result<Option<u32>, ReadError>) -> Result<Option<InodeNumber>, ReadError>
+fn numbered(found: Result<Option<u32>, BlockError>) -> Result<Option<InodeNumber>, BlockError>
     ensures { result ≡ found }
 {
     match found {
@@ -136,8 +136,8 @@ pub fn list<B: Blocks>(
     inodes: &mut InodeFile,
     blocks: &mut B,
     directory: InodeNumber,
-) -> Result<Names, ReadError>
-    requires { IsNumber inodes.old.geometry.inodes directory }
+) -> Result<Names, BlockError>
+    requires { IsInodeNumber inodes.old.geometry.inodes directory }
     ensures { LooksInto B.Blocks blocks.old blocks.new inodes.old inodes.new IsAny
         (λ v names. IsListingOfNames (entries v directory) names) result }
 {
@@ -159,8 +159,8 @@ pub fn text_at<B: Blocks>(
     inodes: &mut InodeFile,
     blocks: &mut B,
     number: InodeNumber,
-) -> Result<Vec<u8>, ReadError>
-    requires { IsNumber inodes.old.geometry.inodes number }
+) -> Result<Vec<u8>, BlockError>
+    requires { IsInodeNumber inodes.old.geometry.inodes number }
     ensures { LooksUp B.Blocks blocks.old blocks.new inodes.old inodes.new IsAny
         (λ v text. text.items ≡ text_in (v number)) result }
 {
@@ -176,12 +176,12 @@ pub fn text_at<B: Blocks>(
 }
 
 // All bytes of a file.
-fn all_bytes<B: Blocks>(alloc: Global, blocks: &mut B, file: &File) -> Result<Vec<u8>, ReadError>
+fn all_bytes<B: Blocks>(alloc: Global, blocks: &mut B, file: &File) -> Result<Vec<u8>, BlockError>
     ensures reads { ReadsBlocks B.Blocks IsFault blocks.old blocks.new result }
     ensures bytes { (disk : ℕ → List ℕ) → B.Shows blocks.old disk →
         IfOk result (λ b. b.items ≡ bytes_of_file disk file.now) }
     ensures damaged { (disk : ℕ → List ℕ) → B.Shows blocks.old disk →
-        IsErrOf result ReadError.Damaged →
+        IsErrOf result BlockError.Damaged →
         ((i : ℕ) → IsSoundAt (B.count blocks.old) disk file.now.tree i) → ⊥ }
 {
     let mut bytes = vec![in alloc; 0; file.size() as usize]?;

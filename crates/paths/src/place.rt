@@ -16,7 +16,7 @@ pub enum Place {
         number: InodeNumber,
     },
     /// To a name that the directory at the end of the trail doesn't have.
-    Gap {
+    Missing {
         trail: Trail,
         name: Vec<u8>,
     },

@@ -9,7 +9,8 @@ use model::ROOT_NUMBER;
 use std::alloc::{AllocError, Global};
 use std::marker::Model;
 
-/// The numbers of the directories from the root's child down to where a walk stands. The root's trail is empty.
+/// The numbers of the directories from the root's child down to where a walk stands. The root's
+/// trail is empty.
 #[derive(Debug, Drop)]
 pub struct Trail {
     numbers: Vec<InodeNumber>,

@@ -4,21 +4,20 @@ ghost use Rattle.std.specs.Prelude.{◌≡◌, ◌<◌};
 ghost use Rattle.model.specs.declared.limits.TheConstants.{ROOT_NUMBER};
 ghost use Rattle.model.specs.Finding.{find_along};
 ghost use Rattle.paths.specs.Loads.{LooksUp};
-ghost use Rattle.paths.specs.Numbers.{AreNumbers};
-ghost use Rattle.paths.specs.Halts.{halt_of, IsHaltWithin};
+ghost use Rattle.paths.specs.Numbers.{AreInodeNumbers};
+ghost use Rattle.paths.specs.Halts.{walk_end_of, IsWalkEndWithin};
 
 use crate::lookup::text_at;
-use crate::step::{Step, step_by};
+use crate::step::{WalkStep, walk_step};
 use crate::{Parts, Place, Trail};
-use blocktree::ReadError;
-use buffers::Blocks;
+use buffers::{BlockError, Blocks};
 use inofile::InodeFile;
 use std::alloc::Global;
 
-/// Where a walk ends: at the answer, or at a link that is followed, which stands in the directory at the end of the trail, with
-/// its text and the parts that are left.
+/// Where a walk ends: at the answer, or at a link that is followed, which stands in the directory
+/// at the end of the trail, with its text and the parts that are left.
 #[derive(Debug, Drop)]
-pub(crate) enum Halt {
+pub(crate) enum WalkEnd {
     At(Place),
     AtLink {
         trail: Trail,
@@ -27,8 +26,8 @@ pub(crate) enum Halt {
     },
 }
 
-/// Where parts lead from the end of a trail, up to a link that is followed: one with parts behind it, or a last one where
-/// `follow` says so.
+/// Where parts lead from the end of a trail, up to a link that is followed: one with parts behind
+/// it, or a last one where `follow` says so.
 pub(crate) fn walk<B: Blocks>(
     alloc: Global,
     inodes: &mut InodeFile,
@@ -36,16 +35,16 @@ pub(crate) fn walk<B: Blocks>(
     mut trail: Trail,
     mut parts: Parts,
     follow: bool,
-) -> Result<Halt, ReadError>
+) -> Result<WalkEnd, BlockError>
     requires root { ROOT_NUMBER < inodes.old.geometry.inodes }
-    requires numbers { AreNumbers inodes.old.geometry.inodes trail }
+    requires numbers { AreInodeNumbers inodes.old.geometry.inodes trail }
     ensures { LooksUp B.Blocks blocks.old blocks.new inodes.old inodes.new
-        (IsHaltWithin inodes.old.geometry.inodes)
-        (λ v halt. halt_of halt ≡ find_along v follow trail parts) result }
+        (IsWalkEndWithin inodes.old.geometry.inodes)
+        (λ v halt. walk_end_of halt ≡ find_along v follow trail parts) result }
 {
     while let Some(name) = parts.next() {
         let is_last = parts.is_empty();
-        match step_by(
+        match walk_step(
             alloc,
             inodes,
             blocks,
@@ -54,27 +53,27 @@ pub(crate) fn walk<B: Blocks>(
             is_last,
             follow,
         )? {
-            Step::Stays => {}
-            Step::Rises => trail.rise(),
-            Step::Enters(number) => trail.enter(number)?,
-            Step::Follows(number) => {
+            WalkStep::Stays => {}
+            WalkStep::Rises => trail.rise(),
+            WalkStep::Enters(number) => trail.enter(number)?,
+            WalkStep::Follows(number) => {
                 let text = text_at(alloc, inodes, blocks, number)?;
-                return Ok(Halt::AtLink {
+                return Ok(WalkEnd::AtLink {
                     trail,
                     text,
                     rest: parts,
                 });
             }
-            Step::EndsAt(number) => {
-                return Ok(Halt::At(Place::Entry {
+            WalkStep::EndsAt(number) => {
+                return Ok(WalkEnd::At(Place::Entry {
                     trail,
                     name,
                     number,
                 }));
             }
-            Step::FindsNothing => return Ok(Halt::At(Place::Gap { trail, name })),
-            Step::Refused(errno) => return Ok(Halt::At(Place::Refusal(errno))),
+            WalkStep::FindsNothing => return Ok(WalkEnd::At(Place::Missing { trail, name })),
+            WalkStep::Refused(errno) => return Ok(WalkEnd::At(Place::Refusal(errno))),
         }
     }
-    Ok(Halt::At(Place::Directory(trail)))
+    Ok(WalkEnd::At(Place::Directory(trail)))
 }

@@ -54,8 +54,8 @@ object_content disk o = content_with o (object_block disk o)
 abbrev pub with_first : List ℕ → (ℕ → List ℕ) → ℕ → List ℕ
 with_first bytes block i = if i == 0 then bytes else block i
 
--- An object in memory over its settled inode, on a disk, in an image of these sizes: both are in their grammar, and under the
--- map of the draft the settled one's blocks are in use.
+-- An object in memory over its settled inode, on a disk, in an image of these sizes: both are in
+-- their grammar, and under the map of the draft the settled one's blocks are in use.
 pub record IsChangeOf (s : Sizes) (d : Draft) (disk : Blocks) (base : Inode) (o : Object) : Type 0 where
   pub blocks : s.blocks ≡ d.map.count
   pub based : IsBasedOn base o.file.tree
@@ -66,8 +66,8 @@ pub record IsChangeOf (s : Sizes) (d : Draft) (disk : Blocks) (base : Inode) (o 
   pub attributes : AreAttributes o.status.attributes
   pub kind : FitsKind o.status.kind s o.status.attributes o.status.links o.file.size
 
--- An object over its settled inode of which each block is stored, as large as that one and with no settled block cut off: none of its
--- blocks becomes a hole.
+-- An object over its settled inode of which each block is stored, as large as that one and with no
+-- settled block cut off: none of its blocks becomes a hole.
 pub record IsWholeOver (disk : Blocks) (base : Inode) (o : Object) : Type 0 where
   pub no_hole : HasNoHole (held disk base)
   pub size : o.file.size ≡ base.size
@@ -81,8 +81,9 @@ AreAllChanged o = (i : ℕ) → i < block_count o.file.size → IsChanged o.file
 abbrev pub is_one : List ℕ → ℕ → Bool
 is_one blocks b = list_any (λ x. b == x) blocks
 
--- A file's new inode, on a disk e that has the blocks planned for it. Each node stands where that of the file before stood or in a taken
--- block, each in one of its own; of the blocks before, those are freed that it doesn't name.
+-- A file's new inode, on a disk e that has the blocks planned for it. Each node stands where that
+-- of the file before stood or in a taken block, each in one of its own; of the blocks before, those
+-- are freed that it doesn't name.
 pub record IsPlaced (s : Sizes) (e : Blocks) (old : Held) (f : Inode) (taken freed : ℕ → Bool) : Type 0 where
   pub moves : (m i b : ℕ) → (held e f).place m i ≡ Block b → (old.place m i ≡ Block b) ⊎ (taken b ≡ true)
   pub named : (b : ℕ) → taken b ≡ true → Names (held e f) b
@@ -91,11 +92,13 @@ pub record IsPlaced (s : Sizes) (e : Blocks) (old : Held) (f : Inode) (taken fre
   pub once : IsOnce (held e f)
   pub sound : IsSoundFile s (held e f)
 
--- this holds on each disk that has the planned blocks, and those that a settled inode names as this one has them
+-- this holds on each disk that has the planned blocks, and those that a settled inode names as this
+-- one has them
 abbrev pub OnEachWith : Draft → Blocks → Inode → (Blocks → Type 0) → Type 0
 OnEachWith d disk base P = OnEach d (λ e. Agrees (Names (held disk base)) disk e → P e)
 
--- A changed object is placed over its settled inode. Where all its blocks are stored, or changed, its new file has no hole.
+-- A changed object is placed over its settled inode. Where all its blocks are stored, or changed,
+-- its new file has no hole.
 pub record HasPlaced (s : Sizes) (disk : Blocks) (base : Inode) (o : Object) (d : Draft) (p : PlacedFile) : Type 0 where
   pub placed : OnEachWith d disk base
       (λ e. IsPlaced s e (held disk base) p.inode (is_one p.taken.items) (is_one p.freed.items))

@@ -38,7 +38,8 @@ inode_with o body = record {
   body = body;
 }
 
--- On a disk e indirect blocks stand over the nodes at each height of a file but the highest, which were placed over settled ones.
+-- On a disk e indirect blocks stand over the nodes at each height of a file but the highest, which
+-- were placed over settled ones.
 abbrev pub StandOver : Blocks → Nodes → Nodes → Type 0
 StandOver e settled n = (m j : ℕ) → suc m < height_of n
     → IsGroup e (node settled (suc m) j) (under settled m j) (λ i. node n m (BLOCK_POINTERS * j + i)) (node n (suc m) j)
@@ -49,8 +50,8 @@ pub record AreSettledNodes (disk : Blocks) (base : Inode) (t : BlockTree) (n : N
   pub blocks : (i : ℕ) → i < t.count → node n 0 i ≡ place disk t.pointers t.depth i
   pub heights : (height_of n ≡ level_of base.size) ⊎ (level_of base.size ≡ 0)
 
--- on a disk e these nodes hang from an inode, whose file has these blocks, and all is in its grammar but what the inode says of
--- the file
+-- on a disk e these nodes hang from an inode, whose file has these blocks, and all is in its
+-- grammar but what the inode says of the file
 pub record IsLaidOut (s : Sizes) (e : Blocks) (block : ℕ → List ℕ) (f : Inode) (n : Nodes) : Type 0 where
   pub nodes : AreNodesOf n (held e f)
   pub blocks : (i : ℕ) → file_block (held e f) i ≡ block i
@@ -62,8 +63,8 @@ pub record IsLaidOut (s : Sizes) (e : Blocks) (block : ℕ → List ℕ) (f : In
 abbrev pub LeadToBlocks : Blocks → (ℕ → Pointer) → (ℕ → List ℕ) → Type 0
 LeadToBlocks e places block = (i : ℕ) → pointed e (places i) ≡ block i
 
--- On each disk that has the planned blocks, and those that the settled inode names as this one has them, this inode has a file whose
--- blocks are those that these pointers lead to, with these nodes.
+-- On each disk that has the planned blocks, and those that the settled inode names as this one has
+-- them, this inode has a file whose blocks are those that these pointers lead to, with these nodes.
 abbrev pub Carries : Sizes → Draft → Blocks → Inode → (ℕ → Pointer) → Inode → Nodes → Type 0
 Carries s draft d base places f n =
     OnEachWith draft d base (λ e. (block : ℕ → List ℕ) → LeadToBlocks e places block → IsLaidOut s e block f n)
@@ -72,8 +73,9 @@ Carries s draft d base places f n =
 abbrev pub StandsIn : Sizes → Draft → Blocks → Inode → Object → Inode → Nodes → Type 0
 StandsIn s draft d base o f n = OnEachWith draft d base (λ e. IsLaidOut s e (object_block d o) f n)
 
--- The first so many blocks of a file got these places between two drafts, over its settled nodes. From one on they stand there on each
--- disk that has the planned blocks, and those that aren't changed lie where they are settled.
+-- The first so many blocks of a file got these places between two drafts, over its settled nodes.
+-- From one on they stand there on each disk that has the planned blocks, and those that aren't
+-- changed lie where they are settled.
 pub record AreLowest (first count : ℕ) (t : BlockTree) (settled : Nodes) (old new : Draft) (places : PlaceMap) : Type 0 where
   pub end : EndBefore count places
   pub placed : ArePlacedAt old new (node settled 0) places
@@ -82,7 +84,8 @@ pub record AreLowest (first count : ℕ) (t : BlockTree) (settled : Nodes) (old 
   pub unchanged : (i : ℕ) → i < count → first ≤ i → (IsChanged t i → ⊥) → place_at places i ≡ kept_place t settled i
   pub whole : AreWholeOver t first count
 
--- Nodes of a file of so many blocks, up to a level, over these places of its blocks: those over them were placed between two drafts.
+-- Nodes of a file of so many blocks, up to a level, over these places of its blocks: those over
+-- them were placed between two drafts.
 pub record AreRaised (count level : ℕ) (settled : Nodes) (lowest : PlaceMap) (old new : Draft) (n : Nodes) : Type 0 where
   pub heights : height_of n ≡ level
   pub lowest_are : (i : ℕ) → node n 0 i ≡ place_at lowest i

@@ -1,4 +1,5 @@
--- Where the nodes of a file are, by height: its blocks, the indirect blocks over each 1,024 of them, and so on.
+-- Where the nodes of a file are, by height: its blocks, the indirect blocks over each 1,024 of
+-- them, and so on.
 use Rattle.std.specs.Prelude.{ℕ, zero, suc, ◌≡◌, ◌≢◌, ◌<◌, ◌+◌, ◌*◌, ◌≤◌, ◌⊎◌, List, length, slice_index, nat_lt, if◌then◌else◌, Option, Some, None}
 use Rattle.std.specs.List.{slice_get}
 use Rattle.layout.specs.Pointer.{PointsBelow}
@@ -28,7 +29,8 @@ node n m i = place_of (slice_get n.heights.items m) i
 abbrev pub height_of : Nodes → ℕ
 height_of n = length n.heights.items
 
--- what the indirect block over group j of the nodes at a height spells: where there is no height above, none
+-- what the indirect block over group j of the nodes at a height spells: where there is no height
+-- above, none
 abbrev pub under : Nodes → ℕ → ℕ → ℕ → Pointer
 under n m j i = if nat_lt (suc m) (height_of n) then node n m (BLOCK_POINTERS * j + i) else Hole
 
@@ -37,7 +39,8 @@ unfoldable pub AllUnder : (ℕ → Type 0) → ℕ → ℕ → Type 0
 AllUnder P zero j = P j
 AllUnder P (suc height) j = (i : ℕ) → i < BLOCK_POINTERS → AllUnder P height (BLOCK_POINTERS * j + i)
 
--- over node j at a height the blocks of a file are those that were settled, as high up, or there are none
+-- over node j at a height the blocks of a file are those that were settled, as high up, or there
+-- are none
 abbrev pub StaysUnder : Nodes → PlaceMap → ℕ → ℕ → Type 0
 StaysUnder settled lowest height j =
     ((height < height_of settled) × AllUnder (λ i. place_at lowest i ≡ node settled 0 i) height j)
@@ -63,7 +66,8 @@ pub record AreNodesOf (n : Nodes) (h : Held) : Type 0 where
 abbrev pub AreWithin : ℕ → Nodes → Type 0
 AreWithin blocks n = (m i : ℕ) → PointsBelow blocks (node n m i)
 
--- settled nodes as they are read: all stay on a disk of so many blocks, and none is over holes alone
+-- settled nodes as they are read: all stay on a disk of so many blocks, and none is over holes
+-- alone
 pub record AreSettledIn (blocks : ℕ) (n : Nodes) : Type 0 where
   pub within : AreWithin blocks n
   pub full : AreFull n
@@ -101,8 +105,8 @@ pub record AreChanged (t : BlockTree) (end : ℕ) (is : List ℕ) : Type 0 where
 abbrev pub HasMoved : Nodes → Nodes → ℕ → Type 0
 HasMoved from to b = (m : ℕ) × (i : ℕ) × (node from m i ≡ Block b) × (node to m i ≡ Block b → ⊥)
 
--- Nodes of one height were placed over settled ones, on a disk of so many blocks: each leads where the settled one did, or to a block
--- that was given out, and no two of these to one.
+-- Nodes of one height were placed over settled ones, on a disk of so many blocks: each leads where
+-- the settled one did, or to a block that was given out, and no two of these to one.
 pub record ArePlacedAt (old new : Draft) (settled : ℕ → Pointer) (placed : PlaceMap) : Type 0 where
   pub within : AreBelow old.map.count placed
   pub from : (i b : ℕ) → place_at placed i ≡ Block b → (settled i ≡ Block b) ⊎ WasTaken old new b
@@ -123,16 +127,19 @@ pub record ArePlacedOver (old new : Draft) (settled placed : Nodes) : Type 0 whe
   pub apart : (m i k j b : ℕ) → node placed m i ≡ Block b → node placed k j ≡ Block b
       → ((node settled m i ≡ Block b) ⊎ (node settled k j ≡ Block b)) ⊎ ((m ≡ k) × (i ≡ j))
 
--- of the settled nodes of a file as many heights were read as its tree has, and past the nodes that it counts there all are holes
+-- of the settled nodes of a file as many heights were read as its tree has, and past the nodes that
+-- it counts there all are holes
 pub record AreCounted (t : BlockTree) (n : Nodes) : Type 0 where
   pub heights : height_of n ≡ suc t.depth
   pub end : (m i : ℕ) → nodes_at t.count m ≤ i → node n m i ≡ Hole
 
--- of a file's blocks from one on and before another, only one that is settled as a hole becomes a hole, and none that is changed
+-- of a file's blocks from one on and before another, only one that is settled as a hole becomes a
+-- hole, and none that is changed
 pub record AreStored (first past : ℕ) (t : BlockTree) (settled : Nodes) (places : ℕ → Pointer) : Type 0 where
   pub holes : (i : ℕ) → first ≤ i → i < past → places i ≡ Hole → kept_place t settled i ≡ Hole
   pub changed : (i : ℕ) → first ≤ i → i < past → IsChanged t i → places i ≢ Hole
 
--- of a file's blocks behind the first and before one, those that aren't changed lie where the settled ones do
+-- of a file's blocks behind the first and before one, those that aren't changed lie where the
+-- settled ones do
 abbrev pub AreKept : ℕ → BlockTree → Nodes → Nodes → Type 0
 AreKept past t settled placed = (i : ℕ) → 1 ≤ i → i < past → (IsChanged t i → ⊥) → node placed 0 i ≡ node settled 0 i

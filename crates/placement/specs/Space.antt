@@ -8,8 +8,9 @@ pub use Rattle.inode.specs.Room.{more_over, tops_over}
 use Rattle.inode.specs.declared.file.File.{File}
 use Rattle.conspoint.specs.Space.{changed_blocks}
 
--- What a consistency point stores of a file's nodes at a height, where so many of its blocks are changed: these, over them at the most one
--- indirect block for each, and so many more; so many of the third height; and higher up all that there are.
+-- What a consistency point stores of a file's nodes at a height, where so many of its blocks are
+-- changed: these, over them at the most one indirect block for each, and so many more; so many of
+-- the third height; and higher up all that there are.
 unfoldable pub height_stores : ℕ → ℕ → ℕ → ℕ → ℕ → ℕ
 height_stores blocks changed more tops zero = changed
 height_stores blocks changed more tops (suc zero) = min (nodes_at blocks 1) (changed + more)

@@ -17,8 +17,8 @@ use Rattle.placement.specs.Nodes.{StaysUnder}
 use Rattle.placement.specs.declared.file.PlacedFile.{PlacedFile}
 use Rattle.placement.specs.declared.nodes.Nodes.{Nodes}
 
--- a step that places blocks, so many at the most, and reads settled ones: it may fail as a read does, and for want of space only
--- where fewer are left
+-- a step that places blocks, so many at the most, and reads settled ones: it may fail as a read
+-- does, and for want of space only where fewer are left
 pub record ReadsAndPlaces {B T : Type 0} (G : Ghosts B) (n : ℕ) (blocks after : B) (old new : Draft) (result : Result T PlanError) : Type 0 where
   pub reads : ReadsBlocks G IsReadFault blocks after result
   pub grows : Grows old new
@@ -27,7 +27,8 @@ pub record ReadsAndPlaces {B T : Type 0} (G : Ghosts B) (n : ℕ) (blocks after 
   pub takes : OnOk result (TakesAtMost n old new)
   pub lacks : IsErrOf result NoSpace → Lacks n old
 
--- these numbers count, at each height of a level but the lowest, each node over so many blocks that is stored
+-- these numbers count, at each height of a level but the lowest, each node over so many blocks that
+-- is stored
 abbrev pub CountsHeights : (ℕ → ℕ → ℕ) → ℕ → ℕ → Nodes → PlaceMap → Type 0
 CountsHeights w blocks level settled lowest =
     (h j : ℕ) → 1 ≤ h → h < level → j < nodes_at blocks h → w h j ≡ 0 → StaysUnder settled lowest h j
@@ -42,7 +43,8 @@ abbrev pub PlacesHeights : {T : Type 0} → ℕ → ℕ → Nodes → PlaceMap �
 PlacesHeights blocks level settled lowest old new result =
     (w : ℕ → ℕ → ℕ) → CountsHeights w blocks level settled lowest → Places (sum_below (raise_stores blocks w) level) old new result
 
--- the blocks that were given out between two drafts for a file that is placed lie on the disk, as those do that it leaves
+-- the blocks that were given out between two drafts for a file that is placed lie on the disk, as
+-- those do that it leaves
 pub record HasBlocks (old new : Draft) (p : PlacedFile) : Type 0 where
   pub taken : All (λ b. b < old.map.count) p.taken.items
   pub freed : All (λ b. b < old.map.count) p.freed.items

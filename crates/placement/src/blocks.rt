@@ -12,8 +12,8 @@ use blocktree::{BlockTree, PlaceMap};
 use conspoint::{Draft, PlanError, place_blocks};
 use std::alloc::Global;
 
-/// The places of a file's `count` blocks, over its settled nodes. Those that don't count any more are holes. The blocks
-/// before `first` aren't looked at.
+/// The places of a file's `count` blocks, over its settled nodes. Those that don't count any more
+/// are holes. The blocks before `first` aren't looked at.
 pub(crate) fn place_lowest(
     alloc: Global,
     draft: &mut Draft,

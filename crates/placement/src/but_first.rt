@@ -1,4 +1,5 @@
-//! A changed file whose first block comes later: the inode file's, which has the inode of the block map.
+//! A changed file whose first block comes later: the inode file's, which has the inode of the block
+//! map.
 
 ghost use Rattle.std.specs.Prelude.{◌≡◌, ℕ, ◌<◌, ◌≤◌, ◌+◌, List, IfOk, OnOk, IsErrOf};
 ghost use Rattle.layout.specs.Limits.{Sizes};
@@ -28,7 +29,8 @@ use inode::Object;
 use layout::{BlockNumber, Pointer};
 use std::alloc::Global;
 
-/// The places of a file's `count` blocks, over its settled nodes. The place of block 0 is only reserved.
+/// The places of a file's `count` blocks, over its settled nodes. The place of block 0 is only
+/// reserved.
 fn place_but_first(
     alloc: Global,
     draft: &mut Draft,
@@ -83,8 +85,8 @@ fn lay_but_first(
     Ok((laid, first))
 }
 
-/// As `place_file`, of an object of a block or more whose block 0 comes later: a place is reserved for it, and the caller puts
-/// its bytes.
+/// As `place_file`, of an object of a block or more whose block 0 comes later: a place is reserved
+/// for it, and the caller puts its bytes.
 pub fn place_file_but_first<B: Blocks>(
     alloc: Global,
     draft: &mut Draft,

@@ -48,7 +48,8 @@ pub struct PlacedFile {
 pub(crate) struct Laid {
     pub(crate) nodes: Nodes,
     pub(crate) body: Body,
-    /// Of the blocks behind the first and before this one, those that aren't changed lie where the settled ones do.
+    /// Of the blocks behind the first and before this one, those that aren't changed lie where the
+    /// settled ones do.
     pub(crate) kept: u32,
 }
 
@@ -226,8 +227,9 @@ pub(crate) fn placed_file(
     })
 }
 
-/// Gives places to the blocks of a changed object that differ from those of its settled inode, and to the indirect blocks
-/// over them, and so a new inode. An indirect block under which nothing moved stays where it is.
+/// Gives places to the blocks of a changed object that differ from those of its settled inode, and
+/// to the indirect blocks over them, and so a new inode. An indirect block under which nothing
+/// moved stays where it is.
 pub fn place_file<B: Blocks>(
     alloc: Global,
     draft: &mut Draft,

@@ -1,5 +1,5 @@
-//! The checkpoint's places of a changed file (placement): its blocks and the indirect blocks over them get places on the
-//! disk, and from them comes its new inode, at whichever level its size has.
+//! The checkpoint's places of a changed file (placement): its blocks and the indirect blocks over
+//! them get places on the disk, and from them comes its new inode, at whichever level its size has.
 #![tactic(auto)]
 
 mod blocks;

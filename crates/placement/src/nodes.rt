@@ -16,7 +16,8 @@ use std::alloc::{AllocError, Global};
 /// Where the nodes of a file are.
 #[derive(Debug, Drop)]
 pub struct Nodes {
-    /// Those at each height, as far as there are any: its blocks, the indirect blocks over each 1,024 of them, and so on.
+    /// Those at each height, as far as there are any: its blocks, the indirect blocks over each
+    /// 1,024 of them, and so on.
     pub(crate) heights: Vec<PlaceMap>,
 }
 
@@ -39,8 +40,8 @@ impl Nodes {
         &self.heights[height]
     }
 
-    /// The nodes of a file of so many blocks in a row: its blocks, and behind them the indirect block over them, where an inode
-    /// has no room for their pointers.
+    /// The nodes of a file of so many blocks in a row: its blocks, and behind them the indirect
+    /// block over them, where an inode has no room for their pointers.
     pub fn in_a_row(&self, alloc: Global, count: usize) -> Result<Vec<Pointer>, AllocError>
         requires { count < 2 ^ 32 }
         ensures count { IfOk result (λ all. length all.items ≡ map_nodes count) }
@@ -101,8 +102,8 @@ fn add_moved(from: Pointer, to: Pointer, blocks: &mut Vec<BlockNumber>) -> Resul
     Ok(())
 }
 
-/// Adds the blocks at nodes of one height of a file that don't stand at the same of the other: of the nodes from one on and before
-/// another.
+/// Adds the blocks at nodes of one height of a file that don't stand at the same of the other: of
+/// the nodes from one on and before another.
 fn add_left(
     from: &PlaceMap,
     to: &Nodes,
@@ -165,8 +166,9 @@ fn add_changed(
     Ok(())
 }
 
-/// Adds the blocks at the first `count` nodes of one height of a file that don't stand at the same of the other. Of its blocks behind
-/// the first and before `kept` only these changed ones are looked at.
+/// Adds the blocks at the first `count` nodes of one height of a file that don't stand at the same
+/// of the other. Of its blocks behind the first and before `kept` only these changed ones are
+/// looked at.
 fn add_height(
     from: &PlaceMap,
     to: &Nodes,
@@ -195,8 +197,9 @@ fn add_height(
     Ok(())
 }
 
-/// The blocks at nodes of one file, of which each height has `count` at the most, that don't stand at the same of the other. Of the
-/// file's blocks behind the first and before `kept` only these changed ones may.
+/// The blocks at nodes of one file, of which each height has `count` at the most, that don't stand
+/// at the same of the other. Of the file's blocks behind the first and before `kept` only these
+/// changed ones may.
 pub(crate) fn moved(
     alloc: Global,
     from: &Nodes,

@@ -50,8 +50,8 @@ fn raise(
     Ok(raised)
 }
 
-/// The nodes of a file of so many blocks at a level, where its blocks are these, which were placed over settled ones: at each
-/// height those over the height below.
+/// The nodes of a file of so many blocks at a level, where its blocks are these, which were placed
+/// over settled ones: at each height those over the height below.
 pub(crate) fn raise_all(
     alloc: Global,
     draft: &mut Draft,

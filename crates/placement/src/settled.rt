@@ -79,8 +79,9 @@ fn is_above(nodes: &Nodes, over: &PlaceMap) -> bool
     is_full(nodes.height(count - 1), over)
 }
 
-/// The nodes of the settled inode under a file's blocks, height by height. Damaged also where an indirect block stands over holes alone:
-/// no file in its grammar has one, and what a point stores over unchanged blocks would depend on it.
+/// The nodes of the settled inode under a file's blocks, height by height. Damaged also where an
+/// indirect block stands over holes alone: no file in its grammar has one, and what a point stores
+/// over unchanged blocks would depend on it.
 pub fn settled_nodes<B: Blocks>(
     alloc: Global,
     blocks: &mut B,

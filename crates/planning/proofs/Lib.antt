@@ -13,7 +13,7 @@ mod MapFileLaws
 mod BaseLaws
 mod WholeLaws
 mod PlanLaws
-mod RoomLaws
+pub mod RoomLaws
 mod StartLaws
 mod SettledLaws
 mod LoopLaws

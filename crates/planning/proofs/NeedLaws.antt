@@ -11,7 +11,7 @@ use Rattle.layout.specs.Version.{greatest_size, level_of}
 use Rattle.layout.specs.declared.root.Root.{Root}
 use Rattle.layout.specs.declared.version.TheConstants.{VERSION}
 use Rattle.layout.proofs.SizeLaws.{level_low}
-use Rattle.model.specs.Records.{count_nameless}
+use Rattle.model.specs.Records.{count_orphans}
 use Rattle.model.specs.Room.{fixed_of}
 use Rattle.model.specs.Volumes.{KeepsNodeLimits, Node, Volume}
 use Rattle.blocktree.specs.Names.{nodes_at}
@@ -23,7 +23,7 @@ use Rattle.images.proofs.SumLaws.{gap_counts, groups_most, is_in_sum, sums_rise}
 use Rattle.conspoint.specs.Space.{block_stores, changed_blocks}
 use Rattle.inode.specs.Room.{changed_below, changed_count, far_tops, file_room, level_room, top_over}
 use Rattle.inode.specs.declared.file.File.{File}
-use Rattle.inofile.proofs.RoomLaws.{nameless_four}
+use Rattle.inofile.proofs.RoomLaws.{orphan_four}
 use Rattle.inofile.specs.Inodes.{is_changed_slot}
 use Rattle.inofile.specs.Slots.{IsChangedSlot}
 use Rattle.inofile.specs.Room.{has_moved, memory_room, number_room, slot_room}
@@ -74,11 +74,11 @@ slot_needs (Some (Changed (Some object))) = omega (arith, stores_room object.fil
 abbrev moves : Volume → Volume → ℕ → ℕ
 moves base v n = has_moved (base n) (v n)
 
-numbers_need : (s : InodeFile) (base v : Volume) (n : ℕ) → nodes_below s n + 2 * sum_below (number_changes s) n + sum_below (moves base v) n + 4 * count_nameless n v
+numbers_need : (s : InodeFile) (base v : Volume) (n : ℕ) → nodes_below s n + 2 * sum_below (number_changes s) n + sum_below (moves base v) n + 4 * count_orphans n v
     ≤ sum_below (number_room base s v) n
 unfolding nodes_below sum_below
 numbers_need s base v zero = omega arith
-numbers_need s base v (suc n) = omega (arith, numbers_need s base v n, slot_needs (tree.get nat_cmp s.slots n), nameless_four (v n))
+numbers_need s base v (suc n) = omega (arith, numbers_need s base v n, slot_needs (tree.get nat_cmp s.slots n), orphan_four (v n))
 
 -- ---- groups of numbers
 
@@ -157,10 +157,10 @@ unmoved None None none no_more = refl
 unmoved None (Some new) none no_more = absurd (no_more refl)
 unmoved (Some old) b none no_more = absurd (none refl)
 
--- What a plan takes, and what is kept for the files without a name. Of the inode map those blocks are counted of whose numbers an object
+-- What a plan takes, and what is kept for the orphans. Of the inode map those blocks are counted of whose numbers an object
 -- came or went over the base.
 pub point_needs : (r : Root) (s : InodeFile) (base v : Volume) (blocks : ℕ) → KeepsNodeLimits s.geometry.inodes base → KeepsNodeLimits s.geometry.inodes v → 3 < s.geometry.inodes → r.inode_file.size ≤ 67108864
-    → point_stores (map_moves base v) r s blocks + 4 * count_nameless s.geometry.inodes v ≤ memory_room base s v + level_of r.inode_file.size + map_file_nodes blocks
+    → point_stores (map_moves base v) r s blocks + 4 * count_orphans s.geometry.inodes v ≤ memory_room base s v + level_of r.inode_file.size + map_file_nodes blocks
 point_needs r s base v blocks base_keeps keeps least small =
     let inodes = s.geometry.inodes in
     let past : (n : ℕ) → inodes ≤ n → moves base v n ≡ 0 = λ n le. unmoved (base n) (v n) (empty_past inodes base n base_keeps least le) (empty_past inodes v n keeps least le) in

@@ -6,9 +6,9 @@ use Rattle.layout.specs.declared.root.Root.{Root}
 use Rattle.buffers.specs.Reads.{HasOnlyRead, ReadsBlocks}
 use Rattle.buffers.specs.declared.blocks.Blocks.{Ghosts}
 use Rattle.buffers.proofs.ReadLaws.{only_ok, reads_err, reads_more, reads_ok}
-use Rattle.blocktree.specs.Errors.{IsFault}
-use Rattle.blocktree.specs.declared.error.ReadError.{ReadError}
-use Rattle.blocktree.specs.declared.error.ReadError.TheVariants as below
+use Rattle.buffers.specs.Errors.{IsFault}
+use Rattle.buffers.specs.declared.error.BlockError.{BlockError}
+use Rattle.buffers.specs.declared.error.BlockError.TheVariants as below
 use Rattle.blockmap.specs.Maps.{entry_at}
 use Rattle.blockmap.specs.declared.map.BlockMap.{BlockMap}
 use Rattle.conspoint.specs.Drafts.{Grows, IsShortage}
@@ -35,12 +35,12 @@ use Rattle.planning.proofs.TopLaws.{changes_none, changes_twice}
 
 -- ---- errors
 
-device_alone : (e : ReadError) → plan_error e ≡ Device → e ≡ below.Device
+device_alone : (e : BlockError) → plan_error e ≡ Device → e ≡ below.Device
 device_alone below.NoMemory is = let no : ⊥ = cc in absurd no
 device_alone below.Device is = refl
 device_alone below.Damaged is = let no : ⊥ = cc in absurd no
 
-not_full : {P : Type 0} (e : ReadError) → plan_error e ≡ NoSpace → P
+not_full : {P : Type 0} (e : BlockError) → plan_error e ≡ NoSpace → P
 not_full below.NoMemory is = let no : ⊥ = cc in absurd no
 not_full below.Device is = let no : ⊥ = cc in absurd no
 not_full below.Damaged is = let no : ⊥ = cc in absurd no
@@ -57,11 +57,11 @@ unread (Err e) short = record { count = refl; counted = tt; device = λ fault. a
 
 module _ {B : Type 0} {G : Ghosts B} {x y : B} where
   -- a reading that went well, with another type of errors
-  pub read_of : {T : Type 0} {v : T} → ReadsBlocks {T = T} {E = ReadError} G IsFault x y (Ok v) → ReadsBlocks {T = T} {E = PlanError} G IsReadFault x y (Ok v)
+  pub read_of : {T : Type 0} {v : T} → ReadsBlocks {T = T} {E = BlockError} G IsFault x y (Ok v) → ReadsBlocks {T = T} {E = PlanError} G IsReadFault x y (Ok v)
   read_of read = record { count = read.count; counted = read.counted; device = tt; reads = read.reads; same = read.same }
 
   -- one that failed
-  pub unread_of : {T U : Type 0} {e : ReadError} (q : Result U PlanError) → IsErrAnd q (λ f. f ≡ plan_error e) → ReadsBlocks {T = T} G IsFault x y (Err e) → ReadsBlocks G IsReadFault x y q
+  pub unread_of : {T U : Type 0} {e : BlockError} (q : Result U PlanError) → IsErrAnd q (λ f. f ≡ plan_error e) → ReadsBlocks {T = T} G IsFault x y (Err e) → ReadsBlocks G IsReadFault x y q
   unread_of (Ok w) is read = absurd is
   unread_of {e = e} (Err f) is read = record { count = read.count; counted = tt; device = λ fault. read.device (device_alone e (sym is ∙ fault)); reads = read.reads; same = read.same }
 
@@ -108,18 +108,18 @@ module _ {B : Type 0} {G : Ghosts B} {n : ℕ} {x y : B} {d : Draft} where
   pub plans_read : {T : Type 0} {r : Result T PlanError} → ReadsBlocks G IsReadFault x y r → (IsErrOf r NoSpace → ⊥) → PlansFiles G n x y d d r
   plans_read read why = plans_file (read_ended read why)
 
-  pub plans_seen : {T : Type 0} {v : T} → ReadsBlocks {T = T} {E = ReadError} G IsFault x y (Ok v) → PlansFiles G n x y d d (Ok v)
+  pub plans_seen : {T : Type 0} {v : T} → ReadsBlocks {T = T} {E = BlockError} G IsFault x y (Ok v) → PlansFiles G n x y d d (Ok v)
   plans_seen read = plans_read (read_of read) (λ bad. no_error NoSpace bad)
 
-  pub plans_reads : {T U : Type 0} {v : T} {w : U} → ReadsBlocks {T = T} {E = ReadError} G IsFault x y (Ok v) → PlansFiles G n x y d d (Ok w)
+  pub plans_reads : {T U : Type 0} {v : T} {w : U} → ReadsBlocks {T = T} {E = BlockError} G IsFault x y (Ok v) → PlansFiles G n x y d d (Ok w)
   plans_reads read = plans_ok (plans_seen read)
 
   -- a reading failed
-  pub both_unread : {T U : Type 0} {e : ReadError} (q : Result U PlanError) → IsErrAnd q (λ f. f ≡ plan_error e) → ReadsBlocks {T = T} G IsFault x y (Err e) → ReadsAndPlaces G n x y d d q
+  pub both_unread : {T U : Type 0} {e : BlockError} (q : Result U PlanError) → IsErrAnd q (λ f. f ≡ plan_error e) → ReadsBlocks {T = T} G IsFault x y (Err e) → ReadsAndPlaces G n x y d d q
   both_unread (Ok w) is read = absurd is
   both_unread {e = e} (Err f) is read = read_ended (unread_of (Err f) is read) (λ bad. not_full e (sym is ∙ error_is f NoSpace bad))
 
-  pub plans_unread : {T U : Type 0} {e : ReadError} (q : Result U PlanError) → IsErrAnd q (λ f. f ≡ plan_error e) → ReadsBlocks {T = T} G IsFault x y (Err e) → PlansFiles G n x y d d q
+  pub plans_unread : {T U : Type 0} {e : BlockError} (q : Result U PlanError) → IsErrAnd q (λ f. f ≡ plan_error e) → ReadsBlocks {T = T} G IsFault x y (Err e) → PlansFiles G n x y d d q
   plans_unread q is read = plans_file (both_unread q is read)
 
 -- there was no memory

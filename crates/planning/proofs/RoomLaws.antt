@@ -26,7 +26,7 @@ not_free : (t : HeldTree) (b : ℕ) → entry t b ≢ 0 → free_at t b ≡ 0
 not_free t b used = let no : (entry t b == 0) ≡ false = grind (arith, nat_tests, used) in rw no refl
 
 -- the two blocks that hold the roots aren't free
-none_first : (r : Root) (w : Whole) → IsExact r w → free_under w.active 2 ≡ 0
+pub none_first : (r : Root) (w : Whole) → IsExact r w → free_under w.active 2 ≡ 0
 unfolding sum_below
 none_first r w exact =
     let zeroth = not_free w.active 0 (λ is. no_bit 31 _ is ((exact.system 0).1 (roots (omega arith)))) in

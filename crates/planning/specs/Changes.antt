@@ -1,8 +1,9 @@
--- What a consistency point does with the snapshots, and what that makes of the slots and of the block map's sets.
+-- What a consistency point does with the snapshots, and what that makes of the slots and of the
+-- block map's sets.
 use Rattle.std.specs.Prelude.{ℕ, ◌≡◌, ◌≢◌, ◌<◌, ◌≤◌, List, length}
 use Rattle.std.specs.Int.{bit_at}
 use Rattle.blockmap.specs.Maps.{entry_at, settled_at}
-use Rattle.blockmap.specs.declared.map.TheConstants.{SYSTEM_SET}
+use Rattle.blockmap.specs.declared.map.TheConstants.{SYSTEM_PLANE}
 use Rattle.conspoint.specs.Drafts.{OnEach}
 use Rattle.conspoint.specs.MapFiles.{AreTouched}
 use Rattle.conspoint.specs.declared.draft.Draft.{Draft}
@@ -38,7 +39,8 @@ IsStepOf (Take k order name) r step =
 IsStepOf (Delete k) r step = (name : Name) × (step ≡ deleted k name)
 IsStepOf (Restore k f) r step = (name : Name) × (step ≡ restored k name)
 
--- the tree that the point starts from, of all that a root holds: the active one, or that of the snapshot to be restored
+-- the tree that the point starts from, of all that a root holds: the active one, or that of the
+-- snapshot to be restored
 abbrev pub starting_tree : SnapshotChange → Whole → HeldTree
 starting_tree Unchanged w = w.active
 starting_tree (Take k order name) w = w.active
@@ -80,15 +82,16 @@ TouchesRestored (Take k order name) d = Unit {0}
 TouchesRestored (Delete k) d = Unit {0}
 TouchesRestored (Restore k f) d = AreTouched d.map.parts.items
 
--- Set k is these bits now. In the system's set the block at this pointer has this bit, and no other set changes.
+-- Set k is these bits now. In the system's set the block at this pointer has this bit, and no other
+-- set changes.
 pub record ChangesPlane (k : ℕ) (p : Pointer) (bit : ℕ) (plane before after : ℕ → ℕ) : Type 0 where
   pub plane_is : (b : ℕ) → bit_at (after b) k ≡ plane b
-  pub head : (b : ℕ) → p ≡ Block b → bit_at (after b) SYSTEM_SET ≡ bit
-  pub system : (b : ℕ) → p ≢ Block b → bit_at (after b) SYSTEM_SET ≡ bit_at (before b) SYSTEM_SET
-  pub others : (b i : ℕ) → i ≢ k → i ≢ SYSTEM_SET → bit_at (after b) i ≡ bit_at (before b) i
+  pub head : (b : ℕ) → p ≡ Block b → bit_at (after b) SYSTEM_PLANE ≡ bit
+  pub system : (b : ℕ) → p ≢ Block b → bit_at (after b) SYSTEM_PLANE ≡ bit_at (before b) SYSTEM_PLANE
+  pub others : (b i : ℕ) → i ≢ k → i ≢ SYSTEM_PLANE → bit_at (after b) i ≡ bit_at (before b) i
 
--- A snapshot of a root's tree is taken: its root block, which was free, is planned at this pointer, and its plane of the map is the
--- settled active tree.
+-- A snapshot of a root's tree is taken: its root block, which was free, is planned at this pointer,
+-- and its plane of the map is the settled active tree.
 pub record TakesTree (k order : ℕ) (name : List ℕ) (r : Root) (old new : Draft) (p : Pointer) : Type 0 where
   pub block : (b : ℕ) × (p ≡ Block b)
   pub head : (b : ℕ) → p ≡ Block b → OnEach new
@@ -99,8 +102,9 @@ pub record TakesTree (k order : ℕ) (name : List ℕ) (r : Root) (old new : Dra
   pub sets : ChangesPlane k p 1 (λ b. bit_at (settled_at old.map.parts.items b) 0)
       (entry_at old.map.parts.items) (entry_at new.map.parts.items)
 
--- The map's entries after a step over those before it, where these are settled. The plane of a snapshot that is taken is the settled
--- active tree, and its root block was free. Of one that is restored only the active tree's set changes.
+-- The map's entries after a step over those before it, where these are settled. The plane of a
+-- snapshot that is taken is the settled active tree, and its root block was free. Of one that is
+-- restored only the active tree's set changes.
 abbrev pub StepsSets : SnapshotStep → Root → Root → (ℕ → ℕ) → (ℕ → ℕ) → (ℕ → ℕ) → Type 0
 StepsSets unchanged r new settled before after = (b : ℕ) → after b ≡ before b
 StepsSets (taken k s) r new settled before after =
@@ -116,7 +120,8 @@ pub record StepsEntries (step : SnapshotStep) (r new : Root) (settled before aft
   pub sets : StepsSets step r new settled before between
   pub keeps : KeepsSets between after
 
--- A root over another has the slots of this step, and the root block of a snapshot that is taken is planned.
+-- A root over another has the slots of this step, and the root block of a snapshot that is taken is
+-- planned.
 pub record MakesStep (step : SnapshotStep) (r new : Root) (d : Draft) : Type 0 where
   pub slots : StepsSlots step r new
   pub head : OnEach d (HasHead step new)
@@ -125,7 +130,8 @@ pub record MakesStep (step : SnapshotStep) (r new : Root) (d : Draft) : Type 0 w
 abbrev pub HasHeads : Root → Root → Draft → Type 0
 HasHeads r new d = (k b : ℕ) → IsNewHead r new k b → (b < d.map.next) × AreTouched d.map.parts.items
 
--- What is done with the snapshots of a root before anything else is planned, and the root with the slots that come of it.
+-- What is done with the snapshots of a root before anything else is planned, and the root with the
+-- slots that come of it.
 pub record ChangesSnapshots (change : SnapshotChange) (r : Root) (old new : Draft) (next : Root) : Type 0 where
   pub root : IsRoot next
   pub geometry : next.geometry ≡ r.geometry
@@ -134,7 +140,8 @@ pub record ChangesSnapshots (change : SnapshotChange) (r : Root) (old new : Draf
   pub sets : (step : SnapshotStep) → IsStepOf change r step → StepsSets step r next (settled_at old.map.parts.items)
       (entry_at old.map.parts.items) (entry_at new.map.parts.items)
 
--- no snapshot of the tree that the point starts from stays beside the new tree: none is taken, and none restored
+-- no snapshot of the tree that the point starts from stays beside the new tree: none is taken, and
+-- none restored
 abbrev pub SharesNone : SnapshotStep → Type 0
 SharesNone unchanged = Unit {0}
 SharesNone (taken k s) = ⊥

@@ -12,7 +12,8 @@ use Rattle.inode.specs.declared.file.File.{File}
 use Rattle.inofile.specs.Inodes as numbers
 use Rattle.inofile.specs.declared.inode_file.InodeFile.{InodeFile}
 
--- The blocks spell these inodes, and zeros elsewhere: for number 0, past the last number, and behind the last inode of each block.
+-- The blocks spell these inodes, and zeros elsewhere: for number 0, past the last number, and
+-- behind the last inode of each block.
 pub record AreSpelled (inodes : ℕ) (block : ℕ → List ℕ) (inode : ℕ → Inode) : Type 0 where
   pub each : (n : ℕ) → 1 ≤ n → n < inodes → inode_bytes_at block n ≡ inode_bytes (inode n)
   pub first : inode_bytes_at block 0 ≡ zeros INODE_BYTES
@@ -40,7 +41,8 @@ pub record ChangesOnly (IsOne : ℕ → Type 0) (old new : BlockTree) : Type 0 w
   pub kept : new.kept ≡ old.kept
   pub only : (i : ℕ) → IsChanged new i → IsOne i ⊎ IsChanged old i
 
--- a file in memory of which only these blocks become changed: its size stays, and what is settled of it
+-- a file in memory of which only these blocks become changed: its size stays, and what is settled
+-- of it
 pub record ChangesFile (IsOne : ℕ → Type 0) (old new : File) : Type 0 where
   pub size : new.size ≡ old.size
   pub settled : SameSettled old.tree new.tree

@@ -31,7 +31,8 @@ pub record IsSettledFile (s : Sizes) (d : Draft) (disk : Blocks) (f : Inode) : T
   pub once : IsOnce (held disk f)
   pub used : (b : ℕ) → Names (held disk f) b → IsFree d.map.parts.items b → ⊥
 
--- A number's new inode, on a disk e that has the blocks planned for it: its file is placed, and is this one.
+-- A number's new inode, on a disk e that has the blocks planned for it: its file is placed, and is
+-- this one.
 pub record IsNumberPlaced (s : Sizes) (e : Blocks) (old : Held) (found : Content) (f : Inode) (taken freed : ℕ → Bool) : Type 0 where
   pub placed : IsPlaced s e old f taken freed
   pub kind : IsOrdinary f.kind

@@ -51,8 +51,9 @@ IsClean m = (b : ℕ) → entry_at m.parts.items b ≡ settled_at m.parts.items 
 abbrev pub inodes_of : HeldTree → ℕ → Inode
 inodes_of t n = (t n).inode
 
--- A point may be planned: all that the root holds on the disk is in its grammar, the map has its entries, the tree that the point
--- starts from holds a volume, and memory stands over it for the volume that is to be settled.
+-- A point may be planned: all that the root holds on the disk is in its grammar, the map has its
+-- entries, the tree that the point starts from holds a volume, and memory stands over it for the
+-- volume that is to be settled.
 pub record IsPlannable (change : SnapshotChange) (root : Root) (d : ℕ → List ℕ) (slot generation : ℕ) (m : BlockMap) (inodes : InodeFile) (base v : Volume) : Type 0 where
   pub other : IsOtherSlot root d slot
   pub later : root.generation < generation
@@ -64,7 +65,8 @@ pub record IsPlannable (change : SnapshotChange) (root : Root) (d : ℕ → List
   pub memory : IsVolumeOf root.geometry.blocks (blocks_of d) (inodes_of (starting_tree change (whole (blocks_of d) root))) inodes v
   pub volume : IsVolume root.geometry.inodes v
 
--- On each disk that has the blocks of a plan, and those that the old root needs, the new root's map has these entries.
+-- On each disk that has the blocks of a plan, and those that the old root needs, the new root's map
+-- has these entries.
 abbrev pub PlansEntries : Blocks → Root → plans.Planned → Root → BlockMap → Type 0
 PlansEntries disk root p new map =
     (e : Blocks) → HasAll e p.blocks → Agrees (Needs root (whole disk root)) disk e
@@ -82,13 +84,15 @@ WillHaveEntries (Take k order name) count settled t = (b : ℕ) → settled b �
 WillHaveEntries (Delete k) count settled t = (b : ℕ) → settled b ≡ entry t b
 WillHaveEntries (Restore k f) count settled t = (b : ℕ) → count ≤ b → settled b ≡ entry t b
 
--- A tree in its grammar, whose map's entries are the settled ones, but where the map is stored anew.
+-- A tree in its grammar, whose map's entries are the settled ones, but where the map is stored
+-- anew.
 pub record IsMapStart {B : Type 0} {G : Ghosts B} {blocks : B} {inodes : InodeFile} (o : OverTree G blocks inodes) (d : Draft) : Type 0 where
   pub sound : IsSoundTree inodes.geometry (tree_of o)
   pub same : HasSettled d o.before.entry
   pub entries : HasEntries d o.before.entry (tree_of o)
 
--- What the planning of files starts from: such a tree under this inode of its inode file, whose blocks are set 0 in the draft.
+-- What the planning of files starts from: such a tree under this inode of its inode file, whose
+-- blocks are set 0 in the draft.
 pub record IsPlanStart {B : Type 0} {G : Ghosts B} {blocks : B} {inodes : InodeFile} (o : OverTree G blocks inodes) (d : Draft) (inode_file : Inode) : Type 0 where
   pub map : IsMapStart o d
   pub top : o.settled 0 ≡ inode_file
@@ -126,8 +130,8 @@ pub record HasInodeMap (bytes : List ℕ) (changed : ℕ → Bool) (from : ℕ) 
   pub others : (k : ℕ) → k ≢ 1 → way.plan.changed k ≡ changed k
   pub map : OnEachOver t disk d (λ e. IsInodeMapOn bytes (held e (way.plan.inode 1)))
 
--- The inode file is planned with this inode, but for the bytes of its first block: its blocks are those in memory, and first the whole
--- one that is put there.
+-- The inode file is planned with this inode, but for the bytes of its first block: its blocks are
+-- those in memory, and first the whole one that is put there.
 pub record HasTop (p : PlannedInodes) (d : Draft) (disk : Blocks) (before : Before) (s : Sizes) (t : HeldTree) (top : Object) (f : Inode) (first : ℕ) : Type 0 where
   pub taken : ℕ → Bool
   pub progress : OnEachOver t disk d (λ e. IsWhole (e first) → IsProgressOf d s t e before (with_planned_file 0 f taken p))
@@ -140,14 +144,16 @@ pub record IsBlockMapOn (entry_of : ℕ → ℕ) (h : Held) : Type 0 where
   pub entries : (b : ℕ) → map_entry (file_block h (b / 1024)) (b % 1024) ≡ entry_of b
   pub no_hole : HasNoHole h
 
--- The block map is planned with this inode, over what was planned so far. Where each of its blocks was to be stored before, its whole file is taken.
+-- The block map is planned with this inode, over what was planned so far. Where each of its blocks
+-- was to be stored before, its whole file is taken.
 pub record HasBlockMap (start : Draft) (p : PlannedInodes) (d : Draft) (disk : Blocks) (before : Before) (s : Sizes) (t : HeldTree) (f : Inode) : Type 0 where
   pub taken : ℕ → Bool
   pub progress : OnEachOver t disk d (λ e. IsProgressOf start s t e before p → IsProgressOf d s t e before (with_planned_file 2 f taken p))
   pub map : OnEachOver t disk d (λ e. IsBlockMapOn (entry_at d.map.parts.items) (held e f))
   pub anew : AreTouched start.map.parts.items → OnEachOver t disk d (λ e. (b : ℕ) → Names (held e f) b → taken b ≡ true)
 
--- The block map is planned, and the inode file's first block: that of memory with the map's inode in its place.
+-- The block map is planned, and the inode file's first block: that of memory with the map's inode
+-- in its place.
 pub record HasLast (start : Draft) (p : PlannedInodes) (d : Draft) (disk : Blocks) (before : Before) (s : Sizes) (t : HeldTree) (file : File) (first : ℕ) : Type 0 where
   pub map : Inode
   pub planned : HasBlockMap start p d disk before s t map
@@ -162,8 +168,8 @@ pub record PlansNumbers (from : ℕ) (d : Draft) (disk : Blocks) (settled : ℕ 
   pub map : HasInodeMap inodes.numbers.bytes.items changed from d disk before inodes.geometry (settled_tree disk settled)
       (λ n. trimmed (files_of disk settled inodes n)) file
 
--- All that changed in memory is planned, with this inode of the inode file. All blocks but the block map's were taken before a draft in
--- the middle, and so many at the most.
+-- All that changed in memory is planned, with this inode of the inode file. All blocks but the
+-- block map's were taken before a draft in the middle, and so many at the most.
 pub record IsAllPlanned (start d : Draft) (disk : Blocks) (before : Before) (s : Sizes) (t : HeldTree) (found : ℕ → Content) (inodes : InodeFile) (top : Inode) : Type 0 where
   pub plan : PlannedInodes
   pub top_is : plan.inode 0 ≡ top
@@ -187,8 +193,9 @@ pub record IsAllPlanned (start d : Draft) (disk : Blocks) (before : Before) (s :
   pub anew : AreTouched start.map.parts.items
       → OnEachOver t disk d (λ e. (b : ℕ) → Names (held e (plan.inode 2)) b → plan.taken 2 b ≡ true)
 
--- The whole plan, of which the part of the snapshots comes first: of a new one the root block lies before all that is taken then, and the
--- whole block map is to be stored, as it is where one is restored.
+-- The whole plan, of which the part of the snapshots comes first: of a new one the root block lies
+-- before all that is taken then, and the whole block map is to be stored, as it is where one is
+-- restored.
 pub record IsRootPlanned (change : SnapshotChange) (root new : Root) (old d : Draft) (disk : Blocks) (before : Before) (s : Sizes) (t : HeldTree) (found : ℕ → Content) (inodes : InodeFile) : Type 0 where
   pub start : Draft
   pub grows : Grows old start

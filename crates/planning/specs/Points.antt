@@ -13,8 +13,8 @@ use Rattle.planning.specs.Progress.{PlannedInodes}
 abbrev pub planned_tree : Blocks → PlannedInodes → HeldTree
 planned_tree e p n = held e (p.inode n)
 
--- All is planned, on a disk e that has the planned blocks: the new root leads to the inodes of all numbers and has these entries in its
--- map, and the files from number 3 on hold these contents.
+-- All is planned, on a disk e that has the planned blocks: the new root leads to the inodes of all
+-- numbers and has these entries in its map, and the files from number 3 on hold these contents.
 pub record IsComplete (r new : Root) (t : HeldTree) (e : Blocks) (after : ℕ → ℕ) (p : PlannedInodes) (files : ℕ → Content) : Type 0 where
   pub top : new.inode_file ≡ p.inode 0
   pub geometry : new.geometry ≡ r.geometry

@@ -11,12 +11,14 @@ use Rattle.images.specs.BlockMap.{HasBit}
 use Rattle.images.specs.Points.{MarksPlane}
 use Rattle.images.specs.Soundness.{IsSoundFile, FitsNumber}
 
--- what a point starts from: the settled entries of the map, and which of their sets has the blocks of the tree
+-- what a point starts from: the settled entries of the map, and which of their sets has the blocks
+-- of the tree
 pub record Before : Type 0 where
   pub entry : ℕ → ℕ
   pub plane : ℕ
 
--- the new inode of each number, which of them are changed, and the blocks that were taken for each, none of them before this one
+-- the new inode of each number, which of them are changed, and the blocks that were taken for each,
+-- none of them before this one
 pub record PlannedInodes : Type 0 where
   pub inode : ℕ → Inode
   pub changed : ℕ → Bool
@@ -54,8 +56,9 @@ pub record IsMarked (taken freed : ℕ → Bool) (before after : ℕ → ℕ) : 
   pub active : (b : ℕ) → HasBit 0 (after b) ↔ ((HasBit 0 (before b) × (freed b ≡ false)) ⊎ (taken b ≡ true))
   pub others : KeepsSets before after
 
--- What holds of what is planned so far, on a disk e that has the blocks planned for it: of each changed number, of each other
--- one, of the blocks that were taken, all before this one, and of set 0 of the map, as it is now, over the settled set of the tree.
+-- What holds of what is planned so far, on a disk e that has the blocks planned for it: of each
+-- changed number, of each other one, of the blocks that were taken, all before this one, and of set
+-- 0 of the map, as it is now, over the settled set of the tree.
 pub record IsProgress (s : Sizes) (t : HeldTree) (e : Blocks) (next : ℕ) (before : Before) (after : ℕ → ℕ) (p : PlannedInodes) : Type 0 where
   pub moves : (n m i b : ℕ) → p.changed n ≡ true → (held e (p.inode n)).place m i ≡ Block b → ((t n).place m i ≡ Block b) ⊎ (p.taken n b ≡ true)
   pub each : (n : ℕ) → p.changed n ≡ true → IsOnce (held e (p.inode n))

@@ -1,13 +1,14 @@
--- What the parts of a plan promise of the disk, of the draft, and of the root that comes into force then.
+-- What the parts of a plan promise of the disk, of the draft, and of the root that comes into force
+-- then.
 use Rattle.std.specs.Prelude.{ℕ, ◌≡◌, ◌+◌, ◌*◌, ◌<◌, ◌≤◌, List, Result, OnOk, IfOk, IsErrOf}
 use Rattle.layout.specs.Places.{blocks_of}
 use Rattle.layout.specs.Root.{IsRoot, root_bytes}
 use Rattle.layout.specs.declared.root.Root.{Root}
 use Rattle.layout.specs.declared.version.TheConstants.{VERSION}
-use Rattle.model.specs.Records.{count_nameless}
+use Rattle.model.specs.Records.{count_orphans}
 use Rattle.model.specs.Room.{fixed_of}
 use Rattle.model.specs.Volumes.{Volume}
-use Rattle.model.specs.declared.costs.TheConstants.{NAMELESS_COST}
+use Rattle.model.specs.declared.costs.TheConstants.{ORPHAN_COST}
 use Rattle.buffers.specs.Reads.{ReadsBlocks}
 use Rattle.buffers.specs.declared.blocks.Blocks.{Ghosts}
 use Rattle.blockmap.specs.Maps.{entry_at, settled_at}
@@ -35,8 +36,9 @@ use Rattle.planning.specs.Steps.{OverTree}
 use Rattle.planning.specs.declared.change.SnapshotChange.{SnapshotChange}
 use Rattle.planning.specs.declared.points.Point.{Point}
 
--- A part that plans files. It reads settled blocks, and may fail as a read does. The draft only grows, and of the map's sets the
--- active tree's alone changes. So many blocks are taken at the most; for want of space it fails only where fewer are left.
+-- A part that plans files. It reads settled blocks, and may fail as a read does. The draft only
+-- grows, and of the map's sets the active tree's alone changes. So many blocks are taken at the
+-- most; for want of space it fails only where fewer are left.
 pub record PlansFiles {B T : Type 0} (G : Ghosts B) (n : ℕ) (blocks after : B) (old new : Draft) (result : Result T PlanError) : Type 0 where
   pub reads : ReadsBlocks G IsReadFault blocks after result
   pub grows : Grows old new
@@ -48,7 +50,8 @@ pub record PlansFiles {B T : Type 0} (G : Ghosts B) (n : ℕ) (blocks after : B)
 abbrev pub CountsMap : {B : Type 0} {G : Ghosts B} {blocks : B} {inodes : InodeFile} → OverTree G blocks inodes → (ℕ → ℕ) → Type 0
 CountsMap {inodes = inodes} o w = CountsBlocks w inodes.numbers.bytes.items (file_block (held o.disk (o.settled 1)))
 
--- the same of parts of which the inode map is one: so many blocks are taken for any numbers that count its blocks
+-- the same of parts of which the inode map is one: so many blocks are taken for any numbers that
+-- count its blocks
 pub record PlansParts {B T : Type 0} (G : Ghosts B) (inodes : InodeFile) (n : (ℕ → ℕ) → ℕ) (blocks after : B) (old new : Draft)
     (result : Result T PlanError) : Type 0 where
   pub reads : ReadsBlocks G IsReadFault blocks after result
@@ -57,8 +60,8 @@ pub record PlansParts {B T : Type 0} (G : Ghosts B) (inodes : InodeFile) (n : (�
   pub takes : (o : OverTree G blocks inodes) (w : ℕ → ℕ) → CountsMap o w → OnOk result (TakesAtMost (n w) old new)
   pub lacks : (o : OverTree G blocks inodes) (w : ℕ → ℕ) → CountsMap o w → IsErrOf result NoSpace → Lacks (n w) old
 
--- The whole, which changes the snapshots' sets too. The answer is the root that comes into force then: of this generation, of the
--- newest version, and of the sizes of the root before.
+-- The whole, which changes the snapshots' sets too. The answer is the root that comes into force
+-- then: of this generation, of the newest version, and of the sizes of the root before.
 pub record PlansRoot {B : Type 0} (G : Ghosts B) (inodes : InodeFile) (n : (ℕ → ℕ) → ℕ) (number : ℕ) (before : Root) (blocks after : B)
     (old new : Draft) (result : Result Root PlanError) : Type 0 where
   pub reads : ReadsBlocks G IsReadFault blocks after result
@@ -87,8 +90,8 @@ pub record IsGivenUp (map : BlockMap) : Type 0 where
   pub clean : IsClean map
   pub next : map.next ≡ 2
 
--- A point over a root, of which nothing is written: its root is of this generation, of the newest version, and of the sizes of the one
--- before, and comes into this slot.
+-- A point over a root, of which nothing is written: its root is of this generation, of the newest
+-- version, and of the sizes of the one before, and comes into this slot.
 pub record IsPointOver (before : Root) (slot generation : ℕ) (p : Point) : Type 0 where
   pub none : p.plan.written ≡ 0
   pub slot_is : p.plan.slot ≡ slot
@@ -99,21 +102,23 @@ pub record IsPointOver (before : Root) (slot generation : ℕ) (p : Point) : Typ
   pub geometry : p.root.geometry ≡ before.geometry
   pub version : p.root.version ≡ VERSION
 
--- What is planned over a disk, where memory stands for volume v and the tree that the point starts from for base.
+-- What is planned over a disk, where memory stands for volume v and the tree that the point starts
+-- from for base.
 pub record PlansPoint (change : SnapshotChange) (root : Root) (d : ℕ → List ℕ) (slot : ℕ) (map : BlockMap) (inodes : InodeFile) (base v : Volume)
     (after : BlockMap) (result : Result Point PlanError) : Type 0 where
   pub point : (step : SnapshotStep) → IsStepOf change root step → CanStep step root (whole (blocks_of d) root)
       → IfOk result (λ p. IsPointWith step root d (writes_of p.plan.blocks) slot p.root v)
   pub entries : IfOk result (λ p. PlansEntries (blocks_of d) root p.plan p.root after)
   pub damaged : IsErrOf result Damaged → ⊥
-  -- it leaves all blocks free but as many as memory may need; what is kept for files without names isn't among these
+  -- it leaves all blocks free but as many as memory may need; what is kept for orphans isn't among
+  -- these
   pub leaves : map.next ≡ 2 → (step : SnapshotStep) → IsStepOf change root step → CanStep step root (whole (blocks_of d) root)
-      → (spent : ℕ) → memory_room base inodes v + fixed_of map.count ≤ spent + NAMELESS_COST * count_nameless inodes.geometry.inodes v
+      → (spent : ℕ) → memory_room base inodes v + fixed_of map.count ≤ spent + ORPHAN_COST * count_orphans inodes.geometry.inodes v
       → IfOk result (λ p. LeavesFree spent root (blocks_of d) (writes_of p.plan.blocks) p.root)
   -- where no snapshot is taken or restored, what every point stores is given back
   pub room : map.next ≡ 2 → (step : SnapshotStep) → IsStepOf change root step → SharesNone step
       → CanStep step root (whole (blocks_of d) root)
-      → (spent : ℕ) → memory_room base inodes v ≤ spent + NAMELESS_COST * count_nameless inodes.geometry.inodes v
+      → (spent : ℕ) → memory_room base inodes v ≤ spent + ORPHAN_COST * count_orphans inodes.geometry.inodes v
       → IfOk result (λ p. LeavesFree spent root (blocks_of d) (writes_of p.plan.blocks) p.root)
   pub needs : IsErrOf result NoSpace
-      → left map + NAMELESS_COST * count_nameless inodes.geometry.inodes v < memory_room base inodes v + fixed_of map.count
+      → left map + ORPHAN_COST * count_orphans inodes.geometry.inodes v < memory_room base inodes v + fixed_of map.count

@@ -1,4 +1,5 @@
--- How many blocks a consistency point may take: of each changed file, and of the inode file, what is changed of it; of the block map all.
+-- How many blocks a consistency point may take: of each changed file, and of the inode file, what
+-- is changed of it; of the block map all.
 use Rattle.std.specs.Prelude.{ℕ, zero, suc, ◌≡◌, ◌↔◌, ◌+◌, ◌*◌, ◌<◌, ◌==◌, min, List, Option, Some, None, if◌then◌else◌}
 use Rattle.std.specs.Int.{div_ceil}
 use Rattle.std.specs.Ordering.{nat_cmp}
@@ -42,7 +43,8 @@ MAP_NUMBERS = 8 * BLOCK_BYTES
 abbrev pub TellsSame : List ℕ → List ℕ → ℕ → Type 0
 TellsSame bytes block i = (k : ℕ) → k < MAP_NUMBERS → IsTaken block k ↔ IsTaken bytes (MAP_NUMBERS * i + k)
 
--- these numbers count each block of the inode map that tells other than the settled one of its numbers
+-- these numbers count each block of the inode map that tells other than the settled one of its
+-- numbers
 abbrev pub CountsBlocks : (ℕ → ℕ) → List ℕ → (ℕ → List ℕ) → Type 0
 CountsBlocks w bytes settled = (i : ℕ) → w i ≡ 0 → TellsSame bytes (settled i) i
 
@@ -54,7 +56,8 @@ map_stores w s = sum_below w (block_count (div_ceil s.geometry.inodes 8))
 abbrev pub number_changes : InodeFile → ℕ → ℕ
 number_changes s n = if is_changed_slot (tree.get nat_cmp s.slots n) then 1 else 0
 
--- one for a block of the inode file that is stored: the first, which has the inodes of the maps, and each that has a changed number
+-- one for a block of the inode file that is stored: the first, which has the inodes of the maps,
+-- and each that has a changed number
 abbrev pub top_block : InodeFile → ℕ → ℕ
 top_block s i =
     if i == 0
@@ -70,8 +73,9 @@ top_nodes s size =
 abbrev pub map_file_nodes : ℕ → ℕ
 map_file_nodes blocks = map_nodes (div_ceil blocks BLOCK_POINTERS)
 
--- The blocks that a point of this memory over this root may take, on a disk of so many: those of the changed numbers, of the inode
--- map the ones that are counted so, those of the inode file, and of the block map.
+-- The blocks that a point of this memory over this root may take, on a disk of so many: those of
+-- the changed numbers, of the inode map the ones that are counted so, those of the inode file, and
+-- of the block map.
 abbrev pub point_stores : (ℕ → ℕ) → Root → InodeFile → ℕ → ℕ
 point_stores w r s blocks =
     nodes_below s s.geometry.inodes + map_stores w s + top_nodes s r.inode_file.size + map_file_nodes blocks

@@ -25,8 +25,9 @@ use Rattle.planning.specs.Progress.{Before, IsExactPlane, IsProgress, PlannedIno
 abbrev pub settled_tree : Blocks → (ℕ → Inode) → HeldTree
 settled_tree disk settled n = held disk (settled n)
 
--- What a plan starts over: these blocks show a disk, and memory stands for a volume over the inodes that are settled there. Their tree
--- names no block twice, and its blocks are its set of these entries.
+-- What a plan starts over: these blocks show a disk, and memory stands for a volume over the inodes
+-- that are settled there. Their tree names no block twice, and its blocks are its set of these
+-- entries.
 pub record OverTree {B : Type 0} (G : Ghosts B) (blocks : B) (inodes : InodeFile) : Type 0 where
   pub disk : Blocks
   pub settled : ℕ → Inode
@@ -48,8 +49,8 @@ found_in {inodes = inodes} o n = trimmed (files_of o.disk o.settled inodes n)
 abbrev pub HasSettled : Draft → (ℕ → ℕ) → Type 0
 HasSettled d entry = (b : ℕ) → settled_at d.map.parts.items b ≡ entry b
 
--- On each disk that has the blocks planned so far, and those of the settled tree: what is planned holds, and the changed files are
--- these. And the changed inode file spells the new inodes.
+-- On each disk that has the blocks planned so far, and those of the settled tree: what is planned
+-- holds, and the changed files are these. And the changed inode file spells the new inodes.
 pub record IsPlanUnderWay (d : Draft) (disk : Blocks) (before : Before) (s : Sizes) (t : HeldTree) (found : ℕ → Content) (file : File) : Type 0 where
   pub plan : PlannedInodes
   pub settled : HasSettled d before.entry

@@ -30,7 +30,8 @@ use layout::{BlockNumber, Inode, Pointer};
 use placement::settled_nodes;
 use std::alloc::Global;
 
-/// The places of the settled block map's nodes: so many blocks, and behind them the indirect block over them, where there is one.
+/// The places of the settled block map's nodes: so many blocks, and behind them the indirect block
+/// over them, where there is one.
 fn map_nodes<B: Blocks>(
     alloc: Global,
     blocks: &mut B,
@@ -84,7 +85,8 @@ pub(crate) fn plan_block_map<B: Blocks>(
     Ok(map)
 }
 
-/// Plans the block map, and the inode file's first block with the inode of it at the place that is reserved for it.
+/// Plans the block map, and the inode file's first block with the inode of it at the place that is
+/// reserved for it.
 pub(crate) fn plan_last<B: Blocks>(
     alloc: Global,
     draft: &mut Draft,

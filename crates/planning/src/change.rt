@@ -27,7 +27,8 @@ use std::alloc::Global;
 pub enum SnapshotChange<'a> {
     /// They stay.
     Unchanged,
-    /// The tree of the root is taken as a snapshot into a slot from 1 to 30, with an order number and a name of at most 63 bytes.
+    /// The tree of the root is taken as a snapshot into a slot from 1 to 30, with an order number
+    /// and a name of at most 63 bytes.
     Take {
         slot: u32,
         order: u64,
@@ -37,8 +38,8 @@ pub enum SnapshotChange<'a> {
     Delete {
         slot: u32,
     },
-    /// The tree of the snapshot in a slot from 1 to 30 becomes the active one, and the snapshot stays. This is the inode of its inode
-    /// file, over which memory stands.
+    /// The tree of the snapshot in a slot from 1 to 30 becomes the active one, and the snapshot
+    /// stays. This is the inode of its inode file, over which memory stands.
     Restore {
         slot: u32,
         inode_file: Inode,
@@ -91,8 +92,8 @@ fn with_pointer(root: &Root, slot: u32, pointer: Pointer) -> Root
     next
 }
 
-/// Takes a snapshot: its root block is planned, its plane of the map is the settled active tree, and its root block is the system's.
-/// The answer is the pointer to that.
+/// Takes a snapshot: its root block is planned, its plane of the map is the settled active tree,
+/// and its root block is the system's. The answer is the pointer to that.
 fn take(
     alloc: Global,
     draft: &mut Draft,
@@ -115,7 +116,8 @@ fn take(
     Ok(Pointer::Block(place))
 }
 
-/// Deletes the snapshot at a pointer: its plane of the map is empty, and its root block is the system's no more.
+/// Deletes the snapshot at a pointer: its plane of the map is empty, and its root block is the
+/// system's no more.
 fn delete(draft: &mut Draft, slot: u32, pointer: Pointer) -> Result<(), PlanError>
     requires slot { IsSlotNumber slot }
     requires below { PointsBelow draft.old.map.count pointer }
@@ -135,7 +137,8 @@ fn delete(draft: &mut Draft, slot: u32, pointer: Pointer) -> Result<(), PlanErro
     }
 }
 
-/// The inode of the inode file that a point starts from. `Damaged` where that of a snapshot isn't one of the root's sizes.
+/// The inode of the inode file that a point starts from. `Damaged` where that of a snapshot isn't
+/// one of the root's sizes.
 pub(crate) fn starting_file(root: &Root, change: &SnapshotChange<'_>) -> Result<Inode, PlanError>
     requires { IsRoot root.now }
     ensures is { IfOk result (λ f. f ≡ starting_file change.now root.now) }
@@ -156,8 +159,8 @@ pub(crate) fn starting_file(root: &Root, change: &SnapshotChange<'_>) -> Result<
     }
 }
 
-/// Does with the snapshots what is asked for, before anything else is planned: so the root block of a new one is written first. The
-/// answer is the root with the slots that the new root has.
+/// Does with the snapshots what is asked for, before anything else is planned: so the root block of
+/// a new one is written first. The answer is the root with the slots that the new root has.
 pub(crate) fn change_snapshots(
     alloc: Global,
     draft: &mut Draft,

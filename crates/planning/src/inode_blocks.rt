@@ -4,15 +4,14 @@ ghost use Rattle.std.specs.Prelude.{ℕ, ◌≡◌, ◌/◌, ◌%◌, ◌*◌, �
 ghost use Rattle.layout.specs.Inode.{inode_bytes};
 ghost use Rattle.layout.specs.declared.TheConstants.{BLOCK_BYTES, INODES_PER_BLOCK, INODE_BYTES};
 ghost use Rattle.buffers.specs.Reads.{ReadsBlocks};
-ghost use Rattle.blocktree.specs.Errors.{IsFault};
-ghost use Rattle.blocktree.specs.declared.error.ReadError.TheVariants as read;
+ghost use Rattle.buffers.specs.Errors.{IsFault};
+ghost use Rattle.buffers.specs.declared.error.BlockError.TheVariants as read;
 ghost use Rattle.blocktree.specs.Trees.{IsSoundAt};
 ghost use Rattle.inode.specs.Files.{file_block};
 ghost use Rattle.images.specs.InodeFiles.{spliced_at};
 ghost use Rattle.planning.specs.Inodes.{with_inode_at, ChangesFile};
 
-use blocktree::ReadError;
-use buffers::{Blocks, SharedBlock};
+use buffers::{BlockError, Blocks, SharedBlock};
 use inode::File;
 use layout::{INODE_BYTES, INODES_PER_BLOCK, Inode};
 use std::alloc::{AllocError, Global};
@@ -24,7 +23,7 @@ pub(crate) fn block_with<B: Blocks>(
     file: &File,
     number: u32,
     inode: &Inode,
-) -> Result<SharedBlock, ReadError>
+) -> Result<SharedBlock, BlockError>
     ensures reads { ReadsBlocks B.Blocks IsFault blocks.old blocks.new result }
     ensures put { (disk : ℕ → List ℕ) → B.Shows blocks.old disk → IfOk result (λ b. b
         ≡ spliced_at (INODE_BYTES * (number % INODES_PER_BLOCK)) (inode_bytes inode.now)
@@ -43,7 +42,8 @@ pub(crate) fn block_with<B: Blocks>(
     Ok(shared)
 }
 
-/// Puts an inode into the place of a number of the changed inode file, where that block of it is changed already, and tells whether it is.
+/// Puts an inode into the place of a number of the changed inode file, where that block of it is
+/// changed already, and tells whether it is.
 fn put_again(alloc: Global, file: &mut File, number: u32, inode: &Inode) -> Result<bool, AllocError>
     ensures file { ChangesFile (λ i. ⊥) file.old file.new }
     ensures put { IfOk result (λ is. IsTrue is → (disk : ℕ → List ℕ) (i : ℕ)
@@ -68,7 +68,7 @@ pub(crate) fn put_inode<B: Blocks>(
     file: &mut File,
     number: u32,
     inode: &Inode,
-) -> Result<(), ReadError>
+) -> Result<(), BlockError>
     ensures reads { ReadsBlocks B.Blocks IsFault blocks.old blocks.new result }
     ensures file { ChangesFile (λ i. i ≡ number / INODES_PER_BLOCK) file.old file.new }
     ensures put { (disk : ℕ → List ℕ) → B.Shows blocks.old disk → OnOk result ((i : ℕ)

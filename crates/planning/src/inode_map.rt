@@ -9,9 +9,9 @@ ghost use Rattle.layout.specs.declared.inode.Inode.{Inode};
 ghost use Rattle.layout.specs.declared.version.TheConstants.{VERSION};
 ghost use Rattle.buffers.specs.Positions.{IsPart};
 ghost use Rattle.buffers.specs.Reads.{ReadsBlocks};
-ghost use Rattle.blocktree.specs.Errors.{IsFault};
+ghost use Rattle.buffers.specs.Errors.{IsFault};
 ghost use Rattle.blocktree.specs.Trees.{IsChanged, IsSoundAt};
-ghost use Rattle.blocktree.specs.declared.error.ReadError.TheVariants as read;
+ghost use Rattle.buffers.specs.declared.error.BlockError.TheVariants as read;
 ghost use Rattle.conspoint.specs.Errors.{IsReadFault};
 ghost use Rattle.images.specs.Nodes.{held};
 ghost use Rattle.images.specs.Soundness.{HasNoHole};
@@ -25,8 +25,7 @@ ghost use Rattle.planning.specs.Promises.{PlansParts};
 
 use crate::inode_blocks::put_inode;
 use crate::number::mark_placed;
-use blocktree::ReadError;
-use buffers::{Block, Blocks, SharedBlock};
+use buffers::{Block, BlockError, Blocks, SharedBlock};
 use conspoint::{Draft, PlanError};
 use images::{disks_that_agree_hold_the_same, inodes_are_put_one_by_one};
 use inode::{File, Object, based_trees_are_sound};
@@ -41,7 +40,7 @@ fn has_bytes<B: Blocks>(
     blocks: &mut B,
     file: &File,
     bytes: &[u8],
-) -> Result<bool, ReadError>
+) -> Result<bool, BlockError>
     requires { length bytes.now ≤ greatest_size VERSION }
     ensures reads { ReadsBlocks B.Blocks IsFault blocks.old blocks.new result }
     ensures same { (disk : ℕ → List ℕ) → B.Shows blocks.old disk → IfOk result
@@ -85,7 +84,7 @@ fn put_part<B: Blocks>(
     file: &mut File,
     bytes: &[u8],
     i: u32,
-) -> Result<(), ReadError>
+) -> Result<(), BlockError>
     ensures reads { ReadsBlocks B.Blocks IsFault blocks.old blocks.new result }
     ensures file { KeepsFile file.old file.new }
     ensures only { (disk : ℕ → List ℕ) → B.Shows blocks.old disk → (j : ℕ)
@@ -116,7 +115,7 @@ fn put_parts<B: Blocks>(
     blocks: &mut B,
     file: &mut File,
     bytes: &[u8],
-) -> Result<(), ReadError>
+) -> Result<(), BlockError>
     requires { length bytes.now ≤ greatest_size VERSION }
     ensures reads { ReadsBlocks B.Blocks IsFault blocks.old blocks.new result }
     ensures file { KeepsFile file.old file.new }
@@ -139,7 +138,8 @@ fn put_parts<B: Blocks>(
     Ok(())
 }
 
-/// The settled inode of the inode map, as long as its bytes in memory. One of another kind is damaged.
+/// The settled inode of the inode map, as long as its bytes in memory. One of another kind is
+/// damaged.
 fn settled_map<B: Blocks>(blocks: &mut B, inodes: &InodeFile) -> Result<Inode, PlanError>
     requires { AreSizes inodes.now.geometry }
     ensures reads { ReadsBlocks B.Blocks IsReadFault blocks.old blocks.new result }

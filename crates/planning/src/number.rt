@@ -24,7 +24,8 @@ use inofile::InodeFile;
 use placement::PlacedFile;
 use std::alloc::Global;
 
-/// Takes the blocks that a file leaves out of the active tree's set, and puts those in that were taken for it.
+/// Takes the blocks that a file leaves out of the active tree's set, and puts those in that were
+/// taken for it.
 pub(crate) fn mark_placed(draft: &mut Draft, placed: &PlacedFile) -> Result<(), PlanError>
     requires taken { All (λ b. b < draft.old.map.count) placed.now.taken.items }
     requires freed { All (λ b. b < draft.old.map.count) placed.now.freed.items }
@@ -38,7 +39,8 @@ pub(crate) fn mark_placed(draft: &mut Draft, placed: &PlacedFile) -> Result<(), 
     Ok(())
 }
 
-/// Plans a number that is changed: its file gets places, the map their marks, and the inode file its inode.
+/// Plans a number that is changed: its file gets places, the map their marks, and the inode file
+/// its inode.
 #[tactic(auto, using(crate::proofs::PromiseLaws::file_none))]
 pub(crate) fn plan_number<B: Blocks>(
     alloc: Global,

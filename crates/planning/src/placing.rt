@@ -62,7 +62,8 @@ fn lies_over(object: &Object, settled: &Inode) -> bool
     object.file.tree().count() > 0 || level_of(settled.size) == 0
 }
 
-/// Places an object over its settled inode. One that is made anew leaves all blocks that the settled file has.
+/// Places an object over its settled inode. One that is made anew leaves all blocks that the
+/// settled file has.
 fn place_object<B: Blocks>(
     alloc: Global,
     draft: &mut Draft,

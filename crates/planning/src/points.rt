@@ -40,7 +40,8 @@ use inofile::{InodeFile, memory_holds_its_volume};
 use layout::{Generation, Inode, ROOT_BYTES, Root, VERSION};
 use std::alloc::Global;
 
-/// A consistency point that is planned: what is to be written, and the root that comes into force then.
+/// A consistency point that is planned: what is to be written, and the root that comes into force
+/// then.
 #[derive(Debug, Drop)]
 pub struct Point {
     pub plan: Plan,
@@ -76,8 +77,8 @@ fn plan_changes<B: Blocks>(
     Ok(())
 }
 
-/// Plans all that changed over the tree of an inode file, which is as long as the root's: the numbers, the inode map, the inode file,
-/// the block map. The answer is the inode file's new inode.
+/// Plans all that changed over the tree of an inode file, which is as long as the root's: the
+/// numbers, the inode map, the inode file, the block map. The answer is the inode file's new inode.
 fn plan_files<B: Blocks>(
     alloc: Global,
     draft: &mut Draft,
@@ -170,11 +171,12 @@ fn plan_root<B: Blocks>(
     Ok(next)
 }
 
-/// Plans a consistency point that settles all that memory has changed, and does with the snapshots what is asked for: every place
-/// and every byte of it, and its root, which is of the newest version. Nothing is written. Where it fails, the map has no change. A
-/// snapshot that is taken has the tree of the root that is there, so its blocks stay in use. To restore a snapshot, memory stands over
-/// its tree, and what the tree before it named alone is free then. For want of space it fails only where fewer blocks are left than
-/// memory may need of a point.
+/// Plans a consistency point that settles all that memory has changed, and does with the snapshots
+/// what is asked for: every place and every byte of it, and its root, which is of the newest
+/// version. Nothing is written. Where it fails, the map has no change. A snapshot that is taken has
+/// the tree of the root that is there, so its blocks stay in use. To restore a snapshot, memory
+/// stands over its tree, and what the tree before it named alone is free then. For want of space it
+/// fails only where fewer blocks are left than memory may need of a point.
 pub fn plan<B: Blocks>(
     alloc: Global,
     blocks: &mut B,

@@ -22,8 +22,8 @@ use layout::{BlockNumber, Inode};
 use placement::place_file_but_first;
 use std::alloc::Global;
 
-/// Plans the changed inode file but for the bytes of its first block, which has the block map's inode. The answer is its inode,
-/// and the block that is reserved for its first one.
+/// Plans the changed inode file but for the bytes of its first block, which has the block map's
+/// inode. The answer is its inode, and the block that is reserved for its first one.
 pub(crate) fn place_top<B: Blocks>(
     alloc: Global,
     draft: &mut Draft,

@@ -1,4 +1,5 @@
-//! Cuts amid points: stories of commands that write a consistency point in slices, cut within each write and behind that once more.
+//! Cuts amid points: stories of commands that write a consistency point in slices, cut within each
+//! write and behind that once more.
 #![tactic(auto)]
 
 use std::process::ExitCode;

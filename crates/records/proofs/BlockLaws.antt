@@ -10,26 +10,26 @@ use Rattle.layout.specs.declared.kind.Kind.{Kind}
 use Rattle.layout.specs.declared.kind.Kind.TheVariants as kinds
 use Rattle.model.specs.Edits.{resized, written}
 use Rattle.model.specs.Volumes.{Node, Volume, is_file_node}
-use Rattle.buffers.specs.Positions.{cut, with_bytes_at}
+use Rattle.buffers.specs.Positions.{truncate, with_bytes_at}
 use Rattle.blocktree.specs.Places.{block_count}
 use Rattle.blocktree.specs.Trees.{IsSoundAt}
-use Rattle.images.specs.Edges.{CutsBlock, EndsIn, IsPartlyWritten, IsWritten}
+use Rattle.images.specs.Edges.{TruncatesBlock, EndsIn, IsPartlyWritten, IsWritten}
 use Rattle.images.specs.Replaying.{ReadsIn, bytes_of_node}
 use Rattle.images.specs.Sizes.{CanReadBlock, IsReadBlock, IsSizedAs, TellsBlocks}
 use Rattle.images.specs.Soundness.{Detail, by_bytes, by_sizes}
 use Rattle.inode.specs.Edges.{filled, written_list}
 use Rattle.inode.specs.Files.{ChangesBlocks, block_with, file_block}
-use Rattle.inode.specs.declared.change.Change.{Change}
+use Rattle.inode.specs.declared.file_update.FileUpdate.{FileUpdate}
 use Rattle.inode.specs.declared.file.File.{File}
 use Rattle.inode.specs.declared.object.Object.{Object}
 use Rattle.inofile.specs.Objects.{IsObjectIn, IsObjectOrNone}
 use Rattle.inofile.specs.Settled.{content_of_object}
 use Rattle.records.specs.Contents.{IsSoundIn, IsWholeIn, rewriting}
 use Rattle.records.specs.declared.contents.Rewrite.{Rewrite}
-use Rattle.records.specs.declared.contents.Rewrite.TheVariants.{Cut, Write}
-use Rattle.inode.proofs.BytePositions.{cut_below, cut_past, written_above, written_below, written_in}
+use Rattle.records.specs.declared.contents.Rewrite.TheVariants.{Truncate, Write}
+use Rattle.inode.proofs.BytePositions.{truncated_below, truncated_past, written_above, written_below, written_in}
 use Rattle.layout.proofs.PartLaws.{length-first_bytes}
-use Rattle.inode.proofs.EdgeLaws.{list_of_cut, list_of_write}
+use Rattle.inode.proofs.EdgeLaws.{list_of_truncated, list_of_write}
 use Rattle.records.proofs.ContentLaws.{resized_is, written_is}
 use Rattle.records.proofs.KindLaws.{is_kind}
 
@@ -57,12 +57,12 @@ written_byte offset bytes file k =
     ap (λ (l : List ℕ). slice_index l k) (sym is)
     ∙ byte_of g size k (λ p le. written_above (slice_index file) offset bytes p (omega (arith, le)) ∙ past_end file p (omega (arith, le)))
 
-resized_byte : (size : ℕ) (file : List ℕ) (k : ℕ) → slice_index (resized size file) k ≡ cut (slice_index file) size k
+resized_byte : (size : ℕ) (file : List ℕ) (k : ℕ) → slice_index (resized size file) k ≡ truncate (slice_index file) size k
 resized_byte size file k =
-    let g : ℕ → ℕ = cut (slice_index file) size in
+    let g : ℕ → ℕ = truncate (slice_index file) size in
     let is : first_bytes g size ≡ resized size file =
-    list_of_cut (slice_index file) g (length file) size (past_end file) (λ p. refl) ∙ ap (filled size) (all_bytes file) ∙ resized_is size file in
-    ap (λ (l : List ℕ). slice_index l k) (sym is) ∙ byte_of g size k (cut_past (slice_index file) size)
+    list_of_truncated (slice_index file) g (length file) size (past_end file) (λ p. refl) ∙ ap (filled size) (all_bytes file) ∙ resized_is size file in
+    ap (λ (l : List ℕ). slice_index l k) (sym is) ∙ byte_of g size k (truncated_past (slice_index file) size)
 
 -- ---- blocks
 
@@ -85,7 +85,7 @@ ends_or_not old new i = elim (cases_eq i (new / 4096)) [
   ]
 ]
 
-module _ (disk : ℕ → List ℕ) (f : File) (w : Change) (old new : List ℕ) (long : length old ≡ f.size) (tells : TellsBlocks (file_block disk f) old) where
+module _ (disk : ℕ → List ℕ) (f : File) (w : FileUpdate) (old new : List ℕ) (long : length old ≡ f.size) (tells : TellsBlocks (file_block disk f) old) where
   abbrev Tells : ℕ → Type 0
   Tells i = IsReadBlock new i ↔ (length (block_with disk f w i) ≡ 4096)
 
@@ -106,7 +106,7 @@ module _ (disk : ℕ → List ℕ) (f : File) (w : Change) (old new : List ℕ) 
   past : (i : ℕ) → slice_index new (4096 * i) ≡ slice_index old (4096 * i) → f.size ≤ 4096 * i → length (block_with disk f w i) ≡ 4096 → Tells i
   past i byte beyond whole = both i (small i 0 (byte ∙ past_end old (4096 * i) (omega (arith, long, beyond))) (omega arith)) whole
 
-module _ (disk : ℕ → List ℕ) (f : File) (w : Change) (offset : ℕ) (bytes old : List ℕ) (are : IsBytes bytes) (long : length old ≡ f.size) (size : w.size ≡ max f.size (offset + length bytes)) (tells : TellsBlocks (file_block disk f) old) (changes : ChangesBlocks disk f w (IsPartlyWritten offset (length bytes)) (IsWritten offset (length bytes))) where
+module _ (disk : ℕ → List ℕ) (f : File) (w : FileUpdate) (offset : ℕ) (bytes old : List ℕ) (are : IsBytes bytes) (long : length old ≡ f.size) (size : w.size ≡ max f.size (offset + length bytes)) (tells : TellsBlocks (file_block disk f) old) (changes : ChangesBlocks disk f w (IsPartlyWritten offset (length bytes)) (IsWritten offset (length bytes))) where
   abbrev new : List ℕ
   new = written offset bytes old
 
@@ -140,16 +140,16 @@ module _ (disk : ℕ → List ℕ) (f : File) (w : Change) (offset : ℕ) (bytes
         ]
       ]
 
-pub cut_tells : (disk : ℕ → List ℕ) (f : File) (w : Change) (size : ℕ) (old : List ℕ) → length old ≡ f.size → w.size ≡ size → TellsBlocks (file_block disk f) old
+pub truncated_tells : (disk : ℕ → List ℕ) (f : File) (w : FileUpdate) (size : ℕ) (old : List ℕ) → length old ≡ f.size → w.size ≡ size → TellsBlocks (file_block disk f) old
     → ChangesBlocks disk f w (EndsIn f.size size) (EndsIn f.size size) → TellsBlocks (block_with disk f w) (resized size old)
-cut_tells disk f w size old long to tells changes i =
+truncated_tells disk f w size old long to tells changes i =
     let new : List ℕ = resized size old in
     let byte = resized_byte size old (4096 * i) in
     elim (cases_lt i (block_count size)) [
       | inr le ↦ both disk f w old new long tells i
-          (small disk f w old new long tells i 0 (byte ∙ cut_past (slice_index old) size (4096 * i) (omega (arith, le))) (omega arith)) (changes.past i (omega (arith, le, to)))
+          (small disk f w old new long tells i 0 (byte ∙ truncated_past (slice_index old) size (4096 * i) (omega (arith, le))) (omega arith)) (changes.past i (omega (arith, le, to)))
       | inl lt ↦
-          let same : slice_index new (4096 * i) ≡ slice_index old (4096 * i) = byte ∙ cut_below (slice_index old) size (4096 * i) (omega (arith, lt)) in
+          let same : slice_index new (4096 * i) ≡ slice_index old (4096 * i) = byte ∙ truncated_below (slice_index old) size (4096 * i) (omega (arith, lt)) in
           elim (ends_or_not f.size size i) [
             | inl ends ↦ both disk f w old new long tells i (small disk f w old new long tells i _ same ((tells i).1 (changes.read i ends))) (changes.put i ends)
             | inr not ↦ kept disk f w old new long tells i same (changes.rest i not (omega (arith, lt, to)))
@@ -172,11 +172,11 @@ module _ (disk : ℕ → List ℕ) (inodes : ℕ) (settled : Inode) (v : Volume)
       let kind = is_kind by_sizes o.status.kind inodes (content_of_object disk o) (v n) is.stands file in
       let held = subst Sized kind is.stands in
       λ i part. subst (λ (x : Option Node). IsReadBlock (bytes_of_node x) i) (sym held.3) ((held.2 i).1 (whole kind i part))
-  whole_reads by_sizes (Cut size) is file whole =
+  whole_reads by_sizes (Truncate size) is file whole =
       let kind = is_kind by_sizes o.status.kind inodes (content_of_object disk o) (v n) is.stands file in
       let held = subst Sized kind is.stands in
-      λ cuts. subst (λ (x : Option Node). IsReadBlock (bytes_of_node x) (size / 4096)) (sym held.3)
-      ((held.2 (size / 4096)).1 (whole kind (size / 4096) (subst (λ (k : ℕ). CutsBlock k size) (size_is held) cuts, refl)))
+      λ truncates_file. subst (λ (x : Option Node). IsReadBlock (bytes_of_node x) (size / 4096)) (sym held.3)
+      ((held.2 (size / 4096)).1 (whole kind (size / 4096) (subst (λ (k : ℕ). TruncatesBlock k size) (size_is held) truncates_file, refl)))
 
   -- and the other way round
   pub reads_sound : (detail : Detail) (rewrite : Rewrite) (count : ℕ) → IsObjectIn detail disk inodes settled o (v n) → ((i : ℕ) → CanReadBlock detail (file_block disk o.file) i → IsSoundAt count disk o.file.tree i)
@@ -185,9 +185,9 @@ module _ (disk : ℕ → List ℕ) (inodes : ℕ) (settled : Inode) (v : Volume)
   reads_sound by_sizes (Write offset bytes) count is sound reads kind i part =
       let held = subst Sized kind is.stands in
       sound i ((held.2 i).0 (subst (λ (x : Option Node). IsReadBlock (bytes_of_node x) i) held.3 (reads i part)))
-  reads_sound by_sizes (Cut size) count is sound reads kind i part =
+  reads_sound by_sizes (Truncate size) count is sound reads kind i part =
       let held = subst Sized kind is.stands in
-      let read = subst (λ (x : Option Node). IsReadBlock (bytes_of_node x) (size / 4096)) held.3 (reads (subst (λ (k : ℕ). CutsBlock k size) (sym (size_is held)) part.0)) in
+      let read = subst (λ (x : Option Node). IsReadBlock (bytes_of_node x) (size / 4096)) held.3 (reads (subst (λ (k : ℕ). TruncatesBlock k size) (sym (size_is held)) part.0)) in
       sound i ((held.2 i).0 (subst (IsReadBlock held.0) (sym part.1) read))
 
 pub parts_read : (detail : Detail) (disk : ℕ → List ℕ) (inodes : ℕ) (settled : Inode) (v : Volume) (n : ℕ) (x : Option Object) (rewrite : Rewrite) {T E : Type 0} (r : Result T E)

@@ -22,7 +22,7 @@ use Rattle.inode.specs.Changes.{changed_block}
 use Rattle.inode.specs.Edges.{filled, written_list}
 use Rattle.inode.specs.Files.{IsCommitted, IsFile, IsSameFile, block_with, byte_with, bytes_of_file, bytes_with, file_block}
 use Rattle.inode.specs.Room.{size_room, write_room}
-use Rattle.inode.specs.declared.change.Change.{Change}
+use Rattle.inode.specs.declared.file_update.FileUpdate.{FileUpdate}
 use Rattle.inode.specs.declared.file.File.{File}
 use Rattle.inode.specs.declared.object.Object.{Object}
 use Rattle.inofile.specs.Inodes.{IsKnown}
@@ -34,7 +34,7 @@ use Rattle.records.specs.Obstacles.{IsObstacle, tells_obstacle}
 use Rattle.records.specs.Prepared.{KnowsFile}
 use Rattle.records.specs.Room.{StoresIn}
 use Rattle.records.specs.declared.contents.Rewrite.{Rewrite}
-use Rattle.records.specs.declared.contents.Rewrite.TheVariants.{Write, Cut}
+use Rattle.records.specs.declared.contents.Rewrite.TheVariants.{Write, Truncate}
 use Rattle.records.proofs.KindLaws.{file_stands, is_kind}
 use Rattle.records.proofs.SizeLaws.{write_costs}
 
@@ -51,7 +51,7 @@ resized_is size file = refl
 -- ---- a change that is prepared
 
 -- it does to the same file what it does to the other
-pub rewrites_same : (disk : ℕ → List ℕ) (f : List ℕ → List ℕ) (old new : File) (change : Change) → IsSameFile old new
+pub rewrites_same : (disk : ℕ → List ℕ) (f : List ℕ → List ℕ) (old new : File) (change : FileUpdate) → IsSameFile old new
     → EndsAt change.size (byte_with disk old change) → bytes_with disk old change ≡ f (bytes_of_file disk old) → Rewrites disk f new change
 rewrites_same disk f old new change same ends bytes = record {
   ends = subst (λ (b : ℕ → List ℕ). EndsAt change.size (byte_in (changed_block b change.size change.first change.pieces.items))) was ends;
@@ -63,7 +63,7 @@ rewrites_same disk f old new change same ends bytes = record {
     was = sym (fun_ext {f = file_block disk new} {g = file_block disk old} (same.blocks disk))
 
 -- so it does with which of its blocks can be read
-pub resizes_same : (disk : ℕ → List ℕ) (f : List ℕ → List ℕ) (old new : File) (change : Change) → IsSameFile old new → Resizes disk f old change → Resizes disk f new change
+pub resizes_same : (disk : ℕ → List ℕ) (f : List ℕ → List ℕ) (old new : File) (change : FileUpdate) → IsSameFile old new → Resizes disk f old change → Resizes disk f new change
 resizes_same disk f old new change same sizes bytes long tells =
     let was : file_block disk old ≡ file_block disk new = sym (fun_ext {f = file_block disk new} {g = file_block disk old} (same.blocks disk)) in
     subst (λ (b : ℕ → List ℕ). (length (f bytes) ≡ change.size) × TellsBlocks (changed_block b change.size change.first change.pieces.items) (f bytes)) was
@@ -71,7 +71,7 @@ resizes_same disk f old new change same sizes bytes long tells =
 
 -- ---- and put in force
 
-module _ (disk : ℕ → List ℕ) (old new : File) (change : Change) (done : IsCommitted old change new) where
+module _ (disk : ℕ → List ℕ) (old new : File) (change : FileUpdate) (done : IsCommitted old change new) where
   blocks_are : file_block disk new ≡ block_with disk old change
   blocks_are = fun_ext {f = file_block disk new} {g = block_with disk old change} (done.blocks disk)
 
@@ -109,7 +109,7 @@ module _ (inodes size : ℕ) (block : ℕ → List ℕ) (f : List ℕ → List �
       subst (λ (x : Kind). IsSizedAs x inodes after (with_file_bytes f found)) (sym kind) (f held.0, now.0, now.1, ap (with_file_bytes f) held.3)
 
 -- a file in memory with other bytes
-module _ (disk : ℕ → List ℕ) (inodes : ℕ) (o : Object) (found : Option Node) (f : List ℕ → List ℕ) (change : Change) (new : File) (is : IsTrue (is_file_node found)) (done : IsCommitted o.file change new) where
+module _ (disk : ℕ → List ℕ) (inodes : ℕ) (o : Object) (found : Option Node) (f : List ℕ → List ℕ) (change : FileUpdate) (new : File) (is : IsTrue (is_file_node found)) (done : IsCommitted o.file change new) where
   abbrev rewritten : Object
   rewritten = record { status = o.status; file = new; known = o.known }
 
@@ -130,7 +130,7 @@ module _ (disk : ℕ → List ℕ) (inodes : ℕ) (o : Object) (found : Option N
 file_apart : {X : Type 0} (k : Kind) → k ≡ kinds.File → k ≡ kinds.Directory → X
 file_apart k file directory = cc
 
-pub bytes_put : (detail : Detail) (disk : ℕ → List ℕ) (inodes : ℕ) (settled : Inode) (o : Object) (found : Option Node) (f : List ℕ → List ℕ) (change : Change) (new : File)
+pub bytes_put : (detail : Detail) (disk : ℕ → List ℕ) (inodes : ℕ) (settled : Inode) (o : Object) (found : Option Node) (f : List ℕ → List ℕ) (change : FileUpdate) (new : File)
     → IsObjectIn detail disk inodes settled o found → IsTrue (is_file_node found) → RewritesFile detail disk f o.file change → IsCommitted o.file change new
     → IsObjectIn detail disk inodes settled (record { status = o.status; file = new; known = o.known }) (with_file_bytes f found)
 bytes_put detail disk inodes settled o found f change new was is rewrites done = record {
@@ -147,27 +147,27 @@ bytes_put detail disk inodes settled o found f change new was is rewrites done =
 
 pub file_changed : (inodes : ℕ) (v : Volume) (n : ℕ) (rewrite : Rewrite) → Applies inodes v (rewriting n rewrite) → IsTrue (is_file_node (v n))
 file_changed inodes v n (Write offset bytes) can = can.0
-file_changed inodes v n (Cut size) can = can.0
+file_changed inodes v n (Truncate size) can = can.0
 
 pub rewriting_applies : (inodes : ℕ) (v : Volume) (n : ℕ) (rewrite : Rewrite) → IsTrue (is_file_node (v n)) → KeepsRewriteBounds rewrite → Applies inodes v (rewriting n rewrite)
 rewriting_applies inodes v n (Write offset bytes) is keeps = (is, keeps.0, keeps.1, keeps.2)
-rewriting_applies inodes v n (Cut size) is keeps = (is, keeps)
+rewriting_applies inodes v n (Truncate size) is keeps = (is, keeps)
 
 pub rewriting_place : (v : Volume) (n : ℕ) (rewrite : Rewrite) → LeavesPlace v (rewriting n rewrite)
 rewriting_place v n (Write offset bytes) = tt
-rewriting_place v n (Cut size) = tt
+rewriting_place v n (Truncate size) = tt
 
 pub rewriting_applied : (n : ℕ) (rewrite : Rewrite) (v : Volume) → applied (rewriting n rewrite) v ≡ with_node n (with_file_bytes (bytes_after rewrite) (v n)) v
 rewriting_applied n (Write offset bytes) v = refl
-rewriting_applied n (Cut size) v = refl
+rewriting_applied n (Truncate size) v = refl
 
 pub rewriting_knows : (n : ℕ) (rewrite : Rewrite) (s : InodeFile) → IsKnown s n → KnowsFile s (rewriting n rewrite)
 rewriting_knows n (Write offset bytes) s known = known
-rewriting_knows n (Cut size) s known = known
+rewriting_knows n (Truncate size) s known = known
 
 pub bounds_kept : (inodes : ℕ) (v : Volume) (n : ℕ) (rewrite : Rewrite) → Applies inodes v (rewriting n rewrite) → KeepsRewriteBounds rewrite
 bounds_kept inodes v n (Write offset bytes) can = (can.1, can.2, can.3)
-bounds_kept inodes v n (Cut size) can = can.1
+bounds_kept inodes v n (Truncate size) can = can.1
 
 -- what is told of an answer twice is told of it at once
 pub told_both : {T E : Type 0} (r : Result T E) (P Q : T → Type 0) → IfOk r P → IfOk r Q → IfOk r (λ x. P x × Q x)
@@ -178,16 +178,16 @@ told_both (Err e) P Q one two = tt
 
 pub tells_rewriting : (n : ℕ) (rewrite : Rewrite) → IsTrue (tells_obstacle (rewriting n rewrite) EFBIG)
 tells_rewriting n (Write offset bytes) = refl
-tells_rewriting n (Cut size) = refl
+tells_rewriting n (Truncate size) = refl
 
 pub bars_rewriting : (inodes : ℕ) (v : Volume) (n : ℕ) (rewrite : Rewrite) → (Applies inodes v (rewriting n rewrite) → ⊥) → IsObstacle inodes v (rewriting n rewrite) EFBIG
 bars_rewriting inodes v n (Write offset bytes) never = never
-bars_rewriting inodes v n (Cut size) never = never
+bars_rewriting inodes v n (Truncate size) never = never
 
 -- ---- what it may store
 
 -- a change stores so many blocks more at the most, and two are left of what its record costs
-pub rewrite_within : (n : ℕ) (rewrite : Rewrite) (o : Option Object) (change : Change) (v : Volume) → IfSome o (λ x. x.file.size ≡ size_before v n) → RewriteRoom rewrite o change
+pub rewrite_within : (n : ℕ) (rewrite : Rewrite) (o : Option Object) (change : FileUpdate) (v : Volume) → IfSome o (λ x. x.file.size ≡ size_before v n) → RewriteRoom rewrite o change
     → (more : ℕ) × StoresIn o change more × (more + 2 ≤ cost (work_of v (rewriting n rewrite)))
 rewrite_within n (Write offset bytes) None change v same room = (0, tt, omega (arith, write_costs (size_before v n) offset (length bytes.now)))
 rewrite_within n (Write offset bytes) (Some o) change v same room = (
@@ -196,5 +196,5 @@ rewrite_within n (Write offset bytes) (Some o) change v same room = (
   subst (λ (size : ℕ). write_room size offset (length bytes.now) + 2 ≤ cost (work_of v (rewriting n (Write offset bytes)))) (sym same)
       (write_costs (size_before v n) offset (length bytes.now)),
 )
-rewrite_within n (Cut size) None change v same room = (0, tt, omega arith)
-rewrite_within n (Cut size) (Some o) change v same room = (size_room o.file.size size, room, omega arith)
+rewrite_within n (Truncate size) None change v same room = (0, tt, omega arith)
+rewrite_within n (Truncate size) (Some o) change v same room = (size_room o.file.size size, room, omega arith)

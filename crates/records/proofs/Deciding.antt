@@ -6,16 +6,16 @@ use Rattle.layout.specs.declared.inode.Inode.{Inode}
 use Rattle.model.specs.Records.{Applies, Change}
 use Rattle.model.specs.Volumes.{Volume}
 use Rattle.model.specs.declared.errno.Errno.{Errno}
-use Rattle.blocktree.specs.Errors.{IsFault}
-use Rattle.blocktree.specs.declared.error.ReadError.{ReadError}
-use Rattle.blocktree.specs.declared.error.ReadError.TheVariants.{Damaged}
+use Rattle.buffers.specs.Errors.{IsFault}
+use Rattle.buffers.specs.declared.error.BlockError.{BlockError}
+use Rattle.buffers.specs.declared.error.BlockError.TheVariants.{Damaged}
 use Rattle.buffers.specs.declared.blocks.Blocks.{Ghosts}
 use Rattle.images.specs.Replaying.{LeavesPlace, ReadsIn, ReadsParts}
 use Rattle.images.specs.Soundness.{Detail, by_bytes, by_sizes}
 use Rattle.inofile.specs.declared.inode_file.InodeFile.{InodeFile}
 use Rattle.paths.specs.Standing.{Looks}
 use Rattle.paths.proofs.Looks.{looks_err, looks_more, looks_ok}
-use Rattle.records.specs.Failures.{told}
+use Rattle.records.specs.Failures.{read_outcome}
 use Rattle.records.specs.Looking.{Finding, Finds}
 use Rattle.records.specs.Obstacles.{IsObstacle, tells_obstacle}
 use Rattle.records.specs.Prepared.{DoesIn, IsReady}
@@ -34,11 +34,11 @@ reads_in by_sizes v change reads = reads
 
 module _ {B : Type 0} {Over Sure : Premise} {G : Ghosts B} {a b : B} {s t : InodeFile} {change : Change} where
   -- a step before has told what it failed by
-  pub passes : {T : Type 0} (f : Failure) (q : Result Prepared Failure) → IsErrAnd q (λ g. g ≡ f) → Looks G IsFault a b s t (told {T = T} (Err f))
-      → IfOk (told {T = T} (Err f)) (λ r. IfErr r (λ errno. IsTrue (tells_obstacle change errno)))
+  pub passes : {T : Type 0} (f : Failure) (q : Result Prepared Failure) → IsErrAnd q (λ g. g ≡ f) → Looks G IsFault a b s t (read_outcome {T = T} (Err f))
+      → IfOk (read_outcome {T = T} (Err f)) (λ r. IfErr r (λ errno. IsTrue (tells_obstacle change errno)))
       → ((detail : Detail) (disk : ℕ → List ℕ) (settled : ℕ → Inode) (v : Volume) → Sure detail disk settled v → IsVolumeFor detail s.geometry.inodes change v
-      → IfOk (told {T = T} (Err f)) (λ r. IfErr r (IsObstacle s.geometry.inodes v change)))
-      → ((detail : Detail) → OnVolumesIn detail G a s (λ disk settled v. ReadsIn detail v change → IsErrOf (told {T = T} (Err f)) Damaged → ⊥)) → DecidesOn Over Sure G a b s t change q
+      → IfOk (read_outcome {T = T} (Err f)) (λ r. IfErr r (IsObstacle s.geometry.inodes v change)))
+      → ((detail : Detail) → OnVolumesIn detail G a s (λ disk settled v. ReadsIn detail v change → IsErrOf (read_outcome {T = T} (Err f)) Damaged → ⊥)) → DecidesOn Over Sure G a b s t change q
   passes f (Ok p) is looks own first sound = absurd is
   passes f (Err g) is looks own first sound = record {
     looks = looks_failed f (Err g) is looks;
@@ -53,17 +53,17 @@ module _ {B : Type 0} {Over Sure : Premise} {G : Ghosts B} {a b : B} {s t : Inod
   }
 
   -- a block wasn't read
-  pub stops : {T : Type 0} {e : ReadError} (q : Result Prepared Failure) → IsErrAnd q (λ f. f ≡ Read e) → Looks {T = T} G IsFault a b s t (Err e)
-      → ((detail : Detail) → OnVolumesIn detail G a s (λ disk settled v. ReadsIn detail v change → IsErrOf {T = T} {E = ReadError} (Err e) Damaged → ⊥)) → DecidesOn Over Sure G a b s t change q
+  pub stops : {T : Type 0} {e : BlockError} (q : Result Prepared Failure) → IsErrAnd q (λ f. f ≡ Read e) → Looks {T = T} G IsFault a b s t (Err e)
+      → ((detail : Detail) → OnVolumesIn detail G a s (λ disk settled v. ReadsIn detail v change → IsErrOf {T = T} {E = BlockError} (Err e) Damaged → ⊥)) → DecidesOn Over Sure G a b s t change q
   stops {T = T} {e = e} q is looks sound =
       passes {T = T} (Read e) q is (looks_err (Err e) refl looks) tt (λ detail disk settled v sure volume. tt) (λ detail disk settled v stands reads bad. sound detail disk settled v stands reads (cc))
 
   -- the same of something that was looked for
-  pub unread : {T : Type 0} {P : Finding T} {e : ReadError} (q : Result Prepared Failure) → IsErrAnd q (λ f. f ≡ Read e) → Finds G a b s t P (Err e) → DecidesOn Over Sure G a b s t change q
+  pub unread : {T : Type 0} {P : Finding T} {e : BlockError} (q : Result Prepared Failure) → IsErrAnd q (λ f. f ≡ Read e) → Finds G a b s t P (Err e) → DecidesOn Over Sure G a b s t change q
   unread q is finds = stops q is finds.looks (λ detail disk settled v stands reads. finds.damaged {detail = detail} disk settled v stands)
 
   -- this is the first obstacle
-  pub obstructs : {T : Type 0} {x : T} {errno : Errno} → Looks {T = T} {E = ReadError} G IsFault a b s t (Ok x) → IsTrue (tells_obstacle change errno)
+  pub obstructs : {T : Type 0} {x : T} {errno : Errno} → Looks {T = T} {E = BlockError} G IsFault a b s t (Ok x) → IsTrue (tells_obstacle change errno)
       → ((detail : Detail) (disk : ℕ → List ℕ) (settled : ℕ → Inode) (v : Volume) → Sure detail disk settled v → IsVolumeFor detail s.geometry.inodes change v → IsObstacle s.geometry.inodes v change errno)
       → DecidesOn Over Sure G a b s t change (Err (Refused errno))
   obstructs looks own first = record {
@@ -79,7 +79,7 @@ module _ {B : Type 0} {Over Sure : Premise} {G : Ghosts B} {a b : B} {s t : Inod
   }
 
   -- it is prepared
-  pub decides : {T : Type 0} {x : T} {p : Prepared} → Looks {T = T} {E = ReadError} G IsFault a b s t (Ok x) → IsReady t p
+  pub decides : {T : Type 0} {x : T} {p : Prepared} → Looks {T = T} {E = BlockError} G IsFault a b s t (Ok x) → IsReady t p
       → ((detail : Detail) (disk : ℕ → List ℕ) (settled : ℕ → Inode) (v : Volume) → Over detail disk settled v → DoesIn detail disk settled t v p change)
       → ((detail : Detail) (disk : ℕ → List ℕ) (settled : ℕ → Inode) (v : Volume) → Sure detail disk settled v → Applies s.geometry.inodes v change)
       → ((detail : Detail) (disk : ℕ → List ℕ) (settled : ℕ → Inode) (v : Volume) → Sure detail disk settled v → LeavesPlace v change)
@@ -99,7 +99,7 @@ module _ {B : Type 0} {Over Sure : Premise} {G : Ghosts B} {a b : B} {s t : Inod
 
 -- another function goes on behind a look
 pub follows : {B T : Type 0} {Over Sure Then Surely : Premise} {G : Ghosts B} {a b c : B} {s t u : InodeFile} {change : Change} {x : T} {r : Result Prepared Failure}
-    → Looks {T = T} {E = ReadError} G IsFault a b s t (Ok x) → DecidesOn Then Surely G b c t u change r
+    → Looks {T = T} {E = BlockError} G IsFault a b s t (Ok x) → DecidesOn Then Surely G b c t u change r
     → ((detail : Detail) (disk : ℕ → List ℕ) (settled : ℕ → Inode) (v : Volume) → Over detail disk settled v → Then detail disk settled v)
     → ((detail : Detail) (disk : ℕ → List ℕ) (settled : ℕ → Inode) (v : Volume) → Sure detail disk settled v → Surely detail disk settled v) → DecidesOn Over Sure G a c s u change r
 follows {s = s} {change = change} {r = r} looks last then surely = record {
@@ -110,7 +110,7 @@ follows {s = s} {change = change} {r = r} looks last then surely = record {
   applies = λ {detail} disk settled v sure. subst (λ (z : Sizes). IfOk r (λ _. Applies z.inodes v change)) looks.geometry (last.applies {detail = detail} disk settled v (surely detail disk settled v sure));
   place = λ {detail} disk settled v sure. last.place {detail = detail} disk settled v (surely detail disk settled v sure);
   refused = λ {detail} disk settled v sure volume.
-      subst (λ (z : Sizes). IfOk (told r) (λ q. IfErr q (IsObstacle z.inodes v change))) looks.geometry
+      subst (λ (z : Sizes). IfOk (read_outcome r) (λ q. IfErr q (IsObstacle z.inodes v change))) looks.geometry
       (last.refused {detail = detail} disk settled v (surely detail disk settled v sure) (subst (λ (z : Sizes). IsVolumeFor detail z.inodes change v) (sym looks.geometry) volume));
   reads = λ {detail} disk settled v sure. last.reads {detail = detail} disk settled v (surely detail disk settled v sure);
   damaged = λ {detail} disk settled v stands reads is. last.damaged {detail = detail} disk settled v (looks.kept disk settled v stands) reads is;

@@ -135,13 +135,13 @@ pub is_directory_object : (detail : Detail) (disk : ℕ → List ℕ) (inodes : 
 is_directory_object detail disk inodes settled (Some o) found stands is = directory_kind o.status.kind inodes (content_of_object disk o) found (by_size detail o.status.kind inodes (content_of_object disk o) found stands.stands) is
 is_directory_object detail disk inodes settled None found stands is = absurd (none_directory found stands is)
 
-nameless_file : (attributes : Attributes) (links : ℕ) (bytes : List ℕ) → (links == 0) ≡ is_vacant (Some (file_node attributes links bytes))
-nameless_file attributes zero bytes = refl
-nameless_file attributes (suc links) bytes = grind (arith, nat_tests)
+orphan_file : (attributes : Attributes) (links : ℕ) (bytes : List ℕ) → (links == 0) ≡ is_vacant (Some (file_node attributes links bytes))
+orphan_file attributes zero bytes = refl
+orphan_file attributes (suc links) bytes = grind (arith, nat_tests)
 
 -- a file without links is vacant, and nothing else that stands there is
 pub file_vacancy : (inodes : ℕ) (c : Content) (o : Option Node) → HasSizeOf kinds.File inodes c o → (c.links == 0) ≡ is_vacant o
-file_vacancy inodes c o stands = nameless_file c.attributes c.links _ ∙ ap is_vacant (sym stands.2)
+file_vacancy inodes c o stands = orphan_file c.attributes c.links _ ∙ ap is_vacant (sym stands.2)
 
 pub other_vacancy : (k : Kind) (inodes : ℕ) (c : Content) (o : Option Node) → (k ≡ kinds.File → ⊥) → IsObjectKind k → HasSizeOf k inodes c o → false ≡ is_vacant o
 other_vacancy kinds.Free inodes c o other kind stands = absurd kind

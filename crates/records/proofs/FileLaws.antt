@@ -31,7 +31,7 @@ use Rattle.records.specs.Moving.{IsSomeAlone}
 use Rattle.records.specs.Prepared.{AreBeside, DoesIn, IsApartFrom, IsReady, KnowsFile}
 use Rattle.records.specs.Room.{SomeRoom, StepRoom, UpdateRoom}
 use Rattle.records.specs.Steps.{FitsUpdate, IsAlone, IsApart, IsAtHand, IsBeside, IsFileWithLinks, IsSomeApart, IsSomeAtHand, Steps, StepsSome, TakesSome, TakesUpdate, Updates, with_node_links}
-use Rattle.records.specs.declared.steps.Step.{Step}
+use Rattle.records.specs.declared.steps.ObjectUpdate.{ObjectUpdate}
 use Rattle.records.specs.declared.steps.Update.{Update}
 use Rattle.records.specs.declared.steps.Update.TheVariants as updates
 use Rattle.records.proofs.EnterLaws.{names_set, put_volume}
@@ -95,23 +95,23 @@ empty_apart v n d x empty is same = none_some (sym (subst (λ k. IsEmpty v k) sa
 
 -- ---- steps
 
-beside_none : (step : Option Step) → AreBeside step None
+beside_none : (step : Option ObjectUpdate) → AreBeside step None
 beside_none None = tt
 beside_none (Some step) = tt
 
 -- no step depends on anything
-pub apart_none : (step : Option Step) → IsApartFrom step None
+pub apart_none : (step : Option ObjectUpdate) → IsApartFrom step None
 apart_none None = tt
 apart_none (Some step) = tt
 
 -- memory has room for a step, and for another one, if there is one
-pub ready_two : {s : InodeFile} {first : Step} {next : Option Step} → TakesUpdate s first.number first.update → TakesSome s next → IsSomeApart first.number next
+pub ready_two : {s : InodeFile} {first : ObjectUpdate} {next : Option ObjectUpdate} → TakesUpdate s first.number first.update → TakesSome s next → IsSomeApart first.number next
     → IsReady s (record { first = first; next = next; last = None })
 ready_two {next = next} takes more apart = record { first = takes; next = more; last = tt; next_apart = apart; last_apart = tt; apart = apart_none next }
 
 module _ {detail : Detail} {disk : ℕ → List ℕ} {settled : ℕ → Inode} {s : InodeFile} {v : Volume} {change : Change} where
   -- a step, and another one, if there is one, do what a record says
-  pub does_two : (first : Step) (next : Option Step) (between : Volume) (k l : ℕ) → Steps detail disk settled s v first between → StepsSome detail disk settled s between next (applied change v)
+  pub does_two : (first : ObjectUpdate) (next : Option ObjectUpdate) (between : Volume) (k l : ℕ) → Steps detail disk settled s v first between → StepsSome detail disk settled s between next (applied change v)
       → IsBeside first.number next → StepRoom s first k → SomeRoom s next l → k + l ≤ cost (work_of v change) → KnowsFile s change
       → DoesIn detail disk settled s v (record { first = first; next = next; last = None }) change
   does_two first next between k l steps more apart room rest within knows = record {
@@ -159,7 +159,7 @@ alone_fits o (updates.Links links) alone = tt
 pub alone_takes : (s : InodeFile) (number : ℕ) (u : Update) → IsAlone u → IsAtHand s number → TakesUpdate s number u
 alone_takes s number u alone is = record { at_hand = is; fits = alone_fits (loaded s number) u alone }
 
-pub alone_some : (s : InodeFile) (step : Option Step) → IsSomeAlone step → IsSomeAtHand s step → TakesSome s step
+pub alone_some : (s : InodeFile) (step : Option ObjectUpdate) → IsSomeAlone step → IsSomeAtHand s step → TakesSome s step
 alone_some s None alone is = tt
 alone_some s (Some step) alone is = alone_takes s step.number step.update alone is
 
@@ -170,7 +170,7 @@ alone_apart n number (updates.SetMode mode) alone = tt
 alone_apart n number (updates.Bytes change) alone = absurd alone
 alone_apart n number (updates.Links links) alone = tt
 
-pub alone_some_apart : (n : ℕ) (step : Option Step) → IsSomeAlone step → IsSomeApart n step
+pub alone_some_apart : (n : ℕ) (step : Option ObjectUpdate) → IsSomeAlone step → IsSomeApart n step
 alone_some_apart n None alone = tt
 alone_some_apart n (Some step) alone = alone_apart n step.number step.update alone
 

@@ -23,7 +23,7 @@ use Rattle.records.specs.Prepared.{Does}
 use Rattle.records.specs.Steps.{IsBeside}
 use Rattle.records.specs.Sweeping.{OpensFiles, with_object_of, without_file}
 use Rattle.records.specs.declared.prepared.Prepared.{Prepared}
-use Rattle.records.specs.declared.steps.Step.{Step}
+use Rattle.records.specs.declared.steps.ObjectUpdate.{ObjectUpdate}
 use Rattle.records.proofs.KindLaws.{file_stands, is_kind}
 use Rattle.images.specs.Soundness.{by_bytes}
 use Rattle.records.proofs.SweepLaws.{number_of, rest_stays}
@@ -149,7 +149,7 @@ module _ (disk : ℕ → List ℕ) (settled : ℕ → Inode) (s : InodeFile) (v 
   still_files x n opens = λ d f e. subst (λ (o : Option Node). IsTrue (is_file_node o)) (sym (open_stays x n f.number (open_number d f e))) (opens d f e)
 
   -- an object is the changed one where it was taken from there, and else as it was
-  taken_or_beside : (x y : Volume) (step : Option Step) (k : ℕ) → x k ≡ w k → (with_object_of x (number_of step) y k ≡ w k) ⊎ ((with_object_of x (number_of step) y k ≡ y k) × IsBeside k step)
+  taken_or_beside : (x y : Volume) (step : Option ObjectUpdate) (k : ℕ) → x k ≡ w k → (with_object_of x (number_of step) y k ≡ w k) ⊎ ((with_object_of x (number_of step) y k ≡ y k) × IsBeside k step)
   taken_or_beside x y None k is = inr (refl, tt)
   taken_or_beside x y (Some step) k is = elim (cases_eq k step.number) [
     | inl here ↦ inl (node_here step.number k (x step.number) y here ∙ ap x (sym here) ∙ is)

@@ -23,7 +23,7 @@ use Rattle.records.specs.Moving.{Moves, Replaces, edit_for}
 use Rattle.records.specs.Room.{SomeRoom}
 use Rattle.records.specs.Steps.{IsBeside, StepsSome, Updates}
 use Rattle.records.specs.declared.naming.NameEdit.TheVariants as edits
-use Rattle.records.specs.declared.steps.Step.{Step}
+use Rattle.records.specs.declared.steps.ObjectUpdate.{ObjectUpdate}
 use Rattle.records.proofs.EnterLaws.{accepts_entry, directory_is, names_set}
 use Rattle.records.proofs.FileLaws.{same_some}
 use Rattle.records.proofs.PlaceLaws.{place_across, place_inside}
@@ -125,18 +125,18 @@ moved_across d k x y to target v other aside aside_old =
 
 module _ (detail : Detail) (disk : ℕ → List ℕ) (settled : ℕ → Inode) (v : Volume) (n : ℕ) where
   -- it isn't the directory of a name
-  pub replaced_aside : (target : Option ℕ) (step : Option Step) → Replaces detail disk settled v n target step → (d : ℕ) (x : Name) (j : ℕ) → entries v d x ≡ Some j → IsAside d target
+  pub replaced_aside : (target : Option ℕ) (step : Option ObjectUpdate) → Replaces detail disk settled v n target step → (d : ℕ) (x : Name) (j : ℕ) → entries v d x ≡ Some j → IsAside d target
   replaced_aside None step replaces d x j at = tt
   replaced_aside (Some m) None replaces d x j at = absurd replaces
   replaced_aside (Some m) (Some step) (number, may, takes) d x j at = λ same. none_some (sym (subst (λ (k : ℕ). IsEmpty v k) same may.2 x) ∙ at)
 
-  pub replaced_beside : (target : Option ℕ) (step : Option Step) → Replaces detail disk settled v n target step → (a : ℕ) → IsAside a target → IsBeside a step
+  pub replaced_beside : (target : Option ℕ) (step : Option ObjectUpdate) → Replaces detail disk settled v n target step → (a : ℕ) → IsAside a target → IsBeside a step
   replaced_beside None None replaces a aside = tt
   replaced_beside None (Some step) replaces a aside = absurd replaces
   replaced_beside (Some m) None replaces a aside = absurd replaces
   replaced_beside (Some m) (Some step) (number, may, takes) a aside = λ same. aside (sym number ∙ same)
 
-  pub replaced_steps : (s : InodeFile) (w : Volume) (target : Option ℕ) (step : Option Step) → Replaces detail disk settled v n target step
+  pub replaced_steps : (s : InodeFile) (w : Volume) (target : Option ℕ) (step : Option ObjectUpdate) → Replaces detail disk settled v n target step
       → ((m : ℕ) → target ≡ Some m → w m ≡ v m) → StepsSome detail disk settled s w step (released target w)
   replaced_steps s w None None replaces same = refl
   replaced_steps s w None (Some step) replaces same = absurd replaces
@@ -150,7 +150,7 @@ module _ (detail : Detail) (disk : ℕ → List ℕ) (settled : ℕ → Inode) (
         ap (λ (k : ℕ). with_node k to w) (sym number),
       )
 
-  pub replaced_room : (s : InodeFile) (target : Option ℕ) (step : Option Step) → Replaces detail disk settled v n target step → SomeRoom s step 6
+  pub replaced_room : (s : InodeFile) (target : Option ℕ) (step : Option ObjectUpdate) → Replaces detail disk settled v n target step → SomeRoom s step 6
   replaced_room s target None replaces = tt
   replaced_room s None (Some step) replaces = absurd replaces
   replaced_room s (Some m) (Some step) (number, may, takes) = (takes s.geometry.inodes (loaded s step.number)).1
@@ -158,11 +158,11 @@ module _ (detail : Detail) (disk : ℕ → List ℕ) (settled : ℕ → Inode) (
 -- ---- what a move does
 
 -- a name from another directory changes two blocks at the most
-pub few_pieces : (entry : Entry) (step : Option Step) → pieces_of (edit_for entry step) ≤ 2
+pub few_pieces : (entry : Entry) (step : Option ObjectUpdate) → pieces_of (edit_for entry step) ≤ 2
 few_pieces entry None = omega arith
 few_pieces entry (Some step) = omega arith
 
-module _ (detail : Detail) (disk : ℕ → List ℕ) (settled : ℕ → Inode) (v : Volume) (d : ℕ) (x : Name) (n k : ℕ) (y : Name) (step : Option Step) (moves : Moves detail disk settled v d x n k y step) where
+module _ (detail : Detail) (disk : ℕ → List ℕ) (settled : ℕ → Inode) (v : Volume) (d : ℕ) (x : Name) (n k : ℕ) (y : Name) (step : Option ObjectUpdate) (moves : Moves detail disk settled v d x n k y step) where
   abbrev target : Option ℕ
   target = entries v k y
 
@@ -204,7 +204,7 @@ module _ (detail : Detail) (disk : ℕ → List ℕ) (settled : ℕ → Inode) (
     replaces = by target step refl moves.replaces;
   }
     where
-      by : (o : Option ℕ) (s : Option Step) → step ≡ s → Replaces detail disk settled v n o s → CanReplace v d k y n o
+      by : (o : Option ℕ) (s : Option ObjectUpdate) → step ≡ s → Replaces detail disk settled v n o s → CanReplace v d k y n o
       by None None is replaces = takes is
       by None (Some s) is replaces = absurd replaces
       by (Some m) None is replaces = absurd replaces
@@ -214,7 +214,7 @@ module _ (detail : Detail) (disk : ℕ → List ℕ) (settled : ℕ → Inode) (
   names_differ : d ≡ k → x ≢ y
   names_differ same equal = by target step (ap (λ (j : ℕ). entries v j y) (sym same) ∙ ap (entries v d) (sym equal) ∙ moves.there) moves.replaces
     where
-      by : (o : Option ℕ) (s : Option Step) → o ≡ Some n → Replaces detail disk settled v n o s → ⊥
+      by : (o : Option ℕ) (s : Option ObjectUpdate) → o ≡ Some n → Replaces detail disk settled v n o s → ⊥
       by None s is replaces = none_some is
       by (Some m) None is replaces = replaces
       by (Some m) (Some s) is replaces = replaces.1.0 (same_some is)
@@ -238,7 +238,7 @@ module _ (detail : Detail) (disk : ℕ → List ℕ) (settled : ℕ → Inode) (
   pub accepts_other : (inodes : ℕ) (entry : Entry) → entry.name.now ≡ y → IsVolumeFor detail inodes (rename d x k y) v → d ≢ k → CanRename v d x k y → Accepts (edit_for entry step) (v k)
   accepts_other inodes entry is_new volume other can = by target step refl moves.replaces can.replaces
     where
-      by : (o : Option ℕ) (s : Option Step) → target ≡ o → Replaces detail disk settled v n o s → CanReplace v d k y can.number o → Accepts (edit_for entry s) (v k)
+      by : (o : Option ℕ) (s : Option ObjectUpdate) → target ≡ o → Replaces detail disk settled v n o s → CanReplace v d k y can.number o → Accepts (edit_for entry s) (v k)
       by None None none replaces (inl same) = absurd (other same)
       by None None none replaces (inr takes) = accepts_entry v k entry (subst (λ (b : Name). TakesNewName v k b) (sym is_new) takes)
       by None (Some s) none replaces may = absurd replaces
@@ -287,7 +287,7 @@ other_alone false false is one = absurd (false≢true is)
 
 -- ---- edits
 
-pub names_for : (entry : Entry) (step : Option Step) → names_after (edit_for entry step) ≡ with_name entry.name.now (Some entry.number)
+pub names_for : (entry : Entry) (step : Option ObjectUpdate) → names_after (edit_for entry step) ≡ with_name entry.name.now (Some entry.number)
 names_for entry None = refl
 names_for entry (Some step) = refl
 

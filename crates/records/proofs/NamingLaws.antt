@@ -15,10 +15,10 @@ use Rattle.dirs.specs.Room.{piece_count}
 use Rattle.dirs.specs.declared.edit.Edit.{Edit}
 use Rattle.buffers.specs.Reads.{ReadsBlocks}
 use Rattle.buffers.specs.declared.blocks.Blocks.{Ghosts}
-use Rattle.blocktree.specs.Errors.{IsFault}
+use Rattle.buffers.specs.Errors.{IsFault}
 use Rattle.blocktree.specs.Trees.{IsSoundAt}
-use Rattle.blocktree.specs.declared.error.ReadError.{ReadError}
-use Rattle.blocktree.specs.declared.error.ReadError.TheVariants.{Damaged}
+use Rattle.buffers.specs.declared.error.BlockError.{BlockError}
+use Rattle.buffers.specs.declared.error.BlockError.TheVariants.{Damaged}
 use Rattle.inode.specs.Files.{IsSameFile, file_block}
 use Rattle.inode.specs.declared.file.File.{File}
 use Rattle.inode.specs.declared.object.Object.{Object}
@@ -71,15 +71,15 @@ names_gone x y names = fun_ext {f = with_name y None (with_name x None names)} {
 -- ---- edits, step by step
 
 -- more blocks may be changed
-few_more : {low most : ℕ} → low ≤ most → (r : Result (Option Edit) ReadError) → IfOk r (λ e. IfSome e (λ x. piece_count x ≤ low)) → IfOk r (λ e. IfSome e (λ x. piece_count x ≤ most))
+few_more : {low most : ℕ} → low ≤ most → (r : Result (Option Edit) BlockError) → IfOk r (λ e. IfSome e (λ x. piece_count x ≤ low)) → IfOk r (λ e. IfSome e (λ x. piece_count x ≤ most))
 few_more few (Ok (Some edit)) is = omega (arith, few, is)
 few_more few (Ok None) is = tt
 few_more few (Err e) is = tt
 
 module _ {B : Type 0} {Had : (ℕ → List ℕ) → NameMap → Type 0} {G : Ghosts B} {a b : B} {inodes : ℕ} {file new : File} {known : Known} {wanted : NameEdit} {most : ℕ} where
   -- a step before has failed
-  pub edit_stops : {T : Type 0} {e : ReadError} (q : Result (Option Edit) ReadError) → IsErrAnd q (λ f. f ≡ e) → ReadsBlocks {T = T} G IsFault a b (Err e) → IsSameFile file new
-      → ((disk : ℕ → List ℕ) (names : NameMap) → G.Shows a disk → IsErrOf {T = T} {E = ReadError} (Err e) Damaged → Had disk names → ((i : ℕ) → IsSoundAt (G.count a) disk file.tree i) → ⊥)
+  pub edit_stops : {T : Type 0} {e : BlockError} (q : Result (Option Edit) BlockError) → IsErrAnd q (λ f. f ≡ e) → ReadsBlocks {T = T} G IsFault a b (Err e) → IsSameFile file new
+      → ((disk : ℕ → List ℕ) (names : NameMap) → G.Shows a disk → IsErrOf {T = T} {E = BlockError} (Err e) Damaged → Had disk names → ((i : ℕ) → IsSoundAt (G.count a) disk file.tree i) → ⊥)
       → EditsFile Had most G a b inodes file new known wanted q
   edit_stops (Ok edit) is reads same sound = absurd is
   edit_stops {e = e} (Err f) is reads same sound = record {
@@ -91,9 +91,9 @@ module _ {B : Type 0} {Had : (ℕ → List ℕ) → NameMap → Type 0} {G : Gho
     damaged = λ disk names shows bad had grammar. sound disk names shows (same_error (Err f) e Damaged is bad) had grammar;
   }
 
-module _ {B T : Type 0} {Had Then : (ℕ → List ℕ) → NameMap → Type 0} {G : Ghosts B} {a b c : B} {inodes : ℕ} {file mid new : File} {known : Known} {wanted more : NameEdit} {x : T} {r : Result (Option Edit) ReadError} {low most : ℕ} where
+module _ {B T : Type 0} {Had Then : (ℕ → List ℕ) → NameMap → Type 0} {G : Ghosts B} {a b c : B} {inodes : ℕ} {file mid new : File} {known : Known} {wanted more : NameEdit} {x : T} {r : Result (Option Edit) BlockError} {low most : ℕ} where
   -- another function goes on, with other names, behind blocks that were read
-  pub edit_follows : ReadsBlocks {E = ReadError} G IsFault a b (Ok x) → IsSameFile file mid → EditsFile Then low G b c inodes mid new known more r → low ≤ most → (f : NameMap → NameMap)
+  pub edit_follows : ReadsBlocks {E = BlockError} G IsFault a b (Ok x) → IsSameFile file mid → EditsFile Then low G b c inodes mid new known more r → low ≤ most → (f : NameMap → NameMap)
       → ((disk : ℕ → List ℕ) (names : NameMap) → G.Shows a disk → Had disk names → Then disk (f names))
       → ((disk : ℕ → List ℕ) (names : NameMap) → G.Shows a disk → Had disk names → (o : Option Edit) → EditsNames inodes disk new known more (f names) o → EditsNames inodes disk new known wanted names o)
       → EditsFile Had most G a c inodes file new known wanted r
@@ -111,7 +111,7 @@ module _ {B T : Type 0} {Had Then : (ℕ → List ℕ) → NameMap → Type 0} {
   }
 
 -- the same edit of names that are had in another way
-pub edit_had : {B : Type 0} {Had Then : (ℕ → List ℕ) → NameMap → Type 0} {G : Ghosts B} {a b : B} {inodes : ℕ} {file new : File} {known : Known} {wanted more : NameEdit} {r : Result (Option Edit) ReadError} {low most : ℕ}
+pub edit_had : {B : Type 0} {Had Then : (ℕ → List ℕ) → NameMap → Type 0} {G : Ghosts B} {a b : B} {inodes : ℕ} {file new : File} {known : Known} {wanted more : NameEdit} {r : Result (Option Edit) BlockError} {low most : ℕ}
     → wanted ≡ more → EditsFile Then low G a b inodes file new known more r → low ≤ most → ((disk : ℕ → List ℕ) (names : NameMap) → Had disk names → Then disk names) → EditsFile Had most G a b inodes file new known wanted r
 edit_had {inodes = inodes} {new = new} {r = r} same edits few so = record {
   reads = edits.reads;

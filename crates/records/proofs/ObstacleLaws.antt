@@ -3,7 +3,7 @@ use Rattle.std.proofs.Common.{◌≡◌, ◌≢◌, ◌||◌, inl, inr, ℕ, Boo
 use Rattle.std.proofs.lemmas.Bool.{both_ways, false≢true}
 use Rattle.layout.specs.declared.inode.Inode.{Inode}
 use Rattle.model.specs.Paths.{IsName, Name}
-use Rattle.model.specs.Records.{Applies, CanRename, CanReplace, Change, IsBelow, change_mode, create, cut, link, rename, unname, write}
+use Rattle.model.specs.Records.{Applies, CanRename, CanReplace, Change, IsBelow, change_mode, create, truncate, link, rename, remove_name, write}
 use Rattle.model.specs.Volumes.{Volume, entries, is_directory_node, is_file_node}
 use Rattle.model.specs.declared.errno.Errno.{Errno}
 use Rattle.model.specs.declared.errno.Errno.TheVariants.{DAMAGED, DIRFULL, EEXIST, EFBIG, EINVAL, EISDIR, EMLINK, ENAMETOOLONG, ENOENT, ENOTDIR, ENOTEMPTY, EPERM}
@@ -12,7 +12,7 @@ use Rattle.model.proofs.VolumeLemmas.{enters_directory}
 use Rattle.records.specs.Obstacles.{BarsMove, BarsReplacing, BarsTarget, IsObstacle}
 use Rattle.images.specs.Soundness.{Detail}
 use Rattle.records.specs.Moving.{Moves, Replaces, ReplacesBy}
-use Rattle.records.specs.declared.steps.Step.{Step}
+use Rattle.records.specs.declared.steps.ObjectUpdate.{ObjectUpdate}
 use Rattle.records.proofs.FileLaws.{same_links, same_some}
 use Rattle.records.proofs.MoveLaws.{can_rename}
 
@@ -62,13 +62,13 @@ obstacle_stops inodes v (link n d x) EMLINK (links, file, many) can =
     let same : links ≡ can.links = same_links _ _ _ _ _ _ (sym file.2 ∙ can.file) in
     omega (arith, many, few, same)
 obstacle_stops inodes v (link n d x) DIRFULL is can = is.3 can.takes
-obstacle_stops inodes v (unname d x) ENOENT is can = none_some (sym is ∙ can.there)
-obstacle_stops inodes v (unname d x) ENOTEMPTY (n, there, filled) can = filled (subst (λ (k : ℕ). (y : Name) → entries v k y ≡ None) (same_some (sym can.there ∙ there)) can.empty)
+obstacle_stops inodes v (remove_name d x) ENOENT is can = none_some (sym is ∙ can.there)
+obstacle_stops inodes v (remove_name d x) ENOTEMPTY (n, there, filled) can = filled (subst (λ (k : ℕ). (y : Name) → entries v k y ≡ None) (same_some (sym can.there ∙ there)) can.empty)
 obstacle_stops inodes v (rename d x k y) ENAMETOOLONG is can = is can.name
 obstacle_stops inodes v (rename d x k y) ENOENT is can = none_some (sym is ∙ can.there)
 obstacle_stops inodes v (rename d x k y) errno (n, there, bars) can = move_stops v d x k y n there can errno bars
 obstacle_stops inodes v (write n offset bytes) EFBIG is can = is can
-obstacle_stops inodes v (cut n size) EFBIG is can = is can
+obstacle_stops inodes v (truncate n size) EFBIG is can = is can
 obstacle_stops inodes v (change_mode n mode) DAMAGED is can = both_ways (is_file_node (v n) || is_directory_node (v n)) is can.0
 obstacle_stops inodes v _ _ is can = absurd is
 
@@ -88,11 +88,11 @@ bars_rename inodes v d x n m k y ENOENT there at bars = absurd bars.2
 bars_rename inodes v d x n m k y errno there at bars = (n, there, subst (λ (o : Option ℕ). BarsMove v d n k y o errno) (sym at) bars)
 
 -- nothing has the new name where a move that passes the other tests doesn't apply
-pub no_place : (inodes : ℕ) (detail : Detail) (disk : ℕ → List ℕ) (settled : ℕ → Inode) (v : Volume) (d : ℕ) (x : Name) (n k : ℕ) (y : Name) (step : Option Step) → Moves detail disk settled v d x n k y step → IsName y
+pub no_place : (inodes : ℕ) (detail : Detail) (disk : ℕ → List ℕ) (settled : ℕ → Inode) (v : Volume) (d : ℕ) (x : Name) (n k : ℕ) (y : Name) (step : Option ObjectUpdate) → Moves detail disk settled v d x n k y step → IsName y
     → (IsBelow (entries v) n k → ⊥) → d ≢ k → (CanRename v d x k y → ⊥) → IsObstacle inodes v (rename d x k y) DIRFULL
 no_place inodes detail disk settled v d x n k y step moves name outside other never = (n, moves.there, by (entries v k y) step refl refl moves.replaces)
   where
-    by : (o : Option ℕ) (s : Option Step) → entries v k y ≡ o → step ≡ s → Replaces detail disk settled v n o s → BarsMove v d n k y o DIRFULL
+    by : (o : Option ℕ) (s : Option ObjectUpdate) → entries v k y ≡ o → step ≡ s → Replaces detail disk settled v n o s → BarsMove v d n k y o DIRFULL
     by None None none is so =
         ((λ e. none_some e), outside, (other, λ takes. never (can_rename detail disk settled v d x n k y step moves takes.directory name outside (λ _. inr takes))))
     by None (Some s) none is so = absurd so

@@ -16,7 +16,7 @@ use Rattle.images.specs.Soundness.{Detail, by_bytes, by_sizes}
 use Rattle.records.specs.Preparing.{IsVolumeFor}
 use Rattle.records.specs.Entering.{Accepts, HasPlace}
 use Rattle.records.specs.Moving.{edit_for}
-use Rattle.records.specs.declared.steps.Step.{Step}
+use Rattle.records.specs.declared.steps.ObjectUpdate.{ObjectUpdate}
 use Rattle.model.proofs.OptionLaws.{absent, none_some}
 use Rattle.model.proofs.ListingLemmas.{names_apart}
 
@@ -141,7 +141,7 @@ leaves_across v d x k y attributes names is other place = (
   place.room,
 )
 
-pub leaves_other : (v : Volume) (d : ℕ) (x : Name) (k : ℕ) (step : Option Step) (entry : Entry) → d ≢ k → Accepts (edit_for entry step) (v k) → LeavesPlace v (rename d x k entry.name.now)
+pub leaves_other : (v : Volume) (d : ℕ) (x : Name) (k : ℕ) (step : Option ObjectUpdate) (entry : Entry) → d ≢ k → Accepts (edit_for entry step) (v k) → LeavesPlace v (rename d x k entry.name.now)
 leaves_other v d x k (Some step) entry other accepts = leaves_across v d x k entry.name.now accepts.attributes accepts.names accepts.is other accepts.takes
 leaves_other v d x k None entry other accepts =
     let y = entry.name.now in

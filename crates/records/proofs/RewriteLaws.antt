@@ -4,7 +4,7 @@ use Rattle.std.proofs.Math.Path.{fun_ext}
 use Rattle.std.proofs.lemmas.Bool.{cases_eq, cond-true, cond-false}
 use Rattle.std.proofs.lemmas.Bool.Decides.{nat_tests}
 use Rattle.layout.specs.declared.kind.Kind.{Kind}
-use Rattle.model.specs.Changing.{cuts}
+use Rattle.model.specs.Changing.{truncates_file}
 use Rattle.model.specs.Changes.{ChangesTree, TakesFreeNumber}
 use Rattle.model.specs.Descriptors.{puts}
 use Rattle.model.specs.Edits.{contents, with_bytes, written}
@@ -20,7 +20,7 @@ use Rattle.model.specs.declared.reply.Reply.TheVariants.{Done, Refused, Wrote}
 use Rattle.records.specs.Contents.{bytes_after, rewriting}
 use Rattle.records.specs.Rewriting.{GoesOver}
 use Rattle.records.specs.declared.contents.Rewrite.{Rewrite}
-use Rattle.records.specs.declared.contents.Rewrite.TheVariants.{Write, Cut}
+use Rattle.records.specs.declared.contents.Rewrite.TheVariants.{Write, Truncate}
 use Rattle.images.specs.Contents.{Content}
 use Rattle.images.specs.Soundness.{Detail}
 use Rattle.images.specs.Sizes.{StandsAsIn}
@@ -60,11 +60,11 @@ module _ (v : Volume) (table : ℕ → Option Description) (n : ℕ) (f : List �
 
 takes_free : (v : Volume) (n : ℕ) (rewrite : Rewrite) → TakesFreeNumber v (rewriting n rewrite)
 takes_free v n (Write offset bytes) = tt
-takes_free v n (Cut size) = tt
+takes_free v n (Truncate size) = tt
 
 tree_after : (n : ℕ) (rewrite : Rewrite) (old new : Tree) → ChangesTree (rewriting n rewrite) old new → new ≡ with_bytes n (bytes_after rewrite (contents old n)) old
 tree_after n (Write offset bytes) old new is = is
-tree_after n (Cut size) old new is = is
+tree_after n (Truncate size) old new is = is
 
 module _ (inodes : ℕ) (v : Volume) (table : ℕ → Option Description) (volume : IsVolume inodes v) (mounted : IsMounted v table) (law : RecordsChangeTrees) (n : ℕ) where
   abbrev t : Tree
@@ -96,16 +96,16 @@ module _ (t : Tree) (n offset : ℕ) (given : List ℕ) (also : Tree → Tree) w
 
 -- ---- a new size
 
-pub cuts_nothing : (t : Tree) (n size : ℕ) → (size == length (contents t n)) ≡ true → cuts t n size Done t nothing
-cuts_nothing t n size same = (
+pub truncates_nothing : (t : Tree) (n size : ℕ) → (size == length (contents t n)) ≡ true → truncates_file t n size Done t nothing
+truncates_nothing t n size same = (
   refl,
   sym (cond-true (size == length (contents t n)) t _ same),
   sym (cond-true (size == length (contents t n)) nothing _ same),
 )
 
-pub cuts_all : (t : Tree) (n size : ℕ) (new : Tree) → (size == length (contents t n)) ≡ false → new ≡ with_bytes n (bytes_after (Cut size) (contents t n)) t
-    → cuts t n size Done new (logs (changes_size (length (contents t n)) size))
-cuts_all t n size new other is = (
+pub truncates_all : (t : Tree) (n size : ℕ) (new : Tree) → (size == length (contents t n)) ≡ false → new ≡ with_bytes n (bytes_after (Truncate size) (contents t n)) t
+    → truncates_file t n size Done new (logs (changes_size (length (contents t n)) size))
+truncates_all t n size new other is = (
   refl,
   is ∙ sym (cond-false (size == length (contents t n)) t _ other),
   sym (cond-false (size == length (contents t n)) nothing _ other),

@@ -7,16 +7,16 @@ use Rattle.layout.specs.DirectoryNames.{NameMap}
 use Rattle.layout.specs.declared.inode.Inode.{Inode}
 use Rattle.model.specs.Attributes.{set_mode}
 use Rattle.model.specs.Records.{with_file_bytes, with_node_mode}
-use Rattle.model.specs.Volumes.{Node, Volume, directory_node, file_node, link_node, is_directory_node, is_file_node, is_nameless}
+use Rattle.model.specs.Volumes.{Node, Volume, directory_node, file_node, link_node, is_directory_node, is_file_node, is_orphan}
 use Rattle.dirs.specs.Room.{piece_count}
 use Rattle.dirs.specs.declared.edit.Edit.{Edit}
 use Rattle.inode.specs.Room.{edit_room, file_room}
-use Rattle.inode.specs.declared.change.Change.{Change}
+use Rattle.inode.specs.declared.file_update.FileUpdate.{FileUpdate}
 use Rattle.inode.specs.declared.object.Object.{Object}
 use Rattle.inofile.specs.Inodes.{loaded}
 use Rattle.images.specs.Soundness.{Detail}
 use Rattle.inofile.specs.Objects.{IsObjectOrNone}
-use Rattle.inofile.specs.Room.{nameless_room, room_of, slot_room}
+use Rattle.inofile.specs.Room.{orphan_room, room_of, slot_room}
 use Rattle.inofile.specs.Volumes.{IsVolumeIn}
 use Rattle.inofile.specs.declared.inode_file.InodeFile.{InodeFile}
 use Rattle.inofile.specs.declared.inode_file.ObjectSlot.{ObjectSlot}
@@ -26,13 +26,13 @@ use Rattle.records.specs.Entering.{EditsIn, with_node_names}
 use Rattle.records.specs.Prepared.{AreBeside}
 use Rattle.records.specs.Room.{CountsObject, RaisesFile, SomeRoom, StoresIn, UpdateRoom}
 use Rattle.records.specs.Steps.{Commits, with_node_links}
-use Rattle.records.specs.declared.steps.Step.{Step}
+use Rattle.records.specs.declared.steps.ObjectUpdate.{ObjectUpdate}
 use Rattle.records.specs.declared.steps.Update.TheVariants as updates
 
 -- ---- one number
 
-most_nameless : (o : Option Node) → nameless_room o ≤ 4
-most_nameless o = of_bool (is_nameless o)
+most_orphans : (o : Option Node) → orphan_room o ≤ 4
+most_orphans o = of_bool (is_orphan o)
   where
     of_bool : (b : Bool) → (if b then 4 else 0) ≤ 4
     of_bool true = omega arith
@@ -43,11 +43,11 @@ pub set_room : (detail : Detail) (disk : ℕ → List ℕ) (inodes : ℕ) (settl
     → IsObjectOrNone detail disk inodes settled object to → UpdateRoom was (updates.Set object) k → room_of (Some (Changed object)) base to ≤ room_of slot base found + k
 set_room detail disk inodes settled slot base found to was None k none room =
     subst (λ (o : Option Node). room_of (Some (Changed None)) base o ≤ room_of slot base found + k) (sym none) (omega (arith, gone_room slot base found, room))
-set_room detail disk inodes settled slot base found to was (Some new) k is room = omega (arith, room, most_nameless to, moved_once base to)
+set_room detail disk inodes settled slot base found to was (Some new) k is room = omega (arith, room, most_orphans to, moved_once base to)
 
 module _ (detail : Detail) (disk : ℕ → List ℕ) (inodes : ℕ) (settled : Inode) (slot : Option ObjectSlot) (base : Option Node) where
   -- its file needs more: it has a name if it had one, and else it may lose it
-  more : (old new : Node) (o : Object) (after : Option Object) (k : ℕ) → file_room o.file ≤ slot_room slot → RaisesFile (Some o) after k → nameless_room (Some new) ≤ nameless_room (Some old)
+  more : (old new : Node) (o : Object) (after : Option Object) (k : ℕ) → file_room o.file ≤ slot_room slot → RaisesFile (Some o) after k → orphan_room (Some new) ≤ orphan_room (Some old)
       → room_of (Some (Changed after)) base (Some new) ≤ room_of slot base (Some old) + (k + 2)
   more old new o after k had raises names =
       let p = raises o refl in
@@ -58,7 +58,7 @@ module _ (detail : Detail) (disk : ℕ → List ℕ) (inodes : ℕ) (settled : I
   less old new o after had raises =
       let p = raises o refl in
       subst (λ (x : Option Object). room_of (Some (Changed x)) base (Some new) ≤ room_of slot base (Some old) + 6) (sym p.1)
-      (unnamed_room slot base old new o p.0 0 had p.2 (most_nameless (Some new)))
+      (unnamed_room slot base old new o p.0 0 had p.2 (most_orphans (Some new)))
 
   -- a directory has other names
   pub names_room : (found : Option Node) (was after : Option Object) (edit : Edit) (k : ℕ) (f : NameMap → NameMap) → EditsIn disk inodes f found was edit → CountsObject was slot
@@ -87,7 +87,7 @@ module _ (detail : Detail) (disk : ℕ → List ℕ) (inodes : ℕ) (settled : I
       omega (arith, room, more (file_node old (suc links) bytes) (file_node (set_mode mode old) (suc links) bytes) o after 0 had raises (omega arith))
 
   -- a file has other bytes
-  pub bytes_room : (found : Option Node) (was after : Option Object) (f : List ℕ → List ℕ) (change : Change) (k : ℕ) → IsObjectOrNone detail disk inodes settled was found → IsTrue (is_file_node found)
+  pub bytes_room : (found : Option Node) (was after : Option Object) (f : List ℕ → List ℕ) (change : FileUpdate) (k : ℕ) → IsObjectOrNone detail disk inodes settled was found → IsTrue (is_file_node found)
       → CountsObject was slot → ((m : ℕ) → StoresIn was change m → RaisesFile was after m) → UpdateRoom was (updates.Bytes change) k
       → room_of (Some (Changed after)) base (with_file_bytes f found) ≤ room_of slot base found + k
   bytes_room None was after f change k is file had raises room = absurd (false≢true file)
@@ -122,15 +122,15 @@ raises_to {was = was} new k is few o there =
     let same : was ≡ o = cc in
     (new, refl, subst (λ (x : Object). file_room new.file ≤ file_room x.file + k) same few)
 
--- four are kept for a file without a name
-pub nameless_is : (o : Option Node) → is_nameless o ≡ true → nameless_room o ≡ 4
-nameless_is o is = ap (λ (b : Bool). if b then 4 else 0) is
+-- four are kept for an orphan
+pub orphan_is : (o : Option Node) → is_orphan o ≡ true → orphan_room o ≡ 4
+orphan_is o is = ap (λ (b : Bool). if b then 4 else 0) is
 
 -- ---- steps behind another one
 
 module _ {s t : InodeFile} where
   -- a step, if there is one, raises no more behind one that there may be
-  pub room_behind : (other step : Option Step) (k : ℕ) → Commits s t other → AreBeside other step → SomeRoom s step k → SomeRoom t step k
+  pub room_behind : (other step : Option ObjectUpdate) (k : ℕ) → Commits s t other → AreBeside other step → SomeRoom s step k → SomeRoom t step k
   room_behind other None k commits beside room = tt
   room_behind None (Some step) k commits beside room = subst (λ (o : Option Object). UpdateRoom o step.update k) (sym (commits.rest step.number tt)) room
   room_behind (Some other) (Some step) k commits beside room =

@@ -16,7 +16,7 @@ use Rattle.inofile.specs.declared.inode_file.ObjectSlot.{ObjectSlot}
 use Rattle.inofile.specs.declared.inode_file.InodeFile.{InodeFile}
 use Rattle.paths.specs.Standing.{Looks, StandsIn}
 use Rattle.records.specs.Steps.{IsAtHand, IsSomeAtHand}
-use Rattle.records.specs.declared.steps.Step.{Step}
+use Rattle.records.specs.declared.steps.ObjectUpdate.{ObjectUpdate}
 
 -- memory stands for all volumes that it stood for before
 abbrev pub StaysVolume : InodeFile → InodeFile → Type 0
@@ -92,6 +92,6 @@ module _ (s t : InodeFile) (same : t.geometry ≡ s.geometry) (keeps : (k : ℕ)
     known = stays n is.known;
   }
 
-  pub some_stays_at_hand : (step : Option Step) → IsSomeAtHand s step → IsSomeAtHand t step
+  pub some_stays_at_hand : (step : Option ObjectUpdate) → IsSomeAtHand s step → IsSomeAtHand t step
   some_stays_at_hand None is = tt
   some_stays_at_hand (Some step) is = stays_at_hand step.number is

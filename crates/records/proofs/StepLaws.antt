@@ -28,7 +28,7 @@ use Rattle.records.specs.Prepared.{AreBeside, IsApartFrom}
 use Rattle.records.specs.Steps.{Commits, FitsUpdate, IsApart, Steps, StepsSome, TakesSome, Updates, with_node_links}
 use Rattle.records.specs.declared.steps.Update.{Update}
 use Rattle.records.specs.declared.steps.Update.TheVariants as updates
-use Rattle.records.specs.declared.steps.Step.{Step}
+use Rattle.records.specs.declared.steps.ObjectUpdate.{ObjectUpdate}
 use Rattle.records.proofs.KindLaws.{file_stands, is_kind}
 use Rattle.records.proofs.StandLaws.{stays_at_hand}
 
@@ -93,7 +93,7 @@ mode_set detail disk inodes settled o found mode good was is = record {
 }
 
 -- a step does the same where its object is the same in memory
-pub steps_after : (detail : Detail) (disk : ℕ → List ℕ) (settled : ℕ → Inode) (s t : InodeFile) (v w : Volume) (step : Step) → t.geometry ≡ s.geometry
+pub steps_after : (detail : Detail) (disk : ℕ → List ℕ) (settled : ℕ → Inode) (s t : InodeFile) (v w : Volume) (step : ObjectUpdate) → t.geometry ≡ s.geometry
     → loaded t step.number ≡ loaded s step.number → Steps detail disk settled s v step w → Steps detail disk settled t v step w
 steps_after detail disk settled s t v w step same_sizes same steps = (
   steps.0,
@@ -164,7 +164,7 @@ commits_none s = record {
 
 module _ {s t : InodeFile} where
   -- memory takes a step, if there is one, behind one that there may be
-  pub takes_behind : (other step : Option Step) → Commits s t other → IsApartFrom other step → TakesSome s step → TakesSome t step
+  pub takes_behind : (other step : Option ObjectUpdate) → Commits s t other → IsApartFrom other step → TakesSome s step → TakesSome t step
   takes_behind other None commits apart takes = tt
   takes_behind None (Some step) commits apart takes = record {
     at_hand = stays_at_hand s t commits.geometry commits.keeps commits.stays step.number takes.at_hand;
@@ -177,7 +177,7 @@ module _ {s t : InodeFile} where
 
 -- and a step, if there is one, does the same
 module _ {s t : InodeFile} (detail : Detail) (disk : ℕ → List ℕ) (settled : ℕ → Inode) (v w : Volume) where
-  pub steps_behind : (other step : Option Step) → Commits s t other → AreBeside other step → StepsSome detail disk settled s v step w → StepsSome detail disk settled t v step w
+  pub steps_behind : (other step : Option ObjectUpdate) → Commits s t other → AreBeside other step → StepsSome detail disk settled s v step w → StepsSome detail disk settled t v step w
   steps_behind other None commits beside steps = steps
   steps_behind None (Some step) commits beside steps = steps_after detail disk settled s t v w step commits.geometry (commits.rest step.number tt) steps
   steps_behind (Some other) (Some step) commits beside steps = steps_after detail disk settled s t v w step commits.geometry (commits.rest step.number (λ e. beside (sym e))) steps

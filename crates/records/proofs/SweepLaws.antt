@@ -6,7 +6,7 @@ use Rattle.std.proofs.lemmas.Bool.{cases_eq}
 use Rattle.layout.specs.declared.inode.Inode.{Inode}
 use Rattle.model.specs.Records.{Change, applied}
 use Rattle.model.specs.Trees.{Description}
-use Rattle.model.specs.Volumes.{Node, directory_node, file_node, link_node, Volume, IsMounted, is_nameless, is_open, swept, swept_node, with_node}
+use Rattle.model.specs.Volumes.{Node, directory_node, file_node, link_node, Volume, IsMounted, is_orphan, is_open, swept, swept_node, with_node}
 use Rattle.model.proofs.RecordLemmas.{swept_twice}
 use Rattle.model.proofs.SweepLemmas.{stays_open}
 use Rattle.inofile.specs.declared.inode_file.InodeFile.{InodeFile}
@@ -15,26 +15,26 @@ use Rattle.images.specs.Soundness.{by_bytes}
 use Rattle.records.specs.Steps.{IsAtHand, IsBeside, IsSomeAtHand, StepsSome}
 use Rattle.records.specs.Sweeping.{without_file}
 use Rattle.records.specs.declared.prepared.Prepared.{Prepared}
-use Rattle.records.specs.declared.steps.Step.{Step}
+use Rattle.records.specs.declared.steps.ObjectUpdate.{ObjectUpdate}
 use Rattle.model.proofs.ObjectLaws.{node_here, node_other}
 
 -- ---- objects at hand
 
 -- the object of a step, by its number
-pub number_at_hand : (s : InodeFile) (step : Option Step) → IsSomeAtHand s step → IfSome (option_map (λ (step : Step). step.number) step) (IsAtHand s)
+pub number_at_hand : (s : InodeFile) (step : Option ObjectUpdate) → IsSomeAtHand s step → IfSome (option_map (λ (step : ObjectUpdate). step.number) step) (IsAtHand s)
 number_at_hand s None is = tt
 number_at_hand s (Some step) is = is
 
 -- ---- one file
 
-nameless_goes : (o : Option Node) → is_nameless o ≡ true → swept_node false o ≡ None
-nameless_goes None is = cc
-nameless_goes (Some (directory_node attributes names)) is = cc
-nameless_goes (Some (link_node attributes text)) is = cc
-nameless_goes (Some (file_node attributes zero bytes)) is = refl
-nameless_goes (Some (file_node attributes (suc links) bytes)) is = cc
+orphan_goes : (o : Option Node) → is_orphan o ≡ true → swept_node false o ≡ None
+orphan_goes None is = cc
+orphan_goes (Some (directory_node attributes names)) is = cc
+orphan_goes (Some (link_node attributes text)) is = cc
+orphan_goes (Some (file_node attributes zero bytes)) is = refl
+orphan_goes (Some (file_node attributes (suc links) bytes)) is = cc
 
-named_stays : (o : Option Node) → is_nameless o ≡ false → swept_node false o ≡ o
+named_stays : (o : Option Node) → is_orphan o ≡ false → swept_node false o ≡ o
 named_stays None is = refl
 named_stays (Some (directory_node attributes names)) is = refl
 named_stays (Some (link_node attributes text)) is = refl
@@ -48,17 +48,17 @@ node_same n o v same = fun_ext {f = v} {g = with_node n o v} (λ k. elim (cases_
   | inr other ↦ sym (node_other n k o v other)
 ])
 
--- a file without a name is dropped
-pub dropped : (n : ℕ) (v : Volume) → is_nameless (v n) ≡ true → with_node n None v ≡ with_node n (swept_node false (v n)) v
-dropped n v is = ap (λ (o : Option Node). with_node n o v) (sym (nameless_goes (v n) is))
+-- an orphan is dropped
+pub dropped : (n : ℕ) (v : Volume) → is_orphan (v n) ≡ true → with_node n None v ≡ with_node n (swept_node false (v n)) v
+dropped n v is = ap (λ (o : Option Node). with_node n o v) (sym (orphan_goes (v n) is))
 
 -- anything else stays
-pub kept : (n : ℕ) (v : Volume) → is_nameless (v n) ≡ false → v ≡ with_node n (swept_node false (v n)) v
+pub kept : (n : ℕ) (v : Volume) → is_orphan (v n) ≡ false → v ≡ with_node n (swept_node false (v n)) v
 kept n v is = node_same n (swept_node false (v n)) v (sym (named_stays (v n) is))
 
 -- the number of a step, if there is one
-abbrev pub number_of : Option Step → Option ℕ
-number_of step = option_map (λ (step : Step). step.number) step
+abbrev pub number_of : Option ObjectUpdate → Option ℕ
+number_of step = option_map (λ (step : ObjectUpdate). step.number) step
 
 -- ---- the files of the numbers of a change
 
@@ -102,21 +102,21 @@ module _ (table : ℕ → Option Description) where
     ]
     stays_half (inr done) = inr (stays_done done)
 
-  some_done : (w x : Volume) (step : Option Step) (k : ℕ) → x k ≡ swept table w k → without_file table (number_of step) x k ≡ swept table w k
+  some_done : (w x : Volume) (step : Option ObjectUpdate) (k : ℕ) → x k ≡ swept table w k → without_file table (number_of step) x k ≡ swept table w k
   some_done w x None k is = is
   some_done w x (Some step) k is = stays_done w x step.number k is
 
-  some_half : (w x : Volume) (step : Option Step) (k : ℕ) → IsHalf w x k → IsHalf w (without_file table (number_of step) x) k
+  some_half : (w x : Volume) (step : Option ObjectUpdate) (k : ℕ) → IsHalf w x k → IsHalf w (without_file table (number_of step) x) k
   some_half w x None k is = is
   some_half w x (Some step) k is = stays_half w x step.number k is
 
   -- each object is of a step's number, or of none
-  some_or_beside : (w x : Volume) (step : Option Step) (k : ℕ) → IsHalf w x k → (without_file table (number_of step) x k ≡ swept table w k) ⊎ IsBeside k step
+  some_or_beside : (w x : Volume) (step : Option ObjectUpdate) (k : ℕ) → IsHalf w x k → (without_file table (number_of step) x k ≡ swept table w k) ⊎ IsBeside k step
   some_or_beside w x None k is = inr tt
   some_or_beside w x (Some step) k is = elim (cases_eq k step.number) [ inl here ↦ inl (gets_done w x step.number k is here) | inr other ↦ inr (λ e. other (sym e)) ]
 
 -- what a step isn't on stays
-some_rest : (disk : ℕ → List ℕ) (settled : ℕ → Inode) (s : InodeFile) (v w : Volume) (step : Option Step) (k : ℕ) → StepsSome by_bytes disk settled s v step w → IsBeside k step → w k ≡ v k
+some_rest : (disk : ℕ → List ℕ) (settled : ℕ → Inode) (s : InodeFile) (v w : Volume) (step : Option ObjectUpdate) (k : ℕ) → StepsSome by_bytes disk settled s v step w → IsBeside k step → w k ≡ v k
 some_rest disk settled s v w None k steps beside = ap (λ (x : Volume). x k) steps
 some_rest disk settled s v w (Some step) k steps beside = ap (λ (x : Volume). x k) steps.2 ∙ node_other step.number k steps.0 v (λ e. beside (sym e))
 

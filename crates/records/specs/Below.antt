@@ -17,8 +17,8 @@ IsMarkedNumber marks n = slice_index_or marks n false ≡ true
 abbrev pub count_unmarked : List Bool → ℕ
 count_unmarked marks = sum_by (λ mark. if mark then 0 else 1) marks
 
--- A search from an object on has marked only what lies below it, and marks what has a name in each marked object that isn't left to
--- be looked into.
+-- A search from an object on has marked only what lies below it, and marks what has a name in each
+-- marked object that isn't left to be looked into.
 pub record Searches (e : Entries) (top : ℕ) (marks : List Bool) (left : List ℕ) : Type 0 where
   pub itself : IsMarkedNumber marks top
   pub below : (n : ℕ) → IsMarkedNumber marks n → IsBelow e top n

@@ -67,8 +67,8 @@ abbrev pub with_node_names : (NameMap → NameMap) → Option Node → Option No
 with_node_names f (Some (directory_node attributes names)) = Some (directory_node attributes (f names))
 with_node_names f o = o
 
--- an edit of a directory in memory makes this of its names, and what it knows of its blocks is so then; before, it stands for this object of
--- a volume
+-- an edit of a directory in memory makes this of its names, and what it knows of its blocks is so
+-- then; before, it stands for this object of a volume
 pub record Edits (disk : ℕ → List ℕ) (inodes : ℕ) (f : NameMap → NameMap) (found : Option Node) (o : Object) (edit : Edit) : Type 0 where
   pub names : NameMap
   pub stands : found ≡ Some (directory_node o.status.attributes names)
@@ -86,7 +86,8 @@ abbrev pub IsDirectoryObject : Option Object → Type 0
 IsDirectoryObject (Some o) = o.status.kind ≡ kinds.Directory
 IsDirectoryObject None = ⊥
 
--- an edit is prepared of what can be edited so, where this object of memory stands for it, and else none
+-- an edit is prepared of what can be edited so, where this object of memory stands for it, and else
+-- none
 abbrev pub PreparesEdit : (ℕ → List ℕ) → ℕ → NameEdit → Option Node → Option Object → Option Edit → Type 0
 PreparesEdit disk inodes wanted found o (Some edit) =
     EditsIn disk inodes (names_after wanted) found o edit × Accepts wanted found × (piece_count edit ≤ pieces_of wanted)

@@ -3,9 +3,9 @@ use Rattle.std.specs.Prelude.{ℕ, List, Result, IfOk, IsErrOf, OnOk}
 use Rattle.layout.specs.declared.inode.Inode.{Inode}
 use Rattle.model.specs.Volumes.{Volume}
 use Rattle.buffers.specs.declared.blocks.Blocks.{Ghosts}
-use Rattle.blocktree.specs.Errors.{IsFault}
-use Rattle.blocktree.specs.declared.error.ReadError.{ReadError}
-use Rattle.blocktree.specs.declared.error.ReadError.TheVariants.{Damaged}
+use Rattle.buffers.specs.Errors.{IsFault}
+use Rattle.buffers.specs.declared.error.BlockError.{BlockError}
+use Rattle.buffers.specs.declared.error.BlockError.TheVariants.{Damaged}
 use Rattle.images.specs.Soundness.{Detail}
 use Rattle.inofile.specs.Inodes.{HasRoomFor, IsKnown}
 use Rattle.inofile.specs.declared.inode_file.InodeFile.{InodeFile}
@@ -15,8 +15,9 @@ use Rattle.paths.specs.Standing.{Looks, NeverDamagedIn, StandsIn}
 abbrev pub Finding : Type 0 → Type 1
 Finding T = Detail → (ℕ → List ℕ) → (ℕ → Inode) → Volume → T → Type 0
 
--- This is true of what is found, whatever volume memory stands for. Memory keeps what it knows, and the room that it has.
-pub record Finds {B T : Type 0} (G : Ghosts B) (blocks after : B) (s t : InodeFile) (P : Finding T) (result : Result T ReadError) : Type 0 where
+-- This is true of what is found, whatever volume memory stands for. Memory keeps what it knows, and
+-- the room that it has.
+pub record Finds {B T : Type 0} (G : Ghosts B) (blocks after : B) (s t : InodeFile) (P : Finding T) (result : Result T BlockError) : Type 0 where
   pub looks : Looks G IsFault blocks after s t result
   pub stays : (n : ℕ) → IsKnown s n → IsKnown t n
   pub keeps : (n : ℕ) → HasRoomFor s n → HasRoomFor t n
@@ -24,8 +25,9 @@ pub record Finds {B T : Type 0} (G : Ghosts B) (blocks after : B) (s t : InodeFi
       → IfOk result (P detail disk settled v)
   pub damaged : {detail : Detail} → NeverDamagedIn detail G blocks s result
 
--- An object comes into memory, of which this is known then. Memory keeps what it knew, and the room that it had.
-pub record Brings {B T : Type 0} (G : Ghosts B) (blocks after : B) (s t : InodeFile) (Known : InodeFile → Type 0) (result : Result T ReadError) : Type 0 where
+-- An object comes into memory, of which this is known then. Memory keeps what it knew, and the room
+-- that it had.
+pub record Brings {B T : Type 0} (G : Ghosts B) (blocks after : B) (s t : InodeFile) (Known : InodeFile → Type 0) (result : Result T BlockError) : Type 0 where
   pub looks : Looks G IsFault blocks after s t result
   pub stays : (n : ℕ) → IsKnown s n → IsKnown t n
   pub keeps : (n : ℕ) → HasRoomFor s n → HasRoomFor t n

@@ -3,10 +3,10 @@ use Rattle.std.specs.Prelude.{ℕ, ◌≤◌, List, Option, Some, None, Result, 
 use Rattle.layout.specs.DirectoryNames.{NameMap}
 use Rattle.buffers.specs.Reads.{ReadsBlocks}
 use Rattle.buffers.specs.declared.blocks.Blocks.{Ghosts}
-use Rattle.blocktree.specs.Errors.{IsFault}
+use Rattle.buffers.specs.Errors.{IsFault}
 use Rattle.blocktree.specs.Trees.{IsSoundAt}
-use Rattle.blocktree.specs.declared.error.ReadError.{ReadError}
-use Rattle.blocktree.specs.declared.error.ReadError.TheVariants.{Damaged}
+use Rattle.buffers.specs.declared.error.BlockError.{BlockError}
+use Rattle.buffers.specs.declared.error.BlockError.TheVariants.{Damaged}
 use Rattle.dirs.specs.Edits.{FitsIn, HasEditedNames, edited_block}
 use Rattle.entries.specs.Known.{Knows}
 use Rattle.entries.specs.declared.known.Known.{Known}
@@ -17,15 +17,16 @@ use Rattle.inode.specs.declared.file.File.{File}
 use Rattle.records.specs.Entering.{TakesEdit, names_after}
 use Rattle.records.specs.declared.naming.NameEdit.{NameEdit}
 
--- an edit is prepared of names that can be edited so, and what is known of the blocks is so with it; else none
+-- an edit is prepared of names that can be edited so, and what is known of the blocks is so with
+-- it; else none
 abbrev pub EditsNames : ℕ → (ℕ → List ℕ) → File → Known → NameEdit → NameMap → Option Edit → Type 0
 EditsNames inodes disk file known wanted names (Some edit) =
     TakesEdit wanted names × HasEditedNames inodes disk file edit (names_after wanted names) × Knows inodes (edited_block disk file edit) known
 EditsNames inodes disk file known wanted names None = TakesEdit wanted names → ⊥
 
--- Names of a directory's file are edited so, where it has such names before, and so many of its blocks are changed at the most. The file stays the same until the edit is put in
--- force.
-pub record EditsFile {B : Type 0} (Had : (ℕ → List ℕ) → NameMap → Type 0) (most : ℕ) (G : Ghosts B) (blocks after : B) (inodes : ℕ) (file new : File) (known : Known) (wanted : NameEdit) (result : Result (Option Edit) ReadError) : Type 0 where
+-- Names of a directory's file are edited so, where it has such names before, and so many of its
+-- blocks are changed at the most. The file stays the same until the edit is put in force.
+pub record EditsFile {B : Type 0} (Had : (ℕ → List ℕ) → NameMap → Type 0) (most : ℕ) (G : Ghosts B) (blocks after : B) (inodes : ℕ) (file new : File) (known : Known) (wanted : NameEdit) (result : Result (Option Edit) BlockError) : Type 0 where
   pub reads : ReadsBlocks G IsFault blocks after result
   pub same : IsSameFile file new
   pub fits : IfOk result (λ e. IfSome e (FitsIn new))

@@ -2,28 +2,30 @@
 use Rattle.std.specs.Prelude.{ℕ, ◌≡◌, ◌≢◌, ◌≤◌, ◌<◌, ◌||◌, Bool, true, IsFalse, IsTrue, Option, Some, None}
 use Rattle.model.specs.Laws.{is_own}
 use Rattle.model.specs.Paths.{IsName, Name}
-use Rattle.model.specs.Records.{Applies, Change, IsBelow, IsEmpty, IsMade, Made, TakesName, change_mode, create, cut, is_vacant, link, rename, unname, write}
+use Rattle.model.specs.Records.{Applies, Change, IsBelow, IsEmpty, IsMade, Made, TakesName, change_mode, create, truncate, is_vacant, link, rename, remove_name, write}
 use Rattle.model.specs.Volumes.{Volume, entries, is_directory_node, is_file_node}
 use Rattle.model.specs.declared.errno.Errno.{Errno}
 use Rattle.model.specs.declared.errno.Errno.TheVariants.{DAMAGED, DIRFULL, EEXIST, EFBIG, EINVAL, EISDIR, EMLINK, ENAMETOOLONG, ENOENT, ENOTDIR, ENOTEMPTY, EPERM}
 use Rattle.model.specs.declared.limits.TheConstants.{FILE_NAMES, FIRST_NUMBER}
 use Rattle.records.specs.Steps.{IsFileWithLinks}
 
--- what keeps an object n from taking the name of another one, m: only one of them is a directory, or m has names
+-- what keeps an object n from taking the name of another one, m: only one of them is a directory,
+-- or m has names
 abbrev pub BarsReplacing : Volume → ℕ → ℕ → Errno → Type 0
 BarsReplacing v n m ENOTDIR = IsTrue (is_directory_node (v n)) × IsFalse (is_directory_node (v m))
 BarsReplacing v n m EISDIR = IsFalse (is_directory_node (v n)) × IsTrue (is_directory_node (v m))
 BarsReplacing v n m ENOTEMPTY = (is_directory_node (v m) ≡ is_directory_node (v n)) × (IsEmpty v m → ⊥)
 BarsReplacing v n m errno = ⊥
 
--- what keeps an object in d from the name y of the directory k, by what has it: this can't be replaced; or nothing has it, and k takes no
--- name more
+-- what keeps an object in d from the name y of the directory k, by what has it: this can't be
+-- replaced; or nothing has it, and k takes no name more
 abbrev pub BarsTarget : Volume → ℕ → ℕ → ℕ → Name → Option ℕ → Errno → Type 0
 BarsTarget v d n k y (Some m) errno = BarsReplacing v n m errno
 BarsTarget v d n k y None DIRFULL = (d ≢ k) × (TakesName v k y → ⊥)
 BarsTarget v d n k y None errno = ⊥
 
--- the same of a move, behind two tests: the object doesn't have the name already, and isn't put below itself
+-- the same of a move, behind two tests: the object doesn't have the name already, and isn't put
+-- below itself
 abbrev pub BarsMove : Volume → ℕ → ℕ → ℕ → Name → Option ℕ → Errno → Type 0
 BarsMove v d n k y target EEXIST = target ≡ Some n
 BarsMove v d n k y target EINVAL = (target ≢ Some n) × IsBelow (entries v) n k
@@ -41,17 +43,18 @@ IsObstacle inodes v (link n d x) ENAMETOOLONG = IsName x → ⊥
 IsObstacle inodes v (link n d x) EPERM = IsFalse (is_file_node (v n))
 IsObstacle inodes v (link n d x) EMLINK = (links : ℕ) × IsFileWithLinks links (v n) × (FILE_NAMES ≤ links)
 IsObstacle inodes v (link n d x) DIRFULL = (links : ℕ) × IsFileWithLinks links (v n) × (links < FILE_NAMES) × (TakesName v d x → ⊥)
-IsObstacle inodes v (unname d x) ENOENT = entries v d x ≡ None
-IsObstacle inodes v (unname d x) ENOTEMPTY = (n : ℕ) × (entries v d x ≡ Some n) × (IsEmpty v n → ⊥)
+IsObstacle inodes v (remove_name d x) ENOENT = entries v d x ≡ None
+IsObstacle inodes v (remove_name d x) ENOTEMPTY = (n : ℕ) × (entries v d x ≡ Some n) × (IsEmpty v n → ⊥)
 IsObstacle inodes v (rename d x k y) ENAMETOOLONG = IsName y → ⊥
 IsObstacle inodes v (rename d x k y) ENOENT = entries v d x ≡ None
 IsObstacle inodes v (rename d x k y) errno = (n : ℕ) × (entries v d x ≡ Some n) × BarsMove v d n k y (entries v k y) errno
 IsObstacle inodes v (write n offset bytes) EFBIG = Applies inodes v (write n offset bytes) → ⊥
-IsObstacle inodes v (cut n size) EFBIG = Applies inodes v (cut n size) → ⊥
+IsObstacle inodes v (truncate n size) EFBIG = Applies inodes v (truncate n size) → ⊥
 IsObstacle inodes v (change_mode n mode) DAMAGED = IsFalse (is_file_node (v n) || is_directory_node (v n))
 IsObstacle inodes v change errno = ⊥
 
--- an errno that tells an obstacle: one of the call's own, or that a number of the record isn't as it must be
+-- an errno that tells an obstacle: one of the call's own, or that a number of the record isn't as
+-- it must be
 abbrev pub tells_obstacle : Change → Errno → Bool
 tells_obstacle (create n d made x) DAMAGED = true
 tells_obstacle (change_mode n mode) DAMAGED = true

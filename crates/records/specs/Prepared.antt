@@ -1,7 +1,7 @@
 -- Prepared changes of the image in memory.
 use Rattle.std.specs.Prelude.{ℕ, ◌+◌, ◌≤◌, List, Option, Some, None}
 use Rattle.layout.specs.declared.inode.Inode.{Inode}
-use Rattle.model.specs.Records.{Change, applied, cut, work_of, write}
+use Rattle.model.specs.Records.{Change, applied, truncate, work_of, write}
 use Rattle.model.specs.Room.{cost}
 use Rattle.model.specs.Volumes.{Volume}
 use Rattle.images.specs.Soundness.{Detail, by_bytes}
@@ -10,15 +10,15 @@ use Rattle.inofile.specs.declared.inode_file.InodeFile.{InodeFile}
 use Rattle.records.specs.Room.{SomeRoom, StepRoom}
 use Rattle.records.specs.Steps.{IsAtHand, IsBeside, IsSomeApart, IsSomeAtHand, Steps, StepsSome, TakesSome, TakesUpdate}
 use Rattle.records.specs.declared.prepared.Prepared.{Prepared}
-use Rattle.records.specs.declared.steps.Step.{Step}
+use Rattle.records.specs.declared.steps.ObjectUpdate.{ObjectUpdate}
 
 -- a step, if there is one, doesn't depend on what another one, if there is one, does to memory
-abbrev pub IsApartFrom : Option Step → Option Step → Type 0
+abbrev pub IsApartFrom : Option ObjectUpdate → Option ObjectUpdate → Type 0
 IsApartFrom None step = Unit {0}
 IsApartFrom (Some other) step = IsSomeApart other.number step
 
 -- a step, if there is one, isn't of the same number as another one, if there is one
-abbrev pub AreBeside : Option Step → Option Step → Type 0
+abbrev pub AreBeside : Option ObjectUpdate → Option ObjectUpdate → Type 0
 AreBeside None step = Unit {0}
 AreBeside (Some other) step = IsBeside other.number step
 
@@ -37,15 +37,16 @@ pub record AreAtHand (s : InodeFile) (p : Prepared) : Type 0 where
   pub next : IsSomeAtHand s p.next
   pub last : IsSomeAtHand s p.last
 
--- the file that a record writes to or cuts is in memory
+-- the file that a record writes to or truncates is in memory
 abbrev pub KnowsFile : InodeFile → Change → Type 0
 KnowsFile s (write number offset bytes) = IsKnown s number
-KnowsFile s (cut number size) = IsKnown s number
+KnowsFile s (truncate number size) = IsKnown s number
 KnowsFile s change = Unit {0}
 
--- Put in force on this memory, which stands for this volume in so much detail, a prepared change does to it what the record says: each of its
--- steps is on an object of its own. Each raises by so much at the most what a consistency point may store, and all of them by no more
--- than the record costs.
+-- Put in force on this memory, which stands for this volume in so much detail, a prepared change
+-- does to it what the record says: each of its steps is on an object of its own. Each raises by so
+-- much at the most what a consistency point may store, and all of them by no more than the record
+-- costs.
 pub record DoesIn (detail : Detail) (disk : ℕ → List ℕ) (settled : ℕ → Inode) (s : InodeFile) (v : Volume) (p : Prepared) (change : Change) : Type 0 where
   pub between : Volume
   pub second : Volume

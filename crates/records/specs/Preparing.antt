@@ -5,12 +5,12 @@ use Rattle.model.specs.Records.{Applies, Change}
 use Rattle.model.specs.Volumes.{Volume, IsGraph, IsVolume}
 use Rattle.model.specs.declared.limits.TheConstants.{FIRST_NUMBER, ROOT_NUMBER}
 use Rattle.buffers.specs.declared.blocks.Blocks.{Ghosts}
-use Rattle.blocktree.specs.Errors.{IsFault}
-use Rattle.blocktree.specs.declared.error.ReadError.TheVariants.{Damaged}
+use Rattle.buffers.specs.Errors.{IsFault}
+use Rattle.buffers.specs.declared.error.BlockError.TheVariants.{Damaged}
 use Rattle.images.specs.Soundness.{Detail, by_bytes, by_sizes}
 use Rattle.inofile.specs.declared.inode_file.InodeFile.{InodeFile}
 use Rattle.paths.specs.Standing.{Looks, OnVolumesIn, StandsIn}
-use Rattle.records.specs.Failures.{told}
+use Rattle.records.specs.Failures.{read_outcome}
 use Rattle.records.specs.Obstacles.{IsObstacle, tells_obstacle}
 use Rattle.images.specs.Replaying.{LeavesPlace, ReadsIn}
 use Rattle.records.specs.Prepared.{DoesIn, IsReady}
@@ -36,11 +36,12 @@ abbrev pub IsVolumeFor : Detail → ℕ → Change → Volume → Type 0
 IsVolumeFor by_bytes inodes change v = IsVolume inodes v
 IsVolumeFor by_sizes inodes change v = HasGraph inodes v × LeavesPlace v change
 
--- A record is prepared, and does what it says to each volume of which `Over` is known; or the first obstacle is told. That it applies,
--- within the limits, or what is told, is true where `Sure` is known. Nothing changes by it.
+-- A record is prepared, and does what it says to each volume of which `Over` is known; or the first
+-- obstacle is told. That it applies, within the limits, or what is told, is true where `Sure` is
+-- known. Nothing changes by it.
 pub record DecidesOn {B : Type 0} (Over Sure : Premise) (G : Ghosts B) (blocks after : B) (s t : InodeFile) (change : Change) (result : Result Prepared Failure) : Type 0 where
-  pub looks : Looks G IsFault blocks after s t (told result)
-  pub own : IfOk (told result) (λ r. IfErr r (λ errno. IsTrue (tells_obstacle change errno)))
+  pub looks : Looks G IsFault blocks after s t (read_outcome result)
+  pub own : IfOk (read_outcome result) (λ r. IfErr r (λ errno. IsTrue (tells_obstacle change errno)))
   pub ready : IfOk result (IsReady t)
   pub does : {detail : Detail} (disk : ℕ → List ℕ) (settled : ℕ → Inode) (v : Volume) → Over detail disk settled v
       → IfOk result (λ x. DoesIn detail disk settled t v x change)
@@ -49,17 +50,18 @@ pub record DecidesOn {B : Type 0} (Over Sure : Premise) (G : Ghosts B) (blocks a
   pub place : {detail : Detail} (disk : ℕ → List ℕ) (settled : ℕ → Inode) (v : Volume) → Sure detail disk settled v
       → IfOk result (λ _. LeavesPlace v change)
   pub refused : {detail : Detail} (disk : ℕ → List ℕ) (settled : ℕ → Inode) (v : Volume) → Sure detail disk settled v
-      → IsVolumeFor detail s.geometry.inodes change v → IfOk (told result) (λ r. IfErr r (IsObstacle s.geometry.inodes v change))
+      → IsVolumeFor detail s.geometry.inodes change v → IfOk (read_outcome result) (λ r. IfErr r (IsObstacle s.geometry.inodes v change))
   pub reads : {detail : Detail} (disk : ℕ → List ℕ) (settled : ℕ → Inode) (v : Volume) → Sure detail disk settled v
       → IfOk result (λ _. ReadsIn detail v change)
-  pub damaged : {detail : Detail} → OnVolumesIn detail G blocks s (λ disk settled v. ReadsIn detail v change → IsErrOf (told result) Damaged → ⊥)
+  pub damaged : {detail : Detail} → OnVolumesIn detail G blocks s (λ disk settled v. ReadsIn detail v change → IsErrOf (read_outcome result) Damaged → ⊥)
 
 -- the same of each volume that memory stands for
 abbrev pub DecidesRecord : {B : Type 0} → Ghosts B → B → B → InodeFile → InodeFile → Change → Result Prepared Failure → Type 0
 DecidesRecord G blocks after s t change result =
     DecidesOn (λ detail disk settled v. StandsIn detail G disk settled v blocks s) (λ detail disk settled v. StandsIn detail G disk settled v blocks s) G blocks after s t change result
 
--- the same, but that the record applies, or what is told, is true only of what is known to be a volume
+-- the same, but that the record applies, or what is told, is true only of what is known to be a
+-- volume
 abbrev pub DecidesKnown : {B : Type 0} → Ghosts B → B → B → InodeFile → InodeFile → Change → Result Prepared Failure → Type 0
 DecidesKnown G blocks after s t change result =
     DecidesOn (λ detail disk settled v. StandsIn detail G disk settled v blocks s) (λ detail disk settled v. StandsIn detail G disk settled v blocks s × IsKnownVolume detail s.geometry.inodes v) G blocks after s t change result

@@ -1,9 +1,9 @@
 -- What a change of the bytes of a file with a number comes to.
 use Rattle.std.specs.Prelude.{ℕ, List, length, Option, Some, None, Result, Ok, Err}
-use Rattle.model.specs.Changing.{cuts}
+use Rattle.model.specs.Changing.{truncates_file}
 use Rattle.model.specs.Descriptors.{puts}
 use Rattle.model.specs.Edits.{contents}
-use Rattle.model.specs.Records.{Change, Applies, applied, cut, write}
+use Rattle.model.specs.Records.{Change, Applies, applied, truncate, write}
 use Rattle.model.specs.Room.{nothing, logs, changes_size, puts_bytes}
 use Rattle.model.specs.Trees.{Tree, Description}
 use Rattle.model.specs.Volumes.{Volume, IsMounted, tree_of}
@@ -15,8 +15,8 @@ use Rattle.records.specs.declared.prepared.Prepared.{Prepared}
 abbrev pub GoesOver : ℕ → Volume → (ℕ → Option Description) → Change → Type 0
 GoesOver inodes v table change = Applies inodes v change × IsMounted (applied change v) table
 
--- what writing bytes into a file comes to, whatever else changes by the call: a refusal, nothing where there are no bytes, or what
--- the record does
+-- what writing bytes into a file comes to, whatever else changes by the call: a refusal, nothing
+-- where there are no bytes, or what the record does
 abbrev pub PutsBytes : ℕ → Volume → (ℕ → Option Description) → ℕ → ℕ → List ℕ → Result (Option Prepared) Errno → Type 0
 PutsBytes inodes v table n offset bytes (Err errno) =
     (also : Tree → Tree) → puts (tree_of v table) n offset bytes also (Refused errno) (tree_of v table) nothing
@@ -27,10 +27,11 @@ PutsBytes inodes v table n offset bytes (Ok (Some p)) =
     × ((also : Tree → Tree) → puts (tree_of v table) n offset bytes also (Wrote (length bytes))
     (also (tree_of (applied (write n offset bytes) v) table)) (logs (puts_bytes (length (contents (tree_of v table) n)) offset (length bytes))))
 
--- what a new size of a file comes to: nothing where it is the old one, or what the record does; it isn't refused
-abbrev pub CutsBytes : ℕ → Volume → (ℕ → Option Description) → ℕ → ℕ → Result (Option Prepared) Errno → Type 0
-CutsBytes inodes v table n size (Err errno) = ⊥
-CutsBytes inodes v table n size (Ok None) = cuts (tree_of v table) n size Done (tree_of v table) nothing
-CutsBytes inodes v table n size (Ok (Some p)) =
-    GoesOver inodes v table (cut n size)
-    × cuts (tree_of v table) n size Done (tree_of (applied (cut n size) v) table) (logs (changes_size (length (contents (tree_of v table) n)) size))
+-- what a new size of a file comes to: nothing where it is the old one, or what the record does; it
+-- isn't refused
+abbrev pub TruncatesBytes : ℕ → Volume → (ℕ → Option Description) → ℕ → ℕ → Result (Option Prepared) Errno → Type 0
+TruncatesBytes inodes v table n size (Err errno) = ⊥
+TruncatesBytes inodes v table n size (Ok None) = truncates_file (tree_of v table) n size Done (tree_of v table) nothing
+TruncatesBytes inodes v table n size (Ok (Some p)) =
+    GoesOver inodes v table (truncate n size)
+    × truncates_file (tree_of v table) n size Done (tree_of (applied (truncate n size) v) table) (logs (changes_size (length (contents (tree_of v table) n)) size))

@@ -2,18 +2,18 @@
 use Rattle.std.specs.Prelude.{ℕ, ◌≡◌, ◌+◌, ◌≤◌, Option, Some, None, IfSome}
 use Rattle.dirs.specs.Room.{piece_count}
 use Rattle.inode.specs.Room.{StoresMore, edit_room, file_room}
-use Rattle.inode.specs.declared.change.Change.{Change}
+use Rattle.inode.specs.declared.file_update.FileUpdate.{FileUpdate}
 use Rattle.inode.specs.declared.object.Object.{Object}
 use Rattle.inofile.specs.Inodes.{loaded}
 use Rattle.inofile.specs.Room.{slot_room}
 use Rattle.inofile.specs.declared.inode_file.InodeFile.{InodeFile}
 use Rattle.inofile.specs.declared.inode_file.ObjectSlot.{ObjectSlot}
-use Rattle.records.specs.declared.steps.Step.{Step}
+use Rattle.records.specs.declared.steps.ObjectUpdate.{ObjectUpdate}
 use Rattle.records.specs.declared.steps.Update.{Update}
 use Rattle.records.specs.declared.steps.Update.TheVariants as updates
 
 -- a change of the object's bytes stores so many blocks more at the most
-abbrev pub StoresIn : Option Object → Change → ℕ → Type 0
+abbrev pub StoresIn : Option Object → FileUpdate → ℕ → Type 0
 StoresIn o change k = IfSome o (λ x. StoresMore x.file change k)
 
 -- an update of an object raises what its number needs by so much at the most
@@ -25,7 +25,8 @@ UpdateRoom o (updates.SetMode mode) k = 2 ≤ k
 UpdateRoom o (updates.Bytes change) k = (more : ℕ) × (more + 2 ≤ k) × StoresIn o change more
 UpdateRoom o (updates.Links links) k = 6 ≤ k
 
--- a new object's file needs so few blocks: those of the longest text of a link, and of the places over them
+-- a new object's file needs so few blocks: those of the longest text of a link, and of the places
+-- over them
 abbrev pub HasRoomOfNew : Object → Type 0
 HasRoomOfNew o = file_room o.file ≤ 5
 
@@ -35,11 +36,11 @@ RaisesFile old new k =
     (o : Object) → old ≡ Some o → (p : Object) × (new ≡ Some p) × (file_room p.file ≤ file_room o.file + k)
 
 -- so does a step
-abbrev pub StepRoom : InodeFile → Step → ℕ → Type 0
+abbrev pub StepRoom : InodeFile → ObjectUpdate → ℕ → Type 0
 StepRoom s step k = UpdateRoom (loaded s step.number) step.update k
 
 -- and a step, if there is one
-abbrev pub SomeRoom : InodeFile → Option Step → ℕ → Type 0
+abbrev pub SomeRoom : InodeFile → Option ObjectUpdate → ℕ → Type 0
 SomeRoom s None k = Unit {0}
 SomeRoom s (Some step) k = StepRoom s step k
 

@@ -16,7 +16,7 @@ use Rattle.inofile.specs.declared.inode_file.InodeFile.{InodeFile}
 use Rattle.records.specs.Contents.{FitsFile, RewritesIn}
 use Rattle.records.specs.Entering.{EditsIn, FitsObject, with_node_names}
 use Rattle.records.specs.Room.{SomeRoom}
-use Rattle.records.specs.declared.steps.Step.{Step}
+use Rattle.records.specs.declared.steps.ObjectUpdate.{ObjectUpdate}
 use Rattle.records.specs.declared.steps.Update.{Update}
 use Rattle.records.specs.declared.steps.Update.TheVariants as updates
 
@@ -28,7 +28,7 @@ pub record IsAtHand (s : InodeFile) (number : ℕ) : Type 0 where
   pub known : IsKnown s number
 
 -- so is the object of a step, if there is one
-abbrev pub IsSomeAtHand : InodeFile → Option Step → Type 0
+abbrev pub IsSomeAtHand : InodeFile → Option ObjectUpdate → Type 0
 IsSomeAtHand s None = Unit {0}
 IsSomeAtHand s (Some step) = IsAtHand s step.number
 
@@ -56,17 +56,17 @@ IsAlone (updates.Bytes change) = ⊥
 IsAlone update = Unit {0}
 
 -- memory has room for a step, if there is one
-abbrev pub TakesSome : InodeFile → Option Step → Type 0
+abbrev pub TakesSome : InodeFile → Option ObjectUpdate → Type 0
 TakesSome s None = Unit {0}
 TakesSome s (Some step) = TakesUpdate s step.number step.update
 
 -- a step, if there is one, doesn't depend on what the object of this number is in memory
-abbrev pub IsSomeApart : ℕ → Option Step → Type 0
+abbrev pub IsSomeApart : ℕ → Option ObjectUpdate → Type 0
 IsSomeApart n None = Unit {0}
 IsSomeApart n (Some step) = IsApart n step.number step.update
 
 -- a step, if there is one, isn't of this number
-abbrev pub IsBeside : ℕ → Option Step → Type 0
+abbrev pub IsBeside : ℕ → Option ObjectUpdate → Type 0
 IsBeside n None = Unit {0}
 IsBeside n (Some step) = step.number ≢ n
 
@@ -80,7 +80,8 @@ abbrev pub with_node_links : ℕ → Option Node → Option Node
 with_node_links links (Some (file_node attributes old bytes)) = Some (file_node attributes links bytes)
 with_node_links links o = o
 
--- An update makes one object of a volume of another, or of none, in so much detail; in memory it is this one, or none.
+-- An update makes one object of a volume of another, or of none, in so much detail; in memory it is
+-- this one, or none.
 abbrev pub Updates : Detail → (ℕ → List ℕ) → ℕ → Inode → Option Node → Option Object → Update → Option Node → Type 0
 Updates detail disk inodes settled found o (updates.Set object) to = IsObjectOrNone detail disk inodes settled object to
 Updates detail disk inodes settled found o (updates.Names edit) to =
@@ -93,19 +94,19 @@ Updates detail disk inodes settled found o (updates.Links links) to =
     IsTrue (is_file_node found) × (links ≤ FILE_NAMES) × (to ≡ with_node_links links found)
 
 -- a step makes one volume of another
-abbrev pub Steps : Detail → (ℕ → List ℕ) → (ℕ → Inode) → InodeFile → Volume → Step → Volume → Type 0
+abbrev pub Steps : Detail → (ℕ → List ℕ) → (ℕ → Inode) → InodeFile → Volume → ObjectUpdate → Volume → Type 0
 Steps detail disk settled s v step w =
     (to : Option Node) × Updates detail disk s.geometry.inodes (settled step.number) (v step.number) (loaded s step.number) step.update to
     × (w ≡ with_node step.number to v)
 
 -- so does a step, if there is one, and else nothing changes
-abbrev pub StepsSome : Detail → (ℕ → List ℕ) → (ℕ → Inode) → InodeFile → Volume → Option Step → Volume → Type 0
+abbrev pub StepsSome : Detail → (ℕ → List ℕ) → (ℕ → Inode) → InodeFile → Volume → Option ObjectUpdate → Volume → Type 0
 StepsSome detail disk settled s v None w = w ≡ v
 StepsSome detail disk settled s v (Some step) w = Steps detail disk settled s v step w
 
--- A step, if there is one, is put in force: its object is at hand then, all others stay as they are, and memory stands for the
--- volume that the step makes.
-pub record Commits (s t : InodeFile) (step : Option Step) : Type 0 where
+-- A step, if there is one, is put in force: its object is at hand then, all others stay as they
+-- are, and memory stands for the volume that the step makes.
+pub record Commits (s t : InodeFile) (step : Option ObjectUpdate) : Type 0 where
   pub geometry : t.geometry ≡ s.geometry
   pub keeps : (n : ℕ) → HasRoomFor s n → HasRoomFor t n
   pub stays : (n : ℕ) → IsKnown s n → IsKnown t n

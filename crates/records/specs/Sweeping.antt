@@ -8,7 +8,8 @@ use Rattle.inofile.specs.Room.{memory_room}
 use Rattle.inofile.specs.Volumes.{IsVolumeOf}
 use Rattle.inofile.specs.declared.inode_file.InodeFile.{InodeFile}
 
--- a volume without the file of a number, if there is a number, and a file of it with neither name nor descriptor
+-- a volume without the file of a number, if there is a number, and a file of it with neither name
+-- nor descriptor
 abbrev pub without_file : (ℕ → Option Description) → Option ℕ → Volume → Volume
 without_file table None v = v
 without_file table (Some n) v = with_node n (swept_node (is_open table OPEN_FILES n) (v n)) v
@@ -22,6 +23,7 @@ with_object_of w (Some n) v = with_node n (w n) v
 abbrev pub OpensFiles : (ℕ → Option Description) → Volume → Type 0
 OpensFiles table v = (d : ℕ) (f : Description) → table d ≡ Some f → IsTrue (is_file_node (v f.number))
 
--- memory stands for this volume, and may have to store no more for it than it had to for the one before
+-- memory stands for this volume, and may have to store no more for it than it had to for the one
+-- before
 abbrev pub StandsNoMore : Volume → ℕ → (ℕ → List ℕ) → (ℕ → Inode) → InodeFile → Volume → InodeFile → Volume → Type 0
 StandsNoMore base count disk settled s v t w = IsVolumeOf count disk settled t w × (memory_room base t w ≤ memory_room base s v)

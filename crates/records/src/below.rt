@@ -4,31 +4,31 @@ ghost use Rattle.std.specs.Prelude.{◌≡◌, ◌<◌, ◌↔◌, ◌⊎◌, �
 ghost use Rattle.std.specs.List.{Contains};
 ghost use Rattle.model.specs.Records.{IsBelow};
 ghost use Rattle.model.specs.Volumes.{entries};
-ghost use Rattle.blocktree.specs.Errors.{IsFault};
+ghost use Rattle.buffers.specs.Errors.{IsFault};
 ghost use Rattle.images.specs.Soundness.{Detail};
 ghost use Rattle.paths.specs.Loads.{OnlyLoads};
-ghost use Rattle.paths.specs.Numbers.{AreNumbers, IsNumber};
+ghost use Rattle.paths.specs.Numbers.{AreInodeNumbers, IsInodeNumber};
 ghost use Rattle.paths.specs.Standing.{Looks};
 ghost use Rattle.records.specs.Below.{IsChild, IsMarkedNumber, MarksMore};
 ghost use Rattle.records.specs.Shown.{NeverDamagedIn, OnVolumesIn};
 
 use crate::loading::is_same;
-use crate::unnaming::is_empty;
-use blocktree::ReadError;
-use buffers::Blocks;
+use crate::name_removal::is_empty;
+use buffers::{BlockError, Blocks};
 use inofile::InodeFile;
 use layout::InodeNumber;
 use std::alloc::{AllocError, Global};
 
-/// Whether a number is that of an object, or of one below it. Below an object without names there is none, so nothing is marked then.
+/// Whether a number is that of an object, or of one below it. Below an object without names there
+/// is none, so nothing is marked then.
 pub(crate) fn is_below<B: Blocks>(
     alloc: Global,
     inodes: &mut InodeFile,
     blocks: &mut B,
     top: InodeNumber,
     number: InodeNumber,
-) -> Result<bool, ReadError>
-    requires top { IsNumber inodes.old.geometry.inodes top }
+) -> Result<bool, BlockError>
+    requires top { IsInodeNumber inodes.old.geometry.inodes top }
     requires number { number < inodes.old.geometry.inodes }
     ensures looks { Looks B.Blocks IsFault blocks.old blocks.new inodes.old inodes.new result }
     ensures below { (detail : Detail) → OnVolumesIn detail B.Blocks blocks.old inodes.old (λ disk settled v.
@@ -52,8 +52,8 @@ fn search<B: Blocks>(
     blocks: &mut B,
     top: InodeNumber,
     number: InodeNumber,
-) -> Result<bool, ReadError>
-    requires top { IsNumber inodes.old.geometry.inodes top }
+) -> Result<bool, BlockError>
+    requires top { IsInodeNumber inodes.old.geometry.inodes top }
     requires number { number < inodes.old.geometry.inodes }
     ensures looks { Looks B.Blocks IsFault blocks.old blocks.new inodes.old inodes.new result }
     ensures below { (detail : Detail) → OnVolumesIn detail B.Blocks blocks.old inodes.old (λ disk settled v.
@@ -77,11 +77,11 @@ fn children_of<B: Blocks>(
     inodes: &mut InodeFile,
     blocks: &mut B,
     number: InodeNumber,
-) -> Result<Vec<InodeNumber>, ReadError>
-    requires { IsNumber inodes.old.geometry.inodes number }
+) -> Result<Vec<InodeNumber>, BlockError>
+    requires { IsInodeNumber inodes.old.geometry.inodes number }
     ensures looks { Looks B.Blocks IsFault blocks.old blocks.new inodes.old inodes.new result }
     ensures loads { OnlyLoads inodes.old inodes.new }
-    ensures within { IfOk result (λ c. AreNumbers inodes.old.geometry.inodes c.items) }
+    ensures within { IfOk result (λ c. AreInodeNumbers inodes.old.geometry.inodes c.items) }
     ensures children { (detail : Detail) → OnVolumesIn detail B.Blocks blocks.old inodes.old (λ disk settled v.
         IfOk result (λ c. (n : ℕ) → Contains c.items n ↔ IsChild (entries v) number n)) }
     ensures damaged { (detail : Detail) → NeverDamagedIn detail B.Blocks blocks.old inodes.old result }
@@ -103,13 +103,13 @@ fn mark_all(
     left: &mut Vec<InodeNumber>,
     numbers: &[InodeNumber],
 ) -> Result<(), AllocError>
-    requires { AreNumbers (length marks.old.items) numbers.now }
+    requires { AreInodeNumbers (length marks.old.items) numbers.now }
     ensures marks { MarksMore marks.old.items marks.new.items left.old.items left.new.items }
     ensures all { OnOk result ((n : ℕ) → Contains numbers.now n → IsMarkedNumber marks.new.items n) }
     ensures only { (n : ℕ) → IsMarkedNumber marks.new.items n
         → IsMarkedNumber marks.old.items n ⊎ Contains numbers.now n }
-    ensures within { (count : ℕ) → AreNumbers count numbers.now → AreNumbers count left.old.items
-        → AreNumbers count left.new.items }
+    ensures within { (count : ℕ) → AreInodeNumbers count numbers.now → AreInodeNumbers count left.old.items
+        → AreInodeNumbers count left.new.items }
 {
     for number in numbers {
         mark(marks, left, *number)?;
@@ -128,8 +128,8 @@ fn mark(
     ensures marked { OnOk result (IsMarkedNumber marks.new.items number) }
     ensures only { (n : ℕ) → IsMarkedNumber marks.new.items n
         → IsMarkedNumber marks.old.items n ⊎ (n ≡ number) }
-    ensures within { (count : ℕ) → IsNumber count number → AreNumbers count left.old.items
-        → AreNumbers count left.new.items }
+    ensures within { (count : ℕ) → IsInodeNumber count number → AreInodeNumbers count left.old.items
+        → AreInodeNumbers count left.new.items }
 {
     let at = number.get() as usize;
     if marks[at] {

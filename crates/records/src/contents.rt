@@ -7,7 +7,7 @@ ghost use Rattle.model.specs.Records.{with_file_bytes};
 ghost use Rattle.model.specs.Volumes.{Node, is_file_node};
 ghost use Rattle.model.specs.declared.limits.TheConstants.{GREATEST_FILE, TRANSFER_BYTES};
 ghost use Rattle.buffers.specs.Reads.{ReadsBlocks};
-ghost use Rattle.blocktree.specs.Errors.{IsFault};
+ghost use Rattle.buffers.specs.Errors.{IsFault};
 ghost use Rattle.images.specs.Edges.{EndsIn as IsEnd, IsPartlyWritten};
 ghost use Rattle.images.specs.Replaying.{ReadsIn};
 ghost use Rattle.images.specs.Soundness.{Detail};
@@ -16,21 +16,20 @@ ghost use Rattle.inode.specs.Room.{StoresMore, size_room, write_room};
 ghost use Rattle.inode.specs.declared.object.Object.{Object};
 ghost use Rattle.inofile.specs.Inodes.{loaded};
 ghost use Rattle.inofile.specs.Objects.{EndsIn, IsObjectIn, IsObjectOrNone, IsSameObject, IsSameOrNone, StaysKnown};
-ghost use Rattle.paths.specs.Numbers.{IsNumber};
+ghost use Rattle.paths.specs.Numbers.{IsInodeNumber};
 ghost use Rattle.paths.specs.Standing.{Looks};
 ghost use Rattle.records.specs.Contents.{FitsFile, IsSoundIn, IsWholeIn, KeepsRewriteBounds, LeavesPart, PlansFile, RewriteRoom, RewritesFile, RewritesIn, bytes_after, rewrite_room, rewriting};
-ghost use Rattle.records.specs.Failures.{told};
+ghost use Rattle.records.specs.Failures.{read_outcome};
 ghost use Rattle.records.specs.Preparing.{DecidesRecord};
 ghost use Rattle.records.specs.Shown.{OnVolumesIn};
 ghost use Rattle.records.specs.Room.{RaisesFile, StoresIn};
 ghost use Rattle.records.specs.Steps.{TakesUpdate};
 
 use crate::loading::{is_number, load_to_change};
-use crate::steps::{Step, Update};
+use crate::steps::{ObjectUpdate, Update};
 use crate::{Failure, Prepared};
-use blocktree::ReadError;
-use buffers::Blocks;
-use inode::{Change, ChangeError, File, Object};
+use buffers::{BlockError, Blocks};
+use inode::{ChangeError, File, FileUpdate, Object};
 use inofile::{InodeFile, objects_stand_in_their_grammar};
 use layout::{InodeNumber, Kind};
 use model::{Errno, GREATEST_FILE, TRANSFER_BYTES};
@@ -42,10 +41,11 @@ pub(crate) enum Rewrite<'a> {
     /// These are written, from an offset on.
     Write { offset: u64, bytes: &'a [u8] },
     /// There are so many from then on.
-    Cut { size: u64 },
+    Truncate { size: u64 },
 }
 
-/// Prepares that a file's bytes are changed; or tells the obstacle: EFBIG where the number is of no file, or the change goes past a limit.
+/// Prepares that a file's bytes are changed; or tells the obstacle: EFBIG where the number is of no
+/// file, or the change goes past a limit.
 pub(crate) fn prepare_bytes<B: Blocks>(
     alloc: Global,
     inodes: &mut InodeFile,
@@ -55,7 +55,7 @@ pub(crate) fn prepare_bytes<B: Blocks>(
 ) -> Result<Prepared, Failure>
     ensures decides { DecidesRecord B.Blocks blocks.old blocks.new inodes.old inodes.new
         (rewriting number rewrite.now) result }
-    ensures own { IfOk (told result) (λ r. IfErr r (λ e. e ≡ Errno.EFBIG)) }
+    ensures own { IfOk (read_outcome result) (λ r. IfErr r (λ e. e ≡ Errno.EFBIG)) }
     ensures bounds { IfOk result (λ _. KeepsRewriteBounds rewrite.now) }
 {
     if !keeps_bounds(rewrite) {
@@ -69,7 +69,7 @@ pub(crate) fn prepare_bytes<B: Blocks>(
         return Err(Failure::Refused(Errno::EFBIG));
     };
     Ok(Prepared {
-        first: Step {
+        first: ObjectUpdate {
             number,
             update: Update::Bytes(change),
         },
@@ -88,20 +88,21 @@ fn keeps_bounds(rewrite: &Rewrite<'_>) -> bool
                 && bytes.len() <= TRANSFER_BYTES
                 && *offset <= GREATEST_FILE - bytes.len() as u64
         }
-        Rewrite::Cut { size } => *size <= GREATEST_FILE,
+        Rewrite::Truncate { size } => *size <= GREATEST_FILE,
     }
 }
 
-// The change of the file with a number, as it is known in memory from then on; None where it is none.
+// The change of the file with a number, as it is known in memory from then on; None where it is
+// none.
 fn plan_number<B: Blocks>(
     alloc: Global,
     inodes: &mut InodeFile,
     blocks: &mut B,
     number: InodeNumber,
     rewrite: &Rewrite<'_>,
-) -> Result<Option<Change>, ReadError>
+) -> Result<Option<FileUpdate>, BlockError>
     requires bounds { KeepsRewriteBounds rewrite.now }
-    requires number { IsNumber inodes.old.geometry.inodes number }
+    requires number { IsInodeNumber inodes.old.geometry.inodes number }
     ensures looks { Looks B.Blocks IsFault blocks.old blocks.new inodes.old inodes.new result }
     ensures planned { (detail : Detail) → OnVolumesIn detail B.Blocks blocks.old inodes.old (λ disk settled v.
         IfOk result (λ w. (is_some w ≡ is_file_node (v number))
@@ -109,7 +110,7 @@ fn plan_number<B: Blocks>(
     ensures parts { (detail : Detail) → OnVolumesIn detail B.Blocks blocks.old inodes.old (λ disk settled v.
         IsTrue (is_file_node (v number)) → OnOk result (ReadsIn detail v (rewriting number rewrite.now))) }
     ensures damaged { (detail : Detail) → OnVolumesIn detail B.Blocks blocks.old inodes.old (λ disk settled v.
-        ReadsIn detail v (rewriting number rewrite.now) → IsErrOf result ReadError.Damaged → ⊥) }
+        ReadsIn detail v (rewriting number rewrite.now) → IsErrOf result BlockError.Damaged → ⊥) }
     ensures ready { IfOk result
         (λ w. IfSome w (λ x. TakesUpdate inodes.new number (Update.Bytes x))) }
     ensures stores { IfOk result
@@ -130,7 +131,7 @@ fn plan_object<B: Blocks>(
     object: &mut Option<Object>,
     blocks: &mut B,
     rewrite: &Rewrite<'_>,
-) -> Result<Option<Change>, ReadError>
+) -> Result<Option<FileUpdate>, BlockError>
     requires { KeepsRewriteBounds rewrite.now }
     ensures reads { ReadsBlocks B.Blocks IsFault blocks.old blocks.new result }
     ensures same { IsSameOrNone object.old object.new }
@@ -147,7 +148,7 @@ fn plan_object<B: Blocks>(
     ensures whole { (disk : ℕ → List ℕ) (o : Object) → B.Shows blocks.old disk → object.old ≡ Some o
         → OnOk result (IsWholeIn disk rewrite.now o) }
     ensures damaged { (disk : ℕ → List ℕ) → B.Shows blocks.old disk
-        → IsErrOf result ReadError.Damaged → ((o : Object) → object.old ≡ Some o
+        → IsErrOf result BlockError.Damaged → ((o : Object) → object.old ≡ Some o
         → IsSoundIn (B.count blocks.old) disk rewrite.now o) → ⊥ }
 {
     let Some(mut taken) = object.take() else {
@@ -164,7 +165,7 @@ fn plan_taken<B: Blocks>(
     object: &mut Object,
     blocks: &mut B,
     rewrite: &Rewrite<'_>,
-) -> Result<Option<Change>, ReadError>
+) -> Result<Option<FileUpdate>, BlockError>
     requires { KeepsRewriteBounds rewrite.now }
     ensures reads { ReadsBlocks B.Blocks IsFault blocks.old blocks.new result }
     ensures same { IsSameObject object.old object.new }
@@ -181,7 +182,7 @@ fn plan_taken<B: Blocks>(
     ensures whole { (disk : ℕ → List ℕ) → B.Shows blocks.old disk
         → OnOk result (IsWholeIn disk rewrite.now object.old) }
     ensures damaged { (disk : ℕ → List ℕ) → B.Shows blocks.old disk
-        → IsErrOf result ReadError.Damaged
+        → IsErrOf result BlockError.Damaged
         → IsSoundIn (B.count blocks.old) disk rewrite.now object.old → ⊥ }
 {
     match object.status.kind {
@@ -198,7 +199,7 @@ fn plan<B: Blocks>(
     file: &mut File,
     blocks: &mut B,
     rewrite: &Rewrite<'_>,
-) -> Result<Change, ReadError>
+) -> Result<FileUpdate, BlockError>
     requires { KeepsRewriteBounds rewrite.now }
     ensures { PlansFile B.Blocks blocks.old blocks.new file.old file.new
         (bytes_after rewrite.now) (rewrite_room file.old.size rewrite.now)
@@ -206,7 +207,7 @@ fn plan<B: Blocks>(
 {
     match rewrite {
         Rewrite::Write { offset, bytes } => plan_write(alloc, file, blocks, *offset, bytes),
-        Rewrite::Cut { size } => plan_cut(alloc, file, blocks, *size),
+        Rewrite::Truncate { size } => plan_truncate(alloc, file, blocks, *size),
     }
 }
 
@@ -217,7 +218,7 @@ fn plan_write<B: Blocks>(
     blocks: &mut B,
     offset: u64,
     bytes: &[u8],
-) -> Result<Change, ReadError>
+) -> Result<FileUpdate, BlockError>
     requires some { 1 ≤ length bytes.now }
     requires few { length bytes.now ≤ TRANSFER_BYTES }
     requires within { offset + length bytes.now ≤ GREATEST_FILE }
@@ -227,36 +228,36 @@ fn plan_write<B: Blocks>(
 {
     match file.prepare_write(alloc, blocks, offset, bytes) {
         Ok(change) => Ok(change),
-        Err(ChangeError::NoMemory) => Err(ReadError::NoMemory),
-        Err(ChangeError::Device) => Err(ReadError::Device),
-        Err(ChangeError::Damaged) => Err(ReadError::Damaged),
+        Err(ChangeError::NoMemory) => Err(BlockError::NoMemory),
+        Err(ChangeError::Device) => Err(BlockError::Device),
+        Err(ChangeError::Damaged) => Err(BlockError::Damaged),
         Err(ChangeError::TooBig) => unreachable!(),
     }
 }
 
 // A new size of a file.
-fn plan_cut<B: Blocks>(
+fn plan_truncate<B: Blocks>(
     alloc: Global,
     file: &mut File,
     blocks: &mut B,
     size: u64,
-) -> Result<Change, ReadError>
+) -> Result<FileUpdate, BlockError>
     requires { size ≤ GREATEST_FILE }
     ensures { PlansFile B.Blocks blocks.old blocks.new file.old file.new
         (resized size) (size_room file.old.size size)
         (IsEnd file.old.size size) result }
 {
-    match file.prepare_cut(alloc, blocks, size) {
+    match file.prepare_truncate(alloc, blocks, size) {
         Ok(change) => Ok(change),
-        Err(ChangeError::NoMemory) => Err(ReadError::NoMemory),
-        Err(ChangeError::Device) => Err(ReadError::Device),
-        Err(ChangeError::Damaged) => Err(ReadError::Damaged),
+        Err(ChangeError::NoMemory) => Err(BlockError::NoMemory),
+        Err(ChangeError::Device) => Err(BlockError::Device),
+        Err(ChangeError::Damaged) => Err(BlockError::Damaged),
         Err(ChangeError::TooBig) => unreachable!(),
     }
 }
 
 /// Puts a change of a file's bytes in force.
-pub(crate) fn commit_bytes(object: &mut Option<Object>, change: Change)
+pub(crate) fn commit_bytes(object: &mut Option<Object>, change: FileUpdate)
     requires { FitsFile object.old change }
     ensures room { (k : ℕ) → StoresIn object.old change k → RaisesFile object.old object.new k }
     ensures rewrites { (detail : Detail) (disk : ℕ → List ℕ) (inodes : ℕ) (settled : Inode)

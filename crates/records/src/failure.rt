@@ -1,6 +1,6 @@
 //! Why a call isn't done.
 
-use blocktree::ReadError;
+use buffers::BlockError;
 use model::Errno;
 use std::alloc::{AllocError, AllocFailed};
 
@@ -10,16 +10,16 @@ pub enum Failure {
     /// It is refused.
     Refused(Errno),
     /// A block wasn't read.
-    Read(ReadError),
+    Read(BlockError),
 }
 
-impl From<ReadError> for Failure {
+impl From<BlockError> for Failure {
     ghost use Rattle.std.specs.Prelude.{◌≡◌};
     ghost use Rattle.records.specs.declared.failure.Failure.TheVariants.{Read};
 
     ghost from_gives = { λ e f. f ≡ Read e };
 
-    fn from(error: ReadError) -> Failure {
+    fn from(error: BlockError) -> Failure {
         Failure::Read(error)
     }
 }
@@ -37,24 +37,24 @@ impl From<Errno> for Failure {
 
 impl From<AllocError> for Failure {
     ghost use Rattle.std.specs.Prelude.{◌≡◌};
-    ghost use Rattle.blocktree.specs.declared.error.ReadError.TheVariants.{NoMemory};
+    ghost use Rattle.buffers.specs.declared.error.BlockError.TheVariants.{NoMemory};
     ghost use Rattle.records.specs.declared.failure.Failure.TheVariants.{Read};
 
     ghost from_gives = { λ _ f. f ≡ Read NoMemory };
 
     fn from(_: AllocError) -> Failure {
-        Failure::Read(ReadError::NoMemory)
+        Failure::Read(BlockError::NoMemory)
     }
 }
 
 impl<T: Drop> From<AllocFailed<T>> for Failure {
     ghost use Rattle.std.specs.Prelude.{◌≡◌};
-    ghost use Rattle.blocktree.specs.declared.error.ReadError.TheVariants.{NoMemory};
+    ghost use Rattle.buffers.specs.declared.error.BlockError.TheVariants.{NoMemory};
     ghost use Rattle.records.specs.declared.failure.Failure.TheVariants.{Read};
 
     ghost from_gives = { λ _ f. f ≡ Read NoMemory };
 
     fn from(_: AllocFailed<T>) -> Failure {
-        Failure::Read(ReadError::NoMemory)
+        Failure::Read(BlockError::NoMemory)
     }
 }

@@ -1,12 +1,11 @@
 //! What stands at a number.
 
 ghost use Rattle.std.specs.Prelude.{◌≡◌};
-ghost use Rattle.paths.specs.Numbers.{IsNumber};
+ghost use Rattle.paths.specs.Numbers.{IsInodeNumber};
 ghost use Rattle.paths.specs.Steps.{found_in};
 ghost use Rattle.records.specs.Looking.{Finds};
 
-use blocktree::ReadError;
-use buffers::Blocks;
+use buffers::{BlockError, Blocks};
 use inofile::InodeFile;
 use layout::InodeNumber;
 use paths::Found;
@@ -18,8 +17,8 @@ pub fn kind_at<B: Blocks>(
     inodes: &mut InodeFile,
     blocks: &mut B,
     number: InodeNumber,
-) -> Result<Found, ReadError>
-    requires { IsNumber inodes.old.geometry.inodes number }
+) -> Result<Found, BlockError>
+    requires { IsInodeNumber inodes.old.geometry.inodes number }
     ensures { Finds B.Blocks blocks.old blocks.new inodes.old inodes.new
         (λ detail disk settled v f. f ≡ found_in (v number)) result }
 {

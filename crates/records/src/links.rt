@@ -10,10 +10,10 @@ ghost use Rattle.inofile.specs.Volumes.{IsVolumeIn};
 ghost use Rattle.records.specs.Preparing.{DecidesRecord};
 ghost use Rattle.records.specs.Steps.{IsFileWithLinks};
 
-use crate::entering::edit_parent;
+use crate::directory_names::edit_parent;
 use crate::loading::{is_number, load_to_change};
 use crate::naming::NameEdit;
-use crate::steps::{Step, Update};
+use crate::steps::{ObjectUpdate, Update};
 use crate::{Failure, Prepared};
 use buffers::Blocks;
 use inofile::InodeFile;
@@ -21,8 +21,9 @@ use layout::{Entry, InodeNumber, Kind, is_name};
 use model::{Errno, FILE_NAMES};
 use std::alloc::Global;
 
-/// Prepares that a file gets a name more; or tells the first obstacle: ENAMETOOLONG where the name is none, EPERM where the number is of
-/// no file, EMLINK where the file has as many names as it may have, DIRFULL where the parent doesn't take the name.
+/// Prepares that a file gets a name more; or tells the first obstacle: ENAMETOOLONG where the name
+/// is none, EPERM where the number is of no file, EMLINK where the file has as many names as it may
+/// have, DIRFULL where the parent doesn't take the name.
 pub fn prepare_link<B: Blocks>(
     alloc: Global,
     inodes: &mut InodeFile,
@@ -56,11 +57,11 @@ pub fn prepare_link<B: Blocks>(
         return Err(Failure::Refused(Errno::DIRFULL));
     };
     Ok(Prepared {
-        first: Step {
+        first: ObjectUpdate {
             number: parent,
             update: Update::Names(edit),
         },
-        next: Some(Step {
+        next: Some(ObjectUpdate {
             number,
             update: Update::Links(links + 1),
         }),

@@ -4,20 +4,19 @@ ghost use Rattle.std.specs.Prelude.{◌≡◌, ◌≢◌, None, IsFalse, IsTrue}
 ghost use Rattle.model.specs.Volumes.{Volume};
 ghost use Rattle.images.specs.Soundness.{Detail};
 ghost use Rattle.inofile.specs.Inodes.{IsKnown};
-ghost use Rattle.paths.specs.Numbers.{IsNumber};
+ghost use Rattle.paths.specs.Numbers.{IsInodeNumber};
 ghost use Rattle.records.specs.Looking.{Brings};
 ghost use Rattle.records.specs.Preparing.{IsKnownVolume};
 ghost use Rattle.records.specs.Steps.{IsAtHand};
 
-use blocktree::ReadError;
-use buffers::Blocks;
+use buffers::{BlockError, Blocks};
 use inofile::InodeFile;
 use layout::{InodeNumber, ROOT_NUMBER};
 use std::alloc::Global;
 
 /// Whether a number is that of the root or of another object; a volume has nothing of any other.
 pub(crate) fn is_number(inodes: &InodeFile, number: InodeNumber) -> bool
-    ensures yes { IsTrue result → IsNumber inodes.now.geometry.inodes number }
+    ensures yes { IsTrue result → IsInodeNumber inodes.now.geometry.inodes number }
     ensures no { IsFalse result
         → (detail : Detail) (v : Volume) → IsKnownVolume detail inodes.now.geometry.inodes v
         → v number ≡ None }
@@ -39,23 +38,23 @@ pub fn load<B: Blocks>(
     inodes: &mut InodeFile,
     blocks: &mut B,
     number: InodeNumber,
-) -> Result<(), ReadError>
-    requires { IsNumber inodes.old.geometry.inodes number }
+) -> Result<(), BlockError>
+    requires { IsInodeNumber inodes.old.geometry.inodes number }
     ensures { Brings B.Blocks blocks.old blocks.new inodes.old inodes.new
         (λ s. IsKnown s number) result }
 {
     paths::load(alloc, inodes, blocks, number)
 }
 
-/// Takes an object into memory, with room for a change of it. NoMemory; Device where a read failed; Damaged where a block on the
-/// way is outside its format.
+/// Takes an object into memory, with room for a change of it. NoMemory; Device where a read failed;
+/// Damaged where a block on the way is outside its format.
 pub fn load_to_change<B: Blocks>(
     alloc: Global,
     inodes: &mut InodeFile,
     blocks: &mut B,
     number: InodeNumber,
-) -> Result<(), ReadError>
-    requires { IsNumber inodes.old.geometry.inodes number }
+) -> Result<(), BlockError>
+    requires { IsInodeNumber inodes.old.geometry.inodes number }
     ensures { Brings B.Blocks blocks.old blocks.new inodes.old inodes.new
         (λ s. IsAtHand s number) result }
 {

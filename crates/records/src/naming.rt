@@ -4,7 +4,7 @@ ghost use Rattle.std.specs.Prelude.{ℕ, ◌+◌, ◌≤◌, List, None, IfOk, I
 ghost use Rattle.layout.specs.Directory.{IsEntry, named_of};
 ghost use Rattle.layout.specs.DirectoryNames.{NameMap};
 ghost use Rattle.buffers.specs.Reads.{ReadsBlocks};
-ghost use Rattle.blocktree.specs.Errors.{IsFault};
+ghost use Rattle.buffers.specs.Errors.{IsFault};
 ghost use Rattle.blocktree.specs.Trees.{IsSoundAt};
 ghost use Rattle.inode.specs.Files.{IsSameFile, file_block};
 ghost use Rattle.dirs.specs.Directory.{with_name};
@@ -15,8 +15,7 @@ ghost use Rattle.records.specs.Entering.{IsNameEdit, pieces_of};
 ghost use Rattle.records.specs.Naming.{EditsFile};
 ghost use Rattle.records.specs.declared.naming.NameEdit.TheVariants as edits;
 
-use blocktree::ReadError;
-use buffers::Blocks;
+use buffers::{BlockError, Blocks};
 use dirs::{AddError, Edit};
 use entries::Known;
 use inode::File;
@@ -36,8 +35,8 @@ pub(crate) enum NameEdit<'a> {
     Move(&'a [u8], Entry<'a>),
 }
 
-/// Prepares an edit of a directory's file; None where it has a name already that is to be added, or no place for one more. Names
-/// are taken away before one is added.
+/// Prepares an edit of a directory's file; None where it has a name already that is to be added, or
+/// no place for one more. Names are taken away before one is added.
 pub(crate) fn edit_file<B: Blocks>(
     alloc: Global,
     file: &mut File,
@@ -45,7 +44,7 @@ pub(crate) fn edit_file<B: Blocks>(
     blocks: &mut B,
     inodes: u32,
     wanted: &NameEdit<'_>,
-) -> Result<Option<Edit>, ReadError>
+) -> Result<Option<Edit>, BlockError>
     requires { IsNameEdit inodes wanted.now }
     ensures { EditsFile (λ disk names. IsDirectory inodes disk file.old names
         × Knows inodes (file_block disk file.old) known.old) (pieces_of wanted.now) B.Blocks blocks.old blocks.new
@@ -69,7 +68,7 @@ fn add_new<B: Blocks>(
     inodes: u32,
     edit: Edit,
     entry: &Entry<'_>,
-) -> Result<Option<Edit>, ReadError>
+) -> Result<Option<Edit>, BlockError>
     requires entry { IsEntry inodes (named_of entry.now) }
     requires fits { FitsIn file.old edit }
     ensures { EditsFile (λ disk names. HasEditedNames inodes disk file.old edit names
@@ -81,9 +80,9 @@ fn add_new<B: Blocks>(
         Ok(true) => Ok(Some(edit)),
         Ok(false) => Ok(None),
         Err(AddError::DirFull) => Ok(None),
-        Err(AddError::NoMemory) => Err(ReadError::NoMemory),
-        Err(AddError::Device) => Err(ReadError::Device),
-        Err(AddError::Damaged) => Err(ReadError::Damaged),
+        Err(AddError::NoMemory) => Err(BlockError::NoMemory),
+        Err(AddError::Device) => Err(BlockError::Device),
+        Err(AddError::Damaged) => Err(BlockError::Damaged),
     }
 }
 
@@ -96,7 +95,7 @@ fn remove_one<B: Blocks>(
     inodes: u32,
     edit: Edit,
     name: &[u8],
-) -> Result<Option<Edit>, ReadError>
+) -> Result<Option<Edit>, BlockError>
     requires fits { FitsIn file.old edit }
     ensures { EditsFile (λ disk names. HasEditedNames inodes disk file.old edit names
         × Knows inodes (edited_block disk file.old edit) known.old) (piece_count edit + 1) B.Blocks blocks.old blocks.new
@@ -115,7 +114,7 @@ fn replace_in<B: Blocks>(
     inodes: u32,
     edit: Edit,
     entry: &Entry<'_>,
-) -> Result<Option<Edit>, ReadError>
+) -> Result<Option<Edit>, BlockError>
     requires entry { IsEntry inodes (named_of entry.now) }
     requires fits { FitsIn file.old edit }
     ensures { EditsFile (λ disk names. HasEditedNames inodes disk file.old edit names
@@ -126,7 +125,8 @@ fn replace_in<B: Blocks>(
     add_new(alloc, file, known, blocks, inodes, edit, entry)
 }
 
-// The same, where it is likely that nothing has the name: the directory is looked through once then.
+// The same, where it is likely that nothing has the name: the directory is looked through once
+// then.
 fn place_in<B: Blocks>(
     alloc: Global,
     file: &mut File,
@@ -135,7 +135,7 @@ fn place_in<B: Blocks>(
     inodes: u32,
     edit: Edit,
     entry: &Entry<'_>,
-) -> Result<Option<Edit>, ReadError>
+) -> Result<Option<Edit>, BlockError>
     requires entry { IsEntry inodes (named_of entry.now) }
     requires fits { FitsIn file.old edit }
     ensures { EditsFile (λ disk names. HasEditedNames inodes disk file.old edit names
@@ -147,13 +147,14 @@ fn place_in<B: Blocks>(
         Ok(true) => Ok(Some(edit)),
         Ok(false) => replace_in(alloc, file, known, blocks, inodes, edit, entry),
         Err(AddError::DirFull) => Ok(None),
-        Err(AddError::NoMemory) => Err(ReadError::NoMemory),
-        Err(AddError::Device) => Err(ReadError::Device),
-        Err(AddError::Damaged) => Err(ReadError::Damaged),
+        Err(AddError::NoMemory) => Err(BlockError::NoMemory),
+        Err(AddError::Device) => Err(BlockError::Device),
+        Err(AddError::Damaged) => Err(BlockError::Damaged),
     }
 }
 
-// A name is gone, and the entry stands in place of the one with its name; None where there is no place for one more.
+// A name is gone, and the entry stands in place of the one with its name; None where there is no
+// place for one more.
 fn move_in<B: Blocks>(
     alloc: Global,
     file: &mut File,
@@ -163,7 +164,7 @@ fn move_in<B: Blocks>(
     edit: Edit,
     old: &[u8],
     entry: &Entry<'_>,
-) -> Result<Option<Edit>, ReadError>
+) -> Result<Option<Edit>, BlockError>
     requires entry { IsEntry inodes (named_of entry.now) }
     requires fits { FitsIn file.old edit }
     ensures { EditsFile (λ disk names. HasEditedNames inodes disk file.old edit names
@@ -183,7 +184,7 @@ fn remove_in<B: Blocks>(
     inodes: u32,
     edit: Edit,
     name: &[u8],
-) -> Result<Edit, ReadError>
+) -> Result<Edit, BlockError>
     requires { FitsIn file.old edit }
     ensures reads { ReadsBlocks B.Blocks IsFault blocks.old blocks.new result }
     ensures same { IsSameFile file.old file.new }
@@ -195,7 +196,7 @@ fn remove_in<B: Blocks>(
         (λ x. HasEditedNames inodes disk file.new x (with_name name.now None names)
         × Knows inodes (edited_block disk file.new x) known.new) }
     ensures damaged { (disk : ℕ → List ℕ) (names : NameMap) → B.Shows blocks.old disk
-        → IsErrOf result ReadError.Damaged → HasEditedNames inodes disk file.old edit names
+        → IsErrOf result BlockError.Damaged → HasEditedNames inodes disk file.old edit names
         → ((i : ℕ) → IsSoundAt (B.count blocks.old) disk file.old.tree i) → ⊥ }
 {
     let mut edit = edit;

@@ -7,29 +7,29 @@ ghost use Rattle.model.specs.Paths.{IsName};
 ghost use Rattle.model.specs.Records.{Change, Made, TakesName, applied, create, is_vacant, node_of, work_of};
 ghost use Rattle.model.specs.Room.{cost};
 ghost use Rattle.model.specs.Volumes.{Volume};
-ghost use Rattle.blocktree.specs.Errors.{IsFault};
+ghost use Rattle.buffers.specs.Errors.{IsFault};
 ghost use Rattle.images.specs.Soundness.{Detail};
 ghost use Rattle.inofile.specs.Objects.{IsObjectIn};
 ghost use Rattle.inofile.specs.Room.{memory_room};
 ghost use Rattle.records.specs.Room.{HasRoomOfNew};
 ghost use Rattle.inofile.specs.Volumes.{IsVolumeIn};
 ghost use Rattle.paths.specs.Standing.{Looks, StandsIn};
-ghost use Rattle.records.specs.Failures.{told};
+ghost use Rattle.records.specs.Failures.{read_outcome};
 ghost use Rattle.records.specs.Prepared.{AreAtHand, DoesIn, IsReady};
 ghost use Rattle.records.specs.Preparing.{DecidesKnown, DecidesRecord, IsKnownVolume};
 ghost use Rattle.records.specs.Shown.{NeverDamagedIn, OnVolumesIn};
 
 use crate::Failure;
+use crate::chmod::prepare_mode;
 use crate::contents::{Rewrite, prepare_bytes};
-use crate::entering::edit_parent;
+use crate::directory_names::edit_parent;
 use crate::links::prepare_link;
 use crate::loading::{is_number, load_to_change};
-use crate::moding::prepare_mode;
+use crate::name_removal::prepare_remove_name;
 use crate::naming::NameEdit;
+use crate::new_objects::{is_made, is_vacant, new_object};
 use crate::renaming::prepare_rename;
-use crate::steps::{Step, Update, commit_some, commit_step};
-use crate::unnaming::prepare_unname;
-use crate::vacancy::{is_made, is_vacant, new_object};
+use crate::steps::{ObjectUpdate, Update, commit_some, commit_update};
 use buffers::Blocks;
 use inode::Object;
 use inofile::InodeFile;
@@ -37,17 +37,17 @@ use layout::{Entry, FIRST_NUMBER, InodeNumber, NewObject, Record};
 use model::Errno;
 use std::alloc::Global;
 
-/// A record's change of the image in memory, with all memory taken and all blocks read: what becomes of one object, and then of
-/// two more, if need be.
+/// A record's change of the image in memory, with all memory taken and all blocks read: what
+/// becomes of one object, and then of two more, if need be.
 #[derive(Drop)]
 pub struct Prepared {
-    pub(crate) first: Step,
-    pub(crate) next: Option<Step>,
-    pub(crate) last: Option<Step>,
+    pub(crate) first: ObjectUpdate,
+    pub(crate) next: Option<ObjectUpdate>,
+    pub(crate) last: Option<ObjectUpdate>,
 }
 
-/// Prepares what a record says; or tells an obstacle to it. Nothing changes by it. NoMemory and Device tell what is said of
-/// reading; Damaged that a block is out of its grammar.
+/// Prepares what a record says; or tells an obstacle to it. Nothing changes by it. NoMemory and
+/// Device tell what is said of reading; Damaged that a block is out of its grammar.
 pub fn prepare<B: Blocks>(
     alloc: Global,
     inodes: &mut InodeFile,
@@ -75,8 +75,8 @@ pub fn prepare<B: Blocks>(
             };
             prepare_bytes(alloc, inodes, blocks, *number, &rewrite)
         }
-        Record::Cut { number, size } => {
-            let rewrite = Rewrite::Cut { size: *size };
+        Record::Truncate { number, size } => {
+            let rewrite = Rewrite::Truncate { size: *size };
             prepare_bytes(alloc, inodes, blocks, *number, &rewrite)
         }
         Record::Link {
@@ -84,7 +84,9 @@ pub fn prepare<B: Blocks>(
             parent,
             name,
         } => prepare_link(alloc, inodes, blocks, *number, *parent, name),
-        Record::Unname { parent, name } => prepare_unname(alloc, inodes, blocks, *parent, name),
+        Record::RemoveName { parent, name } => prepare_remove_name(
+            alloc, inodes, blocks, *parent, name,
+        ),
         Record::Rename {
             parent,
             name,
@@ -95,8 +97,8 @@ pub fn prepare<B: Blocks>(
     }
 }
 
-// Prepares that an object is made; or tells the first obstacle: DAMAGED where none may be made of the number, DIRFULL where the parent
-// doesn't take the name.
+// Prepares that an object is made; or tells the first obstacle: DAMAGED where none may be made of
+// the number, DIRFULL where the parent doesn't take the name.
 fn prepare_create<B: Blocks>(
     alloc: Global,
     inodes: &mut InodeFile,
@@ -124,8 +126,8 @@ fn prepare_create<B: Blocks>(
     prepare_new(alloc, inodes, blocks, number, parent, name, new)
 }
 
-/// Prepares that this object is made of this number, which is vacant; or tells the obstacle: DIRFULL where the parent doesn't take the
-/// name.
+/// Prepares that this object is made of this number, which is vacant; or tells the obstacle:
+/// DIRFULL where the parent doesn't take the name.
 pub fn prepare_new<B: Blocks>(
     alloc: Global,
     inodes: &mut InodeFile,
@@ -137,8 +139,8 @@ pub fn prepare_new<B: Blocks>(
 ) -> Result<Prepared, Failure>
     requires low { FIRST_NUMBER ≤ number }
     requires high { number < inodes.old.geometry.inodes }
-    ensures looks { Looks B.Blocks IsFault blocks.old blocks.new inodes.old inodes.new (told result) }
-    ensures full { IfOk (told result) (λ r. IfErr r (λ errno. errno ≡ Errno.DIRFULL)) }
+    ensures looks { Looks B.Blocks IsFault blocks.old blocks.new inodes.old inodes.new (read_outcome result) }
+    ensures full { IfOk (read_outcome result) (λ r. IfErr r (λ errno. errno ≡ Errno.DIRFULL)) }
     ensures ready { IfOk result (IsReady inodes.new) }
     ensures does { (detail : Detail) (disk : ℕ → List ℕ) (settled : ℕ → Inode) (v : Volume)
         (made : Made) → StandsIn detail B.Blocks disk settled v blocks.old inodes.old → IsTrue (is_vacant (v number))
@@ -150,8 +152,8 @@ pub fn prepare_new<B: Blocks>(
         IfOk result (λ _. TakesName v parent name.now)) }
     ensures refused { (detail : Detail) → OnVolumesIn detail B.Blocks blocks.old inodes.old (λ disk settled v.
         IsKnownVolume detail inodes.old.geometry.inodes v
-        → IfOk (told result) (λ r. IfErr r (λ _. TakesName v parent name.now → ⊥))) }
-    ensures damaged { (detail : Detail) → NeverDamagedIn detail B.Blocks blocks.old inodes.old (told result) }
+        → IfOk (read_outcome result) (λ r. IfErr r (λ _. TakesName v parent name.now → ⊥))) }
+    ensures damaged { (detail : Detail) → NeverDamagedIn detail B.Blocks blocks.old inodes.old (read_outcome result) }
 {
     let entry = Entry { number, name };
     if !entry.fits(inodes.geometry().inodes()) {
@@ -166,11 +168,11 @@ pub fn prepare_new<B: Blocks>(
         return Err(Failure::Refused(Errno::DIRFULL));
     };
     Ok(Prepared {
-        first: Step {
+        first: ObjectUpdate {
             number: parent,
             update: Update::Names(edit),
         },
-        next: Some(Step {
+        next: Some(ObjectUpdate {
             number,
             update: Update::Set(Some(object)),
         }),
@@ -178,7 +180,8 @@ pub fn prepare_new<B: Blocks>(
     })
 }
 
-/// Puts a prepared change in force. It takes no memory and can't fail. A consistency point stores no more for it than it costs.
+/// Puts a prepared change in force. It takes no memory and can't fail. A consistency point stores
+/// no more for it than it costs.
 pub fn commit(inodes: &mut InodeFile, prepared: Prepared)
     requires { IsReady inodes.old prepared }
     ensures geometry { inodes.new.geometry ≡ inodes.old.geometry }
@@ -195,7 +198,7 @@ pub fn commit(inodes: &mut InodeFile, prepared: Prepared)
         ≤ memory_room base inodes.old v + cost (work_of v change) }
 {
     let Prepared { first, next, last } = prepared;
-    commit_step(inodes, first);
+    commit_update(inodes, first);
     commit_some(inodes, next);
     commit_some(inodes, last);
 }

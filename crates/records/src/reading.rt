@@ -3,15 +3,14 @@
 ghost use Rattle.std.specs.Prelude.{◌≡◌, ℕ, List, IfOk, IsErrOf};
 ghost use Rattle.model.specs.Edits.{read_at};
 ghost use Rattle.buffers.specs.Reads.{ReadsBlocks};
-ghost use Rattle.blocktree.specs.Errors.{IsFault};
+ghost use Rattle.buffers.specs.Errors.{IsFault};
 ghost use Rattle.blocktree.specs.Trees.{IsSoundAt};
 ghost use Rattle.inode.specs.Files.{bytes_of_file};
 ghost use Rattle.paths.specs.Loads.{IsAny, LooksUp};
-ghost use Rattle.paths.specs.Numbers.{IsNumber};
+ghost use Rattle.paths.specs.Numbers.{IsInodeNumber};
 ghost use Rattle.records.specs.Reading.{ReadsNumber};
 
-use blocktree::ReadError;
-use buffers::Blocks;
+use buffers::{BlockError, Blocks};
 use inode::File;
 use inofile::{InodeFile, objects_stand_in_their_grammar};
 use layout::{InodeNumber, Kind};
@@ -19,8 +18,9 @@ use model::Text;
 use paths::load;
 use std::alloc::Global;
 
-/// As many bytes as asked and there, from an offset on, of the file with a number; None where it is none. NoMemory; Device where a
-/// read failed; Damaged where a block on the way is outside its format.
+/// As many bytes as asked and there, from an offset on, of the file with a number; None where it is
+/// none. NoMemory; Device where a read failed; Damaged where a block on the way is outside its
+/// format.
 pub fn read_bytes<B: Blocks>(
     alloc: Global,
     inodes: &mut InodeFile,
@@ -28,8 +28,8 @@ pub fn read_bytes<B: Blocks>(
     number: InodeNumber,
     offset: u64,
     count: u32,
-) -> Result<Option<Text>, ReadError>
-    requires { IsNumber inodes.old.geometry.inodes number }
+) -> Result<Option<Text>, BlockError>
+    requires { IsInodeNumber inodes.old.geometry.inodes number }
     ensures { LooksUp B.Blocks blocks.old blocks.new inodes.old inodes.new IsAny
         (λ v. ReadsNumber v number offset count) result }
 {
@@ -53,12 +53,12 @@ fn part<B: Blocks>(
     file: &File,
     offset: u64,
     count: u32,
-) -> Result<Vec<u8>, ReadError>
+) -> Result<Vec<u8>, BlockError>
     ensures reads { ReadsBlocks B.Blocks IsFault blocks.old blocks.new result }
     ensures bytes { (disk : ℕ → List ℕ) → B.Shows blocks.old disk
         → IfOk result (λ b. b.items ≡ read_at offset count (bytes_of_file disk file.now)) }
     ensures damaged { (disk : ℕ → List ℕ) → B.Shows blocks.old disk
-        → IsErrOf result ReadError.Damaged
+        → IsErrOf result BlockError.Damaged
         → ((i : ℕ) → IsSoundAt (B.count blocks.old) disk file.now.tree i) → ⊥ }
 {
     let size = file.size();

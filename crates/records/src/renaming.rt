@@ -8,13 +8,13 @@ ghost use Rattle.model.specs.Records.{IsBelow, rename};
 ghost use Rattle.model.specs.Volumes.{entries, is_directory_node};
 ghost use Rattle.dirs.specs.Directory.{with_name};
 ghost use Rattle.dirs.specs.Room.{piece_count};
-ghost use Rattle.blocktree.specs.Errors.{IsFault};
+ghost use Rattle.buffers.specs.Errors.{IsFault};
 ghost use Rattle.images.specs.Soundness.{Detail};
 ghost use Rattle.inofile.specs.Inodes.{loaded};
-ghost use Rattle.paths.specs.Numbers.{IsNumber};
+ghost use Rattle.paths.specs.Numbers.{IsInodeNumber};
 ghost use Rattle.paths.specs.Standing.{Looks, StandsIn};
 ghost use Rattle.records.specs.Entering.{Accepts, EditsIn, IsNameEdit, PreparesEdit};
-ghost use Rattle.records.specs.Failures.{told};
+ghost use Rattle.records.specs.Failures.{read_outcome};
 ghost use Rattle.records.specs.Looking.{Finds};
 ghost use Rattle.records.specs.Moving.{IsSomeAlone, Moves, MovesOver, ReplacesBy, edit_for};
 ghost use Rattle.records.specs.Preparing.{DecidesKnown, DecidesOn, IsKnownVolume};
@@ -23,15 +23,14 @@ ghost use Rattle.records.specs.Steps.{IsAlone, IsAtHand, IsSomeAtHand, TakesUpda
 ghost use Rattle.records.specs.declared.steps.Update.TheVariants as updates;
 
 use crate::below::is_below;
-use crate::entering::{edit_known, edit_parent};
+use crate::directory_names::{edit_known, edit_parent};
 use crate::kinds::kind_at;
 use crate::loading::{is_number, is_same, load_to_change};
+use crate::name_removal::{number_in, release};
 use crate::naming::NameEdit;
-use crate::steps::{Step, Update};
-use crate::unnaming::{number_in, release};
+use crate::steps::{ObjectUpdate, Update};
 use crate::{Failure, Prepared};
-use blocktree::ReadError;
-use buffers::Blocks;
+use buffers::{BlockError, Blocks};
 use dirs::Edit;
 use inofile::InodeFile;
 use layout::{Entry, InodeNumber, is_name};
@@ -39,8 +38,9 @@ use model::Errno;
 use paths::Found;
 use std::alloc::Global;
 
-/// Prepares that what has a name gets the new one in its place, and that what had the new name has it no more; or tells an obstacle:
-/// EINVAL where the object would come below itself, DIRFULL where the new parent's number is none, or else as `prepare_move` does.
+/// Prepares that what has a name gets the new one in its place, and that what had the new name has
+/// it no more; or tells an obstacle: EINVAL where the object would come below itself, DIRFULL where
+/// the new parent's number is none, or else as `prepare_move` does.
 pub(crate) fn prepare_rename<'n, B: Blocks>(
     alloc: Global,
     inodes: &mut InodeFile,
@@ -73,8 +73,8 @@ pub(crate) fn prepare_rename<'n, B: Blocks>(
     )
 }
 
-// Whether what a directory has a name for would come below itself in another one. In the same one it can't, so nothing is looked into
-// then.
+// Whether what a directory has a name for would come below itself in another one. In the same one
+// it can't, so nothing is looked into then.
 fn goes_below<B: Blocks>(
     alloc: Global,
     inodes: &mut InodeFile,
@@ -82,9 +82,9 @@ fn goes_below<B: Blocks>(
     parent: InodeNumber,
     number: InodeNumber,
     new_parent: InodeNumber,
-) -> Result<bool, ReadError>
-    requires number { IsNumber inodes.old.geometry.inodes number }
-    requires new_parent { IsNumber inodes.old.geometry.inodes new_parent }
+) -> Result<bool, BlockError>
+    requires number { IsInodeNumber inodes.old.geometry.inodes number }
+    requires new_parent { IsInodeNumber inodes.old.geometry.inodes new_parent }
     ensures looks { Looks B.Blocks IsFault blocks.old blocks.new inodes.old inodes.new result }
     ensures below { (detail : Detail) (name : Name) → OnVolumesIn detail B.Blocks blocks.old inodes.old
         (λ disk settled v. IsKnownVolume detail inodes.old.geometry.inodes v
@@ -98,10 +98,12 @@ fn goes_below<B: Blocks>(
     is_below(alloc, inodes, blocks, number, new_parent)
 }
 
-/// Prepares the same where it is known what has both names, as the walks to them tell, and that the new parent doesn't lie below the
-/// object: neither name is looked up; or tells the first obstacle: ENAMETOOLONG where the new name is none, ENOENT where the name isn't
-/// there, EEXIST where the object has the new name already, ENOTDIR where a directory would take the name of something else, EISDIR the
-/// other way round, ENOTEMPTY where it would take that of a directory with names, DIRFULL where the new parent takes no such name.
+/// Prepares the same where it is known what has both names, as the walks to them tell, and that the
+/// new parent doesn't lie below the object: neither name is looked up; or tells the first obstacle:
+/// ENAMETOOLONG where the new name is none, ENOENT where the name isn't there, EEXIST where the
+/// object has the new name already, ENOTDIR where a directory would take the name of something
+/// else, EISDIR the other way round, ENOTEMPTY where it would take that of a directory with names,
+/// DIRFULL where the new parent takes no such name.
 #[allow(clippy::too_many_arguments)]
 pub fn prepare_move<'n, B: Blocks>(
     alloc: Global,
@@ -114,10 +116,10 @@ pub fn prepare_move<'n, B: Blocks>(
     new_name: &'n [u8],
     target: Option<InodeNumber>,
 ) -> Result<Prepared, Failure>
-    requires parent { IsNumber inodes.old.geometry.inodes parent }
-    requires number { IsNumber inodes.old.geometry.inodes number }
-    requires new_parent { IsNumber inodes.old.geometry.inodes new_parent }
-    requires target { IfSome target (IsNumber inodes.old.geometry.inodes) }
+    requires parent { IsInodeNumber inodes.old.geometry.inodes parent }
+    requires number { IsInodeNumber inodes.old.geometry.inodes number }
+    requires new_parent { IsInodeNumber inodes.old.geometry.inodes new_parent }
+    requires target { IfSome target (IsInodeNumber inodes.old.geometry.inodes) }
     ensures { DecidesOn (λ detail disk settled v. StandsIn detail B.Blocks disk settled v blocks.old inodes.old
         × MovesOver v parent name.now number new_parent new_name.now target)
         (λ detail disk settled v. StandsIn detail B.Blocks disk settled v blocks.old inodes.old
@@ -155,20 +157,21 @@ pub fn prepare_move<'n, B: Blocks>(
     )
 }
 
-// What becomes of another object whose name an object takes; EEXIST where it is the same one, ENOTDIR or EISDIR where only one of them
-// is a directory, ENOTEMPTY where it is a directory with names.
+// What becomes of another object whose name an object takes; EEXIST where it is the same one,
+// ENOTDIR or EISDIR where only one of them is a directory, ENOTEMPTY where it is a directory with
+// names.
 fn replace<B: Blocks>(
     alloc: Global,
     inodes: &mut InodeFile,
     blocks: &mut B,
     number: InodeNumber,
     other: InodeNumber,
-) -> Result<Step, Failure>
-    requires number { IsNumber inodes.old.geometry.inodes number }
-    requires other { IsNumber inodes.old.geometry.inodes other }
+) -> Result<ObjectUpdate, Failure>
+    requires number { IsInodeNumber inodes.old.geometry.inodes number }
+    requires other { IsInodeNumber inodes.old.geometry.inodes other }
     ensures replaced { Finds B.Blocks blocks.old blocks.new inodes.old inodes.new
-        (λ detail disk settled v. ReplacesBy detail disk settled v number other) (told result) }
-    ensures own { IfOk (told result) (λ r. IfErr r (λ errno. IsTrue (is_own errno))) }
+        (λ detail disk settled v. ReplacesBy detail disk settled v number other) (read_outcome result) }
+    ensures own { IfOk (read_outcome result) (λ r. IfErr r (λ errno. IsTrue (is_own errno))) }
     ensures ready { IfOk result (λ x. IsAlone x.update × IsAtHand inodes.new x.number) }
 {
     if is_same(other, number) {
@@ -186,7 +189,7 @@ fn replace<B: Blocks>(
     let Some(update) = released else {
         return Err(Failure::Refused(Errno::ENOTEMPTY));
     };
-    Ok(Step {
+    Ok(ObjectUpdate {
         number: other,
         update,
     })
@@ -198,8 +201,8 @@ pub fn is_directory_at<B: Blocks>(
     inodes: &mut InodeFile,
     blocks: &mut B,
     number: InodeNumber,
-) -> Result<bool, ReadError>
-    requires { IsNumber inodes.old.geometry.inodes number }
+) -> Result<bool, BlockError>
+    requires { IsInodeNumber inodes.old.geometry.inodes number }
     ensures { Finds B.Blocks blocks.old blocks.new inodes.old inodes.new
         (λ detail disk settled v is. is ≡ is_directory_node (v number)) result }
 {
@@ -210,8 +213,9 @@ pub fn is_directory_at<B: Blocks>(
     }
 }
 
-// Gives an object the new name in place of the old one, where a step is known for what had the new name, if anything had it; DIRFULL
-// where nothing had it, and the new parent, another directory, doesn't take it.
+// Gives an object the new name in place of the old one, where a step is known for what had the new
+// name, if anything had it; DIRFULL where nothing had it, and the new parent, another directory,
+// doesn't take it.
 #[allow(clippy::too_many_arguments)]
 fn place<'n, B: Blocks>(
     alloc: Global,
@@ -221,10 +225,10 @@ fn place<'n, B: Blocks>(
     name: &'n [u8],
     new_parent: InodeNumber,
     entry: &Entry<'n>,
-    replaced: Option<Step>,
+    replaced: Option<ObjectUpdate>,
 ) -> Result<Prepared, Failure>
-    requires parent { IsNumber inodes.old.geometry.inodes parent }
-    requires new_parent { IsNumber inodes.old.geometry.inodes new_parent }
+    requires parent { IsInodeNumber inodes.old.geometry.inodes parent }
+    requires new_parent { IsInodeNumber inodes.old.geometry.inodes new_parent }
     requires entry { IsEntry inodes.old.geometry.inodes (named_of entry.now) }
     requires at_hand { IsSomeAtHand inodes.old replaced }
     requires alone { IsSomeAlone replaced }
@@ -249,7 +253,7 @@ fn place<'n, B: Blocks>(
             return Err(Failure::Refused(Errno::DIRFULL));
         };
         return Ok(Prepared {
-            first: Step {
+            first: ObjectUpdate {
                 number: new_parent,
                 update: Update::Names(edit),
             },
@@ -263,11 +267,11 @@ fn place<'n, B: Blocks>(
         return Err(Failure::Refused(Errno::DIRFULL));
     };
     Ok(Prepared {
-        first: Step {
+        first: ObjectUpdate {
             number: new_parent,
             update: Update::Names(added),
         },
-        next: Some(Step {
+        next: Some(ObjectUpdate {
             number: parent,
             update: Update::Names(removed),
         }),
@@ -276,7 +280,7 @@ fn place<'n, B: Blocks>(
 }
 
 // How a directory gets a name from another one.
-fn edit_for<'n>(entry: &Entry<'n>, replaced: &Option<Step>) -> NameEdit<'n>
+fn edit_for<'n>(entry: &Entry<'n>, replaced: &Option<ObjectUpdate>) -> NameEdit<'n>
     ensures { result ≡ edit_for entry.now replaced.now }
 {
     let entry = Entry {
@@ -289,7 +293,8 @@ fn edit_for<'n>(entry: &Entry<'n>, replaced: &Option<Step>) -> NameEdit<'n>
     }
 }
 
-// An edit of one directory, and a name less in another one. Both are known in memory before either is edited.
+// An edit of one directory, and a name less in another one. Both are known in memory before either
+// is edited.
 fn edit_both<B: Blocks>(
     alloc: Global,
     inodes: &mut InodeFile,
@@ -298,9 +303,9 @@ fn edit_both<B: Blocks>(
     name: &[u8],
     new_parent: InodeNumber,
     wanted: &NameEdit<'_>,
-) -> Result<Option<(Edit, Edit)>, ReadError>
-    requires parent { IsNumber inodes.old.geometry.inodes parent }
-    requires new_parent { IsNumber inodes.old.geometry.inodes new_parent }
+) -> Result<Option<(Edit, Edit)>, BlockError>
+    requires parent { IsInodeNumber inodes.old.geometry.inodes parent }
+    requires new_parent { IsInodeNumber inodes.old.geometry.inodes new_parent }
     requires apart { parent ≢ new_parent }
     requires wanted { IsNameEdit inodes.old.geometry.inodes wanted.now }
     ensures both { Finds B.Blocks blocks.old blocks.new inodes.old inodes.new (λ detail disk settled v e.

@@ -1,31 +1,31 @@
 //! Changes of the bytes of a file with a number, which a descriptor or a path leads to.
 
 ghost use Rattle.std.specs.Prelude.{◌≡◌, ◌+◌, ◌≤◌, IfErr, IfOk, IfSome, IsTrue, length, unwrap_or, []};
-ghost use Rattle.model.specs.Records.{cut, write};
+ghost use Rattle.model.specs.Records.{truncate, write};
 ghost use Rattle.model.specs.Volumes.{bytes_of_node, is_file_node};
 ghost use Rattle.model.specs.declared.errno.Errno.TheVariants.{EFBIG};
 ghost use Rattle.model.specs.declared.limits.TheConstants.{GREATEST_FILE, TRANSFER_BYTES};
-ghost use Rattle.blocktree.specs.Errors.{IsFault};
-ghost use Rattle.paths.specs.Numbers.{IsNumber};
+ghost use Rattle.buffers.specs.Errors.{IsFault};
+ghost use Rattle.paths.specs.Numbers.{IsInodeNumber};
 ghost use Rattle.paths.specs.Standing.{Looks};
-ghost use Rattle.records.specs.Failures.{told};
+ghost use Rattle.records.specs.Failures.{read_outcome};
 ghost use Rattle.records.specs.Looking.{Finds};
 ghost use Rattle.records.specs.Prepared.{Does, IsReady};
-ghost use Rattle.records.specs.Rewriting.{CutsBytes, PutsBytes};
+ghost use Rattle.records.specs.Rewriting.{TruncatesBytes, PutsBytes};
 ghost use Rattle.records.specs.Shown.{NeverDamaged, OnMounted, OnVolumes};
 
 use crate::contents::{Rewrite, prepare_bytes};
 use crate::loading::load;
 use crate::{Failure, Prepared};
-use blocktree::ReadError;
-use buffers::Blocks;
+use buffers::{BlockError, Blocks};
 use inofile::InodeFile;
 use layout::InodeNumber;
 use model::records_change_trees;
 use std::alloc::Global;
 
-/// Prepares that bytes are written into the file with a number, at an offset; None where there are none, EFBIG where the file would
-/// be too great. NoMemory; Device where a read failed; Damaged where a block on the way is outside its format.
+/// Prepares that bytes are written into the file with a number, at an offset; None where there are
+/// none, EFBIG where the file would be too great. NoMemory; Device where a read failed; Damaged
+/// where a block on the way is outside its format.
 pub fn write_bytes<B: Blocks>(
     alloc: Global,
     inodes: &mut InodeFile,
@@ -35,8 +35,8 @@ pub fn write_bytes<B: Blocks>(
     bytes: &[u8],
 ) -> Result<Option<Prepared>, Failure>
     requires { length bytes.now ≤ TRANSFER_BYTES }
-    ensures looks { Looks B.Blocks IsFault blocks.old blocks.new inodes.old inodes.new (told result) }
-    ensures own { IfOk (told result) (λ r. IfErr r (λ e. e ≡ EFBIG)) }
+    ensures looks { Looks B.Blocks IsFault blocks.old blocks.new inodes.old inodes.new (read_outcome result) }
+    ensures own { IfOk (read_outcome result) (λ r. IfErr r (λ e. e ≡ EFBIG)) }
     ensures some { IfOk result (λ p. IfSome p (λ _. 1 ≤ length bytes.now)) }
     ensures within { IfOk result (λ p. IfSome p
         (λ _. offset + length bytes.now ≤ GREATEST_FILE)) }
@@ -45,9 +45,9 @@ pub fn write_bytes<B: Blocks>(
         IfOk result (λ p. IfSome p
         (λ x. Does disk settled inodes.new v x (write number offset bytes.now)))) }
     ensures answers { OnMounted B.Blocks blocks.old inodes.old (λ v table.
-        IsTrue (is_file_node (v number)) → IfOk (told result)
+        IsTrue (is_file_node (v number)) → IfOk (read_outcome result)
         (PutsBytes inodes.old.geometry.inodes v table number offset bytes.now)) }
-    ensures damaged { NeverDamaged B.Blocks blocks.old inodes.old (told result) }
+    ensures damaged { NeverDamaged B.Blocks blocks.old inodes.old (read_outcome result) }
 {
     records_change_trees();
     if bytes.is_empty() {
@@ -58,33 +58,34 @@ pub fn write_bytes<B: Blocks>(
     Ok(Some(prepared))
 }
 
-/// Prepares that the file with a number gets a size; None where it has it, EFBIG where it is no file. NoMemory; Device where a read failed; Damaged where a
-/// block on the way is outside its format.
-pub fn cut_bytes<B: Blocks>(
+/// Prepares that the file with a number gets a size; None where it has it, EFBIG where it is no
+/// file. NoMemory; Device where a read failed; Damaged where a block on the way is outside its
+/// format.
+pub fn truncate_bytes<B: Blocks>(
     alloc: Global,
     inodes: &mut InodeFile,
     blocks: &mut B,
     number: InodeNumber,
     size: u64,
 ) -> Result<Option<Prepared>, Failure>
-    requires number { IsNumber inodes.old.geometry.inodes number }
+    requires number { IsInodeNumber inodes.old.geometry.inodes number }
     requires within { size ≤ GREATEST_FILE }
-    ensures looks { Looks B.Blocks IsFault blocks.old blocks.new inodes.old inodes.new (told result) }
-    ensures own { IfOk (told result) (λ r. IfErr r (λ e. e ≡ EFBIG)) }
+    ensures looks { Looks B.Blocks IsFault blocks.old blocks.new inodes.old inodes.new (read_outcome result) }
+    ensures own { IfOk (read_outcome result) (λ r. IfErr r (λ e. e ≡ EFBIG)) }
     ensures ready { IfOk result (λ p. IfSome p (IsReady inodes.new)) }
     ensures does { OnVolumes B.Blocks blocks.old inodes.old (λ disk settled v.
-        IfOk result (λ p. IfSome p (λ x. Does disk settled inodes.new v x (cut number size)))) }
+        IfOk result (λ p. IfSome p (λ x. Does disk settled inodes.new v x (truncate number size)))) }
     ensures answers { OnMounted B.Blocks blocks.old inodes.old (λ v table.
-        IsTrue (is_file_node (v number)) → IfOk (told result)
-        (CutsBytes inodes.old.geometry.inodes v table number size)) }
-    ensures damaged { NeverDamaged B.Blocks blocks.old inodes.old (told result) }
+        IsTrue (is_file_node (v number)) → IfOk (read_outcome result)
+        (TruncatesBytes inodes.old.geometry.inodes v table number size)) }
+    ensures damaged { NeverDamaged B.Blocks blocks.old inodes.old (read_outcome result) }
 {
     records_change_trees();
     let now = size_at(alloc, inodes, blocks, number)?;
     if now == size {
         return Ok(None);
     }
-    let rewrite = Rewrite::Cut { size };
+    let rewrite = Rewrite::Truncate { size };
     let prepared = prepare_bytes(alloc, inodes, blocks, number, &rewrite)?;
     Ok(Some(prepared))
 }
@@ -95,8 +96,8 @@ fn size_at<B: Blocks>(
     inodes: &mut InodeFile,
     blocks: &mut B,
     number: InodeNumber,
-) -> Result<u64, ReadError>
-    requires { IsNumber inodes.old.geometry.inodes number }
+) -> Result<u64, BlockError>
+    requires { IsInodeNumber inodes.old.geometry.inodes number }
     ensures { Finds B.Blocks blocks.old blocks.new inodes.old inodes.new (λ detail disk settled v n.
         IsTrue (is_file_node (v number)) → n ≡ length (unwrap_or (bytes_of_node (v number)) [])) result }
 {

@@ -14,9 +14,9 @@ ghost use Rattle.records.specs.Room.{CountsObject, RaisesFile, UpdateRoom};
 ghost use Rattle.records.specs.Steps.{Commits, FitsUpdate, TakesSome, TakesUpdate, Updates, with_node_links};
 
 use crate::contents::commit_bytes;
-use crate::entering::commit_edit;
+use crate::directory_names::commit_edit;
 use dirs::Edit;
-use inode::{Change, Object};
+use inode::{FileUpdate, Object};
 use inofile::InodeFile;
 use layout::InodeNumber;
 use model::Mode;
@@ -31,24 +31,24 @@ pub(crate) enum Update {
     /// The file or directory has this mode.
     SetMode(Mode),
     /// The file has the bytes that this change gives it.
-    Bytes(Change),
+    Bytes(FileUpdate),
     /// The file has so many names.
     Links(u32),
 }
 
 /// The object with a number, and what becomes of it.
 #[derive(Drop)]
-pub(crate) struct Step {
+pub(crate) struct ObjectUpdate {
     pub(crate) number: InodeNumber,
     pub(crate) update: Update,
 }
 
 /// Puts a step in force. It takes no memory and can't fail.
-pub(crate) fn commit_step(inodes: &mut InodeFile, step: Step)
+pub(crate) fn commit_update(inodes: &mut InodeFile, step: ObjectUpdate)
     requires { TakesUpdate inodes.old step.number step.update }
     ensures { Commits inodes.old inodes.new (Some step) }
 {
-    let Step { number, update } = step;
+    let ObjectUpdate { number, update } = step;
     let n = number.get();
     let mut object = inodes.take(n);
     update_object(&mut object, update);
@@ -56,12 +56,12 @@ pub(crate) fn commit_step(inodes: &mut InodeFile, step: Step)
 }
 
 /// Puts a step in force, if there is one.
-pub(crate) fn commit_some(inodes: &mut InodeFile, step: Option<Step>)
+pub(crate) fn commit_some(inodes: &mut InodeFile, step: Option<ObjectUpdate>)
     requires { TakesSome inodes.old step }
     ensures { Commits inodes.old inodes.new step }
 {
     if let Some(step) = step {
-        commit_step(inodes, step);
+        commit_update(inodes, step);
     }
 }
 

@@ -1,12 +1,12 @@
 -- What names and numbers keep, where the limits of objects aren't known.
 use Rattle.std.proofs.Common.{◌∙◌, ◌≡◌, inr, ℕ, List, Option, Some, None, IsSome, false, is_some, ap, sym, refl, [], ◌∷◌}
-use Rattle.model.specs.Records.{Applies, Change, applied, change_mode, create, cut, link, node_of, rename, unname, with_file_bytes, with_node_mode, without_nameless, write}
+use Rattle.model.specs.Records.{Applies, Change, applied, change_mode, create, truncate, link, node_of, rename, remove_name, with_file_bytes, with_node_mode, without_orphans, write}
 use Rattle.model.specs.Edits.{resized, written}
 use Rattle.model.specs.Volumes.{IsGraph, IsVolume, Node, Volume, entries, is_directory_node, is_file_node, released, swept_node, with_entry, with_name_more, with_node}
 use Rattle.model.proofs.AddLemmas.{graph-altered, graph-created, graph-linked, graph-swept}
 use Rattle.model.proofs.LimitLemmas.{numbers_entry, numbers_node, numbers_released}
 use Rattle.model.proofs.MoveLemmas.{bytes_by, bytes_links, bytes_names, graph-moved, made_bare, made_links, mode_directory, mode_file, mode_links, mode_names, mode_some, path_to}
-use Rattle.model.proofs.UnnameLemmas.{volume-unnamed}
+use Rattle.model.proofs.RemoveNameLemmas.{volume-unnamed}
 use Rattle.model.proofs.VolumeLemmas.{enters_directory}
 use Rattle.images.specs.Soundness.{Detail, by_bytes, by_sizes}
 use Rattle.images.specs.Replaying.{LeavesPlace, ReadsIn}
@@ -39,7 +39,7 @@ module _ (inodes : ℕ) (v : Volume) (has : HasGraph inodes v) where
         graph = graph-linked v has.graph path.0 x d n can.attributes can.links can.bytes path.1 can.takes.directory can.takes.missing can.takes.name can.file;
         numbers = numbers_entry inodes (with_node n (with_name_more (v n)) v) d x (Some n) (numbers_node inodes v n (with_name_more (v n)) has.numbers (λ some. has.numbers n (ap is_some can.file)));
       }
-  record_kept (unname d x) can =
+  record_kept (remove_name d x) can =
       let is = enters_directory (v d) x can.number can.there in
       let path = path_to v has.graph d is in
       record {
@@ -52,7 +52,7 @@ module _ (inodes : ℕ) (v : Volume) (has : HasGraph inodes v) where
         (numbers_entry inodes (released (entries v k y) v) d x None (numbers_released inodes (entries v k y) v has.numbers));
   }
   record_kept (write n offset bytes) can = bytes_changed n (written offset bytes)
-  record_kept (cut n size) can = bytes_changed n (resized size)
+  record_kept (truncate n size) can = bytes_changed n (resized size)
   record_kept (change_mode n mode) can =
       altered n (with_node_mode mode (v n))
       (graph-altered v has.graph n (with_node_mode mode (v n)) (mode_names mode (v n)) (mode_file mode (v n)) (mode_directory mode (v n)) (mode_some mode (v n)) (mode_links mode (v n)))
@@ -62,8 +62,8 @@ swept_some : (o : Option Node) → IsSome (swept_node false o) → IsSome o
 swept_some None some = some
 swept_some (Some o) some = refl
 
--- and so does a sweep of the files without names
-sweep_kept : (inodes : ℕ) (v : Volume) → HasGraph inodes v → HasGraph inodes (without_nameless v)
+-- and so does a sweep of the orphans
+sweep_kept : (inodes : ℕ) (v : Volume) → HasGraph inodes v → HasGraph inodes (without_orphans v)
 sweep_kept inodes v has = record { graph = graph-swept v has.graph (λ d. None); numbers = λ n some. has.numbers n (swept_some (v n) some) }
 
 -- ---- in so much detail
@@ -77,7 +77,7 @@ pub known_after : (detail : Detail) (inodes : ℕ) (v : Volume) (change : Change
 known_after by_bytes inodes v change keeps volume can = keeps volume
 known_after by_sizes inodes v change keeps volume can = record_kept inodes v volume change can
 
-pub known_swept : (detail : Detail) (inodes : ℕ) (v : Volume) → (IsVolume inodes v → IsVolume inodes (without_nameless v)) → IsKnownVolume detail inodes v → IsKnownVolume detail inodes (without_nameless v)
+pub known_swept : (detail : Detail) (inodes : ℕ) (v : Volume) → (IsVolume inodes v → IsVolume inodes (without_orphans v)) → IsKnownVolume detail inodes v → IsKnownVolume detail inodes (without_orphans v)
 known_swept by_bytes inodes v keeps volume = keeps volume
 known_swept by_sizes inodes v keeps volume = sweep_kept inodes v volume
 

@@ -108,7 +108,7 @@ half_of_any true y p q s half one two three = one
 half_of_any false true p q s half one two three = two
 half_of_any false false p q s half one two three = three
 
-end_half : (saved : Saved) (first second : ℕ) → (end_of saved first second).half ≡ saved.half
+pub end_half : (saved : Saved) (first second : ℕ) → (end_of saved first second).half ≡ saved.half
 end_half saved first second = half_of_any saved.second.is_open saved.first.is_open _ _ _ saved.half refl refl refl
 
 -- what both epochs hold is saved in the log

@@ -1,4 +1,4 @@
--- A volume whose files without names are dropped, number after number.
+-- A volume whose orphans are dropped, number after number.
 use Rattle.std.proofs.Common.{◌≡◌, inl, inr, ℕ, List, zero, suc, true≢false, ◌+◌, ◌<◌, ◌≤◌, Bool, true, false, refl, sym, ap, subst, ◌∙◌, arith, add-one}
 use Rattle.std.specs.Prelude.{Option, Some, None, nat_eq, IsSome, IsTrue, nat_lt, if◌then◌else◌, ◌==◌}
 use Rattle.std.specs.Int.{from_bool}
@@ -7,8 +7,8 @@ use Rattle.std.proofs.Math.Path.{fun_ext}
 use Rattle.std.proofs.lemmas.Bool.{cases_lt, cases_eq, cond_below, cond_above}
 use Rattle.std.proofs.lemmas.Bool.Decides.{nat_tests}
 use Rattle.model.specs.declared.attributes.Attributes.{Attributes}
-use Rattle.model.specs.Records.{count_nameless, without_nameless}
-use Rattle.model.specs.Volumes.{Node, directory_node, file_node, link_node, Volume, is_directory_node, is_file_node, is_nameless, swept_node, with_node}
+use Rattle.model.specs.Records.{count_orphans, without_orphans}
+use Rattle.model.specs.Volumes.{Node, directory_node, file_node, link_node, Volume, is_directory_node, is_file_node, is_orphan, swept_node, with_node}
 use Rattle.records.specs.Preparing.{HasGraph}
 use Rattle.inofile.specs.Settled.{held_content}
 use Rattle.inofile.specs.Volumes.{HasNoOwn}
@@ -19,7 +19,7 @@ use Rattle.layout.specs.declared.inode.Inode.{Inode}
 use Rattle.layout.specs.declared.kind.Kind.TheVariants as kinds
 use Rattle.records.proofs.KindLaws.{not_file, sized_file}
 
--- the files without names below a number are dropped
+-- the orphans below a number are dropped
 abbrev pub dropped_below : ℕ → Volume → Volume
 dropped_below m v n = if nat_lt n m then swept_node false (v n) else v n
 
@@ -78,8 +78,8 @@ starts inodes v is own = fun_ext {f = v} {g = dropped_below 4 v} (λ k. elim (ca
 ])
 
 -- behind the last number there are none
-pub ends : (inodes : ℕ) (v : Volume) → HasGraph inodes v → 4 ≤ inodes → dropped_below inodes v ≡ without_nameless v
-ends inodes v is many = fun_ext {f = dropped_below inodes v} {g = without_nameless v} (λ k. elim (cases_lt k inodes) [
+pub ends : (inodes : ℕ) (v : Volume) → HasGraph inodes v → 4 ≤ inodes → dropped_below inodes v ≡ without_orphans v
+ends inodes v is many = fun_ext {f = dropped_below inodes v} {g = without_orphans v} (λ k. elim (cases_lt k inodes) [
   | inl low ↦ below inodes k v low
   | inr high ↦ past inodes k v high ∙ sym (none_where (v k) (λ some. elim (is.numbers k some) [
     | inl root ↦ absurd (omega arith)
@@ -89,20 +89,20 @@ ends inodes v is many = fun_ext {f = dropped_below inodes v} {g = without_namele
 
 -- ---- how many there are
 
-directory_named : (o : Option Node) → IsTrue (is_directory_node o) → is_nameless o ≡ false
+directory_named : (o : Option Node) → IsTrue (is_directory_node o) → is_orphan o ≡ false
 directory_named None is = refl
 directory_named (Some (directory_node attributes names)) is = refl
 directory_named (Some (link_node attributes text)) is = refl
 directory_named (Some (file_node attributes links bytes)) is = cc
 
-none_here : (n : ℕ) (v : Volume) → is_nameless (v n) ≡ false → count_nameless (suc n) v ≡ count_nameless n v
-none_here n v is = let here = ap (λ (b : Bool). count_nameless n v + (if b then 1 else 0)) is in here ∙ omega arith
+none_here : (n : ℕ) (v : Volume) → is_orphan (v n) ≡ false → count_orphans (suc n) v ≡ count_orphans n v
+none_here n v is = let here = ap (λ (b : Bool). count_orphans n v + (if b then 1 else 0)) is in here ∙ omega arith
 
 -- the numbers before the first that an object may have are none
-pub none_counted : (inodes : ℕ) (v : Volume) → HasGraph inodes v → HasNoOwn v → 0 ≡ count_nameless 4 v
+pub none_counted : (inodes : ℕ) (v : Volume) → HasGraph inodes v → HasNoOwn v → 0 ≡ count_orphans 4 v
 none_counted inodes v is own = sym (
-    none_here 3 v (directory_named (v 3) is.graph.naming.root) ∙ none_here 2 v (ap is_nameless (own 2 (omega arith)))
-    ∙ none_here 1 v (ap is_nameless (own 1 (omega arith))) ∙ none_here 0 v (ap is_nameless (own 0 (omega arith)))
+    none_here 3 v (directory_named (v 3) is.graph.naming.root) ∙ none_here 2 v (ap is_orphan (own 2 (omega arith)))
+    ∙ none_here 1 v (ap is_orphan (own 1 (omega arith))) ∙ none_here 0 v (ap is_orphan (own 0 (omega arith)))
     )
 
 of_bool : (b : Bool) → from_bool b ≡ (if b then 1 else 0)
@@ -113,29 +113,29 @@ pub one_at_most : (b : Bool) → from_bool b ≤ 1
 one_at_most true = omega arith
 one_at_most false = omega arith
 
-pub one_counted : (m count k : ℕ) (v : Volume) (one : Bool) → count ≡ count_nameless m v → one ≡ is_nameless (v m) → k ≡ from_bool one → count + k ≡ count_nameless (m + 1) v
+pub one_counted : (m count k : ℕ) (v : Volume) (one : Bool) → count ≡ count_orphans m v → one ≡ is_orphan (v m) → k ≡ from_bool one → count + k ≡ count_orphans (m + 1) v
 one_counted m count k v one so_far is here =
-    ap (λ (n : ℕ). n + k) so_far ∙ ap (λ (n : ℕ). count_nameless m v + n) (here ∙ of_bool one ∙ ap (λ (b : Bool). if b then 1 else 0) is)
-    ∙ ap (λ (n : ℕ). count_nameless n v) (sym (add-one m))
+    ap (λ (n : ℕ). n + k) so_far ∙ ap (λ (n : ℕ). count_orphans m v + n) (here ∙ of_bool one ∙ ap (λ (b : Bool). if b then 1 else 0) is)
+    ∙ ap (λ (n : ℕ). count_orphans n v) (sym (add-one m))
 
 -- ---- what a settled inode tells
 
-nameless_links : (attributes : Attributes) (links : ℕ) (bytes : List ℕ) → nat_eq links 0 ≡ is_nameless (Some (file_node attributes links bytes))
-nameless_links attributes zero bytes = refl
-nameless_links attributes (suc links) bytes = eqb-suc-zero links
+orphan_links : (attributes : Attributes) (links : ℕ) (bytes : List ℕ) → nat_eq links 0 ≡ is_orphan (Some (file_node attributes links bytes))
+orphan_links attributes zero bytes = refl
+orphan_links attributes (suc links) bytes = eqb-suc-zero links
 
-other_named : (o : Option Node) → is_file_node o ≡ false → false ≡ is_nameless o
+other_named : (o : Option Node) → is_file_node o ≡ false → false ≡ is_orphan o
 other_named None is = refl
 other_named (Some (directory_node attributes names)) is = refl
 other_named (Some (link_node attributes text)) is = refl
 other_named (Some (file_node attributes links bytes)) is = absurd (true≢false is)
 
-pub file_named : (detail : Detail) (disk : ℕ → List ℕ) (inodes : ℕ) (i : Inode) (found : Option Node) → i.kind ≡ kinds.File → StandsForIn detail inodes (held_content disk i) found → nat_eq i.links 0 ≡ is_nameless found
+pub file_named : (detail : Detail) (disk : ℕ → List ℕ) (inodes : ℕ) (i : Inode) (found : Option Node) → i.kind ≡ kinds.File → StandsForIn detail inodes (held_content disk i) found → nat_eq i.links 0 ≡ is_orphan found
 unfolding held
 file_named detail disk inodes i found is stands =
     let file = sized_file detail i.kind inodes (held_content disk i) found stands is in
-    nameless_links i.attributes i.links file.0 ∙ sym (ap is_nameless file.2)
+    orphan_links i.attributes i.links file.0 ∙ sym (ap is_orphan file.2)
 
-pub none_named : (detail : Detail) (disk : ℕ → List ℕ) (inodes : ℕ) (i : Inode) (found : Option Node) → (i.kind ≡ kinds.File → ⊥) → StandsForIn detail inodes (held_content disk i) found → false ≡ is_nameless found
+pub none_named : (detail : Detail) (disk : ℕ → List ℕ) (inodes : ℕ) (i : Inode) (found : Option Node) → (i.kind ≡ kinds.File → ⊥) → StandsForIn detail inodes (held_content disk i) found → false ≡ is_orphan found
 unfolding held
 none_named detail disk inodes i found other stands = other_named found (not_file detail i.kind inodes (held_content disk i) found stands other)

@@ -5,8 +5,8 @@ use Rattle.layout.specs.Record.{Change, IsChange, change_bytes}
 use Rattle.layout.specs.declared.inode.Inode.{Inode}
 use Rattle.model.specs.Records.{Applies, Replays, applied, costs}
 use Rattle.model.specs.Volumes.{Volume}
-use Rattle.blocktree.specs.declared.error.ReadError.{ReadError}
-use Rattle.blocktree.specs.declared.error.ReadError.TheVariants.{NoMemory, Device}
+use Rattle.buffers.specs.declared.error.BlockError.{BlockError}
+use Rattle.buffers.specs.declared.error.BlockError.TheVariants.{NoMemory, Device}
 use Rattle.images.specs.Replaying.{AppliesWithin, ReplaysWithin}
 use Rattle.images.specs.Soundness.{Detail, by_bytes, by_sizes}
 use Rattle.inofile.specs.Room.{memory_room}
@@ -17,10 +17,11 @@ use Rattle.records.specs.Preparing.{IsKnownVolume}
 use Rattle.replay.specs.declared.replaying.ReplayedHalf.{ReplayedHalf}
 
 -- an answer of which this is true, but where memory ran out or a device call failed
-abbrev pub ComesTo : {T : Type 0} → Result T ReadError → (T → Type 0) → Type 0
+abbrev pub ComesTo : {T : Type 0} → Result T BlockError → (T → Type 0) → Type 0
 ComesTo result P = MatchResult result P (λ e. (e ≡ NoMemory) ⊎ (e ≡ Device))
 
--- memory stands for this volume, in so much detail, over a disk of so many blocks with these inodes settled
+-- memory stands for this volume, in so much detail, over a disk of so many blocks with these inodes
+-- settled
 pub record HasVolumeIn (detail : Detail) (count : ℕ) (disk : ℕ → List ℕ) (settled : ℕ → Inode) (s : InodeFile) (v : Volume) : Type 0 where
   pub memory : IsVolumeIn detail count disk settled s v
   pub volume : IsKnownVolume detail s.geometry.inodes v
@@ -28,7 +29,8 @@ pub record HasVolumeIn (detail : Detail) (count : ℕ) (disk : ℕ → List ℕ)
 abbrev pub HasVolume : ℕ → (ℕ → List ℕ) → (ℕ → Inode) → InodeFile → Volume → Type 0
 HasVolume = HasVolumeIn by_bytes
 
--- what a consistency point may store, over any base, rises by so much at the most from this memory of a volume to that
+-- what a consistency point may store, over any base, rises by so much at the most from this memory
+-- of a volume to that
 abbrev pub RaisesRoom : InodeFile → Volume → InodeFile → Volume → ℕ → Type 0
 RaisesRoom s v t w k = (base : Volume) → memory_room base t w ≤ memory_room base s v + k
 
@@ -41,7 +43,8 @@ pub record SpellsRecord (body : List ℕ) (change : Change) : Type 0 where
 abbrev pub bodies_of : List Change → List (List ℕ)
 bodies_of changes = map change_bytes changes
 
--- records that apply one after the other lead from one volume to another: within the limits, where the volumes may pass them
+-- records that apply one after the other lead from one volume to another: within the limits, where
+-- the volumes may pass them
 abbrev pub ReplaysFor : Detail → ℕ → Volume → List Change → Volume → Type 0
 ReplaysFor by_bytes inodes v changes w = Replays inodes v changes w
 ReplaysFor by_sizes inodes v changes w = ReplaysWithin inodes v changes w

@@ -15,13 +15,14 @@ ghost use Rattle.replay.specs.declared.costs.TheConstants.{MOST_COST};
 
 use inofile::InodeFile;
 use layout::{BLOCK_BYTES, Kind, Record};
-use model::{FILE_COST, GREAT_FILE_COST, KEPT_BLOCKS, MODE_COST, NAMES_COST, SINGLE_FILE};
+use model::{FILE_COST, GREAT_FILE_COST, HEADROOM_BLOCKS, MODE_COST, NAMES_COST, SINGLE_FILE};
 
-/// The most that it may store for one record: for 65,536 bytes, which touch 17 blocks of such a file.
+/// The most that it may store for one record: for 65,536 bytes, which touch 17 blocks of such a
+/// file.
 pub const MOST_COST: u64 = 42;
 
-/// How many bytes the file has that a record writes to or cuts, before it is put in force: the file is in memory then. Of any other
-/// record 0.
+/// How many bytes the file has that a record writes to or truncates, before it is put in force: the
+/// file is in memory then. Of any other record 0.
 pub fn size_before(inodes: &InodeFile, logged: &Record<'_>) -> u64
     ensures { (detail : Detail) (count : ℕ) (disk : ℕ → List ℕ) (settled : ℕ → Inode)
         (v : Volume) → IsVolumeIn detail count disk settled inodes.now v → KnowsFile inodes.now (change_of logged.now)
@@ -29,10 +30,10 @@ pub fn size_before(inodes: &InodeFile, logged: &Record<'_>) -> u64
 {
     match logged {
         Record::Write { number, .. } => file_size(inodes, number.get()),
-        Record::Cut { number, .. } => file_size(inodes, number.get()),
+        Record::Truncate { number, .. } => file_size(inodes, number.get()),
         Record::Create { .. }
         | Record::Link { .. }
-        | Record::Unname { .. }
+        | Record::RemoveName { .. }
         | Record::Rename { .. }
         | Record::ChangeMode { .. } => 0,
     }
@@ -67,18 +68,19 @@ pub fn cost_of(logged: &Record<'_>, size: u64) -> u64
     match logged {
         Record::Create { .. }
         | Record::Link { .. }
-        | Record::Unname { .. }
+        | Record::RemoveName { .. }
         | Record::Rename { .. } => NAMES_COST,
         Record::Write { offset, bytes, .. } => {
             let end = offset.saturating_add(bytes.len() as u64);
             2 * touched(*offset, bytes.len()) + beside(size.max(end))
         }
-        Record::Cut { .. } => FILE_COST,
+        Record::Truncate { .. } => FILE_COST,
         Record::ChangeMode { .. } => MODE_COST,
     }
 }
 
-/// The most that a write stores beside two for each block that it touches, where the file has so many bytes before it or behind it.
+/// The most that a write stores beside two for each block that it touches, where the file has so
+/// many bytes before it or behind it.
 fn beside(size: u64) -> u64
     ensures value { result ≡ room.beside size }
     ensures few { result ≤ 8 }
@@ -100,15 +102,16 @@ fn touched(offset: u64, count: usize) -> u64
     (before + count as u64).div_ceil(BLOCK_BYTES as u64)
 }
 
-/// The blocks that stay free behind a record, over a file of this size, so that files can still be taken away.
-pub fn keep_of(logged: &Record<'_>, size: u64) -> u64
-    ensures keep { (v : Volume) → IsSizeBefore v (change_of logged.now) size
-        → result ≡ room.keep (work_of v (change_of logged.now)) }
+/// The blocks that stay free behind a record, over a file of this size, so that files can still be
+/// taken away.
+pub fn headroom_of(logged: &Record<'_>, size: u64) -> u64
+    ensures headroom { (v : Volume) → IsSizeBefore v (change_of logged.now) size
+        → result ≡ room.headroom (work_of v (change_of logged.now)) }
     ensures few { result ≤ 16 }
 {
     match logged {
-        Record::Unname { .. } | Record::ChangeMode { .. } => 0,
-        Record::Cut { size: new, .. } => { if size < *new { KEPT_BLOCKS } else { 0 } }
-        _ => KEPT_BLOCKS,
+        Record::RemoveName { .. } | Record::ChangeMode { .. } => 0,
+        Record::Truncate { size: new, .. } => { if size < *new { HEADROOM_BLOCKS } else { 0 } }
+        _ => HEADROOM_BLOCKS,
     }
 }

@@ -7,15 +7,14 @@ ghost use Rattle.model.specs.Records.{Change, applied, work_of};
 ghost use Rattle.model.specs.Room as room;
 ghost use Rattle.model.specs.Volumes.{Volume};
 ghost use Rattle.buffers.specs.Reads.{ReadsBlocks};
-ghost use Rattle.blocktree.specs.Errors.{IsFault};
+ghost use Rattle.buffers.specs.Errors.{IsFault};
 ghost use Rattle.images.specs.Soundness.{Detail};
 ghost use Rattle.oplog.specs.SavedLog.{HoldsLeaving};
 ghost use Rattle.replay.specs.Volumes.{AppliesIn, ComesTo, HasReplayed, HasVolumeIn, LeadSomewhere, LeadTo, RaisesRoom, SpellsRecord};
 ghost use Rattle.replay.specs.declared.costs.TheConstants.{MOST_COST};
 
 use crate::costs::{cost_of, size_before};
-use blocktree::ReadError;
-use buffers::Blocks;
+use buffers::{BlockError, Blocks};
 use inofile::InodeFile;
 use layout::{Gate, Record, read_gate};
 use model::records_keep_volumes;
@@ -31,15 +30,15 @@ pub(crate) struct ReplayedHalf {
     pub(crate) cost: u64,
 }
 
-/// Replays the records from a gate on over the inodes in memory, and answers what is left behind them and
-/// what they cost. None is passed over: `Damaged` where the bytes hold no records, and where one doesn't
-/// apply. After an error it isn't known what memory stands for.
+/// Replays the records from a gate on over the inodes in memory, and answers what is left behind
+/// them and what they cost. None is passed over: `Damaged` where the bytes hold no records, and
+/// where one doesn't apply. After an error it isn't known what memory stands for.
 pub(crate) fn replay_all<B: Blocks>(
     alloc: Global,
     inodes: &mut InodeFile,
     blocks: &mut B,
     records: &[u8],
-) -> Result<ReplayedHalf, ReadError>
+) -> Result<ReplayedHalf, BlockError>
     requires { length records.now ≤ MOST_HALF }
     ensures reads { ReadsBlocks B.Blocks IsFault blocks.old blocks.new result }
     ensures geometry { inodes.new.geometry ≡ inodes.old.geometry }
@@ -69,7 +68,7 @@ pub(crate) fn replay_all<B: Blocks>(
                     cost,
                 });
             }
-            Gate::Malformed => return Err(ReadError::Damaged),
+            Gate::Malformed => return Err(BlockError::Damaged),
             Gate::Open { body, rest: after } => {
                 cost += replay_record(alloc, inodes, blocks, body)?;
                 rest = after;
@@ -78,14 +77,14 @@ pub(crate) fn replay_all<B: Blocks>(
     }
 }
 
-/// Does to the inodes in memory what the record with this body says, and answers what it costs a consistency point. `Damaged` where it is
-/// no record's, or the record doesn't apply.
+/// Does to the inodes in memory what the record with this body says, and answers what it costs a
+/// consistency point. `Damaged` where it is no record's, or the record doesn't apply.
 pub fn replay_record<B: Blocks>(
     alloc: Global,
     inodes: &mut InodeFile,
     blocks: &mut B,
     body: &[u8],
-) -> Result<u64, ReadError>
+) -> Result<u64, BlockError>
     ensures reads { ReadsBlocks B.Blocks IsFault blocks.old blocks.new result }
     ensures geometry { inodes.new.geometry ≡ inodes.old.geometry }
     ensures few { IfOk result (λ cost. cost ≤ MOST_COST) }
@@ -106,11 +105,11 @@ pub fn replay_record<B: Blocks>(
 {
     records_keep_volumes();
     let Some(logged) = Record::read(body) else {
-        return Err(ReadError::Damaged);
+        return Err(BlockError::Damaged);
     };
     let prepared = match prepare(alloc, inodes, blocks, &logged) {
         Ok(prepared) => prepared,
-        Err(Failure::Refused(_errno)) => return Err(ReadError::Damaged),
+        Err(Failure::Refused(_errno)) => return Err(BlockError::Damaged),
         Err(Failure::Read(error)) => return Err(error),
     };
     let cost = cost_of(&logged, size_before(inodes, &logged));

@@ -2,22 +2,21 @@
 
 ghost use Rattle.std.specs.Prelude.{◌≡◌, ◌<◌, ◌≤◌, ◌^◌, List, ℕ, IfOk, IsFalse};
 ghost use Rattle.layout.specs.declared.inode.Inode.{Inode};
-ghost use Rattle.model.specs.Records.{Change, costs, pledged_for, without_nameless};
+ghost use Rattle.model.specs.Records.{Change, costs, pledged_for, without_orphans};
 ghost use Rattle.model.specs.Volumes.{Volume};
 ghost use Rattle.buffers.specs.Reads.{ReadsBlocks};
-ghost use Rattle.blocktree.specs.Errors.{IsFault};
+ghost use Rattle.buffers.specs.Errors.{IsFault};
 ghost use Rattle.images.specs.Soundness.{Detail};
 ghost use Rattle.inofile.specs.Inodes.{HasNoChange};
 ghost use Rattle.inofile.specs.Room.{memory_room};
 ghost use Rattle.oplog.specs.SavedLog.{StandsBehind, TellsLog};
 ghost use Rattle.replay.specs.Volumes.{ComesTo, HasVolumeIn, RaisesRoom, SavesRecordsIn, SavesSomeIn, bodies_of};
 
+use crate::orphans::{count_orphans, drop_orphans};
 use crate::replaying::replay_all;
-use crate::sweeping::{count_nameless, drop_nameless};
-use blocktree::ReadError;
-use buffers::Blocks;
+use buffers::{BlockError, Blocks};
 use inofile::InodeFile;
-use model::NAMELESS_COST;
+use model::ORPHAN_COST;
 use oplog::{Log, SavedLog};
 use std::alloc::Global;
 
@@ -26,21 +25,21 @@ use std::alloc::Global;
 pub struct Replayed {
     /// The log's end.
     pub log: Log,
-    /// The blocks that a consistency point may store for what the root doesn't cover: for each record, and for each file without
-    /// a name that the root has.
+    /// The blocks that a consistency point may store for what the root doesn't cover: for each
+    /// record, and for each file without a name that the root has.
     pub pledged: u64,
 }
 
-/// Replays the records of a saved log over the inodes in memory, epoch after epoch, and drops the files
-/// without names behind the last one. `Damaged` where what is saved is no record that applies, so behind Ok
-/// the log holds records that apply one after the other over the volume that memory stood for. After an error
-/// it isn't known what memory stands for.
+/// Replays the records of a saved log over the inodes in memory, epoch after epoch, and drops the
+/// files without names behind the last one. `Damaged` where what is saved is no record that
+/// applies, so behind Ok the log holds records that apply one after the other over the volume that
+/// memory stood for. After an error it isn't known what memory stands for.
 pub fn replay<B: Blocks>(
     alloc: Global,
     inodes: &mut InodeFile,
     blocks: &mut B,
     saved: SavedLog,
-) -> Result<Replayed, ReadError>
+) -> Result<Replayed, BlockError>
     ensures reads { ReadsBlocks B.Blocks IsFault blocks.old blocks.new result }
     ensures geometry { inodes.new.geometry ≡ inodes.old.geometry }
     ensures half { IfOk result (λ r. r.log.half ≡ saved.half) }
@@ -52,7 +51,7 @@ pub fn replay<B: Blocks>(
         → TellsLog nvram saved
         → SavesRecordsIn detail inodes.old.geometry.inodes nvram saved changes v w
         → ComesTo result (λ r. StandsBehind r.log saved.generation nvram (bodies_of changes)
-        × HasVolumeIn detail (B.count blocks.old) disk settled inodes.new (without_nameless w)
+        × HasVolumeIn detail (B.count blocks.old) disk settled inodes.new (without_orphans w)
         × (r.pledged ≡ pledged_for inodes.old.geometry.inodes v changes)) }
     ensures room { (detail : Detail) (disk : ℕ → List ℕ) (settled : ℕ → Inode) (v w : Volume)
         (changes : List Change) (nvram : List ℕ) → B.Shows blocks.old disk
@@ -60,7 +59,7 @@ pub fn replay<B: Blocks>(
         → TellsLog nvram saved
         → SavesRecordsIn detail inodes.old.geometry.inodes nvram saved changes v w
         → HasNoChange inodes.old → IfOk result
-        (λ r. memory_room v inodes.new (without_nameless w) ≤ r.pledged) }
+        (λ r. memory_room v inodes.new (without_orphans w) ≤ r.pledged) }
     ensures applies { (detail : Detail) (disk : ℕ → List ℕ) (settled : ℕ → Inode) (v : Volume)
         (nvram : List ℕ) → B.Shows blocks.old disk
         → HasVolumeIn detail (B.count blocks.old) disk settled inodes.old v
@@ -69,11 +68,11 @@ pub fn replay<B: Blocks>(
     ensures holds { (nvram : List ℕ) → TellsLog nvram saved → IfOk result
         (λ r. (bodies : List (List ℕ)) × StandsBehind r.log saved.generation nvram bodies) }
 {
-    let nameless = count_nameless(inodes, blocks)?;
+    let orphans = count_orphans(inodes, blocks)?;
     let ReplayedLog { log, cost } = replay_records(alloc, inodes, blocks, saved)?;
     Ok(Replayed {
         log,
-        pledged: NAMELESS_COST * u64::from(nameless) + cost,
+        pledged: ORPHAN_COST * u64::from(orphans) + cost,
     })
 }
 
@@ -89,7 +88,7 @@ fn replay_records<B: Blocks>(
     inodes: &mut InodeFile,
     blocks: &mut B,
     saved: SavedLog,
-) -> Result<ReplayedLog, ReadError>
+) -> Result<ReplayedLog, BlockError>
     ensures reads { ReadsBlocks B.Blocks IsFault blocks.old blocks.new result }
     ensures geometry { inodes.new.geometry ≡ inodes.old.geometry }
     ensures half { IfOk result (λ r. r.log.half ≡ saved.half) }
@@ -101,9 +100,9 @@ fn replay_records<B: Blocks>(
         → TellsLog nvram saved
         → SavesRecordsIn detail inodes.old.geometry.inodes nvram saved changes v w
         → ComesTo result (λ r. StandsBehind r.log saved.generation nvram (bodies_of changes)
-        × HasVolumeIn detail (B.count blocks.old) disk settled inodes.new (without_nameless w)
+        × HasVolumeIn detail (B.count blocks.old) disk settled inodes.new (without_orphans w)
         × (r.cost ≡ costs v changes)
-        × RaisesRoom inodes.old v inodes.new (without_nameless w) r.cost) }
+        × RaisesRoom inodes.old v inodes.new (without_orphans w) r.cost) }
     ensures applies { (detail : Detail) (disk : ℕ → List ℕ) (settled : ℕ → Inode) (v : Volume)
         (nvram : List ℕ) → B.Shows blocks.old disk
         → HasVolumeIn detail (B.count blocks.old) disk settled inodes.old v
@@ -114,7 +113,7 @@ fn replay_records<B: Blocks>(
 {
     let first = replay_all(alloc, inodes, blocks, saved.first_records())?;
     let second = replay_all(alloc, inodes, blocks, saved.second_records())?;
-    drop_nameless(alloc, inodes, blocks)?;
+    drop_orphans(alloc, inodes, blocks)?;
     Ok(ReplayedLog {
         log: saved.into_log(first.left, second.left),
         cost: first.cost + second.cost,

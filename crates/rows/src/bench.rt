@@ -143,7 +143,8 @@ impl<'a> Bench<'a> {
         }
     }
 
-    /// Does what a line says that changes the images or looks at them. False where it isn't understood.
+    /// Does what a line says that changes the images or looks at them. False where it isn't
+    /// understood.
     fn obey_images(&mut self, verb: &str, words: &str) -> Result<bool, Fault> {
         match verb {
             "slots" => self.images.compare_slots(self.alloc, words),
@@ -231,7 +232,8 @@ fn made(
     }
 }
 
-/// `words WORDS -> LINE`: what the program's words are read as; `nothing` where they aren't understood.
+/// `words WORDS -> LINE`: what the program's words are read as; `nothing` where they aren't
+/// understood.
 fn compare_words(alloc: Global, text: &str) -> Result<bool, Fault> {
     let Some((words, expected)) = text.split_once(" -> ") else {
         return Ok(false);

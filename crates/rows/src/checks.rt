@@ -23,8 +23,8 @@ impl Watch for Told {
     }
 }
 
-/// `check -> REPORT; FINDING ..`: what a check of the images comes to, and behind it what it finds in each tree. False where the line
-/// isn't understood.
+/// `check -> REPORT; FINDING ..`: what a check of the images comes to, and behind it what it finds
+/// in each tree. False where the line isn't understood.
 pub fn compare_check(alloc: Global, images: &Images, words: &str) -> Result<bool, Fault> {
     let Some(expected) = words.strip_prefix("-> ") else {
         return Ok(false);

@@ -1,4 +1,5 @@
-//! The choices of a row: a range of numbers or a list of words stands for each of its members in turn.
+//! The choices of a row: a range of numbers or a list of words stands for each of its members in
+//! turn.
 
 /// One choice among all that a row's ranges and lists leave, by its number.
 #[derive(Drop)]

@@ -24,8 +24,8 @@ impl<'a> Expected<'a> {
         }
     }
 
-    /// Adds what stands behind the sign of the stream: ` TEXT` for a line, `- TEXT` for one without its end, ` ..` for any
-    /// further ones.
+    /// Adds what stands behind the sign of the stream: ` TEXT` for a line, `- TEXT` for one without
+    /// its end, ` ..` for any further ones.
     pub fn add(&mut self, text: &'a str) -> Result<(), AllocError> {
         if text == " .." {
             self.is_open = true;

@@ -9,7 +9,8 @@ use std::fs;
 use std::os::unix::fs::symlink;
 use tool::make_image;
 
-/// Does what a line about files says. None where it is about none, false where its words aren't understood.
+/// Does what a line about files says. None where it is about none, false where its words aren't
+/// understood.
 pub fn obey_file(rt: &HostRuntime, verb: &str, words: &str) -> Result<Option<bool>, Fault> {
     let (name, rest) = words.split_once(' ').unwrap_or((words, ""));
     match verb {
@@ -34,7 +35,8 @@ pub fn obey_file(rt: &HostRuntime, verb: &str, words: &str) -> Result<Option<boo
     }
 }
 
-/// `make DISK NVRAM BLOCKS INODES HALF -> DONE`: makes an image on files; `done`, or why it isn't made.
+/// `make DISK NVRAM BLOCKS INODES HALF -> DONE`: makes an image on files; `done`, or why it isn't
+/// made.
 fn make_files(rt: &HostRuntime, text: &str) -> Result<bool, Fault> {
     let Some((words, expected)) = text.split_once(" -> ") else {
         return Ok(false);

@@ -1,5 +1,6 @@
-//! Files of tables of bytes, each row against the readers and the writers of `layout`. The rows come from the text of the formats, not
-//! from this program; the head of `data/formats.tables` says how they are written.
+//! Files of tables of bytes, each row against the readers and the writers of `layout`. The rows
+//! come from the text of the formats, not from this program; the head of `data/formats.tables` says
+//! how they are written.
 
 mod format;
 mod table;
@@ -7,7 +8,8 @@ mod table;
 use std::io;
 use table::{RowError, Table, obey};
 
-/// Checks the tables of a file's text: prints how many rows each has, and names a row that isn't as it says. Whether all hold.
+/// Checks the tables of a file's text: prints how many rows each has, and names a row that isn't as
+/// it says. Whether all hold.
 pub fn check_tables(rt: &HostRuntime, text: &str) -> io::Result<bool> {
     let alloc = rt.alloc();
     let mut table = None;

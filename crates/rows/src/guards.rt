@@ -23,8 +23,8 @@ impl<'a> Locks<'a> {
         }
     }
 
-    /// Does what a line about locks says: `lock NAME`, `lock-shared NAME` or `unlock NAME`. None where it is about none,
-    /// false where the lock can't be had.
+    /// Does what a line about locks says: `lock NAME`, `lock-shared NAME` or `unlock NAME`. None
+    /// where it is about none, false where the lock can't be had.
     pub fn obey(
         &mut self,
         rt: &HostRuntime,
@@ -62,7 +62,8 @@ impl<'a> Locks<'a> {
     }
 }
 
-/// Does what a line about modes, links, holes or bytes says. None where it is about none, false where its words aren't understood.
+/// Does what a line about modes, links, holes or bytes says. None where it is about none, false
+/// where its words aren't understood.
 pub fn obey_guard(rt: &HostRuntime, verb: &str, words: &str) -> Result<Option<bool>, Fault> {
     match verb {
         "chmod" => Ok(Some(set_mode(rt, words))),

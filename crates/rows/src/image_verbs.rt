@@ -47,8 +47,8 @@ impl Images {
             && self.bad.as_slice() == other.bad.as_slice()
     }
 
-    /// `bad N ..`: from here on these sectors can't be read. `bad -> N ..`: just these can't be; `bad of N`: so many can't be.
-    /// False where the words aren't understood.
+    /// `bad N ..`: from here on these sectors can't be read. `bad -> N ..`: just these can't be;
+    /// `bad of N`: so many can't be. False where the words aren't understood.
     pub fn obey_bad(&mut self, alloc: Global, words: &str) -> Result<bool, Fault> {
         if let Some(count) = words.strip_prefix("of ") {
             let came = format!(in alloc; "{}", self.bad.len())?;
@@ -72,7 +72,8 @@ impl Images {
         Ok(true)
     }
 
-    /// `slots -> N ..`: of the sectors in the first two blocks, where roots stand, just these can't be read.
+    /// `slots -> N ..`: of the sectors in the first two blocks, where roots stand, just these can't
+    /// be read.
     pub fn compare_slots(&self, alloc: Global, words: &str) -> Result<bool, Fault> {
         let Some(expected) = words.strip_prefix("->") else {
             return Ok(false);

@@ -1,7 +1,8 @@
-//! Files of rows on a file over a station in memory: its levels, what reading costs in calls of the device, and what comes of a call
-//! that fails. A row is a line with the answer that it is to have behind ` -> `, or `ok`. The rows from a line `group NAME` on are a
-//! group: it begins with a disk of zeros up to block 7, block b from there on full of the letter with the code 65 + b % 26, and an
-//! empty file. Lines with `#` first, and empty ones, say nothing.
+//! Files of rows on a file over a station in memory: its levels, what reading costs in calls of the
+//! device, and what comes of a call that fails. A row is a line with the answer that it is to have
+//! behind ` -> `, or `ok`. The rows from a line `group NAME` on are a group: it begins with a disk
+//! of zeros up to block 7, block b from there on full of the letter with the code 65 + b % 26, and
+//! an empty file. Lines with `#` first, and empty ones, say nothing.
 //!
 //!     put BLOCK OFFSET HEX    these bytes lie on the disk
 //!     fail N                  device call N from the last `put` on, counted from 1, is to fail
@@ -18,8 +19,8 @@ use crate::fault::Fault;
 use std::io;
 use world::World;
 
-/// Checks the groups of a file's text: names each row with another answer, and tells how many of a group's rows answered as they are
-/// to. Whether all did.
+/// Checks the groups of a file's text: names each row with another answer, and tells how many of a
+/// group's rows answered as they are to. Whether all did.
 pub fn check_groups(rt: &HostRuntime, text: &str) -> io::Result<bool> {
     let mut all_hold = true;
     // What stands before the first group is about the file itself.

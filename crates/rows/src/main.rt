@@ -1,6 +1,7 @@
-//! The tests: reads files of rows, worked examples written as text, runs each, and says which don't hold. What a file's name ends
-//! with says what its rows are: sessions over a station in memory (`.rows`; the head of `data/sessions.rows` says how they are
-//! written), tables of bytes in a format (`.tables`), or calls on a file and a directory (`.groups`).
+//! The tests: reads files of rows, worked examples written as text, runs each, and says which don't
+//! hold. What a file's name ends with says what its rows are: sessions over a station in memory
+//! (`.rows`; the head of `data/sessions.rows` says how they are written), tables of bytes in a
+//! format (`.tables`), or calls on a file and a directory (`.groups`).
 #![tactic(auto)]
 
 mod bench;

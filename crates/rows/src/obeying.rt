@@ -1,4 +1,5 @@
-//! One command line of a row: the program's words, what stands on its standard input, and what is expected of it.
+//! One command line of a row: the program's words, what stands on its standard input, and what is
+//! expected of it.
 
 use crate::expected::Expected;
 use crate::fault::Fault;
@@ -61,9 +62,9 @@ impl<'a> Obeyed<'a> {
         }
     }
 
-    /// Adds a line about its streams: `< TEXT`, or `<- TEXT` without its end, on standard input, which `<pipe` makes a pipe; `> TEXT` on standard
-    /// output, which `>room N` has fail behind N bytes and `>file NAME` expects to be just this file; `! TEXT` on standard
-    /// error.
+    /// Adds a line about its streams: `< TEXT`, or `<- TEXT` without its end, on standard input,
+    /// which `<pipe` makes a pipe; `> TEXT` on standard output, which `>room N` has fail behind N
+    /// bytes and `>file NAME` expects to be just this file; `! TEXT` on standard error.
     pub fn add_line(&mut self, alloc: Global, line: &'a str) -> Result<(), Fault> {
         if line == "<pipe" {
             self.is_pipe = true;

@@ -1,17 +1,19 @@
-//! One run of a row: a script over a station in memory, or lines that are answered one by one, and what is expected of it.
+//! One run of a row: a script over a station in memory, or lines that are answered one by one, and
+//! what is expected of it.
 
 use crate::choices::Choices;
 use crate::fault::Fault;
 use crate::image_verbs::Images;
 use crate::text::{bytes_of, is_one_of, push_text};
-use memory_station::{Keep, Mark, Sim};
+use memory_station::{CutOutcome, Mark, Sim};
 use session::{Sink, Source, session, shell};
 use std::alloc::{AllocError, Global};
 
 /// What fails in a run, by the numbers that a station counts.
 #[derive(Drop)]
 struct FaultPlan<'a> {
-    /// The device write within which the power is cut, what of the unsynced sectors stays, and the bytes of an NVRAM write.
+    /// The device write within which the power is cut, what of the unsynced sectors stays, and the
+    /// bytes of an NVRAM write.
     cut: Option<u32>,
     keep: &'a str,
     bytes: u32,
@@ -49,8 +51,8 @@ struct Outcome {
 }
 
 impl<'a> Run<'a> {
-    /// A run by the words behind `run` or `shell`: none, or some of `cut=N`, `keep=none|all|BITS`, `bytes=K`, `fail=N`,
-    /// `fail-sync=N` and `stop`.
+    /// A run by the words behind `run` or `shell`: none, or some of `cut=N`, `keep=none|all|BITS`,
+    /// `bytes=K`, `fail=N`, `fail-sync=N` and `stop`.
     pub fn new(
         alloc: Global,
         is_shell: bool,
@@ -88,7 +90,8 @@ impl<'a> Run<'a> {
         Ok(run)
     }
 
-    /// Adds `COMMAND -> REPLY`, or behind `| ` a line that brings no reply, and behind `|- ` one without its end.
+    /// Adds `COMMAND -> REPLY`, or behind `| ` a line that brings no reply, and behind `|- ` one
+    /// without its end.
     pub fn add_line(&mut self, alloc: Global, line: &'a str) -> Result<(), Fault> {
         if let Some(text) = line.strip_prefix("|- ") {
             return push_text(alloc, &mut self.script, text);
@@ -257,7 +260,7 @@ impl<'a> FaultPlan<'a> {
     fn station(&self, alloc: Global, images: &Images) -> Result<Sim, Fault> {
         let mut sim = images.load(alloc)?;
         if let Some(write) = self.cut {
-            sim.cut_at(write, keep_of(alloc, self.keep)?, self.bytes);
+            sim.cut_at(write, cut_outcome_of(alloc, self.keep)?, self.bytes);
         }
         if let Some(call) = self.call {
             sim.fail_at(call);
@@ -269,11 +272,11 @@ impl<'a> FaultPlan<'a> {
     }
 }
 
-fn keep_of(alloc: Global, word: &str) -> Result<Keep, AllocError> {
+fn cut_outcome_of(alloc: Global, word: &str) -> Result<CutOutcome, AllocError> {
     match word {
-        "none" => Ok(Keep::Nothing),
-        "all" => Ok(Keep::Everything),
-        bits => Ok(Keep::Bits(bits.bytes().map(|byte| mark_of(byte)).collect(alloc)?)),
+        "none" => Ok(CutOutcome::Nothing),
+        "all" => Ok(CutOutcome::Everything),
+        bits => Ok(CutOutcome::Bits(bits.bytes().map(|byte| mark_of(byte)).collect(alloc)?)),
     }
 }
 

@@ -3,8 +3,8 @@
 use crate::fault::Fault;
 use std::alloc::{AllocError, Global};
 
-/// Adds the bytes of a text: `{HH}` is the byte of these two hexadecimal digits, `{HH*N}` so many of it, `{}` is nothing, and
-/// every other character stands for itself.
+/// Adds the bytes of a text: `{HH}` is the byte of these two hexadecimal digits, `{HH*N}` so many
+/// of it, `{}` is nothing, and every other character stands for itself.
 pub fn push_text(alloc: Global, out: &mut Vec<u8>, text: &str) -> Result<(), Fault> {
     for (i, part) in text.split('{').enumerate() {
         if i == 0 {
@@ -44,7 +44,8 @@ pub fn bytes_of(alloc: Global, text: &str) -> Result<Vec<u8>, Fault> {
     Ok(bytes)
 }
 
-/// Whether bytes are one of some texts with ` | ` between. A text behind `~` is only how they begin.
+/// Whether bytes are one of some texts with ` | ` between. A text behind `~` is only how they
+/// begin.
 pub fn is_one_of(alloc: Global, bytes: &[u8], texts: &str) -> Result<bool, Fault> {
     for text in texts.split(" | ") {
         let (is_whole, text) = match text.strip_prefix('~') {
@@ -59,7 +60,8 @@ pub fn is_one_of(alloc: Global, bytes: &[u8], texts: &str) -> Result<bool, Fault
     Ok(false)
 }
 
-/// Bytes that follow no format: the high bytes of a linear congruential generator, with Knuth's numbers for 64 bits.
+/// Bytes that follow no format: the high bytes of a linear congruential generator, with Knuth's
+/// numbers for 64 bits.
 pub fn random_bytes(alloc: Global, seed: u32, count: u32) -> Result<Vec<u8>, AllocError> {
     let mut state = u64::from(seed);
     let mut bytes = Vec::new(alloc);

@@ -7,7 +7,8 @@ use std::fs;
 use std::io::sink;
 use transfer::{Progress, Transfer, TransferError, get_file, put_file};
 
-/// Does what a line about transfers says. None where it is about none, false where its words aren't understood.
+/// Does what a line about transfers says. None where it is about none, false where its words aren't
+/// understood.
 pub fn obey_transfer(rt: &HostRuntime, verb: &str, words: &str) -> Result<Option<bool>, Fault> {
     match verb {
         "bytes" => Ok(Some(make_bytes(rt, words)?)),
@@ -65,7 +66,8 @@ fn put(rt: &HostRuntime, text: &str) -> Result<bool, Fault> {
     compare_end(rt, &ended.done, expected)
 }
 
-/// `get DISK NVRAM PATH FILE -> DONE`: brings a file back. What goes to standard output is stored in the file `shown`.
+/// `get DISK NVRAM PATH FILE -> DONE`: brings a file back. What goes to standard output is stored
+/// in the file `shown`.
 fn get(rt: &HostRuntime, text: &str) -> Result<bool, Fault> {
     let Some((words, expected)) = text.split_once(" -> ") else {
         return Ok(false);

@@ -1,4 +1,5 @@
--- The forms of the words behind a command's name: which kinds of fields stand there, and how their values are spelled.
+-- The forms of the words behind a command's name: which kinds of fields stand there, and how their
+-- values are spelled.
 use Rattle.std.specs.Prelude.{ℕ, ℤ, ◌^◌, ◌<◌, ◌≤◌, List, [], ◌∷◌}
 use Rattle.std.specs.Fmt.{decimal, signed_decimal}
 use Rattle.std.specs.Int.RustNames.{FitsSigned}
@@ -48,7 +49,8 @@ word_of mode m = mode_word m
 word_of flags f = flags_word f
 word_of whence w = whence_word w
 
--- nothing, or a word of a kind and further words, or a last mode that may be left out where it is the default; `none` is no form
+-- nothing, or a word of a kind and further words, or a last mode that may be left out where it is
+-- the default; `none` is no form
 pub data Form : Type 0 where
   end : Form
   field : (k : Kind) → (more : Form) → Form

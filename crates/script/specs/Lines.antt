@@ -43,8 +43,8 @@ call_words c = verb_name (call_fields c).0 ∷ form_words (call_form (call_field
 abbrev pub IsPathCallInForm : PathCall → Type 0
 IsPathCallInForm c = AreValues (call_form (call_fields c).0) (call_fields c).1
 
--- how a command's words are made: a first word and fields, a call that names a path, `in` and such a call, or `snap`, a second word
--- and fields
+-- how a command's words are made: a first word and fields, a call that names a path, `in` and such
+-- a call, or `snap`, a second word and fields
 pub data Spelling : Type 0 where
   plain : (v : Verb) → (fields : Values (command_form v)) → Spelling
   named : (call : PathCall) → Spelling

@@ -14,7 +14,8 @@ pub record ReadsForm {X : Type 0} (f : Form) (values : X → Values f) (words : 
   pub good : IfOk r (λ x. AreValues f (values x))
   pub refused : r ≡ Err NotACommand → (v : Values f) → AreValues f v → words ≢ form_words f v
 
--- words behind a head are read as what they spell with it, and refused where no fields of this form stand there
+-- words behind a head are read as what they spell with it, and refused where no fields of this form
+-- stand there
 pub record ReadsFields {X : Type 0} (f : Form) (words_of : X → List (List ℕ)) (IsGood : X → Type 0) (head : List (List ℕ)) (words : List (List ℕ)) (r : Result X ScriptError) : Type 0 where
   pub spelled : IfOk r (λ x. head ++ words ≡ words_of x)
   pub good : IfOk r IsGood

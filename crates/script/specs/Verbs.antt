@@ -54,7 +54,8 @@ is_call verb.Chmod = true
 is_call verb.Truncate = true
 is_call v = false
 
--- the fields of a call that changes the tree; a new directory has mode 0755 unless another is written
+-- the fields of a call that changes the tree; a new directory has mode 0755 unless another is
+-- written
 abbrev pub change_form : Verb → Form
 change_form verb.Mkdir = field form.text (last_mode 0o755)
 change_form verb.Rmdir = field form.text end

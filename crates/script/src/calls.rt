@@ -1,4 +1,5 @@
-//! Reading a call that names a path: its first word says which it is, and the others are its fields in order.
+//! Reading a call that names a path: its first word says which it is, and the others are its fields
+//! in order.
 
 ghost use Rattle.std.specs.Prelude.{◌∷◌, [], map};
 ghost use Rattle.script.specs.Lines.{call_words, IsPathCallInForm};

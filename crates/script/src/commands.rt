@@ -1,4 +1,5 @@
-//! Reading a command from its words: the first says which it is, and the others are its fields in order.
+//! Reading a command from its words: the first says which it is, and the others are its fields in
+//! order.
 
 ghost use Rattle.std.specs.Prelude.{◌≡◌, ◌≢◌, ◌∷◌, [], map, IfOk, OnErr};
 ghost use Rattle.script.specs.Lines.{command_words, IsCommandInForm};
@@ -141,7 +142,8 @@ fn read_plain(alloc: Global, verb: Verb, words: &[&[u8]]) -> Result<Command<'sta
     }
 }
 
-/// The command that a first word and its fields spell, one that moves bytes of an open file, or its offset.
+/// The command that a first word and its fields spell, one that moves bytes of an open file, or its
+/// offset.
 fn read_file(alloc: Global, verb: Verb, words: &[&[u8]]) -> Result<Command<'static>, ScriptError>
     ensures { ReadsFields (file_form verb) command_words IsCommandInForm (verb_name verb ∷ [])
         (map (λ word. word.now) words.now) result }

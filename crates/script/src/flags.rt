@@ -10,7 +10,8 @@ use crate::ScriptError;
 use model::{Access, Flags, Whence};
 use std::alloc::{AllocError, Global};
 
-/// The flags that a word spells: those whose letters stand in it, where the word is what these flags are written as.
+/// The flags that a word spells: those whose letters stand in it, where the word is what these
+/// flags are written as.
 pub(crate) fn read_flags(alloc: Global, word: &[u8]) -> Result<Flags, ScriptError>
     ensures { ReadsWord flags (λ f. f) word.now result }
 {

@@ -1,4 +1,5 @@
-//! Scripts: each command and each reply is one line of words, one space apart, and has one spelling.
+//! Scripts: each command and each reply is one line of words, one space apart, and has one
+//! spelling.
 #![tactic(auto)]
 
 ghost use Rattle.std.specs.Prelude.{◌≡◌, ◌⊎◌, IfOk, IfErr};
@@ -28,8 +29,9 @@ use std::alloc::Global;
 use words::split_words;
 use writing::push_command;
 
-/// The command that a line spells, without the line's end. A command has one spelling; anything else is `NotACommand`, as an
-/// empty line and one that begins with `#` are. `NoMemory` where a growth was refused.
+/// The command that a line spells, without the line's end. A command has one spelling; anything
+/// else is `NotACommand`, as an empty line and one that begins with `#` are. `NoMemory` where a
+/// growth was refused.
 pub fn read_command(alloc: Global, line: &[u8]) -> Result<Command<'static>, ScriptError>
     ensures spelled { IfOk result (λ command. line.now ≡ command_line command) }
     ensures bounded { IfOk result IsCommandInForm }
@@ -40,7 +42,8 @@ pub fn read_command(alloc: Global, line: &[u8]) -> Result<Command<'static>, Scri
     read_words(alloc, words.as_slice())
 }
 
-/// The line that spells a command, without a line's end: `read_command` reads it back. `NoMemory` where a growth was refused.
+/// The line that spells a command, without a line's end: `read_command` reads it back. `NoMemory`
+/// where a growth was refused.
 pub fn write_command(alloc: Global, command: &Command<'_>) -> Result<Vec<u8>, ScriptError>
     ensures line { IfOk result (λ line. line.items ≡ command_line command.now) }
     ensures error { IfErr result (λ e. e ≡ ScriptError.NoMemory) }

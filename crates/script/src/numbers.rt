@@ -10,7 +10,8 @@ ghost use mir.Syntax.{w64};
 use crate::ScriptError;
 use std::alloc::Global;
 
-/// The number that a word spells: one that it parses as, where the word is what this number is written as.
+/// The number that a word spells: one that it parses as, where the word is what this number is
+/// written as.
 pub(crate) fn read_count(alloc: Global, word: &[u8]) -> Result<u32, ScriptError>
     ensures { ReadsWord count (λ n. n) word.now result }
 {

@@ -6,8 +6,8 @@ ghost use Rattle.std.specs.List.{slice_split};
 use memchr::memchr;
 use std::alloc::{AllocError, Global};
 
-/// The parts of some bytes between those that are the separator: one more than there are separators, so that no bytes are one
-/// empty part. An error where a growth was refused.
+/// The parts of some bytes between those that are the separator: one more than there are
+/// separators, so that no bytes are one empty part. An error where a growth was refused.
 pub fn split_at_byte<'a>(
     alloc: Global,
     bytes: &'a [u8],

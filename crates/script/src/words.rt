@@ -27,8 +27,8 @@ fn is_plain(byte: u8) -> bool
     byte >= 0x21 && byte <= 0x7e && byte != b'%'
 }
 
-/// Adds a text's word to a line: each byte that isn't plain is `%` and two lower-case hexadecimal digits, and the empty
-/// text is `%` alone.
+/// Adds a text's word to a line: each byte that isn't plain is `%` and two lower-case hexadecimal
+/// digits, and the empty text is `%` alone.
 pub(crate) fn push_text(line: &mut Vec<u8>, text: &[u8]) -> Result<(), AllocError>
     ensures { OnOk result (AddsText line.old line.new (text_word text.now)) }
 {

@@ -1,4 +1,5 @@
--- Commands done one after the other on a mounted file system, each one's reply shown before the next begins.
+-- Commands done one after the other on a mounted file system, each one's reply shown before the
+-- next begins.
 use Rattle.std.specs.Prelude.{ℕ, ◌≡◌, ◌≤◌, ◌+◌, ◌*◌, ◌∷◌, ◌++◌, ◌⊎◌, Bool, true, false, IsTrue, List, [], Option, Result, Ok, Err, codes, length, take}
 use Rattle.std.specs.List.{flat_map}
 use Rattle.std.specs.Io.KnownBytes.{Appends}
@@ -10,7 +11,7 @@ use Rattle.model.specs.declared.reply.Reply.TheVariants.{Refused as refused}
 use Rattle.model.specs.States.{State}
 use Rattle.script.specs.Replies.{reply_line}
 use Rattle.station.specs.declared.station.Station.{Ghosts}
-use Rattle.system.specs.Serving.{AnswersAtOnce, IsAtOnce}
+use Rattle.dispatch.specs.Serving.{AnswersAtOnce, IsAtOnce}
 use Rattle.mount.specs.Applying.{AnswersAlways, RunsAt}
 use Rattle.mount.specs.Systems.{mounted, Serves, IsYoung, LastsFor}
 use Rattle.mount.specs.declared.fs.Fs.{Fs}
@@ -35,8 +36,8 @@ cut_line = codes "cut\n"
 abbrev pub lines_of_steps : List (Command × Reply) → List ℕ
 lines_of_steps steps = flat_map (λ step. shown step.1) steps
 
--- A command was answered so, over any bytes as `Fs::apply` promises: whatever run led to the file system goes on by it, and its log's epoch
--- rises by no more than one command's points.
+-- A command was answered so, over any bytes as `Fs::apply` promises: whatever run led to the file
+-- system goes on by it, and its log's epoch rises by no more than one command's points.
 pub record IsAnsweredBy {S : Type 0} {G : Ghosts S} (old new : Fs S G) (command : Command) (reply : Reply) : Type 0 where
   pub answers : AnswersAlways old new command reply
   pub at_once : IsAtOnce old.system.files command → AnswersAtOnce old.system new.system reply
@@ -51,9 +52,10 @@ abbrev pub AreAnswered : {S : Type 0} {G : Ghosts S} → Fs S G → List (Comman
 AreAnswered {S} {G} first [] last = last ≡ first
 AreAnswered {S} {G} first (step ∷ steps) last = (next : Fs S G) × IsAnsweredBy first next step.0 step.1 × AreAnswered next steps last
 
--- Commands with these replies led from one file system to another. Whatever state the first one serves, the other serves what they come
--- to, and a cut at any moment leaves what the commands up to then come to. The premise is on the first file system alone: that its
--- log's epoch leaves a generation to each point that so many commands may make.
+-- Commands with these replies led from one file system to another. Whatever state the first one
+-- serves, the other serves what they come to, and a cut at any moment leaves what the commands up
+-- to then come to. The premise is on the first file system alone: that its log's epoch leaves a
+-- generation to each point that so many commands may make.
 pub record HasDone {S : Type 0} {G : Ghosts S} (first fs : Fs S G) (steps : List (Command × Reply)) : Type 0 where
   pub each : AreAnswered first steps fs
   pub lasts : fs.system.log.epoch ≤ first.system.log.epoch + POINTS * length steps
@@ -64,7 +66,8 @@ abbrev pub IsDue : List (Command × Reply) → List ℕ → Type 0
 IsDue [] line = line ≡ cut_line
 IsDue (step ∷ steps) line = (line ≡ shown step.1) ⊎ (line ≡ cut_line)
 
--- how a line's showing ends that stands in place of a reply, and what a writer's known bytes gained by it
+-- how a line's showing ends that stands in place of a reply, and what a writer's known bytes gained
+-- by it
 abbrev pub EndsCut : Option (List ℕ) → Option (List ℕ) → Status → Type 0
 EndsCut old new Cut = Appends old new cut_line
 EndsCut old new FileFault = (k : ℕ) × Appends old new (take k cut_line)
@@ -95,8 +98,8 @@ pub record LacksLastReply (steps before : List (Command × Reply)) : Type 0 wher
   pub is : steps ≡ before ++ rest
   pub few : length rest ≤ 1
 
--- why steps' replies aren't all shown, and what a writer's known bytes gained: all that is before the last one's, and of a line that is
--- due then a beginning
+-- why steps' replies aren't all shown, and what a writer's known bytes gained: all that is before
+-- the last one's, and of a line that is due then a beginning
 abbrev pub EndsShort : (Bool → Type 0) → List (Command × Reply) → Option (List ℕ) → Option (List ℕ) → Status → Type 0
 EndsShort was_cut steps old new Cut = was_cut true × ((before : List (Command × Reply)) × LacksLastReply steps before × Appends old new (lines_of_steps before ++ cut_line))
 EndsShort was_cut steps old new FileFault = (before : List (Command × Reply)) × (short : LacksLastReply steps before)

@@ -12,7 +12,8 @@ use Rattle.session.specs.declared.status.Status.TheVariants.{FileFault, NoMemory
 abbrev pub IsPlain : List ℕ → Type 0
 IsPlain bytes = All (λ b. (b == 10) ≡ false) bytes
 
--- known bytes lose a line at their beginning: with its end, or the last one, which has none and isn't empty
+-- known bytes lose a line at their beginning: with its end, or the last one, which has none and
+-- isn't empty
 abbrev pub Loses : Option (List ℕ) → Option (List ℕ) → List ℕ → Type 0
 Loses None new line = Unit {0}
 Loses (Some xs) None line = ⊥

@@ -1,4 +1,5 @@
--- How a session ends: what its status says of the script, of the station, of what is shown and of what is told.
+-- How a session ends: what its status says of the script, of the station, of what is shown and of
+-- what is told.
 use Rattle.std.specs.Prelude.{ℕ, ◌≡◌, ◌≢◌, ◌⊎◌, ◌∷◌, ◌++◌, Bool, true, false, IsFalse, List, [], Option, All, codes, length, map, take}
 use Rattle.std.specs.Io.KnownBytes.{Appends}
 use Rattle.model.specs.declared.command.Command.{Command}
@@ -13,8 +14,8 @@ use Rattle.system.specs.Images.{OpensTo}
 use Rattle.system.specs.Opening.{HasFailed, HasNewest}
 use Rattle.system.specs.Systems.{meaning_of, system_parts}
 use Rattle.mount.specs.Systems.{mounted, Serves}
-use Rattle.mount.specs.declared.error.MountError.{MountError}
-use Rattle.mount.specs.declared.error.MountError.TheVariants as error
+use Rattle.system.specs.declared.mount_error.MountError.{MountError}
+use Rattle.system.specs.declared.mount_error.MountError.TheVariants as error
 use Rattle.mount.specs.declared.fs.Fs.{Fs}
 use Rattle.session.specs.Answers.{is_refusal, lines_of_steps, EndsShort, HasDone}
 use Rattle.session.specs.Scripts.{line_fault, IsScriptFault, IsScriptOf}
@@ -25,16 +26,18 @@ use Rattle.session.specs.declared.ending.Fault.TheVariants as fault
 use Rattle.session.specs.declared.status.Status.{Status}
 use Rattle.session.specs.declared.status.Status.TheVariants.{Done, FileFault, NotMounted, NotACommand, NoMemory, Refused}
 
--- Commands with these replies led from a mounted file system to one that has this station. Whatever state the first one serves,
--- the last serves what they come to; and a cut at any moment leaves what the commands up to then come to.
+-- Commands with these replies led from a mounted file system to one that has this station. Whatever
+-- state the first one serves, the last serves what they come to; and a cut at any moment leaves
+-- what the commands up to then come to.
 pub record RunsOn {S : Type 0} {G : Ghosts S} (fs : Fs S G) (new : S) (steps : List (Command × Reply)) : Type 0 where
   pub last : Fs S G
   pub station : last.system.blocks.buffers.station ≡ new
   pub done : HasDone fs last steps
 
--- What `mount` promises of a file system that it opened over a station of this meaning: all that a cut
--- could leave stayed, it goes on, of a station that opened to a state it found that state without its
--- open files, and whatever else the station holds, it took the newest root and the log over it.
+-- What `mount` promises of a file system that it opened over a station of this meaning: all that a
+-- cut could leave stayed, it goes on, of a station that opened to a state it found that state
+-- without its open files, and whatever else the station holds, it took the newest root and the log
+-- over it.
 pub record IsMounted {S : Type 0} {G : Ghosts S} (old : Meaning) (fs : Fs S G) : Type 0 where
   pub goes : Goes Unchanged old (meaning_of fs.system)
   pub going : IsFalse fs.has_failed
@@ -42,8 +45,8 @@ pub record IsMounted {S : Type 0} {G : Ghosts S} (old : Meaning) (fs : Fs S G) :
       → (t : State) × Forgets s t × Serves (mounted fs t)
   pub found : old.is_honest → HasNewest old (system_parts fs.system)
 
--- What a session promises of a run, all in the words of `mount` and `Fs::apply`: a file system was mounted,
--- and from there the commands ran with these replies.
+-- What a session promises of a run, all in the words of `mount` and `Fs::apply`: a file system was
+-- mounted, and from there the commands ran with these replies.
 pub record Ran {S : Type 0} (G : Ghosts S) (old new : S) (steps : List (Command × Reply)) : Type 0 where
   pub fs : Fs S G
   pub is_mounted : IsMounted (G.meaning old) fs
@@ -70,8 +73,8 @@ pub record EndsRefused (steps : List (Command × Reply)) : Type 0 where
   pub done : AreDone before
   pub refused : is_refusal reply ≡ true
 
--- How the run of a script's commands ends, of which these steps were done, and what a writer's known bytes gained by it. `stops` has a refusal
--- end it; `was_cut` says whether the power was cut.
+-- How the run of a script's commands ends, of which these steps were done, and what a writer's
+-- known bytes gained by it. `stops` has a refusal end it; `was_cut` says whether the power was cut.
 abbrev pub EndsShowing : Bool → (Bool → Type 0) → List Command → List (Command × Reply) → Option (List ℕ) → Option (List ℕ) → Status → Type 0
 EndsShowing stops was_cut commands steps old new Done =
     (commands_of steps ≡ commands) × (stops ≡ true → AreDone steps) × was_cut false × Appends old new (lines_of_steps steps)
@@ -96,10 +99,10 @@ mount_fault error.Device = codes "wafl: mount DEVICE\n"
 mount_fault error.NoRoot = codes "wafl: mount NOROOT\n"
 mount_fault error.Damaged = codes "wafl: mount DAMAGED\n"
 
--- Why a mount that led from the one meaning to the other was refused, all that `mount` promises of it:
--- `Device` where a call failed, `NoRoot` where there is no root. Where there is none, where no fault
--- stands in the images, and where they open to a state, no other errors come than these. Of memory
--- nothing is known.
+-- Why a mount that led from the one meaning to the other was refused, all that `mount` promises of
+-- it: `Device` where a call failed, `NoRoot` where there is no root. Where there is none, where no
+-- fault stands in the images, and where they open to a state, no other errors come than these. Of
+-- memory nothing is known.
 pub record IsRefusal (old new : Meaning) (e : MountError) : Type 0 where
   pub device : e ≡ error.Device → HasFailed old new
   pub no_root : old.is_honest → e ≡ error.NoRoot → HasNoRoot old.sectors old.seen.disk
@@ -123,7 +126,8 @@ HasFault G script old new fault.NoMemory = Goes Unchanged (G.meaning old) (G.mea
 HasFault G script old new (fault.Line n) = IsScriptFault script (fault.Line n) × (new ≡ old)
 HasFault G script old new (fault.Mount e) = IsNotMounted script (G.meaning old) (G.meaning new) e
 
--- how the telling of a fault ends, and what a writer's known bytes gained by it: of its line a beginning, where not all of it can be told
+-- how the telling of a fault ends, and what a writer's known bytes gained by it: of its line a
+-- beginning, where not all of it can be told
 abbrev pub EndsTelling : Fault → Option (List ℕ) → Option (List ℕ) → Status → Type 0
 EndsTelling fault.NoMemory old new NoMemory = new ≡ old
 EndsTelling (fault.Line n) old new NotACommand = Appends old new (line_fault n)
@@ -162,7 +166,8 @@ abbrev pub EndsWith : {S : Type 0} (G : Ghosts S) → List ℕ → Bool → (Boo
 EndsWith G script stops was_cut old new w w' (ending.Ran status) = EndsRan G script stops was_cut old new w w' status
 EndsWith G script stops was_cut old new w w' (ending.Unrun fault status) = EndsUnrun G script old new w w' fault status
 
--- A session ended with `FileFault` only where the one holds, if commands ran, or the other, if none did.
+-- A session ended with `FileFault` only where the one holds, if commands ran, or the other, if none
+-- did.
 abbrev pub FaultHasCause : Type 0 → Type 0 → Ending → Type 0
 FaultHasCause ran unrun (ending.Ran status) = status ≡ FileFault → ran
 FaultHasCause ran unrun (ending.Unrun fault status) = status ≡ FileFault → unrun

@@ -16,8 +16,8 @@ use station::Station;
 use std::alloc::Global;
 use std::io::Write;
 
-/// Applies a command and writes its reply's line, when all that it did is durable; `cut` stands in its place where the power was
-/// cut meanwhile.
+/// Applies a command and writes its reply's line, when all that it did is durable; `cut` stands in
+/// its place where the power was cut meanwhile.
 pub(crate) fn answer<S: Station, C: Fn(&S) -> bool, O: Write>(
     alloc: Global,
     fs: &mut Fs<S>,

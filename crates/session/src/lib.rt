@@ -1,5 +1,6 @@
-//! A session: commands done on a mounted station, each one answered before the next begins, and the status that tells how it
-//! ended. The commands are those of a script, which is read and tested whole first, or of lines that are read one by one.
+//! A session: commands done on a mounted station, each one answered before the next begins, and the
+//! status that tells how it ended. The commands are those of a script, which is read and tested
+//! whole first, or of lines that are read one by one.
 #![tactic(auto)]
 
 mod answering;

@@ -18,14 +18,16 @@ use station::Station;
 use std::alloc::Global;
 use std::io::{Read, Write};
 
-/// Mounts the station, then reads one line after the other, does it, and writes its reply to `out` when all that it did is
-/// durable, before the next line is read.
+/// Mounts the station, then reads one line after the other, does it, and writes its reply to `out`
+/// when all that it did is durable, before the next line is read.
 ///
-/// Lines are as in a script: an empty one and one that begins with `#` have no reply. One that is no command, or has more than
-/// `LINE_BYTES` bytes, is answered `err BADLINE`, and nothing is done. `was_cut` as of `session`. Where `prompts` is true, a
-/// greeting and a prompt before each line go to `err`. How it ended:
+/// Lines are as in a script: an empty one and one that begins with `#` have no reply. One that is
+/// no command, or has more than `LINE_BYTES` bytes, is answered `err BADLINE`, and nothing is done.
+/// `was_cut` as of `session`. Where `prompts` is true, a greeting and a prompt before each line go
+/// to `err`. How it ended:
 /// - `Ran` with `Done`: the input ended; with `Cut`: the power was cut;
-/// - `Ran` with `FileFault`: `out` can't be written, or `input` can't be read; `NoMemory`: for a line or its reply, or
+/// - `Ran` with `FileFault`: `out` can't be written, or `input` can't be read; `NoMemory`: for a
+///   line or its reply, or
 ///   behind 2^64 - 1 lines, or reads of one line. No line was read behind the first one that isn't answered whole;
 /// - `Unrun`: the station isn't mounted, and no line was read; statuses as of `session`.
 pub fn shell<S: Station, C: Fn(&S) -> bool, R: Read, O: Write, E: Write>(
@@ -42,7 +44,8 @@ pub fn shell<S: Station, C: Fn(&S) -> bool, R: Read, O: Write, E: Write>(
         (R.remaining input.old.inner) (R.remaining input.new.inner)
         (written_out (O.contents out.old.inner) (E.contents err.old.inner))
         (written_out (O.contents out.new.inner) (E.contents err.new.inner)) result.0 }
-    // A file's fault is told only where a write failed, of an answer or of why no line is read, or a read.
+    // A file's fault is told only where a write failed, of an answer or of why no line is read, or
+    // a read.
     ensures fault { FaultHasCause (IsTrue out.new.has_failed ⊎ IsTrue input.new.has_failed)
         (IsTrue err.new.has_failed) result.0 }
 {

@@ -11,7 +11,8 @@ use memchr::memchr;
 use std::io::Read;
 use std::mem;
 
-/// The bytes of the longest line that is read as a command, without its end: a `pwrite` of 65,536 bytes has 131,072 digits.
+/// The bytes of the longest line that is read as a command, without its end: a `pwrite` of 65,536
+/// bytes has 131,072 digits.
 pub const LINE_BYTES: usize = 135_168;
 
 /// How many bytes one read asks for.
@@ -25,8 +26,8 @@ pub(crate) enum Heard {
     TooLong(bool),
 }
 
-/// The next line of what is pending and of what a reader gives behind that; None at the end. An empty line behind the last
-/// line's end is none.
+/// The next line of what is pending and of what a reader gives behind that; None at the end. An
+/// empty line behind the last line's end is none.
 pub(crate) fn next_line<R: Read>(
     input: &mut Source<R>,
     pending: &mut Vec<u8>,

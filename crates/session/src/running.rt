@@ -17,17 +17,20 @@ use station::Station;
 use std::alloc::Global;
 use std::io::Write;
 
-/// Mounts the station, runs the script's commands, and writes one line to `out` for each reply: when all that its command did is
-/// durable, and before the next command begins.
+/// Mounts the station, runs the script's commands, and writes one line to `out` for each reply:
+/// when all that its command did is durable, and before the next command begins.
 ///
-/// Where the power was cut, the line `cut` stands in place of the reply to the command under way, and ends them.
-/// `was_cut` says of the station whether its power was cut. `stops` has the first reply that is a refusal end the run behind
-/// its line. A fault goes to `err`. How it ended:
-/// - `Ran` with `Done`, `Cut` or `Refused`: all that is to be shown is in `out`, and nothing in `err`;
-/// - `Ran` with `FileFault` or `NoMemory`: `out` can't be written, or there is no memory for a reply's line. No command
+/// Where the power was cut, the line `cut` stands in place of the reply to the command under way,
+/// and ends them. `was_cut` says of the station whether its power was cut. `stops` has the first
+/// reply that is a refusal end the run behind its line. A fault goes to `err`. How it ended:
+/// - `Ran` with `Done`, `Cut` or `Refused`: all that is to be shown is in `out`, and nothing in
+///   `err`;
+/// - `Ran` with `FileFault` or `NoMemory`: `out` can't be written, or there is no memory for a
+///   reply's line. No command
 ///   ran behind the first one whose reply isn't shown whole;
 /// - `Unrun` with `NotMounted` or `NotACommand`: nothing was run, and `err` has the fault's line;
-/// - `Unrun` with `FileFault` or `NoMemory`: nothing was run, and `err` can't be written or there is no memory for the
+/// - `Unrun` with `FileFault` or `NoMemory`: nothing was run, and `err` can't be written or there
+///   is no memory for the
 ///   script or for what tells the fault. Nothing counts the growths that were refused, so no clause can say that one
 ///   was: `NoMemory` may stand for want of memory that never came.
 pub fn session<S: Station, C: Fn(&S) -> bool, O: Write, E: Write>(

@@ -10,7 +10,8 @@ use std::io::{ErrorKind, Read, Write};
 #[derive(Drop)]
 pub(crate) struct Closed;
 
-/// A writer that remembers whether a write failed. One that a signal interrupted is tried again, 2^64 - 2 times at most.
+/// A writer that remembers whether a write failed. One that a signal interrupted is tried again,
+/// 2^64 - 2 times at most.
 #[derive(Drop)]
 pub struct Sink<W> {
     inner: W,
@@ -60,7 +61,8 @@ impl<W: Write> Sink<W> {
     }
 }
 
-/// A reader that remembers whether a read failed. One that a signal interrupted is tried again, 2^64 - 2 times at most.
+/// A reader that remembers whether a read failed. One that a signal interrupted is tried again,
+/// 2^64 - 2 times at most.
 #[derive(Drop)]
 pub struct Source<R> {
     inner: R,

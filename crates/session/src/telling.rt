@@ -11,8 +11,8 @@ use mount::MountError;
 use std::alloc::{AllocError, Global};
 use std::io::Write;
 
-/// Tells why nothing is run, and says what the program ends with: where that can't be told, `NoMemory` for want of
-/// memory, else `FileFault`.
+/// Tells why nothing is run, and says what the program ends with: where that can't be told,
+/// `NoMemory` for want of memory, else `FileFault`.
 pub(crate) fn tell<E: Write>(alloc: Global, fault: Fault, err: &mut Sink<E>) -> Status
     ensures tells { EndsTelling fault
         (E.contents err.old.inner) (E.contents err.new.inner) result }

@@ -24,13 +24,15 @@ snapshot_found name f = record { order = f.order; name = name; inode_file = f.in
 abbrev pub named : Name → List (Name × Tree) → Option (Name × Tree)
 named name pairs = find (λ pair. bytes_eq pair.0 name) pairs
 
--- Of the snapshots under a root, slot k has the one of this name, and its tree is the one that the names lead to.
+-- Of the snapshots under a root, slot k has the one of this name, and its tree is the one that the
+-- names lead to.
 pub record IsNamedSnapshot (r : Root) (disk : Blocks) (name : Name) (pairs : List (Name × Tree)) (k : ℕ) : Type 0 where
   pub tree : Tree
   pub listed : named name pairs ≡ Some (name, tree)
   pub frozen : IsFrozenTree r.geometry.inodes ((whole disk r).frozen k) tree
 
--- What was found under a root by a name: nothing where no snapshot has it, or else the slot of the one that has it.
+-- What was found under a root by a name: nothing where no snapshot has it, or else the slot of the
+-- one that has it.
 abbrev pub FindsSnapshot : Root → Blocks → Name → List (Name × Tree) → Option FoundSnapshot → Type 0
 FindsSnapshot r disk name pairs None = named name pairs ≡ None
 FindsSnapshot r disk name pairs (Some f) =

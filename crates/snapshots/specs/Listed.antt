@@ -9,7 +9,8 @@ use Rattle.layout.specs.declared.root.Root.{Root}
 use Rattle.snapshots.specs.Found.{SpellsSnapshot}
 use Rattle.snapshots.specs.declared.listing.Next.{Next}
 
--- a pointer leads to this root block, which spells a snapshot of this order number, above another one
+-- a pointer leads to this root block, which spells a snapshot of this order number, above another
+-- one
 pub record IsOver (disk : Blocks) (p : Pointer) (above : ℕ) (next : Next) : Type 0 where
   pub there : p ≡ Block next.place
   pub snapshot : Snapshot
@@ -29,7 +30,8 @@ LeastOf None other = other
 LeastOf (Some a) None = Some a
 LeastOf (Some a) (Some b) = if nat_lt b.order a.order then Some b else Some a
 
--- Of a root's first n slots, the snapshot with the least order number above this one; none, where all are no higher.
+-- Of a root's first n slots, the snapshot with the least order number above this one; none, where
+-- all are no higher.
 abbrev pub IsLeastAbove : Blocks → Root → ℕ → ℕ → Option Next → Type 0
 IsLeastAbove disk r above n None =
     (j : ℕ) (s : Snapshot) → j < n → SpellsSnapshot disk (slice_index_or r.snapshots j Hole) s → s.order ≤ above

@@ -35,14 +35,15 @@ command_prepared (Take name taking) = SnapTake name.now
 command_prepared (Delete name found) = SnapDelete name.now
 command_prepared (Restore name found) = SnapRestore name.now
 
--- its slot is one of a root's, and its name and its inode file have the sizes that a snapshot may have
+-- its slot is one of a root's, and its name and its inode file have the sizes that a snapshot may
+-- have
 abbrev pub FitsPrepared : PreparedSnapshot → Type 0
 FitsPrepared (Take name taking) = IsSlotNumber taking.slot × (length name.now ≤ SNAPSHOT_NAME_BYTES)
 FitsPrepared (Delete name found) = IsSlotNumber found.slot
 FitsPrepared (Restore name found) = IsSlotNumber found.slot × (found.inode_file.size ≤ greatest_size VERSION)
 
--- At a state with these snapshots under a root its tests are passed: a snapshot of the name may be taken there, or
--- stands there; and the tree may become that of one if no file is open.
+-- At a state with these snapshots under a root its tests are passed: a snapshot of the name may be
+-- taken there, or stands there; and the tree may become that of one if no file is open.
 abbrev pub IsPreparedOn : Root → Blocks → State → PreparedSnapshot → Type 0
 IsPreparedOn r disk s (Take name taking) = MayTake disk r name.now taking × (first_refusal (take_tests s name.now) ≡ None)
 IsPreparedOn r disk s (Delete name found) = HasSnapshot r (whole disk r) found.slot (snapshot_found name.now found)

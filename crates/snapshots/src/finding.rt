@@ -11,14 +11,13 @@ ghost use Rattle.model.specs.Paths.{Name};
 ghost use Rattle.model.specs.Trees.{Tree};
 ghost use Rattle.model.specs.Volumes.{Volume};
 ghost use Rattle.buffers.specs.Reads.{ReadsBlocks};
-ghost use Rattle.blocktree.specs.Errors.{IsFault};
+ghost use Rattle.buffers.specs.Errors.{IsFault};
 ghost use Rattle.images.specs.Roots.{whole};
 ghost use Rattle.images.specs.States.{Holds};
 ghost use Rattle.loading.specs.Snapshots.{IsSnapshotAt};
 ghost use Rattle.snapshots.specs.Found.{FindsSnapshot, SpellsSnapshot, snapshot_found};
 
-use blocktree::ReadError;
-use buffers::Blocks;
+use buffers::{BlockError, Blocks};
 use images::snapshots_are_what_their_bytes_spell;
 use layout::{Inode, Pointer, Root, SNAPSHOT_SLOTS, SnapRoot};
 
@@ -33,14 +32,14 @@ pub struct FoundSnapshot {
     pub inode_file: Inode,
 }
 
-/// Finds the snapshot of a name under a root: None where no snapshot has it. It reads the root blocks of the snapshots, and
-/// nothing else. `Damaged` comes where one of these is no snapshot's root, and else an error only for want of memory and where a
-/// device call failed.
+/// Finds the snapshot of a name under a root: None where no snapshot has it. It reads the root
+/// blocks of the snapshots, and nothing else. `Damaged` comes where one of these is no snapshot's
+/// root, and else an error only for want of memory and where a device call failed.
 pub fn find<B: Blocks>(
     blocks: &mut B,
     root: &Root,
     name: &[u8],
-) -> Result<Option<FoundSnapshot>, ReadError>
+) -> Result<Option<FoundSnapshot>, BlockError>
     requires root { IsRoot root.now }
     requires size { B.count blocks.old ≡ root.now.geometry.blocks }
     ensures reads { ReadsBlocks B.Blocks IsFault blocks.old blocks.new result }
@@ -53,7 +52,7 @@ pub fn find<B: Blocks>(
         → IfOk result (FindsSnapshot root.now disk name.now pairs) }
     ensures damaged { (disk : ℕ → List ℕ) → B.Shows blocks.old disk → (v : Volume)
         (pairs : List (Name × Tree)) → Holds root.now (whole disk root.now) v pairs
-        → IsErrOf result ReadError.Damaged → ⊥ }
+        → IsErrOf result BlockError.Damaged → ⊥ }
 {
     for k in 0..SNAPSHOT_SLOTS {
         let found = named_at(blocks, root.snapshots[k], k as u32 + 1, name)?;
@@ -70,7 +69,7 @@ fn named_at<B: Blocks>(
     pointer: Pointer,
     slot: u32,
     name: &[u8],
-) -> Result<Option<FoundSnapshot>, ReadError>
+) -> Result<Option<FoundSnapshot>, BlockError>
     requires { PointsBelow (B.count blocks.old) pointer }
     ensures reads { ReadsBlocks B.Blocks IsFault blocks.old blocks.new result }
     ensures slot { IfOk result (λ found. IfSome found (λ f. f.slot ≡ slot)) }
@@ -81,7 +80,7 @@ fn named_at<B: Blocks>(
     ensures none { (disk : ℕ → List ℕ) → B.Shows blocks.old disk → IfOk result (λ found.
         IfNone found ((s : Snapshot) → SpellsSnapshot disk pointer s → s.name ≢ name.now)) }
     ensures damaged { (disk : ℕ → List ℕ) (sizes : Sizes) (most : ℕ) → B.Shows blocks.old disk
-        → IsErrOf result ReadError.Damaged → IsSnapshotAt sizes most disk pointer → ⊥ }
+        → IsErrOf result BlockError.Damaged → IsSnapshotAt sizes most disk pointer → ⊥ }
 {
     snapshots_are_what_their_bytes_spell();
     let Pointer::Block(place) = pointer else {
@@ -89,7 +88,7 @@ fn named_at<B: Blocks>(
     };
     blocks.make_resident(place)?;
     let Some(snapshot) = SnapRoot::read(blocks.bytes(place)) else {
-        return Err(ReadError::Damaged);
+        return Err(BlockError::Damaged);
     };
     if snapshot.name != name {
         return Ok(None);

@@ -1,5 +1,5 @@
-//! The snapshots under a root, as they are read: finding one by its name, the names of all, and the tree of one. Nothing here changes
-//! a block.
+//! The snapshots under a root, as they are read: finding one by its name, the names of all, and the
+//! tree of one. Nothing here changes a block.
 #![tactic(auto)]
 
 mod finding;

@@ -11,15 +11,14 @@ ghost use Rattle.model.specs.Paths.{Name};
 ghost use Rattle.model.specs.Trees.{Tree};
 ghost use Rattle.model.specs.Volumes.{Volume};
 ghost use Rattle.buffers.specs.Reads.{ReadsBlocks};
-ghost use Rattle.blocktree.specs.Errors.{IsFault};
+ghost use Rattle.buffers.specs.Errors.{IsFault};
 ghost use Rattle.images.specs.Roots.{whole};
 ghost use Rattle.images.specs.States.{Holds};
 ghost use Rattle.loading.specs.Snapshots.{IsSnapshotAt};
 ghost use Rattle.snapshots.specs.Found.{SpellsSnapshot};
 ghost use Rattle.snapshots.specs.Listed.{IsHigher, IsLeastAbove, IsOver, LeastOf};
 
-use blocktree::ReadError;
-use buffers::Blocks;
+use buffers::{BlockError, Blocks};
 use images::snapshots_are_what_their_bytes_spell;
 use layout::{BlockNumber, Pointer, Root, SNAPSHOT_SLOTS, SnapRoot};
 use model::Names;
@@ -37,7 +36,7 @@ pub(crate) fn above_at<B: Blocks>(
     blocks: &mut B,
     pointer: Pointer,
     above: u64,
-) -> Result<Option<Next>, ReadError>
+) -> Result<Option<Next>, BlockError>
     requires { PointsBelow (B.count blocks.old) pointer }
     ensures reads { ReadsBlocks B.Blocks IsFault blocks.old blocks.new result }
     ensures is { (disk : ℕ → List ℕ) → B.Shows blocks.old disk → IfOk result (λ next.
@@ -46,7 +45,7 @@ pub(crate) fn above_at<B: Blocks>(
         IfNone next ((s : Snapshot) → SpellsSnapshot disk pointer s → s.order ≤ above)) }
     ensures higher { IfOk result (λ next. IfSome next (IsHigher (B.count blocks.old) above)) }
     ensures damaged { (disk : ℕ → List ℕ) (sizes : Sizes) (most : ℕ) → B.Shows blocks.old disk
-        → IsErrOf result ReadError.Damaged → IsSnapshotAt sizes most disk pointer → ⊥ }
+        → IsErrOf result BlockError.Damaged → IsSnapshotAt sizes most disk pointer → ⊥ }
 {
     snapshots_are_what_their_bytes_spell();
     let Pointer::Block(place) = pointer else {
@@ -54,7 +53,7 @@ pub(crate) fn above_at<B: Blocks>(
     };
     blocks.make_resident(place)?;
     let Some(snapshot) = SnapRoot::read(blocks.bytes(place)) else {
-        return Err(ReadError::Damaged);
+        return Err(BlockError::Damaged);
     };
     let order = snapshot.order;
     if order > above {
@@ -76,7 +75,11 @@ fn nearer(one: Option<Next>, other: Option<Next>) -> Option<Next>
 }
 
 /// The snapshot with the least order number above this one.
-fn next_above<B: Blocks>(blocks: &mut B, root: &Root, above: u64) -> Result<Option<Next>, ReadError>
+fn next_above<B: Blocks>(
+    blocks: &mut B,
+    root: &Root,
+    above: u64,
+) -> Result<Option<Next>, BlockError>
     requires root { IsRoot root.now }
     requires size { B.count blocks.old ≡ root.now.geometry.blocks }
     ensures reads { ReadsBlocks B.Blocks IsFault blocks.old blocks.new result }
@@ -86,7 +89,7 @@ fn next_above<B: Blocks>(blocks: &mut B, root: &Root, above: u64) -> Result<Opti
         IfSome next (IsHigher root.now.geometry.blocks above)) }
     ensures damaged { (disk : ℕ → List ℕ) → B.Shows blocks.old disk → (v : Volume)
         (pairs : List (Name × Tree)) → Holds root.now (whole disk root.now) v pairs
-        → IsErrOf result ReadError.Damaged → ⊥ }
+        → IsErrOf result BlockError.Damaged → ⊥ }
 {
     let mut next = None;
     for k in 0..SNAPSHOT_SLOTS {
@@ -101,28 +104,29 @@ fn name_at<B: Blocks>(
     alloc: Global,
     blocks: &mut B,
     place: BlockNumber,
-) -> Result<Vec<u8>, ReadError>
+) -> Result<Vec<u8>, BlockError>
     requires { PointsBelow (B.count blocks.old) (Pointer.Block place) }
     ensures reads { ReadsBlocks B.Blocks IsFault blocks.old blocks.new result }
     ensures name { (disk : ℕ → List ℕ) → B.Shows blocks.old disk → IfOk result (λ name.
         (s : Snapshot) → SpellsSnapshot disk (Pointer.Block place) s → name.items ≡ s.name) }
     ensures damaged { (disk : ℕ → List ℕ) (sizes : Sizes) (most : ℕ) → B.Shows blocks.old disk
-        → IsErrOf result ReadError.Damaged
+        → IsErrOf result BlockError.Damaged
         → IsSnapshotAt sizes most disk (Pointer.Block place) → ⊥ }
 {
     snapshots_are_what_their_bytes_spell();
     blocks.make_resident(place)?;
     let Some(snapshot) = SnapRoot::read(blocks.bytes(place)) else {
-        return Err(ReadError::Damaged);
+        return Err(BlockError::Damaged);
     };
     let mut name = Vec::new(alloc);
     name.extend_from_slice(snapshot.name)?;
     Ok(name)
 }
 
-/// The names of the snapshots under a root, oldest first. It reads their root blocks and nothing else. `Damaged` comes where one of
-/// these is no snapshot's root, and else an error only for want of memory and where a device call failed.
-pub fn names<B: Blocks>(alloc: Global, blocks: &mut B, root: &Root) -> Result<Names, ReadError>
+/// The names of the snapshots under a root, oldest first. It reads their root blocks and nothing
+/// else. `Damaged` comes where one of these is no snapshot's root, and else an error only for want
+/// of memory and where a device call failed.
+pub fn names<B: Blocks>(alloc: Global, blocks: &mut B, root: &Root) -> Result<Names, BlockError>
     requires root { IsRoot root.now }
     requires size { B.count blocks.old ≡ root.now.geometry.blocks }
     ensures reads { ReadsBlocks B.Blocks IsFault blocks.old blocks.new result }
@@ -131,7 +135,7 @@ pub fn names<B: Blocks>(alloc: Global, blocks: &mut B, root: &Root) -> Result<Na
         → IfOk result (λ names. names ≡ map (λ pair. pair.0) pairs) }
     ensures damaged { (disk : ℕ → List ℕ) → B.Shows blocks.old disk → (v : Volume)
         (pairs : List (Name × Tree)) → Holds root.now (whole disk root.now) v pairs
-        → IsErrOf result ReadError.Damaged → ⊥ }
+        → IsErrOf result BlockError.Damaged → ⊥ }
 {
     let mut names = Vec::new(alloc);
     let mut above = 0;

@@ -7,15 +7,14 @@ ghost use Rattle.model.specs.States.{State};
 ghost use Rattle.model.specs.Trees.{Tree};
 ghost use Rattle.model.specs.Volumes.{Volume};
 ghost use Rattle.buffers.specs.Reads.{ReadsBlocks};
-ghost use Rattle.blocktree.specs.Errors.{IsFault};
+ghost use Rattle.buffers.specs.Errors.{IsFault};
 ghost use Rattle.images.specs.Roots.{whole};
 ghost use Rattle.images.specs.States.{Holds};
 ghost use Rattle.snapshots.specs.Prepared.{FitsPrepared, IsPreparedOn, Refuses, TellsOpen, command_of, command_prepared};
 
 use crate::finding::{FoundSnapshot, find};
 use crate::taking::{Taking, prepare_take};
-use blocktree::ReadError;
-use buffers::Blocks;
+use buffers::{BlockError, Blocks};
 use layout::Root;
 use model::Errno;
 
@@ -50,16 +49,16 @@ pub enum PreparedSnapshot<'a> {
     },
 }
 
-/// Makes the tests of a request under a root, in their order, when it is told whether a file is open; else the
-/// first refusal: of BADNAME, SNAPEXISTS and SNAPFULL for `snap take`, NOSNAP for `snap delete`, and of NOSNAP and
-/// EBUSY for `snap restore`. It reads the root blocks of the snapshots, and nothing else; an error comes as in
-/// `find`.
+/// Makes the tests of a request under a root, in their order, when it is told whether a file is
+/// open; else the first refusal: of BADNAME, SNAPEXISTS and SNAPFULL for `snap take`, NOSNAP for
+/// `snap delete`, and of NOSNAP and EBUSY for `snap restore`. It reads the root blocks of the
+/// snapshots, and nothing else; an error comes as in `find`.
 pub fn prepare_snapshot<'a, B: Blocks>(
     blocks: &mut B,
     root: &Root,
     request: &SnapshotRequest<'a>,
     has_open: bool,
-) -> Result<Result<PreparedSnapshot<'a>, Errno>, ReadError>
+) -> Result<Result<PreparedSnapshot<'a>, Errno>, BlockError>
     requires root { IsRoot root.now }
     requires size { B.count blocks.old ≡ root.now.geometry.blocks }
     ensures reads { ReadsBlocks B.Blocks IsFault blocks.old blocks.new result }
@@ -74,7 +73,7 @@ pub fn prepare_snapshot<'a, B: Blocks>(
         (IsPreparedOn root.now disk s) (Refuses s (command_of request.now))) }
     ensures damaged { (disk : ℕ → List ℕ) → B.Shows blocks.old disk → (v : Volume)
         (pairs : List (Name × Tree)) → Holds root.now (whole disk root.now) v pairs
-        → IsErrOf result ReadError.Damaged → ⊥ }
+        → IsErrOf result BlockError.Damaged → ⊥ }
 {
     match *request {
         SnapshotRequest::Take { name } => match prepare_take(blocks, root, name)? {

@@ -13,7 +13,7 @@ ghost use Rattle.model.specs.Trees.{Tree};
 ghost use Rattle.model.specs.Volumes.{Volume};
 ghost use Rattle.model.specs.declared.limits.TheConstants.{SNAPSHOT_NAME_BYTES};
 ghost use Rattle.buffers.specs.Reads.{ReadsBlocks};
-ghost use Rattle.blocktree.specs.Errors.{IsFault};
+ghost use Rattle.buffers.specs.Errors.{IsFault};
 ghost use Rattle.images.specs.Roots.{slot, whole};
 ghost use Rattle.images.specs.Snapshots.{HasSnapshot};
 ghost use Rattle.images.specs.SnapshotSteps.{IsSlotNumber};
@@ -22,8 +22,7 @@ ghost use Rattle.snapshots.specs.Taken.{HasNewestOrder, MayTake, RefusesTake};
 
 use crate::finding::find;
 use crate::listing::above_at;
-use blocktree::ReadError;
-use buffers::Blocks;
+use buffers::{BlockError, Blocks};
 use layout::{Pointer, Root, SNAPSHOT_SLOTS};
 use model::{Errno, SNAPSHOT_NAME_BYTES};
 
@@ -76,7 +75,7 @@ fn free_slot(root: &Root) -> Option<u32>
 }
 
 /// The greatest order number of a root's snapshots; 0 where there is none.
-fn newest<B: Blocks>(blocks: &mut B, root: &Root) -> Result<u64, ReadError>
+fn newest<B: Blocks>(blocks: &mut B, root: &Root) -> Result<u64, BlockError>
     requires root { IsRoot root.now }
     requires size { B.count blocks.old ≡ root.now.geometry.blocks }
     ensures reads { ReadsBlocks B.Blocks IsFault blocks.old blocks.new result }
@@ -85,7 +84,7 @@ fn newest<B: Blocks>(blocks: &mut B, root: &Root) -> Result<u64, ReadError>
     ensures last { IfOk result (λ n. n < 2 ^ 62) }
     ensures damaged { (disk : ℕ → List ℕ) → B.Shows blocks.old disk → (v : Volume)
         (pairs : List (Name × Tree)) → Holds root.now (whole disk root.now) v pairs
-        → IsErrOf result ReadError.Damaged → ⊥ }
+        → IsErrOf result BlockError.Damaged → ⊥ }
 {
     let mut last = 0;
     for k in 0..SNAPSHOT_SLOTS {
@@ -96,13 +95,14 @@ fn newest<B: Blocks>(blocks: &mut B, root: &Root) -> Result<u64, ReadError>
     Ok(last)
 }
 
-/// Tests `snap take` of a name under a root, and tells where the snapshot goes: else the first refusal, of BADNAME, SNAPEXISTS and
-/// SNAPFULL. It reads the root blocks of the snapshots, and nothing else; an error comes as in `find`.
+/// Tests `snap take` of a name under a root, and tells where the snapshot goes: else the first
+/// refusal, of BADNAME, SNAPEXISTS and SNAPFULL. It reads the root blocks of the snapshots, and
+/// nothing else; an error comes as in `find`.
 pub(crate) fn prepare_take<B: Blocks>(
     blocks: &mut B,
     root: &Root,
     name: &[u8],
-) -> Result<Result<Taking, Errno>, ReadError>
+) -> Result<Result<Taking, Errno>, BlockError>
     requires root { IsRoot root.now }
     requires size { B.count blocks.old ≡ root.now.geometry.blocks }
     ensures reads { ReadsBlocks B.Blocks IsFault blocks.old blocks.new result }
@@ -120,7 +120,7 @@ pub(crate) fn prepare_take<B: Blocks>(
         → IfOk result (λ taking. IfOk taking (MayTake disk root.now name.now)) }
     ensures damaged { (disk : ℕ → List ℕ) → B.Shows blocks.old disk → (v : Volume)
         (pairs : List (Name × Tree)) → Holds root.now (whole disk root.now) v pairs
-        → IsErrOf result ReadError.Damaged → ⊥ }
+        → IsErrOf result BlockError.Damaged → ⊥ }
 {
     if is_bad(name) {
         return Ok(Err(Errno::BADNAME));

@@ -3,7 +3,7 @@
 use Rattle.std.proofs.Common.{◌≡◌, inl, inr, ℕ, ◌≤◌, ◌↔◌, List, length, take, arith, refl, sym, ap, ◌∙◌, subst}
 use Rattle.std.proofs.lemmas.Bool.{cases_lt}
 use Rattle.station.specs.Images.{Images, Unchanged, NvramWritten, NvramPrefixWritten, nvram_with}
-use Rattle.station.specs.Moments.{Meaning, MayLeave, After, EachCut, KeepsDisk, Goes, LeftGoes, LeavesOnly, IsSameStation, HasGrown, MayGrow}
+use Rattle.station.specs.Moments.{Meaning, MayLeave, After, EachCut, KeepsDisk, Goes, LeftGoes, LeavesJust, LeavesOnly, IsSameStation, HasGrown, MayGrow}
 
 -- THE SAME STATION
 
@@ -101,10 +101,17 @@ each_goes old new step P Q same each goes = each_left old new step P Q same each
 pub each_unchanged : (old new : Meaning) (P : Images → Type 0) → IsSameStation old new → EachCut old P → Goes Unchanged old new → EachCut new P
 each_unchanged old new P same each goes = each_goes old new Unchanged P P same each goes (λ c d here is. subst P (sym is) here)
 
+-- what a cut leaves, behind calls that change nothing
+pub still_left : (old new : Meaning) (i : Images) → IsSameStation old new → Goes Unchanged old new → LeavesJust old i → LeavesJust new i
+still_left old new i same goes just honest c left =
+    let before = same.honest.1 honest in
+    let d = (goes before).now c left in
+    d.2 ∙ just before d.0 d.1
+
 -- AT ANY MOMENT
 
 -- the one moment from now to now
-same_moment : (m : Meaning) (t : ℕ) (c : Images) → m.moment ≤ t → t ≤ m.moment → m.left_at t c → MayLeave m c
+pub same_moment : (m : Meaning) (t : ℕ) (c : Images) → m.moment ≤ t → t ≤ m.moment → m.left_at t c → MayLeave m c
 same_moment m t c low high left =
     let same : t ≡ m.moment = omega arith in
     subst (λ (u : ℕ). m.left_at u c) same left

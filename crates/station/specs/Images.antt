@@ -64,8 +64,8 @@ abbrev pub SectorsWritten : ℕ → List ℕ → Images → Images → Type 0
 SectorsWritten first bytes old new =
     new ≡ record { disk = disk_with first bytes old.disk; nvram = old.nvram }
 
--- any of the sectors are written: each that the bytes reach keeps what it had, takes its part of them, or can't be read
--- then; the others stay
+-- any of the sectors are written: each that the bytes reach keeps what it had, takes its part of
+-- them, or can't be read then; the others stay
 pub record SomeSectorsWritten (first : ℕ) (bytes : List ℕ) (old new : Images) : Type 0 where
   pub nvram : new.nvram ≡ old.nvram
   pub disk : (n : ℕ) → (new.disk n ≡ old.disk n)

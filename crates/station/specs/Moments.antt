@@ -2,8 +2,8 @@
 use Rattle.std.specs.Prelude.{◌≡◌, ◌⊎◌, ℕ, ◌+◌, ◌<◌, ◌≤◌, ◌-◌, ◌^◌, min, length, List, Result, OnOk, OnErr, ◌↔◌}
 use Rattle.station.specs.Images.{Images, Sector, sector_bytes, unreadable}
 
--- What is known of a station. A moment is a number that doesn't fall: calls begin and end at moments, and moments
--- may lie within a call.
+-- What is known of a station. A moment is a number that doesn't fall: calls begin and end at
+-- moments, and moments may lie within a call.
 pub record Meaning : Type 1 where
   pub sectors : ℕ
   pub nvram_bytes : ℕ
@@ -61,8 +61,8 @@ After step old c = (d : Images) × MayLeave old d × step d c
 abbrev pub KeepsDisk : Meaning → (List ℕ → Type 0) → Images → Type 0
 KeepsDisk old P c = (d : Images) × MayLeave old d × (c.disk ≡ d.disk) × P c.nvram
 
--- Time went on from old to new by one step: whatever a cut leaves within it or after it is what one might have left
--- before it, after the step. Earlier moments stay as they were.
+-- Time went on from old to new by one step: whatever a cut leaves within it or after it is what one
+-- might have left before it, after the step. Earlier moments stay as they were.
 pub record Went (step : Images → Images → Type 0) (old new : Meaning) : Type 0 where
   pub honest : new.is_honest
   pub later : old.moment ≤ new.moment

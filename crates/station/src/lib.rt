@@ -1,4 +1,5 @@
-//! The devices under the file system: a disk of sectors and an NVRAM, and what a power cut may leave of them.
+//! The devices under the file system: a disk of sectors and an NVRAM, and what a power cut may
+//! leave of them.
 #![tactic(auto)]
 
 mod station;

@@ -18,20 +18,26 @@ pub const BLOCK_BYTES: usize = 4096;
 #[error("a device call failed")]
 pub struct DeviceFault;
 
-/// A disk of sectors of 512 bytes and an NVRAM. A *device write* is one `write_sector`, `write_block` or `nv_write`; a
-/// power cut comes before, within or after one. Every call may fail. The words that the clauses below use speak of a
-/// station that is *honest*, which means that it keeps to the device's rules:
-/// - a read gives the last value written, or tells that the sector can't be read, which isn't a failure;
-/// - a cut leaves in each sector, independently of the others, its settled value or one written since the last sync
+/// A disk of sectors of 512 bytes and an NVRAM. A *device write* is one `write_sector`,
+/// `write_block` or `nv_write`; a power cut comes before, within or after one. Every call may fail.
+/// The words that the clauses below use speak of a station that is *honest*, which means that it
+/// keeps to the device's rules:
+/// - a read gives the last value written, or tells that the sector can't be read, which isn't a
+///   failure;
+/// - a cut leaves in each sector, independently of the others, its settled value or one written
+///   since the last sync
 ///   that succeeded; a sector that was written since then may also be one that can't be read, and stays so until it is
 ///   written again;
-/// - a disk write that failed counts as written; each of its sectors then has the old value, or the new one, or can't be
+/// - a disk write that failed counts as written; each of its sectors then has the old value, or the
+///   new one, or can't be
 ///   read, the same until it is written again;
-/// - an NVRAM write that succeeded is kept, and one that was cut off or failed keeps a beginning of its bytes. Of one
+/// - an NVRAM write that succeeded is kept, and one that was cut off or failed keeps a beginning of
+///   its bytes. Of one
 ///   that failed, reads may give another beginning than a cut leaves, until a sync succeeds or the bytes are written
 ///   again;
-/// - a sync that succeeds settles what reads give, of the disk and of the NVRAM: a cut now leaves just that. One that
-///   failed settles nothing for certain.
+/// - a sync that succeeds makes durable what reads give, of the disk and of the NVRAM: a cut now
+///   leaves just that. One that
+///   failed makes nothing durable for certain.
 pub trait Station {
     /// What is known of the station.
     ghost meaning: { Self → Meaning };
@@ -67,7 +73,7 @@ pub trait Station {
         ensures written { OnOk result (SeenGoes (SectorsWritten (8 * b) bytes.now)
             (meaning self.old) (meaning self.new)) };
 
-    /// Settles what reads give, of the disk and of the NVRAM: a cut now leaves just that.
+    /// Makes durable what reads give, of the disk and of the NVRAM: a cut now leaves just that.
     fn sync(&mut self) -> Result<(), DeviceFault>
         ensures call { WriteCall Unchanged (meaning self.old) (meaning self.new) result }
         ensures settled { OnOk result (LeavesJust (meaning self.new) (meaning self.old).seen) };

@@ -11,8 +11,8 @@ use std::alloc::{AllocError, Global};
 use std::process::ExitCode;
 use std::{env, fs, io};
 
-/// Checks the stories in the files that the program's words name, and shows a line for each: how much of it was tried, or the first
-/// thing that came otherwise. Success where all hold.
+/// Checks the stories in the files that the program's words name, and shows a line for each: how
+/// much of it was tried, or the first thing that came otherwise. Success where all hold.
 pub fn check_files(rt: &HostRuntime) -> ExitCode {
     if keep_memory(rt.alloc()).is_err() {
         return ExitCode::from(2);
@@ -27,8 +27,9 @@ pub fn check_files(rt: &HostRuntime) -> ExitCode {
     }
 }
 
-/// Takes a big part of the heap and gives it back: from then on the C library's heap keeps what it has for the next image, in place of
-/// giving it back to the system each time, which makes a run five times as long.
+/// Takes a big part of the heap and gives it back: from then on the C library's heap keeps what it
+/// has for the next image, in place of giving it back to the system each time, which makes a run
+/// five times as long.
 fn keep_memory(alloc: Global) -> Result<(), AllocError> {
     let mut bytes: Vec<u8> = Vec::with_capacity(alloc, 32_000_000)?;
     bytes.push(0)?;
@@ -51,7 +52,8 @@ fn check_all(rt: &HostRuntime) -> io::Result<bool> {
     Ok(all_hold)
 }
 
-/// Checks a story, and says what of it was tried. What the program alone can count goes to standard error: no expected text has it.
+/// Checks a story, and says what of it was tried. What the program alone can count goes to standard
+/// error: no expected text has it.
 fn check_story(rt: &HostRuntime, text: &str) -> Result<String, Fault> {
     let alloc = rt.alloc();
     let story = Story::read(alloc, text)?;
@@ -66,7 +68,8 @@ fn check_story(rt: &HostRuntime, text: &str) -> Result<String, Fault> {
     Ok(format!(in alloc; "{commands} commands, {firsts} cuts, {seconds} second cuts")?)
 }
 
-/// The images that a story's commands run on. Those commands are run once, but where bytes are to be changed.
+/// The images that a story's commands run on. Those commands are run once, but where bytes are to
+/// be changed.
 fn begin(alloc: Global, story: &Story<'_>) -> Result<Images, Fault> {
     let fresh = story.images()?;
     let before = run_whole(alloc, &fresh, &story.before.script, &story.before.replies)?;
@@ -82,7 +85,8 @@ fn begin(alloc: Global, story: &Story<'_>) -> Result<Images, Fault> {
     Ok(images)
 }
 
-/// Checks each cut of a story, and counts them: first ones, and those of what was done behind a first.
+/// Checks each cut of a story, and counts them: first ones, and those of what was done behind a
+/// first.
 fn count_cuts(alloc: Global, story: &Story, images: &Images) -> Result<(u32, u32), Fault> {
     let mut cutting = Cutting::new(alloc, story, images);
     cutting.check()?;
@@ -100,7 +104,8 @@ fn count_failing(alloc: Global, story: &Story, images: &Images) -> Result<u32, F
     Ok(0)
 }
 
-/// Checks the images of which bytes are changed, and counts those that are mounted and those that aren't.
+/// Checks the images of which bytes are changed, and counts those that are mounted and those that
+/// aren't.
 fn count_changed(
     alloc: Global,
     story: &Story<'_>,

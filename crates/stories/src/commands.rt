@@ -12,7 +12,8 @@ pub struct Commands {
     pub script: Vec<u8>,
     /// The lines that are shown when all are done.
     pub replies: Vec<u8>,
-    /// How many bytes of the script and of the replies there are before each command, and behind all.
+    /// How many bytes of the script and of the replies there are before each command, and behind
+    /// all.
     lines: Vec<usize>,
     shown: Vec<usize>,
 }

@@ -6,7 +6,8 @@ use crate::running::{Trouble, replies, run};
 use crate::story::{Cuts, Story};
 use std::alloc::Global;
 
-/// What of the sectors written since the last sync stays, in second cuts by turns: `2` loses one, `1` keeps it, `0` drops it.
+/// What of the sectors written since the last sync stays, in second cuts by turns: `2` loses one,
+/// `1` keeps it, `0` drops it.
 const KEEPS: [&str; 5] = ["none", "all", "10", "2", "021"];
 
 /// How many bytes of a write to the NVRAM stay, in second cuts by turns.
@@ -19,7 +20,8 @@ pub struct Cutting<'a> {
     story: &'a Story<'a>,
     /// The images on which its commands run.
     images: &'a Images,
-    /// How many cuts there were, how many second ones might come behind them, and how many were tried.
+    /// How many cuts there were, how many second ones might come behind them, and how many were
+    /// tried.
     pub firsts: u32,
     places: u32,
     pub seconds: u32,
@@ -97,7 +99,8 @@ impl<'a> Cutting<'a> {
         }
     }
 
-    /// Which of two states images have, each told by its step and how many commands of the tail stand behind that.
+    /// Which of two states images have, each told by its step and how many commands of the tail
+    /// stand behind that.
     fn find_state(
         &self,
         images: &Images,
@@ -117,7 +120,8 @@ impl<'a> Cutting<'a> {
         Err(Fault::differs(self.alloc, "state", &came, other))
     }
 
-    /// The tail, and those cuts within its writes whose turn it is, on what a cut left that has the state behind this step.
+    /// The tail, and those cuts within its writes whose turn it is, on what a cut left that has the
+    /// state behind this step.
     fn check_again(&mut self, left: &Images, step: usize) -> Result<(), Fault> {
         for write in 1..=self.writes_of_tail(left)? {
             self.places = self.places.wrapping_add(1);

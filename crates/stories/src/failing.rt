@@ -106,7 +106,8 @@ fn first_failed(came: &[u8]) -> usize {
     place.unwrap_or(0)
 }
 
-/// The replies where a command finds that a read fails: those of a run without it, and `err EIO` in its place.
+/// The replies where a command finds that a read fails: those of a run without it, and `err EIO` in
+/// its place.
 fn replies_without(alloc: Global, story: &Story<'_>, failed: usize) -> Result<Vec<u8>, Fault> {
     let mut text = Vec::new(alloc);
     for (place, line) in story
@@ -136,7 +137,8 @@ fn reply_without<'a>(story: &Story<'a>, left_out: usize, command: usize) -> Opti
     Some(found.reply.as_bytes())
 }
 
-/// The replies where a write or a sync fails within a command: `err EIO`, and behind it `err FAILED` to all.
+/// The replies where a write or a sync fails within a command: `err EIO`, and behind it `err
+/// FAILED` to all.
 fn replies_failed(alloc: Global, story: &Story<'_>, failed: usize) -> Result<Vec<u8>, Fault> {
     let mut text = Vec::from_slice(alloc, story.commands.replies_to(failed))?;
     text.extend_from_slice(b"err EIO\n")?;

@@ -36,7 +36,8 @@ impl Images {
         })
     }
 
-    /// Puts bytes in the place of others, two hexadecimal digits each. False where they are none, or the image ends before.
+    /// Puts bytes in the place of others, two hexadecimal digits each. False where they are none,
+    /// or the image ends before.
     pub fn put(
         &mut self,
         alloc: Global,

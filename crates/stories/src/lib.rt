@@ -1,7 +1,8 @@
-//! Stories: lists of commands over an image, with what is to come of them while the power is cut within each write, each device call
-//! fails, or bytes of the image change one at a time. The head of each story says how one is written; they were written by a plain
-//! model in Python, see the folder `plain`. Of this crate it is proved that it is safe and total, and no more: what a story says
-//! is compared with what comes.
+//! Stories: lists of commands over an image, with what is to come of them while the power is cut
+//! within each write, each device call fails, or bytes of the image change one at a time. The head
+//! of each story says how one is written; they were written by a plain model in Python, see the
+//! folder `plain`. Of this crate it is proved that it is safe and total, and no more: what a story
+//! says is compared with what comes.
 #![tactic(auto)]
 
 mod checking;

@@ -2,7 +2,7 @@
 
 use crate::fault::Fault;
 use crate::image_pair::Images;
-use memory_station::{Keep, Mark, Sim};
+use memory_station::{CutOutcome, Mark, Sim};
 use session::{Sink, session};
 use std::alloc::{AllocError, Global};
 
@@ -10,8 +10,8 @@ use std::alloc::{AllocError, Global};
 #[derive(Clone, Copy, Drop)]
 pub enum Trouble<'a> {
     Nothing,
-    /// The power is cut within this device write; of the sectors written since the last sync those stay that `keep` says, and so many
-    /// bytes of an NVRAM write.
+    /// The power is cut within this device write; of the sectors written since the last sync those
+    /// stay that `keep` says, and so many bytes of an NVRAM write.
     Cut {
         write: u32,
         keep: &'a str,
@@ -31,7 +31,8 @@ pub struct Outcome {
 }
 
 impl Outcome {
-    /// The replies before `cut`, with which the replies of a run end whose power was cut; None where it wasn't.
+    /// The replies before `cut`, with which the replies of a run end whose power was cut; None
+    /// where it wasn't.
     pub fn before_cut(&self) -> Option<&[u8]> {
         self.out.as_slice().strip_suffix(b"cut\n")
     }
@@ -47,7 +48,11 @@ pub fn run(
     let mut sim = images.load(alloc)?;
     match trouble {
         Trouble::Nothing => {}
-        Trouble::Cut { write, keep, bytes } => sim.cut_at(write, keep_of(alloc, keep)?, bytes),
+        Trouble::Cut { write, keep, bytes } => sim.cut_at(
+            write,
+            cut_outcome_of(alloc, keep)?,
+            bytes,
+        ),
         Trouble::Failing(call) => sim.fail_at(call),
     }
     let mut out = Vec::new(alloc);
@@ -78,11 +83,11 @@ pub fn replies(alloc: Global, images: &Images, script: &[u8]) -> Result<Vec<u8>,
     Ok(outcome.out)
 }
 
-fn keep_of(alloc: Global, word: &str) -> Result<Keep, AllocError> {
+fn cut_outcome_of(alloc: Global, word: &str) -> Result<CutOutcome, AllocError> {
     match word {
-        "none" => Ok(Keep::Nothing),
-        "all" => Ok(Keep::Everything),
-        bits => Ok(Keep::Bits(bits.bytes().map(|byte| mark_of(byte)).collect(alloc)?)),
+        "none" => Ok(CutOutcome::Nothing),
+        "all" => Ok(CutOutcome::Everything),
+        bits => Ok(CutOutcome::Bits(bits.bytes().map(|byte| mark_of(byte)).collect(alloc)?)),
     }
 }
 

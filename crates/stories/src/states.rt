@@ -4,8 +4,9 @@ use crate::fault::Fault;
 use crate::text::push_line;
 use std::alloc::{AllocError, Global};
 
-/// Reading commands, and their replies in each state that a cut may leave. Each step of a story has several states: that behind its
-/// command, and those behind each command of the tail, done from there.
+/// Reading commands, and their replies in each state that a cut may leave. Each step of a story has
+/// several states: that behind its command, and those behind each command of the tail, done from
+/// there.
 #[derive(Drop)]
 pub struct States<'a> {
     alloc: Global,
@@ -53,7 +54,8 @@ impl<'a> States<'a> {
         self.tail = self.tail.saturating_add(1);
     }
 
-    /// Begins the next step, in whose first state all is shown as in the first one of the step before.
+    /// Begins the next step, in whose first state all is shown as in the first one of the step
+    /// before.
     pub fn begin_step(&mut self) -> Result<(), AllocError> {
         let before = self.start_of_last();
         self.fill(before.saturating_add(self.tail))?;

@@ -1,4 +1,5 @@
-//! Stories: a list of commands over an image, and what is to come of them whatever befalls the station.
+//! Stories: a list of commands over an image, and what is to come of them whatever befalls the
+//! station.
 
 use crate::commands::Commands;
 use crate::fault::Fault;

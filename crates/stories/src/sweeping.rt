@@ -1,4 +1,5 @@
-//! Bytes of an image changed one at a time: whatever they become, a mount, a run and a check come to an end.
+//! Bytes of an image changed one at a time: whatever they become, a mount, a run and a check come
+//! to an end.
 
 use crate::fault::Fault;
 use crate::image_pair::Images;

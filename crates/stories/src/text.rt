@@ -3,9 +3,9 @@
 use crate::fault::Fault;
 use std::alloc::{AllocError, Global};
 
-/// Adds the bytes of a text: `{HH}` is the byte of these two hexadecimal digits, `{HH*N}` so many of it, `{A..B HH*N}` the numbers
-/// from A to B, each of three digits with so many of the byte behind it and a space between two, and every other character stands
-/// for itself.
+/// Adds the bytes of a text: `{HH}` is the byte of these two hexadecimal digits, `{HH*N}` so many
+/// of it, `{A..B HH*N}` the numbers from A to B, each of three digits with so many of the byte
+/// behind it and a space between two, and every other character stands for itself.
 pub fn push_text(alloc: Global, out: &mut Vec<u8>, text: &str) -> Result<(), Fault> {
     for (i, part) in text.split('{').enumerate() {
         if i == 0 {

@@ -43,7 +43,7 @@ none_newest (At next) epoch bytes (body ∷ bodies) first ends = absurd (omega (
 module _ {m : Meaning} {k : Parts} {table : ℕ → Option Description} {s : State}
     (serves : IsServing m k table s) where
   -- no record stands in an empty log
-  pub no_record : k.laid ≡ None → MayLeave m m.seen → k.log.epoch ≡ k.root.generation + 1 → next_of k.log.end ≡ FIRST_GATE → serves.lasts.bodies ≡ no_bodies
+  pub no_record : k.pending ≡ None → MayLeave m m.seen → k.log.epoch ≡ k.root.generation + 1 → next_of k.log.end ≡ FIRST_GATE → serves.lasts.bodies ≡ no_bodies
   no_record none seen next first =
       let bodies = serves.lasts.bodies in
       let stands = (serves.left serves.honest m.seen seen).log_stands in

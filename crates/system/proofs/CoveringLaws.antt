@@ -17,14 +17,14 @@ use Rattle.system.specs.Errors.{IsNotWritten, IsRefused}
 use Rattle.system.specs.Images.{OpensTo}
 use Rattle.system.specs.Points.{KeepsSlots, KeepsSlotsOn, MakesPoint, StaysAt}
 use Rattle.system.specs.Serving.{HasEmptyLog, HasNothingNew, ServesState}
-use Rattle.system.specs.Settling.{MakesCovered}
+use Rattle.system.specs.CheckpointCommands.{MakesCovered}
 use Rattle.system.specs.Slicing.{Finishes}
 use Rattle.system.specs.Systems.{IsCovered, Parts, disk_of, meaning_of}
 use Rattle.system.specs.declared.error.PointError.{PointError}
 use Rattle.system.specs.declared.error.PointError.TheVariants.{NoGeneration, NotPlanned, NotWritten}
 use Rattle.system.specs.declared.system.System.{System}
 use Rattle.system.proofs.CountingLaws.{all_written, counted_after, logged_twice, next_age, not_written, same_age}
-use Rattle.system.proofs.HandlingLaws.{opens_same}
+use Rattle.system.proofs.SystemLaws.{opens_same}
 
 -- the log behind a point, made or not
 pub aged : (old new : LogEnd) (r : Result (Unit {0}) PointError) → MatchResult r (λ _. new ≡ record old { epoch = old.epoch + 1; end = Unopened })
@@ -42,9 +42,9 @@ emptied old new (Ok u) is generation = record {
 }
 emptied old new (Err e) is generation = tt
 
-on_ok : {T E : Type 0} {A : Type 0} (r : Result T E) → A → OnOk r A
-on_ok (Ok x) a = a
-on_ok (Err e) a = tt
+pub on_ok_any : {T E : Type 0} {A : Type 0} (r : Result T E) → A → OnOk r A
+on_ok_any (Ok x) a = a
+on_ok_any (Err e) a = tt
 
 error_is : (x y : PointError) (r q : Result (Unit {0}) PointError) → r ≡ Err x → q ≡ Err y → r ≡ q → x ≡ y
 error_is x y r q first second is = cc
@@ -99,8 +99,8 @@ module _ {S : Type 0} {G : Ghosts S} (old mid : System S G) where
     same_log : mid.log ≡ old.log
     same_log = ap (λ (k : Parts). k.log) does.parts
 
-    pub rests : mid.blocks.laid ≡ None
-    rests = ap (λ (k : Parts). k.laid) does.parts
+    pub rests : mid.blocks.pending ≡ None
+    rests = ap (λ (k : Parts). k.pending) does.parts
 
     ended_counted : Counted m n no_call
     ended_counted = all_written {T = Unit {0}} {E = PointError} IsNotWritten m n tt does.writes
@@ -156,7 +156,7 @@ module _ {S : Type 0} {G : Ghosts S} (old mid : System S G) where
                 | inl one ↦ opens_same m n s c does.writes.same.sectors one
                 | inr other ↦ opens_same m n s c does.writes.same.sectors other
               ]));
-          rests = on_ok r made.rests;
+          rests = on_ok_any r made.rests;
           empty = emptied mid new r made.log made.generation;
           covered = λ s served. made.covered s.tree.descriptors s (stays s served) s refl tt;
           slots = λ s served. both_keep new.root (blocks_of (disk_of new)) r (ended_slots s served) (slots s (stays s served));

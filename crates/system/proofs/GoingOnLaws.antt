@@ -12,8 +12,8 @@ use Rattle.layout.specs.Places.{blocks_of}
 use Rattle.model.specs.States.{State}
 use Rattle.model.specs.Trees.{Description}
 use Rattle.buffers.specs.Disks.{ReadsOn}
-use Rattle.buffers.specs.declared.kept.Kept.{Kept}
-use Rattle.blockmap.specs.Changes.{SettlesAs}
+use Rattle.buffers.specs.declared.block_cache.BlockCache.{BlockCache}
+use Rattle.blockmap.specs.Changes.{SwitchesTo}
 use Rattle.blockmap.specs.Maps.{entry_at}
 use Rattle.blockmap.specs.declared.map.BlockMap.{BlockMap}
 use Rattle.images.specs.Roots.{whole}
@@ -28,30 +28,30 @@ use Rattle.conspoint.specs.Finished.{disk_after}
 use Rattle.conspoint.specs.Plans.{IsPlanned, Planned}
 use Rattle.conspoint.specs.declared.plan.PlannedBlock.{PlannedBlock}
 use Rattle.overlay.specs.Overlays.{ShowsOver, planned_disk}
-use Rattle.overlay.specs.declared.laid.Laid.{Laid}
+use Rattle.overlay.specs.declared.pending.PendingPoint.{PendingPoint}
 use Rattle.system.specs.Counting.{Counted, LogsNothing, SameNvram}
 use Rattle.system.specs.Errors.{IsNotWritten}
 use Rattle.system.specs.Images.{IsLeft, IsUnder, Lasts, OpensTo}
 use Rattle.system.specs.Laws.{CutLaws, RootLaws}
 use Rattle.system.specs.Memory.{HasEntries, HasEntriesToCome, IsInMemory}
-use Rattle.system.specs.Slicing.{IsLaid, step_failed}
+use Rattle.system.specs.Slicing.{IsPending, step_failed}
 use Rattle.system.specs.Systems.{HasState, IsComing, IsServing, Parts, disk_of, disk_over, meaning_of, state_with}
 use Rattle.system.specs.UnderWay.{IsUnderWay, WayLaws, base_to_come}
 use Rattle.system.specs.declared.error.PointError.{PointError}
 use Rattle.system.specs.Views.{ShowsSnapshot}
-use Rattle.system.specs.declared.snapshot_reading.View.{View}
+use Rattle.system.specs.declared.snapshot_view.View.{View}
 use Rattle.system.specs.declared.system.System.{System}
 use Rattle.system.proofs.SystemLaws.{at_rest, its_sizes}
 use Rattle.system.proofs.UnderWayLaws.{begins, disk_is, ends_left, lasts_older, lasts_to_come, left_older, points_open, same_to_come, slice_left, slices_keep, slices_open}
 
 -- whether a point is under way, as it is asked for
-pub none_laid : (o : Option Laid) (b : Bool) → IsTrue b ↔ (o ≢ None) → IsFalse b → o ≡ None
-none_laid None b told not_so = refl
-none_laid (Some laid) b told not_so = absurd (false≢true (sym not_so ∙ told.1 (λ is. cc)))
+pub none_pending : (o : Option PendingPoint) (b : Bool) → IsTrue b ↔ (o ≢ None) → IsFalse b → o ≡ None
+none_pending None b told not_so = refl
+none_pending (Some pending) b told not_so = absurd (false≢true (sym not_so ∙ told.1 (λ is. cc)))
 
 -- a system serves with a point under way
-pub coming_of : {m : Meaning} {k : Parts} {table : ℕ → Option Description} {s : State} (serves : IsServing m k table s) → k.laid ≢ None
-    → IsComing m k.log k.laid k.root k.slot serves.first k.map serves.lasts k.pledged_then
+pub coming_of : {m : Meaning} {k : Parts} {table : ℕ → Option Description} {s : State} (serves : IsServing m k table s) → k.pending ≢ None
+    → IsComing m k.log k.pending k.root k.slot serves.first k.map serves.lasts k.pledged_then
 coming_of serves some = elim serves.bridge [ inl rests ↦ absurd (some rests.none) | inr coming ↦ coming ]
 
 -- nothing was written
@@ -79,12 +79,12 @@ carried_unlogged m now p here writes honest =
 
 module _ (laws : CutLaws) (ways : WayLaws) {m : Meaning} {k : Parts} {table : ℕ → Option Description} {s : State} (serves : IsServing m k table s)
     (size : m.sectors ≡ 8 * k.root.geometry.blocks) (half : k.log.half ≡ k.root.geometry.half)
-    (coming : IsComing m k.log k.laid k.root k.slot serves.first k.map serves.lasts k.pledged_then) (now : Meaning) where
+    (coming : IsComing m k.log k.pending k.root k.slot serves.first k.map serves.lasts k.pledged_then) (now : Meaning) where
   abbrev plan : Planned
   plan = coming.point.plan
 
   pub over_plan : disk_over k m.seen.disk ≡ disk_after plan m.seen.disk
-  over_plan = ap (λ (l : Option Laid). planned_disk l m.seen.disk) coming.is
+  over_plan = ap (λ (l : Option PendingPoint). planned_disk l m.seen.disk) coming.is
 
   -- ---- so many more blocks are written
 
@@ -92,15 +92,15 @@ module _ (laws : CutLaws) (ways : WayLaws) {m : Meaning} {k : Parts} {table : �
     pub slice_leaves : LeavesOnly m now (OpensTo m s)
     slice_leaves = slices_open laws serves.left coming.way serves.honest now goes (its_sizes serves size half)
 
-    abbrev pub sliced : (n : ℕ) → n ≤ length plan.blocks → (laid : Laid) → laid.plan ≡ record plan { written = n } → now.is_honest → (now_kept : Kept)
-        → ShowsOver now now_kept (Some laid) (blocks_of (disk_over k m.seen.disk)) → IsServing now (record k { kept = now_kept; laid = Some laid }) table s
-    sliced n most laid is honest now_kept shown =
+    abbrev pub sliced : (n : ℕ) → n ≤ length plan.blocks → (pending : PendingPoint) → pending.plan ≡ record plan { written = n } → now.is_honest → (now_kept : BlockCache)
+        → ShowsOver now now_kept (Some pending) (blocks_of (disk_over k m.seen.disk)) → IsServing now (record k { kept = now_kept; pending = Some pending }) table s
+    sliced n most pending is honest now_kept shown =
         let stays : disk_after plan now.seen.disk ≡ disk_after plan m.seen.disk = ways.stays plan m.seen now.seen coming.sound (goes serves.honest).seen in
-        let same : disk_after plan m.seen.disk ≡ disk_after laid.plan now.seen.disk = sym stays ∙ ap (λ (p : Planned). disk_after p now.seen.disk) (sym is) in
-        let disk : disk_over k m.seen.disk ≡ disk_after laid.plan now.seen.disk = over_plan ∙ same in
+        let same : disk_after plan m.seen.disk ≡ disk_after pending.plan now.seen.disk = sym stays ∙ ap (λ (p : Planned). disk_after p now.seen.disk) (sym is) in
+        let disk : disk_over k m.seen.disk ≡ disk_after pending.plan now.seen.disk = over_plan ∙ same in
         record {
           honest = honest;
-          shows = subst (λ (d : ℕ → Sector). ShowsOver now now_kept (Some laid) (blocks_of d)) disk shown;
+          shows = subst (λ (d : ℕ → Sector). ShowsOver now now_kept (Some pending) (blocks_of d)) disk shown;
           first = serves.first;
           snapshots = serves.snapshots;
           under = subst (IsUnder k.slot k.root serves.first serves.snapshots) disk serves.under;
@@ -113,7 +113,7 @@ module _ (laws : CutLaws) (ways : WayLaws) {m : Meaning} {k : Parts} {table : �
           left = slice_left laws serves.left coming.way serves.honest now goes;
           entries = serves.entries;
           bridge = inr (record {
-            point = laid;
+            point = pending;
             is = refl;
             way = subst (λ (p : Planned). IsUnderWay now k.log serves.lasts (record { plan = p; root = k.root; volume = serves.first; pledged = k.pledged_then })) (sym is)
                 (slices_keep laws serves.left coming.way serves.honest now goes n);
@@ -135,8 +135,8 @@ module _ (laws : CutLaws) (ways : WayLaws) {m : Meaning} {k : Parts} {table : �
     end_leaves = points_open laws serves.left coming.way roots ways serves.honest here (its_sizes serves size half) now
 
     abbrev pub ended : IsSameStation m now → now.is_honest → HasNewRoot plan m.seen now.seen → ((n : ℕ) → n < now.sectors → IsSector (now.seen.disk n)) → LeavesJust now now.seen
-        → (now_kept : Kept) → ShowsOver now now_kept None (blocks_of (disk_over k m.seen.disk)) → (now_map : BlockMap) → SettlesAs (entry_at k.map.parts.items) k.map now_map
-        → IsServing now (record k { kept = now_kept; laid = None; map = now_map; pledged = k.pledged_then }) table s
+        → (now_kept : BlockCache) → ShowsOver now now_kept None (blocks_of (disk_over k m.seen.disk)) → (now_map : BlockMap) → SwitchesTo (entry_at k.map.parts.items) k.map now_map
+        → IsServing now (record k { kept = now_kept; pending = None; map = now_map; pledged = k.pledged_then }) table s
     ended station honest has sized just now_kept shown now_map settles =
         let are = its_sizes serves size half in
         let then = base_to_come (record { plan = plan; root = k.root; volume = serves.first; pledged = k.pledged_then }) serves.settled in
@@ -174,10 +174,10 @@ module _ (laws : CutLaws) (ways : WayLaws) {m : Meaning} {k : Parts} {table : �
 -- ---- a point is laid over the blocks
 
 -- where the log was in the first epoch over the root, the system serves what it did, with that point under way
-abbrev pub laid_serves : {S : Type 0} {G : Ghosts S} (old new : System S G) (table : ℕ → Option Description) (s : State) (serves : HasState old table s) → old.blocks.laid ≡ None
+abbrev pub pending_serves : {S : Type 0} {G : Ghosts S} (old new : System S G) (table : ℕ → Option Description) (s : State) (serves : HasState old table s) → old.blocks.pending ≡ None
     → old.log.epoch ≡ old.root.generation + 1 → ReadsOn (meaning_of old) (meaning_of new) → new.log ≡ record old.log { epoch = old.log.epoch + 1; end = Unopened }
-    → new.pledged ≡ old.pledged → new.files ≡ old.files → IsLaid unchanged old new old.inodes table s serves serves.first serves.running → HasState new table s
-laid_serves old new table s serves none first reads log pledged files laid =
+    → new.pledged ≡ old.pledged → new.files ≡ old.files → IsPending unchanged old new old.inodes table s serves serves.first serves.running → HasState new table s
+pending_serves old new table s serves none first reads log pledged files pending =
     let m = meaning_of old in
     let now = meaning_of new in
     let went = reads.goes serves.honest in
@@ -187,39 +187,39 @@ laid_serves old new table s serves none first reads log pledged files laid =
     let lasts = lasts_older rest.lasts in
     let Pledging = λ (n : ℕ). (lasts : Lasts (record { disk = m.seen.disk; root = old.root; volume = serves.first }) serves.snapshots n serves.running)
     × EachCut now (IsLeft old.root new.log lasts.bodies m.seen.disk)
-    × IsUnderWay now new.log lasts (record { plan = laid.laid.plan; root = new.root; volume = serves.running; pledged = new.pledged_then }) in
+    × IsUnderWay now new.log lasts (record { plan = pending.pending.plan; root = new.root; volume = serves.running; pledged = new.pledged_then }) in
     let lasting = subst Pledging (sym pledged) (
       lasts,
-      each_unchanged m now (IsLeft old.root new.log lasts.bodies m.seen.disk) reads.same (left_older rest.lasts m rest.left new.log (λ nvram stands. laid.newer old.root.generation rest.lasts.bodies nvram first stands)) reads.goes,
+      each_unchanged m now (IsLeft old.root new.log lasts.bodies m.seen.disk) reads.same (left_older rest.lasts m rest.left new.log (λ nvram stands. pending.newer old.root.generation rest.lasts.bodies nvram first stands)) reads.goes,
       begins rest.lasts now {log = old.log}
           (each_unchanged m now (IsLeft old.root old.log rest.lasts.bodies m.seen.disk) reads.same rest.left reads.goes)
-          new.log old.slot laid.laid.plan new.root new.pledged_then seen first second laid.planned laid.pledges (laid.saves refl (omega (arith, serves.stored, rest.all))),
+          new.log old.slot pending.pending.plan new.root new.pledged_then seen first second pending.planned pending.pledges (pending.saves refl (omega (arith, serves.stored, rest.all))),
     ) in
     record {
       honest = went.honest;
-      shows = laid.shows;
+      shows = pending.shows;
       first = serves.running;
       snapshots = serves.snapshots;
-      under = laid.under;
+      under = pending.under;
       running = serves.running;
       mounted = serves.mounted;
-      memory = laid.memory;
-      view = subst (λ (o : Option View). ShowsSnapshot (blocks_of (disk_of new)) new.root.geometry.blocks serves.snapshots o) (sym laid.viewless) tt;
+      memory = pending.memory;
+      view = subst (λ (o : Option View). ShowsSnapshot (blocks_of (disk_of new)) new.root.geometry.blocks serves.snapshots o) (sym pending.viewless) tt;
       settled = record { disk = m.seen.disk; root = old.root; volume = serves.first };
       lasts = lasting.0;
       left = lasting.1;
-      entries = laid.entries;
+      entries = pending.entries;
       bridge = inr (record {
-        point = laid.laid;
-        is = laid.is;
+        point = pending.pending;
+        is = pending.is;
         way = lasting.2;
-        sound = laid.sound;
-        place = laid.slot;
-        to_come = subst (λ (l : Option Laid). HasEntriesToCome (whole (blocks_of (planned_disk l now.seen.disk)) new.root).active new.map) laid.is laid.to_come;
+        sound = pending.sound;
+        place = pending.slot;
+        to_come = subst (λ (l : Option PendingPoint). HasEntriesToCome (whole (blocks_of (planned_disk l now.seen.disk)) new.root).active new.map) pending.is pending.to_come;
       });
       goes = ap (λ (l : LogEnd). l.is_stopped) log ∙ serves.goes;
-      stored = laid.stored;
+      stored = pending.stored;
       opened = serves.opened ∙ ap table_of (sym files);
       fits = subst (λ (d : Descriptors). FitsVolume d serves.running) (sym files) serves.fits;
-      state = serves.state ∙ ap (λ (g : Sizes). state_with g.inodes serves.running table serves.snapshots) (sym laid.planned.point.geometry);
+      state = serves.state ∙ ap (λ (g : Sizes). state_with g.inodes serves.running table serves.snapshots) (sym pending.planned.point.geometry);
     }

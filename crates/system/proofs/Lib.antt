@@ -1,30 +1,18 @@
 pub mod CountingLaws
-mod SystemLaws
+pub mod SystemLaws
 mod PointLaws
 mod SettledLaws
 mod OpenLaws
 mod LoggedLaws
 mod UnderWayLaws
-mod LaidLaws
-mod LookedLaws
-mod ServingLaws
-mod AskingLaws
-mod GoingOnLaws
+mod PendingLaws
+pub mod LookedLaws
+pub mod GoingOnLaws
 mod RestLaws
 mod SteppingLaws
 mod CoveringLaws
-mod ChangingLaws
 pub mod RoomLaws
 pub mod CoveredLaws
-mod TableLaws
-mod MovedLaws
-mod OpenFileLaws
-mod DoingLaws
-mod CloseLaws
-mod FileChangeLaws
-mod HandlingLaws
-mod CarryingLaws
-mod FulfilLaws
-mod ViewLaws
-mod SettlingLaws
+pub mod ViewLaws
+mod CheckpointLaws
 mod RestoringLaws

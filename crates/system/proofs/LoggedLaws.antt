@@ -21,7 +21,7 @@ use Rattle.buffers.proofs.DiskLaws.{still_shows}
 use Rattle.conspoint.specs.Finished.{disk_after}
 use Rattle.overlay.specs.Overlays.{FitsOver, HoldsHere, ShowsOver}
 use Rattle.overlay.specs.Props.{FitsOver-prop, HoldsHere-prop}
-use Rattle.overlay.specs.declared.laid.Laid.{Laid}
+use Rattle.overlay.specs.declared.pending.PendingPoint.{PendingPoint}
 use Rattle.overlay.specs.declared.overlay.Overlay.{Overlay}
 use Rattle.overlay.proofs.OverlayLaws.{over_still}
 use Rattle.inofile.specs.Volumes.{IsVolumeOf}
@@ -106,14 +106,14 @@ records_keep {settled} {running = running} {w = w} records lasts table change is
 -- ---- the blocks
 
 -- those of the same buffers, with the same point under way, are the same
-pub same_overlay : {S : Type 0} {G : Ghosts S} (a b : Overlay S G) → a.buffers ≡ b.buffers → a.laid ≡ b.laid → a ≡ b
-same_overlay {S} {G} a b buffers laid =
-    let Same = λ (x : Buffers S). λ (l : Option Laid). (f : FitsOver (G.meaning x.station).sectors l) (w : HoldsHere (G.meaning x.station) l) → a ≡ record { buffers = x; laid = l; fits = f; written = w } in
-    subst (Same b.buffers) laid (subst (λ (x : Buffers S). Same x a.laid) buffers (λ f w i. record {
+pub same_overlay : {S : Type 0} {G : Ghosts S} (a b : Overlay S G) → a.buffers ≡ b.buffers → a.pending ≡ b.pending → a ≡ b
+same_overlay {S} {G} a b buffers pending =
+    let Same = λ (x : Buffers S). λ (l : Option PendingPoint). (f : FitsOver (G.meaning x.station).sectors l) (w : HoldsHere (G.meaning x.station) l) → a ≡ record { buffers = x; pending = l; fits = f; written = w } in
+    subst (Same b.buffers) pending (subst (λ (x : Buffers S). Same x a.pending) buffers (λ f w i. record {
       buffers = a.buffers;
-      laid = a.laid;
-      fits = FitsOver-prop (G.meaning a.buffers.station).sectors a.laid a.fits f i;
-      written = HoldsHere-prop (G.meaning a.buffers.station) a.laid a.written w i;
+      pending = a.pending;
+      fits = FitsOver-prop (G.meaning a.buffers.station).sectors a.pending a.fits f i;
+      written = HoldsHere-prop (G.meaning a.buffers.station) a.pending a.written w i;
     })) b.fits b.written
 
 -- ---- the system
@@ -191,8 +191,8 @@ module _ (laws : CutLaws) (records : RecordLaws) {m : Meaning} {k : Parts} {tabl
         let disk : disk_over k m.seen.disk ≡ disk_over k now.seen.disk = ap (disk_over k) seen in
         let serving : IsServing now (record k { inodes = now_inodes; log = now_log; pledged = k.pledged + n; pledged_then = k.pledged_then + n; files = now_files }) table state_after = record {
           honest = there.0;
-          shows = subst (λ (d : ℕ → Sector). ShowsOver now k.kept k.laid (blocks_of d)) disk
-              (over_still m now k.kept k.kept k.laid (blocks_of (disk_over k m.seen.disk)) there.1 (λ d. still_shows m now k.kept d there.0 same.sectors there.1) serves.shows);
+          shows = subst (λ (d : ℕ → Sector). ShowsOver now k.kept k.pending (blocks_of d)) disk
+              (over_still m now k.kept k.kept k.pending (blocks_of (disk_over k m.seen.disk)) there.1 (λ d. still_shows m now k.kept d there.0 same.sectors there.1) serves.shows);
           first = serves.first;
           snapshots = serves.snapshots;
           under = subst (IsUnder k.slot k.root serves.first serves.snapshots) disk serves.under;

@@ -2,8 +2,8 @@
 use Rattle.std.proofs.Common.{◌≡◌, ◌⊎◌, inl, inr, ℕ, zero, suc, ◌≤◌, List, Option, Some, None, false, refl, sym, ap, subst, ◌∙◌}
 use Rattle.std.specs.Prelude.{Result, Ok, Err, IsErrAnd, IsErrOf, IsSome, IsTrue, IsFalse, MatchResult, IfErr}
 use Rattle.std.specs.Option.{option_map}
-use Rattle.station.specs.Images.{Images, Unchanged}
-use Rattle.station.specs.Moments.{Meaning, Goes, IsSameStation, LeavesJust}
+use Rattle.station.specs.Images.{Images}
+use Rattle.station.specs.Moments.{Meaning, IsSameStation, LeavesJust}
 use Rattle.station.specs.declared.station.Station.{Ghosts}
 use Rattle.layout.specs.Limits.{Sizes}
 use Rattle.layout.specs.Log.{LogHolds}
@@ -11,16 +11,16 @@ use Rattle.layout.specs.Places.{Blocks, blocks_of}
 use Rattle.layout.specs.Record.{Change}
 use Rattle.layout.specs.declared.root.Root.{Root}
 use Rattle.model.specs.Paths.{Name}
-use Rattle.model.specs.Records.{Extends, Replays, is_vacant, pledged_for, without_nameless}
+use Rattle.model.specs.Records.{Extends, Replays, is_vacant, pledged_for, without_orphans}
 use Rattle.model.specs.States.{State}
 use Rattle.model.specs.Trees.{Tree}
 use Rattle.model.specs.Volumes.{Node, directory_node, file_node, link_node, IsMounted, IsVolume, Volume, swept_node}
 use Rattle.buffers.specs.Disks.{ReadsOn, ShowsDisk}
 use Rattle.buffers.specs.declared.cache.Buffers.{Buffers}
-use Rattle.buffers.specs.declared.kept.Kept.{Kept}
+use Rattle.buffers.specs.declared.block_cache.BlockCache.{BlockCache}
 use Rattle.oplog.specs.LogEnd.{LogEnd, StandsAt}
 use Rattle.overlay.specs.Overlays.{ShowsOver}
-use Rattle.overlay.specs.declared.laid.Laid.{Laid}
+use Rattle.overlay.specs.declared.pending.PendingPoint.{PendingPoint}
 use Rattle.overlay.specs.declared.overlay.Overlay.{Overlay}
 use Rattle.oplog.specs.SavedLog.{Saved, StandsBehind}
 use Rattle.blockmap.specs.declared.map.BlockMap.{BlockMap}
@@ -44,40 +44,40 @@ use Rattle.records.specs.Preparing.{HasGraph}
 use Rattle.replay.specs.Volumes.{HasVolume, HasVolumeIn, SavesRecords, SavesRecordsIn, bodies_of}
 use Rattle.oplog.specs.declared.saved.SavedLogError.{SavedLogError}
 use Rattle.oplog.specs.declared.saved.SavedLogError.TheVariants as log
-use Rattle.blocktree.specs.declared.error.ReadError.{ReadError}
-use Rattle.blocktree.specs.declared.error.ReadError.TheVariants as read
+use Rattle.buffers.specs.declared.error.BlockError.{BlockError}
+use Rattle.buffers.specs.declared.error.BlockError.TheVariants as read
 use Rattle.loading.specs.declared.error.RootError.{RootError}
 use Rattle.loading.specs.declared.error.RootError.TheVariants as root
 use Rattle.system.specs.Opening.{HasImage, HasNewest, HasRead, HasReplayed, HoldsRecords, IsFaultlessTree, IsOf, IsSavedOver}
 use Rattle.system.specs.Refusals.{SaysNothing, refusal_of_log, refusal_of_read, refusal_of_root}
 use Rattle.system.specs.Systems.{Parts, IsServing, state_with}
-use Rattle.system.specs.declared.open_error.OpenError.{OpenError}
+use Rattle.system.specs.declared.mount_error.MountError.{MountError}
 use Rattle.system.specs.declared.opening.FoundImages.{FoundImages}
-use Rattle.system.specs.declared.opening.Mounted.{Mounted}
+use Rattle.system.specs.declared.opening.LoadedImage.{LoadedImage}
 use Rattle.system.proofs.LookedLaws.{ReadsBlocksOn, reads_nothing}
 
 -- ---- refusals
 
-pub root_refused : {T : Type 0} (P : T → Type 0) (r : Result T OpenError) (e : RootError) → IsErrAnd r (λ x. x ≡ refusal_of_root e) → e ≡ root.Device → MatchResult r P SaysNothing
+pub root_refused : {T : Type 0} (P : T → Type 0) (r : Result T MountError) (e : RootError) → IsErrAnd r (λ x. x ≡ refusal_of_root e) → e ≡ root.Device → MatchResult r P SaysNothing
 root_refused P (Ok x) e is device = absurd is
 root_refused P (Err x) root.Device is device = inr is
 root_refused P (Err x) root.NoRoot is device = cc
 root_refused P (Err x) root.Damaged is device = cc
 
-pub log_refused : {T U : Type 0} (P : T → Type 0) (r : Result T OpenError) (e : SavedLogError) → IsErrAnd r (λ x. x ≡ refusal_of_log e) → (IsErrOf {T = U} (Err e) log.Damaged → ⊥) → MatchResult r P SaysNothing
+pub log_refused : {T U : Type 0} (P : T → Type 0) (r : Result T MountError) (e : SavedLogError) → IsErrAnd r (λ x. x ≡ refusal_of_log e) → (IsErrOf {T = U} (Err e) log.Damaged → ⊥) → MatchResult r P SaysNothing
 log_refused P (Ok x) e is undamaged = absurd is
 log_refused P (Err x) log.NoMemory is undamaged = inl is
 log_refused P (Err x) log.Device is undamaged = inr is
 log_refused P (Err x) log.Damaged is undamaged = absurd (undamaged refl)
 
-pub read_refused : {T : Type 0} (P : T → Type 0) (r : Result T OpenError) (e : ReadError) → IsErrAnd r (λ x. x ≡ refusal_of_read e) → (e ≡ read.NoMemory) ⊎ (e ≡ read.Device) → MatchResult r P SaysNothing
+pub read_refused : {T : Type 0} (P : T → Type 0) (r : Result T MountError) (e : BlockError) → IsErrAnd r (λ x. x ≡ refusal_of_read e) → (e ≡ read.NoMemory) ⊎ (e ≡ read.Device) → MatchResult r P SaysNothing
 read_refused P (Ok x) e is why = absurd is
 read_refused P (Err x) read.NoMemory is why = inl is
 read_refused P (Err x) read.Device is why = inr is
 read_refused P (Err x) read.Damaged is (inl none) = cc
 read_refused P (Err x) read.Damaged is (inr device) = cc
 
-pub not_damaged : {T U : Type 0} (P : T → Type 0) (r : Result T OpenError) (e : ReadError) → IsErrAnd r (λ x. x ≡ refusal_of_read e) → (IsErrOf {T = U} (Err e) read.Damaged → ⊥) → MatchResult r P SaysNothing
+pub not_damaged : {T U : Type 0} (P : T → Type 0) (r : Result T MountError) (e : BlockError) → IsErrAnd r (λ x. x ≡ refusal_of_read e) → (IsErrOf {T = U} (Err e) read.Damaged → ⊥) → MatchResult r P SaysNothing
 not_damaged P (Ok x) e is undamaged = absurd is
 not_damaged P (Err x) read.NoMemory is undamaged = inl is
 not_damaged P (Err x) read.Device is undamaged = inr is
@@ -95,13 +95,6 @@ if_err_weaker (Err e) P Q f is = f e is
 
 -- ---- the station
 
--- what a cut leaves, behind calls that change nothing
-pub still_left : (old new : Meaning) (i : Images) → IsSameStation old new → Goes Unchanged old new → LeavesJust old i → LeavesJust new i
-still_left old new i same goes just honest c left =
-    let before = same.honest.1 honest in
-    let d = (goes before).now c left in
-    d.2 ∙ just before d.0 d.1
-
 -- blocks were read of a station that no block was read of before, and no point is under way
 module _ {S : Type 0} {G : Ghosts S} (station : S) (buffers : Buffers S) (blocks : Overlay S G) (is : buffers.station ≡ station) (same : blocks.buffers ≡ buffers) where
   over_station : blocks.buffers.station ≡ station
@@ -112,10 +105,10 @@ module _ {S : Type 0} {G : Ghosts S} (station : S) (buffers : Buffers S) (blocks
 
   pub shown_new : ShowsDisk (G.meaning buffers.station) buffers.kept (blocks_of (G.meaning station).seen.disk)
       → (ShowsDisk (G.meaning buffers.station) buffers.kept (blocks_of (G.meaning buffers.station).seen.disk)
-      → ShowsOver (G.meaning blocks.buffers.station) blocks.buffers.kept blocks.laid (blocks_of (G.meaning blocks.buffers.station).seen.disk))
-      → ShowsOver (G.meaning blocks.buffers.station) blocks.buffers.kept blocks.laid (blocks_of (G.meaning station).seen.disk)
+      → ShowsOver (G.meaning blocks.buffers.station) blocks.buffers.kept blocks.pending (blocks_of (G.meaning blocks.buffers.station).seen.disk))
+      → ShowsOver (G.meaning blocks.buffers.station) blocks.buffers.kept blocks.pending (blocks_of (G.meaning station).seen.disk)
   shown_new below over =
-      subst (λ (s : S). ShowsOver (G.meaning blocks.buffers.station) blocks.buffers.kept blocks.laid (blocks_of (G.meaning s).seen.disk)) over_station
+      subst (λ (s : S). ShowsOver (G.meaning blocks.buffers.station) blocks.buffers.kept blocks.pending (blocks_of (G.meaning s).seen.disk)) over_station
       (over (subst (λ (s : S). ShowsDisk (G.meaning buffers.station) buffers.kept (blocks_of (G.meaning s).seen.disk)) (sym is) below))
 
 -- ---- what memory has
@@ -143,14 +136,14 @@ module _ (disk : Blocks) (r : Root) (nvram : List ℕ) (first last : Volume) (sn
     volume = subst (λ (s : Sizes). IsVolume s.inodes first) (sym geometry) holds.holds.volume;
   }
 
-  pub has_image : (old : InodeFile) (p : Mounted) (count : ℕ) → p.inodes.geometry ≡ r.geometry → count ≡ r.geometry.blocks → IsLoadedUnder disk r p.map old
-      → StandsBehind p.log saved.generation nvram (bodies_of changes) → HasVolume count disk (inodes_of (whole disk r).active) p.inodes (without_nameless last)
-      → p.pledged ≡ pledged_for old.geometry.inodes first changes → memory_room first p.inodes (without_nameless last) ≤ p.pledged → old.geometry ≡ r.geometry → HasImage disk r nvram first last changes p
+  pub has_image : (old : InodeFile) (p : LoadedImage) (count : ℕ) → p.inodes.geometry ≡ r.geometry → count ≡ r.geometry.blocks → IsLoadedUnder disk r p.map old
+      → StandsBehind p.log saved.generation nvram (bodies_of changes) → HasVolume count disk (inodes_of (whole disk r).active) p.inodes (without_orphans last)
+      → p.pledged ≡ pledged_for old.geometry.inodes first changes → memory_room first p.inodes (without_orphans last) ≤ p.pledged → old.geometry ≡ r.geometry → HasImage disk r nvram first last changes p
   has_image old p count geometry is loaded stands has pledges stored sizes = record {
     log = subst (λ (n : ℕ). StandsBehind p.log n nvram (bodies_of changes)) over.generation stands;
     memory = record {
-      stands = subst (λ (n : ℕ). IsVolumeOf n disk (inodes_of (whole disk r).active) p.inodes (without_nameless last)) is has.memory;
-      volume = subst (λ (s : Sizes). IsVolume s.inodes (without_nameless last)) geometry has.volume;
+      stands = subst (λ (n : ℕ). IsVolumeOf n disk (inodes_of (whole disk r).active) p.inodes (without_orphans last)) is has.memory;
+      volume = subst (λ (s : Sizes). IsVolume s.inodes (without_orphans last)) geometry has.volume;
     };
     entries = loaded.map.settled;
     pledges = pledges ∙ ap (λ (s : Sizes). pledged_for s.inodes first changes) sizes;
@@ -186,7 +179,7 @@ module _ (disk : Blocks) (r : Root) (nvram : List ℕ) (saved : Saved) (over : I
   pub all_replayed : (inodes after : InodeFile) (count : ℕ) (log : LogEnd) → inodes.geometry ≡ r.geometry → count ≡ r.geometry.blocks
       → (changes : List Change) (first last : Volume) → HoldsVolumeIn by_sizes r.geometry.inodes (tree_contents (whole disk r).active) first
       → SavesRecordsIn by_sizes inodes.geometry.inodes nvram saved changes first last → StandsBehind log saved.generation nvram (bodies_of changes)
-      → HasVolumeIn by_sizes count disk (inodes_of (whole disk r).active) after (without_nameless last) → HasReplayed disk nvram r log after
+      → HasVolumeIn by_sizes count disk (inodes_of (whole disk r).active) after (without_orphans last) → HasReplayed disk nvram r log after
   all_replayed inodes after count log geometry is changes first last holds saves stands has = record {
     changes = changes;
     records = record {
@@ -200,7 +193,7 @@ module _ (disk : Blocks) (r : Root) (nvram : List ℕ) (saved : Saved) (over : I
       replays = subst (λ (s : Sizes). ReplaysWithin s.inodes first changes last) geometry saves.replays;
     };
     ends = subst (λ (n : ℕ). StandsBehind log n nvram (bodies_of changes)) over.generation stands;
-    memory = subst (λ (n : ℕ). IsVolumeIn by_sizes n disk (inodes_of (whole disk r).active) after (without_nameless last)) is has.memory;
+    memory = subst (λ (n : ℕ). IsVolumeIn by_sizes n disk (inodes_of (whole disk r).active) after (without_orphans last)) is has.memory;
   }
 
 -- such a tree is that of images without a fault
@@ -215,7 +208,7 @@ found_before old new k same seen found = record {
   read = subst (λ (i : Images). HasRead (blocks_of i.disk) i.nvram k.root k.log k.inodes) seen found.read;
 }
 
--- ---- files without names
+-- ---- orphans
 
 kept_nodes : (o : Option Node) → IsSome (swept_node false o) → o ≡ swept_node false o
 kept_nodes None some = refl
@@ -232,12 +225,12 @@ vacant_nodes (Some (file_node attributes zero bytes)) none = refl
 vacant_nodes (Some (file_node attributes (suc links) bytes)) none = cc
 
 -- a volume has what it has without them
-extends : (v : Volume) → Extends (without_nameless v) v
+extends : (v : Volume) → Extends (without_orphans v) v
 extends v = record { kept = λ n some. kept_nodes (v n) some; rest = λ n none. vacant_nodes (v n) none }
 
 -- ---- the system
 
-module _ (m : Meaning) (kept : Kept) (found : FoundImages) (p : Mounted) (first last : Volume) (snapshots : List (Name × Tree)) (changes : List Change)
+module _ (m : Meaning) (kept : BlockCache) (found : FoundImages) (p : LoadedImage) (first last : Volume) (snapshots : List (Name × Tree)) (changes : List Change)
     (files : Descriptors) (none : (d : ℕ) → open_at files d ≡ None) (fits : (v : Volume) → FitsVolume files v) where
   -- memory over what was found, where reads give these images
   pub record IsOver (i : Images) : Type 0 where
@@ -247,10 +240,10 @@ module _ (m : Meaning) (kept : Kept) (found : FoundImages) (p : Mounted) (first 
     pub holds : HoldsRecords (blocks_of i.disk) found.newest.root i.nvram first last snapshots changes
     pub has : HasImage (blocks_of i.disk) found.newest.root i.nvram first last changes p
 
-  abbrev parts : Option Laid → Parts
-  parts laid = record {
+  abbrev parts : Option PendingPoint → Parts
+  parts pending = record {
     kept = kept;
-    laid = laid;
+    pending = pending;
     root = found.newest.root;
     slot = found.newest.slot;
     inodes = p.inodes;
@@ -263,16 +256,16 @@ module _ (m : Meaning) (kept : Kept) (found : FoundImages) (p : Mounted) (first 
   }
 
   abbrev shown : State
-  shown = state_with found.newest.root.geometry.inodes (without_nameless last) (λ d. None) snapshots
+  shown = state_with found.newest.root.geometry.inodes (without_orphans last) (λ d. None) snapshots
 
-  serving : IsMounted (without_nameless last) (λ d. None) → IsFalse p.log.is_stopped → IsOver m.seen → IsServing m (parts None) (λ d. None) shown
+  serving : IsMounted (without_orphans last) (λ d. None) → IsFalse p.log.is_stopped → IsOver m.seen → IsServing m (parts None) (λ d. None) shown
   serving mounted runs over = record {
     honest = over.shows.below.honest;
     shows = over.shows;
     first = first;
     snapshots = snapshots;
     under = record { newest = over.of.newest; holds = over.holds.holds };
-    running = without_nameless last;
+    running = without_orphans last;
     mounted = mounted;
     memory = over.has.memory;
     view = tt;
@@ -303,11 +296,11 @@ module _ (m : Meaning) (kept : Kept) (found : FoundImages) (p : Mounted) (first 
     goes = runs;
     stored = over.has.stored;
     opened = λ i d. option_map description_of (sym (none d) i);
-    fits = fits (without_nameless last);
+    fits = fits (without_orphans last);
     state = refl;
   }
 
-  pub serves : (laid : Option Laid) → laid ≡ None → (i : Images) → m.seen ≡ i → IsMounted (without_nameless last) (λ d. None) → IsFalse p.log.is_stopped → IsOver i
-      → IsServing m (parts laid) (λ d. None) shown
-  serves laid rests i is mounted runs over =
-      subst (λ (l : Option Laid). IsServing m (parts l) (λ d. None) shown) (sym rests) (serving mounted runs (subst IsOver (sym is) over))
+  pub serves : (pending : Option PendingPoint) → pending ≡ None → (i : Images) → m.seen ≡ i → IsMounted (without_orphans last) (λ d. None) → IsFalse p.log.is_stopped → IsOver i
+      → IsServing m (parts pending) (λ d. None) shown
+  serves pending rests i is mounted runs over =
+      subst (λ (l : Option PendingPoint). IsServing m (parts l) (λ d. None) shown) (sym rests) (serving mounted runs (subst IsOver (sym is) over))

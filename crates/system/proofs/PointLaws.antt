@@ -12,7 +12,7 @@ use Rattle.layout.specs.SnapRoot.{Snapshot}
 use Rattle.layout.specs.Places.{blocks_of}
 use Rattle.layout.specs.Root.{root_bytes}
 use Rattle.layout.specs.declared.root.Root.{Root}
-use Rattle.model.specs.Records.{count_nameless}
+use Rattle.model.specs.Records.{count_orphans}
 use Rattle.model.specs.Room.{fixed_of}
 use Rattle.model.specs.Paths.{Name}
 use Rattle.model.specs.States.{Forgets, State}
@@ -39,17 +39,17 @@ use Rattle.conspoint.specs.Writes.{writes_of}
 use Rattle.system.specs.Images.{OpensTo}
 use Rattle.system.specs.Laws.{CutLaws}
 use Rattle.overlay.specs.Overlays.{planned_disk}
-use Rattle.overlay.specs.declared.laid.Laid.{Laid}
+use Rattle.overlay.specs.declared.pending.PendingPoint.{PendingPoint}
 use Rattle.planning.specs.Changes.{HasRestored, IsStepOf, SharesNone, starting_tree}
 use Rattle.planning.specs.Plans.{IsPlannable}
 use Rattle.planning.specs.declared.change.SnapshotChange.{SnapshotChange}
 use Rattle.planning.specs.declared.change.SnapshotChange.TheVariants as changes
 use Rattle.system.specs.Plans.{IsPlannedOver, LeavesRoom}
-use Rattle.system.specs.Points.{HasRoomFor, HasRoomToPlan, HasRoomToStep, MaySettle, MaySettleOver, StartsActive, turned}
+use Rattle.system.specs.Points.{HasRoomFor, HasRoomToPlan, HasRoomToStep, MayCheckpoint, MayCheckpointOver, StartsActive, turned}
 use Rattle.system.specs.Slots.{IsNewestAt, other_slot}
 use Rattle.system.specs.Systems.{Parts, HasState, HasStateBy, IsServing, disk_of, disk_over, meaning_of}
 use Rattle.system.specs.declared.system.System.{System}
-use Rattle.system.proofs.RoomLaws.{nameless_least, rest_free}
+use Rattle.system.proofs.RoomLaws.{orphans_least, rest_free}
 use Rattle.system.proofs.SystemLaws.{AtRest, all_open, at_rest, extends_itself, one_opens, reads_open, root_sizes}
 
 -- what holds of an answer that is Ok
@@ -102,13 +102,13 @@ outside r d writes n free some = λ k w lt same. some (ap (entry (whole (blocks_
 
 -- what memory stands for may be planned over a system
 pub plannable : {m : Meaning} {k : Parts} {table : ℕ → Option Description} {s : State} (serves : IsServing m k table s)
-    → k.laid ≡ None → MayLeave m m.seen → (other generation : ℕ) (given : BlockMap) → other ≡ other_slot k.slot → generation ≡ k.log.epoch
+    → k.pending ≡ None → MayLeave m m.seen → (other generation : ℕ) (given : BlockMap) → other ≡ other_slot k.slot → generation ≡ k.log.epoch
     → ((b : ℕ) → settled_at given.parts.items b ≡ settled_at k.map.parts.items b)
-    → (change : SnapshotChange) (files : Descriptors) (memory : InodeFile) (base v : Volume) → MaySettleOver change (blocks_of (disk_over k m.seen.disk)) k.root files memory table base v
+    → (change : SnapshotChange) (files : Descriptors) (memory : InodeFile) (base v : Volume) → MayCheckpointOver change (blocks_of (disk_over k m.seen.disk)) k.root files memory table base v
     → IsPlannable change k.root m.seen.disk other generation given memory base v
 plannable {m} {k} {table} serves none here other generation given other_one epoch same change files memory base v may =
     let rest = at_rest serves none in
-    let seen = subst (λ (d : ℕ → List ℕ). MaySettleOver change (blocks_of d) k.root files memory table base v) (ap (λ (l : Option Laid). planned_disk l m.seen.disk) none) may in
+    let seen = subst (λ (d : ℕ → List ℕ). MayCheckpointOver change (blocks_of d) k.root files memory table base v) (ap (λ (l : Option PendingPoint). planned_disk l m.seen.disk) none) may in
     record {
       other = other_is k.root m.seen.disk k.slot other rest.under.newest other_one;
       later = subst (λ (n : ℕ). k.root.generation < n) (sym epoch) (later k.log k.root.generation rest.lasts.bodies m.seen.nvram (rest.left serves.honest m.seen here).log_stands);
@@ -122,7 +122,7 @@ plannable {m} {k} {table} serves none here other generation given other_one epoc
     }
 
 module _ (laws : CutLaws) {m : Meaning} {k : Parts} {table : ℕ → Option Description} {s : State}
-    (serves : IsServing m k table s) (none : k.laid ≡ None) (size : m.sectors ≡ 8 * k.root.geometry.blocks) (half : k.log.half ≡ k.root.geometry.half)
+    (serves : IsServing m k table s) (none : k.pending ≡ None) (size : m.sectors ≡ 8 * k.root.geometry.blocks) (half : k.log.half ≡ k.root.geometry.half)
     (p : Planned) (new : Root) (step : SnapshotStep) (v : Volume) (planned : IsPlannedOver step m.seen.disk k.root k.slot k.log.epoch p new v) where
   abbrev after : State
   after = turned k.root.geometry.inodes step v table serves.first serves.snapshots
@@ -205,9 +205,9 @@ module _ {S : Type 0} {G : Ghosts S} (f : System S G) {table : ℕ → Option De
   abbrev seen_disk : ℕ → List ℕ
   seen_disk = disk_of f
 
-  settles_with : (change : SnapshotChange) → HasRestored change f.root (whole (blocks_of seen_disk) f.root) → starting_tree change (whole (blocks_of seen_disk) f.root) ≡ (whole (blocks_of seen_disk) f.root).active
-      → MaySettle change f f.inodes table serves.first serves.running
-  settles_with change none tree = record {
+  checkpoints_with : (change : SnapshotChange) → HasRestored change f.root (whole (blocks_of seen_disk) f.root) → starting_tree change (whole (blocks_of seen_disk) f.root) ≡ (whole (blocks_of seen_disk) f.root).active
+      → MayCheckpoint change f f.inodes table serves.first serves.running
+  checkpoints_with change none tree = record {
     restored = none;
     base_held = subst (λ (t : HeldTree). HoldsVolume f.root.geometry.inodes (tree_contents t) serves.first) (sym tree) serves.under.holds.holds;
     base_volume = serves.under.holds.volume;
@@ -217,14 +217,14 @@ module _ {S : Type 0} {G : Ghosts S} (f : System S G) {table : ℕ → Option De
     fits = serves.fits;
   }
 
-  pub settles_running : (change : SnapshotChange) (step : SnapshotStep) → IsStepOf change f.root step → StartsActive step → MaySettle change f f.inodes table serves.first serves.running
-  settles_running changes.Unchanged step is active = settles_with changes.Unchanged tt refl
-  settles_running (changes.Take k order name) step is active = settles_with (changes.Take k order name) tt refl
-  settles_running (changes.Delete k) step is active = settles_with (changes.Delete k) tt refl
-  settles_running (changes.Restore k file) step is active = absurd (subst StartsActive is.1 active)
+  pub checkpoints_running : (change : SnapshotChange) (step : SnapshotStep) → IsStepOf change f.root step → StartsActive step → MayCheckpoint change f f.inodes table serves.first serves.running
+  checkpoints_running changes.Unchanged step is active = checkpoints_with changes.Unchanged tt refl
+  checkpoints_running (changes.Take k order name) step is active = checkpoints_with (changes.Take k order name) tt refl
+  checkpoints_running (changes.Delete k) step is active = checkpoints_with (changes.Delete k) tt refl
+  checkpoints_running (changes.Restore k file) step is active = absurd (subst StartsActive is.1 active)
 
   -- the disk has room for what it needs
-  pub has_room : f.blocks.laid ≡ None → (change : SnapshotChange) → HasRoomToStep change f → HasRoomToPlan change f (memory_room serves.first f.inodes serves.running)
+  pub has_room : f.blocks.pending ≡ None → (change : SnapshotChange) → HasRoomToStep change f → HasRoomToPlan change f (memory_room serves.first f.inodes serves.running)
   has_room rests changes.Unchanged room = omega (arith, serves.stored, (at_rest serves rests).all, (at_rest serves rests).lasts.pledges, (at_rest serves rests).lasts.reserved, rest_free {G = G} f.inodes f table s serves rests)
   has_room rests (changes.Take k order name) room = omega (arith, serves.stored, (at_rest serves rests).all, room)
   has_room rests (changes.Delete k) room = omega (arith, serves.stored, (at_rest serves rests).all, (at_rest serves rests).lasts.pledges, (at_rest serves rests).lasts.reserved, rest_free {G = G} f.inodes f table s serves rests)
@@ -255,37 +255,37 @@ kept_by (changes.Restore k file) root step fixed free needs is room = inr (λ sa
 abbrev pub IsPlannedFrom : {S : Type 0} {G : Ghosts S} → System S G → (base v : Volume) → SnapshotStep → Planned → Root → Type 0
 IsPlannedFrom f base v step p new =
     (planned : IsPlannedOver step (meaning_of f).seen.disk f.root f.slot f.log.epoch p new v)
-    × (step ≡ unchanged → memory_room base f.inodes v ≤ f.pledged → planned.room.spent + 4 * count_nameless f.root.geometry.inodes v ≤ f.pledged)
+    × (step ≡ unchanged → memory_room base f.inodes v ≤ f.pledged → planned.room.spent + 4 * count_orphans f.root.geometry.inodes v ≤ f.pledged)
 
 -- what is planned leaves so many blocks free, if it does but for what memory needs, and for what every point stores where a snapshot is taken or restored
-pub leaves_room : {S : Type 0} {G : Ghosts S} (known : InodeFile) (f : System S G) (table : ℕ → Option Description) (s : State) (serves : HasStateBy known f table s) → f.blocks.laid ≡ None
+pub leaves_room : {S : Type 0} {G : Ghosts S} (known : InodeFile) (f : System S G) (table : ℕ → Option Description) (s : State) (serves : HasStateBy known f table s) → f.blocks.pending ≡ None
     → (change : SnapshotChange) (step : SnapshotStep) (base v : Volume) → IsStepOf change f.root step → HasRoomToPlan change f (memory_room base f.inodes v) → (writes : List Write) (new : Root)
-    → (SharesNone step → (spent : ℕ) → memory_room base f.inodes v ≤ spent + 4 * count_nameless f.inodes.geometry.inodes v
+    → (SharesNone step → (spent : ℕ) → memory_room base f.inodes v ≤ spent + 4 * count_orphans f.inodes.geometry.inodes v
     → LeavesFree spent f.root (blocks_of (meaning_of f).seen.disk) writes new)
-    → ((spent : ℕ) → memory_room base f.inodes v + fixed_of f.root.geometry.blocks ≤ spent + 4 * count_nameless f.inodes.geometry.inodes v
+    → ((spent : ℕ) → memory_room base f.inodes v + fixed_of f.root.geometry.blocks ≤ spent + 4 * count_orphans f.inodes.geometry.inodes v
     → LeavesFree spent f.root (blocks_of (meaning_of f).seen.disk) writes new)
     → (room : LeavesRoom (meaning_of f).seen.disk f.root v writes new)
-    × (step ≡ unchanged → memory_room base f.inodes v ≤ f.pledged → room.spent + 4 * count_nameless f.root.geometry.inodes v ≤ f.pledged)
+    × (step ≡ unchanged → memory_room base f.inodes v ≤ f.pledged → room.spent + 4 * count_orphans f.root.geometry.inodes v ≤ f.pledged)
 leaves_room {G = G} known f table s serves rests change step base v asked has writes new none_taken any =
     let needs = memory_room base f.inodes v in
-    let nameless = 4 * count_nameless f.inodes.geometry.inodes v in
+    let orphans = 4 * count_orphans f.inodes.geometry.inodes v in
     let fixed = fixed_of f.root.geometry.blocks in
-    let least = nameless_least base f.inodes v f.inodes.geometry.inodes in
-    let sizes = ap (λ (x : Sizes). count_nameless x.inodes v) f.sizes in
+    let least = orphans_least base f.inodes v f.inodes.geometry.inodes in
+    let sizes = ap (λ (x : Sizes). count_orphans x.inodes v) f.sizes in
     let free = rest_free {G = G} known f table s serves rests in
     elim (kept_by change f.root step fixed f.free needs asked has) [
       | inl (none, enough) ↦ (
         record {
-          spent = needs - nameless;
-          leaves = none_taken none (needs - nameless) (omega (arith, least));
+          spent = needs - orphans;
+          leaves = none_taken none (needs - orphans) (omega (arith, least));
           enough = omega (arith, least, enough, sizes, free);
         },
         λ same few. omega (arith, least, few, sizes),
       )
       | inr (other, enough) ↦ (
         record {
-          spent = needs + fixed - nameless;
-          leaves = any (needs + fixed - nameless) (omega (arith, least));
+          spent = needs + fixed - orphans;
+          leaves = any (needs + fixed - orphans) (omega (arith, least));
           enough = omega (arith, least, enough, sizes, free);
         },
         λ same. absurd (other same),

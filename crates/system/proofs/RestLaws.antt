@@ -1,7 +1,7 @@
 -- Which of the records before stand beside the root behind what writes no NVRAM.
 use Rattle.std.proofs.Common.{◌≡◌, inl, inr, ℕ, ◌+◌, ◌<◌, ◌^◌, ◌++◌, List, [], Option, ap, subst, sym, arith}
 use Rattle.station.specs.Images.{Sector}
-use Rattle.station.specs.Moments.{MayLeave, Meaning}
+use Rattle.station.specs.Moments.{MayLeave}
 use Rattle.station.specs.declared.station.Station.{Ghosts}
 use Rattle.layout.specs.Log.{LogHolds}
 use Rattle.layout.specs.Opens.{IsNewest}

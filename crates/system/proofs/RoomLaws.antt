@@ -1,12 +1,12 @@
 -- What is pledged of the disk's blocks, and what of them is free.
-use Rattle.std.proofs.Common.{◌≡◌, ◌∙◌, inl, inr, ℕ, zero, suc, ◌+◌, ◌*◌, ◌<◌, ◌≤◌, List, [], ◌∷◌, ◌++◌, Option, Some, None, Bool, true, false, refl, replicate, ap, sym, arith}
+use Rattle.std.proofs.Common.{◌≡◌, ◌∙◌, inl, inr, ℕ, zero, suc, ◌+◌, ◌*◌, ◌≤◌, List, [], ◌∷◌, ◌++◌, Option, Some, None, Bool, true, false, refl, replicate, ap, sym, arith}
 use Rattle.std.specs.Prelude.{IsTrue, IsFalse, if◌then◌else◌, ◌==◌}
-use Rattle.std.proofs.lemmas.Bool.{cases_lt, cond-false, ne_eqb}
+use Rattle.std.proofs.lemmas.Bool.{cases_lt}
 use Rattle.std.proofs.lemmas.List.{length-replicate}
 use Rattle.layout.specs.Limits.{Sizes}
 use Rattle.layout.specs.Places.{blocks_of}
 use Rattle.model.specs.Attributes.{no_attributes}
-use Rattle.model.specs.Records.{Change, Replays, applied, costs, count_nameless, pledged_for, work_of, create, link, unname, rename, write, cut, change_mode}
+use Rattle.model.specs.Records.{Change, Replays, applied, costs, count_orphans, pledged_for, work_of, create, link, remove_name, rename, write, truncate, change_mode}
 use Rattle.model.specs.Room.{cost}
 use Rattle.model.specs.States.{State}
 use Rattle.model.specs.Trees.{Description}
@@ -15,15 +15,13 @@ use Rattle.blockmap.specs.Maps.{free_below, settled_at}
 use Rattle.blockmap.specs.Parts.{Part}
 use Rattle.blockmap.specs.Space.{left}
 use Rattle.blockmap.specs.declared.map.BlockMap.{BlockMap}
-use Rattle.layout.specs.declared.root.Root.{Root}
-use Rattle.images.specs.BlockMap.{IsExact, entry, roots}
-use Rattle.images.specs.Roots.{HeldTree, Whole, whole}
-use Rattle.images.specs.Room.{free_at, free_under}
-use Rattle.images.proofs.EmptyLaws.{no_bit}
+use Rattle.images.specs.Roots.{HeldTree, whole}
+use Rattle.images.specs.Room.{free_under}
 use Rattle.images.specs.Sums.{sum_below}
 use Rattle.inofile.specs.Room.{number_room}
 use Rattle.inofile.specs.declared.inode_file.InodeFile.{InodeFile}
-use Rattle.inofile.proofs.RoomLaws.{nameless_four}
+use Rattle.inofile.proofs.RoomLaws.{orphan_four}
+use Rattle.planning.proofs.RoomLaws.{none_first}
 use Rattle.oplog.specs.LogEnd.{LogEnd, HasRoomInHalf, next_of}
 use Rattle.replay.specs.Costs.{IsSizeBefore}
 use Rattle.station.specs.declared.station.Station.{Ghosts}
@@ -77,7 +75,7 @@ pub free_is : {S : Type 0} {G : Ghosts S} (f : System S G) (table : ℕ → Opti
 free_is {G = G} f table s serves = free_by {G = G} f.inodes f table s serves
 
 -- where no consistency point is under way it is so under the root
-pub rest_free : {S : Type 0} {G : Ghosts S} (known : InodeFile) (f : System S G) (table : ℕ → Option Description) (s : State) → HasStateBy known f table s → f.blocks.laid ≡ None
+pub rest_free : {S : Type 0} {G : Ghosts S} (known : InodeFile) (f : System S G) (table : ℕ → Option Description) (s : State) → HasStateBy known f table s → f.blocks.pending ≡ None
     → f.free ≡ free_under (whole (blocks_of (meaning_of f).seen.disk) f.root).active f.root.geometry.blocks
 rest_free {G = G} known f table s serves none = free_by {G = G} known f table s serves ∙ ap free_of (at_rest serves none).base
 
@@ -97,23 +95,15 @@ unfolding free_below
 few_free items zero = omega arith
 few_free items (suc b) = grind (arith, few_free items b)
 
--- the first two blocks aren't
-system_kept : (r : Root) (w : Whole) → IsExact r w → free_under w.active 2 ≡ 0
-unfolding sum_below
-system_kept r w exact = omega (arith, kept 0 (omega arith), kept 1 (omega arith))
-  where
-    kept : (b : ℕ) → b < 2 → free_at w.active b ≡ 0
-    kept b low = cond-false (entry w.active b == 0) 1 0 (ne_eqb (entry w.active b) 0 (λ free. no_bit 31 _ free ((exact.system b).1 (roots low))))
-
 -- what is left of its map with no change is all that
-pub all_left : {S : Type 0} {G : Ghosts S} (known : InodeFile) (f : System S G) (table : ℕ → Option Description) (s : State) → HasStateBy known f table s → f.blocks.laid ≡ None
+pub all_left : {S : Type 0} {G : Ghosts S} (known : InodeFile) (f : System S G) (table : ℕ → Option Description) (s : State) → HasStateBy known f table s → f.blocks.pending ≡ None
     → (given : BlockMap) → given.next ≡ 2 → given.count ≡ f.map.count → ((b : ℕ) → settled_at given.parts.items b ≡ settled_at f.map.parts.items b) → left given ≡ f.free
 unfolding left
 all_left known f table s serves none given fresh count settled =
     let rest = at_rest serves none in
     let w = whole (blocks_of (meaning_of f).seen.disk) f.root in
     let low : free_below given.parts.items given.next ≡ 0 =
-    ap (free_below given.parts.items) fresh ∙ free_settled given f.map settled 2 ∙ free_same w.active f.map rest.entries 2 ∙ system_kept f.root w rest.under.holds.sound.exact in
+    ap (free_below given.parts.items) fresh ∙ free_settled given f.map settled 2 ∙ free_same w.active f.map rest.entries 2 ∙ none_first f.root w rest.under.holds.sound.exact in
     omega (arith, still_counted f given count settled, low)
 
 -- ---- what a record costs
@@ -126,16 +116,16 @@ files_of size n = Some (file_node no_attributes 1 (replicate size 0))
 pub files_sized : (change : Change) (size : ℕ) → IsSizeBefore (files_of size) change size
 files_sized (create number parent made name) size = tt
 files_sized (link number parent name) size = tt
-files_sized (unname parent name) size = tt
+files_sized (remove_name parent name) size = tt
 files_sized (rename parent name new_parent new_name) size = tt
 files_sized (write number offset bytes) size = sym (length-replicate size 0)
-files_sized (cut number new) size = sym (length-replicate size 0)
+files_sized (truncate number new) size = sym (length-replicate size 0)
 files_sized (change_mode number mode) size = tt
 
--- ---- files without names
+-- ---- orphans
 
 -- 4 blocks of what memory needs are for each
-pub nameless_least : (base : Volume) (s : InodeFile) (v : Volume) (n : ℕ) → 4 * count_nameless n v ≤ sum_below (number_room base s v) n
+pub orphans_least : (base : Volume) (s : InodeFile) (v : Volume) (n : ℕ) → 4 * count_orphans n v ≤ sum_below (number_room base s v) n
 unfolding sum_below
-nameless_least base s v zero = omega arith
-nameless_least base s v (suc n) = omega (arith, nameless_least base s v n, nameless_four (v n))
+orphans_least base s v zero = omega arith
+orphans_least base s v (suc n) = omega (arith, orphans_least base s v n, orphan_four (v n))

@@ -60,7 +60,7 @@ none_replayed inodes running = record {
 
 -- on images that have the new root of a point
 module _ (cuts : CutLaws) (laws : RootLaws) {m : Meaning} {k : Parts} {table : ℕ → Option Description} {s : State}
-    (serves : IsServing m k table s) (none : k.laid ≡ None) (size : m.sectors ≡ 8 * k.root.geometry.blocks) (half : k.log.half ≡ k.root.geometry.half)
+    (serves : IsServing m k table s) (none : k.pending ≡ None) (size : m.sectors ≡ 8 * k.root.geometry.blocks) (half : k.log.half ≡ k.root.geometry.half)
     (p : Planned) (new : Root) (step : SnapshotStep) (v : Volume) (planned : IsPlannedOver step m.seen.disk k.root k.slot k.log.epoch p new v)
     (here : MayLeave m m.seen) (e : Images) (has : HasNewRoot p m.seen e) where
   abbrev rest : AtRest serves

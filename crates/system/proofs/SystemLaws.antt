@@ -3,6 +3,7 @@ use Rattle.std.specs.Prelude.{IsTrue}
 use Rattle.std.proofs.Common.{◌≡◌, inl, inr, ℕ, ◌*◌, List, Option, Some, None, refl, ap, sym, subst, ◌∙◌, arith}
 use Rattle.station.specs.Images.{Images, Sector}
 use Rattle.station.specs.Moments.{Meaning, EachCut}
+use Rattle.station.specs.declared.station.Station.{Ghosts}
 use Rattle.station.proofs.Moments.{each_unchanged}
 use Rattle.layout.specs.Log.{LogHolds}
 use Rattle.layout.specs.Limits.{Sizes}
@@ -13,7 +14,7 @@ use Rattle.model.specs.Records.{Extends, is_vacant}
 use Rattle.model.specs.States.{State, Forgets}
 use Rattle.model.specs.Trees.{Description, Tree}
 use Rattle.model.specs.Volumes.{Node, Volume, IsVolume}
-use Rattle.buffers.specs.declared.kept.Kept.{Kept}
+use Rattle.buffers.specs.declared.block_cache.BlockCache.{BlockCache}
 use Rattle.blockmap.specs.Maps.{entry_at, settled_at}
 use Rattle.blockmap.specs.declared.map.BlockMap.{BlockMap}
 use Rattle.inofile.specs.Volumes.{IsVolumeOf}
@@ -26,11 +27,13 @@ use Rattle.loading.specs.Images.{inodes_of}
 use Rattle.oplog.specs.LogEnd.{LogEnd, all_bodies}
 use Rattle.conspoint.specs.Finished.{disk_after}
 use Rattle.overlay.specs.Overlays.{ReadsOver, ShowsOver, planned_disk}
-use Rattle.overlay.specs.declared.laid.Laid.{Laid}
+use Rattle.overlay.specs.declared.pending.PendingPoint.{PendingPoint}
 use Rattle.system.specs.Images.{Base, IsLeft, IsUnder, Lasts, OpensTo}
 use Rattle.system.specs.Laws.{CutLaws}
 use Rattle.system.specs.Memory.{HasEntries, HasEntriesToCome, IsInMemory}
-use Rattle.system.specs.Systems.{Parts, IsComing, IsServing, disk_over, state_with}
+use Rattle.system.specs.Serving.{ServesState}
+use Rattle.system.specs.Systems.{Parts, IsComing, IsServing, disk_over, meaning_of, state_with}
+use Rattle.system.specs.declared.system.System.{System}
 use Rattle.system.specs.Views.{ShowsSnapshot}
 use Rattle.system.specs.UnderWay.{IsUnderWay, Way}
 
@@ -45,7 +48,7 @@ OverRoot disk root inodes v = IsVolumeOf root.geometry.blocks disk (inodes_of (w
 -- Where no consistency point is under way all stands on the root of a system and on the disk that its station reads.
 pub record AtRest {m : Meaning} {k : Parts} {table : ℕ → Option Description} {s : State} (serves : IsServing m k table s) : Type 0 where
   pub base : serves.settled ≡ record { disk = m.seen.disk; root = k.root; volume = serves.first }
-  pub shows : ShowsOver m k.kept k.laid (blocks_of m.seen.disk)
+  pub shows : ShowsOver m k.kept k.pending (blocks_of m.seen.disk)
   pub under : IsUnder k.slot k.root serves.first serves.snapshots m.seen.disk
   pub memory : IsInMemory (blocks_of m.seen.disk) k.root k.inodes serves.running
   pub entries : HasEntries (whole (blocks_of m.seen.disk) k.root).active k.map
@@ -54,8 +57,8 @@ pub record AtRest {m : Meaning} {k : Parts} {table : ℕ → Option Description}
   pub all : k.pledged_then ≡ k.pledged
 
 -- none is under way where one is
-pub not_both : (laid : Laid) → Some laid ≡ None → ⊥
-not_both laid is = cc
+pub not_both : (pending : PendingPoint) → Some pending ≡ None → ⊥
+not_both pending is = cc
 
 -- a point that is under way is so where another station reads the same disk
 pub way_on : {m : Meaning} {log : LogEnd} {settled : Base} {snapshots : List (Name × Tree)} {pledged : ℕ} {running : Volume} {lasts : Lasts settled snapshots pledged running} {w : Way} (new : Meaning)
@@ -71,15 +74,15 @@ way_on new same way = record {
 }
 
 module _ {m : Meaning} {k : Parts} {table : ℕ → Option Description} {s : State} (serves : IsServing m k table s) where
-  pub at_rest : k.laid ≡ None → AtRest serves
+  pub at_rest : k.pending ≡ None → AtRest serves
   at_rest none = elim serves.bridge [
     | inl rests ↦
-        let disk : disk_over k m.seen.disk ≡ m.seen.disk = ap (λ (l : Option Laid). planned_disk l m.seen.disk) none in
+        let disk : disk_over k m.seen.disk ≡ m.seen.disk = ap (λ (l : Option PendingPoint). planned_disk l m.seen.disk) none in
         let Lasting = λ (b : Base). (lasts : Lasts b serves.snapshots k.pledged serves.running) × EachCut m (IsLeft b.root k.log lasts.bodies b.disk) in
         let lasting = subst Lasting rests.base (serves.lasts, serves.left) in
         record {
           base = rests.base;
-          shows = subst (λ (d : ℕ → Sector). ShowsOver m k.kept k.laid (blocks_of d)) disk serves.shows;
+          shows = subst (λ (d : ℕ → Sector). ShowsOver m k.kept k.pending (blocks_of d)) disk serves.shows;
           under = subst (IsUnder k.slot k.root serves.first serves.snapshots) disk serves.under;
           memory = subst (λ (d : ℕ → Sector). IsInMemory (blocks_of d) k.root k.inodes serves.running) disk serves.memory;
           entries = subst (λ (b : Base). HasEntries (whole (blocks_of b.disk) b.root).active k.map) rests.base serves.entries;
@@ -98,20 +101,20 @@ module _ {m : Meaning} {k : Parts} {table : ℕ → Option Description} {s : Sta
   ]
 
   -- where nothing was done but reading, and objects came into memory
-  abbrev pub read_into : (new : Meaning) (now_kept : Kept) (now_laid : Option Laid) (now_inodes : InodeFile) (now_map : BlockMap) → ReadsOver m new k.laid now_laid
-      → ((disk : ℕ → List ℕ) → ShowsOver m k.kept k.laid disk → ShowsOver new now_kept now_laid disk)
+  abbrev pub read_into : (new : Meaning) (now_kept : BlockCache) (now_pending : Option PendingPoint) (now_inodes : InodeFile) (now_map : BlockMap) → ReadsOver m new k.pending now_pending
+      → ((disk : ℕ → List ℕ) → ShowsOver m k.kept k.pending disk → ShowsOver new now_kept now_pending disk)
       → ((v : Volume) → OverRoot (blocks_of (disk_over k m.seen.disk)) k.root k.inodes v → OverRoot (blocks_of (disk_over k m.seen.disk)) k.root now_inodes v)
       → now_inodes.geometry ≡ k.inodes.geometry → NeedsNoMore k.inodes now_inodes
       → ((b : ℕ) → settled_at now_map.parts.items b ≡ settled_at k.map.parts.items b)
-      → (IsComing m k.log k.laid k.root k.slot serves.first k.map serves.lasts k.pledged_then → (b : ℕ) → entry_at now_map.parts.items b ≡ entry_at k.map.parts.items b)
-      → IsServing new (record k { kept = now_kept; laid = now_laid; inodes = now_inodes; map = now_map }) table s
-  read_into new now_kept now_laid now_inodes now_map reads shows stays sizes needs entries to_come =
+      → (IsComing m k.log k.pending k.root k.slot serves.first k.map serves.lasts k.pledged_then → (b : ℕ) → entry_at now_map.parts.items b ≡ entry_at k.map.parts.items b)
+      → IsServing new (record k { kept = now_kept; pending = now_pending; inodes = now_inodes; map = now_map }) table s
+  read_into new now_kept now_pending now_inodes now_map reads shows stays sizes needs entries to_come =
       let went = reads.below.goes serves.honest in
       let seen : m.seen.disk ≡ new.seen.disk = sym (ap (λ (i : Images). i.disk) went.seen) in
-      let disk : disk_over k m.seen.disk ≡ planned_disk now_laid new.seen.disk = ap (planned_disk k.laid) seen ∙ ap (λ (l : Option Laid). planned_disk l new.seen.disk) (sym reads.laid) in
+      let disk : disk_over k m.seen.disk ≡ planned_disk now_pending new.seen.disk = ap (planned_disk k.pending) seen ∙ ap (λ (l : Option PendingPoint). planned_disk l new.seen.disk) (sym reads.pending) in
       record {
         honest = went.honest;
-        shows = subst (λ (d : ℕ → List ℕ). ShowsOver new now_kept now_laid (blocks_of d)) disk (shows (blocks_of (disk_over k m.seen.disk)) serves.shows);
+        shows = subst (λ (d : ℕ → List ℕ). ShowsOver new now_kept now_pending (blocks_of d)) disk (shows (blocks_of (disk_over k m.seen.disk)) serves.shows);
         first = serves.first;
         snapshots = serves.snapshots;
         under = subst (IsUnder k.slot k.root serves.first serves.snapshots) disk serves.under;
@@ -127,10 +130,10 @@ module _ {m : Meaning} {k : Parts} {table : ℕ → Option Description} {s : Sta
         left = each_unchanged m new (IsLeft serves.settled.root k.log serves.lasts.bodies serves.settled.disk) reads.below.same serves.left reads.below.goes;
         entries = λ b. entries b ∙ serves.entries b;
         bridge = elim serves.bridge [
-          | inl rests ↦ inl (record { none = reads.laid ∙ rests.none; base = rests.base ∙ (λ i. record { disk = seen i; root = k.root; volume = serves.first }); all = rests.all })
+          | inl rests ↦ inl (record { none = reads.pending ∙ rests.none; base = rests.base ∙ (λ i. record { disk = seen i; root = k.root; volume = serves.first }); all = rests.all })
           | inr coming ↦ inr (record {
             point = coming.point;
-            is = reads.laid ∙ coming.is;
+            is = reads.pending ∙ coming.is;
             way = way_on new (sym seen) coming.way;
             sound = coming.sound;
             place = coming.place;
@@ -145,11 +148,11 @@ module _ {m : Meaning} {k : Parts} {table : ℕ → Option Description} {s : Sta
       }
 
   -- where none did, and no point is under way
-  abbrev pub read_on : k.laid ≡ None → (new : Meaning) (now_kept : Kept) (now_laid : Option Laid) (now_map : BlockMap) → ReadsOver m new k.laid now_laid
-      → ((disk : ℕ → List ℕ) → ShowsOver m k.kept k.laid disk → ShowsOver new now_kept now_laid disk)
-      → ((b : ℕ) → settled_at now_map.parts.items b ≡ settled_at k.map.parts.items b) → IsServing new (record k { kept = now_kept; laid = now_laid; map = now_map }) table s
-  read_on none new now_kept now_laid now_map reads shows entries =
-      read_into new now_kept now_laid k.inodes now_map reads shows (λ v over. over) refl (λ n k least. least) entries (λ coming. absurd (not_both coming.point (sym coming.is ∙ none)))
+  abbrev pub read_on : k.pending ≡ None → (new : Meaning) (now_kept : BlockCache) (now_pending : Option PendingPoint) (now_map : BlockMap) → ReadsOver m new k.pending now_pending
+      → ((disk : ℕ → List ℕ) → ShowsOver m k.kept k.pending disk → ShowsOver new now_kept now_pending disk)
+      → ((b : ℕ) → settled_at now_map.parts.items b ≡ settled_at k.map.parts.items b) → IsServing new (record k { kept = now_kept; pending = now_pending; map = now_map }) table s
+  read_on none new now_kept now_pending now_map reads shows entries =
+      read_into new now_kept now_pending k.inodes now_map reads shows (λ v over. over) refl (λ n k least. least) entries (λ coming. absurd (not_both coming.point (sym coming.is ∙ none)))
 
 -- ---- what a cut leaves
 
@@ -218,3 +221,12 @@ module _ {m : Meaning} {k : Parts} {table : ℕ → Option Description} {s : Sta
 
     pub all_open : CutLaws → EachCut m (OpensTo m s)
     all_open laws honest c left = one_opens laws serves.lasts its_sizes c (serves.left honest c left)
+
+-- what opens to a state does so for a station of the same size
+pub opens_same : (m n : Meaning) (s : State) (c : Images) → n.sectors ≡ m.sectors → OpensTo n s c → OpensTo m s c
+opens_same m n s c same opens =
+    record { opens = subst (λ (k : ℕ). Opens k c.disk c.nvram s) same opens.opens }
+
+-- whatever a cut leaves of a system opens to the state that it serves
+abbrev pub AllOpen : {S : Type 0} {G : Ghosts S} → System S G → Type 0
+AllOpen f = (s : State) → ServesState f s → EachCut (meaning_of f) (OpensTo (meaning_of f) s)

@@ -9,7 +9,7 @@ use Rattle.layout.specs.Places.{blocks_of}
 use Rattle.layout.specs.Root.{root_bytes}
 use Rattle.layout.specs.declared.root.Root.{Root}
 use Rattle.model.specs.Paths.{Name}
-use Rattle.model.specs.Records.{Replays, count_nameless, pledged_for}
+use Rattle.model.specs.Records.{Replays, count_orphans, pledged_for}
 use Rattle.model.specs.Room.{fixed_of}
 use Rattle.model.specs.States.{State}
 use Rattle.model.specs.Trees.{Description, Tree}
@@ -75,7 +75,7 @@ module _ {settled : Base} {snapshots : List (Name × Tree)} {pledged : ℕ} {run
     -- A point is planned over the disk that is read and the running volume: it is under way, with no record since.
     pub begins : (next : LogEnd) (slot : ℕ) (plan : Planned) (root : Root) (then : ℕ) → m.seen.disk ≡ settled.disk → log.epoch ≡ settled.root.generation + 1 → next.epoch ≡ settled.root.generation + 2
         → (planned : IsPlannedOver unchanged settled.disk settled.root slot log.epoch plan root running)
-        → then ≡ 4 * count_nameless settled.root.geometry.inodes running → planned.room.spent + then ≤ pledged → IsUnderWay m next lasts_older (record { plan = plan; root = root; volume = running; pledged = then })
+        → then ≡ 4 * count_orphans settled.root.geometry.inodes running → planned.room.spent + then ≤ pledged → IsUnderWay m next lasts_older (record { plan = plan; root = root; volume = running; pledged = then })
     begins next slot plan root then read first second planned pledges saves = record {
       slot = slot;
       planned = planned_at plan.written (settled.root.generation + 1) first planned;

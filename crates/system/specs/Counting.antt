@@ -1,4 +1,5 @@
--- What a function did to a station: which of its device calls failed, and what it left of the NVRAM.
+-- What a function did to a station: which of its device calls failed, and what it left of the
+-- NVRAM.
 use Rattle.std.specs.Prelude.{ℕ, ◌≡◌, ◌+◌, ◌<◌, ◌≤◌, ◌^◌, Bool, Result, Ok, Err, if◌then◌else◌}
 use Rattle.station.specs.Calls.{Uses}
 use Rattle.station.specs.Images.{Images}
@@ -35,7 +36,8 @@ pub record Counted (old new : Meaning) (why : Failed) : Type 0 where
   pub reads : TellsReads why old.failed_reads new.failed_reads
   pub writes : TellsWrites why old.failed_writes new.failed_writes
 
--- what an error of a call tells; a log that had stopped before takes nothing, and needs no fault for that
+-- what an error of a call tells; a log that had stopped before takes nothing, and needs no fault
+-- for that
 abbrev pub call_error_failed : Bool → CallError → Failed
 call_error_failed had_stopped call.NoMemory = perhaps_reads
 call_error_failed had_stopped call.NotRead = a_read
@@ -78,6 +80,7 @@ pub record AgesBy (points old new : ℕ) : Type 0 where
 abbrev pub SameNvram : Images → Images → Type 0
 SameNvram old new = new.nvram ≡ old.nvram
 
--- From one meaning to another nothing was logged: a cut at any moment leaves an NVRAM that one might have left before.
+-- From one meaning to another nothing was logged: a cut at any moment leaves an NVRAM that one
+-- might have left before.
 abbrev pub LogsNothing : Meaning → Meaning → Type 0
 LogsNothing old new = LeavesOnly old new (After SameNvram old)

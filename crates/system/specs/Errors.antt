@@ -1,7 +1,7 @@
 -- Why a system refused.
 use Rattle.std.specs.Prelude.{◌≡◌}
-use Rattle.blocktree.specs.declared.error.ReadError.{ReadError}
-use Rattle.blocktree.specs.declared.error.ReadError.TheVariants as read
+use Rattle.buffers.specs.declared.error.BlockError.{BlockError}
+use Rattle.buffers.specs.declared.error.BlockError.TheVariants as read
 use Rattle.oplog.specs.declared.log.AppendError.{AppendError}
 use Rattle.oplog.specs.declared.log.AppendError.TheVariants as append
 use Rattle.system.specs.declared.error.CallError.{CallError}
@@ -20,7 +20,7 @@ abbrev pub IsNotWritten : PointError → Type 0
 IsNotWritten e = e ≡ NotWritten
 
 -- a failed read, to who gave a call
-abbrev pub call_error : ReadError → CallError
+abbrev pub call_error : BlockError → CallError
 call_error read.NoMemory = call.NoMemory
 call_error read.Device = call.NotRead
 call_error read.Damaged = call.Damaged

@@ -22,21 +22,22 @@ use Rattle.system.specs.Slots.{IsNewestAt}
 pub record OpensTo (m : Meaning) (s : State) (c : Images) : Type 0 where
   pub opens : images.Opens m.sectors c.disk c.nvram s
 
--- A disk has a root in a slot, and no newer one; it holds this volume and these snapshots, all of it in its grammar.
+-- A disk has a root in a slot, and no newer one; it holds this volume and these snapshots, all of
+-- it in its grammar.
 pub record IsUnder (slot : ℕ) (root : Root) (first : Volume) (snapshots : List (Name × Tree))
     (disk : ℕ → List ℕ) : Type 0 where
   pub newest : IsNewestAt slot root disk
   pub holds : Holds root (whole (blocks_of disk) root) first snapshots
 
--- What a cut leaves of a system over this disk: the same but for free blocks, and a log of these records that ends where the
--- system's does.
+-- What a cut leaves of a system over this disk: the same but for free blocks, and a log of these
+-- records that ends where the system's does.
 pub record IsLeft (root : Root) (log : LogEnd) (bodies : Bodies) (disk : ℕ → List ℕ)
     (c : Images) : Type 0 where
   pub same : SameButFree root disk c.disk
   pub log_stands : StandsAt log root.generation bodies c.nvram
 
--- The records with these bodies lead from the volume that a root holds to the running one; but files without names, which the running
--- one may have dropped, are there still.
+-- The records with these bodies lead from the volume that a root holds to the running one; but
+-- orphans, which the running one may have dropped, are there still.
 pub record IsReplayed (inodes : ℕ) (bodies : Bodies) (first running : Volume) : Type 0 where
   pub changes : List Change
   pub are : All IsChange changes
@@ -45,14 +46,16 @@ pub record IsReplayed (inodes : ℕ) (bodies : Bodies) (first running : Volume) 
   pub replays : Replays inodes first changes last
   pub extends : Extends running last
 
--- What the records of a log are replayed over: a disk, its newest root, and the volume that this one holds.
+-- What the records of a log are replayed over: a disk, its newest root, and the volume that this
+-- one holds.
 pub record Base : Type 0 where
   pub disk : ℕ → List ℕ
   pub root : Root
   pub volume : Volume
 
--- What of a system outlasts a cut: a disk holds a volume and snapshots under its newest root, and records lead from there to the running
--- volume. What these may cost a consistency point is pledged, and as many blocks are free, with those that every point stores.
+-- What of a system outlasts a cut: a disk holds a volume and snapshots under its newest root, and
+-- records lead from there to the running volume. What these may cost a consistency point is
+-- pledged, and as many blocks are free, with those that every point stores.
 pub record Lasts (settled : Base) (snapshots : List (Name × Tree)) (pledged : ℕ)
     (running : Volume) : Type 0 where
   pub newest : IsNewest settled.root (settled.disk SLOT_A) (settled.disk SLOT_B)

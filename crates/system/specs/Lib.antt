@@ -15,10 +15,6 @@ pub mod Opening
 pub mod Logging
 pub mod Serving
 pub mod Room
-pub mod Changing
-pub mod Answering
-pub mod OpenFiles
-pub mod Preparing
-pub mod Settling
+pub mod CheckpointCommands
 pub mod Restoring
 pub mod Slicing

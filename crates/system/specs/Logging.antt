@@ -27,16 +27,17 @@ use Rattle.system.specs.declared.error.CallError.{CallError}
 use Rattle.system.specs.declared.error.CallError.TheVariants.{NoRoom}
 use Rattle.system.specs.declared.system.System.{System}
 
--- a record applies to a volume of so many inodes, and leads to one that these descriptors fit once the
--- files are dropped that it leaves with neither name nor descriptor
+-- a record applies to a volume of so many inodes, and leads to one that these descriptors fit once
+-- the files are dropped that it leaves with neither name nor descriptor
 pub record Advances (inodes : ℕ) (running : Volume) (table : ℕ → Option Description)
     (change : Change) : Type 0 where
   pub is : IsChange change
   pub applies : Applies inodes running change
   pub mounted : IsMounted (swept table (applied change running)) table
 
--- once memory stands for a volume, over the disk of a system, and needs no more than is pledged, and the open files fit it, the
--- system serves a state by it, with these records beside the root, which holds the first volume
+-- once memory stands for a volume, over the disk of a system, and needs no more than is pledged,
+-- and the open files fit it, the system serves a state by it, with these records beside the root,
+-- which holds the first volume
 abbrev pub WouldServe : {S : Type 0} {G : Ghosts S} → System S G → System S G → Volume → Volume
     → List Change → (ℕ → Option Description) → State → Type 0
 WouldServe old new first running changes table s =
@@ -49,8 +50,9 @@ WouldServe old new first running changes table s =
     → IsServingWith (meaning_of new) (record (system_parts new) { inodes = inodes; files = files }) table s
     running changes
 
--- What putting a record that applies into the log does at a state that a system serves: a cut leaves that state or the one that the record
--- leads to; and once the record is there the system serves that, as soon as memory follows.
+-- What putting a record that applies into the log does at a state that a system serves: a cut
+-- leaves that state or the one that the record leads to; and once the record is there the system
+-- serves that, as soon as memory follows.
 pub record Appends {S : Type 0} {G : Ghosts S} (old new : System S G) (table : ℕ → Option Description) (s : State) (serves : HasState old table s)
     (change : Change) (result : Result (Unit {0}) AppendError) : Type 0 where
   pub any_moment : let after = swept table (applied change serves.running) in
@@ -66,8 +68,9 @@ DoesOver f running prepared change =
     let disk = blocks_of (disk_of f) in
     Does disk (inodes_of (whole disk f.root).active) f.inodes running prepared change
 
--- What logging a record with its prepared change does at a state that a system serves: the disk has room for it, or the system lacks
--- that; and where it applies a cut leaves the state before it or the one that it leads to, which the system serves then.
+-- What logging a record with its prepared change does at a state that a system serves: the disk has
+-- room for it, or the system lacks that; and where it applies a cut leaves the state before it or
+-- the one that it leads to, which the system serves then.
 pub record LogsAt {S : Type 0} {G : Ghosts S} (old new : System S G) (table : ℕ → Option Description) (s : State) (serves : HasState old table s)
     (change : Change) (prepared : Prepared) (result : Result (Unit {0}) CallError) : Type 0 where
   pub room : OnOk result (HasRoomForWork old (work_of serves.running change))

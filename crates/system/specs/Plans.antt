@@ -3,10 +3,10 @@ use Rattle.std.specs.Prelude.{ℕ, ◌≡◌, ◌+◌, ◌*◌, ◌≤◌, List}
 use Rattle.layout.specs.Places.{blocks_of}
 use Rattle.layout.specs.Root.{root_bytes}
 use Rattle.layout.specs.declared.root.Root.{Root}
-use Rattle.model.specs.Records.{count_nameless}
+use Rattle.model.specs.Records.{count_orphans}
 use Rattle.model.specs.Room.{fixed_of}
 use Rattle.model.specs.Volumes.{Volume}
-use Rattle.model.specs.declared.costs.TheConstants.{NAMELESS_COST}
+use Rattle.model.specs.declared.costs.TheConstants.{ORPHAN_COST}
 use Rattle.images.specs.Cuts.{IsPointWith, LeavesFree, Write}
 use Rattle.images.specs.Room.{free_under}
 use Rattle.images.specs.Roots.{whole}
@@ -15,16 +15,17 @@ use Rattle.conspoint.specs.Plans.{Planned, FitsDisk}
 use Rattle.conspoint.specs.Writes.{writes_of}
 use Rattle.system.specs.Slots.{other_slot}
 
--- A new root that holds this volume leaves as many blocks free as the next point may store, on each disk that has what is written.
+-- A new root that holds this volume leaves as many blocks free as the next point may store, on each
+-- disk that has what is written.
 pub record LeavesRoom (disk : ℕ → List ℕ) (root : Root) (running : Volume) (writes : List Write) (new : Root) : Type 0 where
   pub spent : ℕ
   pub leaves : LeavesFree spent root (blocks_of disk) writes new
-  pub enough : NAMELESS_COST * count_nameless root.geometry.inodes running + fixed_of root.geometry.blocks + spent
+  pub enough : ORPHAN_COST * count_orphans root.geometry.inodes running + fixed_of root.geometry.blocks + spent
       ≤ free_under (whole (blocks_of disk) root).active root.geometry.blocks
 
--- A point is planned over a disk with this root in this slot, and none of it is written: its root covers this epoch, comes into the
--- other slot, and leads to the running volume; and this is done with the snapshots. It leaves as many blocks free as the next one may
--- store.
+-- A point is planned over a disk with this root in this slot, and none of it is written: its root
+-- covers this epoch, comes into the other slot, and leads to the running volume; and this is done
+-- with the snapshots. It leaves as many blocks free as the next one may store.
 pub record IsPlannedOver (step : SnapshotStep) (disk : ℕ → List ℕ) (root : Root) (slot epoch : ℕ) (p : Planned) (new : Root) (running : Volume) : Type 0 where
   pub bytes : p.root ≡ root_bytes new
   pub other : p.slot ≡ other_slot slot

@@ -35,16 +35,16 @@ use Rattle.system.specs.declared.error.PointError.{PointError}
 use Rattle.system.specs.declared.error.PointError.TheVariants.{NoGeneration, NotPlanned, NotWritten}
 use Rattle.system.specs.declared.system.System.{System}
 
--- The disk has room for a point that does this with the snapshots and starts from the tree that is there: always, but where one is taken
--- only if it has room for that. No such point restores one.
+-- The disk has room for a point that does this with the snapshots and starts from the tree that is
+-- there: always, but where one is taken only if it has room for that. No such point restores one.
 abbrev pub HasRoomToStep : {S : Type 0} {G : Ghosts S} → SnapshotChange → System S G → Type 0
 HasRoomToStep changes.Unchanged f = Unit {0}
 HasRoomToStep (changes.Take slot order name) f = HasRoomToTake f
 HasRoomToStep (changes.Delete slot) f = Unit {0}
 HasRoomToStep (changes.Restore slot inode_file) f = ⊥
 
--- The same of a point whose memory may need so many blocks, where so many are free and every point stores so many of its own: where a
--- snapshot is taken or restored, these are free twice.
+-- The same of a point whose memory may need so many blocks, where so many are free and every point
+-- stores so many of its own: where a snapshot is taken or restored, these are free twice.
 abbrev pub HasRoomFor : SnapshotChange → (fixed free needs : ℕ) → Type 0
 HasRoomFor changes.Unchanged fixed free needs = needs + fixed ≤ free
 HasRoomFor (changes.Take slot order name) fixed free needs = needs + 2 * fixed ≤ free
@@ -54,9 +54,10 @@ HasRoomFor (changes.Restore slot inode_file) fixed free needs = needs + 2 * fixe
 abbrev pub HasRoomToPlan : {S : Type 0} {G : Ghosts S} → SnapshotChange → System S G → ℕ → Type 0
 HasRoomToPlan change f needs = HasRoomFor change (fixed_of f.root.geometry.blocks) f.free needs
 
--- What a point that does this with the snapshots under a root may settle: memory stands for a volume over the tree that the point starts
--- from, which holds this one, and these open files are of it.
-pub record MaySettleOver (change : SnapshotChange) (disk : Blocks) (root : Root) (files : Descriptors) (memory : InodeFile) (table : ℕ → Option Description)
+-- What a point that does this with the snapshots under a root may settle: memory stands for a
+-- volume over the tree that the point starts from, which holds this one, and these open files are
+-- of it.
+pub record MayCheckpointOver (change : SnapshotChange) (disk : Blocks) (root : Root) (files : Descriptors) (memory : InodeFile) (table : ℕ → Option Description)
     (base v : Volume) : Type 0 where
   pub restored : HasRestored change root (whole disk root)
   pub base_held : HoldsVolume root.geometry.inodes (tree_contents (starting_tree change (whole disk root))) base
@@ -66,8 +67,8 @@ pub record MaySettleOver (change : SnapshotChange) (disk : Blocks) (root : Root)
   pub mounted : IsMounted v table
   pub fits : FitsVolume files v
 
-abbrev pub MaySettle : {S : Type 0} {G : Ghosts S} → SnapshotChange → System S G → InodeFile → (ℕ → Option Description) → (base v : Volume) → Type 0
-MaySettle change f memory table base v = MaySettleOver change (blocks_of (disk_of f)) f.root f.files memory table base v
+abbrev pub MayCheckpoint : {S : Type 0} {G : Ghosts S} → SnapshotChange → System S G → InodeFile → (ℕ → Option Description) → (base v : Volume) → Type 0
+MayCheckpoint change f memory table base v = MayCheckpointOver change (blocks_of (disk_of f)) f.root f.files memory table base v
 
 -- what is asked of the snapshots is this step, and the disk of a system allows it
 pub record IsStepFor {S : Type 0} {G : Ghosts S} (change : SnapshotChange) (f : System S G) (step : SnapshotStep) : Type 0 where
@@ -81,7 +82,8 @@ StartsActive (taken k s) = Unit {0}
 StartsActive (deleted k name) = Unit {0}
 StartsActive (restored k name) = ⊥
 
--- so a state may be the one that a system serves behind a point that does this with the snapshots, and starts from the tree that is there
+-- so a state may be the one that a system serves behind a point that does this with the snapshots,
+-- and starts from the tree that is there
 abbrev pub StepsTo : {S : Type 0} {G : Ghosts S} → SnapshotChange → (f : System S G) → (table : ℕ → Option Description) (s : State)
     → HasState f table s → State → Type 0
 StepsTo change f table s serves t =
@@ -95,7 +97,7 @@ turned inodes step v table first snapshots = state_with inodes v table (kept_aft
 abbrev pub TurnsTo : {S : Type 0} {G : Ghosts S} → SnapshotChange → InodeFile → (base v : Volume) → (f : System S G) → (table : ℕ → Option Description) (s : State)
     → HasState f table s → State → Type 0
 TurnsTo change memory base v f table s serves t =
-    (step : SnapshotStep) × IsStepFor change f step × MaySettle change f memory table base v
+    (step : SnapshotStep) × IsStepFor change f step × MayCheckpoint change f memory table base v
     × (t ≡ turned f.root.geometry.inodes step v table serves.first serves.snapshots)
 
 -- it is the same
@@ -113,8 +115,9 @@ pub record KeepsSlotsOn (root : Root) (disk : Blocks) (new : Root) (after : Bloc
 abbrev pub KeepsSlots : {S : Type 0} {G : Ghosts S} → System S G → System S G → Type 0
 KeepsSlots old new = KeepsSlotsOn old.root (blocks_of (disk_of old)) new.root (blocks_of (disk_of new))
 
--- What a consistency point does to a system of this meaning and this log, of which a state is served so, and behind which it serves such a
--- state; over a disk with room it is never refused for space.
+-- What a consistency point does to a system of this meaning and this log, of which a state is
+-- served so, and behind which it serves such a state; over a disk with room it is never refused for
+-- space.
 pub record MakesPointFrom {S : Type 0} {G : Ghosts S} (m : Meaning) (log_before : LogEnd) (Has : (ℕ → Option Description) → State → Type 0)
     (Leads : (table : ℕ → Option Description) (s : State) → Has table s → State → Type 0)
     (IsRoomy : Type 0) (new : System S G) (result : Result (Unit {0}) PointError) : Type 0 where
@@ -129,7 +132,7 @@ pub record MakesPointFrom {S : Type 0} {G : Ghosts S} (m : Meaning) (log_before 
   pub generation : OnOk result (new.root.generation ≡ log_before.epoch)
   pub log : MatchResult result (λ _. new.log ≡ record log_before { epoch = log_before.epoch + 1; end = Unopened })
       (λ e. (IsRefused e × (new.log ≡ log_before)) ⊎ ((e ≡ NotWritten) × (new.log ≡ record log_before { epoch = log_before.epoch + 1; end = Unopened })))
-  pub rests : new.blocks.laid ≡ None
+  pub rests : new.blocks.pending ≡ None
   pub unchanged : OnOk result ((n : ℕ) → IsChanged new.inodes n → ⊥)
   pub roomy : (table : ℕ → Option Description) (s : State) → (serves : Has table s) → (t : State) → Leads table s serves t
       → IsRoomy → IsErrOf result (NotPlanned NoSpace) → ⊥

@@ -5,9 +5,9 @@ use Rattle.layout.specs.Places.{Blocks, blocks_of}
 use Rattle.layout.specs.SnapRoot.{Snapshot}
 use Rattle.layout.specs.declared.root.Root.{Root}
 use Rattle.model.specs.Paths.{Name}
-use Rattle.model.specs.Records.{count_nameless, without_nameless}
+use Rattle.model.specs.Records.{count_orphans, without_orphans}
 use Rattle.model.specs.Volumes.{IsVolume, Volume}
-use Rattle.model.specs.declared.costs.TheConstants.{NAMELESS_COST}
+use Rattle.model.specs.declared.costs.TheConstants.{ORPHAN_COST}
 use Rattle.images.specs.Contents.{HoldsVolume, tree_contents}
 use Rattle.images.specs.Roots.{HeldTree, whole}
 use Rattle.images.specs.Snapshots.{HasSnapshot}
@@ -22,24 +22,24 @@ use Rattle.system.specs.declared.system.System.{System}
 abbrev pub tree_in_slot : Blocks → Root → ℕ → HeldTree
 tree_in_slot disk r k = (whole disk r).frozen k
 
--- Memory stands for what a snapshot's tree holds, without the files that have no name. A consistency point over that tree stores no more
--- for it than these files may cost.
+-- Memory stands for what a snapshot's tree holds, without the files that have no name. A
+-- consistency point over that tree stores no more for it than these files may cost.
 pub record RestoresVolume (disk : Blocks) (r : Root) (k : ℕ) (v : Volume) (inodes : InodeFile) : Type 0 where
-  pub stands : IsVolumeOf r.geometry.blocks disk (inodes_of (tree_in_slot disk r k)) inodes (without_nameless v)
-  pub few : memory_room v inodes (without_nameless v) ≤ NAMELESS_COST * count_nameless r.geometry.inodes v
+  pub stands : IsVolumeOf r.geometry.blocks disk (inodes_of (tree_in_slot disk r k)) inodes (without_orphans v)
+  pub few : memory_room v inodes (without_orphans v) ≤ ORPHAN_COST * count_orphans r.geometry.inodes v
 
 -- so it does, whatever volume the tree holds
 abbrev pub RestoresSlot : Blocks → Root → ℕ → InodeFile → Type 0
 RestoresSlot disk r k inodes =
     (v : Volume) → HoldsVolume r.geometry.inodes (tree_contents (tree_in_slot disk r k)) v → IsVolume r.geometry.inodes v → RestoresVolume disk r k v inodes
 
--- so many files without names are in it
+-- so many orphans are in it
 abbrev pub CountsKept : Blocks → Root → ℕ → ℕ → Type 0
-CountsKept disk r k nameless =
-    (v : Volume) → HoldsVolume r.geometry.inodes (tree_contents (tree_in_slot disk r k)) v → IsVolume r.geometry.inodes v → nameless ≡ count_nameless r.geometry.inodes v
+CountsKept disk r k orphans =
+    (v : Volume) → HoldsVolume r.geometry.inodes (tree_contents (tree_in_slot disk r k)) v → IsVolume r.geometry.inodes v → orphans ≡ count_orphans r.geometry.inodes v
 
--- a disk keeps so many files without names under the snapshot of this name that a root has
-pub record KeepsNamelessOn (disk : Blocks) (r : Root) (name : Name) (nameless : ℕ) : Type 0 where
+-- a disk keeps so many orphans under the snapshot of this name that a root has
+pub record KeepsOrphansOn (disk : Blocks) (r : Root) (name : Name) (orphans : ℕ) : Type 0 where
   pub slot : ℕ
   pub head : Snapshot
   pub has : HasSnapshot r (whole disk r) slot head
@@ -47,8 +47,8 @@ pub record KeepsNamelessOn (disk : Blocks) (r : Root) (name : Name) (nameless : 
   pub volume : Volume
   pub holds : HoldsVolume r.geometry.inodes (tree_contents (tree_in_slot disk r slot)) volume
   pub is : IsVolume r.geometry.inodes volume
-  pub counted : nameless ≡ count_nameless r.geometry.inodes volume
+  pub counted : orphans ≡ count_orphans r.geometry.inodes volume
 
 -- so does the image of a system
-abbrev pub KeepsNameless : {S : Type 0} {G : Ghosts S} → System S G → Name → ℕ → Type 0
-KeepsNameless f name nameless = KeepsNamelessOn (blocks_of (disk_of f)) f.root name nameless
+abbrev pub KeepsOrphans : {S : Type 0} {G : Ghosts S} → System S G → Name → ℕ → Type 0
+KeepsOrphans f name orphans = KeepsOrphansOn (blocks_of (disk_of f)) f.root name orphans

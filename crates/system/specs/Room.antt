@@ -2,18 +2,19 @@
 use Rattle.std.specs.Prelude.{ℕ, ◌+◌, ◌*◌, ◌≤◌}
 use Rattle.station.specs.declared.station.Station.{Ghosts}
 use Rattle.model.specs.Records.{Change, work_of}
-use Rattle.model.specs.Room.{Need, Work, nothing, logs, a_snapshot, a_restore, cost, keep, fixed_of}
+use Rattle.model.specs.Room.{Need, Work, nothing, logs, a_snapshot, a_restore, cost, headroom, fixed_of}
 use Rattle.model.specs.Volumes.{Volume}
-use Rattle.model.specs.declared.costs.TheConstants.{NAMELESS_COST}
+use Rattle.model.specs.declared.costs.TheConstants.{ORPHAN_COST}
 use Rattle.replay.specs.Costs.{IsSizeBefore}
 use Rattle.system.specs.declared.system.System.{System}
 
--- the disk has room for this work, beside all that a consistency point may store already and what stays free behind it
+-- the disk has room for this work, beside all that a consistency point may store already and what
+-- stays free behind it
 abbrev pub HasRoomForWork : {S : Type 0} {G : Ghosts S} → System S G → Work → Type 0
-HasRoomForWork f work = f.pledged + cost work + fixed_of f.root.geometry.blocks + keep work ≤ f.free
+HasRoomForWork f work = f.pledged + cost work + fixed_of f.root.geometry.blocks + headroom work ≤ f.free
 
--- the disk has room for a record over a file of this size, beside all that a consistency point may store already, whatever stays free
--- behind it
+-- the disk has room for a record over a file of this size, beside all that a consistency point may
+-- store already, whatever stays free behind it
 abbrev pub HasRoomToLog : {S : Type 0} {G : Ghosts S} → System S G → Change → ℕ → Type 0
 HasRoomToLog f change size =
     (v : Volume) → IsSizeBefore v change size → f.pledged + cost (work_of v change) + fixed_of f.root.geometry.blocks ≤ f.free
@@ -22,14 +23,14 @@ HasRoomToLog f change size =
 abbrev pub HasRoomToTake : {S : Type 0} {G : Ghosts S} → System S G → Type 0
 HasRoomToTake f = f.pledged + 2 * fixed_of f.root.geometry.blocks + 1 ≤ f.free
 
--- the disk has room to make the tree that of a snapshot which keeps so many files without names: for a consistency point, for the one that
--- does it, and for what these may cost the latter
-abbrev pub HasRoomBesides : {S : Type 0} {G : Ghosts S} → System S G → (nameless : ℕ) → Type 0
-HasRoomBesides f nameless = f.pledged + 2 * fixed_of f.root.geometry.blocks + 1 + NAMELESS_COST * nameless ≤ f.free
+-- the disk has room to make the tree that of a snapshot which keeps so many orphans: for a
+-- consistency point, for the one that does it, and for what these may cost the latter
+abbrev pub HasRoomBesides : {S : Type 0} {G : Ghosts S} → System S G → (orphans : ℕ) → Type 0
+HasRoomBesides f orphans = f.pledged + 2 * fixed_of f.root.geometry.blocks + 1 + ORPHAN_COST * orphans ≤ f.free
 
 -- the disk has room for what a call needs
 abbrev pub HasRoomForNeed : {S : Type 0} {G : Ghosts S} → System S G → Need → Type 0
 HasRoomForNeed f nothing = Unit {0}
 HasRoomForNeed f (logs work) = HasRoomForWork f work
 HasRoomForNeed f a_snapshot = HasRoomToTake f
-HasRoomForNeed f (a_restore nameless) = HasRoomBesides f nameless
+HasRoomForNeed f (a_restore orphans) = HasRoomBesides f orphans

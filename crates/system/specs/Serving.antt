@@ -1,110 +1,40 @@
--- What calls do to a system.
-use Rattle.std.specs.Prelude.{◌≡◌, ◌⊎◌, ◌+◌, ◌/◌, ◌<◌, ◌≢◌, ◌∷◌, ◌++◌, List, [], IsFalse, IsTrue, Result, Ok, IfOk, IfErr, IsErrOf, MatchResult, None}
-use Rattle.station.specs.Images.{Unchanged}
-use Rattle.station.specs.Moments.{Meaning, Goes, LeavesOnly}
+-- What a system serves, and what commands leave of it.
+use Rattle.std.specs.Prelude.{◌≡◌, ◌⊎◌, ◌+◌, ◌/◌, ◌<◌, ◌≢◌, None}
+use Rattle.station.specs.Moments.{Meaning, LeavesOnly}
 use Rattle.station.specs.declared.station.Station.{Ghosts}
 use Rattle.layout.specs.declared.log.TheConstants.{FIRST_GATE}
 use Rattle.model.specs.declared.command.Command.{Command}
-use Rattle.model.specs.declared.command.Command.TheVariants as command
 use Rattle.model.specs.declared.errno.Errno.{Errno}
-use Rattle.model.specs.declared.errno.Errno.TheVariants.{EIO, ENOMEM, FAILED}
+use Rattle.model.specs.declared.errno.Errno.TheVariants.{EIO, FAILED}
 use Rattle.model.specs.declared.reply.Reply.{Reply}
-use Rattle.model.specs.declared.reply.Reply.TheVariants.{Refused}
-use Rattle.model.specs.Circumstances.{IsSure}
-use Rattle.model.specs.Records.{Change, work_of}
-use Rattle.model.specs.Replies.{IsReplyTo}
-use Rattle.model.specs.Room.{Need, Room, Work, nothing, logs}
+use Rattle.model.specs.Room.{Need, Room}
 use Rattle.model.specs.States.{State}
 use Rattle.model.specs.Steps.{WouldStep}
-use Rattle.model.specs.Volumes.{Volume}
 use Rattle.inofile.specs.Inodes.{HasNoChange}
-use Rattle.descriptors.specs.declared.table.Descriptors.{Descriptors}
-use Rattle.files.specs.Closing.{IsLinked}
 use Rattle.oplog.specs.LogEnd.{next_of}
-use Rattle.system.specs.Counting.{Counted, call_failed}
 use Rattle.system.specs.Images.{OpensTo}
-use Rattle.system.specs.Room.{HasRoomForNeed, HasRoomForWork}
-use Rattle.system.specs.Systems.{HasState, IsCovered, meaning_of}
-use Rattle.system.specs.declared.error.CallError.{CallError}
-use Rattle.system.specs.declared.error.CallError.TheVariants.{Damaged, LogFull, NoRoom, NotWritten}
+use Rattle.system.specs.Systems.{HasState, meaning_of}
 use Rattle.system.specs.declared.system.System.{System}
 
 -- a system serves a state, with the descriptors that this has
 abbrev pub ServesState : {S : Type 0} {G : Ghosts S} → System S G → State → Type 0
 ServesState f s = HasState f s.tree.descriptors s
 
--- the command is a call on the tree, on a descriptor or on the tree of a snapshot, or lists the snapshots
-abbrev pub IsCall : Command → Type 0
-IsCall command.Sync = ⊥
-IsCall command.Df = ⊥
-IsCall (command.SnapTake name) = ⊥
-IsCall (command.SnapDelete name) = ⊥
-IsCall (command.SnapRestore name) = ⊥
-IsCall call = Unit {0}
-
--- The command takes no memory and calls no device, whatever the images hold: `lseek`, `fsync`, `df`, and `close` but of a file that has no
--- link.
-abbrev pub IsAtOnce : Descriptors → Command → Type 0
-IsAtOnce files (command.Lseek fd whence offset) = Unit {0}
-IsAtOnce files (command.Fsync fd) = Unit {0}
-IsAtOnce files command.Df = Unit {0}
-IsAtOnce files (command.Close fd) = IsLinked files fd
-IsAtOnce files call = ⊥
-
--- what a call on a state would be answered and would leave, where nothing comes in its way, whatever room there is
-abbrev pub WouldCall : State → Command → Reply → State → Need → Type 0
-WouldCall s call reply after need = (room : Room) → WouldStep room s call reply after need
-
--- the same, where what is needed may be by the room
+-- what a command on a state would be answered and would leave, where nothing comes in its way; what
+-- is needed may be by the room
 abbrev pub WouldDo : State → Command → Reply → State → (Room → Need) → Type 0
 WouldDo s call reply after need = (room : Room) → WouldStep room s call reply after (need room)
-
--- the call would change something
-pub record WouldChange (s : State) (call : Command) : Type 0 where
-  pub reply : Reply
-  pub after : State
-  pub need : Room → Need
-  pub step : WouldDo s call reply after need
-  pub needs : (room : Room) → need room ≢ nothing
-
--- the reply is no refusal
-abbrev pub IsAccepted : Reply → Type 0
-IsAccepted reply = (errno : Errno) → reply ≢ Refused errno
 
 -- the errno tells neither of a device call that failed nor of a system that did
 abbrev pub IsNoFault : Errno → Type 0
 IsNoFault errno = (errno ≢ EIO) × (errno ≢ FAILED)
 
--- nor does the reply
-abbrev pub TellsNoFault : Reply → Type 0
-TellsNoFault reply = (reply ≢ Refused EIO) × (reply ≢ Refused FAILED)
-
--- it doesn't tell of want of memory
-abbrev pub TellsNoWant : Reply → Type 0
-TellsNoWant reply = reply ≢ Refused ENOMEM
-
 -- From one meaning to another a cut at any moment leaves the one state or the other.
 abbrev pub LeavesEither : Meaning → Meaning → State → State → Type 0
 LeavesEither old new s t = LeavesOnly old new (λ c. OpensTo old s c ⊎ OpensTo old t c)
 
--- the records beside a root, by what a command on this volume needed: those before it, and behind them one of its work where it logs
-abbrev pub HasLogged : Need → Volume → List Change → List Change → Type 0
-HasLogged (logs work) v before after = (change : Change) × (work ≡ work_of v change) × (after ≡ before ++ change ∷ [])
-HasLogged need v before after = after ≡ before
-
--- A call was done on a system that serves a state: it is answered so, the disk had room for what it needed, the system serves the state
--- that it leaves, and the log has what the call needed, and nothing else.
-pub record IsCalled {S : Type 0} {G : Ghosts S} (old new : System S G) (s : State) (served : ServesState old s)
-    (call : Command) (reply : Reply) : Type 0 where
-  pub after : State
-  pub need : Need
-  pub step : WouldCall s call reply after need
-  pub room : HasRoomForNeed old need
-  pub serves : ServesState new after
-  pub logs : HasLogged need served.running served.lasts.replayed.changes serves.lasts.replayed.changes
-  pub leaves : LeavesEither (meaning_of old) (meaning_of new) s after
-
--- A call on a system at a state was cut short: a cut leaves that state, or one that the call would leave.
+-- A call on a system at a state was cut short: a cut leaves that state, or one that the call would
+-- leave.
 pub record IsBrokenOff {S : Type 0} {G : Ghosts S} (old new : System S G) (s : State)
     (call : Command) : Type 0 where
   pub reply : Reply
@@ -113,76 +43,25 @@ pub record IsBrokenOff {S : Type 0} {G : Ghosts S} (old new : System S G) (s : S
   pub step : WouldDo s call reply after need
   pub leaves : LeavesEither (meaning_of old) (meaning_of new) s after
 
--- A call on a system at a state would change something, and the disk has no room for its work.
-pub record LacksRoom {S : Type 0} {G : Ghosts S} (f : System S G) (s : State) (call : Command) : Type 0 where
-  pub reply : Reply
-  pub after : State
-  pub work : Work
-  pub step : WouldCall s call reply after (logs work)
-  pub short : HasRoomForWork f work → ⊥
-
 -- the log has no record that the root doesn't cover
 pub record HasEmptyLog {S : Type 0} {G : Ghosts S} (f : System S G) : Type 0 where
   pub epoch : f.log.epoch ≡ f.root.generation + 1
   pub end : next_of f.log.end ≡ FIRST_GATE
 
--- a system has nothing that its newest root doesn't hold: no point under way, no record of its own in the log, and no object in memory
--- that is changed
+-- a system has nothing that its newest root doesn't hold: no point under way, no record of its own
+-- in the log, and no object in memory that is changed
 pub record HasNothingNew {S : Type 0} {G : Ghosts S} (f : System S G) : Type 0 where
-  pub rests : f.blocks.laid ≡ None
+  pub rests : f.blocks.pending ≡ None
   pub log : HasEmptyLog f
   pub settled : HasNoChange f.inodes
 
--- a sure call may be done, and calls no device
-pub record IsSureOn {S : Type 0} {G : Ghosts S} (old new : System S G) (s : State) (call : Command) : Type 0 where
-  pub sure : IsSure s call
-  pub still : new.blocks.buffers.station ≡ old.blocks.buffers.station
-
--- no device was called, and no want of memory is told
-abbrev pub AnswersAtOnce : {S : Type 0} {G : Ghosts S} → System S G → System S G → Reply → Type 0
-AnswersAtOnce old new reply = (new.blocks.buffers.station ≡ old.blocks.buffers.station) × TellsNoWant reply
-
--- a point is to be planned: none is under way, the log is in the first epoch over the root, and less than a sixteenth of its half is left
+-- a point is to be planned: none is under way, the log is in the first epoch over the root, and
+-- less than a sixteenth of its half is left
 pub record IsPlanDue {S : Type 0} {G : Ghosts S} (f : System S G) : Type 0 where
-  pub none : f.blocks.laid ≡ None
+  pub none : f.blocks.pending ≡ None
   pub epoch : f.log.epoch ≡ f.root.generation + 1
   pub late : f.log.half < next_of f.log.end + f.log.half / 16
 
 -- a system serves a state that another one served, by the same records
 abbrev pub ServesAsBefore : {S : Type 0} {G : Ghosts S} → (old new : System S G) (s : State) → ServesState old s → Type 0
 ServesAsBefore old new s served = (serves : ServesState new s) × (serves.lasts.bodies ≡ served.lasts.bodies)
-
--- What doing a call does to a system, whatever it serves, behind the step of a consistency point that came before it. A refused call
--- changes nothing, and a write that fails stops the log.
-pub record Handles {S : Type 0} {G : Ghosts S} (old new : System S G) (call : Command) (result : Result Reply CallError) : Type 0 where
-  pub counted : Counted (meaning_of old) (meaning_of new) (call_failed old.log.is_stopped result)
-  pub no_fault : IfOk result TellsNoFault
-  pub kind : IfOk result (IsReplyTo call)
-  pub laid : new.blocks.laid ≡ old.blocks.laid
-  pub epoch : new.log.epoch ≡ old.log.epoch
-  pub runs : IsFalse old.log.is_stopped → MatchResult result
-      (λ _. IsFalse new.log.is_stopped) (λ e. e ≢ NotWritten → IsFalse new.log.is_stopped)
-  pub stops : IsErrOf result NotWritten → IsTrue new.log.is_stopped
-  pub refused : (errno : Errno) → result ≡ Ok (Refused errno)
-      → Goes Unchanged (meaning_of old) (meaning_of new)
-  pub kept : IfErr result (λ e. e ≢ NotWritten → Goes Unchanged (meaning_of old) (meaning_of new))
-
--- what it does at a state that the system serves
-pub record HandlesAt {S : Type 0} {G : Ghosts S} (old new : System S G) (s : State) (served : ServesState old s) (call : Command)
-    (result : Result Reply CallError) : Type 0 where
-  pub serves : IfErr result (λ e. e ≢ NotWritten → ServesState new s)
-  pub done : IfOk result (IsCalled old new s served call)
-  pub broken : IsErrOf result NotWritten → IsBrokenOff old new s call
-  pub full : IsErrOf result LogFull → WouldChange s call × (HasEmptyLog old → ⊥) × (HasEmptyLog new → ⊥)
-  pub short : IsErrOf result NoRoom
-      → LacksRoom new s call × (IsCovered old s.tree.descriptors s → IsCovered new s.tree.descriptors s)
-  pub damaged : IsErrOf result Damaged → ⊥
-
--- What a call does to a system that logs nothing. A sure one is answered, as is one that takes nothing, whatever the images hold.
-pub record Answers {S : Type 0} {G : Ghosts S} (old new : System S G) (call : Command) (result : Result Reply CallError) : Type 0 where
-  pub handles : Handles old new call result
-  pub at : (s : State) (served : ServesState old s) → HandlesAt old new s served call result
-  pub log : new.log ≡ old.log
-  pub sure : (s : State) → ServesState old s → MatchResult result
-      (λ _. IsSureOn old new s call ⊎ ¬ IsSure s call) (λ _. ¬ IsSure s call)
-  pub at_once : IsAtOnce old.files call → MatchResult result (AnswersAtOnce old new) (λ _. ⊥)

@@ -1,5 +1,5 @@
 -- What a mounted system stands for.
-use Rattle.std.specs.Prelude.{ℕ, ◌≡◌, ◌⊎◌, ◌≤◌, ◌++◌, List, Option, Some, None, IsFalse}
+use Rattle.std.specs.Prelude.{ℕ, ◌≡◌, ◌⊎◌, ◌≤◌, ◌/◌, ◌++◌, List, Option, Some, None, IsFalse}
 use Rattle.station.specs.Moments.{EachCut, Meaning}
 use Rattle.station.specs.declared.station.Station.{Ghosts}
 use Rattle.layout.specs.Places.{blocks_of}
@@ -9,7 +9,8 @@ use Rattle.model.specs.Records.{Change}
 use Rattle.model.specs.States.{State, going}
 use Rattle.model.specs.Trees.{Tree, Description}
 use Rattle.model.specs.Volumes.{Volume, IsMounted, tree_of}
-use Rattle.buffers.specs.declared.kept.Kept.{Kept}
+use Rattle.buffers.specs.declared.blocks.Blocks as blocks
+use Rattle.buffers.specs.declared.block_cache.BlockCache.{BlockCache}
 use Rattle.blockmap.specs.declared.map.BlockMap.{BlockMap}
 use Rattle.inofile.specs.Room.{memory_room}
 use Rattle.inofile.specs.declared.inode_file.InodeFile.{InodeFile}
@@ -20,13 +21,14 @@ use Rattle.oplog.specs.LogEnd.{LogEnd, all_bodies, no_bodies}
 use Rattle.images.specs.Roots.{whole}
 use Rattle.conspoint.specs.Finished.{disk_after}
 use Rattle.conspoint.specs.Plans.{IsPlanned}
-use Rattle.overlay.specs.Overlays.{ShowsOver, planned_disk}
-use Rattle.overlay.specs.declared.laid.Laid.{Laid}
+use Rattle.overlay.specs.Overlays.{IsHere, ReadsOver, ShowsOver, planned_disk}
+use Rattle.overlay.specs.declared.overlay.Overlay.{Overlay}
+use Rattle.overlay.specs.declared.pending.PendingPoint.{PendingPoint}
 use Rattle.system.specs.Images.{Base, IsLeft, IsUnder, Lasts}
 use Rattle.system.specs.Memory.{HasEntries, HasEntriesToCome, IsInMemory}
 use Rattle.system.specs.UnderWay.{IsUnderWay}
 use Rattle.system.specs.Views.{ShowsSnapshot}
-use Rattle.system.specs.declared.snapshot_reading.View.{View}
+use Rattle.system.specs.declared.snapshot_view.View.{View}
 use Rattle.system.specs.declared.system.System.{System}
 
 -- the meaning of a system's station
@@ -38,13 +40,23 @@ abbrev pub state_with : ℕ → Volume → (ℕ → Option Description) → List
 state_with inodes running table snapshots =
     record { inodes = inodes; tree = tree_of running table; snapshots = snapshots; mark = going }
 
--- What a system has beside its station: blocks that it keeps clean in memory, the consistency point that is under way, the root that
--- memory stands on with the slot of that, objects and the block map in memory, the view of a snapshot, the log's end, what is pledged and
--- what of it stays so
+-- the blocks of a station, as the layers below have them
+abbrev pub blocks_with : {S : Type 0} (G : Ghosts S) → blocks.Ghosts (Overlay S G)
+blocks_with G = record {
+  Shows = λ b disk. ShowsOver (G.meaning b.buffers.station) b.buffers.kept b.pending disk;
+  ReadsOn = λ a b. ReadsOver (G.meaning a.buffers.station) (G.meaning b.buffers.station) a.pending b.pending;
+  IsResident = λ b place. IsHere b.buffers.kept b.pending place;
+  failed = λ b. (G.meaning b.buffers.station).failed_reads;
+  count = λ b. (G.meaning b.buffers.station).sectors / 8;
+}
+
+-- What a system has beside its station: blocks that it keeps clean in memory, the consistency point
+-- that is under way, the root that memory stands on with the slot of that, objects and the block
+-- map in memory, the view of a snapshot, the log's end, what is pledged and what of it stays so
 -- behind the point, and the open files.
 pub record Parts : Type 0 where
-  pub kept : Kept
-  pub laid : Option Laid
+  pub kept : BlockCache
+  pub pending : Option PendingPoint
   pub root : Root
   pub slot : ℕ
   pub inodes : InodeFile
@@ -59,7 +71,7 @@ pub record Parts : Type 0 where
 abbrev pub system_parts : {S : Type 0} {G : Ghosts S} → System S G → Parts
 system_parts f = record {
   kept = f.blocks.buffers.kept;
-  laid = f.blocks.laid;
+  pending = f.blocks.pending;
   root = f.root;
   slot = f.slot;
   inodes = f.inodes;
@@ -73,37 +85,41 @@ system_parts f = record {
 
 -- the disk that memory stands on, where a station reads this one
 abbrev pub disk_over : Parts → (ℕ → List ℕ) → ℕ → List ℕ
-disk_over k seen = planned_disk k.laid seen
+disk_over k seen = planned_disk k.pending seen
 
 -- that of a system
 abbrev pub disk_of : {S : Type 0} {G : Ghosts S} → System S G → ℕ → List ℕ
 disk_of f = disk_over (system_parts f) (meaning_of f).seen.disk
 
--- No consistency point is under way: what is settled is what memory stands on, and all that is pledged stays so.
-pub record Rests (laid : Option Laid) (over settled : Base) (pledged pledged_then : ℕ) : Type 0 where
-  pub none : laid ≡ None
+-- No consistency point is under way: what is settled is what memory stands on, and all that is
+-- pledged stays so.
+pub record Rests (pending : Option PendingPoint) (over settled : Base) (pledged pledged_then : ℕ) : Type 0 where
+  pub none : pending ≡ None
   pub base : settled ≡ over
   pub all : pledged_then ≡ pledged
 
--- The consistency point under way has this root, in this slot, and leads to this volume, and to these entries of the map.
-pub record IsComing (m : Meaning) (log : LogEnd) (laid : Option Laid) (root : Root) (slot : ℕ)
+-- The consistency point under way has this root, in this slot, and leads to this volume, and to
+-- these entries of the map.
+pub record IsComing (m : Meaning) (log : LogEnd) (pending : Option PendingPoint) (root : Root) (slot : ℕ)
     (first : Volume) (map : BlockMap) {settled : Base} {snapshots : List (Name × Tree)} {pledged : ℕ}
     {running : Volume} (lasts : Lasts settled snapshots pledged running) (pledged_then : ℕ) : Type 0 where
-  pub point : Laid
-  pub is : laid ≡ Some point
+  pub point : PendingPoint
+  pub is : pending ≡ Some point
   pub way : IsUnderWay m log lasts
       (record { plan = point.plan; root = root; volume = first; pledged = pledged_then })
   pub sound : IsPlanned point.plan
   pub place : slot ≡ point.plan.slot
   pub to_come : HasEntriesToCome (whole (blocks_of (disk_after point.plan m.seen.disk)) root).active map
 
--- What a system has serves a state, over an honest station. Memory stands for the running volume, which is the state's tree, over a
--- disk that holds a volume under the newest root, and needs no more than is pledged; and whatever a cut may leave has the disk that is
--- settled, and the records from there on: the same disk, or the one that a point under way leads on from. What the map has settled is
--- that disk's. The view of a snapshot is of its tree. The open files are the state's, each with its size and its links.
+-- What a system has serves a state, over an honest station. Memory stands for the running volume,
+-- which is the state's tree, over a disk that holds a volume under the newest root, and needs no
+-- more than is pledged; and whatever a cut may leave has the disk that is settled, and the records
+-- from there on: the same disk, or the one that a point under way leads on from. What the map has
+-- settled is that disk's. The view of a snapshot is of its tree. The open files are the state's,
+-- each with its size and its links.
 pub record IsServing (m : Meaning) (k : Parts) (table : ℕ → Option Description) (s : State) : Type 0 where
   pub honest : m.is_honest
-  pub shows : ShowsOver m k.kept k.laid (blocks_of (disk_over k m.seen.disk))
+  pub shows : ShowsOver m k.kept k.pending (blocks_of (disk_over k m.seen.disk))
   pub first : Volume
   pub snapshots : List (Name × Tree)
   pub under : IsUnder k.slot k.root first snapshots (disk_over k m.seen.disk)
@@ -116,9 +132,9 @@ pub record IsServing (m : Meaning) (k : Parts) (table : ℕ → Option Descripti
   pub left : EachCut m (IsLeft settled.root k.log lasts.bodies settled.disk)
   pub entries : HasEntries (whole (blocks_of settled.disk) settled.root).active k.map
   pub bridge :
-      Rests k.laid (record { disk = m.seen.disk; root = k.root; volume = first }) settled k.pledged
+      Rests k.pending (record { disk = m.seen.disk; root = k.root; volume = first }) settled k.pledged
       k.pledged_then
-      ⊎ IsComing m k.log k.laid k.root k.slot first k.map lasts k.pledged_then
+      ⊎ IsComing m k.log k.pending k.root k.slot first k.map lasts k.pledged_then
   pub goes : IsFalse k.log.is_stopped
   pub stored : memory_room first k.inodes running ≤ k.pledged_then
   pub opened : table ≡ table_of k.files
@@ -150,7 +166,8 @@ ServesWith f table s running changes =
 abbrev pub AreLeft : List (List ℕ) → List (List ℕ) → Type 0
 AreLeft before left = (covered : List (List ℕ)) × (before ≡ covered ++ left)
 
--- what a system has serves a state, and of the records with these bodies it has those that its root doesn't cover
+-- what a system has serves a state, and of the records with these bodies it has those that its root
+-- doesn't cover
 pub record IsServingRest (m : Meaning) (k : Parts) (table : ℕ → Option Description) (s : State)
     (before : List (List ℕ)) : Type 0 where
   pub serves : IsServing m k table s
@@ -160,10 +177,11 @@ abbrev pub ServesRest : {S : Type 0} {G : Ghosts S} → System S G → (ℕ → 
     → List (List ℕ) → Type 0
 ServesRest f table s before = IsServingRest (meaning_of f) (system_parts f) table s before
 
--- a system is covered: no point is under way, its root holds the running volume, and no record stands that this root doesn't cover
+-- a system is covered: no point is under way, its root holds the running volume, and no record
+-- stands that this root doesn't cover
 pub record IsCovered {S : Type 0} {G : Ghosts S} (f : System S G) (table : ℕ → Option Description)
     (s : State) : Type 0 where
-  pub rests : f.blocks.laid ≡ None
+  pub rests : f.blocks.pending ≡ None
   pub serves : HasState f table s
   pub no_record : serves.lasts.bodies ≡ no_bodies
   pub held : serves.first ≡ serves.running

@@ -38,9 +38,10 @@ newest_of bodies = record bodies { older = [] }
 abbrev pub all_older : Bodies → Bodies
 all_older bodies = record { older = all_bodies bodies; newest = [] }
 
--- A point is planned over the disk that is settled, and only sectors of its blocks differ from that; the records since go to the second
--- epoch behind the settled root. They lead on from the volume of the root to come, and what they may cost the next point was pledged,
--- with what this point takes: so that root leaves as many blocks free.
+-- A point is planned over the disk that is settled, and only sectors of its blocks differ from
+-- that; the records since go to the second epoch behind the settled root. They lead on from the
+-- volume of the root to come, and what they may cost the next point was pledged, with what this
+-- point takes: so that root leaves as many blocks free.
 pub record IsUnderWay (m : Meaning) (log : LogEnd) {settled : Base} {snapshots : List (Name × Tree)} {pledged : ℕ}
     {running : Volume} (lasts : Lasts settled snapshots pledged running) (w : Way) : Type 0 where
   pub slot : ℕ
@@ -51,7 +52,8 @@ pub record IsUnderWay (m : Meaning) (log : LogEnd) {settled : Base} {snapshots :
   pub pledges : w.pledged ≡ pledged_for settled.root.geometry.inodes w.volume since.changes
   pub saves : planned.room.spent + w.pledged ≤ pledged
 
--- laws of the layers below that the proofs on points under way stand on, beside those on the images that a cut leaves
+-- laws of the layers below that the proofs on points under way stand on, beside those on the images
+-- that a cut leaves
 pub record WayLaws : Type 0 where
   pub older : (log : LogEnd) (g : ℕ) (bodies : Bodies) (nvram : List ℕ)
       → g < 2 ^ 62 → log.epoch ≡ g + 2 → StandsAt log g bodies nvram

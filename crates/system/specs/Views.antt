@@ -4,7 +4,7 @@ use Rattle.layout.specs.Places.{Blocks}
 use Rattle.layout.specs.declared.inode.Inode.{Inode}
 use Rattle.layout.specs.declared.root.Root.{Root}
 use Rattle.model.specs.Paths.{Name}
-use Rattle.model.specs.Records.{without_nameless}
+use Rattle.model.specs.Records.{without_orphans}
 use Rattle.model.specs.Trees.{Tree}
 use Rattle.model.specs.Volumes.{IsVolume, Volume, tree_of}
 use Rattle.buffers.specs.declared.blocks.Blocks.{Ghosts}
@@ -13,13 +13,14 @@ use Rattle.inofile.specs.declared.inode_file.InodeFile.{InodeFile}
 use Rattle.images.specs.Roots.{whole}
 use Rattle.images.specs.States.{Holds}
 use Rattle.snapshots.specs.Found.{named}
-use Rattle.system.specs.declared.snapshot_reading.View.{View}
+use Rattle.system.specs.declared.snapshot_view.View.{View}
 
--- Inodes in memory stand for the volume of the tree that the snapshot of this name has, over a disk of so many blocks.
+-- Inodes in memory stand for the volume of the tree that the snapshot of this name has, over a disk
+-- of so many blocks.
 pub record StandsForSnapshot (disk : Blocks) (blocks : ℕ) (snapshots : List (Name × Tree)) (name : Name) (inodes : InodeFile) : Type 0 where
   pub volume : Volume
   pub is : IsVolume inodes.geometry.inodes volume
-  pub listed : named name snapshots ≡ Some (name, tree_of (without_nameless volume) (λ d. None))
+  pub listed : named name snapshots ≡ Some (name, tree_of (without_orphans volume) (λ d. None))
   pub settled : ℕ → Inode
   pub stands : IsVolumeOf blocks disk settled inodes volume
 

@@ -13,8 +13,9 @@ use inofile::unchanged_memory_is_settled;
 use station::Station;
 
 impl<S: Station> System<S> {
-    /// Whether the newest root holds all that the system has, so that a consistency point would do nothing: no object in memory
-    /// is changed, and no record stands in the log that the root doesn't cover. It says so after each point.
+    /// Whether the newest root holds all that the system has, so that a consistency point would do
+    /// nothing: no object in memory is changed, and no record stands in the log that the root
+    /// doesn't cover. It says so after each point.
     pub fn is_covered(&self) -> bool
         ensures told { IsTrue result ↔ HasNothingNew self.now }
         ensures covers { (table : ℕ → Option Description) (s : State) → HasState self.now table s

@@ -1,6 +1,11 @@
 //! Why a system refused.
 
+ghost use Rattle.std.specs.Prelude.{◌≡◌};
+ghost use Rattle.system.specs.Errors.{call_error, log_error};
+
+use buffers::BlockError;
 use conspoint::PlanError;
+use oplog::AppendError;
 use thiserror::Error;
 
 /// Why a consistency point wasn't made.
@@ -37,4 +42,26 @@ pub enum CallError {
     /// A write failed: of the log is known only what a cut may leave.
     #[error("a write failed")]
     NotWritten,
+}
+
+/// A failed read, to who gave the call.
+pub fn call_error(error: BlockError) -> CallError
+    ensures { result ≡ call_error error }
+{
+    match error {
+        BlockError::NoMemory => CallError::NoMemory,
+        BlockError::Device => CallError::NotRead,
+        BlockError::Damaged => CallError::Damaged,
+    }
+}
+
+/// A failed append, to who gave the call.
+pub(crate) fn log_error(error: AppendError) -> CallError
+    ensures { result ≡ log_error error }
+{
+    match error {
+        AppendError::NoMemory => CallError::NoMemory,
+        AppendError::Device => CallError::NotWritten,
+        AppendError::LogFull => CallError::LogFull,
+    }
 }

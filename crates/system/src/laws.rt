@@ -33,7 +33,7 @@ pub fn served_states_open<S: Station>(system: &System<S>)
 }
 
 /// What a cut leaves opens. It does nothing.
-pub(crate) fn cuts_open()
+pub fn cuts_open()
     ensures { CutLaws }
 {
     mounts_forget_open_files();
@@ -65,7 +65,7 @@ pub(crate) fn points_go_on()
 }
 
 /// A record that applies leads from volume to volume, and a replay follows. It does nothing.
-pub(crate) fn records_lead_on()
+pub fn records_lead_on()
     ensures { RecordLaws }
 {
     replays_follow();

@@ -1,13 +1,14 @@
 //! Blocks in memory that a system needs no longer.
 
 ghost use Rattle.std.specs.Prelude.{◌≡◌, Ok};
-ghost use Rattle.system.specs.Settling.{Glances};
+ghost use Rattle.system.specs.CheckpointCommands.{Glances};
 
 use crate::System;
 use station::Station;
 
 impl<S: Station> System<S> {
-    /// Lets go of the blocks that a command made resident: the next one that wants them finds them in the cache, or reads them again.
+    /// Lets go of the blocks that a command made resident: the next one that wants them finds them
+    /// in the cache, or reads them again.
     pub fn let_go(&mut self)
         ensures glances { Glances {T = Unit {0}} self.old self.new (Ok tt) }
         ensures station { self.new.blocks.buffers.station ≡ self.old.blocks.buffers.station }

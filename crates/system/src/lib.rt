@@ -1,36 +1,28 @@
-//! A mounted system: what it has in memory and on its station, over any root, and its consistency points.
+//! A mounted system: what it has in memory and on its station, over any root, and its consistency
+//! points.
 #![tactic(auto)]
 
-mod changing;
+mod begin_point;
 mod covered;
 mod error;
 mod laws;
-mod laying;
 mod letting_go;
 mod logging;
-mod open_error;
-mod open_file_change;
-mod open_file_reading;
-mod open_files;
+mod mount_error;
 mod opening;
-mod path_change;
 mod point;
-mod prepared_call;
-mod preparing;
-mod reading;
 mod restoring;
 mod room;
-mod serving;
-mod settling;
 mod slicing;
-mod snapshot_reading;
+mod snapshot_taking;
+mod snapshot_view;
 mod space;
 mod system;
-mod table_move;
 
-pub use error::{CallError, PointError};
-pub use laws::served_states_open;
-pub use open_error::OpenError;
+pub use error::{CallError, PointError, call_error};
+pub use laws::{cuts_open, records_lead_on, served_states_open};
+pub use mount_error::MountError;
+pub use snapshot_view::{View, keep_view};
 pub use snapshots::{PreparedSnapshot, SnapshotRequest};
 pub use space::Space;
 pub use system::System;

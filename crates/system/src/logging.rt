@@ -16,8 +16,8 @@ ghost use Rattle.replay.specs.Costs.{IsSizeBefore, KnowsFile};
 ghost use Rattle.system.specs.Room.{HasRoomToLog};
 ghost use Rattle.system.specs.Systems.{HasState, meaning_of, system_parts};
 
+use crate::error::log_error;
 use crate::laws::{cuts_open, records_lead_on, served_states_open};
-use crate::serving::log_error;
 use crate::{CallError, System};
 use layout::Record;
 use oplog::AppendError;
@@ -26,9 +26,11 @@ use replay::{cost_of, size_before};
 use station::Station;
 
 impl<S: Station> System<S> {
-    /// Puts a record into the log; what it does to memory is to follow. A cut at any moment leaves the state before it or the one after
-    /// it. What it costs is by the size of the file that it writes to or cuts. `LogFull`, where it doesn't fit what is left of the log's
-    /// half, and `NoMemory` change nothing; after `Device` the log has stopped, and whether the record counts is known at the next mount.
+    /// Puts a record into the log; what it does to memory is to follow. A cut at any moment leaves
+    /// the state before it or the one after it. What it costs is by the size of the file that it
+    /// writes to or cuts. `LogFull`, where it doesn't fit what is left of the log's half, and
+    /// `NoMemory` change nothing; after `Device` the log has stopped, and whether the record counts
+    /// is known at the next mount.
     pub(crate) fn log_record(&mut self, change: &Record, size: u64) -> Result<(), AppendError>
         requires fits { KeepsLimits (change_of change.now) }
         requires room { HasRoomToLog self.old (change_of change.now) size }
@@ -75,10 +77,11 @@ impl<S: Station> System<S> {
         }
     }
 
-    /// Logs the record of a prepared change, and puts the change in force. `LogFull` where the log is in its second epoch over the
-    /// root, and a point has to come first, or where the record doesn't fit what is left of the half, and before that `NoRoom` where
-    /// the disk has no room for it; these and `NoMemory` change nothing. After `NotWritten` the log has stopped.
-    pub(crate) fn log(&mut self, change: &Record, prepared: Prepared) -> Result<(), CallError>
+    /// Logs the record of a prepared change, and puts the change in force. `LogFull` where the log
+    /// is in its second epoch over the root, and a point has to come first, or where the record
+    /// doesn't fit what is left of the half, and before that `NoRoom` where the disk has no room
+    /// for it; these and `NoMemory` change nothing. After `NotWritten` the log has stopped.
+    pub fn log(&mut self, change: &Record, prepared: Prepared) -> Result<(), CallError>
         requires fits { KeepsLimits (change_of change.now) }
         requires ready { IsReady self.old.inodes prepared }
         ensures writes { OnlyWrites
@@ -92,7 +95,7 @@ impl<S: Station> System<S> {
             (λ e. (e ≢ CallError.NotRead) × (e ≢ CallError.Damaged)) }
         ensures stays { (self.new.root ≡ self.old.root)
             × (table_of self.new.files ≡ table_of self.old.files)
-            × (self.new.blocks.laid ≡ self.old.blocks.laid)
+            × (self.new.blocks.pending ≡ self.old.blocks.pending)
             × (self.new.log.epoch ≡ self.old.log.epoch)
             × OnOk result (self.new.log.is_stopped ≡ self.old.log.is_stopped) }
         ensures stops { IsErrOf result CallError.NotWritten → IsTrue self.new.log.is_stopped }

@@ -10,7 +10,7 @@ ghost use Rattle.layout.specs.Record.{Change};
 ghost use Rattle.layout.specs.declared.TheConstants.{SLOT_A, SLOT_B};
 ghost use Rattle.layout.specs.declared.root.Root.{Root};
 ghost use Rattle.model.specs.Paths.{Name};
-ghost use Rattle.model.specs.Records.{without_nameless};
+ghost use Rattle.model.specs.Records.{without_orphans};
 ghost use Rattle.model.specs.States.{Forgets, State};
 ghost use Rattle.model.specs.Trees.{Tree};
 ghost use Rattle.model.specs.Volumes.{Volume};
@@ -25,7 +25,7 @@ ghost use Rattle.system.specs.Opening.{MemoryFitsRoot, HasFailed, HasImage, HasN
 ghost use Rattle.system.specs.Refusals.{IsDevice, SaysNothing};
 ghost use Rattle.system.specs.Systems.{HasState, meaning_of, state_with, system_parts};
 
-use crate::{OpenError, System};
+use crate::{MountError, System};
 use blockmap::BlockMap;
 use buffers::{Blocks, Buffers};
 use descriptors::Descriptors;
@@ -47,29 +47,29 @@ struct FoundImages {
 }
 
 /// What memory has of an image.
-struct Mounted {
+struct LoadedImage {
     inodes: InodeFile,
     map: BlockMap,
     log: Log,
     pledged: u64,
 }
 
-/// Settles what reads give, since a cut may have left writes that a later one could take back; then finds the newest root, and
-/// reads the log over it.
-fn find<S: Station>(alloc: Global, station: &mut S) -> Result<FoundImages, OpenError>
+/// Makes durable what reads give, since a cut may have left writes that a later one could take
+/// back; then finds the newest root, and reads the log over it.
+fn find<S: Station>(alloc: Global, station: &mut S) -> Result<FoundImages, MountError>
     ensures same { IsSameStation (S.meaning station.old) (S.meaning station.new) }
     ensures goes { Goes Unchanged (S.meaning station.old) (S.meaning station.new) }
-    ensures device { IsErrOf result OpenError.Device
+    ensures device { IsErrOf result MountError.Device
         → HasFailed (S.meaning station.old) (S.meaning station.new) }
     ensures found { IfOk result (λ f. IsFound f (S.meaning station.new)) }
     ensures settled { OnOk result (
         LeavesJust (S.meaning station.new) (S.meaning station.old).seen
         × ((S.meaning station.new).failed_reads ≡ (S.meaning station.old).failed_reads)) }
-    ensures no_root { (S.meaning station.old).is_honest → IsErrOf result OpenError.NoRoot
+    ensures no_root { (S.meaning station.old).is_honest → IsErrOf result MountError.NoRoot
         → HasNoRoot (S.meaning station.old).sectors (S.meaning station.old).seen.disk }
     ensures rootless { (S.meaning station.old).is_honest
         → HasNoRoot (S.meaning station.old).sectors (S.meaning station.old).seen.disk
-        → MatchResult result (λ _. ⊥) (λ e. (e ≡ OpenError.NoRoot) ⊎ (e ≡ OpenError.Device)) }
+        → MatchResult result (λ _. ⊥) (λ e. (e ≡ MountError.NoRoot) ⊎ (e ≡ MountError.Device)) }
     ensures of_station { (S.meaning station.old).is_honest
         → IfOk result (IsOf (S.meaning station.old).seen) }
     ensures only { (S.meaning station.old).is_honest → (r : Root) (bodies : List (List ℕ))
@@ -92,12 +92,12 @@ fn read_image<B: Blocks>(
     blocks: &mut B,
     root: &Root,
     saved: SavedLog,
-) -> Result<Mounted, OpenError>
+) -> Result<LoadedImage, MountError>
     requires over { IsSavedOver root.now saved }
     requires size { B.count blocks.old ≡ root.now.geometry.blocks }
     ensures reads { ReadsBlocks B.Blocks IsDevice blocks.old blocks.new result }
     ensures fits { IfOk result (MemoryFitsRoot root.now) }
-    ensures rooted { IsErrOf result OpenError.NoRoot → ⊥ }
+    ensures rooted { IsErrOf result MountError.NoRoot → ⊥ }
     ensures found { (disk : Blocks) (nvram : List ℕ) → B.Shows blocks.old disk
         → TellsLog nvram saved
         → IfOk result (λ p. HasRead disk nvram root.now p.log p.inodes) }
@@ -115,7 +115,7 @@ fn read_image<B: Blocks>(
     check_snapshots(blocks, root)?;
     let Loaded { map, mut inodes } = load(alloc, blocks, root)?;
     let Replayed { log, pledged } = replay(alloc, &mut inodes, blocks, saved)?;
-    Ok(Mounted {
+    Ok(LoadedImage {
         inodes,
         map,
         log,
@@ -128,13 +128,13 @@ fn open_found<S: Station>(
     alloc: Global,
     station: S,
     found: FoundImages,
-) -> Result<System<S>, (OpenError, S)>
+) -> Result<System<S>, (MountError, S)>
     requires { IsFound found (S.meaning station) }
     ensures reads { MatchResult result (λ f. ReadsOn (S.meaning station) (meaning_of f))
         (λ e. ReadsOn (S.meaning station) (S.meaning e.1)) }
-    ensures device { IfErr result (λ e. e.0 ≡ OpenError.Device
+    ensures device { IfErr result (λ e. e.0 ≡ MountError.Device
         → HasGrown (S.meaning station).failed_reads (S.meaning e.1).failed_reads) }
-    ensures rooted { IfErr result (λ e. e.0 ≡ OpenError.NoRoot → ⊥) }
+    ensures rooted { IfErr result (λ e. e.0 ≡ MountError.NoRoot → ⊥) }
     ensures runs { IfOk result (λ f. IsFalse f.log.is_stopped) }
     ensures found { (S.meaning station).is_honest → IsOf (S.meaning station).seen found
         → IfOk result (λ f. HasNewest (S.meaning station) (system_parts f)) }
@@ -145,7 +145,7 @@ fn open_found<S: Station>(
         → HoldsRecords (blocks_of (S.meaning station).seen.disk) found.newest.root
         (S.meaning station).seen.nvram first last snapshots changes
         → MatchResult result (λ f. HasState f (λ d. None)
-        (state_with found.newest.root.geometry.inodes (without_nameless last) (λ d. None)
+        (state_with found.newest.root.geometry.inodes (without_orphans last) (λ d. None)
         snapshots))
         (λ e. SaysNothing e.0) }
     ensures faultless { (S.meaning station).is_honest → IsOf (S.meaning station).seen found
@@ -161,7 +161,7 @@ fn open_found<S: Station>(
     let mut blocks = Overlay::new(buffers);
     match read_image(alloc, &mut blocks, &newest.root, saved) {
         Ok(
-            Mounted {
+            LoadedImage {
                 inodes,
                 map,
                 log,
@@ -189,33 +189,34 @@ fn open_found<S: Station>(
 }
 
 impl<S: Station> System<S> {
-    /// Mounts an image: reads its newest root, what memory is to have of the tree under it, and replays the
-    /// log over that. Reads give what they gave before, and a cut leaves what it might have left before.
-    /// `NoRoot` comes where neither slot holds a root, `Device` only where a device call failed. Where what
-    /// the station reads opens to a state, Ok gives a system that serves what a mount finds of it, and
-    /// `Damaged` doesn't come. No directory and no file is read, so Ok may come over an image that opens to
-    /// none; but it has taken the newest root, the station has its sizes, the NVRAM holds a log over it, and
-    /// each of its slots that isn't free has a snapshot; and where no fault stands in its tree, every record
-    /// of the log was applied. Neither `NoRoot` nor `Damaged` comes over images without a fault, whatever
-    /// blocks of files can be read.
-    pub fn open(alloc: Global, mut station: S) -> Result<System<S>, (OpenError, S)>
+    /// Mounts an image: reads its newest root, what memory is to have of the tree under it, and
+    /// replays the log over that. Reads give what they gave before, and a cut leaves what it might
+    /// have left before. `NoRoot` comes where neither slot holds a root, `Device` only where a
+    /// device call failed. Where what the station reads opens to a state, Ok gives a system that
+    /// serves what a mount finds of it, and `Damaged` doesn't come. No directory and no file is
+    /// read, so Ok may come over an image that opens to none; but it has taken the newest root, the
+    /// station has its sizes, the NVRAM holds a log over it, and each of its slots that isn't free
+    /// has a snapshot; and where no fault stands in its tree, every record of the log was applied.
+    /// Neither `NoRoot` nor `Damaged` comes over images without a fault, whatever blocks of files
+    /// can be read.
+    pub fn open(alloc: Global, mut station: S) -> Result<System<S>, (MountError, S)>
         ensures same { MatchResult result
             (λ f. IsSameStation (S.meaning station) (meaning_of f))
             (λ e. IsSameStation (S.meaning station) (S.meaning e.1)) }
         ensures goes { MatchResult result (λ f. Goes Unchanged (S.meaning station) (meaning_of f))
             (λ e. Goes Unchanged (S.meaning station) (S.meaning e.1)) }
-        ensures device { IfErr result (λ e. e.0 ≡ OpenError.Device
+        ensures device { IfErr result (λ e. e.0 ≡ MountError.Device
             → HasFailed (S.meaning station) (S.meaning e.1)) }
         ensures runs { IfOk result (λ f. IsFalse f.log.is_stopped) }
         ensures found { (S.meaning station).is_honest
             → IfOk result (λ f. HasNewest (S.meaning station) (system_parts f)) }
         ensures no_root { (S.meaning station).is_honest
-            → IfErr result (λ e. e.0 ≡ OpenError.NoRoot
+            → IfErr result (λ e. e.0 ≡ MountError.NoRoot
             → HasNoRoot (S.meaning station).sectors (S.meaning station).seen.disk) }
         ensures rootless { (S.meaning station).is_honest
             → HasNoRoot (S.meaning station).sectors (S.meaning station).seen.disk
             → MatchResult result (λ _. ⊥)
-            (λ e. (e.0 ≡ OpenError.NoRoot) ⊎ (e.0 ≡ OpenError.Device)) }
+            (λ e. (e.0 ≡ MountError.NoRoot) ⊎ (e.0 ≡ MountError.Device)) }
         ensures opens { (S.meaning station).is_honest → (s : State)
             → OpensTo (S.meaning station) s (S.meaning station).seen
             → MatchResult result (λ f. (t : State) × Forgets s t × HasState f (λ d. None) t)

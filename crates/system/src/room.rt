@@ -9,20 +9,21 @@ ghost use Rattle.system.specs.Room.{HasRoomBesides, HasRoomForWork, HasRoomToLog
 
 use crate::System;
 use layout::Record;
-use model::{NAMELESS_COST, fixed_cost};
-use replay::{cost_of, keep_of};
+use model::{ORPHAN_COST, fixed_cost};
+use replay::{cost_of, headroom_of};
 use station::Station;
 
 impl<S: Station> System<S> {
-    /// Whether the disk has room for a record whose change is prepared, where the file that it writes to or cuts has so many bytes: beside
-    /// all that may be stored already and what stays free behind it.
+    /// Whether the disk has room for a record whose change is prepared, where the file that it
+    /// writes to or cuts has so many bytes: beside all that may be stored already and what stays
+    /// free behind it.
     pub(crate) fn has_room(&self, change: &Record<'_>, size: u64) -> bool
         requires { KeepsLimits (change_of change.now) }
         ensures logs { IsTrue result → HasRoomToLog self.now (change_of change.now) size }
         ensures told { (v : Volume) → IsSizeBefore v (change_of change.now) size
             → IsTrue result ↔ HasRoomForWork self.now (work_of v (change_of change.now)) }
     {
-        let asked = cost_of(change, size) + keep_of(change, size);
+        let asked = cost_of(change, size) + headroom_of(change, size);
         asked + fixed_cost(self.map.count()) <= u64::from(self.free).saturating_sub(self.pledged)
     }
 
@@ -33,11 +34,12 @@ impl<S: Station> System<S> {
         2 * fixed_cost(self.map.count()) < u64::from(self.free).saturating_sub(self.pledged)
     }
 
-    /// Whether it has room to make the tree that of a snapshot, under which so many files without names are kept.
-    pub(crate) fn has_room_besides(&self, nameless: u32) -> bool
-        ensures { IsTrue result ↔ HasRoomBesides self.now nameless }
+    /// Whether it has room to make the tree that of a snapshot, under which so many orphans are
+    /// kept.
+    pub(crate) fn has_room_besides(&self, orphans: u32) -> bool
+        ensures { IsTrue result ↔ HasRoomBesides self.now orphans }
     {
-        let asked = 2 * fixed_cost(self.map.count()) + NAMELESS_COST * u64::from(nameless);
+        let asked = 2 * fixed_cost(self.map.count()) + ORPHAN_COST * u64::from(orphans);
         asked < u64::from(self.free).saturating_sub(self.pledged)
     }
 }

@@ -2,7 +2,7 @@
 
 ghost use Rattle.std.specs.Prelude.{◌≢◌, ◌↔◌, IsTrue, None, Ok};
 ghost use Rattle.system.specs.Serving.{IsPlanDue};
-ghost use Rattle.system.specs.Settling.{MakesCovered};
+ghost use Rattle.system.specs.CheckpointCommands.{MakesCovered};
 ghost use Rattle.system.specs.Slicing.{Finishes, StaysReady, Steps};
 
 use crate::laws::{cuts_open, new_roots_hold, points_go_on, served_states_open};
@@ -15,9 +15,9 @@ use station::Station;
 pub const SLICE_BLOCKS: usize = 8;
 
 impl<S: Station> System<S> {
-    /// Whether a point is to be planned: none is under way, the log is in the first epoch over the root, and less than a sixteenth
-    /// of its half is left.
-    pub(crate) fn is_plan_due(&self) -> bool
+    /// Whether a point is to be planned: none is under way, the log is in the first epoch over the
+    /// root, and less than a sixteenth of its half is left.
+    pub fn is_plan_due(&self) -> bool
         ensures { IsTrue result ↔ IsPlanDue self.now }
     {
         let next = self.root.generation.epoch_after(1);
@@ -25,18 +25,20 @@ impl<S: Station> System<S> {
         !self.blocks.is_under_way() && self.log.epoch() == next && !self.log.room(least)
     }
 
-    /// Plans a point, if one can be planned, and else changes nothing: what the system serves stays.
-    pub(crate) fn plan(&mut self)
+    /// Plans a point, if one can be planned, and else changes nothing: what the system serves
+    /// stays.
+    pub fn plan(&mut self)
         requires { IsPlanDue self.old }
         ensures { Steps self.old self.new (Ok tt) }
     {
         cuts_open();
-        let _ = self.lay_point(&SnapshotChange::Unchanged);
+        let _ = self.begin_point(&SnapshotChange::Unchanged);
     }
 
-    /// Writes a slice of the point that is under way, and behind its last block the root. It takes no memory and reads nothing.
-    pub(crate) fn advance(&mut self) -> Result<(), PointError>
-        requires { self.old.blocks.laid ≢ None }
+    /// Writes a slice of the point that is under way, and behind its last block the root. It takes
+    /// no memory and reads nothing.
+    pub fn advance(&mut self) -> Result<(), PointError>
+        requires { self.old.blocks.pending ≢ None }
         ensures steps { Steps self.old self.new result }
         ensures ready { StaysReady self.old self.new result }
     {
@@ -51,7 +53,8 @@ impl<S: Station> System<S> {
         }
     }
 
-    /// Brings the point that is under way to its end; where none is, it does nothing. It takes no memory and reads nothing.
+    /// Brings the point that is under way to its end; where none is, it does nothing. It takes no
+    /// memory and reads nothing.
     pub(crate) fn finish(&mut self) -> Result<(), PointError>
         ensures { Finishes self.old self.new result }
     {
@@ -62,7 +65,7 @@ impl<S: Station> System<S> {
             return Ok(());
         }
         let written = self.blocks.finish();
-        self.map.settle();
+        self.map.switch_to_new_root();
         self.free = self.map.free_count();
         self.pledged = self.pledged_then;
         self.inodes.let_past_go();
@@ -72,9 +75,9 @@ impl<S: Station> System<S> {
         }
     }
 
-    /// Brings all that the system has under its newest root: ends the point that is under way, and makes a whole one where something
-    /// is left.
-    pub fn settle(&mut self) -> Result<(), PointError>
+    /// Brings all that the system has under its newest root: ends the point that is under way, and
+    /// makes a whole one where something is left.
+    pub fn checkpoint(&mut self) -> Result<(), PointError>
         ensures { MakesCovered self.old self.new result }
     {
         served_states_open(self);

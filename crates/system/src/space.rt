@@ -34,7 +34,7 @@ impl<S: Station> System<S> {
             result.free
             ≡ free_under (whole (blocks_of serves.settled.disk) root).active root.geometry.blocks }
         ensures told { (table : ℕ → Option Description) (s : State)
-            → (serves : HasState self.now table s) → (nameless : Name → ℕ) → (covered : Bool)
+            → (serves : HasState self.now table s) → (orphans : Name → ℕ) → (covered : Bool)
             → (IsTrue covered
             → records.CoversAll serves.settled.volume serves.running serves.lasts.replayed.changes)
             → TellsRoom serves.settled.root.geometry.inodes serves.settled.volume serves.running
@@ -43,7 +43,7 @@ impl<S: Station> System<S> {
               free = result.free;
               pledged = result.pledged;
               is_covered = covered;
-              nameless_of = nameless;
+              orphans_of = orphans;
             }) }
     {
         Space {

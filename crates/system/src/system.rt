@@ -8,7 +8,7 @@ ghost use Rattle.records.specs.Opened.{HasNumbers};
 ghost use Rattle.replay.specs.declared.costs.TheConstants.{MOST_COST};
 ghost use Rattle.system.specs.Props.{IsRoot-prop};
 
-use crate::snapshot_reading::View;
+use crate::snapshot_view::View;
 use blockmap::BlockMap;
 use descriptors::Descriptors;
 use inofile::InodeFile;
@@ -21,16 +21,16 @@ use std::alloc::Global;
 /// What a mounted system has in memory, and its station.
 #[derive(Drop)]
 pub struct System<S: Station> {
-    pub(crate) alloc: Global,
+    pub alloc: Global,
     /// Those of the disk, and over them those of the consistency point that is under way.
-    pub(crate) blocks: Overlay<S>,
+    pub blocks: Overlay<S>,
     /// The root that memory stands on: that of the point under way, or else the newest one.
-    pub(crate) root: Root,
+    pub root: Root,
     /// The sector of the slot that it stands in.
     pub(crate) slot: u32,
-    pub(crate) inodes: InodeFile,
+    pub inodes: InodeFile,
     /// The view of a snapshot that was loaded last, until the next consistency point.
-    pub(crate) view: Option<View>,
+    pub view: Option<View>,
     pub(crate) map: BlockMap,
     pub(crate) log: Log,
     /// Blocks that a consistency point may store for what the newest root doesn't cover.
@@ -40,7 +40,7 @@ pub struct System<S: Station> {
     /// Blocks that are free under the newest root.
     pub(crate) free: u32,
     /// The files that are open.
-    pub(crate) files: Descriptors,
+    pub files: Descriptors,
     ghost sectors: { (S.meaning blocks.buffers.station).sectors ≡ 8 * root.geometry.blocks },
     ghost nvram: { (S.meaning blocks.buffers.station).nvram_bytes ≡ 2 * log.half },
     ghost half: { log.half ≡ root.geometry.half },

@@ -1,4 +1,5 @@
--- What the program ends with: where the system refuses, of its words, and where an image was checked.
+-- What the program ends with: where the system refuses, of its words, and where an image was
+-- checked.
 use Rattle.checker.specs.declared.error.CheckError.TheVariants as check_error
 use Rattle.checker.specs.declared.error.CheckError.{CheckError}
 use Rattle.checker.specs.declared.report.Report.TheVariants.{Bad, Good}
@@ -14,7 +15,8 @@ IsSystemFault NoMemory = Unit {0}
 IsSystemFault FileFault = Unit {0}
 IsSystemFault _ = ⊥
 
--- why a file isn't stored in an image or brought back: the system refuses, or the image isn't mounted
+-- why a file isn't stored in an image or brought back: the system refuses, or the image isn't
+-- mounted
 abbrev pub IsTransferFault : Status → Type 0
 IsTransferFault NotMounted = Unit {0}
 IsTransferFault s = IsSystemFault s

@@ -1,21 +1,22 @@
 -- What the program's words come to.
 use Rattle.std.specs.Prelude.{ℕ, ◌≡◌, ◌==◌, Option, None, Some, if◌then◌else◌, map}
-use Rattle.memory_station.specs.declared.keep.Keep.{Keep}
-use Rattle.memory_station.specs.declared.keep.Keep.TheVariants as keep
-use Rattle.memory_station.specs.declared.keep.Mark.{Mark}
-use Rattle.memory_station.specs.declared.keep.Mark.TheVariants as mark
+use Rattle.memory_station.specs.declared.cut_outcome.CutOutcome.{CutOutcome}
+use Rattle.memory_station.specs.declared.cut_outcome.CutOutcome.TheVariants as keep
+use Rattle.memory_station.specs.declared.cut_outcome.Mark.{Mark}
+use Rattle.memory_station.specs.declared.cut_outcome.Mark.TheVariants as mark
 use Rattle.memory_station.specs.declared.sim.Sim.{Sim}
 use Rattle.memory_station.specs.Sim.{plan_of}
 use Rattle.command_line.specs.declared.line.Kept.{Kept}
 use Rattle.command_line.specs.declared.line.Kept.TheVariants as kept
 use Rattle.command_line.specs.declared.line.RunFaults.{RunFaults}
 
--- what a character of a text says of a sector write: 1 (49) keeps it, with 2 (50) its sector can't be read, and 0 drops it
+-- what a character of a text says of a sector write: 1 (49) keeps it, with 2 (50) its sector can't
+-- be read, and 0 drops it
 abbrev pub mark_told : ℕ → Mark
 mark_told byte = if byte == 49 then mark.Kept else (if byte == 50 then mark.Lost else mark.Dropped)
 
 -- what a cut keeps is what its word says
-abbrev pub KeepsAsTold : Kept → Keep → Type 0
+abbrev pub KeepsAsTold : Kept → CutOutcome → Type 0
 KeepsAsTold kept.Nothing keep.Nothing = Unit {0}
 KeepsAsTold kept.Everything keep.Everything = Unit {0}
 KeepsAsTold (kept.Bits text) (keep.Bits bits) = bits.items ≡ map mark_told text.now

@@ -25,8 +25,9 @@ enum Told {
     Something,
 }
 
-/// Whether the files of an image may be replaced. Says in a line each what would be lost, and then asks; where that is nothing, nobody
-/// is asked. A list of sectors goes with the image, and is no loss. The files aren't held while an answer is waited for.
+/// Whether the files of an image may be replaced. Says in a line each what would be lost, and then
+/// asks; where that is nothing, nobody is asked. A list of sectors goes with the image, and is no
+/// loss. The files aren't held while an answer is waited for.
 pub(crate) fn may_replace<'a, I: Read, E: Write>(
     rt: &HostRuntime,
     image: Image<'a>,

@@ -1,4 +1,5 @@
-//! Why nothing was run, and what a refusal means, in a line for people behind the one that programs read.
+//! Why nothing was run, and what a refusal means, in a line for people behind the one that programs
+//! read.
 
 mod mounting;
 mod refusals;
@@ -10,7 +11,8 @@ pub(crate) use refusals::tell_refusal;
 use session::{Ending, Fault};
 use std::io::Write;
 
-/// Tells why nothing was run, where that is so. Where it can't be told, what was told before has to do.
+/// Tells why nothing was run, where that is so. Where it can't be told, what was told before has to
+/// do.
 pub(crate) fn explain_ending<E: Write>(
     rt: &HostRuntime,
     image: Image<'_>,

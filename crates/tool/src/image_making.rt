@@ -15,9 +15,10 @@ use std::fs::{File, OpenFile};
 use std::os::unix::fs::FileExt;
 use std::rt::{Clock, Files};
 
-/// Makes an empty image on two new files, which then replace those of these names, unless another program holds a lock on one of
-/// them; a list of sectors that can't be read goes behind that. With `is_new` nothing is replaced or removed that has bytes.
-/// Numbers out of their range are told before any file is looked at.
+/// Makes an empty image on two new files, which then replace those of these names, unless another
+/// program holds a lock on one of them; a list of sectors that can't be read goes behind that. With
+/// `is_new` nothing is replaced or removed that has bytes. Numbers out of their range are told
+/// before any file is looked at.
 pub fn make_image<'a, R: Files<File = File> + AllocGlobal + Clock>(
     rt: &R,
     image: Image<'a>,

@@ -7,7 +7,8 @@ use std::io::Write;
 /// The word before the names in a reply.
 const NAMES: &[u8] = b"names";
 
-/// Shows the names of a reply to `list` one on a line, in place of the reply; all other replies as they are.
+/// Shows the names of a reply to `list` one on a line, in place of the reply; all other replies as
+/// they are.
 #[derive(Drop)]
 pub(crate) struct Names<'o, O> {
     alloc: Global,
@@ -99,7 +100,8 @@ fn shown_name(alloc: Global, word: &[u8]) -> Result<Vec<u8>, AllocError> {
     Ok(shown)
 }
 
-/// A name that is no text, or has bytes that a terminal would obey: between `$'` and `'`, these as `\x` and two digits.
+/// A name that is no text, or has bytes that a terminal would obey: between `$'` and `'`, these as
+/// `\x` and two digits.
 fn control_quoted(alloc: Global, name: &[u8]) -> Result<Vec<u8>, AllocError> {
     let mut shown = Vec::new(alloc);
     shown.extend_from_slice(b"$'")?;

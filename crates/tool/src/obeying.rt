@@ -50,8 +50,8 @@ pub(crate) struct Streams<I, O, E> {
     pub(crate) patience: Patience,
 }
 
-/// Does what the program's words ask for, and gives its exit status. The first word is the program's name. What it reads and
-/// shows goes over these streams; `terminals` says what they are.
+/// Does what the program's words ask for, and gives its exit status. The first word is the
+/// program's name. What it reads and shows goes over these streams; `terminals` says what they are.
 pub fn obey<I: Read, O: Write, E: Write>(
     rt: &HostRuntime,
     words: &[String],
@@ -82,7 +82,8 @@ pub fn obey<I: Read, O: Write, E: Write>(
     status.number()
 }
 
-/// Whether a second line is told: on a terminal, or where the words ask for it, and always where one command is done.
+/// Whether a second line is told: on a terminal, or where the words ask for it, and always where
+/// one command is done.
 fn explains(asked: &Asked<'_>, terminals: Terminals) -> bool {
     asked.options.explains || terminals.err || matches!(asked.line, Line::Do { .. })
 }
@@ -135,8 +136,8 @@ fn obey_line<I: Read, O: Write, E: Write>(
     status
 }
 
-/// Whether what a look at the image's files shows is told: not where one is made, and of a script's run only where it is
-/// explained, since programs read its standard error.
+/// Whether what a look at the image's files shows is told: not where one is made, and of a script's
+/// run only where it is explained, since programs read its standard error.
 fn speaks_of_image<I, O, E>(line: &Line<'_>, streams: &Streams<I, O, E>) -> bool {
     match line {
         Line::Help(_) | Line::Make { .. } => false,
@@ -145,8 +146,8 @@ fn speaks_of_image<I, O, E>(line: &Line<'_>, streams: &Streams<I, O, E>) -> bool
     }
 }
 
-/// Tells what a look at an image's files shows that the command won't. It looks before the command, which may write over what
-/// shows it. An image that can't be opened says nothing here.
+/// Tells what a look at an image's files shows that the command won't. It looks before the command,
+/// which may write over what shows it. An image that can't be opened says nothing here.
 fn warn<E: Write>(rt: &HostRuntime, image: Image<'_>, patience: Patience, err: &mut E) {
     if let Ok(_held) = open_shared(rt, image, patience) {
         warn_of_list(rt, image, err);
@@ -216,7 +217,8 @@ fn open_as_asked<'a, I, O, E: Write>(
     Ok(open_to_read(rt, image, streams.patience)?)
 }
 
-/// Lets go of an image, which is stored where that is asked for, and tells which call of the host failed, if one did.
+/// Lets go of an image, which is stored where that is asked for, and tells which call of the host
+/// failed, if one did.
 fn close<'a, E: Write>(
     rt: &HostRuntime,
     image: Image<'a>,
@@ -240,7 +242,8 @@ fn tell_salvage<E: Write>(error: &SalvageError<'_>, err: &mut E) -> Status {
     }
 }
 
-/// Says on standard error what is wrong with a file. Where that can't be written, the status alone says what it can.
+/// Says on standard error what is wrong with a file. Where that can't be written, the status alone
+/// says what it can.
 fn tell<E: Write>(error: &FileError<'_>, err: &mut E) -> Status {
     let _ = writeln!(err, "wafl: {error}");
     status_of_file(error)

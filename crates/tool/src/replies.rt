@@ -17,7 +17,8 @@ const REFUSAL: &[u8] = b"err ";
 /// The refusal of a line that is no command.
 const NO_COMMAND: &[u8] = b"BADLINE";
 
-/// Gives replies on as they are, and tells on standard error what a refusal means, once its line is out.
+/// Gives replies on as they are, and tells on standard error what a refusal means, once its line is
+/// out.
 #[derive(Drop)]
 pub(crate) struct Replies<'r, 'i, 's, 'e, O, E> {
     pub(crate) rt: &'r HostRuntime,

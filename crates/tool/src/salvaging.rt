@@ -1,4 +1,5 @@
-//! An image that a mount refuses, read as far as it can be: other bytes lie over those of its files, which stay as they are.
+//! An image that a mount refuses, read as far as it can be: other bytes lie over those of its
+//! files, which stay as they are.
 
 mod found;
 mod inodes;
@@ -72,9 +73,10 @@ impl Way {
     }
 }
 
-/// A station over the files of an image that a mount takes, with as little left out as can be, and tells in a line each what that is.
-/// Where nothing else is taken, the tree of this snapshot, if one is named, stands in the place of the running one. The files are
-/// open for reading alone, under shared locks, and nothing is ever written.
+/// A station over the files of an image that a mount takes, with as little left out as can be, and
+/// tells in a line each what that is. Where nothing else is taken, the tree of this snapshot, if
+/// one is named, stands in the place of the running one. The files are open for reading alone,
+/// under shared locks, and nothing is ever written.
 pub(crate) fn open_salvaged<'a, E: Write>(
     rt: &HostRuntime,
     image: Image<'a>,
@@ -105,7 +107,8 @@ pub(crate) fn open_salvaged<'a, E: Write>(
     }
 }
 
-/// The station of the first way that a mount takes with the maps of another tree, where there is one.
+/// The station of the first way that a mount takes with the maps of another tree, where there is
+/// one.
 fn try_maps<'a, E: Write>(
     rt: &HostRuntime,
     image: Image<'a>,
@@ -132,8 +135,8 @@ fn try_maps<'a, E: Write>(
     Ok(None)
 }
 
-/// The station of the first way that a mount takes; else why it takes none. These inodes are outside the format, and these bytes are to
-/// stand for those of the maps.
+/// The station of the first way that a mount takes; else why it takes none. These inodes are
+/// outside the format, and these bytes are to stand for those of the maps.
 fn try_ways<'a, E: Write>(
     rt: &HostRuntime,
     image: Image<'a>,

@@ -1,4 +1,5 @@
-//! A word of the program's own that names something in an image: as somebody types it, or as scripts spell it.
+//! A word of the program's own that names something in an image: as somebody types it, or as
+//! scripts spell it.
 
 use model::{Command, PathCall};
 use script::read_command;

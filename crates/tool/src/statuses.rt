@@ -1,7 +1,7 @@
 //! What the program ends with where something fails.
 
 ghost use Rattle.std.specs.Prelude.{◌≡◌};
-ghost use Rattle.mount.specs.declared.error.MountError.{MountError};
+ghost use Rattle.system.specs.declared.mount_error.MountError.{MountError};
 ghost use Rattle.tool.specs.Refusals.{IsSystemFault, IsTransferFault, check_status, line_status, report_status};
 
 use checker::{CheckError, Report};
@@ -33,8 +33,8 @@ pub fn status_of_file(error: &FileError<'_>) -> Status
     Status::FileFault
 }
 
-/// What the program ends with where a file isn't stored in an image or brought back: `NoMemory` where no memory was left,
-/// `NotMounted` where the image isn't mounted, else `FileFault`.
+/// What the program ends with where a file isn't stored in an image or brought back: `NoMemory`
+/// where no memory was left, `NotMounted` where the image isn't mounted, else `FileFault`.
 pub fn status_of_transfer(error: &TransferError<'_>) -> Status
     ensures fault { IsTransferFault result }
     ensures mount { (e : MountError) → error.now ≡ TransferError.Mount e

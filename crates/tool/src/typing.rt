@@ -13,7 +13,8 @@ use std::io::{BufRead, BufReader, Read, Write};
 /// The end of a line.
 const LINE_FEED: u8 = b'\n';
 
-/// The lines of an input. Each read gives bytes of one line alone, so that what is told of the line before comes before it.
+/// The lines of an input. Each read gives bytes of one line alone, so that what is told of the line
+/// before comes before it.
 #[derive(Drop)]
 pub(crate) struct TypedLines<'s, 'e, I, E> {
     alloc: Global,
@@ -82,7 +83,8 @@ impl<'s, 'e, I: Read + Drop, E: Write> TypedLines<'s, 'e, I, E> {
         Ok(())
     }
 
-    /// Makes a script's line of what was typed, and keeps it to speak of. Help is given at once, and is no line then.
+    /// Makes a script's line of what was typed, and keeps it to speak of. Help is given at once,
+    /// and is no line then.
     fn translate(&mut self) -> io::Result<()> {
         if self.is_terminal {
             match self.line.as_slice() {
@@ -119,7 +121,8 @@ impl<'s, 'e, I: Read + Drop, E: Write> TypedLines<'s, 'e, I, E> {
     }
 }
 
-/// Adds what is at hand of an input to a line, to the line's end at most, and says how many bytes these are.
+/// Adds what is at hand of an input to a line, to the line's end at most, and says how many bytes
+/// these are.
 fn take_part<I: Read + Drop>(input: &mut BufReader<I>, line: &mut Vec<u8>) -> io::Result<usize> {
     let part = input.fill_buf()?;
     let part = through_line_feed(part);

@@ -1,5 +1,6 @@
-//! What a look at an image's files shows that a user should know, though the image is mounted and checked without a word of it:
-//! that a newer root, or records of the log, may have stood there. Only what no image shows that was cut at any moment.
+//! What a look at an image's files shows that a user should know, though the image is mounted and
+//! checked without a word of it: that a newer root, or records of the log, may have stood there.
+//! Only what no image shows that was cut at any moment.
 
 pub(crate) mod slots;
 
@@ -15,7 +16,8 @@ use std::os::unix::fs::FileExt;
 /// The last epoch before which no other one stood in the same half.
 const LAST_OF_NEW_HALVES: u64 = 3;
 
-/// Warns of a list of sectors that can't be read, where it names one: a command that finds it writes zeros there.
+/// Warns of a list of sectors that can't be read, where it names one: a command that finds it
+/// writes zeros there.
 pub(crate) fn warn_of_list<E: Write>(rt: &HostRuntime, image: Image<'_>, err: &mut E) {
     let Some(disk) = open_to_look(rt, image.disk) else {
         return;
@@ -74,8 +76,9 @@ pub(crate) fn listed_sectors(rt: &HostRuntime, image: Image<'_>, disk: &File) ->
     }
 }
 
-/// Warns where the slot of the other root can't hold what it does. Each root but the first is written into the slot that the one
-/// before it isn't in, one generation above that: so the other slot has the root before, and beside the first one zeros.
+/// Warns where the slot of the other root can't hold what it does. Each root but the first is
+/// written into the slot that the one before it isn't in, one generation above that: so the other
+/// slot has the root before, and beside the first one zeros.
 fn warn_of_slot<E: Write>(disk: &str, taken: &Taken, err: &mut E) {
     let generation = taken.root.generation.get();
     let slot = letter(taken.other_sector());
@@ -118,9 +121,10 @@ impl Half {
         self.is_open && self.epoch == epoch && self.has_record
     }
 
-    /// Whether records stand behind its closed gate which this generation doesn't cover. In general a gate may be closed so: while a half is
-    /// being opened for a later epoch, a cut leaves the gate closed, and of the later epoch a part, before records of an earlier one
-    /// that are covered. Before the first epoch of a half there is no earlier one.
+    /// Whether records stand behind its closed gate which this generation doesn't cover. In general
+    /// a gate may be closed so: while a half is being opened for a later epoch, a cut leaves the
+    /// gate closed, and of the later epoch a part, before records of an earlier one that are
+    /// covered. Before the first epoch of a half there is no earlier one.
     fn is_cut_off(&self, generation: u64) -> bool {
         let is_of_half = self.epoch > 1
             && self.epoch <= LAST_OF_NEW_HALVES
@@ -129,8 +133,8 @@ impl Half {
     }
 }
 
-/// Warns where records of the log are missing. The second epoch behind a root is opened when the first one's half is nearly full, so there are
-/// records of the first one then.
+/// Warns where records of the log are missing. The second epoch behind a root is opened when the
+/// first one's half is nearly full, so there are records of the first one then.
 fn warn_of_log<E: Write>(name: &str, nvram: &File, root: &Root, err: &mut E) {
     let first = root.generation.epoch_after(1).get();
     let second = root.generation.epoch_after(2).get();

@@ -10,10 +10,12 @@ use mount::MountError;
 use std::alloc::AllocError;
 use thiserror::Error;
 
-/// Why a file isn't stored in an image or brought back. What is told of a path names it as the user spelled it.
+/// Why a file isn't stored in an image or brought back. What is told of a path names it as the user
+/// spelled it.
 #[derive(Debug, Drop, Error)]
 pub enum TransferError<'a> {
-    /// The host's file or one of the image can't be read or written, or no memory was left for them.
+    /// The host's file or one of the image can't be read or written, or no memory was left for
+    /// them.
     #[error("{0}")]
     File(FileError<'a>),
     /// The image isn't mounted.
@@ -70,7 +72,8 @@ pub enum TransferError<'a> {
         offset: u64,
         inodes: u32,
     },
-    /// The image has no room for the file from this byte on: so many blocks are free, and so many would be needed at the least.
+    /// The image has no room for the file from this byte on: so many blocks are free, and so many
+    /// would be needed at the least.
     #[error("{path}: ENOSPC at byte {offset}: {free} blocks are free and {needed} are needed: {needs}")]
     NoRoom {
         path: &'a str,

@@ -23,10 +23,11 @@ use std::rt::{Clock, Files};
 /// The names of standard output.
 const STANDARD_OUTPUT: [&str; 4] = ["-", "/dev/stdout", "/dev/fd/1", "/proc/self/fd/1"];
 
-/// Brings a file of an image back, as it is or as it was in a snapshot, and leaves the image as it is. The bytes go to `out`
-/// where the host's file is a name of standard output. Else they go, whole or not at all, to a new file, which then replaces
-/// the one that the name leads to, and has the mode of that one or else of the image's file; a folder means the image's file's
-/// own name in it. What is there and is neither, such as a FIFO or a device, is written into.
+/// Brings a file of an image back, as it is or as it was in a snapshot, and leaves the image as it
+/// is. The bytes go to `out` where the host's file is a name of standard output. Else they go,
+/// whole or not at all, to a new file, which then replaces the one that the name leads to, and has
+/// the mode of that one or else of the image's file; a folder means the image's file's own name in
+/// it. What is there and is neither, such as a FIFO or a device, is written into.
 pub fn get_file<'a, R: Files<File = File> + AllocGlobal + Clock, O: Write, E: Write>(
     rt: &R,
     what: Transfer<'a>,
@@ -110,7 +111,8 @@ fn bring<'a, R: Files<File = File> + AllocGlobal, S: Station, O: Write, E: Write
     }
 }
 
-/// The place of the host's file, which is no folder: in a folder the place of the image's file's own name.
+/// The place of the host's file, which is no folder: in a folder the place of the image's file's
+/// own name.
 fn find_file<'a, R: Files + AllocGlobal>(
     rt: &R,
     what: Transfer<'a>,
@@ -167,7 +169,8 @@ fn renamed<'a>(folder: &'a str, error: FileError<'_>) -> FileError<'a> {
     }
 }
 
-/// Shows a file's bytes, part by part. It is read to its end before, so that nothing is shown of one that can't be read.
+/// Shows a file's bytes, part by part. It is read to its end before, so that nothing is shown of
+/// one that can't be read.
 fn show<'a, S: Station, O: Write, E: Write>(
     fs: &mut Fs<S>,
     source: Source<'a>,

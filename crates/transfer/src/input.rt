@@ -62,7 +62,8 @@ impl<'a, I: Read> Input<'a, '_, I> {
         }
     }
 
-    /// How it is called, where it may give nothing because the one failed that was to write into it.
+    /// How it is called, where it may give nothing because the one failed that was to write into
+    /// it.
     pub fn pipe(&self) -> Option<&'a str> {
         match self {
             Input::Stream(stream) if stream.is_pipe => Some(stream.name),

@@ -1,5 +1,6 @@
-//! The transfers, a user's way in and out: a file of the host's is stored in an image, a file of an image is brought back,
-//! and what a snapshot has comes back into the running tree, by the same calls that scripts have.
+//! The transfers, a user's way in and out: a file of the host's is stored in an image, a file of an
+//! image is brought back, and what a snapshot has comes back into the running tree, by the same
+//! calls that scripts have.
 #![tactic(auto)]
 
 mod error;

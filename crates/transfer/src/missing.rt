@@ -7,7 +7,8 @@ use mount::Fs;
 use station::Station;
 use std::alloc::{AllocError, Global};
 
-/// Names the place of a call by a path that was refused, and what is missing where that isn't found.
+/// Names the place of a call by a path that was refused, and what is missing where that isn't
+/// found.
 pub fn found<'a, S: Station, T>(
     alloc: Global,
     fs: &mut Fs<S>,
@@ -68,7 +69,8 @@ fn is_missing<S: Station>(fs: &mut Fs<S>, tree: Tree<'_>, path: &[u8]) -> bool {
     matches!(stat(fs, tree, path), Err(Errno::ENOENT))
 }
 
-/// A path of the image as it is told: as it is where the user's path is spelled so, and else as in scripts.
+/// A path of the image as it is told: as it is where the user's path is spelled so, and else as in
+/// scripts.
 pub fn spell(alloc: Global, name: &str, path: &[u8], told: &[u8]) -> Result<String, AllocError> {
     if name.as_bytes() == path {
         return String::from_utf8_lossy(alloc, told);

@@ -5,7 +5,8 @@ use std::io::Write;
 /// Bytes of a MiB.
 const MIB: u64 = 1_048_576;
 
-/// Tells how far a transfer came: on one line that is written anew for each MiB, where there is a terminal to show it.
+/// Tells how far a transfer came: on one line that is written anew for each MiB, where there is a
+/// terminal to show it.
 #[derive(Drop)]
 pub struct Progress<E> {
     to: E,

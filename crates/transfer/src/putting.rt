@@ -22,18 +22,21 @@ use std::os::unix::fs::{FileTypeExt, MetadataExt};
 use std::path::Path;
 use std::rt::{Clock, Files};
 
-/// Stores what a file of the host's holds in a file of an image, on the files of the image themselves, whole or not at all: the
-/// bytes are collected in a new file of a name that is put's own, and when all are there that one gets its name. So wherever
-/// the power is cut, the old bytes are there or the new ones; what a cut left is taken away by the next transfer into the
-/// image. A symbolic link at the path's end is followed and stays, and a directory means the host's file's own name in it. An
-/// old file's mode stays, and a new one has the host's file's. Further names of an old file keep its old bytes. There has to be
-/// room for the new bytes beside the old ones.
+/// Stores what a file of the host's holds in a file of an image, on the files of the image
+/// themselves, whole or not at all: the bytes are collected in a new file of a name that is put's
+/// own, and when all are there that one gets its name. So wherever the power is cut, the old bytes
+/// are there or the new ones; what a cut left is taken away by the next transfer into the image. A
+/// symbolic link at the path's end is followed and stays, and a directory means the host's file's
+/// own name in it. An old file's mode stays, and a new one has the host's file's. Further names of
+/// an old file keep its old bytes. There has to be room for the new bytes beside the old ones.
 ///
-/// The host's file `-` is standard input, which `reader` reads, and which may be a pipe. No byte is read before the image is
-/// locked and mounted. A pipe that gives none, as where the program before it failed, empties no file.
+/// The host's file `-` is standard input, which `reader` reads, and which may be a pipe. No byte is
+/// read before the image is locked and mounted. A pipe that gives none, as where the program before
+/// it failed, empties no file.
 ///
-/// Blocks of zeros aren't stored: they are holes of the file, as they may be of the host's. Of a host's file whose size is known,
-/// what is too large or has no room for its other blocks is refused before a byte is stored.
+/// Blocks of zeros aren't stored: they are holes of the file, as they may be of the host's. Of a
+/// host's file whose size is known, what is too large or has no room for its other blocks is
+/// refused before a byte is stored.
 pub fn put_file<'a, R: Files<File = File> + AllocGlobal + Clock, I: Read, E: Write>(
     rt: &R,
     what: Transfer<'a>,

@@ -19,9 +19,10 @@ use std::fs::File;
 use std::io::Write;
 use std::rt::{Clock, Files};
 
-/// Brings the file or the symbolic link that a path names in a snapshot into the running tree, whole or not at all, as
-/// `put_file` stores a file: to the same path, or to a new one. What is there goes; a link there isn't followed, and a directory
-/// means the old name in it. The mode is as in the snapshot, and blocks of zeros are holes. No file of the host's takes part.
+/// Brings the file or the symbolic link that a path names in a snapshot into the running tree,
+/// whole or not at all, as `put_file` stores a file: to the same path, or to a new one. What is
+/// there goes; a link there isn't followed, and a directory means the old name in it. The mode is
+/// as in the snapshot, and blocks of zeros are holes. No file of the host's takes part.
 pub fn restore_file<'a, R: Files<File = File> + AllocGlobal + Clock, E: Write>(
     rt: &R,
     what: Transfer<'a>,

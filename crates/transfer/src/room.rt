@@ -1,7 +1,9 @@
 //! The room of a disk, and what a call needs of it.
 
 use crate::error::{TransferError, at};
-use model::{Errno, FILE_COST, GREAT_FILE_COST, KEPT_BLOCKS, NAMES_COST, SINGLE_FILE, fixed_cost};
+use model::{
+    Errno, FILE_COST, GREAT_FILE_COST, HEADROOM_BLOCKS, NAMES_COST, SINGLE_FILE, fixed_cost,
+};
 use mount::Fs;
 use station::{BLOCK_BYTES, Station};
 use std::fmt;
@@ -71,7 +73,7 @@ impl Needs {
         bytes
             .saturating_add(name)
             .saturating_add(size)
-            .saturating_add(KEPT_BLOCKS)
+            .saturating_add(HEADROOM_BLOCKS)
             .saturating_add(self.point)
             .saturating_add(self.pledged)
     }
@@ -95,7 +97,7 @@ impl fmt::Display for Needs {
         }
         write!(
             f,
-            "{point} for the next consistency point, {KEPT_BLOCKS} that stay free"
+            "{point} for the next consistency point, {HEADROOM_BLOCKS} that stay free"
         )
     }
 }
@@ -152,7 +154,8 @@ pub fn check_room<'a, S: Station>(
     }
 }
 
-/// Names the place of a call that was refused, and where that is for want of room, how much this call needs.
+/// Names the place of a call that was refused, and where that is for want of room, how much this
+/// call needs.
 pub fn with_room<'a, S: Station, T>(
     fs: &mut Fs<S>,
     path: &'a str,

@@ -22,7 +22,8 @@ impl Run<'_> {
     }
 }
 
-/// The first run of a part that doesn't begin before this byte, at which a block begins. None where zeros alone are left.
+/// The first run of a part that doesn't begin before this byte, at which a block begins. None where
+/// zeros alone are left.
 pub fn next_run(part: &[u8], from: usize) -> Option<Run<'_>> {
     let zeros = part
         .get(from..)?

@@ -88,7 +88,8 @@ pub fn make_file<S: Station>(fs: &mut Fs<S>, path: &[u8], mode: Mode) -> Result<
     fs.open(path, NEW_BYTES, mode)
 }
 
-/// Takes a name of a file or of a link away, where it is there. For want of room a file's blocks are given back first.
+/// Takes a name of a file or of a link away, where it is there. For want of room a file's blocks
+/// are given back first.
 pub fn remove<S: Station>(fs: &mut Fs<S>, path: &[u8]) -> Result<(), Errno> {
     match fs.unlink(path) {
         Err(Errno::ENOENT) => Ok(()),
@@ -108,7 +109,8 @@ fn give_back<S: Station>(fs: &mut Fs<S>, path: &[u8]) -> Result<(), Errno> {
     }
 }
 
-/// Writes bytes at this one of an open file. DAMAGED where not all were, which comes only over an image that opens to no state.
+/// Writes bytes at this one of an open file. DAMAGED where not all were, which comes only over an
+/// image that opens to no state.
 pub fn write_at<S: Station>(
     fs: &mut Fs<S>,
     fd: u32,

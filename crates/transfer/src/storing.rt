@@ -1,4 +1,5 @@
-//! Storing in an image, whole or not at all: under a name of its own, which it changes for the one that it is to have.
+//! Storing in an image, whole or not at all: under a name of its own, which it changes for the one
+//! that it is to have.
 
 use crate::error::{TransferError, at};
 use crate::input::Input;
@@ -59,8 +60,9 @@ fn blocks_of(size: u64) -> u64 {
     }
 }
 
-/// Refuses an input of known size whose blocks have no room. Its name comes behind them; what tells where they are, and the
-/// writes, may need more. Which of them are zeros alone is looked at only where there is no room for all.
+/// Refuses an input of known size whose blocks have no room. Its name comes behind them; what tells
+/// where they are, and the writes, may need more. Which of them are zeros alone is looked at only
+/// where there is no room for all.
 pub fn check_blocks<'a, S: Station, I: Read>(
     alloc: Global,
     fs: &mut Fs<S>,
@@ -78,7 +80,8 @@ pub fn check_blocks<'a, S: Station, I: Read>(
     check_room(fs, path, 0, storing(stored))
 }
 
-/// Stores what an input gives in a new file, which takes the place of what is there once all is in it.
+/// Stores what an input gives in a new file, which takes the place of what is there once all is in
+/// it.
 pub fn store<'a, S: Station, I: Read, E: Write>(
     alloc: Global,
     fs: &mut Fs<S>,
@@ -149,7 +152,8 @@ fn check_pipe<'a>(
     }
 }
 
-/// Writes what an input gives, in parts as large as one call writes, and tells how many bytes these are.
+/// Writes what an input gives, in parts as large as one call writes, and tells how many bytes these
+/// are.
 fn write_all<'a, S: Station, I: Read, E: Write>(
     alloc: Global,
     fs: &mut Fs<S>,
@@ -181,8 +185,8 @@ fn write_all<'a, S: Station, I: Read, E: Write>(
     Ok(size)
 }
 
-/// Writes those blocks of a part that aren't zeros alone, run by run. The part begins at this byte of the file. Tells the byte
-/// behind them, where there are any.
+/// Writes those blocks of a part that aren't zeros alone, run by run. The part begins at this byte
+/// of the file. Tells the byte behind them, where there are any.
 fn write_runs<'a, S: Station>(
     fs: &mut Fs<S>,
     fd: u32,

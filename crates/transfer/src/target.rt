@@ -6,7 +6,8 @@ use mount::Fs;
 use station::Station;
 use std::alloc::{AllocError, Global};
 
-/// The path of what isn't whole yet, in the root directory: put's own, so that a later transfer finds what a power cut left.
+/// The path of what isn't whole yet, in the root directory: put's own, so that a later transfer
+/// finds what a power cut left.
 pub const UNFINISHED: &str = "/.wafl-put";
 
 /// Where something is to be stored.
@@ -17,8 +18,8 @@ pub struct Target {
     pub there: Option<Stat>,
 }
 
-/// Follows the symbolic links that a path ends in, to a file or to where nothing is. A directory that is there means this name in
-/// it, and is EISDIR where no name is given.
+/// Follows the symbolic links that a path ends in, to a file or to where nothing is. A directory
+/// that is there means this name in it, and is EISDIR where no name is given.
 pub fn find_target<S: Station>(
     alloc: Global,
     fs: &mut Fs<S>,
@@ -93,7 +94,8 @@ fn is_link(target: &Target) -> bool {
     }
 }
 
-/// Whether a path is the one of what isn't whole yet, however it is spelled. Refused where its directory isn't there.
+/// Whether a path is the one of what isn't whole yet, however it is spelled. Refused where its
+/// directory isn't there.
 pub fn is_unfinished<S: Station>(fs: &mut Fs<S>, path: &[u8]) -> Result<bool, Errno> {
     let (directory, name) = split_last(path);
     let directory = stat(fs, RUNNING, without_slashes(directory))?;
@@ -120,8 +122,8 @@ fn join(alloc: Global, directory: Vec<u8>, name: &[u8]) -> Result<Vec<u8>, Alloc
     Ok(path)
 }
 
-/// The path that a link's text means, without slashes at its end: from the directory that the link stands in, where it
-/// doesn't begin with one.
+/// The path that a link's text means, without slashes at its end: from the directory that the link
+/// stands in, where it doesn't begin with one.
 fn from_link(alloc: Global, link: &[u8], text: &[u8]) -> Result<Vec<u8>, AllocError> {
     let (directory, _) = split_last(link);
     let mut path = Vec::new(alloc);

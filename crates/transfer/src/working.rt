@@ -34,7 +34,8 @@ pub fn end<'a, R: Files<File = File> + AllocGlobal>(
     close(rt, image, station, done)
 }
 
-/// Lets go of an image. One in memory is stored where the transfer is done, and else stays as it was.
+/// Lets go of an image. One in memory is stored where the transfer is done, and else stays as it
+/// was.
 fn close<'a, R: Files<File = File> + AllocGlobal>(
     rt: &R,
     image: Image<'a>,

@@ -1,54 +1,64 @@
 -- Commands one after the other.
-use Rattle.std.proofs.Common.{ℕ, ◌+◌, ◌*◌, ◌<◌, ◌≤◌, ◌^◌, [], ◌∷◌, ◌++◌, arith}
+use Rattle.std.proofs.Common.{◌≡◌, ℕ, ◌+◌, ◌*◌, ◌<◌, ◌≤◌, ◌^◌, List, [], ◌∷◌, ◌++◌, length, length-append, Option, Some, Result, Ok, Err, refl, sym, subst, arith}
+use Rattle.std.specs.Prelude.{IfSome}
+use Rattle.std.specs.Result.{IsErrAnd}
 use Rattle.station.specs.declared.station.Station.{Ghosts}
 use Rattle.station.proofs.Moments.{same_none, same_twice}
 use Rattle.model.specs.declared.command.Command.{Command}
+use Rattle.model.specs.declared.errno.Errno.{Errno}
 use Rattle.model.specs.declared.reply.Reply.{Reply}
+use Rattle.model.specs.declared.reply.Reply.TheVariants as reply
 use Rattle.model.specs.States.{State}
 use Rattle.system.specs.Systems.{meaning_of}
 use Rattle.mount.specs.Applying.{AppliesCommand, RunsAt}
 use Rattle.mount.specs.Systems.{Serves, mounted}
 use Rattle.mount.specs.declared.fs.Fs.{Fs}
-use Rattle.uses.specs.Using.{RanAtMost}
+use Rattle.uses.specs.Using.{HasLed, KeepsNote, Steps, note_steps}
 
-fewer : (a n m : ℕ) → n ≤ m → a + 2 * m < 2 ^ 62 → a + 2 * n < 2 ^ 62
-fewer a n m le lasts = omega (arith, le, lasts)
+longer : (steps : Steps) (step : Command × Reply) → length (steps ++ step ∷ []) ≡ length steps + 1
+longer steps step = length-append steps (step ∷ [])
 
-one_left : (a b n : ℕ) → b ≤ a + 2 * n → a + 2 * (n + 1) < 2 ^ 62 → b + 2 ≤ 2 ^ 62
-one_left a b n le lasts = omega (arith, le, lasts)
+fewer : (a n k : ℕ) → k ≡ n + 1 → a + 2 * k < 2 ^ 62 → a + 2 * n < 2 ^ 62
+fewer a n k is lasts = omega (arith, is, lasts)
 
-one_more : (a b c n : ℕ) → b ≤ a + 2 * n → c ≤ b + 2 → c ≤ a + 2 * (n + 1)
-one_more a b c n le more = omega (arith, le, more)
+one_left : (a b n k : ℕ) → k ≡ n + 1 → b ≤ a + 2 * n → a + 2 * k < 2 ^ 62 → b + 2 ≤ 2 ^ 62
+one_left a b n k is le lasts = omega (arith, is, le, lasts)
 
-wider : (a b n m : ℕ) → n ≤ m → b ≤ a + 2 * n → b ≤ a + 2 * m
-wider a b n m le lasts = omega (arith, le, lasts)
+one_more : (a b c n k : ℕ) → k ≡ n + 1 → b ≤ a + 2 * n → c ≤ b + 2 → c ≤ a + 2 * k
+one_more a b c n k is le more = omega (arith, is, le, more)
 
-none : (a n : ℕ) → a ≤ a + 2 * n
-none a n = omega arith
+none : (a : ℕ) → a ≤ a + 2 * 0
+none a = omega arith
 
 module _ {S : Type 0} {G : Ghosts S} {first : Fs S G} where
   -- none so far
-  pub ran_none : ((s : State) → Serves (mounted first s) → RunsAt first s first []) → RanAtMost 0 first first
-  ran_none begins = record {
+  pub led_none : ((s : State) → Serves (mounted first s) → RunsAt first s first []) → HasLed first first []
+  led_none begins = record {
     same = same_none (meaning_of first.system);
-    lasts = none first.system.log.epoch 0;
-    ran = λ s serves lasts. ([], begins s serves);
+    lasts = none first.system.log.epoch;
+    ran = λ s serves lasts. begins s serves;
   }
 
   -- one more
-  pub ran_one_more : {n : ℕ} {mid last : Fs S G} {command : Command} {reply : Reply} → RanAtMost n first mid → AppliesCommand mid last command reply → RanAtMost (n + 1) first last
-  ran_one_more {n} {mid} {last} {command} {reply} ran applied = record {
-    same = same_twice (meaning_of first.system) (meaning_of mid.system) (meaning_of last.system) ran.same applied.answers.uses.same;
-    lasts = one_more first.system.log.epoch mid.system.log.epoch last.system.log.epoch n ran.lasts applied.answers.epoch.lasts;
+  pub led_on : {mid last : Fs S G} {steps : Steps} {command : Command} {answer : Reply} → HasLed first mid steps → AppliesCommand mid last command answer → HasLed first last (steps ++ (command, answer) ∷ [])
+  led_on {mid} {last} {steps} {command} {answer} led applied = record {
+    same = same_twice (meaning_of first.system) (meaning_of mid.system) (meaning_of last.system) led.same applied.answers.uses.same;
+    lasts = one_more first.system.log.epoch mid.system.log.epoch last.system.log.epoch (length steps) _ (longer steps (command, answer)) led.lasts applied.answers.epoch.lasts;
     ran = λ s serves lasts.
-        let so_far = ran.ran s serves (fewer first.system.log.epoch n (n + 1) (omega arith) lasts) in
-        (so_far.0 ++ (command, reply) ∷ [], applied.goes_on first s so_far.0 so_far.1 (one_left first.system.log.epoch mid.system.log.epoch n ran.lasts lasts));
+        applied.goes_on first s steps (led.ran s serves (fewer first.system.log.epoch (length steps) _ (longer steps (command, answer)) lasts))
+        (one_left first.system.log.epoch mid.system.log.epoch (length steps) _ (longer steps (command, answer)) led.lasts lasts);
   }
 
-  -- at most so many are at most more
-  pub ran_at_most : {n m : ℕ} {last : Fs S G} → RanAtMost n first last → n ≤ m → RanAtMost m first last
-  ran_at_most {n} {m} {last} ran le = record {
-    same = ran.same;
-    lasts = wider first.system.log.epoch last.system.log.epoch n m le ran.lasts;
-    ran = λ s serves lasts. ran.ran s serves (fewer first.system.log.epoch n m le lasts);
-  }
+  -- a refused one ends it
+  pub refused_at : {last : Fs S G} (result : Result (List ℕ) Errno) (errno : Errno) (note : List ℕ) (fd written : ℕ) (kept : List ℕ) (before behind : Steps) (step : Command × Reply) → note_steps note fd written kept ≡ before ++ step ∷ behind
+      → IsErrAnd result (λ e. e ≡ errno) → HasLed first last (before ++ (step.0, reply.Refused errno) ∷ []) → KeepsNote note first last result
+  refused_at (Ok it) errno note fd written kept before behind step is told led = absurd told
+  refused_at {last} (Err e) errno note fd written kept before behind step is told led = (
+    before ++ (step.0, reply.Refused e) ∷ [],
+    (fd, written, kept, before, behind, step, is, refl),
+    subst (λ (x : Errno). HasLed first last (before ++ (step.0, reply.Refused x) ∷ [])) (sym told) led,
+  )
+
+-- a mode that was made of so many bits
+pub mode_is : (made : Option ℕ) (mode bits : ℕ) → made ≡ Some mode → IfSome made (λ m. m ≡ bits) → mode ≡ bits
+mode_is made mode bits is told = subst (λ (o : Option ℕ). IfSome o (λ m. m ≡ bits)) is told

@@ -1,7 +1,7 @@
 //! A note kept in a file system, and read back.
 
 ghost use Rattle.station.specs.Moments.{IsSameStation};
-ghost use Rattle.uses.specs.Using.{RanAtMost};
+ghost use Rattle.uses.specs.Using.{KeepsNote};
 
 use model::{Access, Errno, Flags, Mode, TRANSFER_BYTES, Text};
 use mount::{Fs, MakeError, MountError, make, mount};
@@ -28,10 +28,11 @@ const NEW: Flags = Flags {
     appends: false,
 };
 
-/// Makes a directory and a file on a mounted file system, writes a note there, reads it back, and takes a snapshot. However it ends,
-/// at most six commands led there, each durable when it was answered.
+/// Makes a directory and a file on a mounted file system, writes a note there, reads it back, and
+/// takes a snapshot. These six commands led there, or the first of them up to one that was refused;
+/// each is durable once it is answered.
 pub(crate) fn keep_note<S: Station>(fs: &mut Fs<S>, note: &[u8]) -> Result<Text, Errno>
-    ensures { RanAtMost 6 fs.old fs.new }
+    ensures { KeepsNote note.now fs.old fs.new result }
 {
     fs.begins();
     fs.mkdir(b"/notes", Mode::new(0o755).unwrap())?;
@@ -43,7 +44,8 @@ pub(crate) fn keep_note<S: Station>(fs: &mut Fs<S>, note: &[u8]) -> Result<Text,
     Ok(kept)
 }
 
-/// Makes an image of 64 blocks on a station, mounts it, keeps a note there, and gives the station back, whatever came in the way.
+/// Makes an image of 64 blocks on a station, mounts it, keeps a note there, and gives the station
+/// back, whatever came in the way.
 pub(crate) fn keep_on_new_image<S: Station>(
     alloc: Global,
     station: S,

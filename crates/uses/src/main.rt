@@ -1,4 +1,5 @@
-//! A caller of the file system, as small as it can be: it keeps a note on a station in memory, and shows what it reads back.
+//! A caller of the file system, as small as it can be: it keeps a note on a station in memory, and
+//! shows what it reads back.
 #![tactic(auto)]
 
 mod keeping;

@@ -40,7 +40,8 @@ fn obey_words(rt: &HostRuntime) -> io::Result<u8> {
     ))
 }
 
-/// Whether a file is one that another program writes while it is read. Where that can't be seen it isn't.
+/// Whether a file is one that another program writes while it is read. Where that can't be seen it
+/// isn't.
 fn is_pipe(rt: &HostRuntime, path: &str) -> bool {
     match fs::metadata(rt, path) {
         Ok(found) => found.file_type().is_fifo(),

@@ -13,9 +13,10 @@ use model::{Mode, records_change_trees};
 use records::{Failure, prepare_mode};
 use std::alloc::Global;
 
-/// Gives this mode to the file or directory where a path leads, where a last symbolic link is followed, as far as nothing of it is
-/// seen yet: prepares its record, or tells why the call is refused. NoMemory; Device where a read failed; Damaged where a block on
-/// the way is outside its format.
+/// Gives this mode to the file or directory where a path leads, where a last symbolic link is
+/// followed, as far as nothing of it is seen yet: prepares its record, or tells why the call is
+/// refused. NoMemory; Device where a read failed; Damaged where a block on the way is outside its
+/// format.
 pub fn change_mode<B: Blocks>(
     alloc: Global,
     inodes: &mut InodeFile,

@@ -22,9 +22,10 @@ use paths::{Found, Parts, Place, refusal_of_new_text, refusal_of_text, resolve};
 use records::{Failure, kind_at, prepare_link};
 use std::alloc::Global;
 
-/// Gives the file where the path `old` leads one more name, where `path` leads, as far as nothing of it is seen yet: prepares its
-/// record, or tells why the call is refused. A last symbolic link isn't followed. NoMemory; Device where a read failed; Damaged
-/// where a block on the way is outside its format.
+/// Gives the file where the path `old` leads one more name, where `path` leads, as far as nothing
+/// of it is seen yet: prepares its record, or tells why the call is refused. A last symbolic link
+/// isn't followed. NoMemory; Device where a read failed; Damaged where a block on the way is
+/// outside its format.
 pub fn link<B: Blocks>(
     alloc: Global,
     inodes: &mut InodeFile,
@@ -93,7 +94,7 @@ fn link_file<B: Blocks>(
     records_change_trees();
     let place = resolve(alloc, inodes, blocks, parts, false)?;
     match place {
-        Place::Gap { trail, name } => {
+        Place::Missing { trail, name } => {
             return link_in(alloc, inodes, blocks, trail.here(), name, number);
         }
         Place::Refusal(errno) => return Err(Failure::Refused(errno)),

@@ -13,9 +13,9 @@ use model::Mode;
 use records::Failure;
 use std::alloc::Global;
 
-/// Makes a directory of this mode where a path leads, as far as nothing of it is seen yet: prepares its record, or tells why the
-/// call is refused. NoMemory; Device where a read failed; Damaged where a block on the way is outside its format, or where a number
-/// that is free has an object.
+/// Makes a directory of this mode where a path leads, as far as nothing of it is seen yet: prepares
+/// its record, or tells why the call is refused. NoMemory; Device where a read failed; Damaged
+/// where a block on the way is outside its format, or where a number that is free has an object.
 pub fn make_directory<B: Blocks>(
     alloc: Global,
     inodes: &mut InodeFile,

@@ -5,14 +5,14 @@ ghost use Rattle.model.specs.Descriptors.{opens_object};
 ghost use Rattle.model.specs.Paths.{first_refusal, parts as parts_of, text_tests};
 ghost use Rattle.model.specs.Trees as trees;
 ghost use Rattle.model.specs.Volumes.{object_of, tree_of};
-ghost use Rattle.paths.specs.Numbers.{IsNumber};
+ghost use Rattle.paths.specs.Numbers.{IsInodeNumber};
 ghost use Rattle.paths.specs.Steps.{found_in};
 ghost use Rattle.paths.specs.declared.lookup.Found.TheVariants as found;
 ghost use Rattle.calls.specs.Open.{KeepsOpenedBounds, OpensAt, OpensNew, opens_along};
 ghost use Rattle.calls.specs.Preparing.{PreparesOpening};
 
 use crate::making::make_in;
-use crate::{Changing, OwnedObject, cut_file, stat_number};
+use crate::{Changing, OwnedObject, stat_number, truncate_file};
 use buffers::Blocks;
 use inofile::InodeFile;
 use layout::InodeNumber;
@@ -33,13 +33,14 @@ pub struct Opened {
     pub size: u64,
     /// How many names it has.
     pub links: u32,
-    /// What is changed beside: the file is made, or cut to no bytes.
+    /// What is changed beside: the file is made, or truncated to no bytes.
     pub changing: Option<Changing>,
 }
 
-/// Finds the file where the parts of a path lead, or prepares the record of a new one, as far as nothing of it is seen yet; and
-/// prepares the record that cuts a file to no bytes, where the flags say so. Or tells why the call is refused. A last symbolic
-/// link is followed, but not where a new file is wanted. NoMemory; Device where a read failed; Damaged where a block on the way is
+/// Finds the file where the parts of a path lead, or prepares the record of a new one, as far as
+/// nothing of it is seen yet; and prepares the record that truncates a file to no bytes, where the
+/// flags say so. Or tells why the call is refused. A last symbolic link is followed, but not where
+/// a new file is wanted. NoMemory; Device where a read failed; Damaged where a block on the way is
 /// outside its format, or where a number that is free has an object.
 pub fn open_along<B: Blocks>(
     alloc: Global,
@@ -62,7 +63,7 @@ pub fn open_along<B: Blocks>(
     records_change_trees();
     let place = resolve(alloc, inodes, blocks, parts, !wants_new(flags))?;
     match place {
-        Place::Gap { trail, name } => {
+        Place::Missing { trail, name } => {
             open_new(alloc, inodes, blocks, trail.here(), name, flags, mode)
         }
         Place::Refusal(errno) => Err(Failure::Refused(errno)),
@@ -82,7 +83,8 @@ fn wants_new(flags: Flags) -> bool
     flags.creates && flags.exclusive
 }
 
-// Opens the object with a number, if it is a file; EEXIST where a new file is wanted, EISDIR where it is a directory.
+// Opens the object with a number, if it is a file; EEXIST where a new file is wanted, EISDIR where
+// it is a directory.
 fn open_object<B: Blocks>(
     alloc: Global,
     inodes: &mut InodeFile,
@@ -90,7 +92,7 @@ fn open_object<B: Blocks>(
     number: InodeNumber,
     flags: Flags,
 ) -> Result<Opened, Failure>
-    requires number { IsNumber inodes.old.geometry.inodes number }
+    requires number { IsInodeNumber inodes.old.geometry.inodes number }
     ensures within { IfOk result (KeepsOpenedBounds inodes.old.geometry.inodes) }
     ensures opens { PreparesOpening B.Blocks blocks.old blocks.new inodes.old inodes.new
         (λ inodes v table r. (o : trees.Object) → object_of number (v number) ≡ Some o → (IsTrue
@@ -112,7 +114,7 @@ fn open_object<B: Blocks>(
             changing: None,
         });
     }
-    let changing = cut_file(alloc, inodes, blocks, number, 0)?;
+    let changing = truncate_file(alloc, inodes, blocks, number, 0)?;
     Ok(Opened {
         number,
         size: 0,

@@ -7,7 +7,7 @@ ghost use Rattle.model.specs.Paths.{parts as parts_of};
 ghost use Rattle.model.specs.Records.{IsBelow};
 ghost use Rattle.model.specs.Resolution.{resolve};
 ghost use Rattle.model.specs.Volumes.{entries, tree_of};
-ghost use Rattle.paths.specs.Numbers.{AreNumbers, IsNumber};
+ghost use Rattle.paths.specs.Numbers.{AreInodeNumbers, IsInodeNumber};
 ghost use Rattle.calls.specs.Changing.{ComesOrStays};
 ghost use Rattle.calls.specs.Rename.{MovesAlong, MovesName, PassTests};
 ghost use Rattle.records.specs.Moving.{MovesOver};
@@ -26,10 +26,11 @@ use paths::{Parts, Place, Trail, refusal_of_new_text, resolve};
 use records::{Failure, prepare_move};
 use std::alloc::Global;
 
-/// Moves what stands where the path `old` leads, with all below it, to where `path` leads, in place of what stood there, as far as
-/// nothing of it is seen yet: prepares its record, or tells why the call is refused. None where the object has that name, or is a
-/// file of which it is another name: then nothing changes. Last symbolic links aren't followed. NoMemory; Device where a read
-/// failed; Damaged where a block on the way is outside its format.
+/// Moves what stands where the path `old` leads, with all below it, to where `path` leads, in place
+/// of what stood there, as far as nothing of it is seen yet: prepares its record, or tells why the
+/// call is refused. None where the object has that name, or is a file of which it is another name:
+/// then nothing changes. Last symbolic links aren't followed. NoMemory; Device where a read failed;
+/// Damaged where a block on the way is outside its format.
 pub fn rename<B: Blocks>(
     alloc: Global,
     inodes: &mut InodeFile,
@@ -85,14 +86,15 @@ fn rename_along<B: Blocks>(
         // Only the path `/`, which doesn't come here, has no name at its end.
         Place::Directory(_trail) => return Err(Failure::Refused(Errno::EBUSY)),
         Place::Refusal(errno) => return Err(Failure::Refused(errno)),
-        Place::Gap {
+        Place::Missing {
             trail: _trail,
             name: _name,
         } => return Err(Failure::Refused(Errno::ENOENT)),
     }
 }
 
-// The same of the object that the first path leads to, by its name in the directory at the end of the trail.
+// The same of the object that the first path leads to, by its name in the directory at the end of
+// the trail.
 #[allow(clippy::too_many_arguments)]
 fn rename_found<B: Blocks>(
     alloc: Global,
@@ -107,8 +109,8 @@ fn rename_found<B: Blocks>(
 ) -> Result<Option<Changing>, Failure>
     requires to { to ≡ parts_of path.now }
     requires passed { PassTests old.now path.now }
-    requires within { AreNumbers inodes.old.geometry.inodes trail }
-    requires number { IsNumber inodes.old.geometry.inodes number }
+    requires within { AreInodeNumbers inodes.old.geometry.inodes trail }
+    requires number { IsInodeNumber inodes.old.geometry.inodes number }
     ensures { PreparesKnowing (λ v. entries v (here trail) name.items ≡ Some number)
         B.Blocks blocks.old blocks.new inodes.old inodes.new
         (λ inodes v table r. IsPlaceOf v (at_entry trail name.items number) (resolve (tree_of v
@@ -135,7 +137,7 @@ fn rename_found<B: Blocks>(
                 alloc, inodes, blocks, parent, name, number, above, new_name, target,
             );
         }
-        Place::Gap {
+        Place::Missing {
             trail: above,
             name: new_name,
         } => {
@@ -148,8 +150,9 @@ fn rename_found<B: Blocks>(
     }
 }
 
-// Moves the name that an object has in a directory to another one, in the directory that a trail leads to, where the target has it, if
-// anything does; EINVAL where that directory lies below the object, as the trail tells.
+// Moves the name that an object has in a directory to another one, in the directory that a trail
+// leads to, where the target has it, if anything does; EINVAL where that directory lies below the
+// object, as the trail tells.
 #[allow(clippy::too_many_arguments)]
 fn move_name<B: Blocks>(
     alloc: Global,
@@ -162,10 +165,10 @@ fn move_name<B: Blocks>(
     new_name: Vec<u8>,
     target: Option<InodeNumber>,
 ) -> Result<Option<Changing>, Failure>
-    requires parent { IsNumber inodes.old.geometry.inodes parent }
-    requires number { IsNumber inodes.old.geometry.inodes number }
-    requires within { AreNumbers inodes.old.geometry.inodes trail }
-    requires target { IfSome target (IsNumber inodes.old.geometry.inodes) }
+    requires parent { IsInodeNumber inodes.old.geometry.inodes parent }
+    requires number { IsInodeNumber inodes.old.geometry.inodes number }
+    requires within { AreInodeNumbers inodes.old.geometry.inodes trail }
+    requires target { IfSome target (IsInodeNumber inodes.old.geometry.inodes) }
     ensures { PreparesKnowing
         (λ v. MovesOver v parent name.items number (here trail) new_name.items target)
         B.Blocks blocks.old blocks.new inodes.old inodes.new
@@ -181,7 +184,8 @@ fn move_name<B: Blocks>(
     )
 }
 
-// Prepares that a name is moved to a directory outside of what has it, or tells the first obstacle to its record.
+// Prepares that a name is moved to a directory outside of what has it, or tells the first obstacle
+// to its record.
 #[allow(clippy::too_many_arguments)]
 fn record_move<B: Blocks>(
     alloc: Global,
@@ -194,10 +198,10 @@ fn record_move<B: Blocks>(
     new_name: Vec<u8>,
     target: Option<InodeNumber>,
 ) -> Result<Option<Changing>, Failure>
-    requires parent { IsNumber inodes.old.geometry.inodes parent }
-    requires number { IsNumber inodes.old.geometry.inodes number }
-    requires new_parent { IsNumber inodes.old.geometry.inodes new_parent }
-    requires target { IfSome target (IsNumber inodes.old.geometry.inodes) }
+    requires parent { IsInodeNumber inodes.old.geometry.inodes parent }
+    requires number { IsInodeNumber inodes.old.geometry.inodes number }
+    requires new_parent { IsInodeNumber inodes.old.geometry.inodes new_parent }
+    requires target { IfSome target (IsInodeNumber inodes.old.geometry.inodes) }
     ensures { PreparesKnowing
         (λ v. MovesOver v parent name.items number new_parent new_name.items target)
         B.Blocks blocks.old blocks.new inodes.old inodes.new

@@ -2,13 +2,13 @@
 
 ghost use Rattle.model.specs.Changing.{removes_directory};
 ghost use Rattle.model.specs.Volumes.{tree_of};
-ghost use Rattle.paths.specs.Numbers.{IsNumber};
+ghost use Rattle.paths.specs.Numbers.{IsInodeNumber};
 ghost use Rattle.calls.specs.Changing.{ComesSwept};
 ghost use Rattle.calls.specs.Preparing.{Prepares};
 ghost use Rattle.calls.specs.Rmdir.{RemovesDirectory};
 
 use crate::Changing;
-use crate::preparing::unlink::remove_name;
+use crate::preparing::unlink::prepare_removal;
 use crate::root::is_root;
 use buffers::Blocks;
 use inofile::InodeFile;
@@ -18,7 +18,8 @@ use paths::{Found, Parts, Place, refusal_of_new_text, resolve};
 use records::{Failure, kind_at};
 use std::alloc::Global;
 
-/// Takes away the name that a path leads to, of an empty directory, as `unlink` does of another object.
+/// Takes away the name that a path leads to, of an empty directory, as `unlink` does of another
+/// object.
 pub fn remove_directory<B: Blocks>(
     alloc: Global,
     inodes: &mut InodeFile,
@@ -48,7 +49,7 @@ pub fn remove_directory<B: Blocks>(
         // Only the path `/`, which doesn't come here, has no name at its end.
         Place::Directory(_trail) => return Err(Failure::Refused(Errno::EBUSY)),
         Place::Refusal(errno) => return Err(Failure::Refused(errno)),
-        Place::Gap {
+        Place::Missing {
             trail: _trail,
             name: _name,
         } => return Err(Failure::Refused(Errno::ENOENT)),
@@ -64,13 +65,13 @@ fn remove_entry<B: Blocks>(
     name: Vec<u8>,
     number: InodeNumber,
 ) -> Result<Changing, Failure>
-    requires { IsNumber inodes.old.geometry.inodes number }
+    requires { IsInodeNumber inodes.old.geometry.inodes number }
     ensures { Prepares B.Blocks blocks.old blocks.new inodes.old inodes.new
         (λ inodes v table. RemovesDirectory inodes v parent name.items number) result }
 {
     let found = kind_at(alloc, inodes, blocks, number)?;
     match found {
-        Found::Directory => remove_name(alloc, inodes, blocks, parent, name),
+        Found::Directory => prepare_removal(alloc, inodes, blocks, parent, name),
         _ => Err(Failure::Refused(Errno::ENOTDIR)),
     }
 }

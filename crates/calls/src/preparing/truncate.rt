@@ -5,9 +5,9 @@ ghost use Rattle.model.specs.Changing.{size_tests, truncates};
 ghost use Rattle.model.specs.Paths.{first_refusal, parts as parts_of, text_tests_then};
 ghost use Rattle.model.specs.Volumes.{is_file_node, tree_of};
 ghost use Rattle.model.specs.declared.limits.TheConstants.{GREATEST_FILE};
-ghost use Rattle.paths.specs.Numbers.{IsNumber};
+ghost use Rattle.paths.specs.Numbers.{IsInodeNumber};
 ghost use Rattle.calls.specs.Changing.{ComesOrStays};
-ghost use Rattle.calls.specs.Truncate.{CutsFile};
+ghost use Rattle.calls.specs.Truncate.{TruncatesFile};
 ghost use Rattle.calls.specs.Preparing.{PreparesAny};
 
 use crate::leading::find_object;
@@ -17,12 +17,13 @@ use inofile::InodeFile;
 use layout::InodeNumber;
 use model::{Errno, GREATEST_FILE};
 use paths::{Found, Parts, refusal_of_text};
-use records::{Failure, cut_bytes, kind_at};
+use records::{Failure, kind_at, truncate_bytes};
 use std::alloc::Global;
 
-/// Gives a size to the file where a path leads, where a last symbolic link is followed, as far as nothing of it is seen yet:
-/// prepares its record, or tells that the file has the size, or why the call is refused. NoMemory; Device where a read failed;
-/// Damaged where a block on the way is outside its format.
+/// Gives a size to the file where a path leads, where a last symbolic link is followed, as far as
+/// nothing of it is seen yet: prepares its record, or tells that the file has the size, or why the
+/// call is refused. NoMemory; Device where a read failed; Damaged where a block on the way is
+/// outside its format.
 pub fn truncate<B: Blocks>(
     alloc: Global,
     inodes: &mut InodeFile,
@@ -44,7 +45,8 @@ pub fn truncate<B: Blocks>(
     truncate_along(alloc, inodes, blocks, path, parts, size)
 }
 
-/// Why a file can't get a size, if it can't: EINVAL where it is negative, EFBIG where it is greater than the limit.
+/// Why a file can't get a size, if it can't: EINVAL where it is negative, EFBIG where it is greater
+/// than the limit.
 pub fn refusal_of_size(size: i64) -> Option<Errno>
     ensures { result ≡ first_refusal (size_tests size) }
 {
@@ -57,7 +59,8 @@ pub fn refusal_of_size(size: i64) -> Option<Errno>
     None
 }
 
-// The same with a text and a size that passed their tests, and the text's parts; EISDIR where it leads to no file.
+// The same with a text and a size that passed their tests, and the text's parts; EISDIR where it
+// leads to no file.
 fn truncate_along<B: Blocks>(
     alloc: Global,
     inodes: &mut InodeFile,
@@ -76,32 +79,33 @@ fn truncate_along<B: Blocks>(
     let number = find_object(alloc, inodes, blocks, parts, true)?;
     let found = kind_at(alloc, inodes, blocks, number)?;
     match found {
-        Found::File => cut_file(alloc, inodes, blocks, number, size.unsigned_abs()),
+        Found::File => truncate_file(alloc, inodes, blocks, number, size.unsigned_abs()),
         _ => Err(Failure::Refused(Errno::EISDIR)),
     }
 }
 
-/// Gives a size to the file with a number, as far as nothing of it is seen yet: prepares its record; none where the file has the
-/// size; EFBIG where it is no file. NoMemory; Device where a read failed; Damaged where a block on the way is outside its format.
-pub fn cut_file<B: Blocks>(
+/// Gives a size to the file with a number, as far as nothing of it is seen yet: prepares its
+/// record; none where the file has the size; EFBIG where it is no file. NoMemory; Device where a
+/// read failed; Damaged where a block on the way is outside its format.
+pub fn truncate_file<B: Blocks>(
     alloc: Global,
     inodes: &mut InodeFile,
     blocks: &mut B,
     number: InodeNumber,
     size: u64,
 ) -> Result<Option<Changing>, Failure>
-    requires number { IsNumber inodes.old.geometry.inodes number }
+    requires number { IsInodeNumber inodes.old.geometry.inodes number }
     requires within { size ≤ GREATEST_FILE }
     ensures { PreparesAny B.Blocks blocks.old blocks.new inodes.old inodes.new
-        (λ inodes v table r. IsTrue (is_file_node (v number)) → IsOkAnd r (CutsFile inodes v table
+        (λ inodes v table r. IsTrue (is_file_node (v number)) → IsOkAnd r (TruncatesFile inodes v table
         number size)) result }
 {
-    let planned = cut_bytes(alloc, inodes, blocks, number, size)?;
+    let planned = truncate_bytes(alloc, inodes, blocks, number, size)?;
     let Some(prepared) = planned else {
         return Ok(None);
     };
     Ok(Some(Changing {
-        change: OwnedChange::Cut { number, size },
+        change: OwnedChange::Truncate { number, size },
         prepared,
     }))
 }

@@ -1,9 +1,9 @@
 //! Taking a name away over a path, of anything but a directory.
 
 ghost use Rattle.model.specs.Changing.{unlinks};
-ghost use Rattle.model.specs.Records.{unname};
+ghost use Rattle.model.specs.Records.{remove_name};
 ghost use Rattle.model.specs.Volumes.{tree_of};
-ghost use Rattle.paths.specs.Numbers.{IsNumber};
+ghost use Rattle.paths.specs.Numbers.{IsInodeNumber};
 ghost use Rattle.calls.specs.Changing.{ComesSwept, Decides};
 ghost use Rattle.calls.specs.Preparing.{Prepares};
 ghost use Rattle.calls.specs.Unlink.{UnlinksEntry};
@@ -14,12 +14,12 @@ use inofile::InodeFile;
 use layout::InodeNumber;
 use model::{Errno, records_change_trees, volumes_are_trees};
 use paths::{Found, Parts, Place, refusal_of_new_text, resolve};
-use records::{Failure, kind_at, prepare_unname};
+use records::{Failure, kind_at, prepare_remove_name};
 use std::alloc::Global;
 
-/// Takes away the name that a path leads to, of a file or of a symbolic link, which isn't followed, as far as nothing of it is seen
-/// yet: prepares its record, or tells why the call is refused. NoMemory; Device where a read failed; Damaged where a block on the
-/// way is outside its format.
+/// Takes away the name that a path leads to, of a file or of a symbolic link, which isn't followed,
+/// as far as nothing of it is seen yet: prepares its record, or tells why the call is refused.
+/// NoMemory; Device where a read failed; Damaged where a block on the way is outside its format.
 pub fn unlink<B: Blocks>(
     alloc: Global,
     inodes: &mut InodeFile,
@@ -44,7 +44,7 @@ pub fn unlink<B: Blocks>(
         } => return unlink_entry(alloc, inodes, blocks, trail.here(), name, number),
         Place::Directory(_trail) => return Err(Failure::Refused(Errno::EPERM)),
         Place::Refusal(errno) => return Err(Failure::Refused(errno)),
-        Place::Gap {
+        Place::Missing {
             trail: _trail,
             name: _name,
         } => return Err(Failure::Refused(Errno::ENOENT)),
@@ -60,19 +60,19 @@ fn unlink_entry<B: Blocks>(
     name: Vec<u8>,
     number: InodeNumber,
 ) -> Result<Changing, Failure>
-    requires { IsNumber inodes.old.geometry.inodes number }
+    requires { IsInodeNumber inodes.old.geometry.inodes number }
     ensures { Prepares B.Blocks blocks.old blocks.new inodes.old inodes.new
         (λ inodes v table. UnlinksEntry inodes v parent name.items number) result }
 {
     let found = kind_at(alloc, inodes, blocks, number)?;
     match found {
         Found::Directory => Err(Failure::Refused(Errno::EPERM)),
-        _ => remove_name(alloc, inodes, blocks, parent, name),
+        _ => prepare_removal(alloc, inodes, blocks, parent, name),
     }
 }
 
 /// Prepares that a name is taken away, or tells the first obstacle to its record.
-pub(crate) fn remove_name<B: Blocks>(
+pub(crate) fn prepare_removal<B: Blocks>(
     alloc: Global,
     inodes: &mut InodeFile,
     blocks: &mut B,
@@ -80,14 +80,14 @@ pub(crate) fn remove_name<B: Blocks>(
     name: Vec<u8>,
 ) -> Result<Changing, Failure>
     ensures { Prepares B.Blocks blocks.old blocks.new inodes.old inodes.new
-        (λ inodes v table. Decides inodes v (unname parent name.items)) result }
+        (λ inodes v table. Decides inodes v (remove_name parent name.items)) result }
 {
     let Some(name) = EntryName::new(name) else {
         return Err(Failure::Refused(Errno::ENOENT));
     };
-    let prepared = prepare_unname(alloc, inodes, blocks, parent, &name.bytes)?;
+    let prepared = prepare_remove_name(alloc, inodes, blocks, parent, &name.bytes)?;
     Ok(Changing {
-        change: OwnedChange::Unname { parent, name },
+        change: OwnedChange::RemoveName { parent, name },
         prepared,
     })
 }

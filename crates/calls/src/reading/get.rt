@@ -14,8 +14,9 @@ use paths::{Parts, refusal_of_text};
 use records::{Failure, read_bytes};
 use std::alloc::Global;
 
-/// As many bytes as asked and there, from an offset on, of the file that a path leads to, or why the call is refused. NoMemory;
-/// Device where a read failed; Damaged where a block on the way is outside its format.
+/// As many bytes as asked and there, from an offset on, of the file that a path leads to, or why
+/// the call is refused. NoMemory; Device where a read failed; Damaged where a block on the way is
+/// outside its format.
 pub fn get<B: Blocks>(
     alloc: Global,
     inodes: &mut InodeFile,

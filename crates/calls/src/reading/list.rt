@@ -11,8 +11,9 @@ use model::{Errno, Names};
 use records::{Failure, is_directory_at};
 use std::alloc::Global;
 
-/// The names of the directory that a path leads to, sorted by their bytes, or why the call is refused. NoMemory; Device where a
-/// read failed; Damaged where a block on the way is outside its format.
+/// The names of the directory that a path leads to, sorted by their bytes, or why the call is
+/// refused. NoMemory; Device where a read failed; Damaged where a block on the way is outside its
+/// format.
 pub fn list<B: Blocks>(
     alloc: Global,
     inodes: &mut InodeFile,

@@ -12,8 +12,9 @@ use paths::Found;
 use records::{Failure, kind_at};
 use std::alloc::Global;
 
-/// The text of the symbolic link that a path leads to, which isn't followed, or why the call is refused. NoMemory; Device where
-/// a read failed; Damaged where a block on the way is outside its format.
+/// The text of the symbolic link that a path leads to, which isn't followed, or why the call is
+/// refused. NoMemory; Device where a read failed; Damaged where a block on the way is outside its
+/// format.
 pub fn readlink<B: Blocks>(
     alloc: Global,
     inodes: &mut InodeFile,

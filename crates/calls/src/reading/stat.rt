@@ -6,7 +6,7 @@ ghost use Rattle.model.specs.Reading.{stats};
 ghost use Rattle.model.specs.Volumes.{Node};
 ghost use Rattle.model.specs.declared.limits.TheConstants.{GREATEST_FILE};
 ghost use Rattle.inofile.specs.Objects.{IsObject};
-ghost use Rattle.paths.specs.Numbers.{IsNumber};
+ghost use Rattle.paths.specs.Numbers.{IsInodeNumber};
 ghost use Rattle.calls.specs.Stat.{IsStatOf, TellsStat, stat_reply};
 ghost use Rattle.calls.specs.Seeing.{Answers, Tells};
 
@@ -19,8 +19,9 @@ use model::{Errno, Stat, volumes_tell_links};
 use records::{Failure, load};
 use std::alloc::Global;
 
-/// What stands where a path leads, where a last symbolic link is followed, or why the call is refused. NoMemory; Device where a
-/// read failed; Damaged where a block on the way is outside its format.
+/// What stands where a path leads, where a last symbolic link is followed, or why the call is
+/// refused. NoMemory; Device where a read failed; Damaged where a block on the way is outside its
+/// format.
 pub fn stat<B: Blocks>(
     alloc: Global,
     inodes: &mut InodeFile,
@@ -62,15 +63,15 @@ fn stat_at<B: Blocks>(
     stat_number(alloc, inodes, blocks, number)
 }
 
-/// What the object with a number is; DAMAGED where there is none. NoMemory; Device where a read failed; Damaged where a block on
-/// the way is outside its format.
+/// What the object with a number is; DAMAGED where there is none. NoMemory; Device where a read
+/// failed; Damaged where a block on the way is outside its format.
 pub fn stat_number<B: Blocks>(
     alloc: Global,
     inodes: &mut InodeFile,
     blocks: &mut B,
     number: InodeNumber,
 ) -> Result<Stat, Failure>
-    requires { IsNumber inodes.old.geometry.inodes number }
+    requires { IsInodeNumber inodes.old.geometry.inodes number }
     ensures within { IfOk result (λ s. s.size ≤ GREATEST_FILE) }
     ensures told { Tells B.Blocks blocks.old blocks.new inodes.old inodes.new
         (λ v. TellsStat v number) result }

@@ -1,6 +1,6 @@
-//! The tables of a file. A line of a format and a length begins a table of so many zero bytes; `at PLACE HEX` gives it
-//! bytes; `good PLACE=HEX ..` and `bad PLACE=HEX ..` say whether it is in the format with one byte changed, or, where a word
-//! is `.`, as it stands.
+//! The tables of a file. A line of a format and a length begins a table of so many zero bytes; `at
+//! PLACE HEX` gives it bytes; `good PLACE=HEX ..` and `bad PLACE=HEX ..` say whether it is in the
+//! format with one byte changed, or, where a word is `.`, as it stands.
 
 use super::format::{Format, holds};
 use std::alloc::{AllocError, Global};

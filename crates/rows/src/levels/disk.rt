@@ -7,7 +7,8 @@ use std::alloc::{AllocError, Global};
 
 const BLOCKS: u8 = 210;
 
-/// A disk of zeros up to block 7; block b from there on is full of the letter with the code 65 + b % 26.
+/// A disk of zeros up to block 7; block b from there on is full of the letter with the code 65 + b
+/// % 26.
 pub fn made_disk(alloc: Global) -> Result<Vec<u8>, AllocError> {
     let mut disk = Vec::new(alloc);
     for block in 0..BLOCKS {

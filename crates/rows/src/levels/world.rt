@@ -56,7 +56,8 @@ impl World {
     }
 }
 
-/// `BLOCK OFFSET HEX`: puts bytes on the disk, before anything is read. They are left out where they don't fit there.
+/// `BLOCK OFFSET HEX`: puts bytes on the disk, before anything is read. They are left out where
+/// they don't fit there.
 fn put_digits(alloc: Global, disk: &mut Vec<u8>, words: &str) -> Result<(), Fault> {
     let (block, rest) = words.split_once(' ').unwrap_or((words, ""));
     let (offset, digits) = rest.split_once(' ').unwrap_or((rest, ""));

@@ -81,7 +81,8 @@ fn check_on<I: Read, O: Write, E: Write>(
     }
 }
 
-/// Tells what a check of an image finds that isn't mounted. It stores nothing, and waits for no lock.
+/// Tells what a check of an image finds that isn't mounted. It stores nothing, and waits for no
+/// lock.
 pub(crate) fn find_faults<E: Write>(rt: &HostRuntime, image: Image<'_>, err: &mut E) {
     let Ok(station) = open_to_read(rt, image, Patience::None) else {
         return;
@@ -94,7 +95,8 @@ pub(crate) fn find_faults<E: Write>(rt: &HostRuntime, image: Image<'_>, err: &mu
     let _ = check(rt.alloc(), station, &mut teller);
 }
 
-/// Tells where an image without a fault has too little room for a consistency point, as one may that another program wrote.
+/// Tells where an image without a fault has too little room for a consistency point, as one may
+/// that another program wrote.
 fn tell_reserve<E: Write>(report: &Report, err: &mut E) {
     if let Report::Good(summary) = report {
         if !summary.has_reserve {

@@ -5,7 +5,7 @@ ghost use Rattle.tool.specs.Words.{IsToFail, KeepsAsTold, mark_told};
 
 use command_line::{Kept, RunFaults};
 use host_files::{FileError, Held, Image, ImageStation, Patience, load_station};
-use memory_station::{Keep, Mark, Sim};
+use memory_station::{CutOutcome, Mark, Sim};
 use std::alloc::{AllocError, Global};
 
 /// An image in memory that is to fail as these faults say.
@@ -19,7 +19,8 @@ pub(super) fn failing_image<'a>(
     Ok(ImageStation::Memory(sim, held))
 }
 
-/// What a run in memory starts from: a station that is to fail as these faults say, and what holds the image's files.
+/// What a run in memory starts from: a station that is to fail as these faults say, and what holds
+/// the image's files.
 fn failing_station<'a>(
     rt: &HostRuntime,
     image: Image<'a>,
@@ -30,7 +31,7 @@ fn failing_station<'a>(
 {
     let (mut sim, held) = load_station(rt, image, patience)?;
     if let Some(cut) = faults.cut {
-        sim.cut_at(cut, keep_of(rt.alloc(), faults.keep)?, faults.bytes);
+        sim.cut_at(cut, cut_outcome_of(rt.alloc(), faults.keep)?, faults.bytes);
     }
     if let Some(sync) = faults.fail_sync {
         sim.fail_sync_at(sync);
@@ -39,17 +40,20 @@ fn failing_station<'a>(
 }
 
 /// Which writes a cut keeps, by the word for it.
-fn keep_of(alloc: Global, kept: Kept<'_>) -> Result<Keep, AllocError>
+fn cut_outcome_of(alloc: Global, kept: Kept<'_>) -> Result<CutOutcome, AllocError>
     ensures { IfOk result (KeepsAsTold kept.entry) }
 {
     match kept {
-        Kept::Nothing => Ok(Keep::Nothing),
-        Kept::Everything => Ok(Keep::Everything),
-        Kept::Bits(text) => Ok(Keep::Bits(text.bytes().map(|byte| mark_of(byte)).collect(alloc)?)),
+        Kept::Nothing => Ok(CutOutcome::Nothing),
+        Kept::Everything => Ok(CutOutcome::Everything),
+        Kept::Bits(text) => Ok(CutOutcome::Bits(
+            text.bytes().map(|byte| mark_of(byte)).collect(alloc)?,
+        )),
     }
 }
 
-/// What a character of a text says of a sector write: 0 drops it, 1 keeps it, and with 2 the sector can't be read.
+/// What a character of a text says of a sector write: 0 drops it, 1 keeps it, and with 2 the sector
+/// can't be read.
 fn mark_of(byte: u8) -> Mark
     ensures { result ≡ mark_told byte }
 {

@@ -13,7 +13,8 @@ use std::alloc::{AllocError, Global};
 use std::cell::RefCell;
 use std::io::{Read, Write};
 
-/// The commands that read alone, but for `snap list`, which is two words, and `in`, which reads whatever is behind it.
+/// The commands that read alone, but for `snap list`, which is two words, and `in`, which reads
+/// whatever is behind it.
 const READING: [&str; 7] = ["list", "stat", "lstat", "readlink", "get", "in", "df"];
 
 /// Does one command, which words spell.

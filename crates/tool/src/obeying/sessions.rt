@@ -8,7 +8,8 @@ use host_files::{FileError, Image, ImageStation, open_image, read_script};
 use session::{Ending, Sink, Status, session};
 use std::io::{Read, Write};
 
-/// Runs a script: on the image's files, or in memory where something is to go wrong or can't be read.
+/// Runs a script: on the image's files, or in memory where something is to go wrong or can't be
+/// read.
 pub(super) fn run_script<I: Read, O: Write, E: Write>(
     rt: &HostRuntime,
     image: Image<'_>,

@@ -25,8 +25,8 @@ pub(super) fn run_shell<I: Read, O: Write, E: Write>(
     }
 }
 
-/// Answers each line of standard input on an image whose power isn't cut. What a refusal means, and why a line is no command, is told
-/// behind its reply.
+/// Answers each line of standard input on an image whose power isn't cut. What a refusal means, and
+/// why a line is no command, is told behind its reply.
 fn answer_lines<I: Read, O: Write, E: Write>(
     rt: &HostRuntime,
     image: Image<'_>,

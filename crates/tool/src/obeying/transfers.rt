@@ -1,4 +1,5 @@
-//! Storing a file of the host's in an image, bringing one back, and bringing back what a snapshot has.
+//! Storing a file of the host's in an image, bringing one back, and bringing back what a snapshot
+//! has.
 
 use super::Streams;
 use crate::explain::explain_mount;

@@ -21,7 +21,8 @@ pub(crate) struct Found {
     pub(crate) sector: u32,
     /// The sector of another root, which doesn't go with it.
     pub(crate) other: Option<u32>,
-    /// The inode of the file of the inodes of the root before it, where that stands in the other slot.
+    /// The inode of the file of the inodes of the root before it, where that stands in the other
+    /// slot.
     older: Option<Inode>,
     /// The snapshots, in the order of their slots.
     pub(crate) snapshots: Vec<Snapshot>,
@@ -104,8 +105,8 @@ impl Found {
         }
     }
 
-    /// The inodes of the files of the inodes of other trees, whose maps may stand in the place of the running one's: nothing that is read
-    /// depends on these.
+    /// The inodes of the files of the inodes of other trees, whose maps may stand in the place of
+    /// the running one's: nothing that is read depends on these.
     pub(crate) fn other_trees(&self) -> [Option<Inode>; 2] {
         [self.older, self.last_snapshot()]
     }
@@ -121,7 +122,8 @@ impl Found {
         last
     }
 
-    /// The inode of the file of a snapshot's inodes, where there is one of this name whose root can be read.
+    /// The inode of the file of a snapshot's inodes, where there is one of this name whose root can
+    /// be read.
     pub(crate) fn tree_of(&self, name: &[u8]) -> Option<Inode> {
         for snapshot in self.snapshots.as_slice() {
             if let State::Good(tree) = snapshot.state {
@@ -158,7 +160,8 @@ fn older_tree(taken: &Taken, other: Option<u32>) -> Option<Inode> {
     }
 }
 
-/// The root that a mount takes of what both slots hold, or the likelier one where it takes none of two, with the sector of the other.
+/// The root that a mount takes of what both slots hold, or the likelier one where it takes none of
+/// two, with the sector of the other.
 fn take_one(disk: &File, first: &Slot, second: &Slot) -> Option<(Taken, Option<u32>)> {
     if let Some(taken) = take_newer(first, second) {
         return Some((taken, None));
@@ -173,7 +176,8 @@ fn take_one(disk: &File, first: &Slot, second: &Slot) -> Option<(Taken, Option<u
     }
 }
 
-/// The likelier one of two roots that don't go together: it tells the disk's length, and its generation is one of its slot.
+/// The likelier one of two roots that don't go together: it tells the disk's length, and its
+/// generation is one of its slot.
 fn likelier(disk: &File, a: &Root, b: &Root) -> Taken {
     if is_likely(disk, a, 1) || !is_likely(disk, b, 0) {
         Taken {

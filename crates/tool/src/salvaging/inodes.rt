@@ -14,8 +14,8 @@ const POINTERS: u32 = BLOCK_POINTERS as u32;
 /// How many maps there are. Their inodes are the first two behind number 0.
 const MAPS: usize = 2;
 
-/// The bytes of the disk at which those inodes of a root's tree begin that are outside the format and may be left out: they are of no map
-/// and not of the root directory.
+/// The bytes of the disk at which those inodes of a root's tree begin that are outside the format
+/// and may be left out: they are of no map and not of the root directory.
 pub(crate) fn bad_inodes(alloc: Global, root: &Root, disk: &File) -> Result<Vec<u64>, AllocError> {
     let mut bad = Vec::new(alloc);
     let inodes = root.geometry.inodes();
@@ -33,7 +33,8 @@ pub(crate) fn bad_inodes(alloc: Global, root: &Root, disk: &File) -> Result<Vec<
     Ok(bad)
 }
 
-/// The bytes of the inodes of both maps in a root's tree, and the byte of the disk at which they begin. None where they can't be read.
+/// The bytes of the inodes of both maps in a root's tree, and the byte of the disk at which they
+/// begin. None where they can't be read.
 pub(crate) fn maps_in(alloc: Global, root: &Root, disk: &File) -> Option<(u64, Vec<u8>)> {
     let place = place_of(disk, root, 0)?;
     let at = (BLOCK_BYTES as u64 * u64::from(place)).saturating_add(INODE_BYTES as u64);
@@ -42,7 +43,8 @@ pub(crate) fn maps_in(alloc: Global, root: &Root, disk: &File) -> Option<(u64, V
     Some((at, bytes))
 }
 
-/// The block of the disk that has a block of the inode file. None where that is a hole, or can't be found.
+/// The block of the disk that has a block of the inode file. None where that is a hole, or can't be
+/// found.
 fn place_of(disk: &File, root: &Root, block: u32) -> Option<u32> {
     let Inode { size, body, .. } = root.inode_file;
     let Body::Pointers(pointers) = body else {

@@ -9,7 +9,8 @@ use std::fs::{File, OpenFile};
 use std::io;
 use std::io::Write;
 
-/// Tells what is so whatever is left out: the lengths of the files, a list that isn't minded, a root that doesn't go with the other.
+/// Tells what is so whatever is left out: the lengths of the files, a list that isn't minded, a
+/// root that doesn't go with the other.
 pub(crate) fn tell_image<E: Write>(
     rt: &HostRuntime,
     image: Image<'_>,

@@ -44,7 +44,8 @@ pub(crate) fn letter(sector: u32) -> char {
     if sector == SLOT_A { 'A' } else { 'B' }
 }
 
-/// A file, open for reading. None where it can't be opened, or is none: a FIFO waits for another program when it is opened.
+/// A file, open for reading. None where it can't be opened, or is none: a FIFO waits for another
+/// program when it is opened.
 pub(crate) fn open_to_look(rt: &HostRuntime, path: &str) -> Option<File> {
     let found = fs::metadata(rt, path).ok()?;
     if found.is_file() || found.file_type().is_block_device() {
@@ -75,8 +76,8 @@ fn look_at(disk: &File, sector: u32, bad: &[u32]) -> Slot {
     }
 }
 
-/// The root that a mount takes of what both slots hold. None where it takes none: there is none, or two are of one generation or of
-/// different sizes.
+/// The root that a mount takes of what both slots hold. None where it takes none: there is none, or
+/// two are of one generation or of different sizes.
 pub(crate) fn take_newer(first: &Slot, second: &Slot) -> Option<Taken> {
     match (first, second) {
         (Slot::Root(a), Slot::Root(b)) => newer_of(a, b),

@@ -14,5 +14,5 @@ returns-in-Entry g c = leads_by (search rules) c.in_ok-place.ensures (ap (λ p. 
 pub returns-in-Refusal : goal.returns-in-Refusal
 returns-in-Refusal g c = leads_by (search rules) c.in_ok-place.ensures (ap (λ p. Ok (led_of p)) c.in-Refusal.is)
 
-pub returns-in-Gap : goal.returns-in-Gap
-returns-in-Gap g c = leads_by (search rules) c.in_ok-place.ensures (ap (λ p. Ok (led_of p)) c.in-Gap.is)
+pub returns-in-Missing : goal.returns-in-Missing
+returns-in-Missing g c = leads_by (search rules) c.in_ok-place.ensures (ap (λ p. Ok (led_of p)) c.in-Missing.is)

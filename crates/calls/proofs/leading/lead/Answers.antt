@@ -7,7 +7,7 @@ use Rattle.paths.proofs.Looks.{looks_ok}
 use Rattle.calls.specs.Leading.{IsLed}
 use Rattle.calls.proofs.LeadLaws.{led_by}
 use Rattle.calls.proofs.RefusalLaws.{text_own}
-use Rattle.records.specs.Failures.{told}
+use Rattle.records.specs.Failures.{read_outcome}
 use Rattle.records.proofs.StandLaws.{no_look}
 use Rattle.calls.proofs.leading.lead.Goals as goal
 
@@ -33,8 +33,8 @@ returns g c =
       within = all.within;
       own = all.own;
       leads = λ disk settled v table text stands volume same.
-          subst (λ (t : List ℕ). IfOk (told c.find_object.result) (IsLed (text_tests t) v (resolve (tree_of v table) c.args.follow t))) (sym same)
-          (IfOk-weaker (told c.find_object.result) _ _
+          subst (λ (t : List ℕ). IfOk (read_outcome c.find_object.result) (IsLed (text_tests t) v (resolve (tree_of v table) c.args.follow t))) (sym same)
+          (IfOk-weaker (read_outcome c.find_object.result) _ _
           (λ found leads. led_by (text_tests c.args.path.now) v (resolve (tree_of v table) c.args.follow c.args.path.now) found passed leads)
           (all.leads disk settled v table c.args.path.now stands volume (search rules)));
       followed = all.followed;

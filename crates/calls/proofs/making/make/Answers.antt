@@ -50,7 +50,7 @@ returns g c = follows c.in_ok-place.ensures.looks c.make_in.ensures.prepares (λ
     let passed : first_refusal (new_text_tests c.args.path.now) ≡ None = search rules in
     let inodes = c.args.inodes.now.geometry.inodes in
     let made = made_by c.args.object in
-    let name = c.in-Gap.name.items in
-    let at = subst (λ p. IsPlaceOf v (model_place_of p) (resolve (tree_of v table) false c.args.path.now)) c.in-Gap.is (c.in_ok-place.ensures.found disk settled v table c.args.path.now stands volume (search rules)) in
-    gap_comes inodes v table volume mounted (c.volumes_are_trees.ensures inodes v table volume mounted) c.args.path.now made passed c.in-Gap.trail name at
+    let name = c.in-Missing.name.items in
+    let at = subst (λ p. IsPlaceOf v (model_place_of p) (resolve (tree_of v table) false c.args.path.now)) c.in-Missing.is (c.in_ok-place.ensures.found disk settled v table c.args.path.now stands volume (search rules)) in
+    gap_comes inodes v table volume mounted (c.volumes_are_trees.ensures inodes v table volume mounted) c.args.path.now made passed c.in-Missing.trail name at
     c.volumes_tell_fresh_numbers.ensures c.records_change_trees.ensures r (subst (λ (d : ℕ). MakesIn inodes v d name made r) c.here.ensures makes))

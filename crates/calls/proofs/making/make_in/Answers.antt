@@ -6,7 +6,7 @@ use Rattle.model.specs.Volumes.{IsVolume}
 use Rattle.model.specs.declared.errno.Errno.TheVariants.{DIRFULL}
 use Rattle.inofile.specs.Objects.{IsObject}
 use Rattle.paths.proofs.Looks.{looks_more}
-use Rattle.records.specs.Failures.{told}
+use Rattle.records.specs.Failures.{read_outcome}
 use Rattle.records.specs.Prepared.{Does}
 use Rattle.records.specs.declared.failure.Failure.{Failure}
 use Rattle.records.specs.declared.prepared.Prepared.{Prepared}
@@ -66,7 +66,7 @@ returns-in_err-prepared-clause-prepares g c =
     fails_by {X = Prepared} DIRFULL refl _ c.from_residual-in_err-prepared.result c.from_residual-in_err-prepared.ensures.1 (looks_more before all.looks) all.full
     (λ disk settled v stands is. all.damaged by_bytes disk settled v (before.kept disk settled v stands) is)
     (λ disk settled v table stands volume mounted is.
-    let not = subst (λ (f : Failure). IfOk (told {T = Prepared} (Err f)) (λ r. IfErr r (λ _. TakesName v c.args.parent c.deref.result.now → ⊥))) is
+    let not = subst (λ (f : Failure). IfOk (read_outcome {T = Prepared} (Err f)) (λ r. IfErr r (λ _. TakesName v c.args.parent c.deref.result.now → ⊥))) is
     (all.refused by_bytes disk settled v (before.kept disk settled v stands) (subst (λ (s : Sizes). IsVolume s.inodes v) (sym before.geometry) volume)) in
     inl (refl, subst (λ (x : List ℕ). TakesName v c.args.parent x → ⊥) (c.deref.ensures.value ∙ c.in-Some-new.ensures.some) not))
 

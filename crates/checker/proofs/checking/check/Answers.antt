@@ -5,7 +5,7 @@ use Rattle.station.proofs.Moments.{grown_since}
 use Rattle.layout.specs.Places.{blocks_of}
 use Rattle.checker.specs.Checks.{Reports}
 use Rattle.checker.proofs.CheckLaws.{has_roots, reports_roots, reports_under}
-use Rattle.checker.proofs.FindingLaws.{still_left}
+use Rattle.station.proofs.Moments.{still_left}
 use Rattle.checker.proofs.GoodLaws.{is_good}
 use Rattle.checker.proofs.checking.check.Goals as goal
 

@@ -12,7 +12,7 @@ use Rattle.checker.specs.Checks.{AreFindings, Passes}
 use Rattle.checker.specs.Findings.{IsFindingUnder, ShouldHave}
 use Rattle.checker.specs.Trees.{AreTrees, HasEnded, IsApart, IsRootOf, IsTreeAt}
 use Rattle.checker.specs.declared.error.CheckError.TheVariants.{NoMemory}
-use Rattle.checker.specs.declared.error.Halt.{Halt}
+use Rattle.checker.specs.declared.error.CheckEnd.{CheckEnd}
 use Rattle.checker.specs.declared.fault.TreeName.TheVariants.{Image}
 use Rattle.checker.specs.declared.tree.Tree.{Tree}
 use Rattle.checker.proofs.AllTreesLaws.{all_faultless, newest_at, newest_faultless, should, stays_clean}
@@ -159,7 +159,7 @@ returns-in-Err-Fault-clause-found g c disk nvram shows snapshots are =
     let known = at g done disk shows snapshots apart c.index-2.result.now (get_at c.check_each.new.trees.items 0 c.index-2.result.now some c.index-2.ensures) in
     more_found r w nvram c.check_each.new.findings.first c.find.new.self.first (record { tree = Image; fault = c.in-Err-Fault.fault }) c.find.ensures.first
     (found g done disk shows snapshots nvram are)
-    (subst (λ (h : Halt). Passes (λ free. IsReadable (w.active 2) × IsExact r w × (free ≡ free_under w.active r.geometry.blocks)) (IsFindingUnder r w nvram Image) (Err h)) c.in-Err-Fault.field-0-is
+    (subst (λ (h : CheckEnd). Passes (λ free. IsReadable (w.active 2) × IsExact r w × (free ≡ free_under w.active r.geometry.blocks)) (IsFindingUnder r w nvram Image) (Err h)) c.in-Err-Fault.field-0-is
     (c.in-Err-Fault.ensures.passes disk r nvram ((ended g done).same disk shows) known.0 known.1 (exact g done disk shows snapshots apart)))
 
 pub returns-in-Err-Fault-clause-newest : goal.returns-in-Err-Fault-clause-newest

@@ -17,7 +17,7 @@ loop-body-preserved g c =
     let before = c.loop-body.invariant in
     let count = g.B.Blocks.count c.args.blocks.now in
     let inodes = c.args.inodes.now.geometry.inodes in record {
-      look = looked_more before.look (looked_of g.met.B.Blocks.reads_nothing g.met.B.LetsGo.grows c.replay_record.ensures.reads);
+      look = looked_more before.look (looked_of g.met.B.Blocks.reads_nothing g.met.B.UncachedReads.grows c.replay_record.ensures.reads);
       geometry = c.replay_record.ensures.geometry ∙ before.geometry;
       few = omega (arith, before.few, ap length c.in-Open.ensures.1, length-append (record_of c.in-Open.body.now) c.in-Open.after.now);
       cheap = omega (arith, before.cheap, c.in-Ok.ensures.few);
@@ -64,11 +64,11 @@ returns-in-Malformed-clause-replays g c disk settled v w changes shows has leads
 
 pub returns-in-Err-NoMemory-clause-reads : goal.returns-in-Err-NoMemory-clause-reads
 returns-in-Err-NoMemory-clause-reads g c =
-    looks_err c.loop-body.invariant.look (looked_of g.met.B.Blocks.reads_nothing g.met.B.LetsGo.grows c.replay_record.ensures.reads) (λ is. absurd (cc))
+    looks_err c.loop-body.invariant.look (looked_of g.met.B.Blocks.reads_nothing g.met.B.UncachedReads.grows c.replay_record.ensures.reads) (λ is. absurd (cc))
 
 pub returns-in-Err-Damaged-clause-reads : goal.returns-in-Err-Damaged-clause-reads
 returns-in-Err-Damaged-clause-reads g c =
-    looks_err c.loop-body.invariant.look (looked_of g.met.B.Blocks.reads_nothing g.met.B.LetsGo.grows c.replay_record.ensures.reads) (λ is. absurd (cc))
+    looks_err c.loop-body.invariant.look (looked_of g.met.B.Blocks.reads_nothing g.met.B.UncachedReads.grows c.replay_record.ensures.reads) (λ is. absurd (cc))
 
 pub returns-in-Err-Damaged-clause-replays : goal.returns-in-Err-Damaged-clause-replays
 returns-in-Err-Damaged-clause-replays g c disk settled v w changes shows has leads =

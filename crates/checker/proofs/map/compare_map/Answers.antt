@@ -34,7 +34,7 @@ use Rattle.checker.proofs.map.compare_map.Goals.{In_ok-places}
 -- ---- what was read before the loop
 
 own : (g : Over) (c : In_ok-places g) → HasLooked g.B.Blocks c.args.blocks.now c.own_inode.new.blocks
-own g c = looked_of g.met.B.Blocks.reads_nothing g.met.B.LetsGo.grows c.own_inode.ensures.reads
+own g c = looked_of g.met.B.Blocks.reads_nothing g.met.B.UncachedReads.grows c.own_inode.ensures.reads
 
 mapped : (g : Over) (c : In_ok-places g) (disk : ℕ → List ℕ) (r : Root) → g.B.Blocks.Shows c.args.blocks.now disk → IsTreeAt disk r c.args.geometry (g.B.Blocks.count c.args.blocks.now) c.args.tree.now
     → c.args.tree.now.plane ≡ 0 → IsMapRead c.args.geometry disk r c.in_ok-inode.inode c.in_ok-places.places
@@ -49,7 +49,7 @@ mapped g c disk r shows at plane =
 pub returns-in_err-inode-clause-reads : goal.returns-in_err-inode-clause-reads
 returns-in_err-inode-clause-reads g c =
     looks_residual c.from_residual.result c.from_residual.ensures.1
-    (looks_or_fault (faults.Tree tree_faults.BlockMap) c.own_inode.result _ c.in_err-inode.ensures (looks_of g.met.B.Blocks.reads_nothing g.met.B.LetsGo.grows c.own_inode.ensures.reads))
+    (looks_or_fault (faults.Tree tree_faults.BlockMap) c.own_inode.result _ c.in_err-inode.ensures (looks_of g.met.B.Blocks.reads_nothing g.met.B.UncachedReads.grows c.own_inode.ensures.reads))
 
 pub returns-in_err-inode-clause-passes : goal.returns-in_err-inode-clause-passes
 returns-in_err-inode-clause-passes g c = λ disk r nvram shows at plane should.
@@ -61,7 +61,7 @@ returns-in_err-inode-clause-passes g c = λ disk r nvram shows at plane should.
 
 pub returns-in_err-places-clause-reads : goal.returns-in_err-places-clause-reads
 returns-in_err-places-clause-reads g c =
-    looks_passed c.from_residual-in_err-places.result halt device_halt c.from_residual-in_err-places.ensures.1 (looked_of g.met.B.Blocks.reads_nothing g.met.B.LetsGo.grows c.own_inode.ensures.reads)
+    looks_passed c.from_residual-in_err-places.result halt device_halt c.from_residual-in_err-places.ensures.1 (looked_of g.met.B.Blocks.reads_nothing g.met.B.UncachedReads.grows c.own_inode.ensures.reads)
     (looked c.in_err-places.ensures.reads) c.in_err-places.ensures.reads.device
 
 pub returns-in_err-places-clause-passes : goal.returns-in_err-places-clause-passes

@@ -12,8 +12,8 @@ use Rattle.checker.specs.Links.{AreLinked, AreReached, IsUnlinked, IsUnreached}
 use Rattle.checker.specs.Names.{IsTable, IsUnnamed}
 use Rattle.checker.specs.Tables as Tables
 use Rattle.checker.specs.Trees.{IsOut, IsRootOf, IsSeen, IsTreeAt}
-use Rattle.checker.specs.declared.error.Halt.{Halt}
-use Rattle.checker.specs.declared.error.Halt.TheVariants as halts
+use Rattle.checker.specs.declared.error.CheckEnd.{CheckEnd}
+use Rattle.checker.specs.declared.error.CheckEnd.TheVariants as halts
 use Rattle.checker.specs.declared.fault.Fault.{Fault}
 use Rattle.checker.specs.declared.names.NumberRow.{NumberRow}
 use Rattle.checker.specs.declared.tree.Tree.{Tree}
@@ -25,7 +25,7 @@ use Rattle.checker.proofs.names.check_names.Goals as goal
 use Rattle.checker.proofs.names.check_names.Goals.{In_ok-table}
 
 -- a part passes, or finds a fault, by what it tells
-passes_by : {T : Type 0} (Is Other : T → Type 0) (Found Told : Fault → Type 0) (q : Result T Halt) → ((x : T) → Is x → Other x) → ((fault : Fault) → Found fault → Told fault) → Passes Is Found q → Passes Other Told q
+passes_by : {T : Type 0} (Is Other : T → Type 0) (Found Told : Fault → Type 0) (q : Result T CheckEnd) → ((x : T) → Is x → Other x) → ((fault : Fault) → Found fault → Told fault) → Passes Is Found q → Passes Other Told q
 passes_by Is Other Found Told (Ok x) good bad passes = good x passes
 passes_by Is Other Found Told (Err halts.NoMemory) good bad passes = tt
 passes_by Is Other Found Told (Err halts.Device) good bad passes = tt

@@ -8,7 +8,7 @@ use Rattle.blocktree.specs.declared.tree.Location.{Location}
 use Rattle.images.specs.Nodes.{file_block}
 use Rattle.checker.specs.Findings.{IsTreeFinding}
 use Rattle.checker.specs.Walks.{HasCountedRows, IsAwaited}
-use Rattle.checker.specs.declared.error.Halt.{Halt}
+use Rattle.checker.specs.declared.error.CheckEnd.{CheckEnd}
 use Rattle.checker.specs.declared.fault.DirectoryFault.TheVariants as directory_faults
 use Rattle.checker.specs.declared.fault.Fault.TheVariants as faults
 use Rattle.checker.proofs.FoundLaws.{goes_more, goes_none}
@@ -39,7 +39,7 @@ loop-i-preserved g c =
     let i = c.loop-i.i in
     let d = c.args.directory in
     let fault = faults.Directory (directory_faults.Entries d i) in record {
-      looked = looked_more so_far.looked (looked_of g.met.B.Blocks.reads_nothing g.met.B.LetsGo.grows c.locate.ensures.reads);
+      looked = looked_more so_far.looked (looked_of g.met.B.Blocks.reads_nothing g.met.B.UncachedReads.grows c.locate.ensures.reads);
       goes = goes_more so_far.goes c.in_ok-count_entries.ensures.goes;
       counted = λ disk r t e count shows same file start.
           let before = so_far.counted disk r t e count shows same file start in
@@ -74,7 +74,7 @@ loop-i-preserved g c =
 pub returns-in_err-location-clause-reads : goal.returns-in_err-location-clause-reads
 returns-in_err-location-clause-reads g c =
     looks_more _ c.loop-i.invariant.looked (looks_residual c.from_residual.result c.from_residual.ensures.1
-    (looks_or_fault (faults.Directory (directory_faults.Entries c.args.directory c.loop-i.i)) c.locate.result _ c.in_err-location.ensures (looks_of g.met.B.Blocks.reads_nothing g.met.B.LetsGo.grows c.locate.ensures.reads)))
+    (looks_or_fault (faults.Directory (directory_faults.Entries c.args.directory c.loop-i.i)) c.locate.result _ c.in_err-location.ensures (looks_of g.met.B.Blocks.reads_nothing g.met.B.UncachedReads.grows c.locate.ensures.reads)))
 
 pub returns-in_err-location-clause-counted : goal.returns-in_err-location-clause-counted
 returns-in_err-location-clause-counted g c = λ disk r t e count shows same file start.
@@ -90,9 +90,9 @@ returns-in_err-location-clause-counted g c = λ disk r t e count shows same file
 
 pub returns-in_err-count_entries-clause-reads : goal.returns-in_err-count_entries-clause-reads
 returns-in_err-count_entries-clause-reads g c =
-    looks_more _ (looked_more c.loop-i.invariant.looked (looked_of g.met.B.Blocks.reads_nothing g.met.B.LetsGo.grows c.locate.ensures.reads))
+    looks_more _ (looked_more c.loop-i.invariant.looked (looked_of g.met.B.Blocks.reads_nothing g.met.B.UncachedReads.grows c.locate.ensures.reads))
     (looks_residual {T = Unit {0}} c.from_residual-in_err-count_entries.result c.from_residual-in_err-count_entries.ensures.1
-    (looks_failed (looked_none _) (λ is. absurd (c.in_err-count_entries.ensures.device (ap (λ (e : Halt). Err e) is)))))
+    (looks_failed (looked_none _) (λ is. absurd (c.in_err-count_entries.ensures.device (ap (λ (e : CheckEnd). Err e) is)))))
 
 pub returns-in_err-count_entries-clause-goes : goal.returns-in_err-count_entries-clause-goes
 returns-in_err-count_entries-clause-goes g c = goes_more c.loop-i.invariant.goes c.in_err-count_entries.ensures.goes

@@ -6,7 +6,7 @@ use Rattle.checker.specs.Findings.{tree_in}
 use Rattle.checker.specs.Names.{AreWithin, IsTable, IsUnnamed}
 use Rattle.checker.specs.Rows.{LeadsToRows}
 use Rattle.checker.specs.Trees.{IsTreeAt}
-use Rattle.checker.specs.Walks.{LooksInto, nameless}
+use Rattle.checker.specs.Walks.{LooksInto, unnamed_rows}
 use Rattle.checker.proofs.ReadLaws.{HasLooked}
 use Rattle.checker.proofs.names.walk.Given as goal
 
@@ -23,4 +23,4 @@ invariant-loop-next g l = record {
 }
 
 abbrev pub decreases-loop-next : goal.decreases-loop-next
-decreases-loop-next g l = nameless l.table.items + length l.found.items - l.next
+decreases-loop-next g l = unnamed_rows l.table.items + length l.found.items - l.next

@@ -13,10 +13,10 @@ use Rattle.checker.proofs.owners.node_in.Goals as goal
 
 pub returns-in-Err-NoMemory-clause-reads : goal.returns-in-Err-NoMemory-clause-reads
 returns-in-Err-NoMemory-clause-reads g c =
-    looks_failed (looked_more c.loop-height.invariant.read (looked_of g.met.B.Blocks.reads_nothing g.met.B.LetsGo.grows c.in-Err-NoMemory.ensures.reads)) (λ is. cc)
+    looks_failed (looked_more c.loop-height.invariant.read (looked_of g.met.B.Blocks.reads_nothing g.met.B.UncachedReads.grows c.in-Err-NoMemory.ensures.reads)) (λ is. cc)
 
 pub returns-in-Err-Damaged-clause-reads : goal.returns-in-Err-Damaged-clause-reads
-returns-in-Err-Damaged-clause-reads g c = looks_ok (looked_more c.loop-height.invariant.read (looked_of g.met.B.Blocks.reads_nothing g.met.B.LetsGo.grows c.in-Err-Damaged.ensures.reads))
+returns-in-Err-Damaged-clause-reads g c = looks_ok (looked_more c.loop-height.invariant.read (looked_of g.met.B.Blocks.reads_nothing g.met.B.UncachedReads.grows c.in-Err-Damaged.ensures.reads))
 
 pub returns-in-Err-Damaged-clause-alone : goal.returns-in-Err-Damaged-clause-alone
 returns-in-Err-Damaged-clause-alone g c = λ disk s inode shows count grammar file.
@@ -36,7 +36,7 @@ returns-in-Some-clause-stands g c = λ disk s inode shows fits file.
 
 pub loop-height-preserved : goal.loop-height-preserved
 loop-height-preserved g c = record {
-  read = looked_more c.loop-height.invariant.read (looked_of g.met.B.Blocks.reads_nothing g.met.B.LetsGo.grows c.in-Ok.ensures.reads);
+  read = looked_more c.loop-height.invariant.read (looked_of g.met.B.Blocks.reads_nothing g.met.B.UncachedReads.grows c.in-Ok.ensures.reads);
   alone = λ disk s inode shows count grammar file.
       let t = c.tree-tree.result.now in
       let starts : StartsFrom inode.body inode.size t = subst (StartsFrom inode.body inode.size) (sym c.tree-tree.ensures) file.starts in

@@ -13,10 +13,10 @@ use Rattle.checker.proofs.RootLaws.{no_snapshot, same_as}
 use Rattle.checker.proofs.snapshots.fault_in_slot.Goals as goal
 
 pub returns-in-Err-Damaged-clause-reads : goal.returns-in-Err-Damaged-clause-reads
-returns-in-Err-Damaged-clause-reads g c = looks_ok (looked_of g.met.B.Blocks.reads_nothing g.met.B.LetsGo.grows c.check_snapshot.ensures.reads)
+returns-in-Err-Damaged-clause-reads g c = looks_ok (looked_of g.met.B.Blocks.reads_nothing g.met.B.UncachedReads.grows c.check_snapshot.ensures.reads)
 
 pub returns-in-Err-NoMemory-clause-reads : goal.returns-in-Err-NoMemory-clause-reads
-returns-in-Err-NoMemory-clause-reads g c = looks_err (looked_none c.args.blocks.now) (looked_of g.met.B.Blocks.reads_nothing g.met.B.LetsGo.grows c.check_snapshot.ensures.reads) (λ is. absurd (cc))
+returns-in-Err-NoMemory-clause-reads g c = looks_err (looked_none c.args.blocks.now) (looked_of g.met.B.Blocks.reads_nothing g.met.B.UncachedReads.grows c.check_snapshot.ensures.reads) (λ is. absurd (cc))
 
 pub returns-in-Err-Damaged-clause-tells : goal.returns-in-Err-Damaged-clause-tells
 returns-in-Err-Damaged-clause-tells g c disk shows nvram =

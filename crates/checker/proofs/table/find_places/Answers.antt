@@ -8,17 +8,17 @@ use Rattle.checker.proofs.ReadLaws.{looked_of, looks_ok}
 use Rattle.checker.proofs.table.find_places.Goals as goal
 
 pub returns-in-Ok-clause-reads : goal.returns-in-Ok-clause-reads
-returns-in-Ok-clause-reads g c = looks_ok (looked_of g.met.B.Blocks.reads_nothing g.met.B.LetsGo.grows c.settled_nodes.ensures.reads)
+returns-in-Ok-clause-reads g c = looks_ok (looked_of g.met.B.Blocks.reads_nothing g.met.B.UncachedReads.grows c.settled_nodes.ensures.reads)
 
 pub returns-in-Ok-clause-places : goal.returns-in-Ok-clause-places
 returns-in-Ok-clause-places g c = λ disk shows sound.
     subst (λ (t : BlockTree). ArePlaces disk t c.in-Ok.places) c.tree.ensures (all_places disk c.tree.result.now c.in-Ok.places (c.in-Ok.ensures.nodes disk shows) c.in-Ok.ensures.end)
 
 pub returns-in-Err-NoMemory-clause-reads : goal.returns-in-Err-NoMemory-clause-reads
-returns-in-Err-NoMemory-clause-reads g c = looks_failed (looked_of g.met.B.Blocks.reads_nothing g.met.B.LetsGo.grows c.settled_nodes.ensures.reads) (λ is. cc)
+returns-in-Err-NoMemory-clause-reads g c = looks_failed (looked_of g.met.B.Blocks.reads_nothing g.met.B.UncachedReads.grows c.settled_nodes.ensures.reads) (λ is. cc)
 
 pub returns-in-Err-Damaged-clause-reads : goal.returns-in-Err-Damaged-clause-reads
-returns-in-Err-Damaged-clause-reads g c = looks_ok (looked_of g.met.B.Blocks.reads_nothing g.met.B.LetsGo.grows c.settled_nodes.ensures.reads)
+returns-in-Err-Damaged-clause-reads g c = looks_ok (looked_of g.met.B.Blocks.reads_nothing g.met.B.UncachedReads.grows c.settled_nodes.ensures.reads)
 
 pub returns-in-Err-Damaged-clause-below : goal.returns-in-Err-Damaged-clause-below
 returns-in-Err-Damaged-clause-below g c = λ i. none_below _ _ (c.new.ensures i)

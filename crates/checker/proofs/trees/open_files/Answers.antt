@@ -37,7 +37,7 @@ returns-in_err-mark_file-clause-opened g c = λ disk r shows root same is unmark
 pub returns-in_err-inode-clause-reads : goal.returns-in_err-inode-clause-reads
 returns-in_err-inode-clause-reads g c =
     looks_more _ (looked c.in_ok-mark_file.ensures.reads) (looks_residual c.from_residual-in_err-inode.result c.from_residual-in_err-inode.ensures.1
-    (looks_or_fault (faults.Tree (tree_faults.Inode 1)) c.own_inode.result _ c.in_err-inode.ensures (looks_of g.met.B.Blocks.reads_nothing g.met.B.LetsGo.grows c.own_inode.ensures.reads)))
+    (looks_or_fault (faults.Tree (tree_faults.Inode 1)) c.own_inode.result _ c.in_err-inode.ensures (looks_of g.met.B.Blocks.reads_nothing g.met.B.UncachedReads.grows c.own_inode.ensures.reads)))
 
 pub returns-in_err-inode-clause-opened : goal.returns-in_err-inode-clause-opened
 returns-in_err-inode-clause-opened g c = λ disk r shows root same is unmarked none.
@@ -55,9 +55,9 @@ returns-in_err-inode-clause-opened g c = λ disk r shows root same is unmarked n
 
 pub returns-in_err-tree-clause-reads : goal.returns-in_err-tree-clause-reads
 returns-in_err-tree-clause-reads g c =
-    looks_more _ (looked_more (looked c.in_ok-mark_file.ensures.reads) (looked_of g.met.B.Blocks.reads_nothing g.met.B.LetsGo.grows c.own_inode.ensures.reads))
+    looks_more _ (looked_more (looked c.in_ok-mark_file.ensures.reads) (looked_of g.met.B.Blocks.reads_nothing g.met.B.UncachedReads.grows c.own_inode.ensures.reads))
     (looks_residual c.from_residual-in_err-tree.result c.from_residual-in_err-tree.ensures.1
-    (looks_or_fault (faults.Tree tree_faults.InodeMap) c.load_numbers.result _ c.in_err-tree.ensures (looks_of g.met.B.Blocks.reads_nothing g.met.B.LetsGo.grows c.load_numbers.ensures.reads)))
+    (looks_or_fault (faults.Tree tree_faults.InodeMap) c.load_numbers.result _ c.in_err-tree.ensures (looks_of g.met.B.Blocks.reads_nothing g.met.B.UncachedReads.grows c.load_numbers.ensures.reads)))
 
 pub returns-in_err-tree-clause-opened : goal.returns-in_err-tree-clause-opened
 returns-in_err-tree-clause-opened g c = λ disk r shows root same is unmarked none.
@@ -87,10 +87,10 @@ returns-in_err-tree-clause-opened g c = λ disk r shows root same is unmarked no
 
 pub returns-in_err-inode-2-clause-reads : goal.returns-in_err-inode-2-clause-reads
 returns-in_err-inode-2-clause-reads g c =
-    looks_more _ (looked_more (looked c.in_ok-mark_file.ensures.reads) (looked_more (looked_of g.met.B.Blocks.reads_nothing g.met.B.LetsGo.grows c.own_inode.ensures.reads)
-    (looked_of g.met.B.Blocks.reads_nothing g.met.B.LetsGo.grows c.load_numbers.ensures.reads)))
+    looks_more _ (looked_more (looked c.in_ok-mark_file.ensures.reads) (looked_more (looked_of g.met.B.Blocks.reads_nothing g.met.B.UncachedReads.grows c.own_inode.ensures.reads)
+    (looked_of g.met.B.Blocks.reads_nothing g.met.B.UncachedReads.grows c.load_numbers.ensures.reads)))
     (looks_residual c.from_residual-in_err-inode-2.result c.from_residual-in_err-inode-2.ensures.1
-    (looks_or_fault (faults.Tree (tree_faults.Inode 2)) c.own_inode-2.result _ c.in_err-inode-2.ensures (looks_of g.met.B.Blocks.reads_nothing g.met.B.LetsGo.grows c.own_inode-2.ensures.reads)))
+    (looks_or_fault (faults.Tree (tree_faults.Inode 2)) c.own_inode-2.result _ c.in_err-inode-2.ensures (looks_of g.met.B.Blocks.reads_nothing g.met.B.UncachedReads.grows c.own_inode-2.ensures.reads)))
 
 pub returns-in_err-inode-2-clause-others : goal.returns-in_err-inode-2-clause-others
 returns-in_err-inode-2-clause-others g c = λ k other. c.in_ok-mark_file.ensures.keeps.others k (λ bit. other ((c.bit.ensures k).0 bit))
@@ -112,10 +112,10 @@ returns-in_err-inode-2-clause-opened g c = λ disk r shows root same is unmarked
 
 pub returns-in_err-_map-clause-reads : goal.returns-in_err-_map-clause-reads
 returns-in_err-_map-clause-reads g c =
-    looks_more _ (looked_more (looked c.in_ok-mark_file.ensures.reads) (looked_more (looked_of g.met.B.Blocks.reads_nothing g.met.B.LetsGo.grows c.own_inode.ensures.reads)
-    (looked_more (looked_of g.met.B.Blocks.reads_nothing g.met.B.LetsGo.grows c.load_numbers.ensures.reads) (looked_of g.met.B.Blocks.reads_nothing g.met.B.LetsGo.grows c.own_inode-2.ensures.reads))))
+    looks_more _ (looked_more (looked c.in_ok-mark_file.ensures.reads) (looked_more (looked_of g.met.B.Blocks.reads_nothing g.met.B.UncachedReads.grows c.own_inode.ensures.reads)
+    (looked_more (looked_of g.met.B.Blocks.reads_nothing g.met.B.UncachedReads.grows c.load_numbers.ensures.reads) (looked_of g.met.B.Blocks.reads_nothing g.met.B.UncachedReads.grows c.own_inode-2.ensures.reads))))
     (looks_residual c.from_residual-in_err-_map.result c.from_residual-in_err-_map.ensures.1
-    (looks_or_fault (faults.Tree tree_faults.BlockMap) c.map_file.result _ c.in_err-_map.ensures (looks_of g.met.B.Blocks.reads_nothing g.met.B.LetsGo.grows c.map_file.ensures.reads)))
+    (looks_or_fault (faults.Tree tree_faults.BlockMap) c.map_file.result _ c.in_err-_map.ensures (looks_of g.met.B.Blocks.reads_nothing g.met.B.UncachedReads.grows c.map_file.ensures.reads)))
 
 pub returns-in_err-_map-clause-others : goal.returns-in_err-_map-clause-others
 returns-in_err-_map-clause-others g c = λ k other. c.in_ok-mark_file.ensures.keeps.others k (λ bit. other ((c.bit.ensures k).0 bit))

@@ -11,15 +11,15 @@ use Rattle.files.proofs.closing.drop_unused.Goals as goal
 pub returns-then-not-is_open-clause-volume : goal.returns-then-not-is_open-clause-volume
 returns-then-not-is_open-clause-volume c = λ count disk settled v stands is.
     let closed = sym c.is_open.ensures ∙ c.if-not-is_open.true in
-    subst (λ (w : Volume). IsVolumeOf count disk settled c.drop_nameless.new.inodes w) (drops (table_of c.args.table.now) c.args.file.now.number v closed)
-    (subst (λ (n : ℕ). IsVolumeOf count disk settled c.drop_nameless.new.inodes (with_node n (swept_node false (v n)) v)) c.new.ensures (c.drop_nameless.ensures.volume _ count disk settled v stands))
+    subst (λ (w : Volume). IsVolumeOf count disk settled c.drop_orphan.new.inodes w) (drops (table_of c.args.table.now) c.args.file.now.number v closed)
+    (subst (λ (n : ℕ). IsVolumeOf count disk settled c.drop_orphan.new.inodes (with_node n (swept_node false (v n)) v)) c.new.ensures (c.drop_orphan.ensures.volume _ count disk settled v stands))
 
 pub returns-then-not-is_open-clause-room : goal.returns-then-not-is_open-clause-room
 returns-then-not-is_open-clause-room c = λ base count disk settled v stands is.
     let closed = sym c.is_open.ensures ∙ c.if-not-is_open.true in
-    subst (λ (w : Volume). memory_room base c.drop_nameless.new.inodes w ≤ memory_room base c.args.inodes.now v) (drops (table_of c.args.table.now) c.args.file.now.number v closed)
-    (subst (λ (n : ℕ). memory_room base c.drop_nameless.new.inodes (with_node n (swept_node false (v n)) v) ≤ memory_room base c.args.inodes.now v) c.new.ensures
-    (c.drop_nameless.ensures.room _ base count disk settled v stands))
+    subst (λ (w : Volume). memory_room base c.drop_orphan.new.inodes w ≤ memory_room base c.args.inodes.now v) (drops (table_of c.args.table.now) c.args.file.now.number v closed)
+    (subst (λ (n : ℕ). memory_room base c.drop_orphan.new.inodes (with_node n (swept_node false (v n)) v) ≤ memory_room base c.args.inodes.now v) c.new.ensures
+    (c.drop_orphan.ensures.room _ base count disk settled v stands))
 
 pub returns-else-file-eq0-clause-volume : goal.returns-else-file-eq0-clause-volume
 returns-else-file-eq0-clause-volume c = λ count disk settled v stands is.

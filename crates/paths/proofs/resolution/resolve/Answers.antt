@@ -3,8 +3,8 @@ use Rattle.std.proofs.lemmas.Bool.{cond-true, cond-false}
 use Rattle.std.proofs.lemmas.List.Elements.{All-nil}
 use Rattle.model.specs.Paths.{parts as parts_of, starts_with_slash as slashes}
 use Rattle.paths.specs.Following.{find_left}
-use Rattle.paths.specs.Halts.{halt_of, IsHaltWithin}
-use Rattle.paths.specs.Numbers.{IsNumber, AreNumbers}
+use Rattle.paths.specs.Halts.{walk_end_of, IsWalkEndWithin}
+use Rattle.paths.specs.Numbers.{IsInodeNumber, AreInodeNumbers}
 use Rattle.paths.specs.Places.{model_place_of, IsPlaceWithin}
 use Rattle.paths.proofs.Links.{ends, follows_link}
 use Rattle.paths.proofs.LookingUp.{at_end, gives_up, looked_up, then_fails, then_finds}
@@ -20,10 +20,10 @@ pub returns-in-At : goal.returns-in-At
 returns-in-At g c = resolves c.resolution_is_by_numbers.ensures
     (then_finds c.loop-link.invariant.looked c.in_ok-place.ensures
     (subst (λ z. IsPlaceWithin z.inodes c.in-At.place) c.loop-link.invariant.looked.geometry
-    (subst (IsHaltWithin c.loop-link.inodes.geometry.inodes) c.in-At.is c.in_ok-place.ensures.within)) (λ disk settled v stands.
+    (subst (IsWalkEndWithin c.loop-link.inodes.geometry.inodes) c.in-At.is c.in_ok-place.ensures.within)) (λ disk settled v stands.
     let so_far = c.loop-link.invariant in
     let left = 8 - c.loop-link._link in
-    let halt = ap halt_of (sym c.in-At.is) ∙ c.in_ok-place.ensures.found disk settled v (so_far.looked.kept disk settled v stands) in
+    let halt = ap walk_end_of (sym c.in-At.is) ∙ c.in_ok-place.ensures.found disk settled v (so_far.looked.kept disk settled v stands) in
     let one : 9 - c.loop-link._link ≡ suc left = omega (arith, c.loop-link-test.true) in
     sym (so_far.walked disk settled v stands ∙ ap (λ n. find_left n v c.args.follow c.loop-link.trail c.loop-link.parts) one
     ∙ ends v c.args.follow c.loop-link.trail c.loop-link.parts left (model_place_of c.in-At.place) halt)))
@@ -50,10 +50,10 @@ loop-link-preserved g c =
     record {
       looked = looked_up so_far.looked walk;
       numbers =
-          let within = subst (λ z. AreNumbers z.inodes directory) so_far.looked.geometry (subst (IsHaltWithin c.loop-link.inodes.geometry.inodes) c.in-AtLink.is walk.within) in
+          let within = subst (λ z. AreInodeNumbers z.inodes directory) so_far.looked.geometry (subst (IsWalkEndWithin c.loop-link.inodes.geometry.inodes) c.in-AtLink.is walk.within) in
           elim c.if-starts_with_slash.branch [
-            | then-starts_with_slash w ↦ subst (AreNumbers inodes) (sym (w.trail-is ∙ w.root.ensures)) (All-nil (IsNumber inodes))
-            | else-starts_with_slash w ↦ subst (AreNumbers inodes) (sym w.trail-is) within
+            | then-starts_with_slash w ↦ subst (AreInodeNumbers inodes) (sym (w.trail-is ∙ w.root.ensures)) (All-nil (IsInodeNumber inodes))
+            | else-starts_with_slash w ↦ subst (AreInodeNumbers inodes) (sym w.trail-is) within
           ];
       walked = λ disk settled v stands.
           let follow = c.args.follow in
@@ -63,7 +63,7 @@ loop-link-preserved g c =
           let rest = c.in-AtLink.rest in
           let left = 8 - c.loop-link._link in
           let now = so_far.looked.kept disk settled v stands in
-          let halt = ap halt_of (sym c.in-AtLink.is) ∙ walk.found disk settled v now in
+          let halt = ap walk_end_of (sym c.in-AtLink.is) ∙ walk.found disk settled v now in
           let one : 9 - c.loop-link._link ≡ suc left = omega (arith, c.loop-link-test.true) in
           let next : left ≡ 9 - (c.loop-link._link + 1) = omega (arith, c.loop-link-test.true) in
           let names_are : c.in_ok-parts-in-AtLink.parts ≡ parts_of text ++ rest =

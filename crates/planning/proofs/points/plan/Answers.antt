@@ -6,7 +6,7 @@ use Rattle.layout.specs.Root.{IsRoot}
 use Rattle.layout.specs.Version.{level_of}
 use Rattle.layout.specs.declared.inode.Inode.{Inode}
 use Rattle.layout.specs.declared.root.Root.{Root}
-use Rattle.model.specs.Records.{count_nameless}
+use Rattle.model.specs.Records.{count_orphans}
 use Rattle.model.specs.Room.{fixed_of}
 use Rattle.model.specs.Volumes.{KeepsNodeLimits, Volume}
 use Rattle.blockmap.specs.Maps.{entry_at, settled_at}
@@ -59,7 +59,7 @@ module _ (bases : TreesAreBases) (change : SnapshotChange) (d : ℕ → List ℕ
       (moves_told (map_moves base v) r.geometry t inodes.numbers.bytes.items base v (start_sound disk r plannable.sound bases change fits plannable.restored) plannable.holds plannable.memory.mapped (moves_count base v))
 
   -- what a plan takes, for what memory has
-  needed : inodes.geometry ≡ r.geometry → IsRoot r → point_stores (map_moves base v) r inodes m.count + 4 * count_nameless inodes.geometry.inodes v ≤ memory_room base inodes v + level_of r.inode_file.size + map_file_nodes m.count
+  needed : inodes.geometry ≡ r.geometry → IsRoot r → point_stores (map_moves base v) r inodes m.count + 4 * count_orphans inodes.geometry.inodes v ≤ memory_room base inodes v + level_of r.inode_file.size + map_file_nodes m.count
   needed sizes root =
       let least = root.head.sizes.least_inodes in
       point_needs r inodes base v m.count (subst (λ (s : Sizes). KeepsNodeLimits s.inodes base) (sym sizes) plannable.base_volume.limits)
@@ -135,7 +135,7 @@ module _ (g : Over) (c : In-Ok g) (d : ℕ → List ℕ) (base v : Volume) (show
       spent_most r (whole disk r) old mid n r.geometry.blocks plannable.sound.exact (ap (λ (x : BlockMap). x.next) c.new-draft.ensures.map ∙ fresh)
       count (grows.count ∙ count) (λ b. same b ∙ plannable.entries b) (λ b. grows.settled.settled b ∙ same b ∙ plannable.entries b) takes
 
-  need : point_stores (map_moves base v) r inodes c.args.map.count + 4 * count_nameless inodes.geometry.inodes v ≤ memory_room base inodes v + level_of r.inode_file.size + map_file_nodes c.args.map.count
+  need : point_stores (map_moves base v) r inodes c.args.map.count + 4 * count_orphans inodes.geometry.inodes v ≤ memory_room base inodes v + level_of r.inode_file.size + map_file_nodes c.args.map.count
   need = needed bases change d r c.args.slot c.args.generation c.args.map inodes base v plannable c.requires.fits c.requires.sizes.sizes c.requires.sizes.root_is
 
   counted : CountsBlocks (map_moves base v) inodes.numbers.bytes.items (file_block (held disk (over 1)))
@@ -150,7 +150,7 @@ module _ (g : Over) (c : In-Ok g) (d : ℕ → List ℕ) (base v : Volume) (show
       (λ e new files new_root agrees plan good none mid below firsts. c.points_leave_room.ensures.own disk e r new files c.requires.sizes.root_is new_root plannable.sound agrees step can plan good none mid below firsts)
 
   leaves_here : c.args.map.next ≡ 2 → (step : SnapshotStep) → IsStepOf change r step → CanStep step r (whole disk r) → (spent : ℕ)
-      → memory_room base inodes v + fixed_of c.args.map.count ≤ spent + 4 * count_nameless inodes.geometry.inodes v
+      → memory_room base inodes v + fixed_of c.args.map.count ≤ spent + 4 * count_orphans inodes.geometry.inodes v
       → LeavesFree spent r disk (writes_of draft.blocks.items) c.in-Ok.root
   leaves_here fresh step is can spent most =
       let made = c.in-Ok.ensures.steps step is in
@@ -162,7 +162,7 @@ module _ (g : Over) (c : In-Ok g) (d : ℕ → List ℕ) (base v : Volume) (show
       (taken_few draft spent fresh c.plan_root.ensures.step.grows (omega (arith, stores, number, need, most, fixed_needs r.inode_file.size c.args.map.count (top_small r c.requires.sizes.root_is), one_head change)))
 
   room_here : c.args.map.next ≡ 2 → (step : SnapshotStep) → IsStepOf change r step → SharesNone step → CanStep step r (whole disk r) → (spent : ℕ)
-      → memory_room base inodes v ≤ spent + 4 * count_nameless inodes.geometry.inodes v → LeavesFree spent r disk (writes_of draft.blocks.items) c.in-Ok.root
+      → memory_room base inodes v ≤ spent + 4 * count_orphans inodes.geometry.inodes v → LeavesFree spent r disk (writes_of draft.blocks.items) c.in-Ok.root
   room_here fresh step is none can spent most =
       let made = c.in-Ok.ensures.steps step is in
       let no_block = none_stored change r step is none in

@@ -5,7 +5,7 @@ use Rattle.std.specs.List.{Contains}
 use Rattle.model.specs.Paths.{Name}
 use Rattle.model.specs.Volumes.{entries}
 use Rattle.dirs.specs.Listings.{IsListingOfNames}
-use Rattle.paths.specs.Numbers.{IsNumber}
+use Rattle.paths.specs.Numbers.{IsInodeNumber}
 use Rattle.paths.proofs.Looks.{has_looked, looked_more, looks_err, looks_then, then_failed}
 use Rattle.records.proofs.BelowLaws.{has_more}
 use Rattle.records.proofs.below.children_of.Goals.{in-Some+in_ok-push, in_default}
@@ -39,9 +39,9 @@ loop-name-preserved g c =
       looked = looked_more so_far.looked (has_looked c.in_ok-found.ensures.looks c.number_at.ensures.loads);
       within = elim c.match-found.branch [
         | in-Some+in_ok-push w ↦
-            let one = subst (λ s. IsNumber s.inodes w.in-Some.child) so_far.looked.geometry (subst (λ o. IfSome o (IsNumber c.loop-name.inodes.geometry.inodes)) w.in-Some.is c.in_ok-found.ensures.within) in
-            All-same (IsNumber inodes) after (children ++ w.in-Some.child ∷ []) (ap (λ x. x.items) w.children-is ∙ w.in_ok-push.ensures.items) (All-push (IsNumber inodes) children w.in-Some.child so_far.within one)
-        | in_default w ↦ All-same (IsNumber inodes) after children (ap (λ x. x.items) w.children-is) so_far.within
+            let one = subst (λ s. IsInodeNumber s.inodes w.in-Some.child) so_far.looked.geometry (subst (λ o. IfSome o (IsInodeNumber c.loop-name.inodes.geometry.inodes)) w.in-Some.is c.in_ok-found.ensures.within) in
+            All-same (IsInodeNumber inodes) after (children ++ w.in-Some.child ∷ []) (ap (λ x. x.items) w.children-is ∙ w.in_ok-push.ensures.items) (All-push (IsInodeNumber inodes) children w.in-Some.child so_far.within one)
+        | in_default w ↦ All-same (IsInodeNumber inodes) after children (ap (λ x. x.items) w.children-is) so_far.within
       ];
       only = λ detail disk settled v stands n is.
           let before = so_far.only detail disk settled v stands in

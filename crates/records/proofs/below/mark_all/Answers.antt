@@ -2,7 +2,7 @@ use Rattle.std.proofs.Common.{ℕ, ◌<◌, ◌∙◌, List, length, take, get_o
 use Rattle.std.proofs.lemmas.List.{take_all, take_more}
 use Rattle.std.proofs.lemmas.List.Elements.{Contains-get_or, Contains-push_cases}
 use Rattle.std.specs.List.{Contains}
-use Rattle.paths.specs.Numbers.{IsNumber}
+use Rattle.paths.specs.Numbers.{IsInodeNumber}
 use Rattle.records.specs.Below.{IsMarkedNumber}
 use Rattle.records.proofs.BelowLaws.{marks_more}
 use Rattle.records.proofs.below.mark_all.Goals as goal
@@ -24,7 +24,7 @@ pub returns-in_err-mark-clause-within : goal.returns-in_err-mark-clause-within
 returns-in_err-mark-clause-within c = λ count all old.
     let at = c.loop-number.number-index in
     let here : at < length c.args.numbers.now = omega arith in
-    c.mark.ensures.within count (subst (IsNumber count) (sym c.number-item.is) (all at c.number-item.result here)) (c.loop-number.invariant.within count all old)
+    c.mark.ensures.within count (subst (IsInodeNumber count) (sym c.number-item.is) (all at c.number-item.result here)) (c.loop-number.invariant.within count all old)
 
 pub loop-number-preserved : goal.loop-number-preserved
 loop-number-preserved c =
@@ -43,7 +43,7 @@ loop-number-preserved c =
         | inl before ↦ so_far.only n before
         | inr same ↦ inr (subst (Contains numbers) (sym (same ∙ c.number-item.is)) (Contains-get_or numbers at c.number-item.result here))
       ];
-      within = λ count all old. c.mark.ensures.within count (subst (IsNumber count) (sym c.number-item.is) (all at item here)) (so_far.within count all old);
+      within = λ count all old. c.mark.ensures.within count (subst (IsInodeNumber count) (sym c.number-item.is) (all at item here)) (so_far.within count all old);
     }
 
 pub returns-clause-all : goal.returns-clause-all

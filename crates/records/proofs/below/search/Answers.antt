@@ -6,7 +6,7 @@ use Rattle.std.proofs.lemmas.List.Elements.{All-nil, All-pop, All-same}
 use Rattle.std.specs.List.{Contains}
 use Rattle.layout.specs.Limits.{Sizes}
 use Rattle.model.specs.Volumes.{entries}
-use Rattle.paths.specs.Numbers.{AreNumbers, IsNumber}
+use Rattle.paths.specs.Numbers.{AreInodeNumbers, IsInodeNumber}
 use Rattle.paths.proofs.Looks.{has_looked, looked_more, looks_err, looks_then, then_failed}
 use Rattle.records.specs.Below.{IsChild, IsMarkedNumber}
 use Rattle.records.proofs.BelowLaws.{searched_all, searched_first, searched_more, unmarked}
@@ -24,7 +24,7 @@ loop-here-init g c =
         loads = record { known = λ n is. is; room = λ n is. is; changed = λ n. (λ is. is, λ is. is) };
         kept = λ disk settled v stands. stands;
       };
-      within = c.mark.ensures.within inodes c.requires.top (All-same (IsNumber inodes) _ [] c.new-left.ensures.items (All-nil (IsNumber inodes)));
+      within = c.mark.ensures.within inodes c.requires.top (All-same (IsInodeNumber inodes) _ [] c.new-left.ensures.items (All-nil (IsInodeNumber inodes)));
       whole = c.mark.ensures.marks.same_length ∙ ap length none ∙ length-replicate c.inodes-count.result false ∙ c.inodes-count.ensures.value ∙ ap (λ (s : Sizes). s.inodes) c.geometry.ensures;
       searched = λ detail disk settled v stands.
           searched_first (entries v) c.args.top c.in_ok-marks.marks.items c.mark.new.marks.items c.new-left.result.items c.mark.new.left.items
@@ -55,8 +55,8 @@ loop-here-preserved g c =
       looked = looked_more so_far.looked (has_looked told.looks c.children_of.ensures.loads);
       within =
           c.mark_all.ensures.within inodes
-          (All-same (IsNumber inodes) _ _ items (subst (λ (s : Sizes). AreNumbers s.inodes c.in_ok-children.children.items) so_far.looked.geometry told.within))
-          (All-pop (IsNumber inodes) c.loop-here.left.items c.pop.new.self.items c.pop.result c.pop.ensures.items so_far.within).0;
+          (All-same (IsInodeNumber inodes) _ _ items (subst (λ (s : Sizes). AreInodeNumbers s.inodes c.in_ok-children.children.items) so_far.looked.geometry told.within))
+          (All-pop (IsInodeNumber inodes) c.loop-here.left.items c.pop.new.self.items c.pop.result c.pop.ensures.items so_far.within).0;
       whole = c.mark_all.ensures.marks.same_length ∙ so_far.whole;
       searched = λ detail disk settled v stands.
           let e = entries v in

@@ -6,16 +6,16 @@ use Rattle.records.proofs.StepLaws.{steps_behind, takes_behind}
 use Rattle.records.proofs.prepared.commit.Goals as goal
 
 pub commit_some-requires : goal.commit_some-requires
-commit_some-requires c = takes_behind (Some c.args.prepared.first) c.args.prepared.next c.commit_step.ensures c.requires.next_apart c.requires.next
+commit_some-requires c = takes_behind (Some c.args.prepared.first) c.args.prepared.next c.commit_update.ensures c.requires.next_apart c.requires.next
 
 pub commit_some-requires-2 : goal.commit_some-requires-2
 commit_some-requires-2 c =
     let p = c.args.prepared in
-    takes_behind p.next p.last c.commit_some.ensures c.requires.apart (takes_behind (Some p.first) p.last c.commit_step.ensures c.requires.last_apart c.requires.last)
+    takes_behind p.next p.last c.commit_some.ensures c.requires.apart (takes_behind (Some p.first) p.last c.commit_update.ensures c.requires.last_apart c.requires.last)
 
 pub returns-clause-volume : goal.returns-clause-volume
 returns-clause-volume c = λ detail count disk settled v change volume does.
-    let first = c.commit_step.ensures in
+    let first = c.commit_update.ensures in
     let next = c.commit_some.ensures in
     let p = c.args.prepared in
     let w = applied change v in
@@ -27,20 +27,20 @@ returns-clause-volume c = λ detail count disk settled v change volume does.
 pub returns-clause-at_hand : goal.returns-clause-at_hand
 returns-clause-at_hand c =
     let p = c.args.prepared in
-    let t = c.commit_step.new.inodes in
+    let t = c.commit_update.new.inodes in
     let u = c.commit_some.new.inodes in
     let new = c.commit_some-2.new.inodes in
     let next = c.commit_some.ensures in
     let last = c.commit_some-2.ensures in
     record {
-      first = stays_at_hand u new last.geometry last.keeps last.stays p.first.number (stays_at_hand t u next.geometry next.keeps next.stays p.first.number c.commit_step.ensures.at_hand);
+      first = stays_at_hand u new last.geometry last.keeps last.stays p.first.number (stays_at_hand t u next.geometry next.keeps next.stays p.first.number c.commit_update.ensures.at_hand);
       next = some_stays_at_hand u new last.geometry last.keeps last.stays p.next next.at_hand;
       last = last.at_hand;
     }
 
 pub returns-clause-room : goal.returns-clause-room
 returns-clause-room c = λ detail base count disk settled v change volume does.
-    let first = c.commit_step.ensures in
+    let first = c.commit_update.ensures in
     let next = c.commit_some.ensures in
     let p = c.args.prepared in
     let w = applied change v in

@@ -1,5 +1,5 @@
 use Rattle.std.proofs.Common.{◌∙◌, refl, sym, subst}
-use Rattle.records.specs.Failures.{told}
+use Rattle.records.specs.Failures.{read_outcome}
 use Rattle.records.specs.Moving.{Releases}
 use Rattle.records.proofs.Failures.{read_failed}
 use Rattle.records.proofs.Looking.{behind, besides, fails, found_nothing, tells}
@@ -10,11 +10,11 @@ pub returns-then-is_same-clause-replaced : goal.returns-then-is_same-clause-repl
 returns-then-is_same-clause-replaced g c = tells found_nothing (λ detail disk settled v now any. c.is_same.ensures.yes c.if-is_same.true)
 
 pub returns-in_err-is_directory-clause-replaced : goal.returns-in_err-is_directory-clause-replaced
-returns-in_err-is_directory-clause-replaced g c = fails (told c.from_residual.result) (read_failed _ c.from_residual.result c.from_residual.ensures.1) c.in_err-is_directory.ensures
+returns-in_err-is_directory-clause-replaced g c = fails (read_outcome c.from_residual.result) (read_failed _ c.from_residual.result c.from_residual.ensures.1) c.in_err-is_directory.ensures
 
 pub returns-in_err-other_is-clause-replaced : goal.returns-in_err-other_is-clause-replaced
 returns-in_err-other_is-clause-replaced g c =
-    fails (told c.from_residual-in_err-other_is.result) (read_failed _ c.from_residual-in_err-other_is.result c.from_residual-in_err-other_is.ensures.1) (behind c.in_ok-is_directory.ensures c.in_err-other_is.ensures)
+    fails (read_outcome c.from_residual-in_err-other_is.result) (read_failed _ c.from_residual-in_err-other_is.result c.from_residual-in_err-other_is.ensures.1) (behind c.in_ok-is_directory.ensures c.in_err-other_is.ensures)
 
 pub returns-then-is_directory-clause-replaced : goal.returns-then-is_directory-clause-replaced
 returns-then-is_directory-clause-replaced g c = tells (besides c.in_ok-is_directory.ensures c.in_ok-other_is.ensures) (λ detail disk settled v now both. (
@@ -30,7 +30,7 @@ returns-then-is_directory-other_is-clause-replaced g c = tells (besides c.in_ok-
 
 pub returns-in_err-released-clause-replaced : goal.returns-in_err-released-clause-replaced
 returns-in_err-released-clause-replaced g c =
-    fails (told c.from_residual-in_err-released.result) (read_failed _ c.from_residual-in_err-released.result c.from_residual-in_err-released.ensures.1)
+    fails (read_outcome c.from_residual-in_err-released.result) (read_failed _ c.from_residual-in_err-released.result c.from_residual-in_err-released.ensures.1)
     (behind c.in_ok-is_directory.ensures (behind c.in_ok-other_is.ensures c.in_err-released.ensures.released))
 
 pub returns-in_default-clause-replaced : goal.returns-in_default-clause-replaced

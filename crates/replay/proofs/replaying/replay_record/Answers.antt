@@ -5,12 +5,12 @@ use Rattle.layout.specs.Record.{Change, change_of}
 use Rattle.model.specs.Records.{Applies, applied, work_of}
 use Rattle.model.specs.Room.{cost}
 use Rattle.model.specs.declared.errno.Errno.{Errno}
-use Rattle.blocktree.specs.declared.error.ReadError.{ReadError}
-use Rattle.blocktree.specs.declared.error.ReadError.TheVariants.{Damaged, Device, NoMemory}
+use Rattle.buffers.specs.declared.error.BlockError.{BlockError}
+use Rattle.buffers.specs.declared.error.BlockError.TheVariants.{Damaged, Device, NoMemory}
 use Rattle.images.specs.Replaying.{LeavesPlace, ReadsIn}
 use Rattle.inofile.specs.Volumes.{IsVolumeIn}
 use Rattle.inofile.proofs.RoomLaws.{needs_room}
-use Rattle.records.specs.Failures.{told}
+use Rattle.records.specs.Failures.{read_outcome}
 use Rattle.records.specs.Obstacles.{IsObstacle}
 use Rattle.records.specs.Preparing.{IsKnownVolume, IsVolumeFor}
 use Rattle.replay.proofs.GraphLaws.{applies_so, applies_within, known_after, reads_in, volume_for}
@@ -31,16 +31,16 @@ returns-in-Err-Refused-clause-replays g c detail disk settled v change shows has
     (subst (λ (x : Change). IsVolumeFor detail n x v) (sym same) (volume_for detail n change v has.volume applies)) in
     let is = c.in-Err-Refused.is ∙ ap (λ (f : Failure). Err f) c.in-Err-Refused.field-0-is in
     absurd (obstacle_stops n v logged c.in-Err-Refused._errno
-    (subst (λ (r : Result Prepared Failure). IfOk (told r) (λ q. IfErr q (IsObstacle n v logged))) is bars) (subst (Applies n v) (sym same) (applies_so detail n v change applies)))
+    (subst (λ (r : Result Prepared Failure). IfOk (read_outcome r) (λ q. IfErr q (IsObstacle n v logged))) is bars) (subst (Applies n v) (sym same) (applies_so detail n v change applies)))
 
 pub returns-in-Err-Read-clause-replays : goal.returns-in-Err-Read-clause-replays
 returns-in-Err-Read-clause-replays g c detail disk settled v change shows has spells applies =
     let same : change_of c.in-Some.logged ≡ change = c.in-Some.ensures.only change spells.is spells.spelled in
     let failed = c.in-Err-Read.is ∙ ap (λ (f : Failure). Err f) c.in-Err-Read.field-0-is in
-    subst (λ (e : ReadError). (e ≡ NoMemory) ⊎ (e ≡ Device)) (cc) (undamaged (λ (_ : Result Prepared Errno). Unit {0}) (Err c.in-Err-Read.error) refl (λ is.
+    subst (λ (e : BlockError). (e ≡ NoMemory) ⊎ (e ≡ Device)) (cc) (undamaged (λ (_ : Result Prepared Errno). Unit {0}) (Err c.in-Err-Read.error) refl (λ is.
     c.prepare.ensures.damaged {detail = detail} disk settled v (record { shows = shows; volume = has.memory })
     (subst (ReadsIn detail v) (sym same) (reads_in detail c.args.inodes.now.geometry.inodes v change applies))
-    (subst (λ (r : Result Prepared Failure). IsErrOf (told r) Damaged) (sym failed) is)))
+    (subst (λ (r : Result Prepared Failure). IsErrOf (read_outcome r) Damaged) (sym failed) is)))
 
 pub returns-clause-replays : goal.returns-clause-replays
 returns-clause-replays g c detail disk settled v change shows has spells applies =

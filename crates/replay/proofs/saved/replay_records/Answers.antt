@@ -1,6 +1,6 @@
 use Rattle.std.proofs.Common.{◌∙◌, ◌++◌, ℕ, List, rules, ap, sym, subst, arith}
 use Rattle.layout.specs.Limits.{Sizes}
-use Rattle.model.specs.Records.{costs, without_nameless}
+use Rattle.model.specs.Records.{costs, without_orphans}
 use Rattle.oplog.specs.LogEnd.{LogEnd}
 use Rattle.oplog.specs.SavedLog.{HoldsLeaving, StandsBehind, end_of}
 use Rattle.replay.specs.Volumes.{HasVolumeIn, LeadTo, bodies_of}
@@ -28,8 +28,8 @@ returns-in_err-second-clause-replays g c detail disk settled v w changes nvram s
     (c.in_err-second.ensures.replays detail disk settled both.mid w both.two (read.same disk shows)
     (subst (λ (k : ℕ). HasVolumeIn detail k disk settled c.replay_all.new.inodes both.mid) (sym read.count) mid.1) leads_on)
 
-pub returns-in_err-drop_nameless-clause-replays : goal.returns-in_err-drop_nameless-clause-replays
-returns-in_err-drop_nameless-clause-replays g c detail disk settled v w changes nvram shows has tells saves =
+pub returns-in_err-drop_orphans-clause-replays : goal.returns-in_err-drop_orphans-clause-replays
+returns-in_err-drop_orphans-clause-replays g c detail disk settled v w changes nvram shows has tells saves =
     let n = c.args.inodes.now.geometry.inodes in
     let both = lead_on detail n nvram c.args.saved changes v w tells saves in
     let leads = subst (λ (l : List ℕ). LeadTo detail n l both.one v both.mid) (sym c.first_records.ensures.records) both.leads in
@@ -40,8 +40,8 @@ returns-in_err-drop_nameless-clause-replays g c detail disk settled v w changes 
     (subst (λ (l : List ℕ). LeadTo detail n l both.two both.mid w) (sym c.second_records.ensures.records) both.leads_on) in
     let end = c.in_ok-second.ensures.replays detail disk settled both.mid w both.two (read.same disk shows)
     (subst (λ (k : ℕ). HasVolumeIn detail k disk settled c.replay_all.new.inodes both.mid) (sym read.count) mid.1) leads_on in
-    passed _ c.from_residual-in_err-drop_nameless.result c.in_err-drop_nameless.field-0.0 (search rules)
-    (c.in_err-drop_nameless.ensures.drops detail disk settled w (again.same disk (read.same disk shows))
+    passed _ c.from_residual-in_err-drop_orphans.result c.in_err-drop_orphans.field-0.0 (search rules)
+    (c.in_err-drop_orphans.ensures.drops detail disk settled w (again.same disk (read.same disk shows))
     (subst (λ (k : ℕ). HasVolumeIn detail k disk settled c.replay_all-2.new.inodes w) (sym again.count) end.1))
 
 pub returns-clause-replays : goal.returns-clause-replays
@@ -57,15 +57,15 @@ returns-clause-replays g c detail disk settled v w changes nvram shows has tells
     let end = c.in_ok-second.ensures.replays detail disk settled both.mid w both.two (read.same disk shows)
     (subst (λ (k : ℕ). HasVolumeIn detail k disk settled c.replay_all.new.inodes both.mid) (sym read.count) mid.1) leads_on in
     let stands_on = subst (λ (k : ℕ). HasVolumeIn detail k disk settled c.replay_all-2.new.inodes w) (sym again.count) end.1 in
-    let swept = c.in_ok-drop_nameless.ensures.drops detail disk settled w (again.same disk (read.same disk shows)) stands_on in
+    let swept = c.in_ok-drop_orphans.ensures.drops detail disk settled w (again.same disk (read.same disk shows)) stands_on in
     let first = subst (λ (l : List ℕ). HoldsLeaving l (bodies_of both.one) c.in_ok-first.first.left) c.first_records.ensures.records mid.0.held in
     let second = subst (λ (l : List ℕ). HoldsLeaving l (bodies_of both.two) c.in_ok-second.second.left) c.second_records.ensures.records end.0.held in
     let stands = tells.ends (bodies_of both.one) (bodies_of both.two) c.in_ok-first.first.left c.in_ok-second.second.left first second in (
       subst (λ (e : LogEnd). StandsBehind e c.args.saved.generation nvram (bodies_of changes)) (sym c.into_log.ensures.end)
           (subst (StandsBehind (end_of c.args.saved c.in_ok-first.first.left c.in_ok-second.second.left) c.args.saved.generation nvram) (sym (joined_bodies changes both.one both.two both.joined)) stands),
-      subst (λ (k : ℕ). HasVolumeIn detail k disk settled c.drop_nameless.new.inodes (without_nameless w)) (again.count ∙ read.count) swept,
+      subst (λ (k : ℕ). HasVolumeIn detail k disk settled c.drop_orphans.new.inodes (without_orphans w)) (again.count ∙ read.count) swept,
       omega (arith, mid.0.cost, end.0.cost, ap (costs v) both.joined, costs_joined detail n both.one both.two v both.mid both.leads.replays),
-      λ base. omega (arith, mid.2 base, end.2 base, c.in_ok-drop_nameless.ensures.room detail base disk settled w (again.same disk (read.same disk shows)) stands_on),
+      λ base. omega (arith, mid.2 base, end.2 base, c.in_ok-drop_orphans.ensures.room detail base disk settled w (again.same disk (read.same disk shows)) stands_on),
     )
 
 pub returns-clause-applies : goal.returns-clause-applies

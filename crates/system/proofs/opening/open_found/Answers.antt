@@ -2,9 +2,10 @@ use Rattle.std.proofs.Common.{◌≡◌, ◌∙◌, ◌*◌, ℕ, Option, None, 
 use Rattle.layout.specs.Places.{blocks_of}
 use Rattle.buffers.specs.Disks.{ReadsOn}
 use Rattle.overlay.specs.Overlays.{ShowsOver}
-use Rattle.overlay.specs.declared.laid.Laid.{Laid}
+use Rattle.overlay.specs.declared.pending.PendingPoint.{PendingPoint}
 use Rattle.system.proofs.LookedLaws.{reads_nothing}
-use Rattle.system.proofs.OpenLaws.{IsOver, read_from, serves, shown_new, still_left}
+use Rattle.station.proofs.Moments.{still_left}
+use Rattle.system.proofs.OpenLaws.{IsOver, read_from, serves, shown_new}
 use Rattle.system.proofs.opening.open_found.Goals as goal
 
 pub invariant_of-result-clause-sectors : goal.invariant_of-result-clause-sectors
@@ -34,17 +35,17 @@ returns-in-Ok-clause-serves g c honest just of first last snapshots changes hold
     let shows = shown_new {G = g.S.Station} c.args.station c.new-buffers.result c.new-blocks.result c.new-buffers.ensures.station c.new-blocks.ensures.buffers
     (c.new-buffers.ensures.shows (blocks_of i.disk) honest (λ place within. refl)) c.new-blocks.ensures.shows in
     let from = read_from {G = g.S.Station} c.args.station c.new-buffers.result c.new-blocks.result c.new-buffers.ensures.station c.new-blocks.ensures.buffers c.read_image.new.blocks c.read_image.ensures.reads.reads in
-    let rests : c.read_image.new.blocks.laid ≡ None = (c.read_image.ensures.reads.reads c.new-blocks.result (reads_nothing g.S.Station c.new-blocks.result)).laid ∙ c.new-blocks.ensures.none in
+    let rests : c.read_image.new.blocks.pending ≡ None = (c.read_image.ensures.reads.reads c.new-blocks.result (reads_nothing g.S.Station c.new-blocks.result)).pending ∙ c.new-blocks.ensures.none in
     let over : IsOver new kept c.args.found c.in-Ok.field-0 first last snapshots changes c.new.result c.new.ensures.closed c.new.ensures.fits i = record {
       just = still_left m new i from.same from.goes just;
-      shows = subst (λ (l : Option Laid). ShowsOver new kept l (blocks_of i.disk)) rests (c.read_image.ensures.reads.same (blocks_of i.disk) shows);
+      shows = subst (λ (l : Option PendingPoint). ShowsOver new kept l (blocks_of i.disk)) rests (c.read_image.ensures.reads.same (blocks_of i.disk) shows);
       of = of;
       holds = holds;
       has = c.in-Ok.ensures.has (blocks_of i.disk) i.nvram first last snapshots changes shows of.saved holds;
     } in
     let inodes = c.args.found.newest.root.geometry.inodes in
     let mounted = (c.mounts_find_volumes.ensures inodes last (c.replays_keep_volumes.ensures inodes first changes last holds.holds.volume holds.replays)).1 in
-    serves new kept c.args.found c.in-Ok.field-0 first last snapshots changes c.new.result c.new.ensures.closed c.new.ensures.fits c.read_image.new.blocks.laid rests i (from.goes honest).seen mounted
+    serves new kept c.args.found c.in-Ok.field-0 first last snapshots changes c.new.result c.new.ensures.closed c.new.ensures.fits c.read_image.new.blocks.pending rests i (from.goes honest).seen mounted
     c.in-Ok.ensures.fits.runs over
 
 pub returns-in-Err-clause-serves : goal.returns-in-Err-clause-serves

@@ -1,5 +1,5 @@
 use Rattle.std.proofs.Common.{◌≡◌, length, ap, arith}
-use Rattle.layout.proofs.RecordLengths.{length-change_mode, length-cut, length-link, length-rename, length-unname}
+use Rattle.layout.proofs.RecordLengths.{length-change_mode, length-truncate, length-link, length-rename, length-remove_name}
 use Rattle.calls.proofs.changed.OwnedChange.record.Goals as goal
 
 pub returns-in-Link-clause-short : goal.returns-in-Link-clause-short
@@ -10,12 +10,12 @@ returns-in-Link-clause-short c =
     let long = length-link c.in-Link.number c.in-Link.parent c.deref.result.now in
     omega (arith, same, short, long)
 
-pub returns-in-Unname-clause-short : goal.returns-in-Unname-clause-short
-returns-in-Unname-clause-short c =
-    let name = c.in-Unname.name in
-    let same : length c.deref-in-Unname.result.now ≡ length name.bytes.items = ap length c.deref-in-Unname.ensures.value in
+pub returns-in-RemoveName-clause-short : goal.returns-in-RemoveName-clause-short
+returns-in-RemoveName-clause-short c =
+    let name = c.in-RemoveName.name in
+    let same : length c.deref-in-RemoveName.result.now ≡ length name.bytes.items = ap length c.deref-in-RemoveName.ensures.value in
     let short = name.named.short in
-    let long = length-unname c.in-Unname.parent c.deref-in-Unname.result.now in
+    let long = length-remove_name c.in-RemoveName.parent c.deref-in-RemoveName.result.now in
     omega (arith, same, short, long)
 
 pub returns-in-Rename-clause-short : goal.returns-in-Rename-clause-short
@@ -32,5 +32,5 @@ returns-in-Rename-clause-short c =
 pub returns-in-ChangeMode-clause-short : goal.returns-in-ChangeMode-clause-short
 returns-in-ChangeMode-clause-short c = let long = length-change_mode c.in-ChangeMode.number c.in-ChangeMode.mode in omega (arith, long)
 
-pub returns-in-Cut-clause-short : goal.returns-in-Cut-clause-short
-returns-in-Cut-clause-short c = let long = length-cut c.in-Cut.number c.in-Cut.size in omega (arith, long)
+pub returns-in-Truncate-clause-short : goal.returns-in-Truncate-clause-short
+returns-in-Truncate-clause-short c = let long = length-truncate c.in-Truncate.number c.in-Truncate.size in omega (arith, long)

@@ -15,8 +15,8 @@ use Rattle.calls.proofs.preparing.link.link_file.Goals as goal
 pub returns-in_err-place : goal.returns-in_err-place
 returns-in_err-place g c = stops c.from_residual.result c.from_residual.ensures.1 c.in_err-place.ensures.looks c.in_err-place.ensures.damaged
 
-pub returns-in-Gap : goal.returns-in-Gap
-returns-in-Gap g c = follows c.in_ok-place.ensures.looks c.link_in.ensures (λ disk settled v table stands volume mounted told links is leads.
+pub returns-in-Missing : goal.returns-in-Missing
+returns-in-Missing g c = follows c.in_ok-place.ensures.looks c.link_in.ensures (λ disk settled v table stands volume mounted told links is leads.
     let (count, file) = file_found (v c.args.number) is in
     let inodes = c.args.inodes.now.geometry.inodes in
     let old = c.args.old.now in
@@ -24,9 +24,9 @@ returns-in-Gap g c = follows c.in_ok-place.ensures.looks c.link_in.ensures (λ d
     let n = c.args.number in
     let r = resolve (tree_of v table) false path in
     let tree = c.volumes_are_trees.ensures inodes v table volume mounted in
-    let at = subst (λ p. IsPlaceOf v (model_place_of p) r) c.in-Gap.is (c.in_ok-place.ensures.found disk settled v table path stands volume c.requires.parts) in
-    let name = c.in-Gap.name.items in
-    let gap = finds_gap inodes v table volume mounted tree c.in-Gap.trail name r (target_well inodes v table volume mounted tree old path c.requires.passed) at in
+    let at = subst (λ p. IsPlaceOf v (model_place_of p) r) c.in-Missing.is (c.in_ok-place.ensures.found disk settled v table path stands volume c.requires.parts) in
+    let name = c.in-Missing.name.items in
+    let gap = finds_gap inodes v table volume mounted tree c.in-Missing.trail name r (target_well inodes v table volume mounted tree old path c.requires.passed) at in
     link_comes inodes v table volume mounted tree old path c.requires.passed n file.0 count file.1 file.2 leads c.records_change_trees.ensures c.volumes_tell_links.ensures _ name gap told
     (subst (λ (d : ℕ). Decides inodes v (link n d name) told) c.here.ensures links))
 

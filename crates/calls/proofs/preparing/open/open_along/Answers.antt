@@ -18,21 +18,21 @@ use Rattle.calls.proofs.preparing.open.open_along.Goals as goal
 pub returns-in_err-place-clause-opens : goal.returns-in_err-place-clause-opens
 returns-in_err-place-clause-opens g c = stops c.from_residual.result c.from_residual.ensures.1 c.in_err-place.ensures.looks c.in_err-place.ensures.damaged
 
-pub returns-in-Gap-clause-opens : goal.returns-in-Gap-clause-opens
-returns-in-Gap-clause-opens g c = follows c.in_ok-place.ensures.looks c.open_new.ensures.opens (λ disk settled v table stands volume mounted told opens.
+pub returns-in-Missing-clause-opens : goal.returns-in-Missing-clause-opens
+returns-in-Missing-clause-opens g c = follows c.in_ok-place.ensures.looks c.open_new.ensures.opens (λ disk settled v table stands volume mounted told opens.
     let inodes = c.args.inodes.now.geometry.inodes in
     let text = c.args.path.now in
-    let x = c.in-Gap.name.items in
+    let x = c.in-Missing.name.items in
     let flags = c.args.flags in
     let t = tree_of v table in
     let follow = not (flags.creates && flags.exclusive) in
     let r = resolve t follow text in
     let tree = c.volumes_are_trees.ensures inodes v table volume mounted in
     let at = subst (λ (b : Bool). IsPlaceOf v (model_place_of c.in_ok-place.place) (resolve t (not b) text)) c.wants_new.ensures (c.in_ok-place.ensures.found disk settled v table text stands volume c.requires.parts) in
-    let place = subst (λ p. IsPlaceOf v (model_place_of p) r) c.in-Gap.is at in
+    let place = subst (λ p. IsPlaceOf v (model_place_of p) r) c.in-Missing.is at in
     let well = resolves_well inodes t tree [] follow text c.requires.passed in
-    let gap = finds_gap inodes v table volume mounted tree c.in-Gap.trail x r well place in
-    along_gap inodes v table volume mounted tree (here c.in-Gap.trail) x r gap (c.volumes_tell_fresh_numbers.ensures) (c.records_change_trees.ensures) flags c.args.mode text refl told
+    let gap = finds_gap inodes v table volume mounted tree c.in-Missing.trail x r well place in
+    along_gap inodes v table volume mounted tree (here c.in-Missing.trail) x r gap (c.volumes_tell_fresh_numbers.ensures) (c.records_change_trees.ensures) flags c.args.mode text refl told
     (subst (λ (k : ℕ). OpensNew inodes v flags c.args.mode k x told) c.here.ensures opens))
 
 pub returns-in-Refusal-clause-opens : goal.returns-in-Refusal-clause-opens

@@ -1,7 +1,7 @@
 use Rattle.std.proofs.Common.{◌∙◌, ℕ, Err, IfOk, inl, inr, refl, ap, subst}
 use Rattle.std.proofs.lemmas.Bool.{not-false, not-true}
 use Rattle.model.specs.Records.{create, file}
-use Rattle.records.specs.Failures.{told}
+use Rattle.records.specs.Failures.{read_outcome}
 use Rattle.records.specs.declared.failure.Failure.{Failure}
 use Rattle.records.proofs.StandLaws.{no_look}
 use Rattle.calls.specs.Making.{MakesIn}
@@ -18,7 +18,7 @@ returns-in_err-changing-clause-opens g c =
     let made = c.in_err-changing.ensures.prepares in
     fails {X = Changing} _ c.from_residual.result c.from_residual.ensures.1 made.looks made.own made.damaged (λ disk settled v table stands volume mounted errno is. inr (
       not-false c.args.flags.creates c.if-not-flags.false,
-      subst (λ (f : Failure). IfOk (told {T = Changing} (Err f)) (MakesIn c.args.inodes.now.geometry.inodes v c.args.parent c.args.name.items (file c.args.mode))) is
+      subst (λ (f : Failure). IfOk (read_outcome {T = Changing} (Err f)) (MakesIn c.args.inodes.now.geometry.inodes v c.args.parent c.args.name.items (file c.args.mode))) is
           (made.answers disk settled v table stands volume mounted),
     ))
 

@@ -4,13 +4,13 @@ use Rattle.layout.specs.Limits.{Sizes}
 use Rattle.model.specs.Volumes.{IsVolume, is_file_node}
 use Rattle.model.specs.declared.reply.Stat.{Stat}
 use Rattle.paths.proofs.Looks.{looks_more}
-use Rattle.records.specs.Failures.{told}
+use Rattle.records.specs.Failures.{read_outcome}
 use Rattle.records.specs.declared.failure.Failure.{Failure}
 use Rattle.records.proofs.StandLaws.{no_look}
 use Rattle.calls.specs.Stat.{TellsStat}
-use Rattle.calls.specs.Truncate.{CutsFile}
+use Rattle.calls.specs.Truncate.{TruncatesFile}
 use Rattle.calls.specs.declared.changed.Changing.{Changing}
-use Rattle.calls.proofs.OpenLaws.{is_file_at, opens_cut, opens_damaged, opens_no_file, opens_whole, opens_exclusive}
+use Rattle.calls.proofs.OpenLaws.{is_file_at, opens_truncated, opens_damaged, opens_no_file, opens_whole, opens_exclusive}
 use Rattle.calls.proofs.PrepareSteps.{fails, grants, refuses}
 use Rattle.calls.proofs.preparing.open.open_object.Goals as goal
 
@@ -22,7 +22,7 @@ pub returns-in_err-stat-clause-opens : goal.returns-in_err-stat-clause-opens
 returns-in_err-stat-clause-opens g c =
     let all = c.in_err-stat.ensures.told in
     fails {X = Stat} _ c.from_residual.result c.from_residual.ensures.1 all.looks all.own all.damaged (λ disk settled v table stands volume mounted errno is o object plain.
-    opens_damaged v c.args.number o object (subst (λ (f : Failure). IfOk (told {T = Stat} (Err f)) (TellsStat v c.args.number)) is (all.tells disk settled v stands)))
+    opens_damaged v c.args.number o object (subst (λ (f : Failure). IfOk (read_outcome {T = Stat} (Err f)) (TellsStat v c.args.number)) is (all.tells disk settled v stands)))
 
 pub returns-in_default-clause-opens : goal.returns-in_default-clause-opens
 returns-in_default-clause-opens g c = refuses c.in_ok-stat.ensures.told.looks refl (λ disk settled v table stands volume mounted o object plain.
@@ -39,16 +39,16 @@ returns-then-not-flags-clause-opens g c = grants c.in_ok-stat.ensures.told.looks
 pub returns-in_err-changing-clause-opens : goal.returns-in_err-changing-clause-opens
 returns-in_err-changing-clause-opens g c =
     let first = c.in_ok-stat.ensures.told.looks in
-    let cut = c.in_err-changing.ensures in
+    let truncate = c.in_err-changing.ensures in
     let n = c.args.number in
-    fails {X = Option Changing} _ c.from_residual-in_err-changing.result c.from_residual-in_err-changing.ensures.1 (looks_more first cut.looks) cut.own
-    (λ disk settled v stands bad. cut.damaged disk settled v (first.kept disk settled v stands) bad)
+    fails {X = Option Changing} _ c.from_residual-in_err-changing.result c.from_residual-in_err-changing.ensures.1 (looks_more first truncate.looks) truncate.own
+    (λ disk settled v stands bad. truncate.damaged disk settled v (first.kept disk settled v stands) bad)
     (λ disk settled v table stands volume mounted errno is o object plain.
     let old = sym c.wants_new.ensures ∙ c.if-wants_new.false in
     let all = subst (λ (s : Sizes). IsVolume s.inodes v) (sym first.geometry) volume in
     let file = is_file_at c.args.inodes.now.geometry.inodes v table n o object c.args.flags old c.in_ok-stat.stat (c.in_ok-stat.ensures.told.tells disk settled v stands) c.in-File.is in
-    absurd (subst (λ (f : Failure). IfOk (told {T = Option Changing} (Err f)) (λ r. IsTrue (is_file_node (v n)) → IsOkAnd r (CutsFile c.stat_number.new.inodes.geometry.inodes v table n 0))) is
-    (cut.answers disk settled v table (first.kept disk settled v stands) all mounted) file))
+    absurd (subst (λ (f : Failure). IfOk (read_outcome {T = Option Changing} (Err f)) (λ r. IsTrue (is_file_node (v n)) → IsOkAnd r (TruncatesFile c.stat_number.new.inodes.geometry.inodes v table n 0))) is
+    (truncate.answers disk settled v table (first.kept disk settled v stands) all mounted) file))
 
 pub returns-clause-opens : goal.returns-clause-opens
 returns-clause-opens g c =
@@ -62,5 +62,5 @@ returns-clause-opens g c =
     let told = c.in_ok-stat.ensures.told.tells disk settled v stands in
     let all = subst (λ (s : Sizes). IsVolume s.inodes v) (sym first.geometry) volume in
     let file = is_file_at inodes v table n o object c.args.flags old c.in_ok-stat.stat told c.in-File.is in
-    opens_cut inodes v table n o object c.args.flags old c.in_ok-stat.stat told c.in-File.is c.if-not-flags.false c.in_ok-changing.changing
-    (subst (λ (s : Sizes). CutsFile s.inodes v table n 0 c.in_ok-changing.changing) first.geometry (c.in_ok-changing.ensures.answers disk settled v table (first.kept disk settled v stands) all mounted file)))
+    opens_truncated inodes v table n o object c.args.flags old c.in_ok-stat.stat told c.in-File.is c.if-not-flags.false c.in_ok-changing.changing
+    (subst (λ (s : Sizes). TruncatesFile s.inodes v table n 0 c.in_ok-changing.changing) first.geometry (c.in_ok-changing.ensures.answers disk settled v table (first.kept disk settled v stands) all mounted file)))

@@ -34,7 +34,7 @@ returns-in-Refusal g c = finds_none c.in_ok-place.ensures (ap led_of c.in-Refusa
     let inodes = c.args.inodes.now.geometry.inodes in
     rename_nowhere inodes v table volume mounted (c.volumes_are_trees.ensures inodes v table volume mounted) c.args.old.now c.args.path.now c.requires.passed _)
 
-pub returns-in-Gap : goal.returns-in-Gap
-returns-in-Gap g c = finds_none c.in_ok-place.ensures (ap led_of c.in-Gap.is) c.args.old.now c.requires.from (λ disk settled v table stands volume mounted.
+pub returns-in-Missing : goal.returns-in-Missing
+returns-in-Missing g c = finds_none c.in_ok-place.ensures (ap led_of c.in-Missing.is) c.args.old.now c.requires.from (λ disk settled v table stands volume mounted.
     let inodes = c.args.inodes.now.geometry.inodes in
     rename_nowhere inodes v table volume mounted (c.volumes_are_trees.ensures inodes v table volume mounted) c.args.old.now c.args.path.now c.requires.passed _)

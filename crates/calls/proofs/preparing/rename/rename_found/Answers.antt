@@ -5,7 +5,7 @@ use Rattle.model.specs.Resolution.{resolve}
 use Rattle.model.specs.Volumes.{entries, tree_of}
 use Rattle.model.specs.declared.limits.TheConstants.{LINKS_FOLLOWED}
 use Rattle.paths.specs.Ends.{EndsInName, IsAtName}
-use Rattle.paths.specs.Numbers.{IsNumber}
+use Rattle.paths.specs.Numbers.{IsInodeNumber}
 use Rattle.paths.specs.Places.{model_place_of, IsPlaceWithin}
 use Rattle.calls.specs.Rename.{MovesName}
 use Rattle.calls.proofs.NameLaws.{ends_in_name}
@@ -19,14 +19,14 @@ use Rattle.calls.proofs.preparing.rename.rename_found.Goals as goal
 
 pub move_name-requires-clause-parent : goal.move_name-requires-clause-parent
 move_name-requires-clause-parent g c =
-    subst (IsNumber c.resolve.new.inodes.geometry.inodes) (sym c.here-parent.ensures)
-    (subst (λ (z : Sizes). IsNumber z.inodes (here c.args.trail)) (sym c.resolve.ensures.looks.geometry)
+    subst (IsInodeNumber c.resolve.new.inodes.geometry.inodes) (sym c.here-parent.ensures)
+    (subst (λ (z : Sizes). IsInodeNumber z.inodes (here c.args.trail)) (sym c.resolve.ensures.looks.geometry)
     (here_number c.args.inodes.now.geometry.inodes c.args.trail c.args.number c.requires.number c.requires.within))
 
-pub move_name-requires-in-Gap-clause-parent : goal.move_name-requires-in-Gap-clause-parent
-move_name-requires-in-Gap-clause-parent g c =
-    subst (IsNumber c.resolve.new.inodes.geometry.inodes) (sym c.here-parent.ensures)
-    (subst (λ (z : Sizes). IsNumber z.inodes (here c.args.trail)) (sym c.resolve.ensures.looks.geometry)
+pub move_name-requires-in-Missing-clause-parent : goal.move_name-requires-in-Missing-clause-parent
+move_name-requires-in-Missing-clause-parent g c =
+    subst (IsInodeNumber c.resolve.new.inodes.geometry.inodes) (sym c.here-parent.ensures)
+    (subst (λ (z : Sizes). IsInodeNumber z.inodes (here c.args.trail)) (sym c.resolve.ensures.looks.geometry)
     (here_number c.args.inodes.now.geometry.inodes c.args.trail c.args.number c.requires.number c.requires.within))
 
 pub returns-in_err-place : goal.returns-in_err-place
@@ -75,11 +75,11 @@ returns-in-Entry g c = follows_knowing c.in_ok-place.ensures.looks c.move_name.e
     (subst (λ (d : ℕ). MovesName inodes v d x (here above) y told) c.here-parent.ensures
     (moves along)))
 
-pub returns-in-Gap : goal.returns-in-Gap
-returns-in-Gap g c = follows_knowing c.in_ok-place.ensures.looks c.move_name-in-Gap.ensures
+pub returns-in-Missing : goal.returns-in-Missing
+returns-in-Missing g c = follows_knowing c.in_ok-place.ensures.looks c.move_name-in-Missing.ensures
     (λ disk settled v stands there. record {
       there = ap (λ (d : ℕ). entries v d c.args.name.items) c.here-parent.ensures ∙ there;
-      over = subst (TellsName v) (sym (c.in_ok-place.ensures.place disk settled v stands) ∙ ap model_place_of c.in-Gap.is) (tells_name v false LINKS_FOLLOWED [] c.args.to);
+      over = subst (TellsName v) (sym (c.in_ok-place.ensures.place disk settled v stands) ∙ ap model_place_of c.in-Missing.is) (tells_name v false LINKS_FOLLOWED [] c.args.to);
     })
     (λ disk settled v table stands volume mounted there told moves place.
     let inodes = c.args.inodes.now.geometry.inodes in
@@ -90,9 +90,9 @@ returns-in-Gap g c = follows_knowing c.in_ok-place.ensures.looks c.move_name-in-
     let r = resolve (tree_of v table) false path in
     let tree = c.volumes_are_trees.ensures inodes v table volume mounted in
     let finds = finds_entry v c.args.trail x n (resolve (tree_of v table) false old) place in
-    let at = subst (λ p. IsPlaceOf v (model_place_of p) r) c.in-Gap.is (c.in_ok-place.ensures.found disk settled v table path stands volume c.requires.to) in
-    let above = c.in-Gap.above in
-    let y = c.in-Gap.new_name.items in
+    let at = subst (λ p. IsPlaceOf v (model_place_of p) r) c.in-Missing.is (c.in_ok-place.ensures.found disk settled v table path stands volume c.requires.to) in
+    let above = c.in-Missing.above in
+    let y = c.in-Missing.new_name.items in
     let well = target_well inodes v table volume mounted tree old path c.requires.passed in
     let ends = ends_gap inodes v table volume mounted tree above y r well at in
     let along = along_gap inodes v table volume mounted tree c.numbers_tell_what_lies_below.ensures c.trails_tell_what_lies_below.ensures

@@ -3,7 +3,7 @@ use Rattle.std.proofs.lemmas.Int.{to_z-of_z}
 use Rattle.model.specs.declared.errno.Errno.TheVariants.{EISDIR}
 use Rattle.paths.proofs.Looks.{looks_more}
 use Rattle.calls.proofs.PrepareSteps.{follows, passes, refuses, stops_later}
-use Rattle.calls.proofs.TruncateLaws.{CutsNumber, cuts_found, found_file, found_other, truncate_comes, truncate_nowhere}
+use Rattle.calls.proofs.TruncateLaws.{TruncatesNumber, truncates_found, found_file, found_other, truncate_comes, truncate_nowhere}
 use Rattle.calls.proofs.preparing.truncate.truncate_along.Goals as goal
 
 pub returns-in_err-number : goal.returns-in_err-number
@@ -16,7 +16,7 @@ returns-in_err-found g c =
     stops_later c.from_residual-in_err-found.result c.from_residual-in_err-found.ensures.1 c.in_ok-number.ensures.looks c.in_err-found.ensures.looks (λ disk settled v stands. c.in_err-found.ensures.damaged disk settled v stands)
 
 pub returns-in-File : goal.returns-in-File
-returns-in-File g c = follows (looks_more c.in_ok-number.ensures.looks c.in_ok-found.ensures.looks) c.cut_file.ensures (λ disk settled v table stands volume mounted r cuts.
+returns-in-File g c = follows (looks_more c.in_ok-number.ensures.looks c.in_ok-found.ensures.looks) c.truncate_file.ensures (λ disk settled v table stands volume mounted r truncates_file.
     let text = c.args.path.now in
     let inodes = c.args.inodes.now.geometry.inodes in
     let n = c.in_ok-number.number in
@@ -24,7 +24,7 @@ returns-in-File g c = follows (looks_more c.in_ok-number.ensures.looks c.in_ok-f
     let is = found_file (v n) (sym (c.in_ok-found.ensures.found disk settled v (c.find_object.ensures.looks.kept disk settled v stands)) ∙ c.in-File.is) in
     truncate_comes inodes v table text c.args.size n (c.requires.passed, c.in_ok-number.ensures.leads disk settled v table text stands volume c.requires.parts)
     (c.in_ok-number.ensures.followed disk settled v stands volume refl) r
-    (subst (λ (m : ℕ). CutsNumber inodes v table n m r) size (cuts_found inodes v table n c.unsigned_abs.result r is cuts)))
+    (subst (λ (m : ℕ). TruncatesNumber inodes v table n m r) size (truncates_found inodes v table n c.unsigned_abs.result r is truncates_file)))
 
 pub returns-in_default : goal.returns-in_default
 returns-in_default g c = refuses (looks_more c.in_ok-number.ensures.looks c.in_ok-found.ensures.looks) refl (λ disk settled v table stands volume mounted.

@@ -52,8 +52,8 @@ returns-in-Refusal g c = finds_none c.in_ok-place.ensures (ap led_of c.in-Refusa
     let inodes = c.args.inodes.now.geometry.inodes in
     unlink_refused inodes v table volume mounted (c.volumes_are_trees.ensures inodes v table volume mounted) c.records_change_trees.ensures c.args.path.now passed _)
 
-pub returns-in-Gap : goal.returns-in-Gap
-returns-in-Gap g c = finds_none c.in_ok-place.ensures (ap led_of c.in-Gap.is) c.args.path.now (search rules) (λ disk settled v table stands volume mounted.
+pub returns-in-Missing : goal.returns-in-Missing
+returns-in-Missing g c = finds_none c.in_ok-place.ensures (ap led_of c.in-Missing.is) c.args.path.now (search rules) (λ disk settled v table stands volume mounted.
     let passed : first_refusal (new_text_tests c.args.path.now) ≡ None = search rules in
     let inodes = c.args.inodes.now.geometry.inodes in
     unlink_refused inodes v table volume mounted (c.volumes_are_trees.ensures inodes v table volume mounted) c.records_change_trees.ensures c.args.path.now passed _)

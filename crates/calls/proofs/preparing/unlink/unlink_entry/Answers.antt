@@ -10,5 +10,5 @@ returns-in-Directory g c = refuses c.in_ok-found.ensures.looks refl
     (λ disk settled v table stands volume mounted. inl (sym (c.in_ok-found.ensures.found disk settled v stands) ∙ c.in-Directory.is, refl))
 
 pub returns-in_default : goal.returns-in_default
-returns-in_default g c = follows c.in_ok-found.ensures.looks c.remove_name.ensures
+returns-in_default g c = follows c.in_ok-found.ensures.looks c.prepare_removal.ensures
     (λ disk settled v table stands volume mounted r told. inr (λ is. c.in_default.not-Directory (c.in_ok-found.ensures.found disk settled v stands ∙ is), told))

@@ -23,6 +23,6 @@ returns c = record {
   kept = c.install.ensures.kept ∙ c.trim.ensures.kept ∙ ap (min c.args.self.now.tree.kept) c.block_count-count.ensures;
   only = λ j is. elim (c.install.ensures.only j is) [
     | inl piece ↦ inl piece
-    | inr before ↦ inr (c.trim.ensures.changed j before, subst (λ (n : ℕ). j < n) c.block_count-count.ensures (c.trim.ensures.cut j before))
+    | inr before ↦ inr (c.trim.ensures.changed j before, subst (λ (n : ℕ). j < n) c.block_count-count.ensures (c.trim.ensures.truncate j before))
   ];
 }

@@ -3,7 +3,7 @@ use Rattle.layout.specs.Inode.{IsInode, inode_bytes}
 use Rattle.layout.specs.Version.{greatest_size}
 use Rattle.layout.specs.declared.inode.Inode.{Inode}
 use Rattle.layout.specs.declared.version.TheConstants.{VERSION}
-use Rattle.blocktree.specs.declared.error.ReadError.TheVariants.{Damaged}
+use Rattle.buffers.specs.declared.error.BlockError.TheVariants.{Damaged}
 use Rattle.images.specs.Roots.{inode_part}
 use Rattle.images.specs.Soundness.{Detail}
 use Rattle.inofile.specs.Settled.{AreSettledIn}

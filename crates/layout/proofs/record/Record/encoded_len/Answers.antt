@@ -1,6 +1,6 @@
 use Rattle.std.proofs.Common.{arith}
 use Rattle.layout.specs.Record.{made_of}
-use Rattle.layout.proofs.RecordLengths.{length-create, length-link, length-unname, length-rename, length-write, length-cut, length-change_mode}
+use Rattle.layout.proofs.RecordLengths.{length-create, length-link, length-remove_name, length-rename, length-write, length-truncate, length-change_mode}
 use Rattle.layout.proofs.record.Record.encoded_len.Goals as goal
 
 pub overflow_add-result-in-Create : goal.overflow_add-result-in-Create
@@ -14,8 +14,8 @@ returns-in-Create c = rw c.in-Create.is (omega (arith, length-create c.in-Create
 pub returns-in-Link : goal.returns-in-Link
 returns-in-Link c = rw c.in-Link.is (omega (arith, length-link c.in-Link.number c.in-Link.parent c.in-Link.name.now))
 
-pub returns-in-Unname : goal.returns-in-Unname
-returns-in-Unname c = rw c.in-Unname.is (omega (arith, length-unname c.in-Unname.parent c.in-Unname.name.now))
+pub returns-in-RemoveName : goal.returns-in-RemoveName
+returns-in-RemoveName c = rw c.in-RemoveName.is (omega (arith, length-remove_name c.in-RemoveName.parent c.in-RemoveName.name.now))
 
 pub returns-in-Rename : goal.returns-in-Rename
 returns-in-Rename c = rw c.in-Rename.is (omega (arith, length-rename c.in-Rename.parent c.in-Rename.name.now c.in-Rename.new_parent c.in-Rename.new_name.now))
@@ -23,8 +23,8 @@ returns-in-Rename c = rw c.in-Rename.is (omega (arith, length-rename c.in-Rename
 pub returns-in-Write : goal.returns-in-Write
 returns-in-Write c = rw c.in-Write.is (omega (arith, length-write c.in-Write.number c.in-Write.offset c.in-Write.bytes.now))
 
-pub returns-in-Cut : goal.returns-in-Cut
-returns-in-Cut c = rw c.in-Cut.is (omega (arith, length-cut c.in-Cut.number c.in-Cut.size))
+pub returns-in-Truncate : goal.returns-in-Truncate
+returns-in-Truncate c = rw c.in-Truncate.is (omega (arith, length-truncate c.in-Truncate.number c.in-Truncate.size))
 
 pub returns-in-ChangeMode : goal.returns-in-ChangeMode
 returns-in-ChangeMode c = rw c.in-ChangeMode.is (omega (arith, length-change_mode c.in-ChangeMode.number c.in-ChangeMode.mode))

@@ -1,6 +1,6 @@
 use Rattle.std.proofs.Common.{arith}
 use Rattle.layout.specs.Record.{made_of}
-use Rattle.layout.proofs.RecordLengths.{length-create, length-link, length-unname, length-rename, length-write, length-cut, length-change_mode}
+use Rattle.layout.proofs.RecordLengths.{length-create, length-link, length-remove_name, length-rename, length-write, length-truncate, length-change_mode}
 use Rattle.layout.proofs.record.Record.write.Goals as goal
 
 pub write_create-requires-clause-room : goal.write_create-requires-clause-room
@@ -13,10 +13,10 @@ write_link-requires-clause-room c =
     let room = rw c.in-Link.is at c.requires.room in
     omega (arith, room, length-link c.in-Link.number c.in-Link.parent c.in-Link.name.now)
 
-pub write_unname-requires-clause-room : goal.write_unname-requires-clause-room
-write_unname-requires-clause-room c =
-    let room = rw c.in-Unname.is at c.requires.room in
-    omega (arith, room, length-unname c.in-Unname.parent c.in-Unname.name.now)
+pub write_remove_name-requires-clause-room : goal.write_remove_name-requires-clause-room
+write_remove_name-requires-clause-room c =
+    let room = rw c.in-RemoveName.is at c.requires.room in
+    omega (arith, room, length-remove_name c.in-RemoveName.parent c.in-RemoveName.name.now)
 
 pub write_rename-requires-clause-room : goal.write_rename-requires-clause-room
 write_rename-requires-clause-room c =
@@ -28,10 +28,10 @@ write_write-requires-clause-room c =
     let room = rw c.in-Write.is at c.requires.room in
     omega (arith, room, length-write c.in-Write.number c.in-Write.offset c.in-Write.bytes.now)
 
-pub write_cut-requires : goal.write_cut-requires
-write_cut-requires c =
-    let room = rw c.in-Cut.is at c.requires.room in
-    omega (arith, room, length-cut c.in-Cut.number c.in-Cut.size)
+pub write_truncate-requires : goal.write_truncate-requires
+write_truncate-requires c =
+    let room = rw c.in-Truncate.is at c.requires.room in
+    omega (arith, room, length-truncate c.in-Truncate.number c.in-Truncate.size)
 
 pub write_change_mode-requires : goal.write_change_mode-requires
 write_change_mode-requires c =

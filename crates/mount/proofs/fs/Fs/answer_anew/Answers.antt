@@ -3,7 +3,7 @@ use Rattle.model.specs.Paths.{Name}
 use Rattle.model.specs.declared.command.Command.{Command}
 use Rattle.model.specs.declared.command.Command.TheVariants.{SnapDelete, SnapRestore, SnapTake, Sync}
 use Rattle.descriptors.specs.declared.table.Descriptors.{Descriptors}
-use Rattle.system.specs.Serving.{IsAtOnce}
+use Rattle.dispatch.specs.Serving.{IsAtOnce}
 use Rattle.mount.proofs.AnswerLemmas.{answers_so}
 use Rattle.mount.proofs.PointLemmas.{behind_letting_go}
 use Rattle.mount.proofs.fs.Fs.answer_anew.Goals as goal

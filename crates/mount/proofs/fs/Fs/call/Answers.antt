@@ -9,11 +9,11 @@ returns-in-Ok-clause-answers g c = attempted 2 _ _ _ c.args.call.now c.in-Ok.rep
 pub returns-in-NoRoom-clause-answers : goal.returns-in-NoRoom-clause-answers
 returns-in-NoRoom-clause-answers g c =
     let made = c.in-Err.ensures in
-    behind_that 2 1 1 _ _ c.args.self.now c.attempt.new.self _ c.args.call.now c.call_settled.result (omega arith) c.requires.going
-    (waiting_keeps _ _ c.args.call.now c.in-Err.error c.in-NoRoom.is made) c.call_settled.ensures.answers
+    behind_that 2 1 1 _ _ c.args.self.now c.attempt.new.self _ c.args.call.now c.call_after_checkpoint.result (omega arith) c.requires.going
+    (waiting_keeps _ _ c.args.call.now c.in-Err.error c.in-NoRoom.is made) c.call_after_checkpoint.ensures.answers
     (λ s serves _ accepted served.
     let waits = made.waits s serves c.in-NoRoom.is in
-    c.call_settled.ensures.logs s waits.0.serves waits.1 accepted (all_bodies served.lasts.bodies))
+    c.call_after_checkpoint.ensures.logs s waits.0.serves waits.1 accepted (all_bodies served.lasts.bodies))
     (λ s serves _. (made.waits s serves c.in-NoRoom.is).1) (λ s serves _ sure. made.sure s serves sure)
 
 pub returns-in_default-clause-answers : goal.returns-in_default-clause-answers

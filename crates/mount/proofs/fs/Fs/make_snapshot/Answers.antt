@@ -6,8 +6,8 @@ use Rattle.model.specs.declared.reply.Reply.TheVariants.{Done}
 use Rattle.snapshots.specs.Prepared.{command_prepared}
 use Rattle.snapshots.specs.declared.preparing.PreparedSnapshot.{PreparedSnapshot}
 use Rattle.snapshots.specs.declared.preparing.PreparedSnapshot.TheVariants.{Delete, Restore, Take}
-use Rattle.system.specs.Settling.{IsPrepared, Settles}
-use Rattle.mount.proofs.PointLemmas.{settles_done, settles_not, settles_short}
+use Rattle.system.specs.CheckpointCommands.{IsPrepared, Checkpoints}
+use Rattle.mount.proofs.PointLemmas.{checkpoint_done, checkpoint_not_made, settles_short}
 use Rattle.mount.proofs.fs.Fs.make_snapshot.Goals as goal
 
 not_sure : (p : PreparedSnapshot) (s : State) → ¬ IsSure s (command_prepared p)
@@ -24,18 +24,18 @@ pub returns-in-Ok-true : goal.returns-in-Ok-true
 returns-in-Ok-true g c =
     let p = c.args.prepared.now in
     let f = c.args.self.now.system in
-    let told = subst (λ (b : Bool). Settles {G = g.S.Station} f c.make_snapshot.new.self (λ s. IsPrepared {G = g.S.Station} f s p) (command_prepared p) (Ok b)) c.in-Ok-true.field-0-test c.in-Ok-true.ensures in
-    settles_done {G = g.S.Station} _ c.args.self.now _ (command_prepared p) c.requires.going (not_sure p) (done p) told c.requires.going
+    let told = subst (λ (b : Bool). Checkpoints {G = g.S.Station} f c.make_snapshot.new.self (λ s. IsPrepared {G = g.S.Station} f s p) (command_prepared p) (Ok b)) c.in-Ok-true.field-0-test c.in-Ok-true.ensures in
+    checkpoint_done {G = g.S.Station} _ c.args.self.now _ (command_prepared p) c.requires.going (not_sure p) (done p) told c.requires.going
     (λ t here. c.served_states_open.ensures t.tree.descriptors t here)
 
 pub returns-in-Ok-false : goal.returns-in-Ok-false
 returns-in-Ok-false g c =
     let p = c.args.prepared.now in
     let f = c.args.self.now.system in
-    let told = subst (λ (b : Bool). Settles {G = g.S.Station} f c.make_snapshot.new.self (λ s. IsPrepared {G = g.S.Station} f s p) (command_prepared p) (Ok b)) c.in-Ok-false.field-0-test c.in-Ok-false.ensures in
+    let told = subst (λ (b : Bool). Checkpoints {G = g.S.Station} f c.make_snapshot.new.self (λ s. IsPrepared {G = g.S.Station} f s p) (command_prepared p) (Ok b)) c.in-Ok-false.field-0-test c.in-Ok-false.ensures in
     settles_short {G = g.S.Station} _ c.args.self.now _ (command_prepared p) c.requires.going (not_sure p) told c.requires.going
 
 pub returns-in-Err : goal.returns-in-Err
 returns-in-Err g c =
     let p = c.args.prepared.now in
-    settles_not {G = g.S.Station} _ c.args.self.now _ (command_prepared p) c.requires.going (not_sure p) c.in-Err.error _ c.errno_of_point.ensures c.in-Err.ensures c.fails_point-self.ensures
+    checkpoint_not_made {G = g.S.Station} _ c.args.self.now _ (command_prepared p) c.requires.going (not_sure p) c.in-Err.error _ c.errno_of_point.ensures c.in-Err.ensures c.fails_point-self.ensures

@@ -7,8 +7,8 @@ use Rattle.snapshots.specs.Prepared.{Refuses, command_of, command_prepared}
 use Rattle.snapshots.specs.declared.preparing.PreparedSnapshot.{PreparedSnapshot}
 use Rattle.snapshots.specs.declared.preparing.SnapshotRequest.{SnapshotRequest}
 use Rattle.snapshots.specs.declared.preparing.SnapshotRequest.TheVariants.{Delete, Restore, Take}
-use Rattle.system.specs.Serving.{IsNoFault, ServesState}
-use Rattle.system.specs.Settling.{IsPrepared}
+use Rattle.system.specs.Serving.{IsNoFault}
+use Rattle.system.specs.CheckpointCommands.{IsPrepared}
 use Rattle.mount.specs.Systems.{Serves, mounted}
 use Rattle.mount.proofs.AnswerLemmas.{answers_so, behind_that}
 use Rattle.mount.proofs.AttemptLemmas.{still_going}

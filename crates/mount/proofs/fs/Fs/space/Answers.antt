@@ -4,7 +4,7 @@ use Rattle.model.specs.Room.{Room}
 use Rattle.mount.proofs.AttemptLemmas.{still_going, told_room}
 use Rattle.model.specs.declared.command.Command.TheVariants.{Df}
 use Rattle.mount.proofs.LogLemmas.{idle_logs}
-use Rattle.mount.proofs.NamelessLemmas.{nameless_of, nameless_told}
+use Rattle.mount.proofs.OrphanLemmas.{orphans_of, orphans_told}
 use Rattle.mount.proofs.fs.Fs.space.Goals as goal
 
 pub returns-clause-applied : goal.returns-clause-applied
@@ -12,18 +12,18 @@ returns-clause-applied g c s serves runs =
     let fs = c.args.self.now in
     let served = serves.kept (still_going fs s serves runs) in
     let told = c.space-blocks.ensures in
-    let room : Room = record { blocks = c.space-blocks.result.blocks; free = c.space-blocks.result.free; pledged = c.space-blocks.result.pledged; is_covered = false; nameless_of = nameless_of fs.system s served } in
+    let room : Room = record { blocks = c.space-blocks.result.blocks; free = c.space-blocks.result.free; pledged = c.space-blocks.result.pledged; is_covered = false; orphans_of = orphans_of fs.system s served } in
     let opens = c.served_states_open.ensures s.tree.descriptors s served in
     told_room fs s serves runs room (record {
       serves = served;
       blocks = told.blocks;
       free = told.free s.tree.descriptors s served;
-      told = told.told s.tree.descriptors s served (nameless_of fs.system s served) false (λ e. absurd (false≢true e));
-      nameless = nameless_told fs.system s served;
+      told = told.told s.tree.descriptors s served (orphans_of fs.system s served) false (λ e. absurd (false≢true e));
+      orphans = orphans_told fs.system s served;
     }) opens
 
 pub returns-clause-logs : goal.returns-clause-logs
 returns-clause-logs g c s served =
     let said = c.space-blocks.result in
-    let room : Room = record { blocks = said.blocks; free = said.free; pledged = said.pledged; is_covered = false; nameless_of = λ name. 0 } in
+    let room : Room = record { blocks = said.blocks; free = said.free; pledged = said.pledged; is_covered = false; orphans_of = λ name. 0 } in
     idle_logs {G = g.S.Station} c.args.self.now.system s served room Df _ (refl, refl, refl)

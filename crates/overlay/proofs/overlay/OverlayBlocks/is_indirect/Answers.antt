@@ -20,5 +20,5 @@ pub returns-clause-same : goal.returns-clause-same
 returns-clause-same g c = λ disk shows.
     let m = g.S.Station.meaning c.args.self.now.buffers.station in
     let read = c.is_indirect.ensures.reads c.args.self.now.buffers (reads_none m) in
-    over_still m (g.S.Station.meaning c.is_indirect.new.self.station) c.args.self.now.buffers.kept c.is_indirect.new.self.kept c.args.self.now.laid disk
+    over_still m (g.S.Station.meaning c.is_indirect.new.self.station) c.args.self.now.buffers.kept c.is_indirect.new.self.kept c.args.self.now.pending disk
     (ap (λ (i : Images). i.disk) (read.goes shows.below.honest).seen) c.is_indirect.ensures.same shows

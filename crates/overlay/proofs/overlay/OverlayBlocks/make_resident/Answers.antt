@@ -14,8 +14,8 @@ pub returns-clause-same : goal.returns-clause-same
 returns-clause-same g c = λ disk shows.
     let m = g.S.Station.meaning c.args.self.now.buffers.station in
     let read = c.make_resident.ensures.reads c.args.self.now.buffers (reads_none m) in
-    over_still m (g.S.Station.meaning c.make_resident.new.self.station) c.args.self.now.buffers.kept c.make_resident.new.self.kept c.args.self.now.laid disk
+    over_still m (g.S.Station.meaning c.make_resident.new.self.station) c.args.self.now.buffers.kept c.make_resident.new.self.kept c.args.self.now.pending disk
     (ap (λ (i : Images). i.disk) (read.goes shows.below.honest).seen) c.make_resident.ensures.same shows
 
 pub returns-clause-reads : goal.returns-clause-reads
-returns-clause-reads g c = λ start reads. record { below = c.make_resident.ensures.reads start.buffers reads.below; laid = reads.laid }
+returns-clause-reads g c = λ start reads. record { below = c.make_resident.ensures.reads start.buffers reads.below; pending = reads.pending }

@@ -9,19 +9,19 @@ use Rattle.images.specs.SnapshotSteps.SnapshotStep.{deleted}
 use Rattle.images.specs.Snapshots.{HasSnapshot}
 use Rattle.snapshots.specs.Found.{snapshot_found}
 use Rattle.snapshots.specs.declared.finding.FoundSnapshot.{FoundSnapshot}
-use Rattle.system.specs.Settling.{Settles}
+use Rattle.system.specs.CheckpointCommands.{Checkpoints}
 use Rattle.system.specs.Systems.{disk_of}
 use Rattle.system.specs.declared.error.PointError.{PointError}
 use Rattle.system.specs.declared.system.System.{System}
 use Rattle.system.proofs.CoveringLaws.{ended_slots, not_ended}
 use Rattle.system.proofs.PointLaws.{passed_on}
-use Rattle.system.proofs.SettlingLaws.{delete_step, does_by, finished_keeps, has_named, not_covered, pointed, still_has, without}
+use Rattle.system.proofs.CheckpointLaws.{delete_step, does_by, finished_keeps, has_named, not_covered, pointed, still_has, without}
 use Rattle.system.proofs.system.System.delete.Goals as goal
 
 -- what is promised of it, where it stands in its slot
 abbrev Deletes : {S : Type 0} {G : Ghosts S} → (old new : System S G) → Name → FoundSnapshot → Result Bool PointError → Type 0
 Deletes old new name found =
-    Settles old new (λ s. HasSnapshot old.root (whole (blocks_of (disk_of old)) old.root) found.slot (snapshot_found name found)) (SnapDelete name)
+    Checkpoints old new (λ s. HasSnapshot old.root (whole (blocks_of (disk_of old)) old.root) found.slot (snapshot_found name found)) (SnapDelete name)
 
 pub returns-in_err-finish : goal.returns-in_err-finish
 returns-in_err-finish g c =

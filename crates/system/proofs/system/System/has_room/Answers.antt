@@ -14,7 +14,7 @@ returns-clause-told g c = λ v sized.
     let f = c.args.self.now in
     let fixed = c.fixed_cost.ensures ∙ ap room.fixed_of (c.count.ensures ∙ f.count) in
     let cost = c.cost_of.ensures.cost v sized in
-    let keep = c.keep_of.ensures.keep v sized in (
-      λ yes. omega (arith, leb-true _ _ yes, fixed, cost, keep, c.saturating_sub.ensures, c.from.ensures),
-      λ fits. le-leb _ _ (omega (arith, fits, fixed, cost, keep, c.saturating_sub.ensures, c.from.ensures)),
+    let headroom = c.headroom_of.ensures.headroom v sized in (
+      λ yes. omega (arith, leb-true _ _ yes, fixed, cost, headroom, c.saturating_sub.ensures, c.from.ensures),
+      λ fits. le-leb _ _ (omega (arith, fits, fixed, cost, headroom, c.saturating_sub.ensures, c.from.ensures)),
     )

@@ -1,5 +1,5 @@
 use Rattle.std.proofs.Common.{ap, refl}
-use Rattle.system.proofs.SettlingLaws.{glanced}
+use Rattle.system.proofs.CheckpointLaws.{glanced}
 use Rattle.system.proofs.ViewLaws.{stays_read}
 use Rattle.system.proofs.system.System.let_go.Goals as goal
 

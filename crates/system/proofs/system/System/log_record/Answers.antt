@@ -49,11 +49,11 @@ pub invariant_of-self : goal.invariant_of-self
 invariant_of-self g c =
     let blocks = c.args.self.now.blocks in
     let same = c.append.ensures.writes.same in (
-      subst (λ (n : ℕ). FitsOver n blocks.laid) (sym same.sectors) blocks.fits,
+      subst (λ (n : ℕ). FitsOver n blocks.pending) (sym same.sectors) blocks.fits,
       (
         λ honest.
             let before = same.honest.1 honest in
-            subst (HoldsSoFar blocks.laid) (sym (c.append.ensures.disk (g.S.Station.meaning blocks.buffers.station).seen.disk (before, refl)).1) (blocks.written before),
+            subst (HoldsSoFar blocks.pending) (sym (c.append.ensures.disk (g.S.Station.meaning blocks.buffers.station).seen.disk (before, refl)).1) (blocks.written before),
         tt,
       ),
     )

@@ -6,7 +6,6 @@ use Rattle.model.specs.States.{State, with_snapshots}
 use Rattle.planning.specs.declared.change.SnapshotChange.TheVariants as changes
 use Rattle.system.specs.Points.{StepsTo}
 use Rattle.system.specs.Systems.{HasState}
-use Rattle.system.proofs.system.System.point.Given.{Over}
 use Rattle.system.proofs.system.System.point.Goals as goal
 
 -- a state has the snapshots that it has

@@ -1,4 +1,4 @@
-use Rattle.std.proofs.Common.{◌≡◌, ◌∙◌, ℕ, Bool, true, false, Err, Option, None, ap, refl, subst, sym}
+use Rattle.std.proofs.Common.{◌≡◌, ◌∙◌, ℕ, Bool, true, false, Err, None, ap, refl, subst, sym}
 use Rattle.std.specs.Prelude.{IsFalse, MatchResult}
 use Rattle.std.specs.Option.{option_map}
 use Rattle.layout.specs.Places.{Blocks, blocks_of}
@@ -12,7 +12,7 @@ use Rattle.descriptors.specs.declared.table.Descriptors.{Descriptors}
 use Rattle.snapshots.specs.Prepared.{IsPreparedOn, Refuses, TellsOpen, command_of}
 use Rattle.system.specs.Systems.{disk_of}
 use Rattle.system.proofs.LookedLaws.{reads_nothing}
-use Rattle.system.proofs.SettlingLaws.{glanced, not_glanced}
+use Rattle.system.proofs.CheckpointLaws.{glanced, not_glanced}
 use Rattle.system.proofs.ViewLaws.{snapshots_of, stays_read}
 use Rattle.system.proofs.system.System.prepare_snapshot.Goals as goal
 

@@ -3,7 +3,7 @@ use Rattle.std.proofs.lemmas.Bool.{false≢true}
 use Rattle.station.specs.declared.station.Station.{Ghosts}
 use Rattle.layout.specs.Places.{Blocks, blocks_of}
 use Rattle.model.specs.Paths.{Name}
-use Rattle.model.specs.Records.{without_nameless}
+use Rattle.model.specs.Records.{without_orphans}
 use Rattle.model.specs.Room.{a_restore}
 use Rattle.model.specs.States.{State}
 use Rattle.model.specs.Trees.{Description}
@@ -18,7 +18,7 @@ use Rattle.snapshots.specs.declared.finding.FoundSnapshot.{FoundSnapshot}
 use Rattle.system.specs.Counting.{no_call}
 use Rattle.system.specs.Restoring.{CountsKept, RestoresSlot}
 use Rattle.system.specs.Serving.{ServesState}
-use Rattle.system.specs.Settling.{Settles}
+use Rattle.system.specs.CheckpointCommands.{Checkpoints}
 use Rattle.system.specs.Systems.{IsServing, disk_of, system_parts}
 use Rattle.system.specs.declared.error.PointError.{PointError}
 use Rattle.system.specs.declared.system.System.{System}
@@ -26,7 +26,7 @@ use Rattle.system.proofs.CountingLaws.{all_read}
 use Rattle.system.proofs.LookedLaws.{ServesOver, reads_nothing}
 use Rattle.system.proofs.PointLaws.{passed_on}
 use Rattle.system.proofs.RestoringLaws.{isnt_damaged, keeps, kept_volume, may_restore, restore_step, restored_state, room_for, short_to_restore}
-use Rattle.system.proofs.SettlingLaws.{KeepsServing, covered_keeps, does_by, finds, has_named, no_space, not_covered, pointed, read_keeps, still_has, unread}
+use Rattle.system.proofs.CheckpointLaws.{KeepsServing, covered_keeps, does_by, finds, has_named, no_space, not_covered, pointed, read_keeps, still_has, unread}
 use Rattle.system.proofs.ViewLaws.{stays_read}
 use Rattle.system.proofs.system.System.restore.Given.{Over}
 use Rattle.system.proofs.system.System.restore.Goals as goal
@@ -37,47 +37,47 @@ abbrev Stood : {S : Type 0} {G : Ghosts S} → System S G → Name → FoundSnap
 Stood f name found s = HasSnapshot f.root (whole (blocks_of (disk_of f)) f.root) found.slot (snapshot_found name found) × (s.tree.descriptors ≡ (λ fd. None))
 
 abbrev Restores : {S : Type 0} {G : Ghosts S} → (old new : System S G) → Name → FoundSnapshot → Result Bool PointError → Type 0
-Restores old new name found = Settles old new (Stood old name found) (SnapRestore name)
+Restores old new name found = Checkpoints old new (Stood old name found) (SnapRestore name)
 
-pub returns-in_err-settle : goal.returns-in_err-settle
-returns-in_err-settle g c =
+pub returns-in_err-checkpoint : goal.returns-in_err-checkpoint
+returns-in_err-checkpoint g c =
     let fs = c.args.self.now in
     let name = c.args.name.now in
     let found = c.args.found.now in
-    passed_on (Restores {G = g.S.Station} fs c.settle.new.self name found) c.from_residual.result c.in_err-settle.field-0.0 c.from_residual.ensures.1
-    (not_covered fs c.settle.new.self _ (SnapRestore name) c.in_err-settle.field-0.0 c.in_err-settle.ensures
-    (λ s served p. (restored_state served name found p.0 p.1, λ room. a_restore (room.nameless_of name), λ room. restore_step served name found p.0 p.1 room)))
+    passed_on (Restores {G = g.S.Station} fs c.checkpoint.new.self name found) c.from_residual.result c.in_err-checkpoint.field-0.0 c.from_residual.ensures.1
+    (not_covered fs c.checkpoint.new.self _ (SnapRestore name) c.in_err-checkpoint.field-0.0 c.in_err-checkpoint.ensures
+    (λ s served p. (restored_state served name found p.0 p.1, λ room. a_restore (room.orphans_of name), λ room. restore_step served name found p.0 p.1 room)))
 
 -- ---- what is read of its tree
 
 reads : (g : Over) (c : After-load_restored g)
-    → ReadsOver (g.S.Station.meaning c.settle.new.self.blocks.buffers.station) (g.S.Station.meaning c.load_restored.new.blocks.buffers.station) c.settle.new.self.blocks.laid c.load_restored.new.blocks.laid
-reads g c = c.load_restored.ensures.reads.reads c.settle.new.self.blocks (reads_nothing g.S.Station c.settle.new.self.blocks)
+    → ReadsOver (g.S.Station.meaning c.checkpoint.new.self.blocks.buffers.station) (g.S.Station.meaning c.load_restored.new.blocks.buffers.station) c.checkpoint.new.self.blocks.pending c.load_restored.new.blocks.pending
+reads g c = c.load_restored.ensures.reads.reads c.checkpoint.new.self.blocks (reads_nothing g.S.Station c.checkpoint.new.self.blocks)
 
 -- what the system serves then it serves on
-on : (g : Over) (c : After-load_restored g) (s : State) → (served : ServesState {G = g.S.Station} c.settle.new.self s) → ServesOver {G = g.S.Station} c.settle.new.self c.load_restored.new.blocks c.settle.new.self.inodes s
-on g c s served = stays_read {G = g.S.Station} c.settle.new.self c.load_restored.new.blocks s (reads g c) c.load_restored.ensures.reads.same served
+on : (g : Over) (c : After-load_restored g) (s : State) → (served : ServesState {G = g.S.Station} c.checkpoint.new.self s) → ServesOver {G = g.S.Station} c.checkpoint.new.self c.load_restored.new.blocks c.checkpoint.new.self.inodes s
+on g c s served = stays_read {G = g.S.Station} c.checkpoint.new.self c.load_restored.new.blocks s (reads g c) c.load_restored.ensures.reads.same served
 
 abbrev Then : (g : Over) (c : After-load_restored g) → (ℕ → Option Description) → State → Type 0
 Then g c =
     IsServing (g.S.Station.meaning c.load_restored.new.blocks.buffers.station)
-    (record (system_parts {G = g.S.Station} c.settle.new.self) { kept = c.load_restored.new.blocks.buffers.kept; laid = c.load_restored.new.blocks.laid })
+    (record (system_parts {G = g.S.Station} c.checkpoint.new.self) { kept = c.load_restored.new.blocks.buffers.kept; pending = c.load_restored.new.blocks.pending })
 
 keeps_read : (g : Over) (c : After-load_restored g)
-    → (g.S.Station.meaning c.load_restored.new.blocks.buffers.station).failed_reads ≡ (g.S.Station.meaning c.settle.new.self.blocks.buffers.station).failed_reads
-    → KeepsServing {G = g.S.Station} no_call c.args.self.now (g.S.Station.meaning c.load_restored.new.blocks.buffers.station) c.settle.new.self.log (Then g c)
+    → (g.S.Station.meaning c.load_restored.new.blocks.buffers.station).failed_reads ≡ (g.S.Station.meaning c.checkpoint.new.self.blocks.buffers.station).failed_reads
+    → KeepsServing {G = g.S.Station} no_call c.args.self.now (g.S.Station.meaning c.load_restored.new.blocks.buffers.station) c.checkpoint.new.self.log (Then g c)
 keeps_read g c same =
-    let mid = c.settle.new.self in
+    let mid = c.checkpoint.new.self in
     let m = g.S.Station.meaning mid.blocks.buffers.station in
     let n = g.S.Station.meaning c.load_restored.new.blocks.buffers.station in
-    read_keeps {G = g.S.Station} c.args.self.now mid n {Has = Then g c} no_call (covered_keeps c.args.self.now mid c.in_ok-settle.ensures) (reads g c).below (all_read m n (reads g c).below same)
+    read_keeps {G = g.S.Station} c.args.self.now mid n {Has = Then g c} no_call (covered_keeps c.args.self.now mid c.in_ok-checkpoint.ensures) (reads g c).below (all_read m n (reads g c).below same)
     (λ s served. c.served_states_open.ensures s.tree.descriptors s served) (on g c)
 
 pub returns-in-Err : goal.returns-in-Err
 returns-in-Err g c =
     let fs = c.args.self.now in
-    let mid = c.settle.new.self in
-    let made = c.in_ok-settle.ensures in
+    let mid = c.checkpoint.new.self in
+    let made = c.in_ok-checkpoint.ensures in
     let load = c.in-Err.ensures in
     let name = c.args.name.now in
     let found = c.args.found.now in
@@ -90,29 +90,29 @@ returns-in-Err g c =
 
 -- what was read changes nothing else
 pub invariant_of-self-clause-sectors : goal.invariant_of-self-clause-sectors
-invariant_of-self-clause-sectors g c = (reads g (goal.at.invariant_of-self-clause-sectors g c).After-load_restored).below.same.sectors ∙ c.settle.new.self.sectors
+invariant_of-self-clause-sectors g c = (reads g (goal.at.invariant_of-self-clause-sectors g c).After-load_restored).below.same.sectors ∙ c.checkpoint.new.self.sectors
 
 pub invariant_of-self-clause-nvram : goal.invariant_of-self-clause-nvram
-invariant_of-self-clause-nvram g c = (reads g (goal.at.invariant_of-self-clause-nvram g c).After-load_restored).below.same.nvram_bytes ∙ c.settle.new.self.nvram
+invariant_of-self-clause-nvram g c = (reads g (goal.at.invariant_of-self-clause-nvram g c).After-load_restored).below.same.nvram_bytes ∙ c.checkpoint.new.self.nvram
 
 pub point_over-requires-clause-rests : goal.point_over-requires-clause-rests
-point_over-requires-clause-rests g c = (reads g (goal.at.point_over-requires-clause-rests g c).After-load_restored).laid ∙ c.in_ok-settle.ensures.rests
+point_over-requires-clause-rests g c = (reads g (goal.at.point_over-requires-clause-rests g c).After-load_restored).pending ∙ c.in_ok-checkpoint.ensures.rests
 
 -- the disk that is read then has the snapshot in its slot
-there : (g : Over) (c : After-load_restored g) (s : State) (served : ServesState {G = g.S.Station} c.settle.new.self s)
-    → HasSnapshot c.settle.new.self.root (whole (blocks_of (disk_of {G = g.S.Station} c.settle.new.self)) c.settle.new.self.root) c.args.found.now.slot (snapshot_found c.args.name.now c.args.found.now)
-    → HasSnapshot c.settle.new.self.root (whole (blocks_of (planned_disk c.load_restored.new.blocks.laid (g.S.Station.meaning c.load_restored.new.blocks.buffers.station).seen.disk)) c.settle.new.self.root)
+there : (g : Over) (c : After-load_restored g) (s : State) (served : ServesState {G = g.S.Station} c.checkpoint.new.self s)
+    → HasSnapshot c.checkpoint.new.self.root (whole (blocks_of (disk_of {G = g.S.Station} c.checkpoint.new.self)) c.checkpoint.new.self.root) c.args.found.now.slot (snapshot_found c.args.name.now c.args.found.now)
+    → HasSnapshot c.checkpoint.new.self.root (whole (blocks_of (planned_disk c.load_restored.new.blocks.pending (g.S.Station.meaning c.load_restored.new.blocks.buffers.station).seen.disk)) c.checkpoint.new.self.root)
     c.args.found.now.slot (snapshot_found c.args.name.now c.args.found.now)
 there g c s served has =
-    subst (λ (disk : Blocks). HasSnapshot c.settle.new.self.root (whole disk c.settle.new.self.root) c.args.found.now.slot (snapshot_found c.args.name.now c.args.found.now))
-    (c.load_restored.ensures.reads.same (blocks_of (disk_of {G = g.S.Station} c.settle.new.self)) served.shows).is has
+    subst (λ (disk : Blocks). HasSnapshot c.checkpoint.new.self.root (whole disk c.checkpoint.new.self.root) c.args.found.now.slot (snapshot_found c.args.name.now c.args.found.now))
+    (c.load_restored.ensures.reads.same (blocks_of (disk_of {G = g.S.Station} c.checkpoint.new.self)) served.shows).is has
 
 pub returns-then-not-has_room_besides : goal.returns-then-not-has_room_besides
 unfolding on
 returns-then-not-has_room_besides g c =
     let fs = c.args.self.now in
-    let mid = c.settle.new.self in
-    let made = c.in_ok-settle.ensures in
+    let mid = c.checkpoint.new.self in
+    let made = c.in_ok-checkpoint.ensures in
     let load = c.in-Ok.ensures in
     let name = c.args.name.now in
     let found = c.args.found.now in
@@ -128,10 +128,10 @@ returns-then-not-has_room_besides g c =
     let has = still_has (made.slots s served) found.slot (snapshot_found name found) p.0 in
     let at = there g after s v has in
     let counts = subst (λ (x : Blocks). CountsKept x mid.root found.slot c.in-Ok.loaded.1) is (load.restores d v.shows v.first v.snapshots v.under.holds name (finds v name found has)).1 in (
-      record { rests = (reads g after).laid ∙ covered.rests; serves = over; no_record = covered.no_record; held = covered.held },
+      record { rests = (reads g after).pending ∙ covered.rests; serves = over; no_record = covered.no_record; held = covered.held },
       (
         restored_state over name found at p.1,
-        λ room. a_restore (room.nameless_of name),
+        λ room. a_restore (room.orphans_of name),
         λ room. restore_step over name found at p.1 room,
         short_to_restore over name found at p.1 _ (keeps over name found at p.1) c.in-Ok.loaded.1 counts (λ room. false≢true (sym c.if-not-has_room_besides.true ∙ c.has_room_besides.ensures.1 room)),
       ),
@@ -140,8 +140,8 @@ returns-then-not-has_room_besides g c =
 pub returns : goal.returns
 returns g c =
     let fs = c.args.self.now in
-    let mid = c.settle.new.self in
-    let made = c.in_ok-settle.ensures in
+    let mid = c.checkpoint.new.self in
+    let made = c.in_ok-checkpoint.ensures in
     let load = c.in-Ok.ensures in
     let name = c.args.name.now in
     let found = c.args.found.now in
@@ -163,7 +163,7 @@ returns g c =
     let counts = subst (λ (x : Blocks). CountsKept x mid.root found.slot c.in-Ok.loaded.1) is loaded.1 in
     let finding = c.mounts_find_volumes.ensures in
     let base = kept_volume over name found at p.1 in
-    does_by c.point_over.result s (SnapRestore name) (c.point_over.ensures base (without_nameless base)) over (restored_state over name found at p.1) refl (λ room. a_restore (room.nameless_of name))
+    does_by c.point_over.result s (SnapRestore name) (c.point_over.ensures base (without_orphans base)) over (restored_state over name found at p.1) refl (λ room. a_restore (room.orphans_of name))
     (λ room. restore_step over name found at p.1 room) (λ room work is. cc)
     (restored found.slot name, record { is = (name, refl); can = has_named over name found at c.requires.slot }, may_restore over name found at p.1 finding c.in-Ok.loaded.0 slots, refl)
     (room_for over name found at p.1 finding c.in-Ok.loaded.0 slots mid.free c.in-Ok.loaded.1 counts (c.has_room_besides.ensures.0 c.if-not-has_room_besides.false))))

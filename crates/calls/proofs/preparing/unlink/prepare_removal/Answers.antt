@@ -1,0 +1,29 @@
+use Rattle.std.proofs.Common.{◌≡◌, ◌∙◌, inl, inr, ap, refl, sym, subst}
+use Rattle.model.specs.Records.{Applies, Change, remove_name}
+use Rattle.model.specs.Volumes.{entries}
+use Rattle.model.proofs.OptionLaws.{some_or_none}
+use Rattle.records.specs.Obstacles.{IsObstacle}
+use Rattle.records.proofs.StandLaws.{no_look}
+use Rattle.calls.proofs.PrepareSteps.{granted, hindered, refuses}
+use Rattle.calls.proofs.preparing.unlink.prepare_removal.Goals as goal
+
+-- what is no name isn't there
+pub returns-in_default : goal.returns-in_default
+returns-in_default g c = refuses no_look refl (λ disk settled v table stands volume mounted. elim (some_or_none (entries v c.args.parent c.args.name.items)) [
+  | inl there ↦ absurd (c.in_default.ensures.none (volume.graph.naming.names c.args.parent c.args.name.items there))
+  | inr none ↦ none
+])
+
+pub returns-in_err-prepared : goal.returns-in_err-prepared
+returns-in_err-prepared g c =
+    let said = remove_name c.args.parent in
+    let same : said c.deref.result.now ≡ said c.args.name.items = ap said (c.deref.ensures.value ∙ c.in-Some.ensures.some) in
+    hindered _ c.from_residual.result c.from_residual.ensures.1 c.in_err-prepared.ensures
+    (λ disk settled v table stands volume errno first. subst (λ (h : Change). IsObstacle c.args.inodes.now.geometry.inodes v h errno) same (first stands))
+
+pub returns : goal.returns
+returns g c =
+    let said = remove_name c.args.parent in
+    let same : said c.deref.result.now ≡ said c.args.name.items = ap said (c.deref.ensures.value ∙ c.in-Some.ensures.some) in
+    granted c.in_ok-prepared.ensures refl (ap said (sym c.deref.ensures.value)) (λ disk settled v stands. stands)
+    (λ disk settled v table stands volume applies. (ap said c.in-Some.ensures.some, subst (Applies c.args.inodes.now.geometry.inodes v) same (applies stands)))

@@ -1,0 +1,47 @@
+-- What a call by a path comes to whose record is prepared as a change.
+use Rattle.std.proofs.Common.{◌≡◌, ℕ, List, Option, Result, Err, ap, sym, subst, ◌∙◌}
+use Rattle.std.specs.Result.{IsErrAnd}
+use Rattle.model.specs.Steps.{calls}
+use Rattle.model.specs.Trees.{Description}
+use Rattle.model.specs.Volumes.{Volume, tree_of}
+use Rattle.model.specs.declared.command.PathCall.{PathCall}
+use Rattle.model.specs.declared.errno.Errno.{Errno}
+use Rattle.buffers.specs.declared.blocks.Blocks as blocks
+use Rattle.inofile.specs.declared.inode_file.InodeFile.{InodeFile}
+use Rattle.calls.specs.Changing.{Comes, ComesOrStays, ComesSwept}
+use Rattle.records.specs.declared.failure.Failure.{Failure}
+use Rattle.records.specs.declared.failure.Failure.TheVariants as failures
+use Rattle.calls.specs.declared.changed.Changing.{Changing}
+use Rattle.calls.specs.Preparing.{Prepares, PreparesAny}
+use Rattle.calls.proofs.PrepareSteps.{carried, refuses, stops}
+use Rattle.calls.proofs.SweptLaws.{comes_swept}
+use Rattle.dispatch.specs.Changing.{CallComes, RecordComes}
+
+-- ---- what a call asks for
+
+-- a call that was asked in these words
+pub asked_swept : (n : ℕ) (call asked : PathCall) (v : Volume) (table : ℕ → Option Description) (r : Result Changing Errno) → call ≡ asked
+    → ComesSwept (calls n (tree_of v table) asked) n v table r → RecordComes call n v table r
+asked_swept n call asked v table r is here = subst (λ (k : PathCall). RecordComes k n v table r) (sym is) here
+
+pub asked : (n : ℕ) (call asked : PathCall) (v : Volume) (table : ℕ → Option Description) (r : Result Changing Errno) → call ≡ asked
+    → Comes (calls n (tree_of v table) asked) n v table r → RecordComes call n v table r
+asked n call words v table r is here = asked_swept n call words v table r is (comes_swept (calls n (tree_of v table) words) n v table r here)
+
+pub asked_or_stays : (n : ℕ) (call asked : PathCall) (v : Volume) (table : ℕ → Option Description) (r : Result (Option Changing) Errno) → call ≡ asked
+    → ComesOrStays (calls n (tree_of v table) asked) n v table r → CallComes call n v table r
+asked_or_stays n call asked v table r is here = subst (λ (k : PathCall). CallComes k n v table r) (sym is) here
+
+-- the same of one that failed
+pub passes_on : {B : Type 0} {G : blocks.Ghosts B} {a b : B} {s t : InodeFile} (call : PathCall) (f : Failure) (q : Result (Option Changing) Failure) → IsErrAnd q (λ g. g ≡ f)
+    → Prepares G a b s t (RecordComes call) (Err f) → PreparesAny G a b s t (CallComes call) q
+passes_on {G = G} {a = a} {b = b} {s = s} {t = t} call (failures.Refused errno) q is told = carried (PreparesAny G a b s t (CallComes call)) q is (refuses told.looks told.own told.answers)
+passes_on call (failures.Read e) q is told = stops q is told.looks told.damaged
+
+-- a call with one text, that was taken as bytes
+pub one_text : (call : PathCall) (of : List ℕ → PathCall) (path bytes : List ℕ) → call ≡ of path → bytes ≡ path → call ≡ of bytes
+one_text call of path bytes is same = is ∙ ap of (sym same)
+
+-- a call with two texts
+pub two_texts : (call : PathCall) (of : List ℕ → List ℕ → PathCall) (one other first second : List ℕ) → call ≡ of one other → first ≡ one → second ≡ other → call ≡ of first second
+two_texts call of one other first second is same_first same_second = is ∙ (λ i. of (sym same_first i) (sym same_second i))

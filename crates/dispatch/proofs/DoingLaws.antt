@@ -1,0 +1,124 @@
+-- What a call is to do, from what is prepared for it.
+use Rattle.std.proofs.Common.{◌≡◌, ℕ, ℤ, List, Option, Some, None, Result, Ok, Err, refl, sym, subst}
+use Rattle.std.specs.Prelude.{IfSome, IsFalse}
+use Rattle.std.specs.Result.{IsErrAnd}
+use Rattle.std.proofs.Math.Path.{fun_ext}
+use Rattle.layout.specs.Record.{Change}
+use Rattle.model.specs.Descriptors.{opens, writes_to}
+use Rattle.model.specs.Outcomes.{Outcome}
+use Rattle.model.specs.Records.{applied, work_of}
+use Rattle.model.specs.Room.{Need, logs, nothing}
+use Rattle.model.specs.Steps.{calls, is_reading_call}
+use Rattle.model.specs.Trees.{Description}
+use Rattle.model.specs.Volumes.{IsMounted, Volume, swept, tree_of}
+use Rattle.model.specs.declared.command.Command.{Command}
+use Rattle.model.specs.declared.command.Command.TheVariants as command
+use Rattle.model.specs.declared.command.Flags.{Flags}
+use Rattle.model.specs.declared.command.PathCall.{PathCall}
+use Rattle.model.specs.declared.errno.Errno.{Errno}
+use Rattle.model.specs.declared.reply.Reply.{Reply}
+use Rattle.model.specs.declared.reply.Reply.TheVariants.{Done, Fd, Refused}
+use Rattle.buffers.specs.declared.blocks.Blocks.{Ghosts}
+use Rattle.inofile.specs.declared.inode_file.InodeFile.{InodeFile}
+use Rattle.records.specs.Prepared.{Does, IsReady}
+use Rattle.records.specs.Rewriting.{GoesOver}
+use Rattle.records.specs.declared.prepared.Prepared.{Prepared}
+use Rattle.records.specs.declared.failure.Failure.{Failure}
+use Rattle.records.specs.declared.failure.Failure.TheVariants as failures
+use Rattle.calls.specs.Changing.{ComesOrStays, said_by}
+use Rattle.calls.specs.Preparing.{PreparesAny}
+use Rattle.calls.proofs.PrepareSteps.{carried}
+use Rattle.calls.specs.declared.changed.Changing.{Changing}
+use Rattle.descriptors.specs.Tables.{table_of}
+use Rattle.descriptors.specs.declared.table.Descriptors.{Descriptors}
+use Rattle.files.specs.Opened.{tree_with}
+use Rattle.files.specs.Opening.{OpensDescriptorOver}
+use Rattle.files.specs.Preparing.{Changes, PreparesOpen}
+use Rattle.files.specs.Writing.{WritesFile}
+use Rattle.files.specs.declared.opening.Opening.{Opening}
+use Rattle.files.specs.declared.written.Writing.{Writing}
+use Rattle.files.proofs.Preparing.{grants, refuses, stops}
+use Rattle.dispatch.specs.Changing.{CallComes}
+use Rattle.dispatch.specs.OpenFiles.{FitsMove, WouldLead, moved_table}
+use Rattle.dispatch.specs.Preparing.{DoesBeside, DoesCall, KeepsRecord, MayDo, PreparesCall, of_prepared, recorded, said_change}
+use Rattle.dispatch.specs.declared.prepared_call.PreparedCall.{PreparedCall}
+use Rattle.dispatch.specs.declared.prepared_call.PreparedChange.{PreparedChange}
+use Rattle.dispatch.specs.declared.table_move.TableMove.{TableMove}
+use Rattle.dispatch.specs.declared.table_move.TableMove.TheVariants.{Opens, Stays}
+use Rattle.dispatch.proofs.ServingLaws.{done_is_reply}
+
+-- a record that applies and needs no sweep
+pub goes_beside : (n : ℕ) (v : Volume) (table : ℕ → Option Description) (call : Command) (reply : Reply) (move : TableMove) (c : PreparedChange)
+    → GoesOver n v table (recorded c.record) → ((w : Volume) → FitsMove w move)
+    → WouldLead n v table call reply (applied (recorded c.record) v) (moved_table move table) (logs (work_of v (recorded c.record))) → DoesBeside n v table call reply move (Some c)
+goes_beside n v table call reply move c goes fits told =
+    let w = applied (recorded c.record) v in
+    let same : w ≡ swept table w = sym (fun_ext {f = swept table w} {g = w} goes.1.is_swept) in (
+      goes.0,
+      subst (λ (x : Volume). IsMounted x table) same goes.1,
+      fits (swept table w),
+      subst (λ (x : Volume). WouldLead n v table call reply x (moved_table move table) (logs (work_of v (recorded c.record)))) same told,
+    )
+
+module _ {B T : Type 0} {changes : Changes T} {W : T → Type 0} {G : Ghosts B} {a b : B} {s t : InodeFile} {files : Descriptors} {answer : Volume → Result T Errno → Type 0} (call : Command) where
+  -- it isn't refused
+  pub does : {x : T} {d : PreparedCall} → PreparesOpen changes W G a b s t files answer (Ok x) → (W x → MayDo s.geometry.inodes files call d)
+      → ((P : Prepared → Change → Type 0) → changes x P → of_prepared d P) → ((v : Volume) → answer v (Ok x) → DoesCall s.geometry.inodes v (table_of files) call (Ok d))
+      → PreparesCall G a b s t files call (Ok d)
+  does told may changed leads =
+      grants told.looks (may told.within) (changed (λ p change. IsReady t p) told.ready) (λ disk settled v stands. changed (λ p change. Does disk settled t v p change) (told.does disk settled v stands))
+      (λ disk settled v stands volume mounted fits. leads v (told.answers disk settled v stands volume mounted fits))
+
+-- what a write at an offset comes to
+pub writes_at : (n : ℕ) (v : Volume) (files : Descriptors) (fd : ℕ) (bytes : List ℕ) (r : Result (Option Writing) Errno) {offset place : ℤ} → offset ≡ place
+    → WritesFile (writes_to (tree_with files v) fd offset bytes) n v files bytes (λ w. table_of files) r → WritesFile (writes_to (tree_with files v) fd place bytes) n v files bytes (λ w. table_of files) r
+writes_at n v files fd bytes r is told = subst (λ (z : ℤ). WritesFile (writes_to (tree_with files v) fd z bytes) n v files bytes (λ w. table_of files) r) is told
+
+-- ---- a change whose record says what it does
+
+pub said_so : (o : Option Changing) (P : Prepared → Change → Type 0) → IfSome o (λ c. P c.prepared (said_by c.change)) → IfSome (said_change o) (λ c. P c.prepared (recorded c.record))
+said_so None P is = tt
+said_so (Some c) P is = is
+
+pub said_within : (o : Option Changing) → IfSome (said_change o) (λ c. KeepsRecord c.record)
+said_within None = tt
+said_within (Some c) = tt
+
+-- a call that is answered by this reply where its record, if it has one, does what it does
+pub comes_so : (n : ℕ) (v : Volume) (table : ℕ → Option Description) (call : Command) (outcome : Outcome) (o : Option Changing)
+    → ((reply : Reply) (w : Volume) (need : Need) → outcome reply (tree_of w table) need → WouldLead n v table call reply w table need)
+    → ComesOrStays outcome n v table (Ok o) → DoesBeside n v table call Done Stays (said_change o)
+comes_so n v table call outcome None leads told = (tt, leads Done v nothing told)
+comes_so n v table call outcome (Some c) leads told =
+    (told.0, told.1, tt, leads Done (swept table (applied (said_by c.change) v)) (logs (work_of v (said_by c.change))) told.2)
+
+pub opens_so : (n : ℕ) (v : Volume) (files : Descriptors) (path : List ℕ) (flags : Flags) (mode : ℕ) (o : Opening) (c : Option Changing)
+    → OpensDescriptorOver (opens n (tree_with files v) path flags mode) n v files o c → DoesBeside n v (table_of files) (command.Open path flags mode) (Fd o.fd) (Opens o.fd o.file) (said_change c)
+opens_so n v files path flags mode o None told = (told.0, λ snapshots room. (told.1, refl))
+opens_so n v files path flags mode o (Some c) told = (told.0, told.1, told.2, λ snapshots room. (told.3, refl))
+
+-- ---- a call by a path
+
+path_leads : (call : PathCall) (n : ℕ) (v : Volume) (table : ℕ → Option Description) (reply : Reply) (w : Volume) (need : Need) → calls n (tree_of v table) call reply (tree_of w table) need
+    → WouldLead n v table (command.Path call) reply w table need
+path_leads call n v table reply w need told snapshots room = (told, refl)
+
+module _ {B : Type 0} {G : Ghosts B} {a b : B} {s t : InodeFile} (call : PathCall) where
+  -- it isn't refused
+  pub path_done : IsFalse (is_reading_call call) → (o : Option Changing) → PreparesAny G a b s t (CallComes call) (Ok o) → (files : Descriptors)
+      → PreparesCall G a b s t files (command.Path call) (Ok (record { reply = Done; change = said_change o; table = Stays }))
+  path_done changes o told files =
+      grants told.looks (record { kind = done_is_reply call changes; accepted = λ errno is. cc; moves = tt; numbered = tt; limits = said_within o }) (said_so o (λ p change. IsReady t p) told.ready)
+      (λ disk settled v stands. said_so o (λ p change. Does disk settled t v p change) (told.does disk settled v stands))
+      (λ disk settled v stands volume mounted fits.
+      comes_so s.geometry.inodes v (table_of files) (command.Path call) (calls s.geometry.inodes (tree_of v (table_of files)) call) o (path_leads call s.geometry.inodes v (table_of files))
+      (told.answers disk settled v (table_of files) stands volume mounted))
+
+  -- it is
+  pub path_refused : (f : Failure) (q : Result PreparedCall Failure) → IsErrAnd q (λ g. g ≡ f) → PreparesAny G a b s t (CallComes call) (Err f) → (files : Descriptors)
+      → PreparesCall G a b s t files (command.Path call) q
+  path_refused (failures.Refused errno) q is told files = carried (PreparesCall G a b s t files (command.Path call)) q is
+      (refuses told.looks told.own (λ disk settled v stands volume mounted fits.
+      path_leads call s.geometry.inodes v (table_of files) (Refused errno) v nothing (told.answers disk settled v (table_of files) stands volume mounted)))
+  path_refused (failures.Read e) q is told files = carried (PreparesCall G a b s t files (command.Path call)) q is
+      (stops told.looks told.damaged (λ disk settled v stands volume mounted fits. tt))

@@ -1,0 +1,490 @@
+-- What a call comes to: it is prepared, a step of a consistency point may come before its record, and then it is done.
+use Rattle.std.proofs.Common.{◌≡◌, ◌≢◌, ◌⊎◌, inl, inr, Bool, true, false, ℕ, ◌+◌, ◌++◌, List, [], ◌∷◌, Result, Ok, Err, Option, Some, None, refl, ap, sym, subst, ◌∙◌, append_assoc, if◌then◌else◌, arith}
+use Rattle.std.specs.Prelude.{IfErr, IfOk, IfSome, IsFalse, IsTrue, MatchResult}
+use Rattle.std.proofs.lemmas.Bool.{false≢true}
+use Rattle.std.proofs.lemmas.Result.{IfErr-weaker, IfOk-weaker}
+use Rattle.station.specs.Images.{Images, Unchanged}
+use Rattle.station.specs.Moments.{Goes, HasGrown, LeavesOnly, MayLeave, Meaning}
+use Rattle.station.specs.declared.station.Station.{Ghosts}
+use Rattle.station.proofs.Calls.{uses_twice}
+use Rattle.station.proofs.Moments.{goes_on_unchanged, grown_since, joined, leaves_unchanged, weaker}
+use Rattle.layout.specs.Limits.{Sizes}
+use Rattle.layout.specs.Log.{half_of}
+use Rattle.layout.specs.Places.{blocks_of}
+use Rattle.layout.specs.declared.log.TheConstants.{FIRST_GATE}
+use Rattle.layout.specs.declared.root.Root.{Root}
+use Rattle.model.specs.Circumstances.{IsSure}
+use Rattle.model.specs.Records.{work_of}
+use Rattle.model.specs.Room.{logs}
+use Rattle.model.specs.States.{State}
+use Rattle.model.specs.Volumes.{Volume}
+use Rattle.model.specs.declared.command.Command.{Command}
+use Rattle.model.specs.declared.reply.Reply.{Reply}
+use Rattle.buffers.specs.Disks.{ReadsOn}
+use Rattle.buffers.specs.Readings.{reads_none}
+use Rattle.images.specs.Roots.{whole}
+use Rattle.loading.specs.Images.{inodes_of}
+use Rattle.descriptors.specs.Tables.{table_of}
+use Rattle.descriptors.specs.declared.table.Descriptors.{Descriptors}
+use Rattle.records.specs.Prepared.{Does}
+use Rattle.records.specs.declared.failure.Failure.{Failure}
+use Rattle.oplog.specs.LogEnd.{Bodies, EndsBehind, LogEnd, all_bodies, next_of}
+use Rattle.oplog.specs.declared.log.End.{End}
+use Rattle.oplog.specs.declared.log.End.TheVariants.{At, Unopened}
+use Rattle.overlay.specs.declared.pending.PendingPoint.{PendingPoint}
+use Rattle.dispatch.specs.Answering.{answer_to}
+use Rattle.system.specs.Counting.{AgesBy, Counted, Failed, LogsNothing, a_read, a_write, beside_reads, call_failed, no_call, perhaps_any, perhaps_reads}
+use Rattle.system.specs.Images.{OpensTo}
+use Rattle.dispatch.specs.Preparing.{DoesBeside, DoesCall, IsPreparedAt, PreparesOn, recorded}
+use Rattle.system.specs.Serving.{HasEmptyLog, IsPlanDue, LeavesEither, ServesState}
+use Rattle.dispatch.specs.Serving.{Answers, AnswersAtOnce, Handles, HandlesAt, IsAtOnce, IsSureOn, WouldChange}
+use Rattle.system.specs.Slicing.{MayStep, StaysReady, Steps, StepsOn}
+use Rattle.dispatch.specs.Fulfilling.{Fulfils}
+use Rattle.system.specs.Systems.{IsCovered, Parts, ServesRest, disk_of, meaning_of, system_parts}
+use Rattle.system.specs.declared.error.CallError.{CallError}
+use Rattle.system.specs.declared.error.CallError.TheVariants.{NotWritten}
+use Rattle.system.specs.declared.error.PointError.{PointError}
+use Rattle.dispatch.specs.declared.prepared_call.PreparedCall.{PreparedCall}
+use Rattle.dispatch.specs.declared.prepared_call.PreparedChange.{PreparedChange}
+use Rattle.system.specs.declared.system.System.{System}
+use Rattle.system.proofs.CountingLaws.{logged_twice, nothing_logged, perhaps_read, same_age}
+use Rattle.system.proofs.SystemLaws.{opens_same}
+use Rattle.dispatch.proofs.HandlingLaws.{covered_same, same_empty}
+use Rattle.dispatch.proofs.LookedLaws.{KeepsServing, looked_still, never_damaged, on_open, on_volumes, reads_on, same_disk}
+use Rattle.dispatch.proofs.OpenFileLaws.{refused_by, told_logged}
+use Rattle.system.proofs.SystemLaws.{AllOpen}
+use Rattle.dispatch.proofs.ServingLaws.{NotSure, failed_by}
+
+-- ---- counts
+
+-- beside reads of which some may have failed
+pub counted_beside : (m mid new : Meaning) (why : Failed) → Counted m mid perhaps_reads → Counted mid new why → Counted m new (beside_reads why)
+counted_beside m mid new no_call one two = record { uses = uses_twice m mid new one.uses two.uses; reads = tt; writes = two.writes ∙ one.writes }
+counted_beside m mid new a_read one two = record {
+  uses = uses_twice m mid new one.uses two.uses;
+  reads = grown_since m.failed_reads mid.failed_reads new.failed_reads one.uses.reads two.reads;
+  writes = two.writes ∙ one.writes;
+}
+counted_beside m mid new a_write one two = record {
+  uses = uses_twice m mid new one.uses two.uses;
+  reads = tt;
+  writes = subst (λ (n : ℕ). HasGrown n new.failed_writes) one.writes two.writes;
+}
+counted_beside m mid new perhaps_reads one two = record { uses = uses_twice m mid new one.uses two.uses; reads = tt; writes = two.writes ∙ one.writes }
+counted_beside m mid new perhaps_any one two = record { uses = uses_twice m mid new one.uses two.uses; reads = tt; writes = tt }
+
+-- a write failed, if not one before it
+failed_first : (m new : Meaning) (had_stopped : Bool) → Counted m new a_write → Counted m new (beside_reads (if had_stopped then perhaps_any else a_write))
+failed_first m new true told = record { uses = told.uses; reads = tt; writes = tt }
+failed_first m new false told = told
+
+-- ---- what comes before a call is done
+
+-- Nothing is logged, and what is served stays, also at a cut at any moment.
+pub record IsBefore {S : Type 0} {G : Ghosts S} (old mid : System S G) : Type 0 where
+  pub counted : Counted (meaning_of old) (meaning_of mid) perhaps_reads
+  pub unlogged : LogsNothing (meaning_of old) (meaning_of mid)
+  pub leaves : (s : State) → ServesState old s → LeavesOnly (meaning_of old) (meaning_of mid) (OpensTo (meaning_of old) s)
+  pub rest : (s : State) (served : ServesState old s) → ServesRest mid s.tree.descriptors s (all_bodies served.lasts.bodies)
+  pub runs : mid.log.is_stopped ≡ old.log.is_stopped
+  pub empty : HasEmptyLog old → (mid.log ≡ old.log) × (mid.root ≡ old.root)
+  pub covered : (s : State) → IsCovered old s.tree.descriptors s → IsCovered mid s.tree.descriptors s
+
+-- a system looked, or did nothing
+abbrev pub looked_before : {S : Type 0} {G : Ghosts S} (old mid : System S G) → ReadsOn (meaning_of old) (meaning_of mid) → mid.blocks.pending ≡ old.blocks.pending → mid.log ≡ old.log → mid.root ≡ old.root
+    → AllOpen old → KeepsServing old mid → IsBefore old mid
+looked_before old mid reads pending log root opens keeps =
+    let m = meaning_of old in
+    let n = meaning_of mid in
+    record {
+      counted = perhaps_read m n reads;
+      unlogged = nothing_logged m n reads.goes;
+      leaves = λ s served. leaves_unchanged m n (OpensTo m s) (opens s served) reads.goes;
+      rest = λ s served. record { serves = (keeps s served).serves; left = ([], ap all_bodies (sym (keeps s served).bodies)) };
+      runs = ap (λ (l : LogEnd). l.is_stopped) log;
+      empty = λ empty. (log, root);
+      covered = λ s covered. covered_same {old = old} mid s covered pending (keeps s covered.serves);
+    }
+
+abbrev pub nothing_before : {S : Type 0} {G : Ghosts S} (f : System S G) → AllOpen f → IsBefore f f
+nothing_before f opens =
+    looked_before f f (reads_none (meaning_of f)) refl refl refl opens (λ s served. record { serves = served; volume = refl; bodies = refl; changes = refl; first = refl })
+
+-- one after the other
+abbrev pub both : {S : Type 0} {G : Ghosts S} {old mid new : System S G} → IsBefore old mid → IsBefore mid new → IsBefore old new
+both {old = old} {mid = mid} {new = new} one two =
+    let m = meaning_of old in
+    let n = meaning_of mid in
+    record {
+      counted = counted_beside m n (meaning_of new) perhaps_reads one.counted two.counted;
+      unlogged = logged_twice m n (meaning_of new) one.unlogged two.unlogged;
+      leaves = λ s served. joined m n (meaning_of new) (OpensTo m s) (one.leaves s served)
+          (weaker n (meaning_of new) (OpensTo n s) (OpensTo m s) (two.leaves s (one.rest s served).serves) (λ c here. opens_same m n s c one.counted.uses.same.sectors here));
+      rest = λ s served.
+          let first = one.rest s served in
+          let next = two.rest s first.serves in
+          record {
+            serves = next.serves;
+            left = (
+              first.left.0 ++ next.left.0,
+              first.left.1 ∙ ap (λ (l : List (List ℕ)). first.left.0 ++ l) next.left.1 ∙ sym (append_assoc first.left.0 next.left.0 (all_bodies next.serves.lasts.bodies)),
+            );
+          };
+      runs = two.runs ∙ one.runs;
+      empty = λ empty.
+          let first = one.empty empty in
+          let next = two.empty (same_empty old mid first.0 first.1 empty) in
+          (next.0 ∙ first.0, next.1 ∙ first.1);
+      covered = λ s covered. two.covered s (one.covered s covered);
+    }
+
+-- ---- steps
+
+-- a log with no record of its epoch ends at its first gate
+first_end : (end : End) (epoch : ℕ) (bytes : List ℕ) (bodies : List (List ℕ)) → bodies ≡ [] → EndsBehind end epoch bytes bodies → next_of end ≡ FIRST_GATE
+first_end Unopened epoch bytes bodies none ends = refl
+first_end (At next) epoch bytes [] none ends = omega (arith, ends.3)
+first_end (At next) epoch bytes (body ∷ bodies) none ends = absurd (cc)
+
+-- so does that of a covered system
+covered_end : {S : Type 0} {G : Ghosts S} (f : System S G) (s : State) → (ServesState f s → MayLeave (meaning_of f) (meaning_of f).seen) → IsCovered f s.tree.descriptors s
+    → next_of f.log.end ≡ FIRST_GATE
+covered_end f s seen covered =
+    let serves = covered.serves in
+    let m = meaning_of f in
+    let stands = (serves.left serves.honest m.seen (seen serves)).log_stands in
+    first_end f.log.end f.log.epoch (half_of f.log.half f.log.epoch m.seen.nvram) serves.lasts.bodies.newest (ap (λ (b : Bodies). b.newest) covered.no_record) stands.ends
+
+-- at the beginning of a half no point is planned
+not_due : {S : Type 0} {G : Ghosts S} (f : System S G) → IsPlanDue f → next_of f.log.end ≡ FIRST_GATE → ⊥
+not_due f due first = omega (arith, due.late, first, f.half, f.is_root.head.sizes.least_half)
+
+abbrev step_before : {S : Type 0} {G : Ghosts S} (old new : System S G) (u : Unit {0}) → Steps old new (Ok u)
+    → ((s : State) (served : ServesState old s) → ServesRest new s.tree.descriptors s (all_bodies served.lasts.bodies))
+    → (HasEmptyLog old → (new.log ≡ old.log) × (new.root ≡ old.root)) → ((s : State) → IsCovered old s.tree.descriptors s → ⊥) → IsBefore old new
+step_before old new u stepped rest empty covered = record {
+  counted = stepped.counted;
+  unlogged = stepped.unlogged;
+  leaves = λ s served. stepped.leaves s.tree.descriptors s served;
+  rest = rest;
+  runs = stepped.runs;
+  empty = empty;
+  covered = λ s is. absurd (covered s is);
+}
+
+-- a point was planned, or not
+pub planned_before : {S : Type 0} {G : Ghosts S} (old new : System S G) (u : Unit {0}) → IsPlanDue old → Steps old new (Ok u) → ((s : State) → ServesState old s → MayLeave (meaning_of old) (meaning_of old).seen)
+    → IsBefore old new
+planned_before old new u due stepped seen =
+    step_before old new u stepped (λ s served. stepped.rest s.tree.descriptors s served) (λ empty. absurd (not_due old due empty.end)) (λ s covered. not_due old due (covered_end old s (seen s) covered))
+
+-- a slice was written
+abbrev sliced_before : {S : Type 0} {G : Ghosts S} (old new : System S G) (u : Unit {0}) → old.blocks.pending ≢ None → Steps old new (Ok u) → StaysReady old new (Ok u) → IsBefore old new
+sliced_before old new u under stepped ready =
+    step_before old new u stepped (λ s served. (ready.rest s.tree.descriptors s served).rest) (λ empty. stepped.same under) (λ s covered. under covered.rests)
+
+-- ---- what is prepared
+
+-- A call is prepared on a system behind another, for what each state that this served comes to.
+pub record IsPreparedBehind {S : Type 0} {G : Ghosts S} (old mid : System S G) (call : Command) (p : PreparedCall) : Type 0 where
+  pub before : IsBefore old mid
+  pub at : (s : State) (served : ServesState old s) → IsPreparedAt (system_parts mid) (blocks_of (disk_of mid)) (before.rest s served).serves.running call p
+
+module _ {S : Type 0} {G : Ghosts S} {old mid : System S G} {call : Command} {p : PreparedCall} where
+  pub prepared_by : AllOpen old → PreparesOn old mid call (Ok p) → IsPreparedBehind old mid call p
+  prepared_by opens prepares =
+      let told = prepares.prepares in
+      let looks = told.looks in
+      let parts = prepares.parts in
+      let reads = reads_on old mid.blocks mid.inodes looks in
+      let root : mid.root ≡ old.root = ap (λ (k : Parts). k.root) parts in
+      let keeps : KeepsServing old mid = looked_still old mid looks parts in
+      record {
+        before = looked_before old mid reads.below reads.pending (ap (λ (k : Parts). k.log) parts) root opens keeps;
+        at = λ s served.
+            let v = served.running in
+            let DoesOver = λ (d : ℕ → List ℕ) (r : Root). IfSome p.change (λ c. Does (blocks_of d) (inodes_of (whole (blocks_of d) r).active) mid.inodes v c.prepared (recorded c.record)) in
+            let Comes = λ (g : Sizes) (d : Descriptors). DoesBeside g.inodes v (table_of d) call p.reply p.table p.change in
+            let here : IsPreparedAt (system_parts mid) (blocks_of (disk_of mid)) v call p = record {
+              does = subst (λ (r : Root). DoesOver (disk_of mid) r) (sym root)
+                  (subst (λ (d : ℕ → List ℕ). DoesOver d old.root) (same_disk old mid.blocks mid.inodes looks s served) (on_volumes old told.does s served));
+              comes = subst (λ (d : Descriptors). Comes mid.root.geometry d) (sym (ap (λ (k : Parts). k.files) parts))
+                  (subst (λ (g : Sizes). Comes g old.files) (old.sizes ∙ ap (λ (r : Root). r.geometry) (sym root)) (on_open old told.answers s served));
+            } in
+            subst (λ (w : Volume). IsPreparedAt (system_parts mid) (blocks_of (disk_of mid)) w call p) (sym (keeps s served).volume) here;
+      }
+
+  -- it stays so behind a slice
+  pub prepared_sliced : (new : System S G) (u : Unit {0}) → IsPreparedBehind old mid call p → mid.blocks.pending ≢ None → Steps mid new (Ok u) → StaysReady mid new (Ok u) → IsPreparedBehind old new call p
+  prepared_sliced new u prepared under stepped ready = record {
+    before = both prepared.before (sliced_before mid new u under stepped ready);
+    at = λ s served.
+        let serves = (prepared.before.rest s served).serves in
+        let here = prepared.at s served in
+        let next = ready.rest s.tree.descriptors s serves in
+        let disk : blocks_of (disk_of mid) ≡ blocks_of (disk_of new) = (ready.shows (blocks_of (disk_of mid)) serves.shows).is in
+        let Now = λ (k : Parts). IsPreparedAt k (blocks_of (disk_of new)) next.rest.serves.running call p in
+        let there : IsPreparedAt (system_parts mid) (blocks_of (disk_of new)) next.rest.serves.running call p =
+        subst (λ (w : Volume). IsPreparedAt (system_parts mid) (blocks_of (disk_of new)) w call p) (sym next.volume)
+        (subst (λ (d : ℕ → List ℕ). IsPreparedAt (system_parts mid) d serves.running call p) disk here) in
+        subst Now (sym ready.parts) (record { does = there.does; comes = there.comes });
+  }
+
+  -- and it is prepared behind what came before
+  pub prepared_after : (new : System S G) → IsBefore old mid → IsPreparedBehind mid new call p → IsPreparedBehind old new call p
+  prepared_after new before prepared = record {
+    before = both before prepared.before;
+    at = λ s served. prepared.at s (before.rest s served).serves;
+  }
+
+  -- a call whose record is prepared would change something
+  pub would_change : IsPreparedBehind old mid call p → p.change ≢ None → (s : State) → ServesState old s → WouldChange s call
+  would_change prepared some s served = changes p.change refl
+    where
+      changes : (o : Option PreparedChange) → p.change ≡ o → WouldChange s call
+      changes None none = absurd (some none)
+      changes (Some c) is =
+          let logged = told_logged mid s (prepared.before.rest s served).serves call p c (recorded c.record) is refl (prepared.at s served) in
+          record {
+            reply = p.reply;
+            after = _;
+            need = λ room. logs (work_of (prepared.before.rest s served).serves.running (recorded c.record));
+            step = logged.step;
+            needs = λ room none. cc;
+          }
+
+-- ---- the call
+
+-- what holds in any case
+whichever : {P : Type 0} (q : Result Reply CallError) → P → MatchResult q (λ _. P) (λ e. e ≢ NotWritten → P)
+whichever (Ok reply) is = is
+whichever (Err e) is = λ other. is
+
+-- what holds behind an error, with what follows from what else does
+and_so : (P Q R : Type 0) (q : Result Reply CallError) → (P → R) → IfErr q (λ e. e ≢ NotWritten → P) → IfErr q (λ e. e ≢ NotWritten → Q) → IfErr q (λ e. e ≢ NotWritten → Q × R)
+and_so P Q R (Ok reply) to one two = tt
+and_so P Q R (Err e) to one two = λ other. (two other, to (one other))
+
+-- where the log's end moves a step was done, or it doesn't move
+stepped_or : (P Q : Type 0) (q : Result Reply CallError) → P → IfOk q (λ _. Q → P)
+stepped_or P Q (Ok reply) is = λ moved. is
+stepped_or P Q (Err e) is = tt
+
+unmoved : (P : Type 0) {end now : End} (q : Result Reply CallError) → now ≡ end → IfOk q (λ _. now ≢ end → P)
+unmoved P (Ok reply) is = λ moved. absurd (moved is)
+unmoved P (Err e) is = tt
+
+not_both : {X : Type 0} {b : Bool} → IsFalse b → IsTrue b → X
+not_both runs stopped = absurd (false≢true (sym runs ∙ stopped))
+
+-- a step of the point under way was done, or none, and then the log's end moves only where none is under way
+abbrev pub StepsOrWaits : {S : Type 0} {G : Ghosts S} → System S G → System S G → Type 0
+StepsOrWaits old new = StepsOn old.blocks.pending new.blocks.pending ⊎ ((new.blocks.pending ≡ old.blocks.pending) × (old.blocks.pending ≢ None → new.log.end ≡ old.log.end))
+
+may_step : {S : Type 0} {G : Ghosts S} (old new : System S G) → StepsOrWaits old new → MayStep old.blocks.pending new.blocks.pending
+may_step old new (inl steps) = inr steps
+may_step old new (inr waits) = inl waits.0
+
+module _ {S : Type 0} {G : Ghosts S} {old mid : System S G} (new : System S G) (call : Command) (before : IsBefore old mid) (ages : AgesBy 1 old.log.epoch mid.log.epoch) where
+  -- what the call leaves behind it
+  leaves_either : (s after : State) → ServesState old s → LeavesEither (meaning_of mid) (meaning_of new) s after → LeavesEither (meaning_of old) (meaning_of new) s after
+  leaves_either s after served leaves =
+      let m = meaning_of old in
+      let n = meaning_of mid in
+      let sectors = before.counted.uses.same.sectors in
+      let Q = λ (c : Images). OpensTo m s c ⊎ OpensTo m after c in
+      joined m n (meaning_of new) Q (weaker m n (OpensTo m s) Q (before.leaves s served) (λ c here. inl here))
+      (weaker n (meaning_of new) (λ c. OpensTo n s c ⊎ OpensTo n after c) Q leaves (λ c here. elim here [
+        | inl first ↦ inl (opens_same m n s c sectors first)
+        | inr behind ↦ inr (opens_same m n after c sectors behind)
+      ]))
+
+  pub fulfilled : (q : Result Reply CallError) → Handles mid new call q → ((s : State) (served : ServesState old s) → HandlesAt mid new s (before.rest s served).serves call q) → StepsOrWaits old new
+      → ((s : State) → ServesState old s → MatchResult q (λ _. IsSureOn old new s call ⊎ ¬ IsSure s call) (λ _. ¬ IsSure s call))
+      → (IsAtOnce old.files call → MatchResult q (AnswersAtOnce old new) (λ _. ⊥)) → Fulfils old new call q
+  fulfilled q told at came sure at_once =
+      let m = meaning_of old in
+      let b = meaning_of mid in
+      let n = meaning_of new in
+      record {
+        counted = subst (λ (stopped : Bool). Counted m n (beside_reads (call_failed stopped q))) before.runs (counted_beside m b n (call_failed mid.log.is_stopped q) before.counted told.counted);
+        no_fault = told.no_fault;
+        kind = told.kind;
+        step = whichever q (may_step old new came);
+        comes = λ pending. elim came [
+          | inl steps ↦ stepped_or (StepsOn old.blocks.pending new.blocks.pending) (new.log.end ≢ old.log.end) q steps
+          | inr waits ↦ unmoved (StepsOn old.blocks.pending new.blocks.pending) q (waits.1 pending)
+        ];
+        epoch = subst (λ (k : ℕ). AgesBy 1 old.log.epoch k) (sym told.epoch) ages;
+        calm = λ empty. told.epoch ∙ ap (λ (l : LogEnd). l.epoch) (before.empty empty).0;
+        runs = λ runs. told.runs (before.runs ∙ runs);
+        refused = λ errno is. quiet (told.refused errno is);
+        kept = IfErr-weaker q _ _ (λ e goes other. quiet (goes other)) told.kept;
+        unlogged = λ is runs. absurd (not_both runs (told.stops is));
+        stays = λ s served. and_so _ (ServesState new s) _ q (goes_on_unchanged m b n (OpensTo m s) (before.leaves s served)) told.kept (at s served).serves;
+        done = λ s served. IfOk-weaker q _ _ (λ reply done. record {
+          between = mid;
+          served = (before.rest s served).serves;
+          left = (before.rest s served).left;
+          done = done;
+          leaves = leaves_either s done.after served done.leaves;
+        }) (at s served).done;
+        broken = λ s served is.
+            let broken = (at s served).broken is in
+            record {
+              reply = broken.reply;
+              after = broken.after;
+              need = broken.need;
+              step = broken.step;
+              leaves = leaves_either s broken.after served broken.leaves;
+            };
+        sure = sure;
+        at_once = at_once;
+        full = λ s served is.
+            let full = (at s served).full is in
+            (full.0, λ empty. let same = before.empty empty in full.1 (same_empty old mid same.0 same.1 empty), full.2);
+        short = λ s served is.
+            let short = (at s served).short is in
+            (short.0, λ covered. short.1 (before.covered s covered));
+        damaged = λ s served is. (at s served).damaged is;
+      }
+    where
+      quiet : Goes Unchanged (meaning_of mid) (meaning_of new) → LogsNothing (meaning_of old) (meaning_of new)
+      quiet goes = logged_twice (meaning_of old) (meaning_of mid) (meaning_of new) before.unlogged (nothing_logged (meaning_of mid) (meaning_of new) goes)
+
+  -- the same of a call that isn't sure
+  unsure : NotSure old call → (q : Result Reply CallError) (s : State) → ServesState old s → MatchResult q (λ _. IsSureOn old new s call ⊎ ¬ IsSure s call) (λ _. ¬ IsSure s call)
+  unsure not_sure (Ok reply) s served = inr (not_sure.0 s served)
+  unsure not_sure (Err e) s served = not_sure.0 s served
+
+  pub fulfilled_unsure : NotSure old call → (q : Result Reply CallError) → Handles mid new call q → ((s : State) (served : ServesState old s) → HandlesAt mid new s (before.rest s served).serves call q)
+      → StepsOrWaits old new → Fulfils old new call q
+  fulfilled_unsure not_sure q told at came = fulfilled q told at came (unsure not_sure q) (λ is. absurd (not_sure.1 is))
+
+  -- the step's write failed
+  pub not_stepped : NotSure old call → (e : PointError) → mid.log ≡ old.log → mid.blocks.pending ≢ None → Steps mid new (Err e) → ((s : State) → ServesState old s → WouldChange s call)
+      → Fulfils old new call (Err NotWritten)
+  not_stepped not_sure e log under stepped would =
+      let m = meaning_of old in
+      let b = meaning_of mid in
+      let n = meaning_of new in
+      record {
+        counted = failed_first m n old.log.is_stopped (counted_beside m b n a_write before.counted stepped.counted);
+        no_fault = tt;
+        kind = tt;
+        step = λ other. absurd (other refl);
+        comes = λ pending. tt;
+        epoch = subst (λ (k : ℕ). AgesBy 1 k new.log.epoch) (ap (λ (l : LogEnd). l.epoch) log) stepped.epoch;
+        calm = λ empty. ap (λ (l : LogEnd). l.epoch) ((stepped.same under).0 ∙ log);
+        runs = λ runs other. absurd (other refl);
+        refused = λ errno is. cc;
+        kept = λ other. absurd (other refl);
+        unlogged = λ is runs. logged_twice m b n before.unlogged stepped.unlogged;
+        stays = λ s served other. absurd (other refl);
+        done = λ s served. tt;
+        broken = λ s served is.
+            let change = would s served in
+            record {
+              reply = change.reply;
+              after = change.after;
+              need = change.need;
+              step = change.step;
+              leaves = weaker m n (OpensTo m s) (λ c. OpensTo m s c ⊎ OpensTo m change.after c) (joined m b n (OpensTo m s) (before.leaves s served)
+                  (weaker b n (OpensTo b s) (OpensTo m s) (stepped.leaves s.tree.descriptors s (before.rest s served).serves) (λ c here. opens_same m b s c before.counted.uses.same.sectors here)))
+                  (λ c here. inl here);
+            };
+        sure = not_sure.0;
+        at_once = not_sure.1;
+        full = λ s served is. cc;
+        short = λ s served is. cc;
+        damaged = λ s served is. cc;
+      }
+
+-- ---- a call that changes something
+
+steps_so : {a b c d : Option PendingPoint} → b ≡ a → d ≡ c → StepsOn b c → StepsOn a d
+steps_so {a} {b} {c} first last steps = subst (λ (o : Option PendingPoint). StepsOn a o) (sym last) (subst (λ (o : Option PendingPoint). StepsOn o c) first steps)
+
+ages_so : {a b c d : ℕ} → b ≡ a → d ≡ c → AgesBy 1 b c → AgesBy 1 a d
+ages_so {a} {b} {c} first last ages = subst (λ (n : ℕ). AgesBy 1 a n) (sym last) (subst (λ (n : ℕ). AgesBy 1 n c) first ages)
+
+-- what a system keeps that only prepared a call
+module _ {S : Type 0} {G : Ghosts S} {old mid : System S G} {call : Command} {r : Result PreparedCall Failure} (prepares : PreparesOn old mid call r) where
+  same_log : mid.log ≡ old.log
+  same_log = ap (λ (k : Parts). k.log) prepares.parts
+
+  same_laid : mid.blocks.pending ≡ old.blocks.pending
+  same_laid = (reads_on old mid.blocks mid.inodes prepares.prepares.looks).pending
+
+-- it is refused, or a block wasn't read
+pub refused_on : {S : Type 0} {G : Ghosts S} (old mid : System S G) (call : Command) → AllOpen old → NotSure old call → (f : Failure) → PreparesOn old mid call (Err f)
+    → (q : Result Reply CallError) → q ≡ answer_to (Err f) → Answers old mid call q
+refused_on old mid call opens not_sure f prepares q is =
+    let told = prepares.prepares in
+    let looks = told.looks in
+    let keeps : KeepsServing old mid = looked_still old mid looks prepares.parts in
+    failed_by old mid call (reads_on old mid.blocks mid.inodes looks) (same_log prepares) f q is not_sure opens looks.reads.counted looks.reads.device told.own
+    (λ s served. ((keeps s served).serves, (keeps s served).changes)) (λ s served. DoesCall old.inodes.geometry.inodes served.running (table_of old.files) call) (on_open old told.answers)
+    (λ s served errno is. refused_by old s served call errno is) (never_damaged old told.damaged)
+
+-- What was prepared was done, and this is known of that.
+pub record IsDone {S : Type 0} {G : Ghosts S} (mid new : System S G) (call : Command) (p : PreparedCall) (q : Result Reply CallError) : Type 0 where
+  pub frame : Handles mid new call q
+  pub told : (s : State) (served : ServesState mid s) → IsPreparedAt (system_parts mid) (blocks_of (disk_of mid)) served.running call p → HandlesAt mid new s served call q
+
+module _ {S : Type 0} {G : Ghosts S} (old : System S G) (call : Command) (not_sure : NotSure old call) where
+  done_so : {mid : System S G} (new : System S G) {p : PreparedCall} (q : Result Reply CallError) → IsPreparedBehind old mid call p → IsDone mid new call p q → AgesBy 1 old.log.epoch mid.log.epoch
+      → StepsOrWaits old new → Fulfils old new call q
+  done_so new q prepared done ages came =
+      fulfilled_unsure new call prepared.before ages not_sure q done.frame (λ s served. done.told s (prepared.before.rest s served).serves (prepared.at s served)) came
+
+  module _ {mid : System S G} {p : PreparedCall} (opens : AllOpen old) (prepares : PreparesOn old mid call (Ok p)) where
+    abbrev behind : IsPreparedBehind old mid call p
+    behind = prepared_by opens prepares
+
+    -- without a step, since it logs nothing, or none is due
+    pub done_now : (new : System S G) (q : Result Reply CallError) → IsDone mid new call p q → (new.log ≡ mid.log) ⊎ (mid.blocks.pending ≡ None) → Fulfils old new call q
+    done_now new q done why =
+        let pending = same_laid prepares in
+        done_so new q behind done (same_age old.log.epoch mid.log.epoch (ap (λ (l : LogEnd). l.epoch) (same_log prepares)))
+        (inr (
+          done.frame.pending ∙ pending,
+          λ some. elim why [
+            | inl log ↦ ap (λ (l : LogEnd). l.end) (log ∙ same_log prepares)
+            | inr none ↦ absurd (some (sym pending ∙ none))
+          ],
+        ))
+
+    -- behind a slice
+    pub done_sliced : (next new : System S G) (u : Unit {0}) (q : Result Reply CallError) → mid.blocks.pending ≢ None → Steps mid next (Ok u) → StaysReady mid next (Ok u) → IsDone next new call p q
+        → Fulfils old new call q
+    done_sliced next new u q under stepped ready done =
+        done_so new q (prepared_sliced next u behind under stepped ready) done (ages_so (ap (λ (l : LogEnd). l.epoch) (same_log prepares)) refl stepped.epoch)
+        (inl (steps_so (same_laid prepares) done.frame.pending stepped.pending))
+
+    -- the slice's write failed
+    pub done_never : (new : System S G) (e : PointError) → mid.blocks.pending ≢ None → (p.change ≢ None) → Steps mid new (Err e) → Fulfils old new call (Err NotWritten)
+    done_never new e under some stepped =
+        not_stepped new call behind.before (same_age old.log.epoch mid.log.epoch (ap (λ (l : LogEnd). l.epoch) (same_log prepares))) not_sure e (same_log prepares) under stepped (would_change behind some)
+
+    -- behind a plan, for which it was prepared anew
+    module _ (next : System S G) (u : Unit {0}) (due : IsPlanDue mid) (stepped : Steps mid next (Ok u)) (seen : (s : State) → ServesState mid s → MayLeave (meaning_of mid) (meaning_of mid).seen)
+        (opens_then : AllOpen next) where
+      before : IsBefore old next
+      before = both behind.before (planned_before mid next u due stepped seen)
+
+      pub done_anew : {last : System S G} {other : PreparedCall} → PreparesOn next last call (Ok other) → (new : System S G) (q : Result Reply CallError) → IsDone last new call other q → Fulfils old new call q
+      done_anew anew new q done =
+          done_so new q (prepared_after _ before (prepared_by opens_then anew)) done
+          (ages_so (ap (λ (l : LogEnd). l.epoch) (same_log prepares)) (ap (λ (l : LogEnd). l.epoch) (same_log anew)) stepped.epoch)
+          (inl (steps_so (same_laid prepares) (done.frame.pending ∙ same_laid anew) stepped.pending))
+
+      pub refused_anew : (new : System S G) (q : Result Reply CallError) → Answers next new call q → Fulfils old new call q
+      refused_anew new q told =
+          fulfilled_unsure new call before (ages_so (ap (λ (l : LogEnd). l.epoch) (same_log prepares)) refl stepped.epoch) not_sure q told.handles (λ s served. told.at s (before.rest s served).serves)
+          (inl (steps_so (same_laid prepares) told.handles.pending stepped.pending))
+
+-- a call that logs nothing was served at once
+pub answered_fulfils : {S : Type 0} {G : Ghosts S} (old new : System S G) (call : Command) → AllOpen old → (q : Result Reply CallError) → Answers old new call q → Fulfils old new call q
+answered_fulfils old new call opens q told =
+    fulfilled new call (nothing_before old opens) (same_age old.log.epoch old.log.epoch refl) q told.handles (λ s served. told.at s served) (inr (told.handles.pending, λ _. ap (λ (l : LogEnd). l.end) told.log)) told.sure told.at_once

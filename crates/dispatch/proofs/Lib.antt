@@ -1,0 +1,14 @@
+mod LookedLaws
+mod ServingLaws
+mod AskingLaws
+mod ChangingLaws
+mod TableLaws
+mod MovedLaws
+mod OpenFileLaws
+mod DoingLaws
+mod CloseLaws
+mod FileChangeLaws
+mod HandlingLaws
+mod CarryingLaws
+mod FulfilLaws
+mod ViewLaws

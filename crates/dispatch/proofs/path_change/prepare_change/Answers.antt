@@ -1,0 +1,35 @@
+use Rattle.std.proofs.Common.{ℕ, ℤ, List, subst, rules, w64}
+use Rattle.std.proofs.lemmas.Int.{to_z-of_z}
+use Rattle.model.specs.declared.command.PathCall.TheVariants as path_calls
+use Rattle.model.specs.Changing.{truncates}
+use Rattle.model.specs.Volumes.{tree_of}
+use Rattle.calls.specs.Changing.{ComesOrStays}
+use Rattle.calls.proofs.PrepareSteps.{grants, leaves}
+use Rattle.dispatch.proofs.ChangingLaws.{asked_or_stays, one_text, passes_on, two_texts}
+use Rattle.dispatch.proofs.path_change.prepare_change.Goals as goal
+
+pub returns-in_err-changing-in_default : goal.returns-in_err-changing-in_default
+returns-in_err-changing-in_default g c =
+    passes_on c.args.call.now _ c.from_residual.result c.from_residual.ensures.1 c.in_err-changing-in_default.ensures
+
+pub returns-in_ok-changing-in_default : goal.returns-in_ok-changing-in_default
+returns-in_ok-changing-in_default g c =
+    let told = c.in_ok-changing-in_default.ensures in
+    grants told.looks told.ready told.does told.answers
+
+pub returns-in-Rename : goal.returns-in-Rename
+returns-in-Rename g c =
+    let old = c.as_bytes.result.now in
+    let path = c.as_bytes-in-Rename.result.now in
+    leaves c.rename.ensures (λ disk settled v table stands volume mounted y told.
+    asked_or_stays _ c.args.call.now (path_calls.Rename old path) v table y
+    (two_texts c.args.call.now path_calls.Rename c.in-Rename.old c.in-Rename.new old path c.in-Rename.is c.as_bytes.ensures c.as_bytes-in-Rename.ensures) told)
+
+pub returns-in-Truncate : goal.returns-in-Truncate
+returns-in-Truncate g c =
+    let path = c.as_bytes-in-Truncate.result.now in
+    let n = c.args.inodes.now.geometry.inodes in
+    leaves c.truncate.ensures (λ disk settled v table stands volume mounted y told.
+    asked_or_stays n c.args.call.now (path_calls.Truncate path c.in-Truncate.size) v table y
+    (one_text c.args.call.now (λ (p : List ℕ). path_calls.Truncate p c.in-Truncate.size) c.in-Truncate.path path c.in-Truncate.is c.as_bytes-in-Truncate.ensures)
+    (subst (λ (z : ℤ). ComesOrStays (truncates (tree_of v table) path z) n v table y) (to_z-of_z w64 c.in-Truncate.size (search rules)) told))

@@ -1,0 +1,6 @@
+pub mod Serving
+pub mod Changing
+pub mod Answering
+pub mod OpenFiles
+pub mod Preparing
+pub mod Fulfilling

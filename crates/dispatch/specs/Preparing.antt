@@ -1,0 +1,123 @@
+-- Calls that are prepared: what they are to do, of which nothing is seen yet.
+use Rattle.std.specs.Prelude.{ℕ, ◌≡◌, ◌≤◌, Bool, true, false, List, length, IfSome, Option, Some, None, Result, Ok, Err}
+use Rattle.station.specs.declared.station.Station.{Ghosts}
+use Rattle.layout.specs.Record.{Change, write}
+use Rattle.model.specs.Records.{Applies, applied, work_of}
+use Rattle.model.specs.Replies.{IsReplyTo}
+use Rattle.model.specs.Room.{logs, nothing}
+use Rattle.model.specs.Steps.{is_reading_call}
+use Rattle.model.specs.Trees.{Description}
+use Rattle.model.specs.Volumes.{IsMounted, Volume, swept}
+use Rattle.model.specs.declared.command.Command.{Command}
+use Rattle.model.specs.declared.command.Command.TheVariants as command
+use Rattle.model.specs.declared.errno.Errno.{Errno}
+use Rattle.model.specs.declared.limits.TheConstants.{TRANSFER_BYTES}
+use Rattle.model.specs.declared.reply.Reply.{Reply}
+use Rattle.model.specs.declared.reply.Reply.TheVariants.{Refused}
+use Rattle.buffers.specs.declared.blocks.Blocks as blocks
+use Rattle.inofile.specs.declared.inode_file.InodeFile.{InodeFile}
+use Rattle.images.specs.Roots.{whole}
+use Rattle.loading.specs.Images.{inodes_of}
+use Rattle.descriptors.specs.Tables.{table_of}
+use Rattle.descriptors.specs.declared.table.Descriptors.{Descriptors}
+use Rattle.records.specs.Prepared.{Does, IsReady}
+use Rattle.records.specs.declared.failure.Failure.{Failure}
+use Rattle.calls.specs.Changing.{said_by}
+use Rattle.calls.specs.declared.changed.Changing.{Changing}
+use Rattle.files.specs.Preparing.{Changes, PreparesOpen}
+use Rattle.dispatch.specs.OpenFiles.{CanMove, FitsMove, OpensNumber, WouldLead, moved_table}
+use Rattle.dispatch.specs.Serving.{IsAccepted}
+use Rattle.system.specs.Systems.{Parts, system_parts, blocks_with}
+use Rattle.dispatch.specs.declared.prepared_call.CallRecord.{CallRecord}
+use Rattle.dispatch.specs.declared.prepared_call.CallRecord.TheVariants.{Says, Writes}
+use Rattle.dispatch.specs.declared.prepared_call.PreparedCall.{PreparedCall}
+use Rattle.dispatch.specs.declared.prepared_call.PreparedChange.{PreparedChange}
+use Rattle.system.specs.declared.system.System.{System}
+use Rattle.dispatch.specs.declared.table_move.TableMove.{TableMove}
+
+-- a command logs nothing, whatever it comes to: it is no call, or one that only looks, or closes a
+-- file
+abbrev pub only_looks : Command → Bool
+only_looks (command.Path call) = is_reading_call call
+only_looks (command.Open path flags mode) = false
+only_looks (command.Write fd given) = false
+only_looks (command.Pwrite fd offset given) = false
+only_looks (command.Ftruncate fd size) = false
+only_looks _ = true
+
+-- what the record of a call says
+abbrev pub recorded : CallRecord → Change
+recorded (Says change) = said_by change
+recorded (Writes number offset bytes) = write number offset bytes.now
+
+-- the log takes it: bytes that are written are some, and not too many
+abbrev pub KeepsRecord : CallRecord → Type 0
+KeepsRecord (Says change) = Unit {0}
+KeepsRecord (Writes number offset bytes) = (1 ≤ length bytes.now) × (length bytes.now ≤ TRANSFER_BYTES)
+
+-- What a call with this reply comes to that does what this record says, behind which a file may
+-- have to be swept, and this to the table: it applies, and needs room for its work.
+abbrev pub DoesRecord : ℕ → Volume → (ℕ → Option Description) → Command → Reply → TableMove → Change → Type 0
+DoesRecord inodes v table call reply move change =
+    let after = swept table (applied change v) in
+    Applies inodes v change × IsMounted after table × FitsMove after move
+    × WouldLead inodes v table call reply after (moved_table move table) (logs (work_of v change))
+
+-- the same of a call that may do nothing else
+abbrev pub DoesBeside : ℕ → Volume → (ℕ → Option Description) → Command → Reply → TableMove → Option PreparedChange → Type 0
+DoesBeside inodes v table call reply move None =
+    FitsMove v move × WouldLead inodes v table call reply v (moved_table move table) nothing
+DoesBeside inodes v table call reply move (Some c) =
+    DoesRecord inodes v table call reply move (recorded c.record)
+
+-- what a call comes to: a refusal, or what is to be done
+abbrev pub DoesCall : ℕ → Volume → (ℕ → Option Description) → Command → Result PreparedCall Errno → Type 0
+DoesCall inodes v table call (Err errno) = WouldLead inodes v table call (Refused errno) v table nothing
+DoesCall inodes v table call (Ok p) = DoesBeside inodes v table call p.reply p.table p.change
+
+-- a change whose record says what it does, if there is one
+abbrev pub said_change : Option Changing → Option PreparedChange
+said_change None = None
+said_change (Some c) = Some (record { «record» = Says c.change; prepared = c.prepared })
+
+-- what is prepared beside the table, if anything is
+abbrev pub of_prepared : Changes PreparedCall
+of_prepared p P = IfSome p.change (λ c. P c.prepared (recorded c.record))
+
+-- What a call is to do can be done to these descriptors, and goes into the log; its reply is of the
+-- call's kind.
+pub record MayDo (inodes : ℕ) (files : Descriptors) (call : Command) (p : PreparedCall) : Type 0 where
+  pub kind : IsReplyTo call p.reply
+  pub accepted : IsAccepted p.reply
+  pub moves : CanMove (table_of files) p.table
+  pub numbered : OpensNumber inodes p.table
+  pub limits : IfSome p.change (λ c. KeepsRecord c.record)
+
+-- What a call is to do is prepared on the image in memory, as far as nothing of it is seen yet; or
+-- why it is refused.
+abbrev pub PreparesCall : {B : Type 0} → blocks.Ghosts B → B → B → InodeFile → InodeFile → Descriptors → Command → Result PreparedCall Failure → Type 0
+PreparesCall G blocks after s t files call result =
+    PreparesOpen of_prepared (MayDo s.geometry.inodes files call) G blocks after s t files (λ v. DoesCall s.geometry.inodes v (table_of files) call) result
+
+-- A call is prepared on a system, or refused: nothing is done but reading blocks, and bringing
+-- objects into memory.
+pub record PreparesOn {S : Type 0} {G : Ghosts S} (old new : System S G) (call : Command) (result : Result PreparedCall Failure) : Type 0 where
+  pub parts : system_parts new ≡ record (system_parts old) {
+    kept = new.blocks.buffers.kept;
+    pending = new.blocks.pending;
+    inodes = new.inodes;
+  }
+  pub prepares : PreparesCall (blocks_with G) old.blocks new.blocks old.inodes new.inodes old.files call result
+
+-- what is prepared can be done to what a system has: the log takes its record, and memory has room
+-- for its change
+pub record CanCarryOut (k : Parts) (p : PreparedCall) : Type 0 where
+  pub moves : CanMove (table_of k.files) p.table
+  pub numbered : OpensNumber k.inodes.geometry.inodes p.table
+  pub limits : IfSome p.change (λ c. KeepsRecord c.record)
+  pub ready : IfSome p.change (λ c. IsReady k.inodes c.prepared)
+
+-- where memory stands for this volume over this disk, it does what the call does
+pub record IsPreparedAt (k : Parts) (disk : ℕ → List ℕ) (v : Volume) (call : Command) (p : PreparedCall) : Type 0 where
+  pub does : IfSome p.change (λ c. Does disk (inodes_of (whole disk k.root).active) k.inodes v c.prepared (recorded c.record))
+  pub comes : DoesBeside k.root.geometry.inodes v (table_of k.files) call p.reply p.table p.change

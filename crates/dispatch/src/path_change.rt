@@ -1,0 +1,97 @@
+//! What calls by paths are to change.
+
+ghost use Rattle.std.specs.Prelude.{IsFalse};
+ghost use Rattle.model.specs.Steps.{is_reading_call};
+ghost use Rattle.model.specs.declared.command.Command.TheVariants as command;
+ghost use Rattle.calls.specs.Preparing.{Prepares, PreparesAny};
+ghost use Rattle.descriptors.specs.declared.table.Descriptors.{Descriptors};
+ghost use Rattle.dispatch.specs.Changing.{CallComes, RecordComes, may_stay};
+ghost use Rattle.dispatch.specs.Preparing.{PreparesCall};
+
+use crate::prepared_call::{PreparedCall, said};
+use crate::table_move::TableMove;
+use buffers::Blocks;
+use calls::Changing;
+use inofile::InodeFile;
+use model::{PathCall, Reply};
+use records::Failure;
+use std::alloc::Global;
+
+/// Prepares a call on the image in memory, as far as nothing of it is seen yet; or tells why it is
+/// refused. NoMemory; Device where a read failed; Damaged where a block on the way is outside its
+/// format.
+pub(crate) fn prepare_path_call<'a, B: Blocks>(
+    alloc: Global,
+    inodes: &mut InodeFile,
+    blocks: &mut B,
+    call: &PathCall<'_>,
+) -> Result<PreparedCall<'a>, Failure>
+    requires { IsFalse (is_reading_call call.now) }
+    ensures { (files : Descriptors) → PreparesCall B.Blocks blocks.old blocks.new inodes.old inodes.new
+        files (command.Path call.now) result }
+{
+    let changing = prepare_change(alloc, inodes, blocks, call)?;
+    Ok(PreparedCall {
+        reply: Reply::Done,
+        change: said(changing),
+        table: TableMove::Stays,
+    })
+}
+
+// What it is to change; None where it is answered and changes nothing.
+fn prepare_change<B: Blocks>(
+    alloc: Global,
+    inodes: &mut InodeFile,
+    blocks: &mut B,
+    call: &PathCall<'_>,
+) -> Result<Option<Changing>, Failure>
+    requires { IsFalse (is_reading_call call.now) }
+    ensures { PreparesAny B.Blocks blocks.old blocks.new inodes.old inodes.new
+        (CallComes call.now) result }
+{
+    match call {
+        PathCall::Rename { old, new } => {
+            calls::rename(alloc, inodes, blocks, old.as_bytes(), new.as_bytes())
+        }
+        PathCall::Truncate { path, size } => {
+            calls::truncate(alloc, inodes, blocks, path.as_bytes(), *size)
+        }
+        _ => {
+            let changing = prepare_record(alloc, inodes, blocks, call)?;
+            Ok(Some(changing))
+        }
+    }
+}
+
+// The same of a call that has a record where it isn't refused.
+fn prepare_record<B: Blocks>(
+    alloc: Global,
+    inodes: &mut InodeFile,
+    blocks: &mut B,
+    call: &PathCall<'_>,
+) -> Result<Changing, Failure>
+    requires changes { IsFalse (is_reading_call call.now) }
+    requires changes_always { IsFalse (may_stay call.now) }
+    ensures { Prepares B.Blocks blocks.old blocks.new inodes.old inodes.new
+        (RecordComes call.now) result }
+{
+    match call {
+        PathCall::Mkdir { path, mode } => {
+            calls::make_directory(alloc, inodes, blocks, path.as_bytes(), *mode)
+        }
+        PathCall::Symlink { text, path } => {
+            calls::symlink(alloc, inodes, blocks, text.as_bytes(), path.as_bytes())
+        }
+        PathCall::Link { old, new } => {
+            calls::link(alloc, inodes, blocks, old.as_bytes(), new.as_bytes())
+        }
+        PathCall::Unlink { path } => calls::unlink(alloc, inodes, blocks, path.as_bytes()),
+        PathCall::Rmdir { path } => {
+            calls::remove_directory(alloc, inodes, blocks, path.as_bytes())
+        }
+        PathCall::Chmod { path, mode } => {
+            calls::change_mode(alloc, inodes, blocks, path.as_bytes(), *mode)
+        }
+        _ => unreachable!(),
+    }
+}

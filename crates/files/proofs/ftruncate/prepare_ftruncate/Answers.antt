@@ -1,0 +1,22 @@
+use Rattle.std.proofs.Common.{◌≡◌, ℕ, ℤ, nat_abs, w64, Ok, IsOkAnd, ap, subst, ◌∙◌}
+use Rattle.std.proofs.lemmas.Int.{to_z-of_z}
+use Rattle.calls.specs.Truncate.{TruncatesFile}
+use Rattle.descriptors.specs.Tables.{table_of}
+use Rattle.files.specs.Ftruncate.{truncate_tests}
+use Rattle.files.specs.Reading.{PassesOpen}
+use Rattle.files.proofs.FtruncateLaws.{ftruncate_told}
+use Rattle.files.proofs.OpenLaws.{at_file}
+use Rattle.files.proofs.Preparing.{leaves}
+use Rattle.files.proofs.ftruncate.prepare_ftruncate.Goals as goal
+
+pub returns : goal.returns
+returns g c = leaves c.truncate_file.ensures (λ disk settled v stands volume mounted fits r truncates_file.
+    let table = c.args.table.now in
+    let f = c.in_ok-file.file in
+    let inodes = c.args.inodes.now.geometry.inodes in
+    let back = to_z-of_z w64 c.args.size c.ranges.size in
+    let opened = subst (λ (z : ℤ). PassesOpen (truncate_tests z) table c.args.fd (Ok f)) back c.in_ok-file.ensures.passes in
+    let start : c.unsigned_abs.result ≡ nat_abs c.args.size = c.unsigned_abs.ensures.value ∙ ap nat_abs back in
+    ftruncate_told inodes v table c.args.fd c.args.size f r opened
+    (subst (λ (n : ℕ). IsOkAnd r (TruncatesFile inodes v (table_of table) f.number n)) start
+    (at_file v f (λ n. IsOkAnd r (TruncatesFile inodes v (table_of table) n c.unsigned_abs.result)) c.new-number.ensures (fits.files c.args.fd f opened.0) truncates_file)))

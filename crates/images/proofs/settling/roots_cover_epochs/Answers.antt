@@ -1,8 +1,0 @@
-use Rattle.images.proofs.SettlingLaws as laws
-use Rattle.images.proofs.settling.roots_cover_epochs.Goals as goal
-
-pub returns-clause-one : goal.returns-clause-one
-returns-clause-one c = laws.covers_one
-
-pub returns-clause-both : goal.returns-clause-both
-returns-clause-both c = laws.covers_both

@@ -1,5 +1,0 @@
-use Rattle.records.proofs.Looking.{seen}
-use Rattle.records.proofs.unnaming.number_in.Goals as goal
-
-pub returns-clause-number : goal.returns-clause-number
-returns-clause-number g c = seen c.number_at.ensures.looks c.number_at.ensures.loads (λ detail. c.number_at.ensures.found {detail = detail}) (λ detail. c.number_at.ensures.damaged {detail = detail})

@@ -1,0 +1,149 @@
+//! Numbers for what is made.
+
+ghost use Rattle.std.specs.Prelude.{◌≡◌, ◌<◌, ◌≤◌, ◌↔◌, ℕ, List, [], Some, None, IfOk, IsErrOf, IsTrue};
+ghost use Rattle.layout.specs.Record.{made_of};
+ghost use Rattle.layout.specs.declared.inode.Inode.{Inode};
+ghost use Rattle.model.specs.Records.{IsMade, is_vacant, node_of};
+ghost use Rattle.layout.specs.LinkText.{IsLinkText};
+ghost use Rattle.model.specs.Volumes.{directory_node, file_node, link_node};
+ghost use Rattle.model.specs.Attributes.{new_attributes};
+ghost use Rattle.model.specs.declared.limits.TheConstants.{LINK_MODE, MODE_BITS};
+ghost use Rattle.buffers.specs.Reads.{ReadsBlocks};
+ghost use Rattle.buffers.specs.Errors.{IsFault};
+ghost use Rattle.images.specs.Soundness.{Detail};
+ghost use Rattle.inode.specs.Room.{file_room};
+ghost use Rattle.records.specs.Room.{HasRoomOfNew};
+ghost use Rattle.inofile.specs.Objects.{IsObjectIn};
+ghost use Rattle.records.specs.Looking.{Finds};
+
+use crate::loading::load;
+use buffers::{BlockError, Blocks};
+use entries::Known;
+use inode::{ChangeError, File, Object, Status};
+use inofile::InodeFile;
+use layout::{FIRST_NUMBER, InodeNumber, Kind, NewObject, is_link_text};
+use model::{Attributes, MODE_BITS, Mode};
+use std::alloc::Global;
+
+/// Whether nothing has a number, or an orphan.
+pub fn is_vacant<B: Blocks>(
+    alloc: Global,
+    inodes: &mut InodeFile,
+    blocks: &mut B,
+    number: InodeNumber,
+) -> Result<bool, BlockError>
+    requires low { FIRST_NUMBER ≤ number }
+    requires high { number < inodes.old.geometry.inodes }
+    ensures { Finds B.Blocks blocks.old blocks.new inodes.old inodes.new
+        (λ detail disk settled v vacant. vacant ≡ is_vacant (v number)) result }
+{
+    load(alloc, inodes, blocks, number)?;
+    let Some(object) = paths::object(inodes, number) else {
+        return Ok(true);
+    };
+    match object.status.kind {
+        Kind::File => Ok(object.status.links == 0),
+        _ => Ok(false),
+    }
+}
+
+/// Whether what a record makes keeps to the limits.
+pub(crate) fn is_made(object: &NewObject<'_>) -> bool
+    ensures { IsTrue result ↔ IsMade (made_of object.now) }
+{
+    match object {
+        NewObject::Directory { mode } => mode.bits() <= MODE_BITS,
+        NewObject::File { mode } => mode.bits() <= MODE_BITS,
+        NewObject::Link { text } => is_link_text(text),
+    }
+}
+
+/// The object that a record makes, with its one name.
+pub fn new_object<B: Blocks>(
+    alloc: Global,
+    blocks: &mut B,
+    object: &NewObject<'_>,
+) -> Result<Object, BlockError>
+    requires { IsMade (made_of object.now) }
+    ensures reads { ReadsBlocks B.Blocks IsFault blocks.old blocks.new result }
+    ensures object { (detail : Detail) (disk : ℕ → List ℕ) → B.Shows blocks.old disk → IfOk result
+        (λ o. (inodes : ℕ) (settled : Inode)
+        → IsObjectIn detail disk inodes settled o (Some (node_of (made_of object.now)))) }
+    ensures room { IfOk result HasRoomOfNew }
+    ensures damaged { (disk : ℕ → List ℕ) → B.Shows blocks.old disk
+        → IsErrOf result BlockError.Damaged → ⊥ }
+{
+    match object {
+        NewObject::Directory { mode } => Ok(new_directory(alloc, *mode)),
+        NewObject::File { mode } => Ok(new_file(alloc, *mode)),
+        NewObject::Link { text } => new_link(alloc, blocks, text),
+    }
+}
+
+// A symbolic link of this text.
+fn new_link<B: Blocks>(alloc: Global, blocks: &mut B, text: &[u8]) -> Result<Object, BlockError>
+    requires { IsLinkText text.now }
+    ensures reads { ReadsBlocks B.Blocks IsFault blocks.old blocks.new result }
+    ensures object { (detail : Detail) (disk : ℕ → List ℕ) → B.Shows blocks.old disk → IfOk result
+        (λ o. (inodes : ℕ) (settled : Inode)
+        → IsObjectIn detail disk inodes settled o
+        (Some (link_node (new_attributes LINK_MODE) text.now))) }
+    ensures room { IfOk result HasRoomOfNew }
+    ensures damaged { (disk : ℕ → List ℕ) → B.Shows blocks.old disk
+        → IsErrOf result BlockError.Damaged → ⊥ }
+{
+    let mut file = File::empty(alloc);
+    let change = match file.prepare_write(alloc, blocks, 0, text) {
+        Ok(change) => change,
+        Err(ChangeError::NoMemory) => return Err(BlockError::NoMemory),
+        Err(ChangeError::Device) => return Err(BlockError::Device),
+        Err(ChangeError::Damaged) => return Err(BlockError::Damaged),
+        Err(ChangeError::TooBig) => unreachable!(),
+    };
+    file.commit(change);
+    let attributes = Attributes::of_link();
+    let status = Status::new(Kind::Link, attributes);
+    Ok(Object {
+        status,
+        file,
+        known: Known::new(alloc),
+    })
+}
+
+// A file of one name without bytes.
+fn new_file(alloc: Global, mode: Mode) -> Object
+    ensures object { (detail : Detail) (disk : ℕ → List ℕ) (inodes : ℕ) (settled : Inode)
+        → IsObjectIn detail disk inodes settled result
+        (Some (file_node (new_attributes mode) 1 [])) }
+    ensures room { file_room result.file ≡ 0 }
+    ensures good { mode ≤ MODE_BITS }
+{
+    // The type of a mode holds it to its bits.
+    let _ = mode.bits();
+    let attributes = Attributes::new(mode);
+    let status = Status::new(Kind::File, attributes);
+    Object {
+        status,
+        file: File::empty(alloc),
+        known: Known::new(alloc),
+    }
+}
+
+/// A directory without names.
+pub(crate) fn new_directory(alloc: Global, mode: Mode) -> Object
+    ensures object { (detail : Detail) (disk : ℕ → List ℕ) (inodes : ℕ) (settled : Inode)
+        → IsObjectIn detail disk inodes settled result
+        (Some (directory_node (new_attributes mode) (λ name. None))) }
+    ensures room { file_room result.file ≡ 0 }
+    ensures good { mode ≤ MODE_BITS }
+{
+    // The type of a mode holds it to its bits.
+    let _ = mode.bits();
+    let attributes = Attributes::new(mode);
+    let status = Status::new(Kind::Directory, attributes);
+    Object {
+        status,
+        file: File::empty(alloc),
+        known: Known::new(alloc),
+    }
+}

@@ -1,0 +1,26 @@
+use Rattle.std.proofs.Common.{rules, ◌∙◌, Option, Some, ap, sym, subst}
+use Rattle.layout.specs.Limits.{Sizes}
+use Rattle.loading.specs.Images.{inodes_of}
+use Rattle.images.specs.Roots.{whole}
+use Rattle.model.specs.Trees.{Tree}
+use Rattle.model.specs.Volumes.{IsVolume}
+use Rattle.snapshots.specs.Found.{FindsSnapshot}
+use Rattle.snapshots.specs.declared.finding.FoundSnapshot.{FoundSnapshot}
+use Rattle.system.proofs.snapshot_view.load_view.Goals as goal
+
+pub returns-clause-loads : goal.returns-clause-loads
+returns-clause-loads g c = λ disk shows v pairs holds.
+    let r = c.args.root.now in
+    let name = c.args.name.now in
+    let finds = subst (λ (o : Option FoundSnapshot). FindsSnapshot r disk name pairs o) c.in-Some.is (c.in_ok-found.ensures.finds disk shows v pairs holds) in
+    let (kept, hold, volume, is) = finds.1.frozen in
+    let are = c.in_ok-inodes.ensures.views disk (c.find.ensures.reads.same disk shows) v name pairs holds finds in (
+      search rules,
+      record {
+        volume = kept;
+        is = subst (λ (x : Sizes). IsVolume x.inodes kept) (sym are.geometry) volume;
+        listed = finds.1.listed ∙ ap (λ (t : Tree). Some (name, t)) is;
+        settled = inodes_of ((whole disk r).frozen c.in-Some.found.slot);
+        stands = are.volume kept hold;
+      },
+    )
