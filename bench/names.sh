@@ -1,8 +1,9 @@
 #!/bin/sh
-# Looks up 10,000 directories by their paths, and then moves each of them into another directory under another name, with a sync every
-# 1,000, on an image of 16,384 blocks. Tells seconds, writes and peak memory of both; beside it the same through debugfs and on rows of
-# SQLite, where these are installed. Then it moves one directory 200 times into another one and back: an empty one, and one with 820
-# directories below it, which must cost the same.
+# Looks up 10,000 directories by their paths, by a name behind their parent's number, and by their own numbers, and then moves each of
+# them into another directory under another name, with a sync every 1,000, on an image of 16,384 blocks. Tells seconds, writes and peak
+# memory of each; beside it the same through debugfs and on rows of SQLite, where these are installed. Then it moves one directory 200
+# times into another one and back: an empty one, and one with 20,000 files below it, which must cost the same. These 20,000 names it tells
+# at once (`list`), and in parts of 1,000 and of 100 (`entries`; the parts' cookies need python3).
 #
 #   sh bench/names.sh [1|10]         the 10,000 stand in one directory, or (without a word) 1,000 each in ten
 #
@@ -12,7 +13,7 @@
 set -eu
 here=$(cd "$(dirname "$0")/.." && pwd)
 wafl=${WAFL:-$here/wafl}
-case ${1:-10} in 1 | 10) parents=${1:-10} ;; *) sed -n '2,14s/^# \{0,1\}//p' "$0" >&2; exit 1 ;; esac
+case ${1:-10} in 1 | 10) parents=${1:-10} ;; *) sed -n '2,16s/^# \{0,1\}//p' "$0" >&2; exit 1 ;; esac
 folder=$(mktemp -d)
 trap 'rm -rf "$folder"' EXIT
 cd "$folder"
@@ -38,11 +39,28 @@ moves() {
     }'
 }
 
+# parts COUNT : tells the 20,000 names in /here/full in parts of so many: a command for each, and one that tells none.
+parts() {
+    python3 - "$1" <<'END'
+import hashlib
+import sys
+
+count = int(sys.argv[1])
+digests = [hashlib.md5(b"n%05d" % n).digest() for n in range(20000)]
+cookies = sorted(max(int.from_bytes(digest[:8], "big") // 4, 4) for digest in digests)
+for after in [0] + cookies[count - 1::count]:
+    print(f"entries /here/full {after} {count}")
+END
+}
+
 restore() { for file in $files; do cp "$file.before" "$file"; done; }
 keep() { for file in $files; do cp "$file" "$file.before"; done; }
 
 commands 'mkdir /d%d\nmkdir /e%d' 'mkdir /d%d/n%04d' sync > make.script
 commands '' 'stat /d%d/n%04d' '' > look.script
+# The parents' numbers are 4, 6, 8 and so on, and those of the 10,000 come behind them.
+commands '' '%d n%04d' '' | awk '{print "stat @" 4 + 2 * $1 "/" $2}' > behind.script
+awk -v parents="$parents" 'BEGIN {for (n = 0; n < 10000; n++) print "stat @" 4 + 2 * parents + n}' > alone.script
 commands '' 'rename /d%d/n%04d /e%d/m%04d' sync > move.script
 files='disk nvram'
 "$wafl" make disk nvram --blocks 16384 --inodes 32768 --half 131072
@@ -50,28 +68,43 @@ files='disk nvram'
 keep; again=restore
 measure 'wafl look' "$wafl" run disk nvram look.script
 refused '^stat number [0-9]+ kind dir '
+mv replies look.replies
+measure 'wafl behind' "$wafl" run disk nvram behind.script
+cmp replies look.replies
+measure 'wafl alone' "$wafl" run disk nvram alone.script
+cmp replies look.replies
 measure 'wafl move' "$wafl" run disk nvram move.script
 refused '^ok$'
 
-# 20 directories with 40 in each stand below /here/full.
+# 20,000 files stand below /here/full.
 awk 'BEGIN {
     print "mkdir /here\nmkdir /there\nmkdir /here/empty\nmkdir /here/full"
-    for (i = 0; i < 20; i++) {
-        printf "mkdir /here/full/d%02d\n", i
-        for (n = 0; n < 40; n++) printf "mkdir /here/full/d%02d/n%02d\n", i, n
-    }
+    for (n = 0; n < 20000; n++) printf "open /here/full/n%05d wc\nclose 0\n", n
     print "sync"
 }' > below.script
 moves empty > empty.script
 moves full > full.script
 "$wafl" make disk nvram --blocks 16384 --inodes 32768 --half 131072
-"$wafl" run disk nvram below.script > replies; refused '^ok$'
+"$wafl" run disk nvram below.script > replies; refused '^(ok|fd 0)$'
 keep
 measure 'wafl empty' "$wafl" run disk nvram empty.script
 refused '^ok$'
 restore
 measure 'wafl full' "$wafl" run disk nvram full.script
 refused '^ok$'
+restore
+echo 'list /here/full' > list.script
+measure 'wafl list' "$wafl" run disk nvram list.script
+refused '^names n00000 '
+if command -v python3 > /dev/null; then
+    for count in 1000 100; do
+        parts "$count" > parts.script
+        measure "wafl parts $count" "$wafl" run disk nvram parts.script
+        refused '^entries( |$)'
+        told=$(awk '{names += (NF - 1) / 7} END {print names}' replies)
+        [ "$told" = 20000 ] || { echo "wafl told $told names" >&2; exit 1; }
+    done
+fi
 
 if command -v debugfs > /dev/null && command -v mke2fs > /dev/null; then
     files=ext2

@@ -3,7 +3,7 @@ use Rattle.std.proofs.Common.{◌≡◌, inl, inr, ℕ, ◌<◌, ◌≤◌, List
 use Rattle.std.specs.Prelude.{nat_le}
 use Rattle.std.proofs.lemmas.Bool.{cases_lt, lt-leb, le-leb}
 use Rattle.model.specs.Counting.{Counts}
-use Rattle.model.specs.Finding.{at_missing, here, IsPlaceOf}
+use Rattle.model.specs.Finding.{at_missing, here, IsPlaceAt}
 use Rattle.model.specs.Outcomes.{Outcome, tested, with_place}
 use Rattle.model.specs.Paths.{Name, Path, IsName}
 use Rattle.model.specs.Records.{TakesName}
@@ -17,8 +17,7 @@ use Rattle.model.specs.declared.limits.TheConstants.{DIRECTORY_NAMES}
 use Rattle.model.specs.declared.reply.Reply.{Reply}
 use Rattle.model.specs.declared.reply.Reply.TheVariants.{Refused}
 use Rattle.model.proofs.LeadLemmas.{AnswersWell}
-use Rattle.calls.proofs.LeadLaws.{trail_end}
-use Rattle.calls.proofs.MakeLaws.{listing}
+use Rattle.calls.proofs.DirectoryLaws.{listing}
 use Rattle.model.proofs.ObjectLaws.{directory_object, directory_of}
 
 module _ (inodes : ℕ) (v : Volume) (table : ℕ → Option Description) (volume : IsVolume inodes v) (mounted : IsMounted v table) (tree : IsTree inodes (tree_of v table)) where
@@ -33,18 +32,17 @@ module _ (inodes : ℕ) (v : Volume) (table : ℕ → Option Description) (volum
     pub good : IsName x
     pub parent : is_directory_node (v d) ≡ true
 
-  pub finds_gap : (trail : List ℕ) (x : Name) (r : Resolution) → AnswersWell t r → IsPlaceOf v (at_missing trail x) r → FindsGap r (here trail) x
+  pub finds_gap : (trail : List ℕ) (x : Name) (r : Resolution) → AnswersWell t r → IsPlaceAt v (at_missing trail x) r → FindsGap r (here trail) x
   finds_gap trail x (named p) well is = absurd is
   finds_gap trail x (refused errno) well is = absurd is
   finds_gap trail x (missing p y) well is =
-      let at = trail_end v p trail is.0 in
       record {
         path = p;
         is = ap (missing p) is.1;
-        at = at;
+        at = is.0;
         free = is.2;
         good = subst IsName is.1 well.good;
-        parent = sym (directory_of (here trail) (v (here trail))) ∙ ap (λ o. is_directory (object_at v o)) (sym at) ∙ well.directory;
+        parent = sym (directory_of (here trail) (v (here trail))) ∙ ap (λ o. is_directory (object_at v o)) (sym is.0) ∙ well.directory;
       }
 
   module _ (d : ℕ) (x : Name) (r : Resolution) (gap : FindsGap r d x) where

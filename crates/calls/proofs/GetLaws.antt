@@ -6,7 +6,6 @@ use Rattle.model.specs.Edits.{read_at}
 use Rattle.model.specs.Outcomes.{Outcome, answers, refuses}
 use Rattle.model.specs.Paths.{Path, Tests, first_refusal, text_tests, text_tests_then}
 use Rattle.model.specs.Reading.{gets, is_negative, is_too_many}
-use Rattle.model.specs.Resolution.{resolve}
 use Rattle.model.specs.Room.{nothing}
 use Rattle.model.specs.Trees.{Tree, Object, Description}
 use Rattle.model.specs.Trees as trees
@@ -20,7 +19,7 @@ use Rattle.paths.specs.Steps.{found_in}
 use Rattle.paths.specs.declared.lookup.Found.TheVariants as found
 use Rattle.calls.specs.Leading.{IsLed}
 use Rattle.calls.proofs.LeadLaws.{led_refused, led_there}
-use Rattle.calls.proofs.MakeLaws.{tested_some}
+use Rattle.calls.proofs.TestedLaws.{tested_some}
 use Rattle.model.proofs.OptionLaws.{none_some}
 use Rattle.model.proofs.TestLaws.{first_append, first_in_front}
 
@@ -79,10 +78,10 @@ module _ (v : Volume) (table : ℕ → Option Description) (text : List ℕ) (of
   at_object n (Some (file_node attributes links bytes)) is plain p x object (Err errno) got = absurd (false≢true (sym got.0 ∙ ap is_file_node is))
   at_object n (Some (link_node attributes link)) is plain p x object r got = absurd (plain refl)
 
-  pub get_led : (n : ℕ) (r : Result (List ℕ) Errno) → IsLed tests v (resolve t true text) (Ok n) → found_in (v n) ≢ found.Link → GetsNumber v n (nat_abs offset) count r
+  pub get_led : (n : ℕ) (r : Result (List ℕ) Errno) → IsLed tests t v true text (Ok n) → found_in (v n) ≢ found.Link → GetsNumber v n (nat_abs offset) count r
       → gets t text offset count (data_reply r) t nothing
   get_led n r led plain got =
-      led_there v table there n (data_reply r) t nothing (λ p x at object. at_object n (v n) refl plain p x object r got) tests (resolve t true text) led
+      led_there v table true text there n (data_reply r) t nothing (λ p x stands. at_object n (v n) refl plain p x stands.here r got) tests led
 
-  pub get_led_nowhere : (errno : Errno) → IsLed tests v (resolve t true text) (Err errno) → gets t text offset count (Refused errno) t nothing
-  get_led_nowhere errno led = led_refused v table there tests (resolve t true text) errno led
+  pub get_led_nowhere : (errno : Errno) → IsLed tests t v true text (Err errno) → gets t text offset count (Refused errno) t nothing
+  get_led_nowhere errno led = led_refused v table true text there tests errno led

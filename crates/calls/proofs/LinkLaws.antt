@@ -1,55 +1,46 @@
 -- What the definitions say of giving a file one more name over paths, by what was found in a volume.
 use Rattle.std.proofs.Common.{◌≡◌, ◌≢◌, inl, inr, ℕ, ◌+◌, ◌<◌, List, [], ◌∷◌, ◌++◌, Bool, true, false, Option, Some, None, IsSome, Result, Ok, Err, add-one, refl, sym, ap, subst, ◌∙◌}
-use Rattle.std.specs.Prelude.{nat_le, ◌||◌}
+use Rattle.std.specs.Prelude.{nat_le}
 use Rattle.std.proofs.Math.Path.{fun_ext}
-use Rattle.std.proofs.lemmas.Bool.{cases_Bool, cases_eq, cond-true, cond-false, false≢true, lt-leb, le-leb}
+use Rattle.std.proofs.lemmas.Bool.{cases_eq, false≢true, lt-leb, le-leb}
 use Rattle.model.specs.declared.attributes.Attributes.{Attributes}
 use Rattle.model.specs.Changes.{ChangesTree}
-use Rattle.model.specs.Changing.{links}
+use Rattle.model.specs.Changing.{links, links_object}
 use Rattle.model.specs.Edits.{with_object}
-use Rattle.model.specs.Finding.{at_refusal, IsPlaceOf}
+use Rattle.model.specs.Finding.{at_refusal, IsPlaceAt}
 use Rattle.model.specs.Laws.{RecordsChangeTrees, VolumesTellLinks}
-use Rattle.model.specs.Outcomes.{Outcome, changes, leads, leads_to, refuses, tested, with_links, with_place}
-use Rattle.model.specs.Paths.{Name, Path, Tests, first_refusal, new_text_tests, text_tests, is_dot, is_dot_dot, last_part}
+use Rattle.model.specs.Outcomes.{Outcome, changes, goes_to, leads, refuses, tested, with_links, with_place}
+use Rattle.model.specs.Paths.{Name, Path, first_refusal, new_text_tests, text_tests}
 use Rattle.model.specs.Records.{Change, Applies, applied, link}
-use Rattle.model.specs.Resolution.{Resolution, named, missing, refused, resolve}
+use Rattle.model.specs.Resolution.{Resolution}
 use Rattle.model.specs.Room.{Need, adds_name, logs, nothing}
 use Rattle.model.specs.Trees.{Tree, Object, Description, IsTree}
 use Rattle.model.specs.Trees as trees
 use Rattle.model.specs.Volumes.{Node, directory_node, file_node, link_node, Volume, object_at, object_of, is_directory_node, is_file_node, is_open, set_name, swept, swept_node, tree_of, with_name_more, with_node, IsMounted, IsVolume}
 use Rattle.model.specs.declared.errno.Errno.{Errno}
-use Rattle.model.specs.declared.errno.Errno.TheVariants.{DIRFULL, EEXIST, EINVAL, EMLINK, ENAMETOOLONG, EPERM}
+use Rattle.model.specs.declared.errno.Errno.TheVariants.{DIRFULL, EEXIST, EMLINK, ENAMETOOLONG, EPERM}
 use Rattle.model.specs.declared.limits.TheConstants.{FILE_NAMES, OPEN_FILES}
 use Rattle.model.specs.declared.reply.Reply.{Reply}
 use Rattle.model.specs.declared.reply.Reply.TheVariants.{Done, Refused}
-use Rattle.model.proofs.LeadLemmas.{AnswersWell, resolves_well}
 use Rattle.model.proofs.LooseLemmas.{some_same}
+use Rattle.paths.specs.Starts.{Reaches}
 use Rattle.paths.specs.Steps.{found_in}
 use Rattle.paths.specs.declared.lookup.Found.TheVariants as found
 use Rattle.calls.specs.Changing.{Comes, ComesBy, Decides}
-use Rattle.calls.specs.Leading.{LeadsTo}
+use Rattle.calls.specs.Leading.{LeadsAlong, LeadsTo}
 use Rattle.records.specs.Steps.{IsFileWithLinks}
 use Rattle.calls.specs.declared.changed.Changing.{Changing}
 use Rattle.calls.proofs.GapLaws.{FindsGap, gap_parent, place_free, place_full}
-use Rattle.calls.proofs.LeadLaws.{leads_refused, leads_there}
-use Rattle.calls.proofs.MakeLaws.{tested_none, tested_some}
+use Rattle.calls.proofs.LeadLaws.{along_reached, along_refused, along_there}
+use Rattle.calls.proofs.TestedLaws.{tested_none, tested_some}
+use Rattle.calls.proofs.PlaceLaws.{refused_at, there_at}
 use Rattle.model.proofs.ObjectLaws.{node_here, node_object, node_other}
 use Rattle.model.proofs.OptionLaws.{none_some, some_none}
-use Rattle.model.proofs.TestLaws.{first_append}
 
 -- texts that don't pass their tests
 pub link_tests_refused : (v : Volume) (table : ℕ → Option Description) (old path : List ℕ) (errno : Errno) → first_refusal (text_tests old ++ new_text_tests path) ≡ Some errno
     → links (tree_of v table) old path (Refused errno) (tree_of v table) nothing
 link_tests_refused v table old path errno is = tested_some (tree_of v table) (text_tests old ++ new_text_tests path) _ errno is
-
--- tests that pass with more behind them pass
-first_front : (tests more : Tests) → first_refusal (tests ++ more) ≡ None → first_refusal tests ≡ None
-first_front [] more passed = refl
-first_front (test ∷ tests) more passed =
-    elim (cases_Bool test.0) [
-      | inl t ↦ some_none (sym (cond-true test.0 (Some test.1) (first_refusal (tests ++ more)) t) ∙ passed)
-      | inr f ↦ cond-false test.0 (Some test.1) (first_refusal tests) f ∙ first_front tests more (sym (cond-false test.0 (Some test.1) (first_refusal (tests ++ more)) f) ∙ passed)
-    ]
 
 -- a file that has names isn't swept
 file_stays : (open_now : Bool) (attributes : Attributes) (links : ℕ) (bytes : List ℕ) → swept_node open_now (Some (file_node attributes (links + 1) bytes)) ≡ Some (file_node attributes (links + 1) bytes)
@@ -86,77 +77,54 @@ module _ (inodes : ℕ) (v : Volume) (table : ℕ → Option Description) (volum
   abbrev t : Tree
   t = tree_of v table
 
-  pub target_well : (old path : List ℕ) → first_refusal (text_tests old ++ new_text_tests path) ≡ None → AnswersWell t (resolve t false path)
-  target_well old path passed =
-      resolves_well inodes t tree ((is_dot (last_part path) || is_dot_dot (last_part path), EINVAL) ∷ []) false path
-      (sym (first_append (text_tests old) (new_text_tests path) (first_front (text_tests old) (new_text_tests path) passed)) ∙ passed)
-
   module _ (old path : List ℕ) (passed : first_refusal (text_tests old ++ new_text_tests path) ≡ None) where
-    abbrev from : Resolution
-    from = resolve t false old
-
-    abbrev target : Resolution
-    target = resolve t false path
-
     abbrev gone : ℕ → Path → Name → Outcome
     gone n q x =
         with_links t (trees.file n)
         (λ count. tested t ((nat_le FILE_NAMES count, EMLINK) ∷ []) (with_place t q (changes Done (with_object (q ++ x ∷ []) (trees.file n) t) (logs adds_name))))
 
+    abbrev exists : Path → Object → Outcome
+    exists q r = refuses t EEXIST
+
     abbrev there : Path → Object → Outcome
-    there p o = elim o as (λ _. Outcome) [
-      | trees.file n ↦ leads t target (λ q r. refuses t EEXIST) (λ q x. gone n q x)
-      | trees.directory n ↦ refuses t EPERM
-      | trees.symlink n text ↦ refuses t EPERM
-    ]
+    there p o = links_object t o path
 
-    led : (reply : Reply) (new : Tree) (need : Need) → leads_to t from there reply new need → links t old path reply new need
-    led reply new need done = tested_none t (text_tests old ++ new_text_tests path) (leads_to t from there) reply new need passed done
+    led : (reply : Reply) (new : Tree) (need : Need) → goes_to t false old there reply new need → links t old path reply new need
+    led reply new need done = tested_none t (text_tests old ++ new_text_tests path) (goes_to t false old there) reply new need passed done
 
-    pub link_nowhere : (errno : Errno) → LeadsTo v from (Err errno) → links t old path (Refused errno) t nothing
-    link_nowhere errno is = led (Refused errno) t nothing (leads_refused v table there from errno is)
+    pub link_nowhere : (errno : Errno) → LeadsAlong t v false old (Err errno) → links t old path (Refused errno) t nothing
+    link_nowhere errno is = led (Refused errno) t nothing (along_refused v table false old there errno is)
 
-    no_file : (n : ℕ) (o : Option Node) (p : Path) (y : Object) → is_file_node o ≡ false → object_of n o ≡ Some y → there p y (Refused EPERM) t nothing
-    no_file n None p y other object = none_some object
-    no_file n (Some (directory_node attributes names)) p y other object = subst (λ (z : Object). there p z (Refused EPERM) t nothing) (some_same object) (refl, refl, refl)
-    no_file n (Some (file_node attributes count bytes)) p y other object = absurd (false≢true (sym other))
-    no_file n (Some (link_node attributes text)) p y other object = subst (λ (z : Object). there p z (Refused EPERM) t nothing) (some_same object) (refl, refl, refl)
+    no_file : (n : ℕ) (o : Option Node) (y : Object) → is_file_node o ≡ false → object_of n o ≡ Some y → links_object t y path (Refused EPERM) t nothing
+    no_file n None y other object = none_some object
+    no_file n (Some (directory_node attributes names)) y other object = subst (λ (z : Object). links_object t z path (Refused EPERM) t nothing) (some_same object) (refl, refl, refl)
+    no_file n (Some (file_node attributes count bytes)) y other object = absurd (false≢true (sym other))
+    no_file n (Some (link_node attributes text)) y other object = subst (λ (z : Object). links_object t z path (Refused EPERM) t nothing) (some_same object) (refl, refl, refl)
 
-    pub link_no_file : (n : ℕ) → LeadsTo v from (Ok n) → is_file_node (v n) ≡ false → links t old path (Refused EPERM) t nothing
+    pub link_no_file : (n : ℕ) → LeadsAlong t v false old (Ok n) → is_file_node (v n) ≡ false → links t old path (Refused EPERM) t nothing
     link_no_file n leads other =
-        led (Refused EPERM) t nothing (leads_there v table there n (Refused EPERM) t nothing (λ p y at object. no_file n (v n) p y other object) from leads)
+        led (Refused EPERM) t nothing (along_there v table false old there n (Refused EPERM) t nothing (λ p y is. no_file n (v n) y other is.here) leads)
 
-    module _ (n : ℕ) (attributes : Attributes) (count : ℕ) (bytes : List ℕ) (is : v n ≡ Some (file_node attributes count bytes)) (leads_from : LeadsTo v from (Ok n)) where
-      at_target : (reply : Reply) (new : Tree) (need : Need) → leads t target (λ q r. refuses t EEXIST) (λ q x. gone n q x) reply new need → links t old path reply new need
+    -- the file is found, and where the new path leads
+    module _ (n : ℕ) (attributes : Attributes) (count : ℕ) (bytes : List ℕ) (is : v n ≡ Some (file_node attributes count bytes)) (leads_from : LeadsAlong t v false old (Ok n))
+        (target : Resolution) (reaches : Reaches t false path target) where
+      at_target : (reply : Reply) (new : Tree) (need : Need) → leads t target exists (gone n) reply new need → links t old path reply new need
       at_target reply new need done =
           led reply new need
-          (leads_there v table there n reply new need (λ p y at object.
-          subst (λ (z : Object). there p z reply new need) (object_file n (v n) y attributes count bytes is object) done) from leads_from)
+          (along_there v table false old there n reply new need (λ p y here.
+          subst (λ (z : Object). links_object t z path reply new need) (object_file n (v n) y attributes count bytes is here.here)
+          (along_reached t false path exists (gone n) reply new need target reaches done)) leads_from)
 
-      pub link_target_refused : (errno : Errno) → IsPlaceOf v (at_refusal errno) target → links t old path (Refused errno) t nothing
-      link_target_refused errno place = at_target (Refused errno) t nothing (by target place)
-        where
-          by : (r : Resolution) → IsPlaceOf v (at_refusal errno) r → leads t r (λ q r. refuses t EEXIST) (λ q x. gone n q x) (Refused errno) t nothing
-          by (named p) place = absurd place
-          by (missing p x) place = absurd place
-          by (refused other) place = (ap Refused (sym place), refl, refl)
+      pub link_target_refused : (errno : Errno) → IsPlaceAt v (at_refusal errno) target → links t old path (Refused errno) t nothing
+      link_target_refused errno place = at_target (Refused errno) t nothing (refused_at v table exists (gone n) errno target place)
 
       pub link_exists : (m : ℕ) → LeadsTo v target (Ok m) → links t old path (Refused EEXIST) t nothing
-      link_exists m leads_target = at_target (Refused EEXIST) t nothing (by target leads_target)
-        where
-          some : (o : Option Object) → IsSome o → (elim o as (λ _. Outcome) [ Some y ↦ refuses t EEXIST | None ↦ λ _ _ _. ⊥ ]) (Refused EEXIST) t nothing
-          some None e = absurd (false≢true e)
-          some (Some y) e = (refl, refl, refl)
-
-          by : (r : Resolution) → LeadsTo v r (Ok m) → leads t r (λ q r. refuses t EEXIST) (λ q x. gone n q x) (Refused EEXIST) t nothing
-          by (named p) (at, stands) = some (t.objects p) (subst (λ (o : Option Object). IsSome o) (sym (ap (object_at v) at)) (node_object m (v m) stands))
-          by (missing p x) place = absurd place
-          by (refused other) place = absurd place
+      link_exists m leads_target = at_target (Refused EEXIST) t nothing (there_at v table exists (gone n) m (Refused EEXIST) t nothing (λ q r there. (refl, refl, refl)) target leads_target)
 
       module _ (law : RecordsChangeTrees) (tell : VolumesTellLinks) (d : ℕ) (x : Name) (gap : FindsGap inodes v table volume mounted tree target d x) where
         in_gap : (reply : Reply) (new : Tree) (need : Need) → gone n gap.path x reply new need → links t old path reply new need
         in_gap reply new need done =
-            at_target reply new need (subst (λ (r : Resolution). leads t r (λ q r. refuses t EEXIST) (λ q y. gone n q y) reply new need) (sym gap.is) done)
+            at_target reply new need (subst (λ (r : Resolution). leads t r exists (gone n) reply new need) (sym gap.is) done)
 
         abbrev change : Change
         change = link n d x

@@ -5,9 +5,8 @@ use Rattle.std.proofs.lemmas.Bool.{false≢true}
 use Rattle.model.specs.Outcomes.{Outcome, answers, refuses, with_names}
 use Rattle.model.specs.Paths.{Name, Path, text_tests}
 use Rattle.model.specs.Reading.{lists}
-use Rattle.model.specs.Resolution.{resolve}
 use Rattle.model.specs.Room.{nothing}
-use Rattle.model.specs.Trees.{Tree, Object, Description}
+use Rattle.model.specs.Trees.{Tree, Object, Description, is_directory}
 use Rattle.model.specs.Trees as trees
 use Rattle.model.specs.Volumes.{Node, directory_node, file_node, link_node, Volume, entries, number_at, object_of, is_directory_node, tree_of, IsVolume}
 use Rattle.model.specs.declared.errno.Errno.{Errno}
@@ -18,7 +17,7 @@ use Rattle.dirs.specs.Listings.{IsListingOfNames}
 use Rattle.calls.specs.Leading.{IsLed}
 use Rattle.calls.specs.List.{names_reply}
 use Rattle.calls.proofs.LeadLaws.{led_refused, led_there}
-use Rattle.calls.proofs.MakeLaws.{child_some}
+use Rattle.calls.proofs.DirectoryLaws.{child_some}
 use Rattle.model.proofs.OptionLaws.{none_some}
 
 -- the names of the directory with this number, or that it is none
@@ -57,21 +56,21 @@ module _ (inodes : ℕ) (v : Volume) (table : ℕ → Option Description) (volum
     in_other (Ok list) other told = absurd (false≢true (sym other ∙ told.0))
     in_other (Err errno) other told = (ap Refused told.1, refl, refl)
 
-    comes : (p : Path) → number_at (entries v) p ≡ Some n → (r : Result (List Name) Errno) → ListsNumber v n r → (node : Option Node) → v n ≡ node
-        → (o : Object) → object_of n node ≡ Some o → there p o (names_reply r) t nothing
-    comes p at r told None is o made = none_some made
-    comes p at r told (Some (directory_node attributes names)) is o made =
-        subst (λ (x : Object). there p x (names_reply r) t nothing) (some_same made) (in_directory p at r (ap is_directory_node is) told)
-    comes p at r told (Some (file_node attributes links bytes)) is o made =
+    comes : (p : Path) (o : Object) → (IsTrue (is_directory (Some o)) → number_at (entries v) p ≡ Some n) → (r : Result (List Name) Errno) → ListsNumber v n r → (node : Option Node)
+        → v n ≡ node → object_of n node ≡ Some o → there p o (names_reply r) t nothing
+    comes p o at r told None is made = none_some made
+    comes p o at r told (Some (directory_node attributes names)) is made =
+        subst (λ (x : Object). there p x (names_reply r) t nothing) (some_same made) (in_directory p (at (ap (λ (y : Object). is_directory (Some y)) (sym (some_same made)))) r (ap is_directory_node is) told)
+    comes p o at r told (Some (file_node attributes links bytes)) is made =
         subst (λ (x : Object). there p x (names_reply r) t nothing) (some_same made) (in_other r (ap is_directory_node is) told)
-    comes p at r told (Some (link_node attributes link)) is o made =
+    comes p o at r told (Some (link_node attributes link)) is made =
         subst (λ (x : Object). there p x (names_reply r) t nothing) (some_same made) (in_other r (ap is_directory_node is) told)
 
-    pub list_answers : (text : List ℕ) (r : Result (List Name) Errno) → IsLed (text_tests text) v (resolve t true text) (Ok n) → ListsNumber v n r
+    pub list_answers : (text : List ℕ) (r : Result (List Name) Errno) → IsLed (text_tests text) t v true text (Ok n) → ListsNumber v n r
         → lists t text (names_reply r) t nothing
     list_answers text r led told =
-        led_there v table there n (names_reply r) t nothing (λ p o at made. comes p at r told (v n) refl o made) (text_tests text) (resolve t true text) led
+        led_there v table true text there n (names_reply r) t nothing (λ p o stands. comes p o stands.at r told (v n) refl stands.here) (text_tests text) led
 
-  pub list_refused : (text : List ℕ) (errno : Errno) → IsLed (text_tests text) v (resolve t true text) (Err errno)
+  pub list_refused : (text : List ℕ) (errno : Errno) → IsLed (text_tests text) t v true text (Err errno)
       → lists t text (Refused errno) t nothing
-  list_refused text errno led = led_refused v table there (text_tests text) (resolve t true text) errno led
+  list_refused text errno led = led_refused v table true text there (text_tests text) errno led

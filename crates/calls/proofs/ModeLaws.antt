@@ -9,7 +9,6 @@ use Rattle.model.specs.Laws.{RecordsChangeTrees}
 use Rattle.model.specs.Outcomes.{Outcome, changes}
 use Rattle.model.specs.Paths.{Path, text_tests}
 use Rattle.model.specs.Records.{Change, Applies, applied, change_mode, with_node_mode}
-use Rattle.model.specs.Resolution.{resolve}
 use Rattle.model.specs.Room.{logs, changes_bits, nothing}
 use Rattle.model.specs.Trees.{Tree, Object, Description}
 use Rattle.model.specs.Trees as trees
@@ -57,8 +56,8 @@ module _ (inodes : ℕ) (v : Volume) (table : ℕ → Option Description) (text 
     | trees.symlink n text ↦ λ _ _ _. ⊥
   ]
 
-  pub mode_refused : (errno : Errno) → IsLed (text_tests text) v (resolve t true text) (Err errno) → changes_mode t text mode (Refused errno) t nothing
-  mode_refused errno led = led_refused v table there (text_tests text) (resolve t true text) errno led
+  pub mode_refused : (errno : Errno) → IsLed (text_tests text) t v true text (Err errno) → changes_mode t text mode (Refused errno) t nothing
+  mode_refused errno led = led_refused v table true text there (text_tests text) errno led
 
   module _ (volume : IsVolume inodes v) (mounted : IsMounted v table) (law : RecordsChangeTrees) (n : ℕ) where
     abbrev change : Change
@@ -94,13 +93,13 @@ module _ (inodes : ℕ) (v : Volume) (table : ℕ → Option Description) (text 
         subst (λ (y : Object). there p y Done (tree_of new table) (logs changes_bits)) (some_same object) (refl, same, refl)
     done (Some (link_node attributes text)) p x is object same = absurd (false≢true is)
 
-    pub mode_comes : (r : Result Changing Errno) → IsLed (text_tests text) v (resolve t true text) (Ok n) → found_in (v n) ≢ found.Link → Decides inodes v change r
+    pub mode_comes : (r : Result Changing Errno) → IsLed (text_tests text) t v true text (Ok n) → found_in (v n) ≢ found.Link → Decides inodes v change r
         → Comes (changes_mode t text mode) inodes v table r
     mode_comes (Ok c) led other (says, applies) =
         subst (ComesBy (changes_mode t text mode) inodes v table) (sym says) (
           applies,
           (changed applies).0,
-          led_there v table there n Done (tree_of new table) (logs changes_bits) (λ p x at object. done (v n) p x applies.0 object (changed applies).1) (text_tests text) (resolve t true text) led,
+          led_there v table true text there n Done (tree_of new table) (logs changes_bits) (λ p x stands. done (v n) p x applies.0 stands.here (changed applies).1) (text_tests text) led,
         )
-    mode_comes (Err DAMAGED) led other not = absurd (false≢true (sym not ∙ has_mode (v n) (led_some v (resolve t true text) n led.1) other))
+    mode_comes (Err DAMAGED) led other not = absurd (false≢true (sym not ∙ has_mode (v n) (led_some t v true text n led.1) other))
     mode_comes (Err _) led other not = absurd not

@@ -1,7 +1,8 @@
 -- The last part of a path's text that passed its tests.
-use Rattle.std.proofs.Common.{◌≡◌, ◌≢◌, ℕ, suc, ◌-◌, List, [], ◌∷◌, length, get_or, false, None, refl, sym, ap, subst, ◌∙◌, arith}
-use Rattle.std.proofs.lemmas.Bool.{or_parts}
-use Rattle.model.specs.Paths.{Name, first_refusal, new_text_tests, parts, is_dot, is_dot_dot, is_root_text, last_part}
+use Rattle.std.proofs.Common.{◌≡◌, ◌≢◌, ℕ, suc, ◌-◌, ◌&&◌, ◌||◌, Bool, true, false, List, [], ◌∷◌, drop, length, get_or, None, refl, sym, ap, subst, ◌∙◌, arith}
+use Rattle.std.specs.Prelude.{if◌then◌else◌}
+use Rattle.std.proofs.lemmas.Bool.{false≢true, or_parts}
+use Rattle.model.specs.Paths.{Name, first_refusal, new_text_tests, parts, parts_behind, is_dot, is_dot_dot, is_empty, is_number_alone, is_root_text, last_part, starts_at_number}
 use Rattle.model.specs.Resolution.{resolve_within}
 use Rattle.model.specs.Trees.{root_alone}
 use Rattle.model.specs.declared.limits.TheConstants.{LINKS_FOLLOWED}
@@ -26,8 +27,16 @@ some_part text passed other none =
     let below = resolves_below_root (root_alone 0) text passed other in
     subst (λ (names : List Name). AnswersBelowRoot (resolve_within LINKS_FOLLOWED (root_alone 0) false [] names)) none below refl
 
+-- what stands behind a number ends in a name, where all parts do
+behind_ends : (begins : Bool) (names : List Name) → (begins && is_empty (if begins then drop 1 names else names)) ≡ false → EndsInName names → EndsInName (if begins then drop 1 names else names)
+behind_ends false names some plain = plain
+behind_ends true [] some plain = absurd plain
+behind_ends true (x ∷ []) some plain = absurd (false≢true (sym some))
+behind_ends true (x ∷ (y ∷ rest)) some plain = plain
+
 -- a text that names something to be made or taken away, and isn't `/`, ends in a name
-pub ends_in_name : (text : List ℕ) → first_refusal (new_text_tests text) ≡ None → is_root_text text ≡ false → EndsInName (parts text)
+pub ends_in_name : (text : List ℕ) → first_refusal (new_text_tests text) ≡ None → is_root_text text ≡ false → EndsInName (parts_behind text)
 ends_in_name text passed other =
-    let dots = or_parts (is_dot (last_part text)) (is_dot_dot (last_part text)) (all_passed (new_text_tests text) passed).1.1.1.1.1.1.0 in
-    last_is_name (parts text) (some_part text passed other) dots.0 dots.1
+    let last = or_parts (is_dot (last_part text) || is_dot_dot (last_part text)) (is_number_alone text) (all_passed (new_text_tests text) passed).1.1.1.1.1.1.1.0 in
+    let dots = or_parts (is_dot (last_part text)) (is_dot_dot (last_part text)) last.0 in
+    behind_ends (starts_at_number text) (parts text) last.1 (last_is_name (parts text) (some_part text passed other) dots.0 dots.1)

@@ -6,34 +6,36 @@ use Rattle.model.specs.declared.attributes.Attributes.{Attributes}
 use Rattle.model.specs.Attributes.{new_attributes}
 use Rattle.model.specs.Changes.{ChangesTree}
 use Rattle.model.specs.Changing.{truncated_to, need_of_truncate}
-use Rattle.model.specs.Descriptors.{described_by, opens_new, opens_object}
-use Rattle.model.specs.Edits.{contents, resized, with_descriptor, with_file}
-use Rattle.model.specs.Finding.{at_refusal, IsPlaceOf}
-use Rattle.model.specs.Laws.{RecordsChangeTrees, VolumesTellFresh}
-use Rattle.model.specs.Outcomes.{HasNoFresh, Outcome, changes, either, leads, refuses, with_fresh, with_place}
+use Rattle.model.specs.Descriptors.{opens_file, opens_new, opens_object}
+use Rattle.model.specs.Edits.{contents, resized, with_file}
+use Rattle.model.specs.Finding.{at_refusal, IsPlaceAt}
+use Rattle.model.specs.Laws.{RecordsChangeTrees, RecordsKeepVolumes, SweepsKeepVolumes, VolumesTellFresh, VolumesTellLinks}
+use Rattle.model.specs.Outcomes.{HasNoFresh, Outcome, either, leads, refuses, with_fresh, with_place}
 use Rattle.model.specs.Paths.{Name, Path}
 use Rattle.model.specs.Records.{Applies, Change, IsMade, Made, TakesName, applied, create, file, is_vacant, node_of, with_file_bytes, work_of}
 use Rattle.model.specs.Records as records
-use Rattle.model.specs.Resolution.{Resolution, named, missing, refused, resolve}
+use Rattle.model.specs.Resolution.{Resolution}
 use Rattle.model.specs.Room.{Need, Work, adds_name, changes_size, logs, nothing}
 use Rattle.model.specs.Trees.{Tree, Object, Description, IsTree}
 use Rattle.model.specs.Trees as trees
-use Rattle.model.specs.Volumes.{IsMounted, IsVolume, Node, directory_node, file_node, link_node, Volume, bytes_of_node, is_directory_node, is_file_node, object_at, object_of, set_name, swept, tree_of, with_node}
+use Rattle.model.specs.Volumes.{IsMounted, IsVolume, Node, directory_node, file_node, link_node, Volume, bytes_of_node, is_directory_node, is_file_node, mode_of, object_of, set_name, swept, tree_of, with_node}
 use Rattle.model.specs.declared.command.Flags.{Flags}
 use Rattle.model.specs.declared.errno.Errno.{Errno}
 use Rattle.model.specs.declared.errno.Errno.TheVariants.{DIRFULL, EEXIST, EISDIR, ENOENT, NONUMBER}
 use Rattle.model.specs.declared.reply.FileType.TheVariants.{File, Dir, Link}
 use Rattle.model.specs.declared.reply.Reply.{Reply}
-use Rattle.model.specs.declared.reply.Reply.TheVariants.{Fd, Refused}
+use Rattle.model.specs.declared.reply.Reply.TheVariants as replies
+use Rattle.model.specs.declared.reply.Reply.TheVariants.{Refused}
 use Rattle.model.specs.declared.reply.Stat.{Stat}
 use Rattle.model.specs.declared.limits.TheConstants.{FIRST_NUMBER}
 use Rattle.model.proofs.SweepLemmas.{not_unused}
+use Rattle.paths.specs.Starts.{Reaches}
 use Rattle.paths.specs.Steps.{found_in}
 use Rattle.paths.specs.declared.lookup.Found.TheVariants as found
 use Rattle.calls.specs.Changing.{said_by}
-use Rattle.calls.specs.Leading.{LeadsTo}
+use Rattle.calls.specs.Leading.{LeadsAlong}
 use Rattle.calls.specs.Making.{CreatesNumber, IsLeastFree, MakesIn}
-use Rattle.calls.specs.Open.{OpensByRecord, IsOpened, OpensAt, OpensMade, OpensNew, OpensOver, opens_along}
+use Rattle.calls.specs.Open.{IsOpened, IsOpenedOver, Opening, OpensAt, OpensByRecord, OpensMade, OpensNew, OpensOver, opened_reply, opened_tree, opens_along}
 use Rattle.calls.specs.Stat.{TellsStat, stat_in}
 use Rattle.calls.specs.Truncate.{TruncatesFile}
 use Rattle.calls.specs.declared.changed.Changing.{Changing}
@@ -43,65 +45,91 @@ use Rattle.calls.specs.declared.preparing.open.Opened.{Opened}
 use Rattle.calls.proofs.GapLaws.{FindsGap, gap_parent, place_free, place_full}
 use Rattle.model.proofs.EditLaws.{length-resized}
 use Rattle.model.proofs.ObjectLaws.{node_here, node_object, node_other}
-use Rattle.calls.proofs.MakeLaws.{created_unswept, tested_none, tested_some}
+use Rattle.calls.proofs.LeadLaws.{along_alone, along_reached, led_some}
+use Rattle.calls.proofs.MakeLaws.{created_unswept}
+use Rattle.calls.proofs.TestedLaws.{tested_none, tested_some}
+use Rattle.calls.proofs.PlaceLaws.{refused_at, there_at}
 use Rattle.calls.proofs.StatLaws.{object_by}
-use Rattle.model.proofs.OptionLaws.{none_some}
+use Rattle.model.proofs.OptionLaws.{none_some, some_same}
 
 -- ---- outcomes
 
 module _ (inodes : ℕ) (flags : Flags) (v : Volume) (table : ℕ → Option Description) where
   -- what one outcome allows, another may allow too
-  module _ (these others : ℕ → Outcome) (more : (fd : ℕ) (reply : Reply) (new : Tree) (need : Need) → these fd reply new need → others fd reply new need) where
+  module _ (these others : Opening) (more : (tells : Bool) (fd : ℕ) (reply : Reply) (new : Tree) (need : Need) → these tells fd reply new need → others tells fd reply new need) where
     over_more : (o : Opened) (changing : Option Changing) → OpensOver these inodes flags v table o changing → OpensOver others inodes flags v table o changing
-    over_more o None (is, opens) = (is, λ fd. more fd (Fd fd) _ nothing (opens fd))
-    over_more o (Some c) (applies, mounted, is, opens) = (applies, mounted, is, λ fd. more fd (Fd fd) _ _ (opens fd))
+    over_more o None (is, opens) = (is, λ tells fd. more tells fd (opened_reply tells fd o) _ nothing (opens tells fd))
+    over_more o (Some c) (applies, mounted, is, opens) = (applies, mounted, is, λ tells fd. more tells fd (opened_reply tells fd o) _ _ (opens tells fd))
 
     pub opens_more : (r : Result Opened Errno) → OpensAt these inodes flags v table r → OpensAt others inodes flags v table r
     opens_more (Ok o) opens = over_more o o.changing opens
-    opens_more (Err errno) opens = λ fd. more fd (Refused errno) (tree_of v table) nothing (opens fd)
+    opens_more (Err errno) opens = λ tells fd. more tells fd (Refused errno) (tree_of v table) nothing (opens tells fd)
+
+-- a file is opened over the tree of a volume that has it
+module _ (inodes : ℕ) (v : Volume) (table : ℕ → Option Description) (links_law : VolumesTellLinks) (volume : IsVolume inodes v) (flags : Flags) (o : Opened) where
+  abbrev over : ℕ → Tree
+  over fd = opened_tree flags o fd (tree_of v table)
+
+  abbrev stat_with : ℕ → ℕ → Stat
+  stat_with mode size = record { number = o.number; kind = File; mode = mode; links = o.links; size = size }
+
+  pub file_opened : IsOpened v o → (tells : Bool) (fd : ℕ) (t : Tree) (need : Need) → tree_of v table ≡ t → opens_file tells o.number flags fd t need (opened_reply tells fd o) (over fd) need
+  file_opened (attributes, bytes, is, mode, size) false fd t need same = (refl, ap (opened_tree flags o fd) same, refl)
+  file_opened (attributes, bytes, is, mode, size) true fd t need same =
+      subst (λ (u : Tree). opens_file true o.number flags fd u need (opened_reply true fd o) (over fd) need) same (
+        o.links,
+        links_law inodes v table o.number attributes o.links bytes volume is,
+        (
+          ap (λ (m : ℕ). replies.Opened fd (stat_with m o.size)) (mode ∙ sym (ap (λ (x : Option Node). unwrap_or (mode_of x) 0) is))
+              ∙ ap (λ (k : ℕ). replies.Opened fd (stat_with (unwrap_or (mode_of (v o.number)) 0) k)) (size ∙ sym (ap (λ (x : Option Node). length (unwrap_or (bytes_of_node x) [])) is)),
+          refl,
+          refl,
+        ),
+      )
 
 -- ---- where a path leads
 
-module _ (v : Volume) (table : ℕ → Option Description) (there : Path → Object → Outcome) (gone : Path → Name → Outcome) where
+module _ (inodes : ℕ) (v : Volume) (table : ℕ → Option Description) (text : List ℕ) (flags : Flags) (mode : ℕ) where
   abbrev t : Tree
   t = tree_of v table
 
-  pub leads_nowhere : (errno : Errno) (r : Resolution) → IsPlaceOf v (at_refusal errno) r → leads t r there gone (Refused errno) t nothing
-  leads_nowhere errno (named p) is = absurd is
-  leads_nowhere errno (missing p name) is = absurd is
-  leads_nowhere errno (refused other) is = (ap Refused (sym is), refl, refl)
+  abbrev follow : Bool
+  follow = not (flags.creates && flags.exclusive)
 
-  module _ (n : ℕ) (o : Object) (object : object_of n (v n) ≡ Some o) (reply : Reply) (new : Tree) (need : Need) (done : (p : Path) → there p o reply new need) where
-    pub leads_object : (r : Resolution) → LeadsTo v r (Ok n) → leads t r there gone reply new need
-    leads_object (named p) (at, some) =
-        subst (λ (x : Option Object). (elim x as (λ _. Outcome) [ Some y ↦ there p y | None ↦ λ _ _ _. ⊥ ]) reply new need) (sym (ap (object_at v) at ∙ object)) (done p)
-    leads_object (missing p name) is = absurd is
-    leads_object (refused errno) is = absurd is
+  abbrev along : Opening
+  along = opens_along inodes t text flags mode
 
--- the object that a path leads to is opened, or refused
-module _ (inodes : ℕ) (v : Volume) (table : ℕ → Option Description) (text : List ℕ) (flags : Flags) (mode n : ℕ) where
-  abbrev along : ℕ → Outcome
-  along = opens_along inodes (tree_of v table) text flags mode
+  abbrev there : Bool → ℕ → Path → Object → Outcome
+  there tells fd p o = opens_object tells t o flags fd
 
-  abbrev resolution : Resolution
-  resolution = resolve (tree_of v table) (not (flags.creates && flags.exclusive)) text
+  abbrev gone : Bool → ℕ → Path → Name → Outcome
+  gone tells fd p name = opens_new tells inodes t p name flags mode fd
 
-  pub along_object : LeadsTo v resolution (Ok n) → (o : Object) → object_of n (v n) ≡ Some o → (told : Result Opened Errno)
-      → OpensAt (opens_object (tree_of v table) o flags) inodes flags v table told → OpensAt along inodes flags v table told
-  along_object led o object =
-      opens_more inodes flags v table (opens_object (tree_of v table) o flags) along (λ fd reply new need done.
-      leads_object v table (λ p y. opens_object (tree_of v table) y flags fd) (λ p name. opens_new inodes (tree_of v table) p name flags mode fd) n o object reply new need
-      (λ p. done) resolution led)
+  pub along_nowhere : (errno : Errno) (r : Resolution) → Reaches t follow text r → IsPlaceAt v (at_refusal errno) r → (tells : Bool) (fd : ℕ) → along tells fd (Refused errno) t nothing
+  along_nowhere errno r reaches is tells fd =
+      along_reached t follow text (there tells fd) (gone tells fd) (Refused errno) t nothing r reaches (refused_at v table (there tells fd) (gone tells fd) errno r is)
 
--- what a path leads to is an object of the tree
-pub object_there : (v : Volume) (r : Resolution) (n : ℕ) → LeadsTo v r (Ok n) → (o : Object) × (object_of n (v n) ≡ Some o)
-object_there v (named p) n (at, some) = by (object_of n (v n)) refl (node_object n (v n) some)
-  where
-    by : (x : Option Object) → object_of n (v n) ≡ x → IsSome x → (o : Object) × (object_of n (v n) ≡ Some o)
-    by None e is = absurd (false≢true is)
-    by (Some o) e is = (o, e)
-object_there v (missing p name) n is = absurd is
-object_there v (refused errno) n is = absurd is
+  -- the object that a path leads to is opened, or refused
+  pub along_object : (n : ℕ) → LeadsAlong t v follow text (Ok n) → (o : Object) → object_of n (v n) ≡ Some o → (told : Result Opened Errno)
+      → OpensAt (λ tells. opens_object tells t o flags) inodes flags v table told → OpensAt along inodes flags v table told
+  along_object n leads o object = opens_more inodes flags v table (λ tells. opens_object tells t o flags) along (λ tells fd reply new need done. by tells fd reply new need leads done)
+    where
+      by : (tells : Bool) (fd : ℕ) (reply : Reply) (new : Tree) (need : Need) → LeadsAlong t v follow text (Ok n) → opens_object tells t o flags fd reply new need → along tells fd reply new need
+      by tells fd reply new need (inl (r, reaches, to)) done =
+          along_reached t follow text (there tells fd) (gone tells fd) reply new need r reaches
+          (there_at v table (there tells fd) (gone tells fd) n reply new need (λ p y is.
+          subst (λ (z : Object). opens_object tells t z flags fd reply new need) (some_same (sym object ∙ is)) done) r to)
+      by tells fd reply new need (inr (start, alone)) done =
+          along_alone t follow text (there tells fd) (gone tells fd) reply new need v n start alone
+          (subst (λ (z : Object). opens_object tells t z flags fd reply new need) (some_same (sym object ∙ alone.here)) done)
+
+  -- what a path leads to is an object of the tree
+  pub object_there : (n : ℕ) → LeadsAlong t v follow text (Ok n) → (o : Object) × (object_of n (v n) ≡ Some o)
+  object_there n leads = by (object_of n (v n)) refl (node_object n (v n) (led_some t v follow text n leads))
+    where
+      by : (x : Option Object) → object_of n (v n) ≡ x → IsSome x → (o : Object) × (object_of n (v n) ≡ Some o)
+      by None e is = absurd (false≢true is)
+      by (Some o) e is = (o, e)
 
 -- ---- an object that is there
 
@@ -114,8 +142,8 @@ opens_damaged v n y object none = by (v n) object none
     by (Some x) object none = absurd (none x refl)
 
 -- a new file is wanted
-pub opens_exclusive : (t : Tree) (o : Object) (flags : Flags) → (flags.creates && flags.exclusive) ≡ true → (fd : ℕ) → opens_object t o flags fd (Refused EEXIST) t nothing
-opens_exclusive t o flags wants fd = tested_some t ((flags.creates && flags.exclusive, EEXIST) ∷ []) _ EEXIST (cond-true (flags.creates && flags.exclusive) (Some EEXIST) None wants)
+pub opens_exclusive : (t : Tree) (o : Object) (flags : Flags) → (flags.creates && flags.exclusive) ≡ true → (tells : Bool) (fd : ℕ) → opens_object tells t o flags fd (Refused EEXIST) t nothing
+opens_exclusive t o flags wants tells fd = tested_some t ((flags.creates && flags.exclusive, EEXIST) ∷ []) _ EEXIST (cond-true (flags.creates && flags.exclusive) (Some EEXIST) None wants)
 
 nothing_logs : {X : Type 0} {work : Work} → nothing ≡ logs work → X
 nothing_logs e = cc
@@ -124,26 +152,29 @@ module _ (inodes : ℕ) (v : Volume) (table : ℕ → Option Description) (n : �
   abbrev tree : Tree
   tree = tree_of v table
 
-  abbrev case : ℕ → Object → Outcome
-  case fd o = elim o as (λ _. Outcome) [
+  abbrev opens : Opening
+  opens tells = opens_object tells tree y flags
+
+  abbrev case : Bool → ℕ → Object → Outcome
+  case tells fd o = elim o as (λ _. Outcome) [
     | trees.directory k ↦ refuses tree EISDIR
     | trees.symlink k text ↦ λ _ _ _. ⊥
     | trees.file k ↦ either flags.truncates
-        (changes (Fd fd) (with_descriptor fd (Some (described_by k flags)) (truncated_to k 0 tree)) (need_of_truncate k 0 tree))
-        (changes (Fd fd) (with_descriptor fd (Some (described_by k flags)) tree) nothing)
+        (opens_file tells k flags fd (truncated_to k 0 tree) (need_of_truncate k 0 tree))
+        (opens_file tells k flags fd tree nothing)
   ]
 
-  past : (fd : ℕ) (reply : Reply) (new : Tree) (need : Need) → case fd y reply new need → opens_object tree y flags fd reply new need
-  past fd reply new need done =
-      tested_none tree ((flags.creates && flags.exclusive, EEXIST) ∷ []) (case fd y) reply new need (cond-false (flags.creates && flags.exclusive) (Some EEXIST) None old) done
+  past : (tells : Bool) (fd : ℕ) (reply : Reply) (new : Tree) (need : Need) → case tells fd y reply new need → opens tells fd reply new need
+  past tells fd reply new need done =
+      tested_none tree ((flags.creates && flags.exclusive, EEXIST) ∷ []) (case tells fd y) reply new need (cond-false (flags.creates && flags.exclusive) (Some EEXIST) None old) done
 
   module _ (stat : Stat) (told : TellsStat v n (Ok stat)) where
-    pub opens_no_file : stat.kind ≢ File → found_in (v n) ≢ found.Link → (fd : ℕ) → opens_object tree y flags fd (Refused EISDIR) tree nothing
-    opens_no_file other plain fd = past fd (Refused EISDIR) tree nothing (by told.0 told.1 told.2)
+    pub opens_no_file : stat.kind ≢ File → found_in (v n) ≢ found.Link → (tells : Bool) (fd : ℕ) → opens tells fd (Refused EISDIR) tree nothing
+    opens_no_file other plain tells fd = past tells fd (Refused EISDIR) tree nothing (by told.0 told.1 told.2)
       where
-        by : (o : Node) → v n ≡ Some o → stat ≡ stat_in n o → case fd y (Refused EISDIR) tree nothing
+        by : (o : Node) → v n ≡ Some o → stat ≡ stat_in n o → case tells fd y (Refused EISDIR) tree nothing
         by (directory_node attributes names) is same =
-            subst (λ (z : Object). case fd z (Refused EISDIR) tree nothing) (object_by n v (directory_node attributes names) (trees.directory n) y is refl object) (refl, refl, refl)
+            subst (λ (z : Object). case tells fd z (Refused EISDIR) tree nothing) (object_by n v (directory_node attributes names) (trees.directory n) y is refl object) (refl, refl, refl)
         by (file_node attributes links bytes) is same = absurd (other (ap (λ (s : Stat). s.kind) same))
         by (link_node attributes text) is same = absurd (plain (ap found_in is))
 
@@ -152,6 +183,7 @@ module _ (inodes : ℕ) (v : Volume) (table : ℕ → Option Description) (n : �
         attributes : Attributes
         bytes : List ℕ
         is : v n ≡ Some (file_node attributes stat.links bytes)
+        mode : stat.mode ≡ attributes.mode
         size : stat.size ≡ length bytes
 
       dir_file : {X : Type 0} → Dir ≡ File → X
@@ -169,73 +201,85 @@ module _ (inodes : ℕ) (v : Volume) (table : ℕ → Option Description) (n : �
             attributes = attributes;
             bytes = bytes;
             is = is ∙ ap (λ (k : ℕ). Some (file_node attributes k bytes)) (sym (ap (λ (s : Stat). s.links) same));
+            mode = ap (λ (s : Stat). s.mode) same;
             size = ap (λ (s : Stat). s.size) same;
           }
           by (link_node attributes text) is same = link_file (sym (ap (λ (s : Stat). s.kind) same) ∙ kind)
 
-      at_file : (fd : ℕ) (new : Tree) (need : Need) → case fd (trees.file n) (Fd fd) new need → opens_object tree y flags fd (Fd fd) new need
-      at_file fd new need done =
-          past fd (Fd fd) new need
-          (subst (λ (z : Object). case fd z (Fd fd) new need) (object_by n v (file_node f.attributes stat.links f.bytes) (trees.file n) y f.is refl object) done)
+      at_file : (tells : Bool) (fd : ℕ) (reply : Reply) (new : Tree) (need : Need) → case tells fd (trees.file n) reply new need → opens tells fd reply new need
+      at_file tells fd reply new need done =
+          past tells fd reply new need
+          (subst (λ (z : Object). case tells fd z reply new need) (object_by n v (file_node f.attributes stat.links f.bytes) (trees.file n) y f.is refl object) done)
 
       pub is_file_at : is_file_node (v n) ≡ true
       is_file_at = ap is_file_node f.is
 
       abbrev opened : ℕ → Option Changing → Opened
-      opened size changing = record { number = n; size = size; links = stat.links; changing = changing }
+      opened size changing = record { number = n; size = size; links = stat.links; mode = stat.mode; changing = changing }
 
-      abbrev put : ℕ → Tree → Tree
-      put fd new = with_descriptor fd (Some (described_by n flags)) new
+      abbrev file_case : Bool → Bool → ℕ → Outcome
+      file_case truncates tells fd = either truncates (opens_file tells n flags fd (truncated_to n 0 tree) (need_of_truncate n 0 tree)) (opens_file tells n flags fd tree nothing)
 
-      abbrev file_case : Bool → ℕ → Outcome
-      file_case truncates fd = either truncates (changes (Fd fd) (put fd (truncated_to n 0 tree)) (need_of_truncate n 0 tree)) (changes (Fd fd) (put fd tree) nothing)
+      module _ (links_law : VolumesTellLinks) (volume : IsVolume inodes v) where
+        pub opens_whole : not flags.truncates ≡ true → OpensOver opens inodes flags v table (opened stat.size None) None
+        opens_whole keeps =
+            let o = opened stat.size None in
+            let is : IsOpened v o = (f.attributes, f.bytes, f.is, f.mode, f.size) in (
+              is,
+              λ tells fd.
+                  at_file tells fd (opened_reply tells fd o) (opened_tree flags o fd tree) nothing
+                  (subst (λ (b : Bool). file_case b tells fd (opened_reply tells fd o) (opened_tree flags o fd tree) nothing) (sym (not-true flags.truncates keeps))
+                  (file_opened inodes v table links_law volume flags o is tells fd tree nothing refl)),
+            )
 
-      pub opens_whole : not flags.truncates ≡ true → OpensOver (opens_object tree y flags) inodes flags v table (opened stat.size None) None
-      opens_whole keeps = (
-        (f.attributes, f.bytes, f.is, f.size),
-        λ fd. at_file fd (put fd tree) nothing (subst (λ (b : Bool). file_case b fd (Fd fd) (put fd tree) nothing) (sym (not-true flags.truncates keeps)) (refl, refl, refl)),
-      )
+        module _ (keep_law : RecordsKeepVolumes) (truncates_file : not flags.truncates ≡ false) where
+          -- the file of another volume, whose tree is this one with the file truncated
+          truncated_at : (w : Volume) (o : Opened) → o.number ≡ n → IsVolume inodes w → IsOpened w o → (need : Need) → tree_of w table ≡ truncated_to n 0 tree → need ≡ need_of_truncate n 0 tree
+              → IsOpenedOver opens flags o (tree_of w table) need
+          truncated_at w o same whole is need becomes needs tells fd =
+              at_file tells fd (opened_reply tells fd o) (opened_tree flags o fd (tree_of w table)) need
+              (subst (λ (b : Bool). file_case b tells fd (opened_reply tells fd o) (opened_tree flags o fd (tree_of w table)) need) (sym (not-false flags.truncates truncates_file))
+              (subst (λ (k : Need). opens_file tells n flags fd (truncated_to n 0 tree) k (opened_reply tells fd o) (opened_tree flags o fd (tree_of w table)) need) needs
+              (subst (λ (k : ℕ). opens_file tells k flags fd (truncated_to n 0 tree) need (opened_reply tells fd o) (opened_tree flags o fd (tree_of w table)) need) same
+              (file_opened inodes w table links_law whole flags o is tells fd (truncated_to n 0 tree) need becomes))))
 
-      module _ (truncates_file : not flags.truncates ≡ false) where
-        truncated_at : (fd : ℕ) (new : Tree) (need : Need) → new ≡ truncated_to n 0 tree → need ≡ need_of_truncate n 0 tree → opens_object tree y flags fd (Fd fd) (put fd new) need
-        truncated_at fd new need is needs =
-            at_file fd (put fd new) need (subst (λ (b : Bool). file_case b fd (Fd fd) (put fd new) need) (sym (not-false flags.truncates truncates_file)) (refl, ap (put fd) is, needs))
+          abbrev held : ℕ
+          held = length (contents tree n)
 
-        abbrev held : ℕ
-        held = length (contents tree n)
+          -- what needs nothing to be truncated has no bytes
+          no_bytes : nothing ≡ need_of_truncate n 0 tree → 0 ≡ length f.bytes
+          no_bytes needs =
+              elim (cases_eq 0 held) [
+                | inl e ↦ e ∙ ap (λ (o : Option Node). length (unwrap_or (bytes_of_node o) [])) f.is
+                | inr more ↦ nothing_logs (needs ∙ cond-false (0 == held) nothing (logs (changes_size held 0)) (ne_eqb 0 held more))
+              ]
 
-        -- what needs nothing to be truncated has no bytes
-        no_bytes : nothing ≡ need_of_truncate n 0 tree → 0 ≡ length f.bytes
-        no_bytes needs =
-            elim (cases_eq 0 held) [
-              | inl e ↦ e ∙ ap (λ (o : Option Node). length (unwrap_or (bytes_of_node o) [])) f.is
-              | inr more ↦ nothing_logs (needs ∙ cond-false (0 == held) nothing (logs (changes_size held 0)) (ne_eqb 0 held more))
-            ]
+          abbrev truncate_change : Change
+          truncate_change = records.truncate n 0
 
-        abbrev truncate_change : Change
-        truncate_change = records.truncate n 0
+          abbrev after : Volume
+          after = applied truncate_change v
 
-        abbrev after : Volume
-        after = applied truncate_change v
+          truncated_now : (changing : Option Changing) → IsOpened after (opened 0 changing)
+          truncated_now changing = (
+            f.attributes,
+            resized 0 f.bytes,
+            node_here n n (with_file_bytes (resized 0) (v n)) v refl ∙ ap (with_file_bytes (resized 0)) f.is,
+            f.mode,
+            sym (length-resized 0 f.bytes),
+          )
 
-        truncated_now : (changing : Option Changing) → IsOpened after (opened 0 changing)
-        truncated_now changing = (
-          f.attributes,
-          resized 0 f.bytes,
-          node_here n n (with_file_bytes (resized 0) (v n)) v refl ∙ ap (with_file_bytes (resized 0)) f.is,
-          sym (length-resized 0 f.bytes),
-        )
-
-        pub opens_truncated : (changing : Option Changing) → TruncatesFile inodes v table n 0 changing → OpensOver (opens_object tree y flags) inodes flags v table (opened 0 changing) changing
-        opens_truncated None (done, is, needs) = ((f.attributes, f.bytes, f.is, no_bytes needs), λ fd. truncated_at fd tree nothing is needs)
-        opens_truncated (Some c) (says, (over, (done, is, needs))) =
-            let o = opened 0 (Some c) in
-            let whole : swept table after ≡ after = fun_ext {f = swept table after} {g = after} over.1.is_swept in
-            let (still, is_file, opens) = subst
-            (λ (w : Volume).
-            IsMounted w table × IsOpened w o × ((fd : ℕ) → opens_object tree y flags fd (Fd fd) (put fd (tree_of w table)) (logs (work_of v truncate_change)))) (sym whole)
-            (over.1, truncated_now (Some c), λ fd. truncated_at fd (tree_of after table) (logs (work_of v truncate_change)) is needs) in
-            subst (OpensByRecord (opens_object tree y flags) inodes flags v table o) (sym says) (over.0, still, is_file, opens)
+          pub opens_truncated : (changing : Option Changing) → TruncatesFile inodes v table n 0 changing → OpensOver opens inodes flags v table (opened 0 changing) changing
+          opens_truncated None (done, is, needs) =
+              let now : IsOpened v (opened 0 None) = (f.attributes, f.bytes, f.is, f.mode, no_bytes needs) in
+              (now, truncated_at v (opened 0 None) refl volume now nothing is needs)
+          opens_truncated (Some c) (says, (over, (done, is, needs))) =
+              let o = opened 0 (Some c) in
+              let whole : swept table after ≡ after = fun_ext {f = swept table after} {g = after} over.1.is_swept in
+              let (still, is_file, all) = subst
+              (λ (w : Volume). IsMounted w table × IsOpened w o × IsOpenedOver opens flags o (tree_of w table) (logs (work_of v truncate_change))) (sym whole)
+              (over.1, truncated_now (Some c), truncated_at after o refl (keep_law inodes v truncate_change volume over.0) (truncated_now (Some c)) (logs (work_of v truncate_change)) is needs) in
+              subst (OpensByRecord opens inodes flags v table o) (sym says) (over.0, still, is_file, all)
 
 -- ---- a file that is made
 
@@ -255,40 +299,38 @@ module _ (inodes : ℕ) (v : Volume) (table : ℕ → Option Description) (volum
 
   module _ (d : ℕ) (x : Name) (r : Resolution) (gap : FindsGap inodes v table volume mounted tree_is r d x) where
     module _ (fresh_law : VolumesTellFresh) (change_law : RecordsChangeTrees) (flags : Flags) (mode : ℕ) where
-      abbrev outcome : ℕ → Outcome
-      outcome = opens_new inodes now gap.path x flags mode
+      abbrev outcome : Opening
+      outcome tells = opens_new tells inodes now gap.path x flags mode
 
-      abbrev fresh : ℕ → Outcome
-      fresh fd =
-          with_fresh inodes now
-          (λ n. changes (Fd fd) (with_descriptor fd (Some (described_by n flags)) (with_file (gap.path ++ x ∷ []) n mode now)) (logs adds_name))
+      abbrev fresh : Bool → ℕ → Outcome
+      fresh tells fd = with_fresh inodes now (λ n. opens_file tells n flags fd (with_file (gap.path ++ x ∷ []) n mode now) (logs adds_name))
 
-      none_made : flags.creates ≡ false → (fd : ℕ) → outcome fd (Refused ENOENT) now nothing
-      none_made none fd =
-          tested_some now ((not flags.creates, ENOENT) ∷ []) (with_place now gap.path (fresh fd)) ENOENT
+      none_made : flags.creates ≡ false → (tells : Bool) (fd : ℕ) → outcome tells fd (Refused ENOENT) now nothing
+      none_made none tells fd =
+          tested_some now ((not flags.creates, ENOENT) ∷ []) (with_place now gap.path (fresh tells fd)) ENOENT
           (cond-true (not flags.creates) (Some ENOENT) None (ap not none))
 
       module _ (does : flags.creates ≡ true) where
-        past_tests : (fd : ℕ) (reply : Reply) (new : Tree) (need : Need) → with_place now gap.path (fresh fd) reply new need → outcome fd reply new need
-        past_tests fd reply new need done =
-            tested_none now ((not flags.creates, ENOENT) ∷ []) (with_place now gap.path (fresh fd)) reply new need
+        past_tests : (tells : Bool) (fd : ℕ) (reply : Reply) (new : Tree) (need : Need) → with_place now gap.path (fresh tells fd) reply new need → outcome tells fd reply new need
+        past_tests tells fd reply new need done =
+            tested_none now ((not flags.creates, ENOENT) ∷ []) (with_place now gap.path (fresh tells fd)) reply new need
             (cond-false (not flags.creates) (Some ENOENT) None (ap not does)) done
 
-        with_room : TakesName v d x → (fd : ℕ) (reply : Reply) (new : Tree) (need : Need) → fresh fd reply new need → outcome fd reply new need
-        with_room can fd reply new need done =
-            past_tests fd reply new need (place_free inodes v table volume mounted tree_is d x r gap can (fresh fd) reply new need done)
+        with_room : TakesName v d x → (tells : Bool) (fd : ℕ) (reply : Reply) (new : Tree) (need : Need) → fresh tells fd reply new need → outcome tells fd reply new need
+        with_room can tells fd reply new need done =
+            past_tests tells fd reply new need (place_free inodes v table volume mounted tree_is d x r gap can (fresh tells fd) reply new need done)
 
         all_used : ((k : ℕ) → FIRST_NUMBER ≤ k → k < inodes → IsSome (v k)) → HasNoFresh inodes now
         all_used taken k low below =
             not_unused v volume.graph table mounted.bounded k (λ none. false≢true (sym (ap is_some (sym (mounted.is_swept k) ∙ none)) ∙ taken k low below))
 
-        pub new_refused : (errno : Errno) → MakesIn inodes v d x (file mode) (Err errno) → (fd : ℕ) → outcome fd (Refused errno) now nothing
-        new_refused errno (inl (is, not)) fd =
-            subst (λ (e : Errno). outcome fd (Refused e) now nothing) (sym is)
-            (past_tests fd (Refused DIRFULL) now nothing (place_full inodes v table volume mounted tree_is d x r gap (fresh fd) not))
-        new_refused errno (inr (is, can, none)) fd =
-            subst (λ (e : Errno). outcome fd (Refused e) now nothing) (sym is)
-            (with_room can fd (Refused NONUMBER) now nothing (None, all_used none, (refl, refl, refl)))
+        pub new_refused : (errno : Errno) → MakesIn inodes v d x (file mode) (Err errno) → (tells : Bool) (fd : ℕ) → outcome tells fd (Refused errno) now nothing
+        new_refused errno (inl (is, not)) tells fd =
+            subst (λ (e : Errno). outcome tells fd (Refused e) now nothing) (sym is)
+            (past_tests tells fd (Refused DIRFULL) now nothing (place_full inodes v table volume mounted tree_is d x r gap (fresh tells fd) not))
+        new_refused errno (inr (is, can, none)) tells fd =
+            subst (λ (e : Errno). outcome tells fd (Refused e) now nothing) (sym is)
+            (with_room can tells fd (Refused NONUMBER) now nothing (None, all_used none, (refl, refl, refl)))
 
         module _ (n : ℕ) (good : IsMade (file mode)) (can : TakesName v d x) (free : IsLeastFree inodes v n) where
           abbrev change : Change
@@ -332,45 +374,46 @@ module _ (inodes : ℕ) (v : Volume) (table : ℕ → Option Description) (volum
               ∙ node_other d n (set_name x (Some n) (between d)) between (λ same. apart (sym same))
               ∙ node_here n n (Some (node_of (file mode))) v refl
 
-          opens_made : (fd : ℕ) → outcome fd (Fd fd) (with_descriptor fd (Some (described_by n flags)) (tree_of (swept table made) table)) (logs adds_name)
-          opens_made fd =
-              let put = with_descriptor fd (Some (described_by n flags)) in
-              with_room can fd (Fd fd) (put (tree_of (swept table made) table)) (logs adds_name)
-              (Some n, fresh_law inodes v table n volume mounted free.low free.high free.free free.least, (refl, ap put new_tree, refl))
+          -- it is opened over the tree that it leaves
+          opens_made : VolumesTellLinks → RecordsKeepVolumes → SweepsKeepVolumes → (o : Opened) → o.number ≡ n → IsOpened (swept table made) o
+              → IsOpenedOver outcome flags o (tree_of (swept table made) table) (logs adds_name)
+          opens_made links_law keep_law sweep_law o same is tells fd =
+              let after = swept table made in
+              let new = opened_tree flags o fd (tree_of after table) in
+              let with_new = with_file (gap.path ++ x ∷ []) n mode now in
+              let whole = sweep_law inodes made table (keep_law inodes v change volume applies) in
+              with_room can tells fd (opened_reply tells fd o) new (logs adds_name) (
+                Some n,
+                fresh_law inodes v table n volume mounted free.low free.high free.free free.least,
+                subst (λ (k : ℕ). opens_file tells k flags fd with_new (logs adds_name) (opened_reply tells fd o) new (logs adds_name)) same
+                    (file_opened inodes after table links_law whole flags o is tells fd with_new (logs adds_name) new_tree),
+              )
 
-        pub new_made : (o : Opened) (changing : Option Changing) → OpensMade inodes v mode d x o changing → OpensOver outcome inodes flags v table o changing
-        new_made o None is = absurd is
-        new_made o (Some c) ((n, says, good, can, free), told, one, empty) =
-            let same : n ≡ o.number = same_number (sym says ∙ told) in
-            let is : IsOpened (swept table (made n good can free)) o = (
-              new_attributes mode,
-              [],
-              ap (swept table (made n good can free)) (sym same) ∙ is_made n good can free ∙ ap (λ (k : ℕ). Some (file_node (new_attributes mode) k [])) (sym one),
-              empty,
-            ) in
-            subst (OpensByRecord outcome inodes flags v table o) (sym says) (
-              applies n good can free,
-              (changed n good can free).0,
-              is,
-              λ fd.
-                  subst (λ (k : ℕ). outcome fd (Fd fd) (with_descriptor fd (Some (described_by k flags)) (tree_of (swept table (made n good can free)) table)) (logs adds_name)) same
-                  (opens_made n good can free fd),
-            )
+        module _ (links_law : VolumesTellLinks) (keep_law : RecordsKeepVolumes) (sweep_law : SweepsKeepVolumes) where
+          pub new_made : (o : Opened) (changing : Option Changing) → OpensMade inodes v mode d x o changing → OpensOver outcome inodes flags v table o changing
+          new_made o None is = absurd is
+          new_made o (Some c) ((n, says, good, can, free), told, one, own, empty) =
+              let same : n ≡ o.number = same_number (sym says ∙ told) in
+              let is : IsOpened (swept table (made n good can free)) o = (
+                new_attributes mode,
+                [],
+                ap (swept table (made n good can free)) (sym same) ∙ is_made n good can free ∙ ap (λ (k : ℕ). Some (file_node (new_attributes mode) k [])) (sym one),
+                own,
+                empty,
+              ) in
+              subst (OpensByRecord outcome inodes flags v table o) (sym says)
+              (applies n good can free, (changed n good can free).0, is, opens_made n good can free links_law keep_law sweep_law o (sym same) is)
 
-      pub new_opens : (told : Result Opened Errno) → OpensNew inodes v flags mode d x told → OpensAt outcome inodes flags v table told
-      new_opens (Err errno) (inl (none, is)) = λ fd. subst (λ (e : Errno). outcome fd (Refused e) now nothing) (sym is) (none_made none fd)
-      new_opens (Err errno) (inr (does, told)) = new_refused does errno told
-      new_opens (Ok o) (does, told) = new_made does o o.changing told
+      module _ (links_law : VolumesTellLinks) (keep_law : RecordsKeepVolumes) (sweep_law : SweepsKeepVolumes) where
+        pub new_opens : (told : Result Opened Errno) → OpensNew inodes v flags mode d x told → OpensAt outcome inodes flags v table told
+        new_opens (Err errno) (inl (none, is)) = λ tells fd. subst (λ (e : Errno). outcome tells fd (Refused e) now nothing) (sym is) (none_made none tells fd)
+        new_opens (Err errno) (inr (does, told)) = new_refused does errno told
+        new_opens (Ok o) (does, told) = new_made does links_law keep_law sweep_law o o.changing told
 
-      in_gap : (there : Path → Object → Outcome) (fd : ℕ) (reply : Reply) (new : Tree) (need : Need) → outcome fd reply new need
-          → leads now r there (λ p name. opens_new inodes now p name flags mode fd) reply new need
-      in_gap there fd reply new need done =
-          subst (λ (q : Resolution). leads now q there (λ p name. opens_new inodes now p name flags mode fd) reply new need) (sym gap.is) done
-
-      -- what opening comes to where a path leads to that name
-      pub along_gap : (text : List ℕ) → resolve now (not (flags.creates && flags.exclusive)) text ≡ r → (told : Result Opened Errno) → OpensNew inodes v flags mode d x told
-          → OpensAt (opens_along inodes now text flags mode) inodes flags v table told
-      along_gap text same told made =
-          opens_more inodes flags v table outcome (opens_along inodes now text flags mode) (λ fd reply new need done.
-          subst (λ (q : Resolution). leads now q (λ p o. opens_object now o flags fd) (λ p name. opens_new inodes now p name flags mode fd) reply new need) (sym same)
-          (in_gap (λ p o. opens_object now o flags fd) fd reply new need done)) told (new_opens told made)
+        -- what opening comes to where a path leads to that name
+        pub along_gap : (text : List ℕ) → Reaches now (not (flags.creates && flags.exclusive)) text r → (told : Result Opened Errno) → OpensNew inodes v flags mode d x told
+            → OpensAt (opens_along inodes now text flags mode) inodes flags v table told
+        along_gap text reaches told made =
+            opens_more inodes flags v table outcome (opens_along inodes now text flags mode) (λ tells fd reply new need done.
+            along_reached now (not (flags.creates && flags.exclusive)) text (there inodes v table text flags mode tells fd) (gone inodes v table text flags mode tells fd) reply new need r reaches
+            (subst (λ (q : Resolution). leads now q (there inodes v table text flags mode tells fd) (gone inodes v table text flags mode tells fd) reply new need) (sym gap.is) done)) told (new_opens told made)

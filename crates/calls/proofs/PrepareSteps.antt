@@ -5,8 +5,7 @@ use Rattle.std.proofs.lemmas.Result.{IfOk-weaker}
 use Rattle.layout.specs.Limits.{Sizes}
 use Rattle.layout.specs.declared.inode.Inode.{Inode}
 use Rattle.model.specs.Records.{Applies, Change}
-use Rattle.model.specs.Resolution.{Resolution, resolve}
-use Rattle.model.specs.Trees.{Description}
+use Rattle.model.specs.Trees.{Description, Tree}
 use Rattle.model.specs.Volumes.{IsVolume, Volume, tree_of}
 use Rattle.model.specs.declared.errno.Errno.{Errno}
 use Rattle.buffers.specs.Errors.{IsFault}
@@ -101,15 +100,15 @@ module _ {B T : Type 0} {changes : T → Option Changing} {G : Ghosts B} {a b : 
   fails_by code own (Read e) q is looks by sound answers = stops q is looks sound
 
   -- nothing stands where a path leads: a block isn't read, or this is refused
-  pub passes : {follow : Bool} {IsText : List ℕ → Type 0} {Q : List ℕ → Volume → Resolution → Result ℕ Errno → Type 0} (f : Failure) (q : Result T Failure)
-      → IsErrAnd q (λ g. g ≡ f) → TellsWhere G a b s t follow IsText Q (Err f) → (text : List ℕ) → IsText text
-      → OnMounted G a s (λ v table. (errno : Errno) → Q text v (resolve (tree_of v table) follow text) (Err errno) → P s.geometry.inodes v table (Err errno))
+  pub passes : {follow : Bool} {Q : Tree → Volume → Result ℕ Errno → Type 0} (f : Failure) (q : Result T Failure)
+      → IsErrAnd q (λ g. g ≡ f) → TellsWhere G a b s t follow Q (Err f)
+      → OnMounted G a s (λ v table. (errno : Errno) → Q (tree_of v table) v (Err errno) → P s.geometry.inodes v table (Err errno))
       → PreparesWith changes G a b s t P q
-  passes (Refused errno) q is led text same answers =
+  passes (Refused errno) q is led answers =
       carried (PreparesWith changes G a b s t P) q is
       (refuses led.looks led.own (λ disk settled v table stands volume mounted.
-      answers disk settled v table stands volume mounted errno (led.leads disk settled v table text stands volume same)))
-  passes (Read e) q is led text same answers = stops q is led.looks led.damaged
+      answers disk settled v table stands volume mounted errno (led.leads disk settled v table stands volume)))
+  passes (Read e) q is led answers = stops q is led.looks led.damaged
 
 module _ {B T : Type 0} {changes : T → Option Changing} {G : Ghosts B} {a b c : B} {s t u : InodeFile} {P : Answer T} where
   -- a step behind a look has failed

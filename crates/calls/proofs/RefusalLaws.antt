@@ -5,7 +5,7 @@ use Rattle.model.specs.Changing.{link_text_tests, size_tests}
 use Rattle.model.specs.Paths.{Tests, first_refusal, text_tests, new_text_tests}
 use Rattle.model.specs.Records.{Change, change_mode, create, truncate, link, rename, remove_name, write}
 use Rattle.model.specs.declared.errno.Errno.{Errno}
-use Rattle.model.specs.declared.errno.Errno.TheVariants.{ENOENT, ENOTDIR, ENAMETOOLONG, ELOOP, DAMAGED}
+use Rattle.model.specs.declared.errno.Errno.TheVariants.{ENOENT, ENOTDIR, ENAMETOOLONG, ELOOP, ESTALE, DAMAGED}
 use Rattle.model.proofs.LooseLemmas.{some_same}
 use Rattle.paths.specs.Refusals.{is_walk_refusal}
 use Rattle.records.specs.Obstacles.{tells_obstacle}
@@ -17,6 +17,7 @@ walk_refusal ENOENT is = refl
 walk_refusal ENOTDIR is = refl
 walk_refusal ENAMETOOLONG is = refl
 walk_refusal ELOOP is = refl
+walk_refusal ESTALE is = refl
 walk_refusal DAMAGED is = refl
 walk_refusal _ is = absurd (false≢true is)
 
@@ -33,10 +34,10 @@ first_own (test ∷ tests) e own is =
     ]
 
 pub text_own : (text : List ℕ) (e : Errno) → first_refusal (text_tests text) ≡ Some e → IsTrue (is_path_refusal e)
-text_own text e is = first_own (text_tests text) e (refl, (refl, (refl, (refl, (refl, (refl, tt)))))) is
+text_own text e is = first_own (text_tests text) e (refl, (refl, (refl, (refl, (refl, (refl, (refl, tt))))))) is
 
 pub new_text_own : (text : List ℕ) (e : Errno) → first_refusal (new_text_tests text) ≡ Some e → IsTrue (is_path_refusal e)
-new_text_own text e is = first_own (new_text_tests text) e (refl, (refl, (refl, (refl, (refl, (refl, (refl, tt))))))) is
+new_text_own text e is = first_own (new_text_tests text) e (refl, (refl, (refl, (refl, (refl, (refl, (refl, (refl, tt)))))))) is
 
 pub link_text_own : (text : List ℕ) (e : Errno) → first_refusal (link_text_tests text) ≡ Some e → IsTrue (is_path_refusal e)
 link_text_own text e is = first_own (link_text_tests text) e (refl, (refl, (refl, tt))) is

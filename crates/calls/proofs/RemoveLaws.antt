@@ -4,12 +4,12 @@ use Rattle.std.specs.List.Sorted.{IsStrictlySortedBy}
 use Rattle.std.proofs.lemmas.Bool.{false≢true, ne_eqb}
 use Rattle.model.specs.Changing.{removes, removes_directory, unlinks}
 use Rattle.model.specs.Edits.{without_object, IsSwept}
-use Rattle.model.specs.Finding.{at_entry, here, IsPlaceOf}
+use Rattle.model.specs.Finding.{at_entry, here, IsPlaceAt}
 use Rattle.model.specs.Laws.{RecordsChangeTrees}
-use Rattle.model.specs.Outcomes.{Outcome, IsListing, leads, leads_to, refuses, tested, with_names}
+use Rattle.model.specs.Outcomes.{Outcome, IsListing, goes_to, leads, refuses, tested, with_names}
 use Rattle.model.specs.Paths.{Name, Path, Tests, first_refusal, is_empty, is_root_text, new_text_tests}
 use Rattle.model.specs.Records.{Change, Applies, applied, remove_name, IsEmpty}
-use Rattle.model.specs.Resolution.{Resolution, named, missing, refused, resolve}
+use Rattle.model.specs.Resolution.{Resolution, named, missing, refused}
 use Rattle.model.specs.Room.{Need, logs, nothing, removes_name}
 use Rattle.model.specs.Trees.{Tree, Object, Description, IsTree, is_directory}
 use Rattle.model.specs.Trees as trees
@@ -21,15 +21,17 @@ use Rattle.model.specs.declared.reply.Reply.TheVariants.{Done, Refused}
 use Rattle.model.proofs.LooseLemmas.{some_same}
 use Rattle.model.proofs.VolumeLemmas.{enters_directory}
 use Rattle.model.proofs.WalkLemmas.{number_at-push}
+use Rattle.paths.specs.Starts.{Reaches}
 use Rattle.paths.specs.Steps.{found_in}
 use Rattle.paths.specs.declared.lookup.Found.TheVariants as found
 use Rattle.calls.specs.Changing.{ComesSwept, ComesSweptBy}
-use Rattle.calls.specs.Leading.{LeadsTo}
+use Rattle.calls.specs.Leading.{LeadsAlong}
 use Rattle.calls.specs.Rmdir.{RemovesDirectory}
 use Rattle.calls.specs.Unlink.{UnlinksEntry}
 use Rattle.calls.specs.declared.changed.Changing.{Changing}
-use Rattle.calls.proofs.LeadLaws.{leads_refused, leads_there, trail_end}
-use Rattle.calls.proofs.MakeLaws.{child_some, listing, tested_some, tested_none}
+use Rattle.calls.proofs.LeadLaws.{along_reached, along_refused, along_there}
+use Rattle.calls.proofs.DirectoryLaws.{child_some, listing}
+use Rattle.calls.proofs.TestedLaws.{tested_some, tested_none}
 use Rattle.model.proofs.ObjectLaws.{directory_object, node_object}
 use Rattle.model.proofs.OptionLaws.{none_some}
 use Rattle.model.proofs.TestLaws.{first_append, first_in_front}
@@ -72,11 +74,11 @@ pub record FindsEntry (v : Volume) (r : Resolution) (d : ℕ) (x : Name) (n : �
   pub at : number_at (entries v) path ≡ Some d
   pub edge : entries v d x ≡ Some n
 
-pub finds_entry : (v : Volume) (trail : List ℕ) (x : Name) (n : ℕ) (r : Resolution) → IsPlaceOf v (at_entry trail x n) r → FindsEntry v r (here trail) x n
-finds_entry v trail x n (named q) (p, trails, same, to) = record {
+pub finds_entry : (v : Volume) (trail : List ℕ) (x : Name) (n : ℕ) (r : Resolution) → IsPlaceAt v (at_entry trail x n) r → FindsEntry v r (here trail) x n
+finds_entry v trail x n (named q) (p, at, same, to) = record {
   path = p;
   is = ap named same;
-  at = trail_end v p trail trails;
+  at = at;
   edge = to;
 }
 finds_entry v trail x n (missing p name) is = absurd is
@@ -142,10 +144,10 @@ module _ (inodes : ℕ) (v : Volume) (table : ℕ → Option Description) (volum
     removed applies = (refl, (is_removed applies).swept, refl)
 
     -- what comes of the object there
-    pub there_comes : (there : Path → Object → Outcome) (reply : Reply) (new : Tree) (need : Need) → ((o : Object) → object_of n (v n) ≡ Some o → there q o reply new need)
-        → leads_to t r there reply new need
-    there_comes there reply new need comes =
-        subst (λ (s : Resolution). leads_to t s there reply new need) (sym finds.is)
+    pub there_comes : (there : Path → Object → Outcome) (gone : Path → Name → Outcome) (reply : Reply) (new : Tree) (need : Need) → ((o : Object) → object_of n (v n) ≡ Some o → there q o reply new need)
+        → leads t r there gone reply new need
+    there_comes there gone reply new need comes =
+        subst (λ (s : Resolution). leads t s there gone reply new need) (sym finds.is)
         (subst (λ (o : Option Object). (elim o as (λ _. Outcome) [ Some o ↦ there q o | None ↦ λ _ _ _. ⊥ ]) reply new need) (sym (ap (object_at v) at_name))
         (by (object_of n (v n)) refl (node_object n (v n) (volume.graph.naming.used d n x finds.edge))))
       where
@@ -153,31 +155,34 @@ module _ (inodes : ℕ) (v : Volume) (table : ℕ → Option Description) (volum
         by None is some = absurd (false≢true some)
         by (Some o) is some = comes o is
 
+    -- where a text leads to it
+    pub entry_comes : (text : List ℕ) → Reaches t false text r → (there : Path → Object → Outcome) (reply : Reply) (new : Tree) (need : Need)
+        → ((o : Object) → object_of n (v n) ≡ Some o → there q o reply new need) → goes_to t false text there reply new need
+    entry_comes text reaches there reply new need comes =
+        along_reached t false text there (λ p name. refuses t ENOENT) reply new need r reaches (there_comes there (λ p name. refuses t ENOENT) reply new need comes)
+
   -- ---- unlink
 
   module _ (text : List ℕ) (passed : first_refusal (new_text_tests text) ≡ None) where
-    abbrev r : Resolution
-    r = resolve t false text
-
     abbrev unlinked : Path → Object → Outcome
     unlinked p o = tested t ((is_directory (Some o), EPERM) ∷ []) (removes t p)
 
-    unlink_led : (reply : Reply) (new : Tree) (need : Need) → leads_to t r unlinked reply new need → unlinks t text reply new need
-    unlink_led reply new need done = tested_none t (new_text_tests text) (leads_to t r unlinked) reply new need passed done
+    unlink_led : (reply : Reply) (new : Tree) (need : Need) → goes_to t false text unlinked reply new need → unlinks t text reply new need
+    unlink_led reply new need done = tested_none t (new_text_tests text) (goes_to t false text unlinked) reply new need passed done
 
-    pub unlink_refused : (errno : Errno) → LeadsTo v r (Err errno) → unlinks t text (Refused errno) t nothing
-    unlink_refused errno is = unlink_led (Refused errno) t nothing (leads_refused v table unlinked r errno is)
+    pub unlink_refused : (errno : Errno) → LeadsAlong t v false text (Err errno) → unlinks t text (Refused errno) t nothing
+    unlink_refused errno is = unlink_led (Refused errno) t nothing (along_refused v table false text unlinked errno is)
 
     -- a directory isn't unlinked
     unlink_no_directory : (n : ℕ) (p : Path) (o : Object) → found_in (v n) ≡ found.Directory → object_of n (v n) ≡ Some o → unlinked p o (Refused EPERM) t nothing
     unlink_no_directory n p o is object =
         subst (λ (y : Object). unlinked p y (Refused EPERM) t nothing) (sym (object_is n (v n) o is object)) (refl, refl, refl)
 
-    pub unlink_directory : (n : ℕ) → LeadsTo v r (Ok n) → found_in (v n) ≡ found.Directory → unlinks t text (Refused EPERM) t nothing
+    pub unlink_directory : (n : ℕ) → LeadsAlong t v false text (Ok n) → found_in (v n) ≡ found.Directory → unlinks t text (Refused EPERM) t nothing
     unlink_directory n leads is =
-        unlink_led (Refused EPERM) t nothing (leads_there v table unlinked n (Refused EPERM) t nothing (λ p o at object. unlink_no_directory n p o is object) r leads)
+        unlink_led (Refused EPERM) t nothing (along_there v table false text unlinked n (Refused EPERM) t nothing (λ p o here. unlink_no_directory n p o is here.here) leads)
 
-    module _ (d : ℕ) (x : Name) (n : ℕ) (finds : FindsEntry v r d x n) where
+    module _ (r : Resolution) (reaches : Reaches t false text r) (d : ℕ) (x : Name) (n : ℕ) (finds : FindsEntry v r d x n) where
       not_directory : (p : Path) (o : Object) (reply : Reply) (new : Tree) (need : Need) → is_directory (Some o) ≡ false → removes t p reply new need → unlinked p o reply new need
       not_directory p o reply new need not done =
           subst (λ (b : Bool). tested t ((b, EPERM) ∷ []) (removes t p) reply new need) (sym not) done
@@ -186,14 +191,14 @@ module _ (inodes : ℕ) (v : Volume) (table : ℕ → Option Description) (volum
       unlink_comes c (inl (directory, is)) =
           subst (ComesSwept (unlinks t text) inodes v table) (sym is)
           (unlink_led (Refused EPERM) t nothing
-          (there_comes d x n r finds unlinked (Refused EPERM) t nothing (λ o object. unlink_no_directory n (finds.path ++ x ∷ []) o directory object)))
+          (entry_comes d x n r finds text reaches unlinked (Refused EPERM) t nothing (λ o object. unlink_no_directory n (finds.path ++ x ∷ []) o directory object)))
       unlink_comes (Ok c) (inr (other, (says, applies))) =
           let new = tree_of (swept table (applied (remove_name d x) v)) table in
           subst (ComesSweptBy (unlinks t text) inodes v table) (sym says) (
             applies,
             (is_removed d x n r finds applies).still_mounted,
             unlink_led Done new (logs removes_name)
-                (there_comes d x n r finds unlinked Done new (logs removes_name) (λ o object.
+                (entry_comes d x n r finds text reaches unlinked Done new (logs removes_name) (λ o object.
                 not_directory (finds.path ++ x ∷ []) o Done new (logs removes_name) (object_other n (v n) o other object) (removed d x n r finds applies))),
           )
       unlink_comes (Err ENOENT) (inr (other, none)) = none_some (sym none ∙ finds.edge)
@@ -208,9 +213,6 @@ module _ (inodes : ℕ) (v : Volume) (table : ℕ → Option Description) (volum
   none_if (Some n) nothing_there = absurd (nothing_there refl)
 
   module _ (text : List ℕ) where
-    abbrev resolved : Resolution
-    resolved = resolve t false text
-
     abbrev tests : Tests
     tests = new_text_tests text ++ (is_root_text text, EBUSY) ∷ []
 
@@ -222,15 +224,15 @@ module _ (inodes : ℕ) (v : Volume) (table : ℕ → Option Description) (volum
     ]
 
     module _ (passed : first_refusal (new_text_tests text) ≡ None) (not_root : is_root_text text ≡ false) where
-      remove_led : (reply : Reply) (new : Tree) (need : Need) → leads_to t resolved taken_away reply new need → removes_directory t text reply new need
+      remove_led : (reply : Reply) (new : Tree) (need : Need) → goes_to t false text taken_away reply new need → removes_directory t text reply new need
       remove_led reply new need done =
-          tested_none t tests (leads_to t resolved taken_away) reply new need
+          tested_none t tests (goes_to t false text taken_away) reply new need
           (first_append (new_text_tests text) ((is_root_text text, EBUSY) ∷ []) passed ∙ ap (λ (b : Bool). first_refusal ((b, EBUSY) ∷ [])) not_root) done
 
-      pub remove_led_nowhere : (errno : Errno) → LeadsTo v resolved (Err errno) → removes_directory t text (Refused errno) t nothing
-      remove_led_nowhere errno is = remove_led (Refused errno) t nothing (leads_refused v table taken_away resolved errno is)
+      pub remove_led_nowhere : (errno : Errno) → LeadsAlong t v false text (Err errno) → removes_directory t text (Refused errno) t nothing
+      remove_led_nowhere errno is = remove_led (Refused errno) t nothing (along_refused v table false text taken_away errno is)
 
-      module _ (d : ℕ) (x : Name) (n : ℕ) (finds : FindsEntry v resolved d x n) where
+      module _ (r : Resolution) (reaches : Reaches t false text r) (d : ℕ) (x : Name) (n : ℕ) (finds : FindsEntry v r d x n) where
         abbrev at : Path
         at = finds.path ++ x ∷ []
 
@@ -242,7 +244,7 @@ module _ (inodes : ℕ) (v : Volume) (table : ℕ → Option Description) (volum
 
         -- the names in it
         child : (y : Name) → IsSome (t.objects (at ++ y ∷ [])) ↔ IsSome (entries v n y)
-        child y = child_some inodes v table volume at n (at_name d x n resolved finds) y
+        child y = child_some inodes v table volume at n (at_name d x n r finds) y
 
         empty_listing : IsEmpty v n → IsListing t at []
         unfolding IsStrictlySortedBy
@@ -270,25 +272,25 @@ module _ (inodes : ℕ) (v : Volume) (table : ℕ → Option Description) (volum
         pub remove_comes : (c : Result Changing Errno) → RemovesDirectory inodes v d x n c → ComesSwept (removes_directory t text) inodes v table c
         remove_comes c (inl (other, is)) =
             subst (ComesSwept (removes_directory t text) inodes v table) (sym is)
-            (remove_led (Refused ENOTDIR) t nothing (there_comes d x n resolved finds taken_away (Refused ENOTDIR) t nothing (λ o object. no_directory (v n) o other object)))
+            (remove_led (Refused ENOTDIR) t nothing (entry_comes d x n r finds text reaches taken_away (Refused ENOTDIR) t nothing (λ o object. no_directory (v n) o other object)))
         remove_comes (Ok c) (inr (is, (says, applies))) =
             let new = tree_of (swept table (applied (remove_name d x) v)) table in
             let same : applies.number ≡ n = same_number applies.number n (sym applies.there ∙ finds.edge) in
             let empty = subst (λ (k : ℕ). IsEmpty v k) same applies.empty in
             subst (ComesSweptBy (removes_directory t text) inodes v table) (sym says) (
               applies,
-              (is_removed d x n resolved finds applies).still_mounted,
+              (is_removed d x n r finds applies).still_mounted,
               remove_led Done new (logs removes_name)
-                  (there_comes d x n resolved finds taken_away Done new (logs removes_name) (λ o object.
+                  (entry_comes d x n r finds text reaches taken_away Done new (logs removes_name) (λ o object.
                   subst (λ (z : Object). taken_away at z Done new (logs removes_name)) (sym (object_is n (v n) o is object))
-                  ([], empty_listing empty, removed d x n resolved finds applies))),
+                  ([], empty_listing empty, removed d x n r finds applies))),
             )
         remove_comes (Err ENOENT) (inr (is, none)) = none_some (sym none ∙ finds.edge)
         remove_comes (Err ENOTEMPTY) (inr (directory, (m, there, not))) =
             let (count, counts, most) = volume.limits.children n in
-            let (names, are, many) = listing inodes v table volume mounted tree at n (at_name d x n resolved finds) count counts in
+            let (names, are, many) = listing inodes v table volume mounted tree at n (at_name d x n r finds) count counts in
             let cannot = subst (λ (k : ℕ). IsEmpty v k → ⊥) (some_same (sym there ∙ finds.edge)) not in
             remove_led (Refused ENOTEMPTY) t nothing
-            (there_comes d x n resolved finds taken_away (Refused ENOTEMPTY) t nothing (λ o object.
+            (entry_comes d x n r finds text reaches taken_away (Refused ENOTEMPTY) t nothing (λ o object.
             subst (λ (z : Object). taken_away at z (Refused ENOTEMPTY) t nothing) (sym (object_is n (v n) o directory object)) (names, are, filled names are cannot)))
         remove_comes (Err _) (inr (is, told)) = absurd told

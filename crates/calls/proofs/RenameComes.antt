@@ -1,32 +1,35 @@
 -- What the definitions say of moving a name over two paths that lead to names.
-use Rattle.std.proofs.Common.{◌≡◌, ◌≢◌, inl, inr, ◌⊎◌, ℕ, List, [], ◌∷◌, ◌++◌, Bool, false, true, ◌||◌, Option, Some, None, IsSome, is_some, Result, Ok, Err, refl, sym, ap, subst, ◌∙◌, arith, length-append}
-use Rattle.std.proofs.lemmas.Bool.{false≢true}
+use Rattle.std.proofs.Common.{◌≡◌, ◌≢◌, ◌↔◌, inl, inr, ◌⊎◌, IsTrue, ℕ, List, [], ◌∷◌, ◌++◌, Bool, false, true, ◌||◌, Option, Some, None, IsSome, is_some, Result, Ok, Err, refl, sym, ap, subst, ◌∙◌, arith, length-append}
+use Rattle.std.specs.List.{Contains}
+use Rattle.std.proofs.lemmas.Bool.{cond-false, cond-true, false≢true}
 use Rattle.model.specs.Changing.{move_tests, moves, renames}
-use Rattle.model.specs.Finding.{at_entry, at_missing, at_refusal, here, IsPlaceOf, Trails}
+use Rattle.model.specs.Finding.{at_entry, at_missing, at_refusal, here, IsPlaceAt, IsPlaceOf, Trails}
 use Rattle.model.specs.Laws.{BelowIsByPaths, RecordsChangeTrees, TrailsTellBelow}
-use Rattle.model.specs.Outcomes.{Outcome, leads, leads_to}
-use Rattle.model.specs.Paths.{Name, Path, IsName, Tests, first_refusal, is_dot, is_dot_dot, is_root_text, last_part, new_text_tests}
+use Rattle.model.specs.Outcomes.{Outcome, goes_along, goes_to, leads, tested}
+use Rattle.model.specs.Paths.{Name, Path, IsName, Tests, first_refusal, is_root_text, new_text_tests}
 use Rattle.model.specs.Records.{CanRename, CanReplace, Change, IsBelow, applied, rename}
-use Rattle.model.specs.Resolution.{Resolution, named, missing, refused, resolve}
+use Rattle.model.specs.Resolution.{Resolution, named, missing, refused}
 use Rattle.model.specs.Room.{Need, adds_name, logs, nothing}
 use Rattle.model.specs.Trees.{Tree, Object, Description, IsTree}
 use Rattle.model.specs.Volumes.{Volume, enter, entries, is_directory_node, number_at, object_at, object_of, swept, tree_of, IsMounted, IsVolume}
 use Rattle.model.specs.declared.errno.Errno.{Errno}
-use Rattle.model.specs.declared.errno.Errno.TheVariants.{EBUSY, EINVAL, ENAMETOOLONG, ENOENT}
+use Rattle.model.specs.declared.errno.Errno.TheVariants.{EBUSY, EEXIST, ENAMETOOLONG, ENOENT}
 use Rattle.model.specs.declared.reply.Reply.{Reply}
 use Rattle.model.specs.declared.reply.Reply.TheVariants.{Done, Refused}
-use Rattle.model.proofs.LeadLemmas.{AnswersWell, resolves_well}
+use Rattle.model.proofs.LeadLemmas.{AnswersWell}
 use Rattle.model.proofs.VolumeLemmas.{directory_no_file, enters_directory}
 use Rattle.model.proofs.WalkLemmas.{number_at-push}
 use Rattle.calls.specs.Changing.{ComesOrStays, ComesSweptBy}
-use Rattle.calls.specs.Leading.{LeadsTo}
+use Rattle.calls.specs.Leading.{LeadsAlong, LeadsTo}
 use Rattle.calls.specs.Rename.{MovesAlong, MovesName, PassTests}
 use Rattle.calls.specs.declared.changed.Changing.{Changing}
+use Rattle.paths.specs.Starts.{Reaches}
 use Rattle.records.specs.Obstacles.{BarsMove}
 use Rattle.calls.proofs.GapLaws.{finds_gap}
-use Rattle.calls.proofs.LeadLaws.{leads_refused, trail_end}
-use Rattle.calls.proofs.MakeLaws.{tested_none, tested_some}
-use Rattle.calls.proofs.RemoveLaws.{FindsEntry, finds_entry, there_comes}
+use Rattle.calls.proofs.LeadLaws.{along_reached, along_refused, trail_end}
+use Rattle.calls.proofs.TestedLaws.{tested_none, tested_some}
+use Rattle.calls.proofs.PlaceLaws.{refused_at, there_at}
+use Rattle.calls.proofs.RemoveLaws.{FindsEntry, entry_comes, finds_entry}
 use Rattle.calls.proofs.RenameEnds.{move_barred}
 use Rattle.calls.proofs.RenameTests.{above_directory, below_trail}
 use Rattle.calls.proofs.RenameLaws.{move_done, move_stays, passes_none, passes_some, target_takes}
@@ -39,19 +42,19 @@ use Rattle.model.proofs.TestLaws.{first_append, first_in_front}
 abbrev root_test : List ℕ → List ℕ → Tests
 root_test old path = (is_root_text old || is_root_text path, EBUSY) ∷ []
 
-module _ (v : Volume) (table : ℕ → Option Description) (old path : List ℕ) where
+module _ (v : Volume) (table : ℕ → Option Description) (only_new : Bool) (old path : List ℕ) where
   abbrev of_volume : Tree
   of_volume = tree_of v table
 
   abbrev tests : Tests
   tests = new_text_tests old ++ new_text_tests path ++ root_test old path
 
-  pub old_text_refused : (errno : Errno) → first_refusal (new_text_tests old) ≡ Some errno → renames of_volume old path (Refused errno) of_volume nothing
+  pub old_text_refused : (errno : Errno) → first_refusal (new_text_tests old) ≡ Some errno → renames of_volume only_new old path (Refused errno) of_volume nothing
   old_text_refused errno is =
       tested_some of_volume tests _ errno
       (first_in_front (new_text_tests old ++ new_text_tests path) (root_test old path) errno (first_in_front (new_text_tests old) (new_text_tests path) errno is))
 
-  pub new_text_refused : (errno : Errno) → first_refusal (new_text_tests old) ≡ None → first_refusal (new_text_tests path) ≡ Some errno → renames of_volume old path (Refused errno) of_volume nothing
+  pub new_text_refused : (errno : Errno) → first_refusal (new_text_tests old) ≡ None → first_refusal (new_text_tests path) ≡ Some errno → renames of_volume only_new old path (Refused errno) of_volume nothing
   new_text_refused errno passed is =
       tested_some of_volume tests _ errno
       (first_in_front (new_text_tests old ++ new_text_tests path) (root_test old path) errno (first_append (new_text_tests old) (new_text_tests path) passed ∙ is))
@@ -61,7 +64,7 @@ module _ (v : Volume) (table : ℕ → Option Description) (old path : List ℕ)
       first_append (new_text_tests old ++ new_text_tests path) (root_test old path) (first_append (new_text_tests old) (new_text_tests path) old_passed ∙ passed)
 
   pub root_refused : first_refusal (new_text_tests old) ≡ None → first_refusal (new_text_tests path) ≡ None → (is_root_text old || is_root_text path) ≡ true
-      → renames of_volume old path (Refused EBUSY) of_volume nothing
+      → renames of_volume only_new old path (Refused EBUSY) of_volume nothing
   root_refused old_passed passed is =
       tested_some of_volume tests _ EBUSY (at_root_test old_passed passed ∙ ap (λ (b : Bool). first_refusal ((b, EBUSY) ∷ [])) is)
 
@@ -75,142 +78,162 @@ module _ (inodes : ℕ) (v : Volume) (table : ℕ → Option Description) (volum
 
   -- ---- where a path leads to a name that something has, or nothing
 
-  pub record EndsAt (r : Resolution) (k : ℕ) (y : Name) : Type 0 where
+  -- where something has it, that doesn't refuse the move
+  pub record EndsAt (only_new : Bool) (r : Resolution) (k : ℕ) (y : Name) : Type 0 where
     pub path : Path
-    pub is : (r ≡ missing path y) ⊎ ((r ≡ named (path ++ y ∷ [])) × IsSome (entries v k y))
+    pub is : (r ≡ missing path y) ⊎ ((r ≡ named (path ++ y ∷ [])) × IsSome (entries v k y) × (only_new ≡ false))
     pub at : number_at (entries v) path ≡ Some k
     pub good : IsName y
     pub directory : is_directory_node (v k) ≡ true
 
-  pub ends_entry : (trail : List ℕ) (y : Name) (m : ℕ) (r : Resolution) → IsPlaceOf v (at_entry trail y m) r → EndsAt r (here trail) y
-  ends_entry trail y m r place =
+  pub ends_entry : (only_new : Bool) (trail : List ℕ) (y : Name) (m : ℕ) (r : Resolution) → only_new ≡ false → IsPlaceAt v (at_entry trail y m) r → EndsAt only_new r (here trail) y
+  ends_entry only_new trail y m r any place =
       let finds = finds_entry v trail y m r place in
       let some = ap is_some finds.edge in
       record {
         path = finds.path;
-        is = inr (finds.is, some);
+        is = inr (finds.is, some, any);
         at = finds.at;
         good = volume.graph.naming.names (here trail) y some;
         directory = enters_directory (v (here trail)) y m finds.edge;
       }
 
-  pub ends_gap : (trail : List ℕ) (y : Name) (r : Resolution) → AnswersWell t r → IsPlaceOf v (at_missing trail y) r → EndsAt r (here trail) y
-  ends_gap trail y r well place =
+  pub ends_gap : (only_new : Bool) (trail : List ℕ) (y : Name) (r : Resolution) → AnswersWell t r → IsPlaceAt v (at_missing trail y) r → EndsAt only_new r (here trail) y
+  ends_gap only_new trail y r well place =
       let gap = finds_gap inodes v table volume mounted tree trail y r well place in
       record { path = gap.path; is = inl gap.is; at = gap.at; good = gap.good; directory = gap.parent }
 
-  module _ (r : Resolution) (k : ℕ) (y : Name) (ends : EndsAt r k y) (there : Path → Outcome) (reply : Reply) (new : Tree) (need : Need) where
+  module _ (only_new : Bool) (r : Resolution) (k : ℕ) (y : Name) (ends : EndsAt only_new r k y) (there : Path → Outcome) (reply : Reply) (new : Tree) (need : Need) where
     abbrev q : Path
     q = ends.path ++ y ∷ []
 
     at_q : t.objects q ≡ object_at v (entries v k y)
     at_q = ap (object_at v) (number_at-push (entries v) ends.path y ∙ ap (λ (o : Option ℕ). enter (entries v) o y) ends.at)
 
+    abbrev replaces : Path → Object → Outcome
+    replaces z o = tested t ((only_new, EEXIST) ∷ []) (there z)
+
     abbrev goes : Resolution → Type 0
-    goes s = leads t s (λ z o. there z) (λ z name. there (z ++ name ∷ [])) reply new need
+    goes s = leads t s replaces (λ z name. there (z ++ name ∷ [])) reply new need
 
     abbrev stands : Option Object → Type 0
-    stands a = (elim a as (λ _. Outcome) [ Some o ↦ there q | None ↦ λ _ _ _. ⊥ ]) reply new need
+    stands a = (elim a as (λ _. Outcome) [ Some o ↦ replaces q o | None ↦ λ _ _ _. ⊥ ]) reply new need
 
     goes_on : there q reply new need → goes r
     goes_on done =
         elim ends.is [
           | inl gone ↦ subst goes (sym gone) done
-          | inr (is, some) ↦ subst goes (sym is) (subst stands (sym at_q) (by (entries v k y) refl some))
+          | inr (is, some, any) ↦ subst goes (sym is) (subst stands (sym at_q) (by any (entries v k y) refl some))
         ]
       where
-        by_object : (a : Option Object) → IsSome a → stands a
-        by_object None some = absurd (false≢true some)
-        by_object (Some o) some = done
+        by_object : only_new ≡ false → (a : Option Object) → IsSome a → stands a
+        by_object any None some = absurd (false≢true some)
+        by_object any (Some o) some = tested_none t ((only_new, EEXIST) ∷ []) (there q) reply new need (cond-false only_new (Some EEXIST) None any) done
 
-        by : (a : Option ℕ) → entries v k y ≡ a → IsSome a → stands (object_at v a)
-        by None is some = absurd (false≢true some)
-        by (Some m) is some = by_object (object_of m (v m)) (node_object m (v m) (volume.graph.naming.used k m y is))
+        by : only_new ≡ false → (a : Option ℕ) → entries v k y ≡ a → IsSome a → stands (object_at v a)
+        by any None is some = absurd (false≢true some)
+        by any (Some m) is some = by_object any (object_of m (v m)) (node_object m (v m) (volume.graph.naming.used k m y is))
 
   -- ---- the trail of the new path
 
   module _ (by_paths : BelowIsByPaths) (by_trails : TrailsTellBelow) (r : Resolution) (d : ℕ) (x : Name) (n : ℕ) (finds : FindsEntry v r d x n) where
-    along : (w : Path) (trail : List ℕ) (y : Name) → Trails (entries v) w trail → is_directory_node (v (here trail)) ≡ true → IsName y → entries v (here trail) y ≢ Some n → MovesAlong v n trail y
-    along w trail y trails directory name other = record {
-      name = name;
-      other = other;
-      tells = (
-        λ on. below_trail v w trail n trails on,
-        λ under.
-            let p = finds.path ++ x ∷ [] in
-            let is = above_directory v n (here trail) under.0 under.1 directory in
-            let at = number_at-push (entries v) finds.path x ∙ ap (λ (o : Option ℕ). enter (entries v) o x) finds.at ∙ finds.edge in
-            let on = by_trails inodes v p w trail n volume trails at (directory_no_file (v n) is) (omega (arith, length-append finds.path (x ∷ []))) in
-            on.1 ((by_paths inodes v p w n (here trail) volume at (trail_end v w trail trails) (directory_no_file (v (here trail)) directory)).0 under),
-      );
-    }
+    trail_tells : (w : Path) (trail : List ℕ) → Trails (entries v) w trail → is_directory_node (v (here trail)) ≡ true → Contains trail n ↔ IsBelow (entries v) n (here trail)
+    trail_tells w trail trails directory = (
+      λ on. below_trail v w trail n trails on,
+      λ under.
+          let p = finds.path ++ x ∷ [] in
+          let is = above_directory v n (here trail) under.0 under.1 directory in
+          let at = number_at-push (entries v) finds.path x ∙ ap (λ (o : Option ℕ). enter (entries v) o x) finds.at ∙ finds.edge in
+          let on = by_trails inodes v p w trail n volume trails at (directory_no_file (v n) is) (omega (arith, length-append finds.path (x ∷ []))) in
+          on.1 ((by_paths inodes v p w n (here trail) volume at (trail_end v w trail trails) (directory_no_file (v (here trail)) directory)).0 under),
+    )
 
-    pub along_entry : (trail : List ℕ) (y : Name) (m : ℕ) (s : Resolution) → m ≢ n → IsPlaceOf v (at_entry trail y m) s → MovesAlong v n trail y
-    along_entry trail y m (named q) apart (w, trails, same, to) =
-        along w trail y trails (enters_directory (v (here trail)) y m to) (volume.graph.naming.names (here trail) y (ap is_some to)) (λ is. apart (some_same (sym to ∙ is)))
-    along_entry trail y m (missing w z) apart is = absurd is
-    along_entry trail y m (refused errno) apart is = absurd is
+    entry_tells : (trail : List ℕ) (y : Name) (m : ℕ) (s : Resolution) → is_directory_node (v (here trail)) ≡ true → IsPlaceOf v (at_entry trail y m) s → Contains trail n ↔ IsBelow (entries v) n (here trail)
+    entry_tells trail y m (named q) directory (w, trails, same, to) = trail_tells w trail trails directory
+    entry_tells trail y m (missing w z) directory is = absurd is
+    entry_tells trail y m (refused errno) directory is = absurd is
 
-    pub along_gap : (trail : List ℕ) (y : Name) (s : Resolution) → is_directory_node (v (here trail)) ≡ true → IsName y → IsPlaceOf v (at_missing trail y) s → MovesAlong v n trail y
-    along_gap trail y (named q) directory name is = absurd is
-    along_gap trail y (missing w z) directory name (trails, same, none) = along w trail y trails directory name (λ is. none_some (sym none ∙ is))
-    along_gap trail y (refused errno) directory name is = absurd is
+    gap_tells : (trail : List ℕ) (y : Name) (s : Resolution) → is_directory_node (v (here trail)) ≡ true → IsPlaceOf v (at_missing trail y) s → Contains trail n ↔ IsBelow (entries v) n (here trail)
+    gap_tells trail y (named q) directory is = absurd is
+    gap_tells trail y (missing w z) directory (trails, same, none) = trail_tells w trail trails directory
+    gap_tells trail y (refused errno) directory is = absurd is
+
+    -- what leads to the new name from the root
+    module _ (rooted : Bool) (s : Resolution) (trail : List ℕ) (y : Name) where
+      pub along_entry : (m : ℕ) → entries v (here trail) y ≡ Some m → m ≢ n → (IsTrue rooted → IsPlaceOf v (at_entry trail y m) s) → MovesAlong v n rooted trail y
+      along_entry m to apart place = record {
+        name = volume.graph.naming.names (here trail) y (ap is_some to);
+        other = λ is. apart (some_same (sym to ∙ is));
+        tells = λ is. entry_tells trail y m s (enters_directory (v (here trail)) y m to) (place is);
+      }
+
+      pub along_gap : is_directory_node (v (here trail)) ≡ true → IsName y → entries v (here trail) y ≡ None → (IsTrue rooted → IsPlaceOf v (at_missing trail y) s) → MovesAlong v n rooted trail y
+      along_gap directory name none place = record {
+        name = name;
+        other = λ is. none_some (sym none ∙ is);
+        tells = λ is. gap_tells trail y s directory (place is);
+      }
 
   -- ---- the call
 
-  module _ (old path : List ℕ) (passed : PassTests old path) where
-    abbrev from : Resolution
-    from = resolve t false old
+  module _ (only_new : Bool) (old path : List ℕ) (passed : PassTests old path) where
+    abbrev renamed : Outcome
+    renamed = renames t only_new old path
 
-    abbrev to : Resolution
-    to = resolve t false path
+    abbrev onto : Path → Object → Path → Object → Outcome
+    onto p o q r = tested t ((only_new, EEXIST) ∷ []) (moves t p o q)
+
+    abbrev into_gap : Path → Object → Path → Name → Outcome
+    into_gap p o q name = moves t p o (q ++ name ∷ [])
 
     abbrev there : Path → Object → Outcome
-    there p o = leads t to (λ q r. moves t p o q) (λ q name. moves t p o (q ++ name ∷ []))
+    there p o = goes_along t false path (onto p o) (into_gap p o)
 
-    pub target_well : AnswersWell t to
-    target_well = resolves_well inodes t tree ((is_dot (last_part path) || is_dot_dot (last_part path), EINVAL) ∷ []) false path passed.passed
-
-    led : (reply : Reply) (new : Tree) (need : Need) → leads_to t from there reply new need → renames t old path reply new need
+    led : (reply : Reply) (new : Tree) (need : Need) → goes_to t false old there reply new need → renamed reply new need
     led reply new need done =
-        tested_none t (tests v table old path) (leads_to t from there) reply new need
-        (at_root_test v table old path passed.old_passed passed.passed
+        tested_none t (tests v table only_new old path) (goes_to t false old there) reply new need
+        (at_root_test v table only_new old path passed.old_passed passed.passed
         ∙ ap (λ (b : Bool). first_refusal ((b, EBUSY) ∷ [])) (neither_root (is_root_text old) (is_root_text path) passed.old_below passed.below)) done
 
-    pub rename_nowhere : (errno : Errno) → LeadsTo v from (Err errno) → renames t old path (Refused errno) t nothing
-    rename_nowhere errno is = led (Refused errno) t nothing (leads_refused v table there from errno is)
+    pub rename_nowhere : (errno : Errno) → LeadsAlong t v false old (Err errno) → renamed (Refused errno) t nothing
+    rename_nowhere errno is = led (Refused errno) t nothing (along_refused v table false old there errno is)
 
-    module _ (law : RecordsChangeTrees) (d : ℕ) (x : Name) (n : ℕ) (finds : FindsEntry v from d x n) where
+    -- where both texts lead
+    module _ (law : RecordsChangeTrees) (from : Resolution) (begins : Reaches t false old from) (to : Resolution) (reaches : Reaches t false path to) (d : ℕ) (x : Name) (n : ℕ) (finds : FindsEntry v from d x n) where
       abbrev p : Path
       p = finds.path ++ x ∷ []
 
-      found : (reply : Reply) (new : Tree) (need : Need) → ((o : Object) → object_of n (v n) ≡ Some o → there p o reply new need) → renames t old path reply new need
+      found : (reply : Reply) (new : Tree) (need : Need) → ((o : Object) → object_of n (v n) ≡ Some o → leads t to (onto p o) (into_gap p o) reply new need) → renamed reply new need
       found reply new need comes =
-          led reply new need (there_comes inodes v table volume mounted tree law d x n from finds there reply new need comes)
+          led reply new need
+          (entry_comes inodes v table volume mounted tree law d x n from finds old begins there reply new need
+          (λ o object. along_reached t false path (onto p o) (into_gap p o) reply new need to reaches (comes o object)))
 
-      pub target_refused : (errno : Errno) → IsPlaceOf v (at_refusal errno) to → renames t old path (Refused errno) t nothing
-      target_refused errno place = found (Refused errno) t nothing (λ o object. by o to place)
-        where
-          by : (o : Object) (r : Resolution) → IsPlaceOf v (at_refusal errno) r → leads t r (λ q r. moves t p o q) (λ q name. moves t p o (q ++ name ∷ [])) (Refused errno) t nothing
-          by o (named w) is = absurd is
-          by o (missing w name) is = absurd is
-          by o (refused other) is = (ap Refused (sym is), refl, refl)
+      pub target_refused : (errno : Errno) → IsPlaceAt v (at_refusal errno) to → renamed (Refused errno) t nothing
+      target_refused errno place = found (Refused errno) t nothing (λ o object. refused_at v table (onto p o) (into_gap p o) errno to place)
 
-      module _ (below : BelowIsByPaths) (k : ℕ) (y : Name) (ends : EndsAt to k y) where
-        at_end : (reply : Reply) (new : Tree) (need : Need) → ((o : Object) → object_of n (v n) ≡ Some o → moves t p o (ends.path ++ y ∷ []) reply new need) → renames t old path reply new need
-        at_end reply new need comes = found reply new need (λ o object. goes_on to k y ends (moves t p o) reply new need (comes o object))
+      -- something has the new name, and only a new one is wanted
+      pub rename_exists : only_new ≡ true → (m : ℕ) → LeadsTo v to (Ok m) → renamed (Refused EEXIST) t nothing
+      rename_exists one m leads_to =
+          found (Refused EEXIST) t nothing (λ o object.
+          there_at v table (onto p o) (into_gap p o) m (Refused EEXIST) t nothing
+          (λ q r is. tested_some t ((only_new, EEXIST) ∷ []) (moves t p o q) EEXIST (cond-true only_new (Some EEXIST) None one)) to leads_to)
+
+      module _ (below : BelowIsByPaths) (k : ℕ) (y : Name) (ends : EndsAt only_new to k y) where
+        at_end : (reply : Reply) (new : Tree) (need : Need) → ((o : Object) → object_of n (v n) ≡ Some o → moves t p o (ends.path ++ y ∷ []) reply new need) → renamed reply new need
+        at_end reply new need comes = found reply new need (λ o object. goes_on only_new to k y ends (moves t p o) reply new need (comes o object))
 
         abbrev change : Change
         change = rename d x k y
 
         -- the object has the name already
-        pub rename_stays : entries v k y ≡ Some n → renames t old path Done t nothing
+        pub rename_stays : entries v k y ≡ Some n → renamed Done t nothing
         rename_stays same =
             at_end Done t nothing (λ o object.
             move_stays inodes v table volume mounted tree finds.path d x n finds.at finds.edge ends.path k y ends.at o object same)
 
         module _ (other : entries v k y ≢ Some n) where
-          obstructed : (errno : Errno) → BarsMove v d n k y (entries v k y) errno → renames t old path (Refused errno) t nothing
+          obstructed : (errno : Errno) → BarsMove v d n k y (entries v k y) errno → renamed (Refused errno) t nothing
           obstructed errno bars =
               at_end (Refused errno) t nothing (λ o object.
               move_barred inodes v table volume mounted tree finds.path d x n finds.at finds.edge ends.path k y ends.at o object below ends.directory other ends.good errno bars)
@@ -232,11 +255,11 @@ module _ (inodes : ℕ) (v : Volume) (table : ℕ → Option Description) (volum
                 by (Some m) is may =
                     passes_some inodes v table volume mounted tree finds.path d x n finds.at finds.edge ends.path k y ends.at o object below ends.directory other outside m is may.1
 
-          pub rename_comes : (c : Result (Option Changing) Errno) → MovesName inodes v d x k y c → ComesOrStays (renames t old path) inodes v table c
+          pub rename_comes : (c : Result (Option Changing) Errno) → MovesName inodes v d x k y c → ComesOrStays renamed inodes v table c
           rename_comes (Ok None) told = absurd told
           rename_comes (Ok (Some c)) (says, applies) =
               let after = tree_of (swept table (applied change v)) table in
-              subst (ComesSweptBy (renames t old path) inodes v table) (sym says) (
+              subst (ComesSweptBy renamed inodes v table) (sym says) (
                 applies,
                 (law inodes v table change volume mounted applies tt).0,
                 at_end Done after (logs adds_name) (λ o object.

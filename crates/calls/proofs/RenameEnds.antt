@@ -20,7 +20,7 @@ use Rattle.model.proofs.WalkLemmas.{same_path}
 use Rattle.records.specs.Obstacles.{BarsMove, BarsReplacing, BarsTarget}
 use Rattle.records.proofs.FileLaws.{same_some}
 use Rattle.calls.proofs.GapLaws.{FindsGap, place_full}
-use Rattle.calls.proofs.MakeLaws.{child_some, listing}
+use Rattle.calls.proofs.DirectoryLaws.{child_some, listing}
 use Rattle.calls.proofs.RenameLaws.{at_q, passes_none, passes_some, past_tests, refused_below, refused_directory, refused_other, stands_q}
 
 none_if : (o : Option ℕ) → (IsSome o → ⊥) → o ≡ None

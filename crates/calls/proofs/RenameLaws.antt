@@ -27,7 +27,8 @@ use Rattle.model.proofs.LeadLemmas.{parent-push}
 use Rattle.model.proofs.RenameLemmas.{rename_done}
 use Rattle.model.proofs.VolumeLemmas.{directory_no_file, enters_directory}
 use Rattle.model.proofs.WalkLemmas.{behind-append, behind-is, number_at-push, path_eq-same, same_path}
-use Rattle.calls.proofs.MakeLaws.{child_some, listing, tested_none, tested_some}
+use Rattle.calls.proofs.DirectoryLaws.{child_some, listing}
+use Rattle.calls.proofs.TestedLaws.{tested_none, tested_some}
 use Rattle.calls.proofs.RenameTests.{above_directory}
 use Rattle.records.proofs.FileLaws.{same_some}
 use Rattle.model.proofs.ObjectLaws.{directory_object, directory_of, node_object, object_number}

@@ -1,7 +1,6 @@
 -- What lies below an object that moves, as the trail of the new path tells.
-use Rattle.std.proofs.Common.{◌≡◌, ◌↔◌, ℕ, ◌+◌, ◌-◌, List, [], ◌∷◌, Bool, true, false, IsTrue, Option, Some, None, length, take, drop, get_or, fold, refl, sym, ap, subst, ◌∙◌, length-take, arith}
+use Rattle.std.proofs.Common.{◌≡◌, ℕ, ◌+◌, ◌-◌, List, [], ◌∷◌, IsTrue, Option, Some, None, length, take, drop, get_or, fold, refl, sym, ap, subst, ◌∙◌, length-take, arith}
 use Rattle.std.specs.List.{Contains}
-use Rattle.std.proofs.lemmas.Bool.{false≢true}
 use Rattle.std.proofs.lemmas.Grind.{get_or_default_zero}
 use Rattle.std.proofs.lemmas.List.{get_or-take, take-append-drop}
 use Rattle.std.proofs.lemmas.List.Sums.{fold-append}
@@ -13,7 +12,6 @@ use Rattle.model.proofs.OptionLaws.{none_some, some_same}
 use Rattle.model.proofs.VolumeLemmas.{enters_directory}
 use Rattle.model.specs.declared.limits.TheConstants.{ROOT_NUMBER}
 use Rattle.paths.specs.Numbers.{AreInodeNumbers, IsInodeNumber}
-use Rattle.calls.specs.Rename.{MovesAlong}
 use Rattle.calls.proofs.LeadLaws.{trail_end}
 
 -- the directory at the end of a trail has a number, where anything has
@@ -51,11 +49,3 @@ below_trail v w trail n trails (i, within, is) =
           ∙ ap (number_at e) (take-append-drop (i + 1) w)
           ∙ trail_end v w trail trails,
     )
-
--- it is told whether the object lies on the trail
-module _ (v : Volume) (n : ℕ) (trail : List ℕ) (y : Name) (moves : MovesAlong v n trail y) (below : Bool) (told : IsTrue below ↔ Contains trail n) where
-  pub lies_below : below ≡ true → IsBelow (entries v) n (here trail)
-  lies_below one = moves.tells.0 (told.0 one)
-
-  pub lies_outside : below ≡ false → IsBelow (entries v) n (here trail) → ⊥
-  lies_outside never is_below = false≢true (sym never ∙ told.1 (moves.tells.1 is_below))

@@ -1,9 +1,8 @@
 -- Calls by a path that only look, step by step.
-use Rattle.std.proofs.Common.{◌≡◌, ℕ, Bool, List, Result, Ok, Err, IsTrue, refl}
+use Rattle.std.proofs.Common.{◌≡◌, ℕ, Bool, Result, Ok, Err, IsTrue, refl}
 use Rattle.std.specs.Result.{IsErrAnd}
 use Rattle.std.proofs.lemmas.Result.{IfOk-weaker}
 use Rattle.model.specs.Outcomes.{Outcome}
-use Rattle.model.specs.Resolution.{Resolution, resolve}
 use Rattle.model.specs.Room.{nothing}
 use Rattle.model.specs.Trees.{Tree}
 use Rattle.model.specs.Volumes.{Volume, tree_of}
@@ -86,14 +85,14 @@ module _ {B T : Type 0} {G : Ghosts B} {a b : B} {s t : InodeFile} {outcome : Tr
   })
 
   -- nothing stands where a path leads: a block isn't read, or this is refused
-  pub passes : {follow : Bool} {IsText : List ℕ → Type 0} {Q : List ℕ → Volume → Resolution → Result ℕ Errno → Type 0} (f : Failure) (q : Result T Failure)
-      → IsErrAnd q (λ g. g ≡ f) → TellsWhere G a b s t follow IsText Q (Err f) → (text : List ℕ) → IsText text
-      → OnTrees G a s (λ v table. (errno : Errno) → Q text v (resolve (tree_of v table) follow text) (Err errno)
+  pub passes : {follow : Bool} {Q : Tree → Volume → Result ℕ Errno → Type 0} (f : Failure) (q : Result T Failure)
+      → IsErrAnd q (λ g. g ≡ f) → TellsWhere G a b s t follow Q (Err f)
+      → OnTrees G a s (λ v table. (errno : Errno) → Q (tree_of v table) v (Err errno)
       → outcome (tree_of v table) (reply (Err errno)) (tree_of v table) nothing) → Answers G a b s t outcome reply q
-  passes (Refused errno) q is led text same answers =
+  passes (Refused errno) q is led answers =
       carried (Answers G a b s t outcome reply) q is
-      (refuses led.looks led.own (λ disk settled v table stands volume. answers disk settled v table stands volume errno (led.leads disk settled v table text stands volume same)))
-  passes (Read e) q is led text same answers = stops q is led.looks led.damaged
+      (refuses led.looks led.own (λ disk settled v table stands volume. answers disk settled v table stands volume errno (led.leads disk settled v table stands volume)))
+  passes (Read e) q is led answers = stops q is led.looks led.damaged
 
 module _ {B T : Type 0} {G : Ghosts B} {a b c : B} {s t u : InodeFile} {outcome : Tree → Outcome} {reply : Result T Errno → Reply} where
   -- a step behind a look has failed

@@ -19,7 +19,6 @@ use Rattle.model.specs.Laws.{VolumesTellLinks}
 use Rattle.model.specs.Outcomes.{Outcome, answers, refuses}
 use Rattle.model.specs.Paths.{Path, text_tests}
 use Rattle.model.specs.Reading.{stats, reads_link, tells_stat}
-use Rattle.model.specs.Resolution.{resolve}
 use Rattle.model.specs.Room.{nothing}
 use Rattle.model.specs.Trees.{Tree, Object, Description}
 use Rattle.model.specs.Trees as trees
@@ -80,17 +79,17 @@ module _ (v : Volume) (table : ℕ → Option Description) where
         (object_by n v (link_node attributes text) (trees.symlink n text) x is refl object)
         (1, refl, (refl, refl, refl))
 
-    pub stat_answers : (follow : Bool) (text : List ℕ) (r : Result Stat Errno) → IsLed (text_tests text) v (resolve t follow text) (Ok n) → TellsStat v n r
+    pub stat_answers : (follow : Bool) (text : List ℕ) (r : Result Stat Errno) → IsLed (text_tests text) t v follow text (Ok n) → TellsStat v n r
         → stats t follow text (stat_reply r) t nothing
     stat_answers follow text (Ok stat) led (o, is, same) =
-        led_there v table (λ p o. tells_stat t o) n (replies.Stat stat) t nothing
-        (λ p x at object. subst (λ (s : Stat). tells_stat t x (replies.Stat s) t nothing) (sym same) (told o x is object))
-        (text_tests text) (resolve t follow text) led
-    stat_answers follow text (Err errno) led none = nothing_there (v n) (led_some v (resolve t follow text) n led.1) none
+        led_there v table follow text (λ p o. tells_stat t o) n (replies.Stat stat) t nothing
+        (λ p x stands. subst (λ (s : Stat). tells_stat t x (replies.Stat s) t nothing) (sym same) (told o x is stands.here))
+        (text_tests text) led
+    stat_answers follow text (Err errno) led none = nothing_there (v n) (led_some t v follow text n led.1) none
 
-  pub stat_refused : (follow : Bool) (text : List ℕ) (errno : Errno) → IsLed (text_tests text) v (resolve t follow text) (Err errno)
+  pub stat_refused : (follow : Bool) (text : List ℕ) (errno : Errno) → IsLed (text_tests text) t v follow text (Err errno)
       → stats t follow text (replies.Refused errno) t nothing
-  stat_refused follow text errno led = led_refused v table (λ p o. tells_stat t o) (text_tests text) (resolve t follow text) errno led
+  stat_refused follow text errno led = led_refused v table follow text (λ p o. tells_stat t o) (text_tests text) errno led
 
   -- ---- links
 
@@ -107,20 +106,20 @@ module _ (v : Volume) (table : ℕ → Option Description) where
   no_link n (Some (file_node attributes links bytes)) p x other is = subst (λ (y : Object). there p y (replies.Refused EINVAL) t nothing) (some_same is) (refl, refl, refl)
   no_link n (Some (link_node attributes text)) p x other is = absurd (other refl)
 
-  pub link_answers : (text : List ℕ) (n : ℕ) (r : Result (List ℕ) Errno) → IsLed (text_tests text) v (resolve t false text) (Ok n) → TellsText v n r
+  pub link_answers : (text : List ℕ) (n : ℕ) (r : Result (List ℕ) Errno) → IsLed (text_tests text) t v false text (Ok n) → TellsText v n r
       → reads_link t text (text_reply r) t nothing
   link_answers text n (Ok told) led (attributes, is) =
-      led_there v table there n (replies.Text told) t nothing
-      (λ p x at object. subst (λ (y : Object). there p y (replies.Text told) t nothing) (object_by n v (link_node attributes told) (trees.symlink n told) x is refl object) (refl, refl, refl))
-      (text_tests text) (resolve t false text) led
+      led_there v table false text there n (replies.Text told) t nothing
+      (λ p x stands. subst (λ (y : Object). there p y (replies.Text told) t nothing) (object_by n v (link_node attributes told) (trees.symlink n told) x is refl stands.here) (refl, refl, refl))
+      (text_tests text) led
   link_answers text n (Err errno) led (other, is) =
-      led_there v table there n (replies.Refused errno) t nothing
-      (λ p x at object. subst (λ (e : Errno). there p x (replies.Refused e) t nothing) (sym is) (no_link n (v n) p x other object))
-      (text_tests text) (resolve t false text) led
+      led_there v table false text there n (replies.Refused errno) t nothing
+      (λ p x stands. subst (λ (e : Errno). there p x (replies.Refused e) t nothing) (sym is) (no_link n (v n) p x other stands.here))
+      (text_tests text) led
 
-  pub link_refused : (text : List ℕ) (errno : Errno) → IsLed (text_tests text) v (resolve t false text) (Err errno)
+  pub link_refused : (text : List ℕ) (errno : Errno) → IsLed (text_tests text) t v false text (Err errno)
       → reads_link t text (replies.Refused errno) t nothing
-  link_refused text errno led = led_refused v table there (text_tests text) (resolve t false text) errno led
+  link_refused text errno led = led_refused v table false text there (text_tests text) errno led
 
 -- a number that nothing has
 pub none_there : (o : Option Node) → o ≡ None → (x : Node) → o ≡ Some x → ⊥

@@ -11,7 +11,7 @@ use Rattle.model.specs.declared.errno.Errno.{Errno}
 use Rattle.model.specs.declared.reply.Reply.TheVariants.{Done, Refused}
 use Rattle.calls.specs.Changing.{Comes}
 use Rattle.calls.specs.declared.changed.Changing.{Changing}
-use Rattle.calls.proofs.MakeLaws.{tested_some, tested_none}
+use Rattle.calls.proofs.TestedLaws.{tested_some, tested_none}
 
 module _ (inodes : ℕ) (v : Volume) (table : ℕ → Option Description) (text path : List ℕ) where
   abbrev t : Tree

@@ -8,7 +8,6 @@ use Rattle.model.specs.Outcomes.{Outcome, refuses}
 use Rattle.model.specs.Paths.{Path, Tests, first_refusal, text_tests_then}
 use Rattle.model.specs.Records.{Change, applied, work_of}
 use Rattle.model.specs.Records as records
-use Rattle.model.specs.Resolution.{resolve}
 use Rattle.model.specs.Room.{Need, logs, nothing}
 use Rattle.model.specs.Trees.{Tree, Object, Description}
 use Rattle.model.specs.Trees as trees
@@ -25,7 +24,7 @@ use Rattle.calls.specs.Changing.{ComesOrStays, ComesSweptBy}
 use Rattle.calls.specs.Truncate.{TruncatesFile}
 use Rattle.calls.specs.declared.changed.Changing.{Changing}
 use Rattle.calls.proofs.LeadLaws.{led_refused, led_there}
-use Rattle.calls.proofs.MakeLaws.{tested_some}
+use Rattle.calls.proofs.TestedLaws.{tested_some}
 use Rattle.model.proofs.OptionLaws.{none_some}
 
 -- ---- what is found
@@ -73,8 +72,8 @@ module _ (inodes : ℕ) (v : Volume) (table : ℕ → Option Description) (text 
     | trees.symlink n link ↦ λ _ _ _. ⊥
   ]
 
-  pub truncate_nowhere : (errno : Errno) → IsLed tests v (resolve t true text) (Err errno) → truncates t text size (Refused errno) t nothing
-  truncate_nowhere errno led = led_refused v table there tests (resolve t true text) errno led
+  pub truncate_nowhere : (errno : Errno) → IsLed tests t v true text (Err errno) → truncates t text size (Refused errno) t nothing
+  truncate_nowhere errno led = led_refused v table true text there tests errno led
 
   -- what a file is truncated to is what the call comes to
   at_file : (n : ℕ) (o : Option Node) → is_file_node o ≡ true → (p : Path) (x : Object) → object_of n o ≡ Some x
@@ -93,10 +92,10 @@ module _ (inodes : ℕ) (v : Volume) (table : ℕ → Option Description) (text 
   abbrev truncate_change : ℕ → Change
   truncate_change n = records.truncate n (nat_abs size)
 
-  module _ (n : ℕ) (led : IsLed tests v (resolve t true text) (Ok n)) where
+  module _ (n : ℕ) (led : IsLed tests t v true text (Ok n)) where
     truncated_there : (reply : Reply) (new : Tree) (need : Need) → is_file_node (v n) ≡ true → truncates_file t n (nat_abs size) reply new need → truncates t text size reply new need
     truncated_there reply new need is truncate =
-        led_there v table there n reply new need (λ p x at object. at_file n (v n) is p x object reply new need truncate) tests (resolve t true text) led
+        led_there v table true text there n reply new need (λ p x stands. at_file n (v n) is p x stands.here reply new need truncate) tests led
 
     -- a mounted volume has nothing to be swept
     whole : IsMounted (applied (truncate_change n) v) table → swept table (applied (truncate_change n) v) ≡ applied (truncate_change n) v
@@ -105,8 +104,8 @@ module _ (inodes : ℕ) (v : Volume) (table : ℕ → Option Description) (text 
     pub truncate_comes : found_in (v n) ≢ found.Link → (r : Result (Option Changing) Errno) → TruncatesNumber inodes v table n (nat_abs size) r
         → ComesOrStays (truncates t text size) inodes v table r
     truncate_comes plain (Err errno) (is, same) =
-        led_there v table there n (Refused errno) t nothing
-        (λ p x at object. subst (λ (e : Errno). there p x (Refused e) t nothing) (sym same) (at_other n (v n) is plain p x object)) tests (resolve t true text) led
+        led_there v table true text there n (Refused errno) t nothing
+        (λ p x stands. subst (λ (e : Errno). there p x (Refused e) t nothing) (sym same) (at_other n (v n) is plain p x stands.here)) tests led
     truncate_comes plain (Ok None) (is, truncate) = truncated_there Done t nothing is truncate
     truncate_comes plain (Ok (Some c)) (is, (says, (over, truncate))) =
         subst (ComesSweptBy (truncates t text size) inodes v table) (sym says) (

@@ -12,5 +12,8 @@ pub mod Unlink
 pub mod Rmdir
 pub mod Get
 pub mod Truncate
+pub mod Store
 pub mod Rename
 pub mod Open
+pub mod Parts
+pub mod Entries

@@ -1,70 +1,112 @@
 -- What opening a file over a path comes to.
-use Rattle.std.specs.Prelude.{ℕ, ◌≡◌, ◌⊎◌, ◌≤◌, not, ◌&&◌, IsFalse, IsTrue, List, length, Option, Some, None, Result, Ok, Err}
+use Rattle.std.specs.Prelude.{ℕ, ◌≡◌, ◌⊎◌, ◌≤◌, not, ◌&&◌, Bool, false, true, IsFalse, IsTrue, List, length, Option, Some, None, Result, Ok, Err}
 use Rattle.model.specs.declared.attributes.Attributes.{Attributes}
 use Rattle.model.specs.Descriptors.{described_by, opens_new, opens_object}
 use Rattle.model.specs.Edits.{with_descriptor}
-use Rattle.model.specs.Outcomes.{Outcome, leads}
+use Rattle.model.specs.Outcomes.{Outcome, goes_along}
 use Rattle.model.specs.Paths.{Name}
 use Rattle.model.specs.Records.{Change, Applies, applied, create, file, work_of}
-use Rattle.model.specs.Resolution.{resolve}
-use Rattle.model.specs.Room.{logs, nothing}
+use Rattle.model.specs.Room.{Need, logs, nothing}
 use Rattle.model.specs.Trees.{Tree, Description}
 use Rattle.model.specs.Volumes.{IsMounted, Volume, file_node, swept, tree_of}
 use Rattle.model.specs.declared.command.Flags.{Flags}
 use Rattle.model.specs.declared.errno.Errno.{Errno}
 use Rattle.model.specs.declared.errno.Errno.TheVariants.{ENOENT}
 use Rattle.model.specs.declared.limits.TheConstants.{GREATEST_FILE}
-use Rattle.model.specs.declared.reply.Reply.TheVariants.{Fd, Refused}
+use Rattle.model.specs.declared.reply.FileType.TheVariants.{File}
+use Rattle.model.specs.declared.reply.Reply.{Reply}
+use Rattle.model.specs.declared.reply.Reply.TheVariants as replies
+use Rattle.model.specs.declared.reply.Stat.{Stat}
 use Rattle.paths.specs.Numbers.{IsInodeNumber}
 use Rattle.calls.specs.Changing.{said_by}
 use Rattle.calls.specs.Making.{MakesIn}
 use Rattle.calls.specs.declared.changed.Changing.{Changing}
 use Rattle.calls.specs.declared.preparing.open.Opened.{Opened}
 
--- `open` behind its tests, at each descriptor: the file that a path leads to, or a new one
-abbrev pub opens_along : ℕ → Tree → List ℕ → Flags → ℕ → ℕ → Outcome
-opens_along inodes t path flags mode fd =
-    leads t (resolve t (not (flags.creates && flags.exclusive)) path) (λ p o. opens_object t o flags fd) (λ p name. opens_new inodes t p name flags mode fd)
+-- `open` behind its tests, at each descriptor, and `openstat`, which tells of the file too: the
+-- file that a path leads to, or a new one
+abbrev pub opens_along : ℕ → Tree → List ℕ → Flags → ℕ → Bool → ℕ → Outcome
+opens_along inodes t path flags mode tells fd =
+    goes_along t (not (flags.creates && flags.exclusive)) path
+    (λ p o. opens_object tells t o flags fd)
+    (λ p name. opens_new tells inodes t p name flags mode fd)
 
--- the number, the names and the size are those of a file of the volume
+-- the number, the names, the mode and the size are those of a file of the volume
 abbrev pub IsOpened : Volume → Opened → Type 0
 IsOpened v o =
-    (attributes : Attributes) × (bytes : List ℕ) × (v o.number ≡ Some (file_node attributes o.links bytes))
-    × (o.size ≡ length bytes)
+    (attributes : Attributes) × (bytes : List ℕ)
+    × (v o.number ≡ Some (file_node attributes o.links bytes))
+    × (o.mode ≡ attributes.mode) × (o.size ≡ length bytes)
 
 -- a number and a size that are told keep to the limits
 abbrev pub KeepsOpenedBounds : ℕ → Opened → Type 0
 KeepsOpenedBounds inodes o = IsInodeNumber inodes o.number × (o.size ≤ GREATEST_FILE)
 
+-- what `fstat` tells of a file that is just opened
+abbrev pub opened_stat : Opened → Stat
+opened_stat o = record {
+  number = o.number;
+  kind = File;
+  mode = o.mode;
+  links = o.links;
+  size = o.size;
+}
+
+-- what is answered of it: its descriptor, and what `fstat` tells then where that is asked
+abbrev pub opened_reply : Bool → ℕ → Opened → Reply
+opened_reply false fd o = replies.Fd fd
+opened_reply true fd o = replies.Opened fd (opened_stat o)
+
 -- the tree with the file at a descriptor, as it is just opened with these flags
 abbrev pub opened_tree : Flags → Opened → ℕ → Tree → Tree
 opened_tree flags o fd t = with_descriptor fd (Some (described_by o.number flags)) t
 
+-- what opening a file comes to, whether it is told of or not, at whatever descriptor
+abbrev pub Opening : Type 1
+Opening = Bool → ℕ → Outcome
+
+-- a file is opened over this tree, for this need
+abbrev pub IsOpenedOver : Opening → Flags → Opened → Tree → Need → Type 0
+IsOpenedOver outcome flags o t need =
+    (tells : Bool) (fd : ℕ)
+    → outcome tells fd (opened_reply tells fd o) (opened_tree flags o fd t) need
+
 -- what opening a file comes to where this record, which applies, makes or truncates it
-abbrev pub OpensByRecord : (ℕ → Outcome) → ℕ → Flags → Volume → (ℕ → Option Description) → Opened → Change → Type 0
+abbrev pub OpensByRecord : Opening → ℕ → Flags → Volume → (ℕ → Option Description) → Opened
+    → Change → Type 0
 OpensByRecord outcome inodes flags v table o change =
-    Applies inodes v change × IsMounted (swept table (applied change v)) table × IsOpened (swept table (applied change v)) o
-    × ((fd : ℕ) → outcome fd (Fd fd) (opened_tree flags o fd (tree_of (swept table (applied change v)) table)) (logs (work_of v change)))
+    let after = swept table (applied change v) in
+    Applies inodes v change × IsMounted after table × IsOpened after o
+    × IsOpenedOver outcome flags o (tree_of after table) (logs (work_of v change))
 
 -- what opening a file comes to that changes nothing beside, or does what a record says
-abbrev pub OpensOver : (ℕ → Outcome) → ℕ → Flags → Volume → (ℕ → Option Description) → Opened → Option Changing → Type 0
+abbrev pub OpensOver : Opening → ℕ → Flags → Volume → (ℕ → Option Description) → Opened
+    → Option Changing → Type 0
 OpensOver outcome inodes flags v table o None =
-    IsOpened v o × ((fd : ℕ) → outcome fd (Fd fd) (opened_tree flags o fd (tree_of v table)) nothing)
-OpensOver outcome inodes flags v table o (Some c) = OpensByRecord outcome inodes flags v table o (said_by c.change)
+    IsOpened v o × IsOpenedOver outcome flags o (tree_of v table) nothing
+OpensOver outcome inodes flags v table o (Some c) =
+    OpensByRecord outcome inodes flags v table o (said_by c.change)
 
 -- what opening a file comes to, at whatever descriptor: a refusal, or the file
-abbrev pub OpensAt : (ℕ → Outcome) → ℕ → Flags → Volume → (ℕ → Option Description) → Result Opened Errno → Type 0
-OpensAt outcome inodes flags v table (Err errno) = (fd : ℕ) → outcome fd (Refused errno) (tree_of v table) nothing
-OpensAt outcome inodes flags v table (Ok o) = OpensOver outcome inodes flags v table o o.changing
+abbrev pub OpensAt : Opening → ℕ → Flags → Volume → (ℕ → Option Description)
+    → Result Opened Errno → Type 0
+OpensAt outcome inodes flags v table (Err errno) =
+    (tells : Bool) (fd : ℕ) → outcome tells fd (replies.Refused errno) (tree_of v table) nothing
+OpensAt outcome inodes flags v table (Ok o) =
+    OpensOver outcome inodes flags v table o o.changing
 
 -- a file of this number is made, with this name
 abbrev pub OpensMade : ℕ → Volume → ℕ → ℕ → Name → Opened → Option Changing → Type 0
 OpensMade inodes v mode parent name o None = ⊥
 OpensMade inodes v mode parent name o (Some c) =
-    MakesIn inodes v parent name (file mode) (Ok c) × (said_by c.change ≡ create o.number parent (file mode) name) × (o.links ≡ 1) × (o.size ≡ 0)
+    MakesIn inodes v parent name (file mode) (Ok c)
+    × (said_by c.change ≡ create o.number parent (file mode) name)
+    × (o.links ≡ 1) × (o.mode ≡ mode) × (o.size ≡ 0)
 
 -- what opening comes to at a name that a directory doesn't have
 abbrev pub OpensNew : ℕ → Volume → Flags → ℕ → ℕ → Name → Result Opened Errno → Type 0
-OpensNew inodes v flags mode parent name (Ok o) = IsTrue flags.creates × OpensMade inodes v mode parent name o o.changing
+OpensNew inodes v flags mode parent name (Ok o) =
+    IsTrue flags.creates × OpensMade inodes v mode parent name o o.changing
 OpensNew inodes v flags mode parent name (Err errno) =
-    (IsFalse flags.creates × (errno ≡ ENOENT)) ⊎ (IsTrue flags.creates × MakesIn inodes v parent name (file mode) (Err errno))
+    (IsFalse flags.creates × (errno ≡ ENOENT))
+    ⊎ (IsTrue flags.creates × MakesIn inodes v parent name (file mode) (Err errno))

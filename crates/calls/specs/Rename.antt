@@ -1,5 +1,5 @@
 -- What moving a name comes to.
-use Rattle.std.specs.Prelude.{ℕ, ◌≡◌, ◌≢◌, ◌↔◌, Contains, IsFalse, List, Option, Some, None, Result, Ok, Err}
+use Rattle.std.specs.Prelude.{ℕ, ◌≡◌, ◌≢◌, ◌↔◌, Bool, Contains, IsFalse, IsTrue, List, Option, Some, None, Result, Ok, Err}
 use Rattle.model.specs.Finding.{here}
 use Rattle.model.specs.Paths.{IsName, Name, first_refusal, is_root_text, new_text_tests}
 use Rattle.model.specs.Records.{IsBelow, rename}
@@ -15,12 +15,16 @@ pub record PassTests (old path : List ℕ) : Type 0 where
   pub old_below : IsFalse (is_root_text old)
   pub below : IsFalse (is_root_text path)
 
--- The object n may get the name y, which it hasn't, in the directory at the end of a trail, which
--- tells whether that one lies below n.
-pub record MovesAlong (v : Volume) (n : ℕ) (trail : List ℕ) (y : Name) : Type 0 where
+-- where a trail comes from the root, it tells whether the directory at its end lies below n
+abbrev pub TellsBelow : Volume → ℕ → Bool → List ℕ → Type 0
+TellsBelow v n rooted trail = IsTrue rooted → Contains trail n ↔ IsBelow (entries v) n (here trail)
+
+-- The object n may get the name y, which it hasn't, in the directory at the end of a trail.
+pub record MovesAlong (v : Volume) (n : ℕ) (rooted : Bool) (trail : List ℕ) (y : Name)
+    : Type 0 where
   pub name : IsName y
   pub other : entries v (here trail) y ≢ Some n
-  pub tells : Contains trail n ↔ IsBelow (entries v) n (here trail)
+  pub tells : TellsBelow v n rooted trail
 
 -- what comes of a name that an object moves to: its record decides
 abbrev pub MovesName : ℕ → Volume → ℕ → Name → ℕ → Name → Result (Option Changing) Errno → Type 0

@@ -1,30 +1,45 @@
 //! What stands where a path leads, over memory that stands for a volume.
 
-ghost use Rattle.std.specs.Prelude.{◌≡◌};
+ghost use Rattle.std.specs.Prelude.{◌≡◌, Ok};
 ghost use Rattle.model.specs.Paths.{parts as parts_of, text_tests};
-ghost use Rattle.calls.specs.Leading.{IsLed, LeadsTo, TellsWhere};
+ghost use Rattle.paths.specs.Resolves.{LeadsUpNowhere};
+ghost use Rattle.records.specs.Failures.{read_outcome};
+ghost use Rattle.calls.specs.Leading.{IsLed, LeadsAlong, TellsWhere, led_of};
 
 use buffers::Blocks;
 use inofile::InodeFile;
 use layout::InodeNumber;
 use model::Errno;
-use paths::{Parts, Place, refusal_of_text, resolve};
+use paths::{Parts, Place, Target, refusal_of_text, resolve};
 use records::Failure;
 use std::alloc::Global;
 
-/// The number of what stands where parts lead from the root, or the refusal: ENOENT where nothing
-/// stands there.
+/// The number of what stands where the text of a path leads, which has these parts and passed its
+/// tests, or the refusal: ENOENT where nothing stands there.
 pub(crate) fn find_object<B: Blocks>(
     alloc: Global,
     inodes: &mut InodeFile,
     blocks: &mut B,
+    path: &[u8],
     parts: Parts,
     follow: bool,
 ) -> Result<InodeNumber, Failure>
+    requires parts { parts ≡ parts_of path.now }
+    requires level { LeadsUpNowhere path.now }
     ensures { TellsWhere B.Blocks blocks.old blocks.new inodes.old inodes.new follow
-        (λ text. parts ≡ parts_of text) (λ _. LeadsTo) result }
+        (λ t v. LeadsAlong t v follow path.now) result }
 {
-    let place = resolve(alloc, inodes, blocks, parts, follow)?;
+    let target = resolve(alloc, inodes, blocks, path, parts, follow)?;
+    match target {
+        Target::Object(number) => Ok(number),
+        Target::Place(place) => number_of(place),
+    }
+}
+
+// The number of what stands at a place; ENOENT where nothing does.
+fn number_of(place: Place) -> Result<InodeNumber, Failure>
+    ensures { read_outcome result ≡ Ok (led_of place) }
+{
     match place {
         Place::Directory(trail) => Ok(trail.here()),
         Place::Entry {
@@ -49,11 +64,11 @@ pub(crate) fn lead<B: Blocks>(
     follow: bool,
 ) -> Result<InodeNumber, Failure>
     ensures { TellsWhere B.Blocks blocks.old blocks.new inodes.old inodes.new follow
-        (λ text. text ≡ path.now) (λ text. IsLed (text_tests text)) result }
+        (λ t v. IsLed (text_tests path.now) t v follow path.now) result }
 {
     let parts = Parts::of(alloc, path)?;
     if let Some(errno) = refusal_of_text(path, &parts) {
         return Err(Failure::Refused(errno));
     }
-    find_object(alloc, inodes, blocks, parts, follow)
+    find_object(alloc, inodes, blocks, path, parts, follow)
 }

@@ -15,7 +15,7 @@ use inode::Object;
 use inofile::InodeFile;
 use layout::{FIRST_NUMBER, InodeNumber};
 use model::{Errno, records_change_trees, volumes_are_trees, volumes_tell_fresh_numbers};
-use paths::{Parts, Place, refusal_of_new_text, resolve};
+use paths::{Parts, Place, refusal_of_new_text, resolve_place};
 use records::{Failure, is_vacant, new_object, prepare_new};
 use std::alloc::Global;
 
@@ -40,7 +40,7 @@ pub(crate) fn make<B: Blocks>(
     if let Some(errno) = refusal_of_new_text(path, &parts) {
         return Err(Failure::Refused(errno));
     }
-    let place = resolve(alloc, inodes, blocks, parts, false)?;
+    let place = resolve_place(alloc, inodes, blocks, path, parts, false)?;
     let (trail, name) = match place {
         Place::Missing { trail, name } => (trail, name),
         Place::Refusal(errno) => return Err(Failure::Refused(errno)),

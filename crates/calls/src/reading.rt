@@ -2,5 +2,7 @@
 
 pub mod get;
 pub mod list;
+mod part;
 pub mod readlink;
 pub mod stat;
+pub mod tell_entries;

@@ -4,8 +4,9 @@ use std::alloc::{AllocError, Global};
 
 /// The calls that name a path, with their fields in capitals; one that may be left out stands in
 /// brackets.
-const CALLS: [&str; 13] = [
+const CALLS: [&str; 16] = [
     "list PATH",
+    "entries PATH COOKIE COUNT",
     "stat PATH",
     "lstat PATH",
     "readlink PATH",
@@ -16,13 +17,16 @@ const CALLS: [&str; 13] = [
     "link PATH NEW",
     "symlink TEXT PATH",
     "rename PATH NEW",
+    "renamenew PATH NEW",
     "chmod PATH MODE",
     "truncate PATH SIZE",
+    "store PATH OFFSET DATA",
 ];
 
 /// The other commands, but `in`, which stands before a call.
-const OTHERS: [&str; 16] = [
+const OTHERS: [&str; 18] = [
     "open PATH FLAGS [MODE]",
+    "openstat PATH FLAGS [MODE]",
     "close FD",
     "read FD COUNT",
     "write FD DATA",
@@ -34,6 +38,7 @@ const OTHERS: [&str; 16] = [
     "fsync FD",
     "sync",
     "df",
+    "statfs",
     "snap take NAME",
     "snap list",
     "snap delete NAME",

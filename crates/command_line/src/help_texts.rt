@@ -27,42 +27,53 @@ background; ./wafl prove waits for that. With WAFL_UNPROVED=1 in the environment
 
 /// What the help of `run`, `shell` and `do` says of commands: a line for each.
 pub const COMMAND_NOTES: &str = "Commands, one a line, with an example of each:
-  list PATH               names in a directory: list /
-  stat PATH               what the path leads to, its number, kind, mode, links, size: stat /d/f
-  lstat PATH              the same of a last symbolic link itself: lstat /l
-  readlink PATH           the text of a symbolic link: readlink /l
-  get PATH OFFSET COUNT   bytes of a file: get /f 0 65536
-  mkdir PATH [MODE]       makes a directory, of mode 0755 or this one: mkdir /d 0700
-  rmdir PATH              takes an empty directory away: rmdir /d
-  unlink PATH             takes a file's name or a symbolic link away: unlink /f
-  link PATH NEW           gives a file one more name: link /f /g
-  symlink TEXT PATH       makes a symbolic link: symlink d/f /l
-  rename PATH NEW         gives an object another name: rename /f /d/f
-  chmod PATH MODE         changes the mode: chmod /f 0600
-  truncate PATH SIZE      gives a file another size: truncate /f 100
-  open PATH FLAGS [MODE]  opens a file and tells its descriptor: open /f rwc 0600
-  close FD                gives a descriptor back: close 0
-  read FD COUNT           bytes from the offset on: read 0 65536
-  write FD DATA           puts bytes at the offset: write 0 616263
-  pread FD OFFSET COUNT   bytes from another place on: pread 0 2 9
-  pwrite FD OFFSET DATA   puts bytes at another place: pwrite 0 4 64
-  lseek FD FROM OFFSET    moves the offset: lseek 0 set 1
-  ftruncate FD SIZE       gives an open file another size: ftruncate 0 2
-  fstat FD                what stat tells, of an open file: fstat 0
-  fsync FD                done at once, as what was answered is kept: fsync 0
-  sync                    makes a consistency point: sync
-  df                      tells the room of the disk: df
-  snap take NAME          keeps the tree as it stands under this name: snap take monday
-  snap list               names the snapshots, oldest first: snap list
-  snap delete NAME        takes a snapshot away: snap delete monday
-  snap restore NAME       makes the tree what it was under this name: snap restore monday
-  in NAME ..              list, stat, lstat, readlink or get in a snapshot: in monday get /f 0 9
+  list PATH                   names in a directory: list /
+  entries PATH COOKIE COUNT   names behind a cookie, and what lstat tells of each: entries / 0 100
+  stat PATH                   what the path leads to, its number, kind, mode, links, size: stat /d/f
+  lstat PATH                  the same of a last symbolic link itself: lstat /l
+  readlink PATH               the text of a symbolic link: readlink /l
+  get PATH OFFSET COUNT       bytes of a file: get /f 0 65536
+  mkdir PATH [MODE]           makes a directory, of mode 0755 or this one: mkdir /d 0700
+  rmdir PATH                  takes an empty directory away: rmdir /d
+  unlink PATH                 takes a file's name or a symbolic link away: unlink /f
+  link PATH NEW               gives a file one more name: link /f /g
+  symlink TEXT PATH           makes a symbolic link: symlink d/f /l
+  rename PATH NEW             gives an object another name: rename /f /d/f
+  renamenew PATH NEW          the same, where nothing has that name: renamenew /f /d/f
+  chmod PATH MODE             changes the mode: chmod /f 0600
+  truncate PATH SIZE          gives a file another size: truncate /f 100
+  store PATH OFFSET DATA      puts bytes in a file: store /f 4 64
+  open PATH FLAGS [MODE]      opens a file and tells its descriptor: open /f rwc 0600
+  openstat PATH FLAGS [MODE]  the same, and what fstat tells then: openstat /f r
+  close FD                    gives a descriptor back: close 0
+  read FD COUNT               bytes from the offset on: read 0 65536
+  write FD DATA               puts bytes at the offset: write 0 616263
+  pread FD OFFSET COUNT       bytes from another place on: pread 0 2 9
+  pwrite FD OFFSET DATA       puts bytes at another place: pwrite 0 4 64
+  lseek FD FROM OFFSET        moves the offset: lseek 0 set 1
+  ftruncate FD SIZE           gives an open file another size: ftruncate 0 2
+  fstat FD                    what stat tells, of an open file: fstat 0
+  fsync FD                    done at once, as what was answered is kept: fsync 0
+  sync                        makes a consistency point: sync
+  df                          tells the room of the disk: df
+  statfs                      tells the room of the disk, and for how many files: statfs
+  snap take NAME              keeps the tree as it stands under this name: snap take monday
+  snap list                   names the snapshots, oldest first: snap list
+  snap delete NAME            takes a snapshot away: snap delete monday
+  snap restore NAME           makes the tree what it was under this name: snap restore monday
+  in NAME ..                  list, entries, stat, lstat, readlink or get there: in monday get /f 0 9
 
 FLAGS is r, w or rw, then some of: c makes a file where none is, x refuses one that is,
 t cuts it to no bytes, a has each write go behind the last byte. A new file has mode 0644 or this one.
 FROM is set, cur or end. DATA is two hexadecimal digits a byte, - for none.
 Words stand one space apart; in a path a space is %20, a % is %25, and so each byte
 but 0x21 to 0x7e is % and two lower-case hexadecimal digits. A default mode isn't written.
+
+A path begins at /, or at the number that stat tells of something, wherever that stands by now:
+lstat @17/name, get @17 0 9. Behind a number no symbolic link is followed, and .. is refused;
+ESTALE says that nothing with a path has the number. A cookie comes from a name's bytes alone:
+entries / 0 100 tells the first names, and those behind the last cookie that it told come next,
+whatever names come and go meanwhile.
 
 do takes paths, texts and names as you type them, as in wafl do disk nvram mkdir '/a b' 755;
 with --encoded, before the command, its words are spelled as in a script, as in mkdir /a%20b.

@@ -31,9 +31,10 @@ fn known_hint(word: &str) -> Option<&'static str> {
         "cp" => Some("did you mean wafl put or wafl get?"),
         "ln" => Some("did you mean link or symlink?"),
         "touch" => Some("did you mean open PATH wc?"),
-        "cd" | "pwd" => Some("there is no working directory: paths begin at /"),
+        "cd" | "pwd" => Some("there is no working directory: paths begin at / or at a number"),
         "exit" => Some("did you mean quit?"),
         "snapshot" => Some("did you mean snap?"),
+        "restore" => Some("did you mean snap restore?"),
         "snap" => Some("snap take NAME, snap list, snap delete NAME or snap restore NAME"),
         _ => None,
     }

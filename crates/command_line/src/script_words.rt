@@ -16,7 +16,7 @@ pub fn word_reason(
 ) -> Result<Option<String>, AllocError> {
     match field {
         "COUNT" | "FD" => number_reason(alloc, word, 0, i64::from(u32::MAX)),
-        "OFFSET" | "SIZE" => number_reason(alloc, word, i64::MIN, i64::MAX),
+        "OFFSET" | "SIZE" | "COOKIE" => number_reason(alloc, word, i64::MIN, i64::MAX),
         "MODE" => mode_reason(alloc, word, b""),
         "[MODE]" => mode_reason(alloc, word, default_mode(form)),
         "DATA" => data_reason(alloc, word),

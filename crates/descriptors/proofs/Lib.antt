@@ -1,4 +1,9 @@
-pub mod FreeLemmas
-pub mod FitLemmas
 pub mod CountLemmas
+pub mod SlotLemmas
+pub mod TableLemmas
+pub mod OpenLemmas
+pub mod FitLemmas
 pub mod MoveLemmas
+pub mod LookLemmas
+pub mod OrphanLemmas
+pub mod RoomLemmas

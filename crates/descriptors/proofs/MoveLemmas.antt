@@ -1,14 +1,14 @@
 -- Descriptors with one offset moved.
-use Rattle.std.proofs.Common.{◌≡◌, ◌⊎◌, ◌≤◌, ◌||◌, ◌==◌, inl, inr, ℕ, zero, suc, Bool, true, Option, Some, None, IsSome, refl, sym, ap, subst, ◌∙◌}
-use Rattle.std.proofs.lemmas.Bool.{cases_eq, cond-true, cond-false, eq-eqb, ne_eqb, false≢true}
+use Rattle.std.proofs.Common.{◌≡◌, ◌⊎◌, ◌≤◌, ◌||◌, ◌==◌, inl, inr, ℕ, zero, suc, Bool, true, Option, Some, None, refl, sym, ap, subst, ◌∙◌}
+use Rattle.std.proofs.lemmas.Bool.{cases_eq, cond-true, cond-false, eq-eqb, ne_eqb}
 use Rattle.std.specs.Option.{option_map}
 use Rattle.model.specs.Trees.{Description}
 use Rattle.model.specs.Volumes.{IsMounted, Volume, is_file_node, is_numbered, is_open, swept_node}
+use Rattle.model.specs.declared.limits.TheConstants.{GREATEST_OFFSET, OPEN_FILES}
 use Rattle.model.proofs.OptionLaws.{some_same}
 use Rattle.descriptors.specs.Files.{description_of}
-use Rattle.descriptors.specs.Tables.{at_place, moved_to, open_at, put_open, table_of}
+use Rattle.descriptors.specs.Tables.{at_place, moved_to}
 use Rattle.descriptors.specs.declared.open_file.OpenFile.{OpenFile}
-use Rattle.descriptors.specs.declared.table.Descriptors.{Descriptors}
 
 moved_number : (place n : ℕ) (o : Option Description) → is_numbered (option_map (at_place place) o) n ≡ is_numbered o n
 moved_number place n None = refl
@@ -38,7 +38,7 @@ module _ (table : ℕ → Option Description) (fd place : ℕ) where
   same_open zero n = refl
   same_open (suc d) n = ap (λ (b : Bool). b || is_open moved d n) (same_number d n) ∙ ap (λ (b : Bool). is_numbered (table d) n || b) (same_open d n)
 
-  pub mounted_moved : (v : Volume) → place ≤ 9223372036854775807 → IsMounted v table → IsMounted v moved
+  pub mounted_moved : (v : Volume) → place ≤ GREATEST_OFFSET → IsMounted v table → IsMounted v moved
   mounted_moved v within mounted = record {
     files = λ d f e.
         elim (at_each d) [
@@ -47,7 +47,7 @@ module _ (table : ℕ → Option Description) (fd place : ℕ) where
               subst (λ (k : Description). is_file_node (v k.number) ≡ true) from.2 (mounted.files d from.0 from.1)
           | inr is ↦ mounted.files d f (sym is ∙ e)
         ];
-    is_swept = λ n. ap (λ (b : Bool). swept_node b (v n)) (same_open 32 n) ∙ mounted.is_swept n;
+    is_swept = λ n. ap (λ (b : Bool). swept_node b (v n)) (same_open OPEN_FILES n) ∙ mounted.is_swept n;
     bounded = λ d past.
         elim (at_each d) [
           | inl is ↦ is ∙ ap (option_map (at_place place)) (mounted.bounded d past)
@@ -57,20 +57,13 @@ module _ (table : ℕ → Option Description) (fd place : ℕ) where
         elim (at_each d) [
           | inl is ↦
               let from = from_moved place (table d) f (sym is ∙ e) in
-              subst (λ (k : Description). k.offset ≤ 9223372036854775807) from.2 within
+              subst (λ (k : Description). k.offset ≤ GREATEST_OFFSET) from.2 within
           | inr is ↦ mounted.offsets d f (sym is ∙ e)
         ];
   }
 
 -- ---- a table with one offset moved
 
-pub some_open : (t : Descriptors) (fd : ℕ) → IsSome (open_at t fd) → (f : OpenFile) × (open_at t fd ≡ Some f)
-some_open t fd is = some_from (open_at t fd) is
-  where
-    some_from : (o : Option OpenFile) → IsSome o → (f : OpenFile) × (o ≡ Some f)
-    some_from None is = absurd (false≢true is)
-    some_from (Some f) is = (f, refl)
-
-pub moved_is : (old new : Descriptors) (fd place : ℕ) (f : OpenFile) → open_at old fd ≡ Some f → table_of new ≡ put_open fd (Some (record (description_of f) { offset = place })) (table_of old)
-    → table_of new ≡ moved_to fd place (table_of old)
-moved_is old new fd place f some is = is ∙ ap (λ (o : Option Description). put_open fd (option_map (at_place place) o) (table_of old)) (sym (ap (option_map description_of) some))
+pub place_described : (place : ℕ) (o : Option OpenFile) → option_map description_of (option_map (λ (f : OpenFile). record f { offset = place }) o) ≡ option_map (at_place place) (option_map description_of o)
+place_described place None = refl
+place_described place (Some f) = refl

@@ -52,3 +52,8 @@ resized_file n size f = if f.number == n then record f { size = size } else f
 -- an open file with so many names, where it is the file n
 abbrev pub relinked_file : ℕ → ℕ → OpenFile → OpenFile
 relinked_file n links f = if f.number == n then record f { links = links } else f
+
+-- an open file with the links and the size of another, where both are the same file
+abbrev pub refigured_file : OpenFile → OpenFile → OpenFile
+refigured_file file f =
+    if f.number == file.number then record f { size = file.size; links = file.links } else f

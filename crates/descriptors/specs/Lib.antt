@@ -1,4 +1,9 @@
 pub mod Files
+pub mod Counts
+pub mod Openings
+pub mod Consistency
+pub mod Putting
+pub mod Slots
+pub mod Shared
 pub mod Tables
 pub mod Fits
-pub mod Orphans

@@ -1,22 +1,31 @@
 -- The table of open files, and the descriptors that it stands for.
-use Rattle.std.specs.Prelude.{ℕ, ◌==◌, if◌then◌else◌, slice_index_or, Option, None}
+pub use Rattle.descriptors.specs.Putting.{put_open}
+use Rattle.std.specs.Prelude.{ℕ, ◌<◌, IsTrue, Option}
 use Rattle.std.specs.Option.{option_map}
 use Rattle.model.specs.Trees.{Description}
 use Rattle.descriptors.specs.Files.{description_of}
+use Rattle.descriptors.specs.Openings.{opened_files}
+use Rattle.descriptors.specs.Shared.{has_room, shared_at}
+use Rattle.descriptors.specs.Slots.{room_in, slot_at}
 use Rattle.descriptors.specs.declared.open_file.OpenFile.{OpenFile}
 use Rattle.descriptors.specs.declared.table.Descriptors.{Descriptors}
 
 -- the open file of a descriptor, if it is open
 abbrev pub open_at : Descriptors → ℕ → Option OpenFile
-open_at table fd = slice_index_or table.files fd None
+open_at table fd = opened_files (slot_at table.slots) (shared_at table.files) fd
 
 -- the descriptors that a table stands for
 abbrev pub table_of : Descriptors → ℕ → Option Description
 table_of table fd = option_map description_of (open_at table fd)
 
--- a map from descriptors with something else, or nothing, at one of them
-abbrev pub put_open : {X : Type 0} → ℕ → Option X → (ℕ → Option X) → ℕ → Option X
-put_open fd file table d = if d == fd then file else table d
+-- a descriptor can be opened with no more memory
+pub record HasRoom (table : Descriptors) (fd : ℕ) : Type 0 where
+  pub slot : fd < room_in table.slots
+  pub file : IsTrue (has_room table.files)
+
+-- the descriptors that can be opened with no more memory still can
+abbrev pub KeepsRoom : Descriptors → Descriptors → Type 0
+KeepsRoom old new = (fd : ℕ) → HasRoom old fd → HasRoom new fd
 
 -- a description with its offset at a place
 abbrev pub at_place : ℕ → Description → Description

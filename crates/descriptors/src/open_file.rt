@@ -4,6 +4,8 @@ ghost use Rattle.std.specs.Prelude.{◌≡◌, ◌≤◌};
 ghost use Rattle.model.specs.Descriptors.{described_by};
 ghost use Rattle.model.specs.declared.limits.TheConstants.{GREATEST_FILE};
 
+use crate::description::OpenDescription;
+use crate::shared::SharedFile;
 use model::{Access, Flags};
 
 /// An open file: what it is open by, and what it has as a file.
@@ -23,7 +25,8 @@ pub struct OpenFile {
 }
 
 impl OpenFile {
-    ghost use Rattle.descriptors.specs.Files.{KeepsBounds, description_of, figures_of, relinked_file, resized_file};
+    ghost use Rattle.descriptors.specs.Files.{KeepsBounds, description_of, figures_of};
+    ghost use Rattle.descriptors.specs.Openings.{open_description, opened_file};
 
     /// The file with a number as it is just opened with these flags, at offset 0; it has so many
     /// bytes and so many names.
@@ -42,23 +45,29 @@ impl OpenFile {
         }
     }
 
-    /// The same with so many bytes, where it is the file with this number.
-    pub(crate) fn resized(mut self, number: u32, size: u64) -> OpenFile
-        ensures { result ≡ resized_file number size self }
+    /// The file that a descriptor is open for.
+    pub(crate) fn of(description: OpenDescription, file: SharedFile) -> OpenFile
+        ensures { result ≡ opened_file description file }
     {
-        if self.number == number {
-            self.size = size;
+        OpenFile {
+            number: description.number,
+            offset: description.offset,
+            access: description.access,
+            appends: description.appends,
+            size: file.size,
+            links: file.links,
         }
-        self
     }
 
-    /// The same with so many names, where it is the file with this number.
-    pub(crate) fn relinked(mut self, number: u32, links: u32) -> OpenFile
-        ensures { result ≡ relinked_file number links self }
+    /// What its descriptor is open by.
+    pub(crate) fn description(&self) -> OpenDescription
+        ensures { result ≡ open_description self.now }
     {
-        if self.number == number {
-            self.links = links;
+        OpenDescription {
+            number: self.number,
+            offset: self.offset,
+            access: self.access,
+            appends: self.appends,
         }
-        self
     }
 }

@@ -10,7 +10,7 @@ mod error;
 mod removing;
 mod survey;
 
-pub use directory::{find, list};
+pub use directory::{NumberedName, find, list, list_numbered};
 pub use edit::Edit;
 pub use error::AddError;
 

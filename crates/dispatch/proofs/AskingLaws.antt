@@ -1,7 +1,7 @@
 -- Calls that only read, as they are answered.
 use Rattle.std.proofs.Common.{◌≡◌, ℕ, ℤ, List, Result, Ok, Err, refl, sym, subst}
 use Rattle.std.specs.Result.{IsErrAnd}
-use Rattle.model.specs.Reading.{gets}
+use Rattle.model.specs.Reading.{gets, tells_entries}
 use Rattle.model.specs.Room.{nothing}
 use Rattle.model.specs.Steps.{calls}
 use Rattle.model.specs.Volumes.{Volume, tree_of}
@@ -26,6 +26,11 @@ use Rattle.dispatch.specs.Answering.{asks, answered_reply}
 pub gets_at : {B T : Type 0} {G : Ghosts B} {a b : B} {s t : InodeFile} {reply : Result T Errno → Reply} {r : Result T Failure} (path : List ℕ) (count : ℕ) {offset place : ℤ} → offset ≡ place
     → Answers G a b s t (λ u. gets u path offset count) reply r → Answers G a b s t (λ u. gets u path place count) reply r
 gets_at {G = G} {a = a} {b = b} {s = s} {t = t} {reply = reply} {r = r} path count is all = subst (λ (z : ℤ). Answers G a b s t (λ u. gets u path z count) reply r) is all
+
+-- a cookie as a number
+pub entries_behind : {B T : Type 0} {G : Ghosts B} {a b : B} {s t : InodeFile} {reply : Result T Errno → Reply} {r : Result T Failure} (path : List ℕ) (count : ℕ) {after cookie : ℤ} → after ≡ cookie
+    → Answers G a b s t (λ u. tells_entries u path after count) reply r → Answers G a b s t (λ u. tells_entries u path cookie count) reply r
+entries_behind {G = G} {a = a} {b = b} {s = s} {t = t} {reply = reply} {r = r} path count is all = subst (λ (z : ℤ). Answers G a b s t (λ u. tells_entries u path z count) reply r) is all
 
 module _ {B T : Type 0} {G : Ghosts B} {a b : B} {s t : InodeFile} {reply : Result T Errno → Reply} (call words : PathCall) (is : call ≡ words) where
   -- it is answered

@@ -1,10 +1,12 @@
 -- What a call by a path comes to whose record is prepared as a change.
-use Rattle.std.proofs.Common.{◌≡◌, ℕ, List, Option, Result, Err, ap, sym, subst, ◌∙◌}
+use Rattle.std.proofs.Common.{◌≡◌, ◌≢◌, ℕ, ℤ, refl, List, Option, Result, Err, ap, sym, subst, ◌∙◌}
+use Rattle.std.specs.Prelude.{IsFalse}
 use Rattle.std.specs.Result.{IsErrAnd}
 use Rattle.model.specs.Steps.{calls}
 use Rattle.model.specs.Trees.{Description}
 use Rattle.model.specs.Volumes.{Volume, tree_of}
 use Rattle.model.specs.declared.command.PathCall.{PathCall}
+use Rattle.model.specs.declared.command.PathCall.TheVariants as calling
 use Rattle.model.specs.declared.errno.Errno.{Errno}
 use Rattle.buffers.specs.declared.blocks.Blocks as blocks
 use Rattle.inofile.specs.declared.inode_file.InodeFile.{InodeFile}
@@ -15,7 +17,7 @@ use Rattle.calls.specs.declared.changed.Changing.{Changing}
 use Rattle.calls.specs.Preparing.{Prepares, PreparesAny}
 use Rattle.calls.proofs.PrepareSteps.{carried, refuses, stops}
 use Rattle.calls.proofs.SweptLaws.{comes_swept}
-use Rattle.dispatch.specs.Changing.{CallComes, RecordComes}
+use Rattle.dispatch.specs.Changing.{CallComes, RecordComes, is_writing_call}
 
 -- ---- what a call asks for
 
@@ -37,6 +39,11 @@ pub passes_on : {B : Type 0} {G : blocks.Ghosts B} {a b : B} {s t : InodeFile} (
     → Prepares G a b s t (RecordComes call) (Err f) → PreparesAny G a b s t (CallComes call) q
 passes_on {G = G} {a = a} {b = b} {s = s} {t = t} call (failures.Refused errno) q is told = carried (PreparesAny G a b s t (CallComes call)) q is (refuses told.looks told.own told.answers)
 passes_on call (failures.Read e) q is told = stops q is told.looks told.damaged
+
+-- what isn't `store` writes no bytes
+pub writes_none : (call : PathCall) → ((path : List ℕ) (offset : ℤ) (given : List ℕ) → call ≢ calling.Store path offset given) → IsFalse (is_writing_call call)
+writes_none (calling.Store path offset given) not = absurd (not path offset given refl)
+writes_none other not = refl
 
 -- a call with one text, that was taken as bytes
 pub one_text : (call : PathCall) (of : List ℕ → PathCall) (path bytes : List ℕ) → call ≡ of path → bytes ≡ path → call ≡ of bytes

@@ -1,12 +1,13 @@
 -- What a call is to do, from what is prepared for it.
-use Rattle.std.proofs.Common.{◌≡◌, ℕ, ℤ, List, Option, Some, None, Result, Ok, Err, refl, sym, subst}
+use Rattle.std.proofs.Common.{◌≡◌, ℕ, ℤ, Bool, false, true, List, Option, Some, None, Result, Ok, Err, refl, sym, subst}
 use Rattle.std.specs.Prelude.{IfSome, IsFalse}
 use Rattle.std.specs.Result.{IsErrAnd}
 use Rattle.std.proofs.Math.Path.{fun_ext}
 use Rattle.layout.specs.Record.{Change}
-use Rattle.model.specs.Descriptors.{opens, writes_to}
+use Rattle.model.specs.Descriptors.{opens, stores, writes_to}
 use Rattle.model.specs.Outcomes.{Outcome}
 use Rattle.model.specs.Records.{applied, work_of}
+use Rattle.model.specs.Replies.{IsReplyTo}
 use Rattle.model.specs.Room.{Need, logs, nothing}
 use Rattle.model.specs.Steps.{calls, is_reading_call}
 use Rattle.model.specs.Trees.{Description}
@@ -17,7 +18,7 @@ use Rattle.model.specs.declared.command.Flags.{Flags}
 use Rattle.model.specs.declared.command.PathCall.{PathCall}
 use Rattle.model.specs.declared.errno.Errno.{Errno}
 use Rattle.model.specs.declared.reply.Reply.{Reply}
-use Rattle.model.specs.declared.reply.Reply.TheVariants.{Done, Fd, Refused}
+use Rattle.model.specs.declared.reply.Reply.TheVariants.{Done, Refused}
 use Rattle.buffers.specs.declared.blocks.Blocks.{Ghosts}
 use Rattle.inofile.specs.declared.inode_file.InodeFile.{InodeFile}
 use Rattle.records.specs.Prepared.{Does, IsReady}
@@ -26,21 +27,24 @@ use Rattle.records.specs.declared.prepared.Prepared.{Prepared}
 use Rattle.records.specs.declared.failure.Failure.{Failure}
 use Rattle.records.specs.declared.failure.Failure.TheVariants as failures
 use Rattle.calls.specs.Changing.{ComesOrStays, said_by}
-use Rattle.calls.specs.Preparing.{PreparesAny}
+use Rattle.calls.specs.Preparing.{Answer, PreparesAny}
+use Rattle.calls.specs.Store.{IsTransfer, PreparesStoring, StoresFile, change_of_store}
+use Rattle.calls.specs.declared.preparing.store.Storing.{Storing}
 use Rattle.calls.proofs.PrepareSteps.{carried}
 use Rattle.calls.specs.declared.changed.Changing.{Changing}
 use Rattle.descriptors.specs.Tables.{table_of}
 use Rattle.descriptors.specs.declared.table.Descriptors.{Descriptors}
 use Rattle.files.specs.Opened.{tree_with}
-use Rattle.files.specs.Opening.{OpensDescriptorOver}
+use Rattle.files.specs.Opening.{OpensDescriptorOver, opening_reply, with_opened}
 use Rattle.files.specs.Preparing.{Changes, PreparesOpen}
 use Rattle.files.specs.Writing.{WritesFile}
 use Rattle.files.specs.declared.opening.Opening.{Opening}
 use Rattle.files.specs.declared.written.Writing.{Writing}
 use Rattle.files.proofs.Preparing.{grants, refuses, stops}
-use Rattle.dispatch.specs.Changing.{CallComes}
+use Rattle.dispatch.specs.Changing.{CallComes, is_writing_call}
 use Rattle.dispatch.specs.OpenFiles.{FitsMove, WouldLead, moved_table}
-use Rattle.dispatch.specs.Preparing.{DoesBeside, DoesCall, KeepsRecord, MayDo, PreparesCall, of_prepared, recorded, said_change}
+use Rattle.dispatch.specs.Preparing.{DoesBeside, DoesCall, KeepsRecord, MayDo, PreparesCall, of_prepared, opening_call, recorded, said_change}
+use Rattle.dispatch.specs.Serving.{IsAccepted}
 use Rattle.dispatch.specs.declared.prepared_call.PreparedCall.{PreparedCall}
 use Rattle.dispatch.specs.declared.prepared_call.PreparedChange.{PreparedChange}
 use Rattle.dispatch.specs.declared.table_move.TableMove.{TableMove}
@@ -92,23 +96,47 @@ comes_so n v table call outcome None leads told = (tt, leads Done v nothing told
 comes_so n v table call outcome (Some c) leads told =
     (told.0, told.1, tt, leads Done (swept table (applied (said_by c.change) v)) (logs (work_of v (said_by c.change))) told.2)
 
-pub opens_so : (n : ℕ) (v : Volume) (files : Descriptors) (path : List ℕ) (flags : Flags) (mode : ℕ) (o : Opening) (c : Option Changing)
-    → OpensDescriptorOver (opens n (tree_with files v) path flags mode) n v files o c → DoesBeside n v (table_of files) (command.Open path flags mode) (Fd o.fd) (Opens o.fd o.file) (said_change c)
-opens_so n v files path flags mode o None told = (told.0, λ snapshots room. (told.1, refl))
-opens_so n v files path flags mode o (Some c) told = (told.0, told.1, told.2, λ snapshots room. (told.3, refl))
+-- ---- a file that is opened
+
+module _ (path : List ℕ) (flags : Flags) (mode below : ℕ) where
+  -- what `open` and `openstat` come to is what they lead to
+  pub opens_leads : (n : ℕ) (v : Volume) (table : ℕ → Option Description) (tells : Bool) (reply : Reply) (w : Volume) (after : ℕ → Option Description) (need : Need)
+      → opens tells below n (tree_of v table) path flags mode reply (tree_of w after) need → WouldLead n v table (opening_call tells path flags mode below) reply w after need
+  opens_leads n v table false reply w after need told snapshots room = (told, refl)
+  opens_leads n v table true reply w after need told snapshots room = (told, refl)
+
+  pub opening_kind : (tells : Bool) (o : Opening) → IsReplyTo (opening_call tells path flags mode below) (opening_reply tells o)
+  opening_kind false o = tt
+  opening_kind true o = tt
+
+  pub opens_so : (n : ℕ) (v : Volume) (files : Descriptors) (tells : Bool) (o : Opening) (c : Option Changing)
+      → OpensDescriptorOver (λ t. opens t below n (tree_with files v) path flags mode) n v files o c
+      → DoesBeside n v (table_of files) (opening_call tells path flags mode below) (opening_reply tells o) (Opens o.fd o.file) (said_change c)
+  opens_so n v files tells o None told = (told.0, opens_leads n v (table_of files) tells (opening_reply tells o) v (with_opened o files) nothing (told.1 tells))
+  opens_so n v files tells o (Some c) told =
+      let w = swept (table_of files) (applied (said_by c.change) v) in (
+        told.0,
+        told.1,
+        told.2,
+        opens_leads n v (table_of files) tells (opening_reply tells o) w (with_opened o files) (logs (work_of v (said_by c.change))) (told.3 tells),
+      )
+
+pub opening_accepted : (tells : Bool) (o : Opening) → IsAccepted (opening_reply tells o)
+opening_accepted false o errno is = cc
+opening_accepted true o errno is = cc
 
 -- ---- a call by a path
 
-path_leads : (call : PathCall) (n : ℕ) (v : Volume) (table : ℕ → Option Description) (reply : Reply) (w : Volume) (need : Need) → calls n (tree_of v table) call reply (tree_of w table) need
+pub path_leads : (call : PathCall) (n : ℕ) (v : Volume) (table : ℕ → Option Description) (reply : Reply) (w : Volume) (need : Need) → calls n (tree_of v table) call reply (tree_of w table) need
     → WouldLead n v table (command.Path call) reply w table need
 path_leads call n v table reply w need told snapshots room = (told, refl)
 
 module _ {B : Type 0} {G : Ghosts B} {a b : B} {s t : InodeFile} (call : PathCall) where
   -- it isn't refused
-  pub path_done : IsFalse (is_reading_call call) → (o : Option Changing) → PreparesAny G a b s t (CallComes call) (Ok o) → (files : Descriptors)
+  pub path_done : IsFalse (is_reading_call call) → IsFalse (is_writing_call call) → (o : Option Changing) → PreparesAny G a b s t (CallComes call) (Ok o) → (files : Descriptors)
       → PreparesCall G a b s t files (command.Path call) (Ok (record { reply = Done; change = said_change o; table = Stays }))
-  path_done changes o told files =
-      grants told.looks (record { kind = done_is_reply call changes; accepted = λ errno is. cc; moves = tt; numbered = tt; limits = said_within o }) (said_so o (λ p change. IsReady t p) told.ready)
+  path_done changes writes o told files =
+      grants told.looks (record { kind = done_is_reply call changes writes; accepted = λ errno is. cc; moves = tt; numbered = tt; limits = said_within o }) (said_so o (λ p change. IsReady t p) told.ready)
       (λ disk settled v stands. said_so o (λ p change. Does disk settled t v p change) (told.does disk settled v stands))
       (λ disk settled v stands volume mounted fits.
       comes_so s.geometry.inodes v (table_of files) (command.Path call) (calls s.geometry.inodes (tree_of v (table_of files)) call) o (path_leads call s.geometry.inodes v (table_of files))
@@ -122,3 +150,27 @@ module _ {B : Type 0} {G : Ghosts B} {a b : B} {s t : InodeFile} (call : PathCal
       path_leads call s.geometry.inodes v (table_of files) (Refused errno) v nothing (told.answers disk settled v (table_of files) stands volume mounted)))
   path_refused (failures.Read e) q is told files = carried (PreparesCall G a b s t files (command.Path call)) q is
       (stops told.looks told.damaged (λ disk settled v stands volume mounted fits. tt))
+
+-- ---- bytes that go to a file over a path
+
+-- what is prepared of them, if there are any
+abbrev pub of_storing : List ℕ → Changes (Option Storing)
+of_storing bytes o P = IfSome o (λ w. P w.prepared (change_of_store w bytes))
+
+-- as a call that is prepared beside a table of open files
+pub stores_beside : {B : Type 0} {G : Ghosts B} {a b : B} {s t : InodeFile} {bytes : List ℕ} {answer : Answer (Option Storing)} {r : Result (Option Storing) Failure} → PreparesStoring bytes G a b s t answer r → (files : Descriptors)
+    → PreparesOpen (of_storing bytes) (IsTransfer bytes) G a b s t files (λ v. answer s.geometry.inodes v (table_of files)) r
+stores_beside told files = record {
+  looks = told.looks;
+  own = told.own;
+  within = told.within;
+  ready = told.ready;
+  does = told.does;
+  answers = λ disk settled v stands volume mounted fits. told.answers disk settled v (table_of files) stands volume mounted;
+  damaged = told.damaged;
+}
+
+-- an offset as a number
+pub stores_at : (n : ℕ) (v : Volume) (table : ℕ → Option Description) (path bytes : List ℕ) (r : Result (Option Storing) Errno) {offset place : ℤ} → offset ≡ place
+    → StoresFile (stores (tree_of v table) path offset bytes) n v table bytes r → StoresFile (stores (tree_of v table) path place bytes) n v table bytes r
+stores_at n v table path bytes r is told = subst (λ (z : ℤ). StoresFile (stores (tree_of v table) path z bytes) n v table bytes r) is told

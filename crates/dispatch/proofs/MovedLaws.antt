@@ -9,6 +9,7 @@ use Rattle.model.specs.Paths.{Name}
 use Rattle.model.specs.Records.{Extends, is_vacant}
 use Rattle.model.specs.States.{State}
 use Rattle.model.specs.Trees.{Description, Tree}
+use Rattle.model.specs.declared.limits.TheConstants.{OPEN_FILES}
 use Rattle.model.specs.Volumes.{IsMounted, Node, Volume, directory_node, file_node, is_open, link_node, swept, swept_node}
 use Rattle.inofile.specs.Room.{memory_room}
 use Rattle.inofile.specs.declared.inode_file.InodeFile.{InodeFile}
@@ -84,9 +85,9 @@ dropped_vacant open_now (Some (file_node attributes (suc links) bytes)) kept sam
 pub sweep_extends : (running replayed : Volume) (table : ℕ → Option Description) → Extends running replayed → Extends (swept table running) replayed
 sweep_extends running replayed table extends = record {
   kept = λ n some.
-      let same = left_same (is_open table 32 n) (running n) some in
+      let same = left_same (is_open table OPEN_FILES n) (running n) some in
       extends.kept n (subst (λ (o : Option Node). IsSome o) same some) ∙ sym same;
-  rest = λ n none. dropped_vacant (is_open table 32 n) (running n) (replayed n) (extends.kept n) (extends.rest n) none;
+  rest = λ n none. dropped_vacant (is_open table OPEN_FILES n) (running n) (replayed n) (extends.kept n) (extends.rest n) none;
 }
 
 -- so the records that lead to it lead to what is left
@@ -101,6 +102,31 @@ sweep_replayed {running = running} table was = record {
 }
 
 -- ---- the system
+
+-- with the same open files, in a table that has more room
+abbrev pub roomy : {m : Meaning} {k : Parts} {table : ℕ → Option Description} {s : State} (serves : IsServing m k table s) (now_files : Descriptors) → table_of now_files ≡ table_of k.files
+    → ((v : Volume) → FitsVolume k.files v → FitsVolume now_files v) → IsServing m (record k { files = now_files }) table s
+roomy serves now_files same fits = record {
+  honest = serves.honest;
+  shows = serves.shows;
+  first = serves.first;
+  snapshots = serves.snapshots;
+  under = serves.under;
+  running = serves.running;
+  mounted = serves.mounted;
+  memory = serves.memory;
+  view = serves.view;
+  settled = serves.settled;
+  lasts = serves.lasts;
+  left = serves.left;
+  entries = serves.entries;
+  bridge = serves.bridge;
+  goes = serves.goes;
+  stored = serves.stored;
+  opened = serves.opened ∙ sym same;
+  fits = fits serves.running serves.fits;
+  state = serves.state;
+}
 
 module _ {m : Meaning} {k : Parts} {table : ℕ → Option Description} {s : State}
     (serves : IsServing m k table s) (now_files : Descriptors) (after : ℕ → Option Description) (opened : after ≡ table_of now_files) where

@@ -51,7 +51,8 @@ looking_not_sure f _ is = cc
 
 pub changing_not_sure : {S : Type 0} {G : Ghosts S} (f : System S G) (call : Command) → IsFalse (only_looks call) → NotSure f call
 changing_not_sure f (command.Path call) is = (λ s served sure. sure, λ once. once)
-changing_not_sure f (command.Open path flags mode) is = (λ s served sure. sure, λ once. once)
+changing_not_sure f (command.Open path flags mode below) is = (λ s served sure. sure, λ once. once)
+changing_not_sure f (command.OpenStat path flags mode below) is = (λ s served sure. sure, λ once. once)
 changing_not_sure f (command.Write fd given) is = (λ s served sure. sure, λ once. once)
 changing_not_sure f (command.Pwrite fd offset given) is = (λ s served sure. sure, λ once. once)
 changing_not_sure f (command.Ftruncate fd size) is = (λ s served sure. sure, λ once. once)

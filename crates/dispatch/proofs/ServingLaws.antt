@@ -30,6 +30,7 @@ use Rattle.records.specs.Failures.{read_outcome}
 use Rattle.records.specs.declared.failure.Failure.{Failure}
 use Rattle.records.specs.declared.failure.Failure.TheVariants as failures
 use Rattle.dispatch.specs.Answering.{answer_to, answered_reply}
+use Rattle.dispatch.specs.Changing.{is_writing_call}
 use Rattle.system.specs.Counting.{Counted, call_error_failed}
 use Rattle.system.specs.Errors.{call_error}
 use Rattle.system.specs.Images.{OpensTo}
@@ -67,14 +68,16 @@ own_want {T} r errno is own same =
     let not_true : IsTrue false = subst (λ (e : Errno). IsTrue (is_path_refusal e)) it here in
     cc
 
--- a changing call by a path is answered that it is done
-pub done_is_reply : (call : PathCall) → IsFalse (is_reading_call call) → IsReplyTo (command.Path call) Done
-done_is_reply (calling.List path) reads = cc
-done_is_reply (calling.Stat path) reads = cc
-done_is_reply (calling.Lstat path) reads = cc
-done_is_reply (calling.Readlink path) reads = cc
-done_is_reply (calling.Get path offset count) reads = cc
-done_is_reply other reads = tt
+-- a changing call by a path that writes no bytes is answered that it is done
+pub done_is_reply : (call : PathCall) → IsFalse (is_reading_call call) → IsFalse (is_writing_call call) → IsReplyTo (command.Path call) Done
+done_is_reply (calling.List path) reads writes = cc
+done_is_reply (calling.Entries path after count) reads writes = cc
+done_is_reply (calling.Stat path) reads writes = cc
+done_is_reply (calling.Lstat path) reads writes = cc
+done_is_reply (calling.Readlink path) reads writes = cc
+done_is_reply (calling.Get path offset count) reads writes = cc
+done_is_reply (calling.Store path offset given) reads writes = cc
+done_is_reply other reads writes = tt
 
 pub done_is_no_fault : TellsNoFault Done
 done_is_no_fault = (λ is. cc, λ is. cc)

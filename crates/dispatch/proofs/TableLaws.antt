@@ -1,17 +1,20 @@
 -- Tables of open files, and the files that they keep open.
-use Rattle.std.proofs.Common.{◌≡◌, ◌==◌, ◌||◌, inl, inr, ℕ, zero, suc, Bool, true, false, Option, Some, None, refl, sym, ap, ◌∙◌}
+use Rattle.std.proofs.Common.{◌≡◌, ◌≢◌, ◌==◌, ◌||◌, inl, inr, ℕ, zero, suc, Bool, true, false, Option, Some, None, refl, sym, ap, ◌∙◌}
 use Rattle.std.proofs.lemmas.Bool.{cases_Bool, cases_eq, false≢true, cond-true, cond-false, eq-eqb, ne_eqb, or_left, or_right}
 use Rattle.std.specs.Option.{option_map}
 use Rattle.std.specs.Prelude.{IsSome}
 use Rattle.model.specs.Trees.{Description}
+use Rattle.model.specs.declared.limits.TheConstants.{OPEN_FILES}
 use Rattle.model.specs.Volumes.{Node, Volume, directory_node, file_node, link_node, is_numbered, is_open, swept, swept_node}
 use Rattle.descriptors.specs.Files.{description_of}
-use Rattle.descriptors.specs.Tables.{open_at, put_open, table_of}
+use Rattle.descriptors.specs.Tables.{KeepsRoom, open_at, put_open, table_of}
 use Rattle.descriptors.specs.declared.open_file.OpenFile.{OpenFile}
 use Rattle.descriptors.specs.declared.table.Descriptors.{Descriptors}
 use Rattle.files.proofs.OpenLaws.{moved_numbers}
 use Rattle.records.specs.Opened.{HasNumbers}
-use Rattle.dispatch.specs.OpenFiles.{KeepsOpen}
+use Rattle.dispatch.specs.OpenFiles.{HasRoomToMove, KeepsOpen}
+use Rattle.dispatch.specs.declared.table_move.TableMove.{TableMove}
+use Rattle.dispatch.specs.declared.table_move.TableMove.TheVariants.{Moves, Opens, Stays}
 
 -- what is open among the first descriptors stays so
 open_stays : (table after : ℕ → Option Description) → KeepsOpen table after → (bound n : ℕ) → is_open table bound n ≡ true → is_open after bound n ≡ true
@@ -32,7 +35,7 @@ node_stays true now (Some (file_node attributes zero bytes)) keeps is = ap (λ b
 node_stays false now (Some (file_node attributes zero bytes)) keeps is = cc
 
 pub swept_stays : (table after : ℕ → Option Description) (v : Volume) → KeepsOpen table after → ((n : ℕ) → swept table v n ≡ v n) → (n : ℕ) → swept after v n ≡ v n
-swept_stays table after v keeps is n = node_stays (is_open table 32 n) (is_open after 32 n) (v n) (open_stays table after keeps 32 n) (is n)
+swept_stays table after v keeps is n = node_stays (is_open table OPEN_FILES n) (is_open after OPEN_FILES n) (v n) (open_stays table after keeps OPEN_FILES n) (is n)
 
 -- a file put at a descriptor that is free, or in place of one with its number, keeps open what is open
 pub put_keeps : (table : ℕ → Option Description) (fd : ℕ) (f : Description) → ((n : ℕ) → is_numbered (table fd) n ≡ true → is_numbered (Some f) n ≡ true) → KeepsOpen table (put_open fd (Some f) table)
@@ -59,3 +62,21 @@ pub move_numbers : (n : ℕ) (old new : Descriptors) (fd place : ℕ) → IsSome
 move_numbers n old new fd place some files has =
     let f = opened_file old fd some in
     moved_numbers n old new fd place f.0 f.1 (λ d. files d f.0 f.1) has
+
+-- ---- room
+
+-- what opens nothing needs none
+pub room_beside : (files : Descriptors) (move : TableMove) → ((fd : ℕ) (file : OpenFile) → move ≢ Opens fd file) → HasRoomToMove files move
+room_beside files Stays not = tt
+room_beside files (Moves fd place) not = tt
+room_beside files (Opens fd file) not = absurd (not fd file refl)
+
+-- what there is stays
+pub room_stays : (old new : Descriptors) (move : TableMove) → KeepsRoom old new → HasRoomToMove old move → HasRoomToMove new move
+room_stays old new Stays keeps room = tt
+room_stays old new (Moves fd place) keeps room = tt
+room_stays old new (Opens fd file) keeps room = keeps fd room
+
+-- a table with the same open files has the same numbers
+pub same_numbers : (n : ℕ) (old new : Descriptors) → ((fd : ℕ) → open_at new fd ≡ open_at old fd) → HasNumbers n old → HasNumbers n new
+same_numbers n old new same has = record { numbers = λ fd f is. has.numbers fd f (sym (same fd) ∙ is) }

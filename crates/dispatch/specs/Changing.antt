@@ -16,8 +16,14 @@ CallComes c inodes v table r = ComesOrStays (calls inodes (tree_of v table) c) i
 abbrev pub RecordComes : PathCall → Answer Changing
 RecordComes c inodes v table r = ComesSwept (calls inodes (tree_of v table) c) inodes v table r
 
--- the call may find nothing to change: it is `rename` or `truncate`
+-- the call writes bytes: it is `store`
+abbrev pub is_writing_call : PathCall → Bool
+is_writing_call (call.Store path offset given) = true
+is_writing_call _ = false
+
+-- the call may find nothing to change: it is `rename`, `renamenew` or `truncate`
 abbrev pub may_stay : PathCall → Bool
 may_stay (call.Rename old path) = true
+may_stay (call.RenameNew old path) = true
 may_stay (call.Truncate path size) = true
 may_stay _ = false

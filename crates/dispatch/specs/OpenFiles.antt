@@ -11,7 +11,8 @@ use Rattle.model.specs.declared.reply.Reply.{Reply}
 use Rattle.paths.specs.Numbers.{IsInodeNumber}
 use Rattle.descriptors.specs.Files.{KeepsBounds, description_of}
 use Rattle.descriptors.specs.Fits.{IsFileOf}
-use Rattle.descriptors.specs.Tables.{put_open}
+use Rattle.descriptors.specs.Tables.{HasRoom, put_open}
+use Rattle.descriptors.specs.declared.table.Descriptors.{Descriptors}
 use Rattle.files.specs.Writing.{moved_to}
 use Rattle.dispatch.specs.Serving.{WouldCall}
 use Rattle.system.specs.Systems.{state_with}
@@ -48,6 +49,12 @@ abbrev pub CanMove : (ℕ → Option Description) → TableMove → Type 0
 CanMove table Stays = Unit {0}
 CanMove table (Moves fd place) = IsSome (table fd) × (place ≤ GREATEST_OFFSET)
 CanMove table (Opens fd file) = (fd < OPEN_FILES) × (table fd ≡ None) × KeepsBounds file
+
+-- memory has room for it in this table
+abbrev pub HasRoomToMove : Descriptors → TableMove → Type 0
+HasRoomToMove files Stays = Unit {0}
+HasRoomToMove files (Moves fd place) = Unit {0}
+HasRoomToMove files (Opens fd file) = HasRoom files fd
 
 -- what is opened has a number of an object, in an image of so many inodes
 abbrev pub OpensNumber : ℕ → TableMove → Type 0

@@ -10,6 +10,7 @@ use Rattle.model.specs.Trees.{Description}
 use Rattle.model.specs.Volumes.{IsMounted, Volume, swept}
 use Rattle.model.specs.declared.command.Command.{Command}
 use Rattle.model.specs.declared.command.Command.TheVariants as command
+use Rattle.model.specs.declared.command.Flags.{Flags}
 use Rattle.model.specs.declared.errno.Errno.{Errno}
 use Rattle.model.specs.declared.limits.TheConstants.{TRANSFER_BYTES}
 use Rattle.model.specs.declared.reply.Reply.{Reply}
@@ -39,11 +40,17 @@ use Rattle.dispatch.specs.declared.table_move.TableMove.{TableMove}
 -- file
 abbrev pub only_looks : Command → Bool
 only_looks (command.Path call) = is_reading_call call
-only_looks (command.Open path flags mode) = false
+only_looks (command.Open path flags mode below) = false
+only_looks (command.OpenStat path flags mode below) = false
 only_looks (command.Write fd given) = false
 only_looks (command.Pwrite fd offset given) = false
 only_looks (command.Ftruncate fd size) = false
 only_looks _ = true
+
+-- the call opens a file, and is told of it or not
+abbrev pub opening_call : Bool → List ℕ → Flags → ℕ → ℕ → Command
+opening_call false path flags mode below = command.Open path flags mode below
+opening_call true path flags mode below = command.OpenStat path flags mode below
 
 -- what the record of a call says
 abbrev pub recorded : CallRecord → Change

@@ -31,17 +31,19 @@ use Rattle.system.specs.Serving.{HasEmptyLog, IsBrokenOff, LeavesEither, ServesS
 abbrev pub IsCall : Command → Type 0
 IsCall command.Sync = ⊥
 IsCall command.Df = ⊥
+IsCall command.Statfs = ⊥
 IsCall (command.SnapTake name) = ⊥
 IsCall (command.SnapDelete name) = ⊥
 IsCall (command.SnapRestore name) = ⊥
 IsCall call = Unit {0}
 
 -- The command takes no memory and calls no device, whatever the images hold: `lseek`, `fsync`,
--- `df`, and `close` but of a file that has no link.
+-- `df`, `statfs`, and `close` but of a file that has no link.
 abbrev pub IsAtOnce : Descriptors → Command → Type 0
 IsAtOnce files (command.Lseek fd whence offset) = Unit {0}
 IsAtOnce files (command.Fsync fd) = Unit {0}
 IsAtOnce files command.Df = Unit {0}
+IsAtOnce files command.Statfs = Unit {0}
 IsAtOnce files (command.Close fd) = IsLinked files fd
 IsAtOnce files call = ⊥
 

@@ -5,6 +5,7 @@ ghost use Rattle.layout.specs.Places.{blocks_of};
 ghost use Rattle.model.specs.declared.command.Command.{Command};
 ghost use Rattle.model.specs.Replies.{IsReplyTo};
 ghost use Rattle.model.specs.States.{State};
+ghost use Rattle.dispatch.specs.OpenFiles.{HasRoomToMove};
 ghost use Rattle.dispatch.specs.Preparing.{CanCarryOut, IsPreparedAt, PreparesOn, only_looks};
 ghost use Rattle.system.specs.Serving.{ServesState};
 ghost use Rattle.dispatch.specs.Serving.{Handles, HandlesAt, IsAccepted};
@@ -72,13 +73,35 @@ fn prepare<'a, S: Station>(
     )
 }
 
-// Does what is prepared for a call: logs its record, if it has one, and puts it in force; and
-// then moves the table of open files.
+// Does what is prepared for a call, or nothing for want of memory for what it opens.
 fn carry_out<S: Station>(
     system: &mut System<S>,
     prepared: PreparedCall<'_>,
 ) -> Result<Reply, CallError>
     requires { CanCarryOut (system_parts system.old) prepared }
+    ensures frame { (call : Command) → IsReplyTo call prepared.entry.reply
+        → IsAccepted prepared.entry.reply
+        → Handles system.old system.new call result }
+    ensures told { (call : Command) (s : State) (served : ServesState system.old s)
+        → IsPreparedAt (system_parts system.old) (blocks_of (disk_of system.old)) served.running call
+        prepared.entry → HandlesAt system.old system.new s served call result }
+    ensures quiet { prepared.entry.change ≡ None → system.new.log ≡ system.old.log }
+{
+    served_states_open(system);
+    match prepared.table.make_room(&mut system.files) {
+        Ok(()) => put_in_force(system, prepared),
+        Err(_) => Err(CallError::NoMemory),
+    }
+}
+
+// Does what is prepared for a call: logs its record, if it has one, and puts it in force; and
+// then moves the table of open files, which has room for it.
+fn put_in_force<S: Station>(
+    system: &mut System<S>,
+    prepared: PreparedCall<'_>,
+) -> Result<Reply, CallError>
+    requires can { CanCarryOut (system_parts system.old) prepared }
+    requires room { HasRoomToMove system.old.files prepared.table }
     ensures frame { (call : Command) → IsReplyTo call prepared.entry.reply
         → IsAccepted prepared.entry.reply
         → Handles system.old system.new call result }

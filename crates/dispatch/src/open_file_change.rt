@@ -2,9 +2,11 @@
 //! table of open files, as far as nothing of it is seen yet; or why they are refused. NoMemory;
 //! Device where a read failed; Damaged where a block on the way is outside its format.
 
+ghost use Rattle.std.specs.Prelude.{◌≡◌};
 ghost use Rattle.model.specs.declared.command.Command.TheVariants as command;
 ghost use Rattle.records.specs.Opened.{HasNumbers};
-ghost use Rattle.dispatch.specs.Preparing.{PreparesCall};
+ghost use Rattle.files.specs.Opening.{opening_reply};
+ghost use Rattle.dispatch.specs.Preparing.{PreparesCall, opening_call};
 
 use crate::prepared_call::{CallRecord, PreparedCall, PreparedChange, said};
 use crate::table_move::TableMove;
@@ -111,7 +113,9 @@ pub(crate) fn prepare_truncating<'a, B: Blocks>(
     })
 }
 
-/// The same of a file that is opened.
+/// The same of a file that is opened, and told of where `tells` says so. Its descriptor is the lowest
+/// that is free, and below a number.
+#[allow(clippy::too_many_arguments)]
 pub(crate) fn prepare_opening<'a, B: Blocks>(
     alloc: Global,
     inodes: &mut InodeFile,
@@ -120,15 +124,37 @@ pub(crate) fn prepare_opening<'a, B: Blocks>(
     path: &[u8],
     flags: Flags,
     mode: Mode,
+    below: u32,
+    tells: bool,
 ) -> Result<PreparedCall<'a>, Failure>
     ensures { PreparesCall B.Blocks blocks.old blocks.new inodes.old inodes.new files.now
-        (command.Open path.now flags mode) result }
+        (opening_call tells path.now flags mode below) result }
 {
-    let opening = prepare_open(alloc, inodes, blocks, files, path, flags, mode)?;
-    let Opening { fd, file, changing } = opening;
+    let opening = prepare_open(alloc, inodes, blocks, files, path, flags, mode, below)?;
+    let reply = reply_of(&opening, tells);
+    let Opening {
+        fd,
+        file,
+        changing,
+        ..
+    } = opening;
     Ok(PreparedCall {
-        reply: Reply::Fd(fd),
+        reply,
         change: said(changing),
         table: TableMove::Opens { fd, file },
     })
+}
+
+// What is answered of a file that is opened.
+fn reply_of(opening: &Opening, tells: bool) -> Reply
+    ensures { result ≡ opening_reply tells opening.now }
+{
+    let fd = opening.fd;
+    if tells {
+        return Reply::Opened {
+            fd,
+            stat: opening.stat,
+        };
+    }
+    Reply::Fd(fd)
 }

@@ -3,15 +3,16 @@
 ghost use Rattle.std.specs.Prelude.{IsFalse};
 ghost use Rattle.model.specs.Steps.{is_reading_call};
 ghost use Rattle.model.specs.declared.command.Command.TheVariants as command;
+ghost use Rattle.model.specs.declared.command.PathCall.TheVariants as call;
 ghost use Rattle.calls.specs.Preparing.{Prepares, PreparesAny};
 ghost use Rattle.descriptors.specs.declared.table.Descriptors.{Descriptors};
-ghost use Rattle.dispatch.specs.Changing.{CallComes, RecordComes, may_stay};
+ghost use Rattle.dispatch.specs.Changing.{CallComes, RecordComes, is_writing_call, may_stay};
 ghost use Rattle.dispatch.specs.Preparing.{PreparesCall};
 
-use crate::prepared_call::{PreparedCall, said};
+use crate::prepared_call::{CallRecord, PreparedCall, PreparedChange, said};
 use crate::table_move::TableMove;
 use buffers::Blocks;
-use calls::Changing;
+use calls::{Changing, Storing};
 use inofile::InodeFile;
 use model::{PathCall, Reply};
 use records::Failure;
@@ -24,9 +25,69 @@ pub(crate) fn prepare_path_call<'a, B: Blocks>(
     alloc: Global,
     inodes: &mut InodeFile,
     blocks: &mut B,
-    call: &PathCall<'_>,
+    call: &'a PathCall<'_>,
 ) -> Result<PreparedCall<'a>, Failure>
     requires { IsFalse (is_reading_call call.now) }
+    ensures { (files : Descriptors) → PreparesCall B.Blocks blocks.old blocks.new inodes.old inodes.new
+        files (command.Path call.now) result }
+{
+    match call {
+        PathCall::Store { path, offset, data } => {
+            let bytes = data.as_bytes();
+            prepare_storing(alloc, inodes, blocks, path.as_bytes(), *offset, bytes)
+        }
+        _ => prepare_done(alloc, inodes, blocks, call),
+    }
+}
+
+// The same of bytes that go to a file over a path.
+fn prepare_storing<'a, B: Blocks>(
+    alloc: Global,
+    inodes: &mut InodeFile,
+    blocks: &mut B,
+    path: &[u8],
+    offset: i64,
+    bytes: &'a [u8],
+) -> Result<PreparedCall<'a>, Failure>
+    ensures { (files : Descriptors) → PreparesCall B.Blocks blocks.old blocks.new inodes.old inodes.new
+        files (command.Path (call.Store path.now offset bytes.now)) result }
+{
+    let found = calls::store(alloc, inodes, blocks, path, offset, bytes)?;
+    match found {
+        Some(storing) => {
+            let Storing {
+                number,
+                offset,
+                prepared,
+            } = storing;
+            let record = CallRecord::Writes {
+                number,
+                offset,
+                bytes,
+            };
+            Ok(PreparedCall {
+                reply: Reply::Wrote(bytes.len() as u32),
+                change: Some(PreparedChange { record, prepared }),
+                table: TableMove::Stays,
+            })
+        }
+        None => Ok(PreparedCall {
+            reply: Reply::Wrote(0),
+            change: None,
+            table: TableMove::Stays,
+        }),
+    }
+}
+
+// The same of a call that is answered that it is done.
+fn prepare_done<'a, B: Blocks>(
+    alloc: Global,
+    inodes: &mut InodeFile,
+    blocks: &mut B,
+    call: &PathCall<'_>,
+) -> Result<PreparedCall<'a>, Failure>
+    requires changes { IsFalse (is_reading_call call.now) }
+    requires writes_none { IsFalse (is_writing_call call.now) }
     ensures { (files : Descriptors) → PreparesCall B.Blocks blocks.old blocks.new inodes.old inodes.new
         files (command.Path call.now) result }
 {
@@ -45,13 +106,17 @@ fn prepare_change<B: Blocks>(
     blocks: &mut B,
     call: &PathCall<'_>,
 ) -> Result<Option<Changing>, Failure>
-    requires { IsFalse (is_reading_call call.now) }
+    requires changes { IsFalse (is_reading_call call.now) }
+    requires writes_none { IsFalse (is_writing_call call.now) }
     ensures { PreparesAny B.Blocks blocks.old blocks.new inodes.old inodes.new
         (CallComes call.now) result }
 {
     match call {
         PathCall::Rename { old, new } => {
-            calls::rename(alloc, inodes, blocks, old.as_bytes(), new.as_bytes())
+            calls::rename(alloc, inodes, blocks, old.as_bytes(), new.as_bytes(), false)
+        }
+        PathCall::RenameNew { old, new } => {
+            calls::rename(alloc, inodes, blocks, old.as_bytes(), new.as_bytes(), true)
         }
         PathCall::Truncate { path, size } => {
             calls::truncate(alloc, inodes, blocks, path.as_bytes(), *size)
@@ -71,6 +136,7 @@ fn prepare_record<B: Blocks>(
     call: &PathCall<'_>,
 ) -> Result<Changing, Failure>
     requires changes { IsFalse (is_reading_call call.now) }
+    requires writes_none { IsFalse (is_writing_call call.now) }
     requires changes_always { IsFalse (may_stay call.now) }
     ensures { Prepares B.Blocks blocks.old blocks.new inodes.old inodes.new
         (RecordComes call.now) result }

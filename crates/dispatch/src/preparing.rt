@@ -33,8 +33,27 @@ pub(crate) fn prepare_call<'a, B: Blocks>(
 {
     match call {
         Command::Path(call) => prepare_path_call(alloc, inodes, blocks, call),
-        Command::Open { path, flags, mode } => {
-            prepare_opening(alloc, inodes, blocks, files, path.as_bytes(), *flags, *mode)
+        Command::Open {
+            path,
+            flags,
+            mode,
+            below,
+        } => {
+            let path = path.as_bytes();
+            prepare_opening(
+                alloc, inodes, blocks, files, path, *flags, *mode, *below, false,
+            )
+        }
+        Command::OpenStat {
+            path,
+            flags,
+            mode,
+            below,
+        } => {
+            let path = path.as_bytes();
+            prepare_opening(
+                alloc, inodes, blocks, files, path, *flags, *mode, *below, true,
+            )
         }
         Command::Write { fd, data } => {
             prepare_writing(alloc, inodes, blocks, files, *fd, data.as_bytes())

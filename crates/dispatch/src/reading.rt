@@ -20,6 +20,7 @@ pub(crate) fn is_reading(call: &PathCall<'_>) -> bool
 {
     match call {
         PathCall::List { .. } => true,
+        PathCall::Entries { .. } => true,
         PathCall::Stat { .. } => true,
         PathCall::Lstat { .. } => true,
         PathCall::Readlink { .. } => true,
@@ -46,6 +47,10 @@ pub(crate) fn read<B: Blocks>(
         PathCall::List { path } => {
             let names = calls::list(alloc, inodes, blocks, path.as_bytes())?;
             Ok(Reply::Names(names))
+        }
+        PathCall::Entries { path, after, count } => {
+            let entries = calls::entries(alloc, inodes, blocks, path.as_bytes(), *after, *count)?;
+            Ok(Reply::Entries(entries))
         }
         PathCall::Stat { path } => {
             let stat = calls::stat(alloc, inodes, blocks, path.as_bytes())?;

@@ -34,6 +34,7 @@ fn looks_only(call: &Command<'_>) -> bool
     match call {
         Command::Path(call) => is_reading(call),
         Command::Open { .. } => false,
+        Command::OpenStat { .. } => false,
         Command::Write { .. } => false,
         Command::Pwrite { .. } => false,
         Command::Ftruncate { .. } => false,

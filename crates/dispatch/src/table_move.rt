@@ -1,13 +1,14 @@
 //! What calls do to the table of open files.
 
-ghost use Rattle.std.specs.Prelude.{◌≡◌, ℕ};
+ghost use Rattle.std.specs.Prelude.{◌≡◌, ℕ, OnOk};
 ghost use Rattle.model.specs.Volumes.{IsMounted, Volume};
 ghost use Rattle.descriptors.specs.Fits.{FitsVolume};
 ghost use Rattle.descriptors.specs.Tables.{table_of};
 ghost use Rattle.records.specs.Opened.{HasNumbers};
-ghost use Rattle.dispatch.specs.OpenFiles.{CanMove, FitsMove, OpensNumber, moved_table};
+ghost use Rattle.dispatch.specs.OpenFiles.{CanMove, FitsMove, HasRoomToMove, OpensNumber, moved_table};
 
 use descriptors::{Descriptors, OpenFile, tables_follow_volumes};
+use std::alloc::AllocError;
 
 /// What a call does to the table of open files.
 #[derive(Clone, Copy)]
@@ -21,9 +22,24 @@ pub(crate) enum TableMove {
 }
 
 impl TableMove {
+    /// Takes the memory for it. Nothing else changes.
+    pub(crate) fn make_room(self, files: &mut Descriptors) -> Result<(), AllocError>
+        requires { CanMove (table_of files.old) self }
+        ensures room { OnOk result (HasRoomToMove files.new self) }
+        ensures table { table_of files.new ≡ table_of files.old }
+        ensures fits { (v : Volume) → FitsVolume files.old v → FitsVolume files.new v }
+        ensures numbers { (n : ℕ) → HasNumbers n files.old → HasNumbers n files.new }
+    {
+        match self {
+            TableMove::Opens { fd, file: _file } => files.make_room(fd),
+            _ => Ok(()),
+        }
+    }
+
     /// Does it.
     pub(crate) fn put_into(self, files: &mut Descriptors)
-        requires { CanMove (table_of files.old) self }
+        requires can { CanMove (table_of files.old) self }
+        requires room { HasRoomToMove files.old self }
         ensures table { table_of files.new ≡ moved_table self (table_of files.old) }
         ensures fits { (v : Volume) → FitsVolume files.old v → FitsMove v self
             → FitsVolume files.new v }

@@ -2,7 +2,6 @@
 use Rattle.std.proofs.Common.{◌≡◌, ◌≢◌, ◌<◌, ◌≤◌, ◌==◌, inl, inr, ℕ, zero, suc, Bool, true, false, Option, Some, None, Result, Ok, Err, OnErr, OnOk, refl, sym, ap, subst, ◌∙◌, arith}
 use Rattle.std.proofs.Math.Path.{fun_ext}
 use Rattle.std.proofs.lemmas.Bool.{cases_Bool, cases_eq, cases_lt, cond-true, cond-false, eq-eqb, ne_eqb}
-use Rattle.std.proofs.lemmas.List.{get_or_past}
 use Rattle.std.specs.Option.{option_map}
 use Rattle.model.specs.Descriptors.{closes}
 use Rattle.model.specs.Edits.{IsSwept, with_descriptor}
@@ -10,6 +9,7 @@ use Rattle.model.specs.Outcomes.{Outcome, changes_swept}
 use Rattle.model.specs.Room.{nothing}
 use Rattle.model.specs.Trees.{Tree, Description}
 use Rattle.model.specs.Volumes.{IsMounted, IsVolume, Node, Volume, directory_node, file_node, link_node, is_file_node, is_orphan, is_open, swept, swept_node, tree_of, with_node}
+use Rattle.model.specs.declared.limits.TheConstants.{OPEN_FILES}
 use Rattle.model.specs.declared.reply.Reply.TheVariants.{Done, Refused}
 use Rattle.model.specs.declared.errno.Errno.TheVariants.{EBADF}
 use Rattle.buffers.specs.Errors.{IsFault}
@@ -28,6 +28,7 @@ use Rattle.descriptors.specs.Files.{Figures, description_of, figures_of, node_fi
 use Rattle.descriptors.specs.Fits.{FitsVolume}
 use Rattle.descriptors.specs.Tables.{open_at, put_open, table_of}
 use Rattle.descriptors.specs.declared.open_file.OpenFile.{OpenFile}
+use Rattle.descriptors.proofs.FitLemmas.{past_bound}
 use Rattle.descriptors.specs.declared.table.Descriptors.{Descriptors}
 use Rattle.files.specs.Closing.{ClosesReady, IsOpenOrphan, PreparesClose, swept_at}
 use Rattle.files.specs.Opened.{tree_with}
@@ -36,8 +37,8 @@ use Rattle.files.proofs.OpenLaws as laws
 use Rattle.model.proofs.ObjectLaws.{node_here, node_other}
 
 -- nothing is open past the table's end
-past_end : (t : Descriptors) (d : ℕ) → 32 ≤ d → table_of t d ≡ None
-past_end t d past = ap (option_map description_of) (get_or_past t.files d None (omega (arith, past, t.whole)))
+past_end : (t : Descriptors) (d : ℕ) → OPEN_FILES ≤ d → table_of t d ≡ None
+past_end t d past = ap (option_map description_of) (past_bound t d past)
 
 -- what stays where nothing is open stays whatever is open
 stays_any : (open_now : Bool) (o : Option Node) → swept_node false o ≡ o → swept_node open_now o ≡ o
@@ -85,35 +86,35 @@ module _ (old new : Descriptors) (fd : ℕ) (freed : table_of new ≡ put_open f
     close_mounted mounted = record {
       files = λ d g e.
           let was = was_open d g e in
-          elim (cases_lt d 32) [
-            | inl below ↦ ap is_file_node (ap (λ b. swept_node b (v g.number)) (found_open (table_of new) 32 d g.number g below e refl) ∙ stays_open (v g.number)) ∙ mounted.files d g was
+          elim (cases_lt d OPEN_FILES) [
+            | inl below ↦ ap is_file_node (ap (λ b. swept_node b (v g.number)) (found_open (table_of new) OPEN_FILES d g.number g below e refl) ∙ stays_open (v g.number)) ∙ mounted.files d g was
             | inr past ↦ let none : None ≡ Some g = sym (past_end new d past) ∙ e in cc
           ];
-      is_swept = λ n. swept_twice (is_open (table_of new) 32 n) (v n);
+      is_swept = λ n. swept_twice (is_open (table_of new) OPEN_FILES n) (v n);
       bounded = past_end new;
       offsets = λ d g e. mounted.offsets d g (was_open d g e);
     }
 
     module _ (f : OpenFile) (some : open_at old fd ≡ Some f) where
       -- a number that is open elsewhere stays open
-      open_other : (n : ℕ) → n ≢ f.number → is_open (table_of old) 32 n ≡ true → is_open (table_of new) 32 n ≡ true
+      open_other : (n : ℕ) → n ≢ f.number → is_open (table_of old) OPEN_FILES n ≡ true → is_open (table_of new) OPEN_FILES n ≡ true
       open_other n differs opened =
-          let at = opened_by (table_of old) 32 n opened in
+          let at = opened_by (table_of old) OPEN_FILES n opened in
           let d : ℕ = at.0 in
           let g : Description = at.1 in
           let here : table_of old fd ≡ Some (description_of f) = ap (option_map description_of) some in
           let other : d ≢ fd = λ same. differs (sym at.3 ∙ ap (λ (k : Description). k.number) (some_same (sym at.2 ∙ ap (table_of old) same ∙ here))) in
           let now : table_of new d ≡ Some g = as_it_was d other ∙ at.2 in
-          elim (cases_lt d 32) [
-            | inl below ↦ found_open (table_of new) 32 d n g below now at.3
+          elim (cases_lt d OPEN_FILES) [
+            | inl below ↦ found_open (table_of new) OPEN_FILES d n g below now at.3
             | inr past ↦ let none : None ≡ Some g = sym (past_end new d past) ∙ now in cc
           ]
 
       swept_other : IsMounted v (table_of old) → (n : ℕ) → n ≢ f.number → swept (table_of new) v n ≡ v n
       swept_other mounted n differs =
-          elim (cases_Bool (is_open (table_of old) 32 n)) [
+          elim (cases_Bool (is_open (table_of old) OPEN_FILES n)) [
             | inl opened ↦ ap (λ b. swept_node b (v n)) (open_other n differs opened) ∙ stays_open (v n)
-            | inr closed ↦ stays_any (is_open (table_of new) 32 n) (v n) (sym (ap (λ b. swept_node b (v n)) closed) ∙ mounted.is_swept n)
+            | inr closed ↦ stays_any (is_open (table_of new) OPEN_FILES n) (v n) (sym (ap (λ b. swept_node b (v n)) closed) ∙ mounted.is_swept n)
           ]
 
       pub one_swept : IsMounted v (table_of old) → swept_at (table_of new) f.number v ≡ left
@@ -121,9 +122,9 @@ module _ (old new : Descriptors) (fd : ℕ) (freed : table_of new ≡ put_open f
           fun_ext {f = swept_at (table_of new) f.number v} {g = left}
           (λ n. elim (cases_eq n f.number) [
             | inl same ↦
-                node_here f.number n (swept_node (is_open (table_of new) 32 f.number) (v f.number)) v same
-                ∙ ap (λ (m : ℕ). swept_node (is_open (table_of new) 32 m) (v m)) (sym same)
-            | inr differs ↦ node_other f.number n (swept_node (is_open (table_of new) 32 f.number) (v f.number)) v differs ∙ sym (swept_other mounted n differs)
+                node_here f.number n (swept_node (is_open (table_of new) OPEN_FILES f.number) (v f.number)) v same
+                ∙ ap (λ (m : ℕ). swept_node (is_open (table_of new) OPEN_FILES m) (v m)) (sym same)
+            | inr differs ↦ node_other f.number n (swept_node (is_open (table_of new) OPEN_FILES f.number) (v f.number)) v differs ∙ sym (swept_other mounted n differs)
           ])
 
 -- ---- a descriptor that isn't open
@@ -141,22 +142,22 @@ module _ (table : Descriptors) (v : Volume) (mounted : IsMounted v (table_of tab
 -- ---- the file of a descriptor that is freed
 
 module _ (table : ℕ → Option Description) (n : ℕ) (v : Volume) where
-  pub drops : is_open table 32 n ≡ false → with_node n (swept_node false (v n)) v ≡ swept_at table n v
+  pub drops : is_open table OPEN_FILES n ≡ false → with_node n (swept_node false (v n)) v ≡ swept_at table n v
   drops closed = ap (λ (b : Bool). with_node n (swept_node b (v n)) v) (sym closed)
 
-  stays_at : swept_node (is_open table 32 n) (v n) ≡ v n → v ≡ swept_at table n v
+  stays_at : swept_node (is_open table OPEN_FILES n) (v n) ≡ v n → v ≡ swept_at table n v
   stays_at same =
       fun_ext {f = v} {g = swept_at table n v}
       (λ k. elim (cases_eq k n) [
-        | inl here ↦ ap v here ∙ sym same ∙ sym (node_here n k (swept_node (is_open table 32 n) (v n)) v here)
-        | inr other ↦ sym (node_other n k (swept_node (is_open table 32 n) (v n)) v other)
+        | inl here ↦ ap v here ∙ sym same ∙ sym (node_here n k (swept_node (is_open table OPEN_FILES n) (v n)) v here)
+        | inr other ↦ sym (node_other n k (swept_node (is_open table OPEN_FILES n) (v n)) v other)
       ])
 
-  pub open_stays : is_open table 32 n ≡ true → v ≡ swept_at table n v
+  pub open_stays : is_open table OPEN_FILES n ≡ true → v ≡ swept_at table n v
   open_stays opened = stays_at (ap (λ (b : Bool). swept_node b (v n)) opened ∙ stays_open (v n))
 
   pub named_stays : (figures : Figures) → node_figures (v n) ≡ Some figures → 0 < figures.links → v ≡ swept_at table n v
-  named_stays figures is some = stays_at (stays_named (is_open table 32 n) (v n) (not_orphan (v n) figures is some))
+  named_stays figures is some = stays_at (stays_named (is_open table OPEN_FILES n) (v n) (not_orphan (v n) figures is some))
 
 -- a descriptor less changes no number
 pub freed_numbers : (inodes : ℕ) (old new : Descriptors) (fd : ℕ) → ((d : ℕ) → open_at new d ≡ put_open fd None (open_at old) d) → HasNumbers inodes old → HasNumbers inodes new

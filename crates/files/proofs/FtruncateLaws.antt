@@ -10,7 +10,7 @@ use Rattle.model.specs.Room.{logs, nothing}
 use Rattle.model.specs.Trees.{Tree, Description}
 use Rattle.model.specs.Volumes.{IsMounted, Volume, swept, tree_of}
 use Rattle.model.specs.declared.errno.Errno.{Errno}
-use Rattle.model.specs.declared.reply.Reply.TheVariants.{Done}
+use Rattle.model.specs.declared.reply.Reply.TheVariants.{Done, Refused}
 use Rattle.calls.specs.Changing.{ComesOrStays, ComesSweptBy}
 use Rattle.calls.specs.Truncate.{TruncatesFile}
 use Rattle.calls.specs.declared.changed.Changing.{Changing}
@@ -20,7 +20,12 @@ use Rattle.descriptors.specs.declared.table.Descriptors.{Descriptors}
 use Rattle.files.specs.Ftruncate.{truncate_tests}
 use Rattle.files.specs.Opened.{tree_with}
 use Rattle.files.specs.Reading.{PassesOpen}
-use Rattle.files.proofs.ReadLaws.{open_passes}
+use Rattle.files.proofs.ReadLaws.{open_passes, open_refused}
+
+-- the call is refused by a test
+pub ftruncate_refused : (v : Volume) (table : Descriptors) (fd : ℕ) (size : ℤ) (errno : Errno) → PassesOpen (truncate_tests size) table fd (Err errno)
+    → truncates_open (tree_with table v) fd size (Refused errno) (tree_with table v) nothing
+ftruncate_refused v table fd size errno is = open_refused table v fd (truncate_tests size) (λ d. truncates_file (tree_with table v) d.number (nat_abs size)) errno is
 
 module _ (inodes : ℕ) (v : Volume) (table : Descriptors) (fd : ℕ) (size : ℤ) (f : OpenFile) where
   abbrev t : Tree

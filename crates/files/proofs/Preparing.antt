@@ -15,6 +15,7 @@ use Rattle.paths.proofs.Looks.{looks_err, looks_ok}
 use Rattle.records.specs.Failures.{read_outcome}
 use Rattle.records.specs.Prepared.{Does, IsReady}
 use Rattle.records.specs.Shown.{NeverDamaged, OnVolumes}
+use Rattle.records.proofs.StandLaws.{no_look}
 use Rattle.records.specs.declared.failure.Failure.{Failure}
 use Rattle.records.specs.declared.failure.Failure.TheVariants.{Refused, Read}
 use Rattle.calls.specs.Preparing.{Answer, PreparesWith}
@@ -72,6 +73,11 @@ module _ {B T : Type 0} {changes : Changes T} {W : T → Type 0} {G : Ghosts B} 
 any : {T : Type 0} (r : Result T Failure) → IfOk r IsAny
 any (Ok x) = tt
 any (Err f) = tt
+
+-- a test refuses the call, before anything is done
+pub refused_at_once : {B T : Type 0} {changes : Changes T} {W : T → Type 0} {G : Ghosts B} {a : B} {s : InodeFile} {table : Descriptors} {P : Volume → Result T Errno → Type 0} (e : Errno) (q : Result T Failure)
+    → IsErrAnd q (λ g. g ≡ Refused e) → IsTrue (is_path_refusal e) → OnOpen G a s table (λ v. P v (Err e)) → PreparesOpen changes W G a a s s table P q
+refused_at_once {changes = changes} {W = W} {G = G} {a = a} {s = s} {table = table} {P = P} e q is own told = carried (PreparesOpen changes W G a a s s table P) q is (refuses no_look own told)
 
 module _ {B T : Type 0} {G : Ghosts B} {a b : B} {s t : InodeFile} {table : Descriptors} {P : Volume → Result T Errno → Type 0} where
   -- another call has failed, and so does this one

@@ -65,6 +65,9 @@ module _ (table : Descriptors) (v : Volume) (fd count : ℕ) where
   abbrev reading : Description → Outcome
   reading f = changes (Data (given f)) (with_offset fd f (f.offset + length (given f)) tree) nothing
 
+  pub read_refused : (errno : Errno) → PassesOpen (read_tests (is_too_many count)) table fd (Err errno) → reads tree fd count (Refused errno) tree nothing
+  read_refused errno is = open_refused table v fd (read_tests (is_too_many count)) reading errno is
+
   pub read_done : (new : Descriptors) (f : OpenFile) (bytes : List ℕ) → PassesOpen (read_tests (is_too_many count)) table fd (Ok f) → KeepsBounds f → FitsVolume table v
       → ReadsFile v f.number f.offset count (Ok bytes)
       → table_of new ≡ put_open fd (Some (record (description_of f) { offset = min (f.offset + length bytes) 9223372036854775807 })) (table_of table)
@@ -86,6 +89,9 @@ module _ (table : Descriptors) (v : Volume) (fd : ℕ) (offset : ℤ) (count : �
 
   abbrev reading_from : Description → Outcome
   reading_from f = answers tree_now (Data (read_at (nat_abs offset) count (contents tree_now f.number)))
+
+  pub pread_refused : (errno : Errno) → PassesOpen (read_tests (is_negative offset || is_too_many count)) table fd (Err errno) → reads_from tree_now fd offset count (Refused errno) tree_now nothing
+  pread_refused errno is = open_refused table v fd (read_tests (is_negative offset || is_too_many count)) reading_from errno is
 
   pub pread_done : (f : OpenFile) (bytes : List ℕ) → PassesOpen (read_tests (is_negative offset || is_too_many count)) table fd (Ok f) → ReadsFile v f.number (nat_abs offset) count (Ok bytes)
       → reads_from tree_now fd offset count (Data bytes) tree_now nothing

@@ -42,11 +42,27 @@ use Rattle.files.specs.declared.written.Written.{Written}
 use Rattle.files.specs.declared.written.Writing.{Writing}
 use Rattle.files.proofs.OpenLaws.{at_file}
 use Rattle.files.proofs.Preparing.{refuses, stops}
-use Rattle.files.proofs.ReadLaws.{figured_size, open_passes}
+use Rattle.files.proofs.ReadLaws.{figured_size, open_passes, open_refused}
 
 -- a moved offset in the tree
 moved_in_tree : (table : ℕ → Option Description) (fd place : ℕ) (v : Volume) (f : Description) → table fd ≡ Some f → with_offset fd f place (tree_of v table) ≡ tree_of v (moved_to fd place table)
 moved_in_tree table fd place v f is = ap (λ (o : Option Description). tree_of v (put_open fd (option_map (at_place place) o) table)) (sym is)
+
+-- ---- a write that is refused by a test
+
+module _ (v : Volume) (table : Descriptors) (fd : ℕ) (bytes : List ℕ) where
+  abbrev whole : Tree
+  whole = tree_with table v
+
+  pub write_refused : (errno : Errno) → PassesOpen (write_tests (is_too_many (length bytes))) table fd (Err errno) → writes whole fd bytes (Refused errno) whole nothing
+  write_refused errno is =
+      open_refused table v fd (write_tests (is_too_many (length bytes)))
+      (λ d. let offset = if d.appends then length (contents whole d.number) else d.offset in puts whole d.number offset bytes (with_offset fd d (offset + length bytes))) errno is
+
+  pub pwrite_refused : (offset : ℤ) (errno : Errno) → PassesOpen (write_tests (is_negative offset || is_too_many (length bytes))) table fd (Err errno)
+      → writes_to whole fd offset bytes (Refused errno) whole nothing
+  pwrite_refused offset errno is =
+      open_refused table v fd (write_tests (is_negative offset || is_too_many (length bytes))) (λ d. puts whole d.number (nat_abs offset) bytes (λ after. after)) errno is
 
 -- ---- bytes that go to an open file
 

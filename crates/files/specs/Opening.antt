@@ -1,13 +1,14 @@
 -- What opening a file comes to.
-use Rattle.std.specs.Prelude.{ℕ, ◌≡◌, ◌<◌, Option, Some, None, Result, Ok, Err}
+use Rattle.std.specs.Prelude.{ℕ, ◌≡◌, ◌<◌, Bool, false, true, Option, Some, None, Result, Ok, Err}
 use Rattle.model.specs.Outcomes.{Outcome}
 use Rattle.model.specs.Records.{Applies, applied, work_of}
-use Rattle.model.specs.Room.{logs, nothing}
+use Rattle.model.specs.Room.{Need, logs, nothing}
 use Rattle.model.specs.Trees.{Description}
 use Rattle.model.specs.Volumes.{IsMounted, Volume, swept, tree_of}
 use Rattle.model.specs.declared.errno.Errno.{Errno}
 use Rattle.model.specs.declared.limits.TheConstants.{OPEN_FILES}
-use Rattle.model.specs.declared.reply.Reply.TheVariants.{Fd, Refused}
+use Rattle.model.specs.declared.reply.Reply.{Reply}
+use Rattle.model.specs.declared.reply.Reply.TheVariants.{Fd, Opened, Refused}
 use Rattle.paths.specs.Numbers.{IsInodeNumber}
 use Rattle.calls.specs.Changing.{said_by}
 use Rattle.calls.specs.declared.changed.Changing.{Changing}
@@ -31,16 +32,26 @@ CanOpen table inodes o = (o.fd < OPEN_FILES) × (open_at table o.fd ≡ None) ×
 abbrev pub with_opened : Opening → Descriptors → ℕ → Option Description
 with_opened o table = put_open o.fd (Some (description_of o.file)) (table_of table)
 
+-- what is answered: the descriptor, and what `fstat` tells of the file then where that is asked
+abbrev pub opening_reply : Bool → Opening → Reply
+opening_reply false o = Fd o.fd
+opening_reply true o = Opened o.fd o.stat
+
+-- so opening a file is answered, whether it is told of or not, over this volume and for this need
+abbrev pub IsOpenedOver : (Bool → Outcome) → Volume → Descriptors → Opening → Need → Type 0
+IsOpenedOver outcome v table o need =
+    (tells : Bool) → outcome tells (opening_reply tells o) (tree_of v (with_opened o table)) need
+
 -- what opening a file comes to that changes nothing beside, or does what a record says
-abbrev pub OpensDescriptorOver : Outcome → ℕ → Volume → Descriptors → Opening → Option Changing → Type 0
-OpensDescriptorOver outcome inodes v table o None = IsFileOf v o.file × outcome (Fd o.fd) (tree_of v (with_opened o table)) nothing
+abbrev pub OpensDescriptorOver : (Bool → Outcome) → ℕ → Volume → Descriptors → Opening → Option Changing → Type 0
+OpensDescriptorOver outcome inodes v table o None = IsFileOf v o.file × IsOpenedOver outcome v table o nothing
 OpensDescriptorOver outcome inodes v table o (Some c) =
     Applies inodes v (said_by c.change)
     × IsMounted (swept (table_of table) (applied (said_by c.change) v)) (table_of table)
     × IsFileOf (swept (table_of table) (applied (said_by c.change) v)) o.file
-    × outcome (Fd o.fd) (tree_of (swept (table_of table) (applied (said_by c.change) v)) (with_opened o table)) (logs (work_of v (said_by c.change)))
+    × IsOpenedOver outcome (swept (table_of table) (applied (said_by c.change) v)) table o (logs (work_of v (said_by c.change)))
 
--- what opening comes to: a refusal, or a file at a descriptor
-abbrev pub OpensDescriptor : Outcome → ℕ → Volume → Descriptors → Result Opening Errno → Type 0
-OpensDescriptor outcome inodes v table (Err errno) = outcome (Refused errno) (tree_with table v) nothing
+-- what opening comes to, whether the file is told of or not: a refusal, or a file at a descriptor
+abbrev pub OpensDescriptor : (Bool → Outcome) → ℕ → Volume → Descriptors → Result Opening Errno → Type 0
+OpensDescriptor outcome inodes v table (Err errno) = (tells : Bool) → outcome tells (Refused errno) (tree_with table v) nothing
 OpensDescriptor outcome inodes v table (Ok o) = OpensDescriptorOver outcome inodes v table o o.changing

@@ -13,7 +13,7 @@ use buffers::Blocks;
 use calls::{Changing, open_along};
 use descriptors::{Descriptors, OpenFile};
 use inofile::InodeFile;
-use model::{Errno, Flags, Mode};
+use model::{Errno, FileType, Flags, Mode, Stat};
 use paths::{Parts, refusal_of_text};
 use records::Failure;
 use std::alloc::Global;
@@ -25,18 +25,21 @@ pub struct Opening {
     pub fd: u32,
     /// The file as it is open then.
     pub file: OpenFile,
+    /// What `fstat` tells of it then.
+    pub stat: Stat,
     /// What is changed beside: the file is made, or truncated to no bytes.
     pub changing: Option<Changing>,
 }
 
 /// Opens the file where a path leads, or makes one where the flags say so, as far as nothing of it
-/// is seen yet: prepares the record, if there is one, and tells the descriptor and the open file
-/// that the table is to have. Or tells why the call is refused: EINVAL where the flags want a new
-/// file and don't say that one is made, or want a file truncated that isn't for writing; EMFILE
-/// where no descriptor is free; EEXIST where a new file is wanted and something stands there;
-/// EISDIR of a directory; ENOENT where nothing stands there and no file is to be made. NoMemory;
-/// Device where a read failed; Damaged where a block on the way is outside its format, or where a
-/// number that is free has an object.
+/// is seen yet: prepares the record, if there is one, and tells the descriptor, which is below a
+/// number, the open file that the table is to have, and what `fstat` tells of it then. Or tells why
+/// the call is refused: EINVAL where the flags want a new file and don't say that one is made, or
+/// want a file truncated that isn't for writing; EMFILE where no such descriptor is free; EEXIST
+/// where a new file is wanted and something stands there; EISDIR of a directory; ENOENT where
+/// nothing stands there and no file is to be made. NoMemory; Device where a read failed; Damaged
+/// where a block on the way is outside its format, or where a number that is free has an object.
+#[allow(clippy::too_many_arguments)]
 pub fn prepare_open<B: Blocks>(
     alloc: Global,
     inodes: &mut InodeFile,
@@ -45,11 +48,12 @@ pub fn prepare_open<B: Blocks>(
     path: &[u8],
     flags: Flags,
     mode: Mode,
+    below: u32,
 ) -> Result<Opening, Failure>
     ensures { PreparesOpen of_opening (CanOpen table.now inodes.old.geometry.inodes) B.Blocks
         blocks.old blocks.new inodes.old inodes.new table.now
-        (λ v. OpensDescriptor (opens inodes.old.geometry.inodes (tree_with table.now v) path.now flags mode)
-        inodes.old.geometry.inodes v table.now) result }
+        (λ v. OpensDescriptor (λ tells. opens tells below inodes.old.geometry.inodes
+        (tree_with table.now v) path.now flags mode) inodes.old.geometry.inodes v table.now) result }
 {
     let parts = Parts::of(alloc, path)?;
     if let Some(errno) = refusal_of_text(path, &parts) {
@@ -58,14 +62,22 @@ pub fn prepare_open<B: Blocks>(
     if let Some(errno) = refusal_of_flags(flags) {
         return Err(Failure::Refused(errno));
     }
-    let Some(fd) = table.lowest_free() else {
+    let Some(fd) = table.lowest_free(below) else {
         return Err(Failure::Refused(Errno::EMFILE));
     };
     let opened = open_along(alloc, inodes, blocks, path, parts, flags, mode)?;
-    let file = OpenFile::opened(opened.number.get(), flags, opened.size, opened.links);
+    let stat = Stat {
+        number: opened.number.get(),
+        kind: FileType::File,
+        mode: opened.mode,
+        links: opened.links,
+        size: opened.size,
+    };
+    let file = OpenFile::opened(stat.number, flags, stat.size, stat.links);
     Ok(Opening {
         fd,
         file,
+        stat,
         changing: opened.changing,
     })
 }

@@ -2,6 +2,7 @@ pub mod BitLaws
 pub mod DetailLaws
 pub mod ObjectLaws
 pub mod VolumeLaws
+mod CountLaws
 mod SlotLaws
 pub mod VersionLaws
 mod FileLaws

@@ -35,7 +35,7 @@ pub struct InodeFile {
     ghost changes: { ChangesObjects geometry.inodes slots },
 }
 
-ghost use Rattle.std.specs.Prelude.{◌≡◌, ◌≢◌, ◌≤◌, ◌<◌, ◌*◌, ◌↔◌, ℕ, List, Option, Some, None, OnOk, IfOk, IfSome, IfNone, IsErrOf, IsTrue, IsFalse, All, Contains, filter, length, map, option_copied, vec_len};
+ghost use Rattle.std.specs.Prelude.{◌≡◌, ◌≢◌, ◌≤◌, ◌<◌, ◌*◌, ◌↔◌, ℕ, List, Option, Some, None, OnOk, IfOk, IfSome, IfNone, IsErrOf, IsSome, IsTrue, IsFalse, All, Contains, filter, length, map, option_copied, vec_len};
 ghost use Rattle.std.specs.List.{list_any};
 ghost use Rattle.std.specs.Int.{div_ceil};
 ghost use Rattle.std.specs.List.Sorted.{IsStrictlyIncreasing};
@@ -48,7 +48,8 @@ ghost use Rattle.layout.specs.Version.{greatest_size};
 ghost use Rattle.layout.specs.declared.inode.Inode.{Inode};
 ghost use Rattle.model.specs.declared.limits.TheConstants.{ROOT_NUMBER};
 ghost use Rattle.layout.specs.declared.version.TheConstants.{VERSION};
-ghost use Rattle.model.specs.Volumes.{Node, Volume};
+ghost use Rattle.model.specs.Counting.{Counts};
+ghost use Rattle.model.specs.Volumes.{IsVolume, Node, Volume};
 ghost use Rattle.buffers.specs.Reads.{ReadsBlocks};
 ghost use Rattle.buffers.specs.Errors.{IsFault};
 ghost use Rattle.images.specs.Nodes.{held};
@@ -251,6 +252,15 @@ impl InodeFile {
             (v : Volume) → IsVolumeIn detail count disk settled self.now v → IsFalse result → v number ≡ None }
     {
         self.numbers.is_taken(number)
+    }
+
+    /// How many numbers have an object, the root's among them.
+    pub fn count_taken(&self) -> u32
+        ensures { (detail : Detail) (count : ℕ) (disk : ℕ → List ℕ) (settled : ℕ → Inode)
+            (v : Volume) → IsVolumeIn detail count disk settled self.now v
+            → IsVolume self.now.geometry.inodes v → Counts (λ n. IsSome (v n)) result }
+    {
+        self.numbers.count_taken() + 1
     }
 
     /// The object with a number, if there is one; what is known of it is in memory.

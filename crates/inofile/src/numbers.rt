@@ -19,6 +19,7 @@ pub struct Numbers {
 ghost use Rattle.std.specs.Prelude.{◌≡◌, ◌≢◌, ◌↔◌, ℕ, ◌*◌, ◌≤◌, ◌<◌, IsTrue, IfSome, IfNone, length, vec_len};
 ghost use Rattle.std.specs.Int.{div_ceil};
 ghost use Rattle.layout.specs.Maps.{IsTaken};
+ghost use Rattle.model.specs.Counting.{Counts};
 
 impl Numbers {
     /// The numbers that this inode map tells, of so many inodes.
@@ -48,6 +49,21 @@ impl Numbers {
         ensures { IsTrue result ↔ IsTaken self.now.bytes.items number }
     {
         is_taken(&self.bytes, number)
+    }
+
+    /// How many numbers from the first on are taken.
+    pub fn count_taken(&self) -> u32
+        ensures counts { Counts (λ n. (FIRST_NUMBER ≤ n) × (n < self.now.inodes)
+            × IsTaken self.now.bytes.items n) result }
+        ensures few { result < u32.MAX }
+    {
+        let mut count = 0;
+        for number in FIRST_NUMBER..self.inodes {
+            if self.is_taken(number) {
+                count += 1;
+            }
+        }
+        count
     }
 
     /// Takes a number, or sets it free.

@@ -2,6 +2,7 @@
 use Rattle.std.proofs.Common.{◌≡◌, ◌≢◌, ◌⊎◌, inl, inr, ℕ, zero, suc, ◌+◌, List, [], ◌∷◌, ◌++◌, Bool, true, false, Option, Some, None, is_some, IsSome, refl, sym, ap, subst, ◌∙◌, arith}
 use Rattle.std.proofs.Math.Path.{fun_ext}
 use Rattle.std.proofs.lemmas.Bool.{cases_eq, cond-true, cond-false, false≢true, false_from_ne_true}
+use Rattle.model.specs.declared.limits.TheConstants.{OPEN_FILES}
 use Rattle.model.specs.declared.attributes.Attributes.{Attributes}
 use Rattle.model.specs.Paths.{Name, Path, IsName, path_eq}
 use Rattle.model.specs.Trees.{Description}
@@ -242,7 +243,7 @@ module _ (v : Volume) (graph : IsGraph v) (n : ℕ) (o : Option Node) (names : (
 -- what a sweep drops has no names and none leads to it
 module _ (v : Volume) (graph : IsGraph v) (table : ℕ → Option Description) where
   pub same_swept : entries (swept table v) ≡ entries v
-  same_swept = fun_ext {f = entries (swept table v)} {g = entries v} (λ n. fun_ext (λ x. swept_names (is_open table 32 n) (v n) x))
+  same_swept = fun_ext {f = entries (swept table v)} {g = entries v} (λ n. fun_ext (λ x. swept_names (is_open table OPEN_FILES n) (v n) x))
 
   swept_was : (b : Bool) (o : Option Node) → IsSome (swept_node b o) → swept_node b o ≡ o
   swept_was b None some = refl
@@ -253,11 +254,11 @@ module _ (v : Volume) (graph : IsGraph v) (table : ℕ → Option Description) w
   swept_was b (Some (link_node attributes text)) some = refl
 
   pub swept_is : (n : ℕ) → IsSome (swept table v n) → swept table v n ≡ v n
-  swept_is n some = swept_was (is_open table 32 n) (v n) some
+  swept_is n some = swept_was (is_open table OPEN_FILES n) (v n) some
 
   -- what has a name stays
   named_stays : (d n : ℕ) (x : Name) → entries v d x ≡ Some n → swept table v n ≡ v n
-  named_stays d n x there = stays_named (is_open table 32 n) (v n) (λ (attributes, bytes, is). graph.counts n attributes 0 bytes is (d, x) there)
+  named_stays d n x there = stays_named (is_open table OPEN_FILES n) (v n) (λ (attributes, bytes, is). graph.counts n attributes 0 bytes is (d, x) there)
 
   root_stays : (b : Bool) (o : Option Node) → is_directory_node o ≡ true → is_directory_node (swept_node b o) ≡ true
   root_stays b None e = e
@@ -268,7 +269,7 @@ module _ (v : Volume) (graph : IsGraph v) (table : ℕ → Option Description) w
   pub graph-swept : IsGraph (swept table v)
   graph-swept = record {
     naming = record {
-      root = root_stays (is_open table 32 3) (v 3) graph.naming.root;
+      root = root_stays (is_open table OPEN_FILES 3) (v 3) graph.naming.root;
       not_root = λ d x is. graph.naming.not_root d x (ap (λ e. e d x) (sym same_swept) ∙ is);
       used = λ d m x is. let there = ap (λ e. e d x) (sym same_swept) ∙ is in ap is_some (named_stays d m x there) ∙ graph.naming.used d m x there;
       once = λ d k m x y at_x at_y no_file.

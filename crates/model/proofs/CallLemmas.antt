@@ -1,26 +1,27 @@
 -- The calls that make, remove, link and rename, and `open`, leave a tree.
-use Rattle.std.proofs.Common.{◌≡◌, ◌≢◌, inl, inr, ℕ, zero, suc, ◌≤◌, ◌<◌, List, [], ◌∷◌, ◌++◌, length, Bool, true, false, not, ◌&&◌, ◌||◌, is_none, IsSome, Option, Some, None, refl, sym, ap, subst, ◌∙◌, arith, lit≤}
+use Rattle.std.proofs.Common.{◌≡◌, ◌≢◌, inl, inr, ℕ, zero, suc, ◌≤◌, ◌<◌, List, [], ◌∷◌, ◌++◌, length, Bool, true, false, not, ◌&&◌, ◌||◌, is_none, IsSome, Option, Some, None, refl, sym, ap, subst, ◌∙◌, arith, lit≤, min}
 use Rattle.std.specs.Prelude.{◌==◌, if◌then◌else◌, nat_le}
 use Rattle.std.specs.List.{AllByRecursion, list_any}
 use Rattle.std.proofs.lemmas.Bool.{cases_Bool, cond-true, cond-false, eqb-false, ne_eqb, or_parts, false≢true, leb-false, ltb-false}
 use Rattle.std.proofs.lemmas.List.Elements.{All-nil, All-contains, All-from_recursion}
+use Rattle.std.proofs.Math.Nat.{min-le_right}
 use Rattle.model.specs.declared.limits.TheConstants.{MODE_BITS, OPEN_FILES, FILE_NAMES, DIRECTORY_NAMES}
 use Rattle.model.specs.declared.errno.Errno.TheVariants.{ENOENT, ENOTDIR, EISDIR, EEXIST, EINVAL, EPERM, EBUSY, ENOTEMPTY, EMLINK, EMFILE}
 use Rattle.model.specs.declared.reply.Reply.TheVariants as reply
 use Rattle.model.specs.declared.command.Flags.{Flags}
-use Rattle.model.specs.Paths.{Name, Path, IsLinkText, Tests, text_tests_then, text_tests, new_text_tests, is_empty, is_root_text, is_dot, is_dot_dot, last_part}
-use Rattle.model.specs.Trees.{Tree, Object, directory, symlink, file, is_directory, Description, IsTree}
+use Rattle.model.specs.Paths.{Name, Path, IsLinkText, Tests, text_tests_then, text_tests, new_text_tests, is_empty, is_root_text, is_dot, is_dot_dot, first_refusal, is_number_alone, last_part}
+use Rattle.model.specs.Trees.{Tree, Object, directory, symlink, file, is_directory, Description, HasNumber, IsTree, StandsAtPath, number_of_object}
 use Rattle.model.specs.Edits.{with_object, without_object, with_mode, with_bytes, with_descriptor, with_directory, with_file}
-use Rattle.model.specs.Resolution.{Resolution, named, resolve}
-use Rattle.model.specs.Room.{logs, adds_name, removes_name, nothing}
-use Rattle.model.specs.Outcomes.{Outcome, refuses, leads, IsListing, IsFresh, lowest_free}
+use Rattle.model.specs.Resolution.{Resolution, named}
+use Rattle.model.specs.Room.{logs, adds_name, removes_name, nothing, Need}
+use Rattle.model.specs.Outcomes.{Outcome, refuses, goes_along, IsListing, IsFresh, lowest_free}
 use Rattle.model.specs.Changing as changing
 use Rattle.model.specs.Descriptors as descriptors
-use Rattle.model.proofs.LeadLemmas.{AllPass, all_passed, passed_both, Misses, resolves_well, AnswersBelowRoot, resolves_below_root, stands_in}
+use Rattle.model.proofs.LeadLemmas.{AllPass, all_passed, passed_both, Misses, AnswersBelowRoot, not_alone, reached_below_root, reached_well, stands_in}
 use Rattle.model.proofs.LooseLemmas.{held_is_tree}
 use Rattle.model.proofs.PlaceLemmas.{directory_joins, file_joins, symlink_joins, link_joins, placed_is_tree, put-here}
 use Rattle.model.proofs.TakeLemmas.{taken_is_loose}
-use Rattle.model.proofs.StayLemmas.{LeavesTree, stays_refused, stays_changed, stays_swept, stays_tested, stays_passed, stays_either, stays_leads, stays_leads_to, stays_names, stays_place, stays_fresh, stays_links, stays_never, stays_by_kind, IsTruncated, truncated_is}
+use Rattle.model.proofs.StayLemmas.{LeavesTree, stays_refused, stays_changed, stays_swept, stays_tested, stays_passed, stays_either, stays_leads, stays_leads_to, stays_names, stays_place, stays_fresh, stays_links, stays_never, stays_by_kind, stays_along, IsTruncated, kind_stands, truncated_is}
 use Rattle.model.proofs.OptionLaws.{none_some, some_same}
 
 none_from : {X : Type 0} (o : Option X) → ¬ IsSome o → o ≡ None
@@ -41,7 +42,7 @@ link_text text pass = record {
 
 -- the test of a last part
 abbrev pub last_tests : List ℕ → Tests
-last_tests text = (is_dot (last_part text) || is_dot_dot (last_part text), EINVAL) ∷ []
+last_tests text = (is_dot (last_part text) || is_dot_dot (last_part text) || is_number_alone text, EINVAL) ∷ []
 
 -- the lowest descriptor that is free
 free_is : (table : ℕ → Option Description) (bound d : ℕ) → lowest_free table bound ≡ Some d → (d < bound) × (table d ≡ None)
@@ -64,9 +65,10 @@ free_is table (suc bound) d e =
 module _ (inodes : ℕ) (t : Tree) (tree : IsTree inodes t) where
   stays_creates : (path : List ℕ) (make : Path → ℕ → Tree → Tree) → ((p : Path) (name : Name) (n : ℕ) (names : List Name) → Misses t p name → IsListing t p names → length names < DIRECTORY_NAMES → IsFresh inodes t n → IsTree inodes (make (p ++ name ∷ []) n t)) → LeavesTree inodes (changing.creates inodes t path make)
   stays_creates path make makes =
-      stays_tested inodes t tree (new_text_tests path) _ (λ e. stays_leads inodes t tree (resolve t false path) _ _ (resolves_well inodes t tree (last_tests path) false path e)
+      stays_tested inodes t tree (new_text_tests path) _ (λ e. stays_along inodes t tree false path _ _ (λ r reached. stays_leads inodes t tree r _ _ (reached_well inodes t tree (last_tests path) false path e r reached)
       (λ p o is at_p. stays_refused inodes t tree EEXIST)
       (λ p name is misses. stays_place inodes t tree p _ (λ names listing room. stays_fresh inodes t tree _ (λ n fresh. stays_changed inodes t tree reply.Done (make (p ++ name ∷ []) n t) (logs adds_name) (makes p name n names misses listing room fresh)))))
+      (λ o alone has. stays_refused inodes t tree EEXIST))
 
   pub stays_mkdir : (path : List ℕ) (mode : ℕ) → mode ≤ MODE_BITS → LeavesTree inodes (changing.makes_directory inodes t path mode)
   stays_mkdir path mode few =
@@ -79,19 +81,25 @@ module _ (inodes : ℕ) (t : Tree) (tree : IsTree inodes t) where
       stays_creates path (λ p n. with_object p (symlink n text)) (λ p name n names misses listing room fresh.
       placed_is_tree inodes t tree p name (symlink n text) t.bytes t.mode misses.directory misses.free misses.good (symlink_joins inodes t tree n fresh.low fresh.high fresh.free text (link_text text pass)) names listing room))
 
-  pub stays_link : (old path : List ℕ) → LeavesTree inodes (changing.links t old path)
-  stays_link old path =
-      stays_tested inodes t tree (text_tests old ++ new_text_tests path) _ (λ e.
-      let both = passed_both (text_tests old) (new_text_tests path) e in
-      stays_leads_to inodes t tree (resolve t false old) _ (resolves_well inodes t tree [] false old both.0) (λ p o is at_p.
+  -- a file gets one more name
+  stays_linked : (p : Path) (o : Object) (path : List ℕ) → t.objects p ≡ Some o → first_refusal (new_text_tests path) ≡ None → LeavesTree inodes (changing.links_object t o path)
+  stays_linked p o path at_p passed =
       stays_by_kind inodes t tree o _ _ _ (λ n kind. stays_refused inodes t tree EPERM) (λ n text kind. stays_refused inodes t tree EPERM) (λ n kind.
-      stays_leads inodes t tree (resolve t false path) _ _ (resolves_well inodes t tree (last_tests path) false path both.1)
+      stays_along inodes t tree false path _ _ (λ s reached. stays_leads inodes t tree s _ _ (reached_well inodes t tree (last_tests path) false path passed s reached)
       (λ q r at at_q. stays_refused inodes t tree EEXIST)
       (λ q name at misses. stays_links inodes t tree (file n) _ (λ count counts.
       stays_passed inodes t tree ((nat_le FILE_NAMES count, EMLINK) ∷ []) _ (λ pass.
       stays_place inodes t tree q _ (λ names listing room.
       stays_changed inodes t tree reply.Done (with_object (q ++ name ∷ []) (file n) t) (logs adds_name)
-      (placed_is_tree inodes t tree q name (file n) t.bytes t.mode misses.directory misses.free misses.good (link_joins inodes t tree p n count (at_p ∙ ap (λ x. Some x) kind) counts (leb-false FILE_NAMES count pass.0)) names listing room))))))))
+      (placed_is_tree inodes t tree q name (file n) t.bytes t.mode misses.directory misses.free misses.good (link_joins inodes t tree p n count (at_p ∙ ap (λ x. Some x) kind) counts (leb-false FILE_NAMES count pass.0)) names listing room))))))
+      (λ r alone has. absurd (not_alone path passed alone)))
+
+  pub stays_link : (old path : List ℕ) → LeavesTree inodes (changing.links t old path)
+  stays_link old path =
+      stays_tested inodes t tree (text_tests old ++ new_text_tests path) _ (λ e.
+      let both = passed_both (text_tests old) (new_text_tests path) e in
+      stays_along inodes t tree false old _ _ (λ s reached. stays_leads_to inodes t tree s _ (reached_well inodes t tree [] false old both.0 s reached) (λ p o is at_p. stays_linked p o path at_p both.1))
+      (λ o alone has. stays_linked has.0 o path has.1 both.1))
 
   -- what is taken away
 
@@ -113,55 +121,65 @@ module _ (inodes : ℕ) (t : Tree) (tree : IsTree inodes t) where
       stays_tested inodes t tree (new_text_tests path ++ (is_root_text path, EBUSY) ∷ []) _ (λ e.
       let both = passed_both (new_text_tests path) ((is_root_text path, EBUSY) ∷ []) e in
       let not_root = (all_passed ((is_root_text path, EBUSY) ∷ []) both.1).0 in
-      stays_leads_to inodes t tree (resolve t false path) _ (resolves_well inodes t tree (last_tests path) false path both.0) (λ p o is at_p.
+      stays_along inodes t tree false path _ _ (λ r reached. stays_leads_to inodes t tree r _ (reached_well inodes t tree (last_tests path) false path both.0 r reached) (λ p o is at_p.
       stays_by_kind inodes t tree o _ _ _
       (λ n kind. stays_names inodes t tree p _ (λ names listing. stays_passed inodes t tree ((not (is_empty names), ENOTEMPTY) ∷ []) _ (λ pass.
-      stays_removed p o at_p (low_by (resolve t false path) p (resolves_below_root t path both.0 not_root) is) (no_names p names listing pass.0))))
+      stays_removed p o at_p (low_by r p (reached_below_root t path both.0 not_root r reached) is) (no_names p names listing pass.0))))
       (λ n text kind. stays_refused inodes t tree ENOTDIR) (λ n kind. stays_refused inodes t tree ENOTDIR)))
+      (λ o alone has. absurd (not_alone path both.0 alone)))
 
   pub stays_unlink : (path : List ℕ) → LeavesTree inodes (changing.unlinks t path)
   stays_unlink path =
       stays_tested inodes t tree (new_text_tests path) _ (λ e.
-      stays_leads_to inodes t tree (resolve t false path) _ (resolves_well inodes t tree (last_tests path) false path e) (λ p o is at_p.
+      stays_along inodes t tree false path _ _ (λ r reached. stays_leads_to inodes t tree r _ (reached_well inodes t tree (last_tests path) false path e r reached) (λ p o is at_p.
       stays_passed inodes t tree ((is_directory (Some o), EPERM) ∷ []) _ (λ pass.
       stays_removed p o at_p (λ root. false≢true (sym pass.0 ∙ ap is_directory (sym at_p ∙ ap t.objects root ∙ tree.root))) (no_directory p o at_p pass.0))))
+      (λ o alone has. absurd (not_alone path e alone)))
 
   -- `open`
 
-  stays_opens_object : (p : Path) (o : Object) (flags : Flags) (fd : ℕ) → t.objects p ≡ Some o → fd < OPEN_FILES → t.descriptors fd ≡ None → LeavesTree inodes (descriptors.opens_object t o flags fd)
-  stays_opens_object p o flags fd at_p below closed =
+  -- it is opened: the tree with its descriptor is a tree
+  stays_opens_file : (tells : Bool) (n : ℕ) (flags : Flags) (fd : ℕ) (u : Tree) (need : Need) → IsTree inodes (with_descriptor fd (Some (descriptors.described_by n flags)) u)
+      → LeavesTree inodes (descriptors.opens_file tells n flags fd u need)
+  stays_opens_file true n flags fd u need is answer new other done = subst (IsTree inodes) (sym done.2.1) is
+  stays_opens_file false n flags fd u need is answer new other done = subst (IsTree inodes) (sym done.1) is
+
+  stays_opens_object : (tells : Bool) (o : Object) (flags : Flags) (fd : ℕ) → HasNumber t (number_of_object o) o → fd < OPEN_FILES → t.descriptors fd ≡ None → LeavesTree inodes (descriptors.opens_object tells t o flags fd)
+  stays_opens_object tells o flags fd has below closed =
       stays_passed inodes t tree ((flags.creates && flags.exclusive, EEXIST) ∷ []) _ (λ pass.
       stays_by_kind inodes t tree o _ _ _ (λ n kind. stays_refused inodes t tree EISDIR) (λ n text kind. stays_never inodes t tree) (λ n kind.
       stays_either inodes t tree flags.truncates _ _
-      (λ e. stays_changed inodes t tree (reply.Fd fd) (with_descriptor fd (Some (descriptors.described_by n flags)) (changing.truncated_to n 0 t)) (changing.need_of_truncate n 0 t) (opened n (at_p ∙ ap (λ x. Some x) kind) (changing.truncated_to n 0 t) (truncated_is inodes t tree n 0 (inl (p, at_p ∙ ap (λ x. Some x) kind)) (lit≤ tt))))
-      (λ e. stays_changed inodes t tree (reply.Fd fd) (with_descriptor fd (Some (descriptors.described_by n flags)) t) nothing (opened n (at_p ∙ ap (λ x. Some x) kind) t (record { is = tree; objects = refl; descriptors = refl })))))
+      (λ e. stays_opens_file tells n flags fd (changing.truncated_to n 0 t) (changing.need_of_truncate n 0 t) (opened n (kind_stands inodes t tree (λ k. file k) o n kind has) (changing.truncated_to n 0 t) (truncated_is inodes t tree n 0 (inl (kind_stands inodes t tree (λ k. file k) o n kind has)) (lit≤ tt))))
+      (λ e. stays_opens_file tells n flags fd t nothing (opened n (kind_stands inodes t tree (λ k. file k) o n kind has) t (record { is = tree; objects = refl; descriptors = refl })))))
     where
-      opened : (n : ℕ) → t.objects p ≡ Some (file n) → (u : Tree) → IsTruncated inodes t tree u → IsTree inodes (with_descriptor fd (Some (descriptors.described_by n flags)) u)
+      opened : (n : ℕ) → StandsAtPath t file n → (u : Tree) → IsTruncated inodes t tree u → IsTree inodes (with_descriptor fd (Some (descriptors.described_by n flags)) u)
       opened n is u truncate =
-          held_is_tree inodes u truncate.is fd (descriptors.described_by n flags) below (inl (p, ap (λ f. f p) truncate.objects ∙ is)) (lit≤ tt) (λ g at_g. none_some (sym closed ∙ ap (λ f. f fd) (sym truncate.descriptors) ∙ at_g))
+          held_is_tree inodes u truncate.is fd (descriptors.described_by n flags) below (inl (is.0, ap (λ f. f is.0) truncate.objects ∙ is.1)) (lit≤ tt) (λ g at_g. none_some (sym closed ∙ ap (λ f. f fd) (sym truncate.descriptors) ∙ at_g))
 
-  stays_opens_new : (p : Path) (name : Name) (flags : Flags) (mode fd : ℕ) → mode ≤ MODE_BITS → Misses t p name → fd < OPEN_FILES → t.descriptors fd ≡ None → LeavesTree inodes (descriptors.opens_new inodes t p name flags mode fd)
-  stays_opens_new p name flags mode fd few misses below closed =
+  stays_opens_new : (tells : Bool) (p : Path) (name : Name) (flags : Flags) (mode fd : ℕ) → mode ≤ MODE_BITS → Misses t p name → fd < OPEN_FILES → t.descriptors fd ≡ None → LeavesTree inodes (descriptors.opens_new tells inodes t p name flags mode fd)
+  stays_opens_new tells p name flags mode fd few misses below closed =
       stays_passed inodes t tree ((not flags.creates, ENOENT) ∷ []) _ (λ pass.
       stays_place inodes t tree p _ (λ names listing room. stays_fresh inodes t tree _ (λ n fresh.
       let made : Tree = with_file (p ++ name ∷ []) n mode t in
-      stays_changed inodes t tree (reply.Fd fd) (with_descriptor fd (Some (descriptors.described_by n flags)) made) (logs adds_name)
+      stays_opens_file tells n flags fd made (logs adds_name)
       (held_is_tree inodes made
       (placed_is_tree inodes t tree p name (file n) (with_bytes n [] t).bytes (with_mode n mode t).mode misses.directory misses.free misses.good (file_joins inodes t tree n fresh.low fresh.high fresh.free mode few) names listing room)
       fd (descriptors.described_by n flags) below (inl (p ++ name ∷ [], put-here (p ++ name ∷ []) (Some (file n)) t.objects)) (lit≤ tt) (λ g at_g. none_some (sym closed ∙ at_g))))))
 
-  pub stays_open : (path : List ℕ) (flags : Flags) (mode : ℕ) → mode ≤ MODE_BITS → LeavesTree inodes (descriptors.opens inodes t path flags mode)
-  stays_open path flags mode few =
+  pub stays_open : (tells : Bool) (below : ℕ) (path : List ℕ) (flags : Flags) (mode : ℕ) → mode ≤ MODE_BITS → LeavesTree inodes (descriptors.opens tells below inodes t path flags mode)
+  stays_open tells below path flags mode few =
       let follow : Bool = not (flags.creates && flags.exclusive) in
       stays_tested inodes t tree (text_tests_then (descriptors.open_tests flags) path) _ (λ e.
-      elim (lowest_free t.descriptors OPEN_FILES) as (λ o. lowest_free t.descriptors OPEN_FILES ≡ o → LeavesTree inodes (elim o as (λ _. Outcome) [
+      elim (lowest_free t.descriptors (min below OPEN_FILES)) as (λ o. lowest_free t.descriptors (min below OPEN_FILES) ≡ o → LeavesTree inodes (elim o as (λ _. Outcome) [
         | None ↦ refuses t EMFILE
-        | Some fd ↦ leads t (resolve t follow path) (λ p o. descriptors.opens_object t o flags fd) (λ p name. descriptors.opens_new inodes t p name flags mode fd)
+        | Some fd ↦ goes_along t follow path (λ p o. descriptors.opens_object tells t o flags fd) (λ p name. descriptors.opens_new tells inodes t p name flags mode fd)
       ])) [
         | None ↦ λ is. stays_refused inodes t tree EMFILE
         | Some fd ↦ λ is.
-            let free = free_is t.descriptors OPEN_FILES fd is in
-            stays_leads inodes t tree (resolve t follow path) _ _ (resolves_well inodes t tree (descriptors.open_tests flags) follow path e)
-            (λ p o at at_p. stays_opens_object p o flags fd at_p free.0 free.1)
-            (λ p name at misses. stays_opens_new p name flags mode fd few misses free.0 free.1)
+            let free = free_is t.descriptors (min below OPEN_FILES) fd is in
+            let below : fd < OPEN_FILES = omega (arith, free.0, min-le_right below OPEN_FILES) in
+            stays_along inodes t tree follow path _ _ (λ r reached. stays_leads inodes t tree r _ _ (reached_well inodes t tree (descriptors.open_tests flags) follow path e r reached)
+            (λ p o at at_p. stays_opens_object tells o flags fd (p, at_p, refl) below free.1)
+            (λ p name at misses. stays_opens_new tells p name flags mode fd few misses below free.1))
+            (λ o alone has. stays_opens_object tells o flags fd has below free.1)
       ] refl)

@@ -116,7 +116,7 @@ three_are = told_directory (told_directory with_a_is at_a_b 5 0o755) at_c 6 0o75
 abbrev replaced : Tree
 replaced = dropped 6 (moved at_a at_c three)
 
-replaces : renames three (codes "/a") (codes "/c") reply.Done replaced (logs adds_name)
+replaces : renames three false (codes "/a") (codes "/c") reply.Done replaced (logs adds_name)
 replaces = ([], listing_told three_are at_c [] refl, (refl, swept_told (told_moved three_are at_a at_c) 6 refl refl, refl))
 
 abbrev replaced_paths : List Path
@@ -140,7 +140,7 @@ number_again = (codes "c" ∷ [], listing_told replaced_is [] (codes "c" ∷ [])
 with_e_is : Told with_e (at_e ∷ replaced_paths) [] (6 ∷ 6 ∷ 5 ∷ 4 ∷ 3 ∷ [])
 with_e_is = told_directory replaced_is at_e 6 0o755
 
-onto_what_isn't_empty : renames with_e (codes "/e") (codes "/c") (reply.Refused ENOTEMPTY) with_e nothing
+onto_what_isn't_empty : renames with_e false (codes "/e") (codes "/c") (reply.Refused ENOTEMPTY) with_e nothing
 onto_what_isn't_empty = (codes "b" ∷ [], listing_told with_e_is at_c (codes "b" ∷ []) refl, (refl, refl, refl))
 
 abbrev with_l : Tree
@@ -178,7 +178,7 @@ with_x = with_descriptor 0 (Some (written_by 5)) (with_file at_x 5 0o644 with_d)
 with_d_is : Told with_d (at_d ∷ [] ∷ []) [] (4 ∷ 3 ∷ [])
 with_d_is = told_directory fresh_is at_d 4 0o755
 
-opens_x : opens 32 with_d (codes "/x") writing 0o644 (reply.Fd 0) with_x (logs adds_name)
+opens_x : opens false 32 32 with_d (codes "/x") writing 0o644 (reply.Fd 0) with_x (logs adds_name)
 opens_x = (codes "d" ∷ [], listing_told with_d_is [] (codes "d" ∷ []) refl, (Some 5, fresh_told with_d_is 32 1 (lit≤ tt) refl refl, (refl, refl, refl)))
 
 with_x_is : Told with_x (at_x ∷ at_d ∷ [] ∷ []) (0 ∷ []) (5 ∷ 5 ∷ 4 ∷ 3 ∷ [])
@@ -210,7 +210,7 @@ used_by n = record { number = n; offset = 0; reads = true; writes = true; append
 abbrev with_f : Tree
 with_f = with_descriptor 0 (Some (used_by 4)) (with_file at_f 4 0o644 fresh)
 
-opens_f : opens 32 fresh (codes "/f") both_ways_new 0o644 (reply.Fd 0) with_f (logs adds_name)
+opens_f : opens false 32 32 fresh (codes "/f") both_ways_new 0o644 (reply.Fd 0) with_f (logs adds_name)
 opens_f = ([], listing_told fresh_is [] [] refl, (Some 4, fresh_told fresh_is 32 0 (lit≤ tt) refl refl, (refl, refl, refl)))
 
 abbrev without_f : Tree
@@ -222,7 +222,7 @@ without_f_is = told_object (told_descriptor (told_file fresh_is at_f 4 0o644) 0 
 abbrev with_g : Tree
 with_g = with_descriptor 1 (Some (used_by 5)) (with_file at_g 5 0o644 without_f)
 
-opens_g : opens 32 without_f (codes "/g") both_ways_new 0o644 (reply.Fd 1) with_g (logs adds_name)
+opens_g : opens false 32 32 without_f (codes "/g") both_ways_new 0o644 (reply.Fd 1) with_g (logs adds_name)
 opens_g = ([], listing_told without_f_is [] [] refl, (Some 5, fresh_told without_f_is 32 1 (lit≤ tt) refl refl, (refl, refl, refl)))
 
 with_g_is : Told with_g (at_g ∷ at_f ∷ at_f ∷ [] ∷ []) (1 ∷ 0 ∷ []) (5 ∷ 5 ∷ 4 ∷ 4 ∷ 3 ∷ [])

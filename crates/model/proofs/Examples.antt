@@ -51,19 +51,19 @@ small =
 moved_with_it : ((moved (name_a ∷ []) (name_c ∷ []) small).objects (name_c ∷ name_b ∷ []) ≡ Some (directory 5)) × ((moved (name_a ∷ []) (name_c ∷ []) small).objects (name_a ∷ name_b ∷ []) ≡ None)
 moved_with_it = (refl, refl)
 
-below_itself : renames small (codes "/a") (codes "/a/b/c") (reply.Refused EINVAL) small nothing
+below_itself : renames small false (codes "/a") (codes "/a/b/c") (reply.Refused EINVAL) small nothing
 below_itself = (refl, refl, refl)
 
-onto_itself : renames small (codes "/a") (codes "/a/../a") reply.Done small nothing
+onto_itself : renames small false (codes "/a") (codes "/a/../a") reply.Done small nothing
 onto_itself = (refl, refl, refl)
 
-file_onto_directory : renames small (codes "/f") (codes "/a/b") (reply.Refused EISDIR) small nothing
+file_onto_directory : renames small false (codes "/f") (codes "/a/b") (reply.Refused EISDIR) small nothing
 file_onto_directory = (refl, refl, refl)
 
-directory_onto_file : renames small (codes "/a") (codes "/f") (reply.Refused ENOTDIR) small nothing
+directory_onto_file : renames small false (codes "/a") (codes "/f") (reply.Refused ENOTDIR) small nothing
 directory_onto_file = (refl, refl, refl)
 
-rename_of_root : renames small (codes "/") (codes "/a") (reply.Refused EBUSY) small nothing
+rename_of_root : renames small false (codes "/") (codes "/a") (reply.Refused EBUSY) small nothing
 rename_of_root = (refl, refl, refl)
 
 unlink_directory : unlinks small (codes "/a") (reply.Refused EPERM) small nothing
@@ -139,19 +139,19 @@ abbrev plainly : Flags
 plainly = record { access = access.Both; creates = false; exclusive = false; truncates = false; appends = false }
 
 -- the lowest free descriptor
-opens_again : opens 32 small (codes "/f") plainly 0o644 (reply.Fd 1) (with_descriptor 1 (Some (opened 0)) small) nothing
+opens_again : opens false 32 32 small (codes "/f") plainly 0o644 (reply.Fd 1) (with_descriptor 1 (Some (opened 0)) small) nothing
 opens_again = (refl, refl, refl)
 
-opens_directory : opens 32 small (codes "/a") plainly 0o644 (reply.Refused EISDIR) small nothing
+opens_directory : opens false 32 32 small (codes "/a") plainly 0o644 (reply.Refused EISDIR) small nothing
 opens_directory = (refl, refl, refl)
 
-truncates_what_it_reads : opens 32 small (codes "/x") (record plainly { access = access.Reading; truncates = true }) 0o644 (reply.Refused EINVAL) small nothing
+truncates_what_it_reads : opens false 32 32 small (codes "/x") (record plainly { access = access.Reading; truncates = true }) 0o644 (reply.Refused EINVAL) small nothing
 truncates_what_it_reads = (refl, refl, refl)
 
-opens_exclusively : opens 32 small (codes "/f") (record plainly { creates = true; exclusive = true }) 0o644 (reply.Refused EEXIST) small nothing
+opens_exclusively : opens false 32 32 small (codes "/f") (record plainly { creates = true; exclusive = true }) 0o644 (reply.Refused EEXIST) small nothing
 opens_exclusively = (refl, refl, refl)
 
-opens_and_truncates : opens 32 small (codes "/f") (record plainly { truncates = true }) 0o644 (reply.Fd 1) (with_descriptor 1 (Some (opened 0)) (with_bytes 6 [] small)) (logs (changes_size 3 0))
+opens_and_truncates : opens false 32 32 small (codes "/f") (record plainly { truncates = true }) 0o644 (reply.Fd 1) (with_descriptor 1 (Some (opened 0)) (with_bytes 6 [] small)) (logs (changes_size 3 0))
 opens_and_truncates = (refl, refl, refl)
 
 abbrev full : Room

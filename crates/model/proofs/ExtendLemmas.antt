@@ -3,6 +3,7 @@ use Rattle.std.proofs.Common.{◌≡◌, ◌⊎◌, inl, inr, ℕ, zero, suc, �
 use Rattle.std.specs.Prelude.{[], length, unwrap_or, if◌then◌else◌, IsTrue, IsFalse}
 use Rattle.std.proofs.Math.Path.{fun_ext}
 use Rattle.std.proofs.lemmas.Bool.{false≢true}
+use Rattle.model.specs.declared.limits.TheConstants.{OPEN_FILES}
 use Rattle.model.specs.Counting.{Counts}
 use Rattle.model.specs.Paths.{Name}
 use Rattle.model.specs.Edits.{written, resized}
@@ -89,11 +90,11 @@ module _ (v w : Volume) (extends : Extends v w) where
   -- what no name and no descriptor leads to is dropped
   pub sweeps : (table : ℕ → Option Description) → Extends (swept table v) w
   sweeps table = record {
-    kept = λ n some. elim (swept_or_stays (is_open table 32 n) (v n)) [
+    kept = λ n some. elim (swept_or_stays (is_open table OPEN_FILES n) (v n)) [
       | inl stays ↦ extends.kept n (sym (ap is_some stays) ∙ some) ∙ sym stays
       | inr gone ↦ absurd (false≢true (sym (ap is_some gone.0) ∙ some))
     ];
-    rest = λ n none. elim (swept_or_stays (is_open table 32 n) (v n)) [
+    rest = λ n none. elim (swept_or_stays (is_open table OPEN_FILES n) (v n)) [
       | inl stays ↦ extends.rest n (sym stays ∙ none)
       | inr gone ↦ ap is_vacant (kept_by is_orphan refl n gone.1) ∙ orphan_vacant (v n) gone.1
     ];

@@ -1,21 +1,24 @@
 -- Resolution by numbers leads where resolution by paths does.
-use Rattle.std.proofs.Common.{◌≡◌, inl, inr, ℕ, zero, suc, ◌+◌, ◌-◌, ◌≤◌, ◌<◌, List, [], ◌∷◌, ◌++◌, fold, length, take, drop, get_or, Bool, true, false, not, ◌&&◌, cond, Option, Some, None, is_some, IsSome, refl, sym, ap, subst, ◌∙◌, length-append, length-take, arith}
+use Rattle.std.proofs.Common.{◌≡◌, inl, inr, ℕ, zero, suc, ◌+◌, ◌-◌, ◌≤◌, ◌<◌, List, [], ◌∷◌, ◌++◌, fold, length, take, drop, get_or, Bool, true, false, not, ◌&&◌, cond, Option, Some, None, is_some, IsSome, refl, sym, ap, subst, ◌∙◌, length-append, length-take, append_assoc, append-nil, arith}
 use Rattle.std.specs.Prelude.{if◌then◌else◌, Contains}
-use Rattle.std.proofs.lemmas.Bool.{cases_lt, ne_eqb, false≢true}
+use Rattle.std.proofs.lemmas.Bool.{cases_lt, ne_eqb, or_parts, false≢true}
+use Rattle.std.specs.List.{list_any}
 use Rattle.std.proofs.lemmas.List.Sums.{fold-append}
 use Rattle.std.proofs.lemmas.List.{get_or-take, take-append-drop, get_or_push, take_all, take-take, take-append-le}
 use Rattle.model.specs.declared.limits.TheConstants.{ROOT_NUMBER, LINKS_FOLLOWED}
+use Rattle.model.specs.declared.errno.Errno.{Errno}
 use Rattle.model.specs.declared.errno.Errno.TheVariants.{ENOENT, ENOTDIR, ENAMETOOLONG, ELOOP, DAMAGED}
 use Rattle.model.specs.Paths.{Name, Path, behind, parts, is_dot, is_dot_dot, is_empty, is_too_long, starts_with_slash}
-use Rattle.model.specs.Trees.{Tree, Description}
+use Rattle.model.specs.Trees.{Tree, Description, directory}
 use Rattle.model.specs.Resolution as tree
-use Rattle.model.specs.Volumes.{Node, directory_node, file_node, link_node, Volume, Entries, entries, enter, number_at, object_at, object_of, tree_of}
-use Rattle.model.specs.Finding.{here, Trails, Place, at_entry, at_missing, at_refusal, Turn, stays_on, enters, ends_at, follows, finds_nothing, finds_damage, finds_long, turn_at, turn_by, turn, WalkEnd, halts, halts_at_link, find_along, find_on, find_within, IsPlaceOf}
-use Rattle.model.specs.Laws.{ResolvesByNumbers, TrailsTellBelow, BelowIsByPaths}
+use Rattle.model.specs.Volumes.{Node, directory_node, file_node, link_node, Volume, Entries, entries, enter, number_at, object_at, object_of, tree_of, is_directory_node, is_file_node}
+use Rattle.model.specs.Finding.{here, Trails, Place, at_directory, at_entry, at_missing, at_refusal, trail_from, Turn, stays_on, enters, ends_at, follows, finds_nothing, finds_damage, finds_long, turn_at, turn_by, turn, WalkEnd, halts, halts_at_link, find_along, find_on, find_within, IsPlaceAt, IsPlaceOf}
+use Rattle.model.specs.Laws.{ResolvesByNumbers, ResolvesFromNumbers, TrailsTellBelow, BelowIsByPaths}
 use Rattle.model.proofs.VolumeLemmas.{alone}
 use Rattle.model.proofs.WalkLemmas.{number_at-push, behind-append, behind-is}
 use Rattle.std.proofs.Math.Seq.{take-append_seam}
-use Rattle.model.proofs.OptionLaws.{some_same}
+use Rattle.model.proofs.SweepLemmas.{found_number}
+use Rattle.model.proofs.OptionLaws.{none_some, some_same}
 
 get_or_defaults : (xs : List ℕ) (i d c : ℕ) → i < length xs → get_or xs i d ≡ get_or xs i c
 get_or_defaults [] i d c below = absurd (omega (arith, below))
@@ -30,7 +33,7 @@ more_parts x rest = ne_eqb (length (x ∷ rest)) 0 (λ e. omega (arith, e))
 trails_root : (e : Entries) → Trails e [] []
 trails_root e = record { size = refl; each = λ i below. ap (number_at e) (take_all i [] (omega arith)) ∙ ap (λ tr. Some (here tr)) (sym (take_all i [] (omega arith))) }
 
-trails_end : (e : Entries) (p : Path) (trail : List ℕ) → Trails e p trail → number_at e p ≡ Some (here trail)
+pub trails_end : (e : Entries) (p : Path) (trail : List ℕ) → Trails e p trail → number_at e p ≡ Some (here trail)
 trails_end e p trail t =
     ap (number_at e) (sym (take_all (length p) p (omega arith))) ∙ t.each (length p) (omega arith)
     ∙ ap (λ tr. Some (here tr)) (take_all (length p) trail (omega (arith, t.size)))
@@ -148,6 +151,94 @@ module _ (v : Volume) (used : (d n : ℕ) (x : Name) → entries v d x ≡ Some 
   walk_matches follow (part ∷ rest) p trail trails =
       after_matches follow rest (λ q next. walk_matches follow rest q next) p part trail trails (turn v trail part) (tree.next t p part) (turn_matches trail p part trails)
 
+  -- walks from directories of one number go one way, as long as no part leads up
+  abbrev SamePlace : Place → Place → Type 0
+  SamePlace (at_directory a) (at_directory b) = here a ≡ here b
+  SamePlace (at_entry a x n) (at_entry b y m) = (here a ≡ here b) × (x ≡ y) × (n ≡ m)
+  SamePlace (at_missing a x) (at_missing b y) = (here a ≡ here b) × (x ≡ y)
+  SamePlace (at_refusal errno) (at_refusal other) = errno ≡ other
+  SamePlace _ _ = ⊥
+
+  abbrev SameEnd : WalkEnd → WalkEnd → Type 0
+  SameEnd (halts place) (halts other) = SamePlace place other
+  SameEnd (halts_at_link a text rest) (halts_at_link b other more) = Unit {0}
+  SameEnd _ _ = ⊥
+
+  module _ (follow : Bool) (part : Name) (rest : List Name) (more : (a b : List ℕ) → here a ≡ here b → SameEnd (find_along v follow a rest) (find_along v follow b rest)) (a b : List ℕ) (same : here a ≡ here b) where
+    same_node : (n : ℕ) (o : Option Node) → SameEnd (after_in follow a part rest (turn_at n o)) (after_in follow b part rest (turn_at n o))
+    same_node n None = refl
+    same_node n (Some (directory_node attributes names)) =
+        chosen SameEnd (is_empty rest) (halts (at_entry a part n)) (find_along v follow (a ++ n ∷ []) rest) (halts (at_entry b part n)) (find_along v follow (b ++ n ∷ []) rest) (same, refl, refl)
+        (more (a ++ n ∷ []) (b ++ n ∷ []) (here-push a n ∙ sym (here-push b n)))
+    same_node n (Some (file_node attributes links bytes)) =
+        chosen SamePlace (is_empty rest) (at_entry a part n) (at_refusal ENOTDIR) (at_entry b part n) (at_refusal ENOTDIR) (same, refl, refl) refl
+    same_node n (Some (link_node attributes text)) =
+        chosen SameEnd (is_empty rest && not follow) (halts (at_entry a part n)) (halts_at_link a text rest) (halts (at_entry b part n)) (halts_at_link b text rest) (same, refl, refl) tt
+
+    same_turn : (o : Option ℕ) → SameEnd (after_in follow a part rest (turn_by v o)) (after_in follow b part rest (turn_by v o))
+    same_turn None = chosen SamePlace (is_empty rest) (at_missing a part) (at_refusal ENOENT) (at_missing b part) (at_refusal ENOENT) (same, refl) refl
+    same_turn (Some n) = same_node n (v n)
+
+    same_part : is_dot_dot part ≡ false → SameEnd (after_in follow a part rest (turn v a part)) (after_in follow b part rest (turn v b part))
+    same_part plain =
+        elim (is_dot part) as (λ x. SameEnd (after_in follow a part rest (cond x (stays_on a) (cond (is_dot_dot part) (stays_on (take (length a - 1) a)) (cond (is_too_long part) finds_long (turn_by v (entries v (here a) part))))))
+        (after_in follow b part rest (cond x (stays_on b) (cond (is_dot_dot part) (stays_on (take (length b - 1) b)) (cond (is_too_long part) finds_long (turn_by v (entries v (here b) part))))))) [
+          | true ↦ more a b same
+          | false ↦ subst (λ y. SameEnd (after_in follow a part rest (cond y (stays_on (take (length a - 1) a)) (cond (is_too_long part) finds_long (turn_by v (entries v (here a) part)))))
+              (after_in follow b part rest (cond y (stays_on (take (length b - 1) b)) (cond (is_too_long part) finds_long (turn_by v (entries v (here b) part)))))) (sym plain)
+              (elim (is_too_long part) as (λ z. SameEnd (after_in follow a part rest (cond z finds_long (turn_by v (entries v (here a) part)))) (after_in follow b part rest (cond z finds_long (turn_by v (entries v (here b) part))))) [
+                | true ↦ refl
+                | false ↦ subst (λ k. SameEnd (after_in follow a part rest (turn_by v (entries v (here a) part))) (after_in follow b part rest (turn_by v (entries v k part)))) same (same_turn (entries v (here a) part))
+              ])
+        ]
+
+  walk_same : (follow : Bool) (names : List Name) (a b : List ℕ) → here a ≡ here b → list_any is_dot_dot names ≡ false → SameEnd (find_along v follow a names) (find_along v follow b names)
+  walk_same follow [] a b same plain = same
+  walk_same follow (part ∷ rest) a b same plain =
+      let each = or_parts (is_dot_dot part) (list_any is_dot_dot rest) plain in
+      same_part follow part rest (λ x y is. walk_same follow rest x y is each.1) a b same each.0
+
+  end_same : (h k : WalkEnd) → SameEnd h k → SamePlace (find_on (λ _ _. at_refusal ELOOP) h) (find_on (λ _ _. at_refusal ELOOP) k)
+  end_same (halts place) (halts other) is = is
+  end_same (halts_at_link a text rest) (halts_at_link b other more) is = refl
+  end_same _ _ is = absurd is
+
+  place_directory : (a b : List ℕ) (r : tree.Resolution) → here a ≡ here b → IsPlaceOf v (at_directory a) r → IsPlaceAt v (at_directory b) r
+  place_directory a b (tree.named p) same is = trails_end (entries v) p a is ∙ ap (λ k. Some k) same
+  place_directory a b (tree.missing p x) same is = absurd is
+  place_directory a b (tree.refused errno) same is = absurd is
+
+  place_entry : (a b : List ℕ) (x y : Name) (n m : ℕ) (r : tree.Resolution) → here a ≡ here b → x ≡ y → n ≡ m → IsPlaceOf v (at_entry a x n) r → IsPlaceAt v (at_entry b y m) r
+  place_entry a b x y n m (tree.named q) same name number (p, trails, is, edge) = (
+    p,
+    trails_end (entries v) p a trails ∙ ap (λ k. Some k) same,
+    is ∙ ap (λ z. p ++ z ∷ []) name,
+    ap (λ k. entries v k y) (sym same) ∙ ap (λ z. entries v (here a) z) (sym name) ∙ edge ∙ ap (λ k. Some k) number,
+  )
+  place_entry a b x y n m (tree.missing p z) same name number is = absurd is
+  place_entry a b x y n m (tree.refused errno) same name number is = absurd is
+
+  place_missing : (a b : List ℕ) (x y : Name) (r : tree.Resolution) → here a ≡ here b → x ≡ y → IsPlaceOf v (at_missing a x) r → IsPlaceAt v (at_missing b y) r
+  place_missing a b x y (tree.named p) same name is = absurd is
+  place_missing a b x y (tree.missing p z) same name is = (
+    trails_end (entries v) p a is.0 ∙ ap (λ k. Some k) same,
+    is.1 ∙ name,
+    ap (λ k. entries v k y) (sym same) ∙ ap (λ w. entries v (here a) w) (sym name) ∙ is.2,
+  )
+  place_missing a b x y (tree.refused errno) same name is = absurd is
+
+  place_refusal : (errno other : Errno) (r : tree.Resolution) → errno ≡ other → IsPlaceOf v (at_refusal errno) r → IsPlaceAt v (at_refusal other) r
+  place_refusal errno other (tree.named p) same is = absurd is
+  place_refusal errno other (tree.missing p x) same is = absurd is
+  place_refusal errno other (tree.refused e) same is = is ∙ same
+
+  pub place_same : (place other : Place) (r : tree.Resolution) → SamePlace place other → IsPlaceOf v place r → IsPlaceAt v other r
+  place_same (at_directory a) (at_directory b) r same is = place_directory a b r same is
+  place_same (at_entry a x n) (at_entry b y m) r same is = place_entry a b x y n m r same.0 same.1 same.2 is
+  place_same (at_missing a x) (at_missing b y) r same is = place_missing a b x y r same.0 same.1 is
+  place_same (at_refusal errno) (at_refusal other) r same is = place_refusal errno other r same is
+  place_same _ _ r same is = absurd same
+
   on_matches : (again : List ℕ → List Name → Place) (once_more : Path → List Name → tree.Resolution) → ((p : Path) (trail : List ℕ) (names : List Name) → Trails (entries v) p trail → IsPlaceOf v (again trail names) (once_more p names)) → (h : WalkEnd) (s : tree.Stop) → IsHaltOf h s → IsPlaceOf v (find_on again h) (tree.go_on once_more s)
   on_matches again once_more both (halts place) (tree.at answer) is = is
   on_matches again once_more both (halts_at_link trail text rest) (tree.at_link p other more) is =
@@ -163,8 +254,29 @@ module _ (v : Volume) (used : (d n : ℕ) (x : Name) → entries v d x ≡ Some 
   finds (suc links) follow p trail names trails =
       on_matches (find_within links v follow) (tree.resolve_within links t follow) (λ q tr more is. finds links follow q tr more is) (find_along v follow trail names) (tree.walk t follow p names) (walk_matches follow names p trail trails)
 
+  -- from a directory's number
+  pub finds_from : (follow : Bool) (p : Path) (trail : List ℕ) (n : ℕ) (names : List Name) → Trails (entries v) p trail → here trail ≡ n → list_any is_dot_dot names ≡ false → IsPlaceAt v (find_within 0 v follow (trail_from n) names) (tree.resolve_within 0 t follow p names)
+  finds_from follow p trail n names trails is plain =
+      place_same (find_within 0 v follow trail names) (find_within 0 v follow (trail_from n) names) (tree.resolve_within 0 t follow p names)
+      (end_same (find_along v follow trail names) (find_along v follow (trail_from n) names) (walk_same follow names trail (trail_from n) is plain)) (finds 0 follow p trail names trails)
+
   pub finds_from_root : (follow : Bool) (text : List ℕ) → IsPlaceOf v (find_within LINKS_FOLLOWED v follow [] (parts text)) (tree.resolve t follow text)
   finds_from_root follow text = finds LINKS_FOLLOWED follow [] [] (parts text) (trails_root (entries v))
+
+-- each path to a number has a trail
+none_below : (e : Entries) (s : Path) → fold (enter e) None s ≡ None
+none_below e [] = refl
+none_below e (x ∷ s) = none_below e s
+
+trails_along : (e : Entries) (u : Path) (trail : List ℕ) (s : Path) (n : ℕ) → Trails e u trail → fold (enter e) (Some (here trail)) s ≡ Some n → (more : List ℕ) × Trails e (u ++ s) more × (here more ≡ n)
+trails_along e u trail [] n trails is = (trail, subst (λ q. Trails e q trail) (sym (append-nil u)) trails, some_same is)
+trails_along e u trail (x ∷ s) n trails is =
+    elim (e (here trail) x) as (λ o. e (here trail) x ≡ o → fold (enter e) o s ≡ Some n → (more : List ℕ) × Trails e (u ++ x ∷ s) more × (here more ≡ n)) [
+      | None ↦ λ edge at. none_some (sym (none_below e s) ∙ at)
+      | Some k ↦ λ edge at.
+          let below = trails_along e (u ++ x ∷ []) (trail ++ k ∷ []) s n (trails_push e u trail x k trails edge) (ap (λ j. fold (enter e) (Some j) s) (here-push trail k) ∙ at) in
+          (below.0, subst (λ q. Trails e q below.0) (append_assoc u (x ∷ []) s) below.1, below.2)
+    ] refl is
 
 -- the object n, which stands at p alone, lies on a trail just where the trail's path begins with p
 module _ (e : Entries) (w p : Path) (trail : List ℕ) (n : ℕ) (trails : Trails e w trail) (at_p : number_at e p ≡ Some n) where
@@ -189,6 +301,25 @@ module _ (e : Entries) (w p : Path) (trail : List ℕ) (n : ℕ) (trails : Trail
 
 pub resolves_by_numbers : ResolvesByNumbers
 resolves_by_numbers inodes v table follow text volume = finds_from_root v volume.graph.naming.used table follow text
+
+directory_facts : (n : ℕ) (o : Option Node) → is_directory_node o ≡ true → IsSome o × (is_file_node o ≡ false) × (object_of n o ≡ Some (directory n))
+directory_facts n None is = absurd (false≢true is)
+directory_facts n (Some (directory_node attributes names)) is = (refl, refl, refl)
+directory_facts n (Some (file_node attributes links bytes)) is = absurd (false≢true is)
+directory_facts n (Some (link_node attributes text)) is = absurd (false≢true is)
+
+pub resolves_from_numbers : ResolvesFromNumbers
+resolves_from_numbers inodes v table follow n names volume is plain =
+    let facts = directory_facts n (v n) is in
+    let reached = volume.graph.naming.reached n facts.0 facts.1 in
+    let along = trails_along (entries v) [] [] reached.0 n (trails_root (entries v)) reached.1 in (
+      reached.0,
+      record {
+        stands = ap (object_at v) reached.1 ∙ facts.2;
+        only = λ q at_q. alone v volume.graph q reached.0 n (found_number v (number_at (entries v) q) (directory n) n at_q refl) reached.1 facts.1;
+      },
+      finds_from v volume.graph.naming.used table follow reached.0 along.0 n names along.1 along.2 plain,
+    )
 
 some_behind : (o : Option Path) → is_some o ≡ true → (s : Path) × (o ≡ Some s)
 some_behind None some = absurd (false≢true some)

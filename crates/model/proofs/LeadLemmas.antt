@@ -1,14 +1,14 @@
 -- Where a text leads in a tree: to what is there, or to a name that isn't in a directory that is.
-use Rattle.std.proofs.Common.{◌≡◌, ◌≢◌, inl, inr, ℕ, zero, suc, ◌-◌, List, [], ◌∷◌, ◌++◌, length, take, get_or, Bool, true, false, not, ◌&&◌, ◌||◌, cond, Option, Some, None, is_some, IsSome, refl, sym, ap, subst, ◌∙◌, length-append, arith}
-use Rattle.std.specs.Prelude.{if◌then◌else◌, nat_lt}
+use Rattle.std.proofs.Common.{◌≡◌, ◌≢◌, inl, inr, ℕ, zero, suc, ◌-◌, List, [], ◌∷◌, ◌++◌, length, take, drop, get_or, Bool, true, false, not, ◌&&◌, ◌||◌, cond, Option, Some, None, is_some, IsSome, refl, sym, ap, subst, ◌∙◌, length-append, arith}
+use Rattle.std.specs.Prelude.{◌⊎◌, if◌then◌else◌, nat_lt, slice_index_or}
 use Rattle.std.specs.List.{AllByRecursion, slice_split, onto_first, filter}
 use Rattle.std.proofs.lemmas.Bool.{cases_Bool, cond_both, cond-true, cond-false, false≢true, ne_eqb, eqb-true, lt-ltb, or_parts}
 use Rattle.std.proofs.Math.Seq.{take-append_seam}
 use Rattle.std.proofs.lemmas.Slice.Eq.{bytes_eq-Decides}
 use Rattle.model.specs.declared.limits.TheConstants.{LINKS_FOLLOWED}
 use Rattle.model.specs.declared.errno.Errno.TheVariants.{ENOENT, ENOTDIR, ENAMETOOLONG, ELOOP, EINVAL}
-use Rattle.model.specs.Paths.{Name, Path, IsName, IsLinkText, Tests, first_refusal, text_tests_then, new_text_tests, parts, is_slash, is_empty, is_dot, is_dot_dot, is_too_long, last_part, starts_with_slash, ends_with_slash, is_root_text}
-use Rattle.model.specs.Trees.{Tree, Object, directory, symlink, file, is_directory, IsTree}
+use Rattle.model.specs.Paths.{Name, Path, IsName, IsLinkText, Tests, first_refusal, text_tests_then, new_text_tests, parts, is_slash, is_empty, is_dot, is_dot_dot, is_too_long, last_part, starts_with_slash, ends_with_slash, is_number_alone, is_root_text, number_named, parts_behind, starts_at_number}
+use Rattle.model.specs.Trees.{Tree, Object, directory, symlink, file, is_directory, IsPathOf, IsTree}
 use Rattle.model.specs.Resolution.{Resolution, named, missing, refused, Next, into, over, link, absent, too_long, next, found, parent, Stop, at, at_link, walk, go_on, resolve_within, resolve}
 use Rattle.model.proofs.VolumeLemmas.{ends}
 use Rattle.model.proofs.NameLemmas.{IsPart, passed_parts, part_is_name, linked_parts}
@@ -50,6 +50,18 @@ abbrev pub AnswersWell : Tree → Resolution → Type 0
 AnswersWell t (named p) = IsSome (t.objects p)
 AnswersWell t (missing p name) = Misses t p name
 AnswersWell t (refused errno) = Unit {0}
+
+-- where the parts behind a text's number lead from the directory with it
+pub record FromNumber (t : Tree) (follow : Bool) (text : List ℕ) (r : Resolution) : Type 0 where
+  pub number : ℕ
+  pub path : Path
+  pub starts : starts_at_number text ≡ true
+  pub stands : IsPathOf t number path
+  pub is : r ≡ resolve_within 0 t follow path (parts_behind text)
+
+-- where a text may lead: from the root, or from a directory
+abbrev pub IsReached : Tree → Bool → List ℕ → Resolution → Type 0
+IsReached t follow text r = (r ≡ resolve t follow text) ⊎ FromNumber t follow text r
 
 abbrev StopsWell : Tree → Stop → Type 0
 StopsWell t (at r) = AnswersWell t r
@@ -133,9 +145,20 @@ module _ (inodes : ℕ) (t : Tree) (tree : IsTree inodes t) where
   within_well zero follow p names plain here = go_well (λ _ _. refused ELOOP) (λ p names _ _. tt) (walk t follow p names) (walk_well follow names p plain here)
   within_well (suc links) follow p names plain here = go_well (resolve_within links t follow) (within_well links follow) (walk t follow p names) (walk_well follow names p plain here)
 
-  -- where a text that passed its tests leads
+  -- where a text that passed its tests leads from the root
   pub resolves_well : (more : Tests) (follow : Bool) (text : List ℕ) → first_refusal (text_tests_then more text) ≡ None → AnswersWell t (resolve t follow text)
   resolves_well more follow text e = within_well LINKS_FOLLOWED follow [] (parts text) (passed_parts more text e) (ap is_directory tree.root)
+
+  behind_plain : (b : Bool) (names : List Name) → AllByRecursion IsPart names → AllByRecursion IsPart (if b then drop 1 names else names)
+  behind_plain true [] plain = tt
+  behind_plain true (x ∷ names) plain = plain.1
+  behind_plain false names plain = plain
+
+  -- and where it may lead
+  pub reached_well : (more : Tests) (follow : Bool) (text : List ℕ) → first_refusal (text_tests_then more text) ≡ None → (r : Resolution) → IsReached t follow text r → AnswersWell t r
+  reached_well more follow text e r (inl is) = subst (AnswersWell t) (sym is) (resolves_well more follow text e)
+  reached_well more follow text e r (inr from) =
+      subst (AnswersWell t) (sym from.is) (within_well 0 follow from.path (parts_behind text) (behind_plain (starts_at_number text) (parts text) (passed_parts more text e)) (ap is_directory from.stands.stands))
 
 -- a last part that is a name
 
@@ -239,12 +262,25 @@ and_false : (a b : Bool) → b ≡ true → (a && b) ≡ false → a ≡ false
 and_false true b e f = absurd (false≢true (sym f ∙ e))
 and_false false b e f = refl
 
+-- a text that begins at a number has parts
+number_parts : (text : List ℕ) → starts_at_number text ≡ true → parts text ≢ []
+number_parts text starts none =
+    let part : is_some (if starts_with_slash text then None else number_named []) ≡ true = subst (λ (names : List Name). is_some (if starts_with_slash text then None else number_named (slice_index_or names 0 [])) ≡ true) none starts in
+    cond_both (starts_with_slash text) None (number_named []) (λ o. is_some o ≡ true → ⊥) (λ e f. false≢true f) (λ e f. false≢true f) part
+
 -- a text that passed its tests and isn't `/` has parts
 has_parts : (more : Tests) (text : List ℕ) → first_refusal (text_tests_then more text) ≡ None → is_root_text text ≡ false → parts text ≢ []
 has_parts more text e other =
     let pass = all_passed (text_tests_then more text) e in
-    by_text text pass.0 pass.1.1.1.0 pass.1.1.1.1.0 other
+    elim (cases_Bool (starts_at_number text)) [
+      | inl starts ↦ number_parts text starts
+      | inr rooted ↦ by_text text pass.0 (ap not (sym (or_false (starts_with_slash text) (starts_at_number text) rooted)) ∙ pass.1.1.1.0) pass.1.1.1.1.0 other
+    ]
   where
+    or_false : (a b : Bool) → b ≡ false → (a || b) ≡ a
+    or_false true b e = refl
+    or_false false b e = e
+
     by_text : (text : List ℕ) → is_empty text ≡ false → not (starts_with_slash text) ≡ false → (ends_with_slash text && nat_lt 1 (length text)) ≡ false → is_root_text text ≡ false → parts text ≢ []
     by_text [] filled starts ending other = absurd (false≢true (sym filled))
     by_text (x ∷ []) filled starts ending other = absurd (false≢true (sym other ∙ (bytes_eq-Decides (x ∷ []) (47 ∷ [])).1 (ap (λ y. y ∷ []) (eqb-true x 47 (not_false (is_slash x) starts)))))
@@ -252,8 +288,32 @@ has_parts more text e other =
         last_byte (x ∷ (y ∷ text)) (λ z. cc)
         (and_false (ends_with_slash (x ∷ (y ∷ text))) (nat_lt 1 (length (x ∷ (y ∷ text)))) (lt-ltb 1 (length (x ∷ (y ∷ text))) (omega arith)) ending)
 
+-- the last part of a text that passed its tests is a name
+last_names : (text : List ℕ) → first_refusal (new_text_tests text) ≡ None → is_root_text text ≡ false → EndsPlain (parts text)
+last_names text e other =
+    let last = or_parts (is_dot (last_part text) || is_dot_dot (last_part text)) (is_number_alone text) (all_passed (new_text_tests text) e).1.1.1.1.1.1.1.0 in
+    let dots = or_parts (is_dot (last_part text)) (is_dot_dot (last_part text)) last.0 in
+    last_plain (parts text) (has_parts ((is_dot (last_part text) || is_dot_dot (last_part text) || is_number_alone text, EINVAL) ∷ []) text e other) dots.0 dots.1
+
+-- such a text isn't a number alone
+pub not_alone : (text : List ℕ) → first_refusal (new_text_tests text) ≡ None → is_number_alone text ≡ true → ⊥
+not_alone text e alone =
+    false≢true (sym (or_parts (is_dot (last_part text) || is_dot_dot (last_part text)) (is_number_alone text) (all_passed (new_text_tests text) e).1.1.1.1.1.1.1.0).1 ∙ alone)
+
+-- so is that of the parts behind its number
+behind_ends : (b : Bool) (names : List Name) → b ≡ true → (b && is_empty (if b then drop 1 names else names)) ≡ false → EndsPlain names → EndsPlain (if b then drop 1 names else names)
+behind_ends false names starts some plain = absurd (false≢true starts)
+behind_ends true [] starts some plain = absurd plain
+behind_ends true (x ∷ []) starts some plain = absurd (false≢true (sym some))
+behind_ends true (x ∷ (y ∷ rest)) starts some plain = plain
+
 -- where a text that passed its tests, with a name for its last part, leads to something, it isn't the root
 pub resolves_below_root : (t : Tree) (text : List ℕ) → first_refusal (new_text_tests text) ≡ None → is_root_text text ≡ false → AnswersBelowRoot (resolve t false text)
 resolves_below_root t text e other =
-    let dots = or_parts (is_dot (last_part text)) (is_dot_dot (last_part text)) (all_passed (new_text_tests text) e).1.1.1.1.1.1.0 in
-    within_low t LINKS_FOLLOWED [] (parts text) (last_plain (parts text) (has_parts ((is_dot (last_part text) || is_dot_dot (last_part text), EINVAL) ∷ []) text e other) dots.0 dots.1)
+    within_low t LINKS_FOLLOWED [] (parts text) (last_names text e other)
+
+pub reached_below_root : (t : Tree) (text : List ℕ) → first_refusal (new_text_tests text) ≡ None → is_root_text text ≡ false → (r : Resolution) → IsReached t false text r → AnswersBelowRoot r
+reached_below_root t text e other r (inl is) = subst AnswersBelowRoot (sym is) (resolves_below_root t text e other)
+reached_below_root t text e other r (inr from) =
+    let last = or_parts (is_dot (last_part text) || is_dot_dot (last_part text)) (is_number_alone text) (all_passed (new_text_tests text) e).1.1.1.1.1.1.1.0 in
+    subst AnswersBelowRoot (sym from.is) (within_low t 0 from.path (parts_behind text) (behind_ends (starts_at_number text) (parts text) from.starts last.1 (last_names text e other)))

@@ -14,6 +14,7 @@ pub mod CountLemmas
 pub mod WalkLemmas
 pub mod NameLemmas
 pub mod ListingLemmas
+mod EntryLemmas
 pub mod NewTreeLemmas
 pub mod OwnLemmas
 pub mod VolumeLemmas
@@ -25,6 +26,7 @@ pub mod FreshLemmas
 pub mod RemoveNameLemmas
 pub mod RenameLemmas
 pub mod FindingLemmas
+pub mod NumberLemmas
 pub mod ExtendLemmas
 pub mod OnceLemmas
 pub mod OneOutcomeLemmas

@@ -1,7 +1,7 @@
 -- The limits of a volume, through a change of a name and of an object.
 use Rattle.std.proofs.Common.{◌≡◌, ◌≢◌, ◌⊎◌, inl, inr, ℕ, zero, suc, ◌≤◌, ◌<◌, Bool, true, false, ◌==◌, Option, Some, None, is_some, IsSome, IfSome, refl, sym, ap, subst, ◌∙◌, arith}
 use Rattle.std.proofs.lemmas.Bool.{cases_Bool, cases_eq, cond_both, false≢true}
-use Rattle.model.specs.declared.limits.TheConstants.{ROOT_NUMBER, FIRST_NUMBER, DIRECTORY_NAMES}
+use Rattle.model.specs.declared.limits.TheConstants.{OPEN_FILES, ROOT_NUMBER, FIRST_NUMBER, DIRECTORY_NAMES}
 use Rattle.model.specs.Counting.{Counts, CountsUpTo}
 use Rattle.model.specs.Paths.{Name}
 use Rattle.model.specs.Trees.{Description}
@@ -137,8 +137,8 @@ module _ (e : Entries) (k : ℕ) (b : Name) (to : Option ℕ) where
 -- a sweep keeps the limits
 pub limits_swept : (inodes : ℕ) (v : Volume) (table : ℕ → Option Description) → entries (swept table v) ≡ entries v → KeepsNodeLimits inodes v → KeepsNodeLimits inodes (swept table v)
 limits_swept inodes v table same limits = record {
-  nodes = λ n. swept_good (is_open table 32 n) (v n) (limits.nodes n);
-  numbers = λ n some. limits.numbers n (swept_some (is_open table 32 n) (v n) some);
+  nodes = λ n. swept_good (is_open table OPEN_FILES n) (v n) (limits.nodes n);
+  numbers = λ n some. limits.numbers n (swept_some (is_open table OPEN_FILES n) (v n) some);
   children = subst HasFew (sym same) limits.children;
 }
   where

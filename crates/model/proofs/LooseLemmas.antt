@@ -119,10 +119,10 @@ module _ (inodes : ℕ) (old new : Tree) (loose : IsLooseTree inodes old) (swept
 -- whether a number is that of a file at a path, or open, can be found out
 find_open : (table : ℕ → Option Description) → ((d : ℕ) → OPEN_FILES ≤ d → table d ≡ None) → (n : ℕ) → ((d : ℕ) × (f : Description) × (table d ≡ Some f) × (f.number ≡ n)) ⊎ ((d : ℕ) (f : Description) → table d ≡ Some f → f.number ≢ n)
 find_open table past n =
-    elim (cases_Bool (is_open table 32 n)) [
-      | inl t ↦ inl (opened_by table 32 n t)
-      | inr f ↦ inr (λ d g is same. elim (cases_lt d 32) [
-        | inl below ↦ false≢true (sym f ∙ found_open table 32 d n g below is same)
+    elim (cases_Bool (is_open table OPEN_FILES n)) [
+      | inl t ↦ inl (opened_by table OPEN_FILES n t)
+      | inr f ↦ inr (λ d g is same. elim (cases_lt d OPEN_FILES) [
+        | inl below ↦ false≢true (sym f ∙ found_open table OPEN_FILES d n g below is same)
         | inr beyond ↦ none_some (sym (past d beyond) ∙ is)
       ])
     ]

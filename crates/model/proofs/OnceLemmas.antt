@@ -1,31 +1,36 @@
 -- A call has at most one outcome.
 use Rattle.std.proofs.Common.{◌≡◌, ◌≢◌, ◌⊎◌, inl, inr, ℕ, List, [], ◌∷◌, ◌++◌, length, Bool, true, false, Option, Some, None, bytes_eq, refl, sym, ap, subst, ◌∙◌, arith}
-use Rattle.std.specs.Prelude.{ℤ, MatchOption, nat_abs, nat_le, not, ◌&&◌, ◌||◌, if◌then◌else◌, ◌+◌}
+use Rattle.std.specs.Prelude.{ℤ, MatchOption, nat_abs, nat_le, nat_lt, min, ◌==◌, not, ◌&&◌, ◌||◌, if◌then◌else◌, ◌+◌}
 use Rattle.std.proofs.Math.Path.{fun_ext}
 use Rattle.std.proofs.lemmas.Bool.{cases_Bool, cases_order, both_ways}
 use Rattle.std.proofs.lemmas.Slice.Eq.{bytes_eq-Decides}
-use Rattle.model.specs.declared.limits.TheConstants.{DIRECTORY_NAMES, OPEN_FILES}
+use Rattle.model.specs.declared.limits.TheConstants.{DIRECTORY_NAMES, ENTRIES_TOLD, OPEN_FILES}
 use Rattle.model.specs.declared.errno.Errno.{Errno}
-use Rattle.model.specs.declared.errno.Errno.TheVariants.{ENOENT, ENOTDIR, EISDIR, EEXIST, EINVAL, EPERM, EBUSY, EBADF, EMFILE, EFBIG, EMLINK, EOVERFLOW, ENOTEMPTY, DIRFULL, NONUMBER}
+use Rattle.model.specs.declared.errno.Errno.TheVariants.{ENOENT, ENOTDIR, EISDIR, EEXIST, EINVAL, EPERM, EBUSY, EBADF, EMFILE, EFBIG, EMLINK, EOVERFLOW, ELOOP, ENOTEMPTY, DIRFULL, NONUMBER, ESTALE}
 use Rattle.model.specs.declared.reply.Reply.{Reply}
 use Rattle.model.specs.declared.reply.Reply.TheVariants as reply
 use Rattle.model.specs.declared.command.Flags.{Flags}
 use Rattle.model.specs.declared.command.Whence.{Whence}
 use Rattle.model.specs.declared.command.PathCall.{PathCall}
 use Rattle.model.specs.declared.command.PathCall.TheVariants as call
-use Rattle.model.specs.Paths.{Name, Path, Tests, first_refusal, text_tests_then, text_tests, new_text_tests, is_empty, is_root_text, path_eq}
-use Rattle.model.specs.Trees.{Tree, Object, directory, symlink, file, Description, HasPath, IsUsed}
-use Rattle.model.specs.Edits.{contents, with_object, with_directory, IsSwept}
-use Rattle.model.specs.Resolution.{Resolution, named, missing, refused, resolve}
+use Rattle.model.specs.Paths.{Name, Path, Tests, first_refusal, text_tests_then, text_tests, new_text_tests, is_empty, is_root_text, parts_behind, path_eq, start_number}
+use Rattle.model.specs.Trees.{Tree, Object, directory, symlink, file, Description, HasNumber, HasPath, IsUsed}
+use Rattle.model.specs.Edits.{contents, with_descriptor, with_object, with_directory, IsSwept}
+use Rattle.model.specs.Resolution.{Resolution, named, missing, refused, resolve, resolve_within}
 use Rattle.model.specs.Room.{Need}
-use Rattle.model.specs.Outcomes.{Outcome, answers, refuses, changes, changes_swept, tested, either, leads, leads_to, with_names, with_place, IsFresh, HasNoFresh, at_number, with_fresh, HasLinks, with_links, lowest_free, described}
+use Rattle.model.specs.Outcomes.{Outcome, answers, refuses, changes, changes_swept, tested, either, leads, leads_from, goes_along, goes_to, with_number, with_names, with_place, IsFresh, HasNoFresh, at_number, with_fresh, HasLinks, with_links, lowest_free, described}
 use Rattle.model.specs.Reading as reading
 use Rattle.model.specs.Changing as changing
 use Rattle.model.specs.Descriptors as descriptors
 use Rattle.model.specs.States.{ForgetsOpenFiles}
 use Rattle.model.specs.Steps.{calls}
 use Rattle.model.proofs.CountLemmas.{counts_once}
-use Rattle.model.proofs.ListingLemmas.{listing_once}
+use Rattle.model.proofs.ListingLemmas.{listing_once, members_once}
+use Rattle.model.proofs.EntryLemmas.{cookie_total}
+use Rattle.model.proofs.OptionLaws.{some_same}
+use Rattle.model.specs.declared.entries.Entry.{Entry}
+use Rattle.model.specs.Stats.{stat_of}
+use Rattle.model.specs.Entries.{IsPart, TellsEntry, TellsEntries, cookie_cmp, with_part}
 use Rattle.model.proofs.WalkLemmas.{same_path, path_eq-same}
 
 -- two outcomes are one
@@ -54,7 +59,7 @@ option_apart apart None (Some y) = inr (λ e. cc)
 option_apart apart (Some x) None = inr (λ e. cc)
 option_apart apart (Some x) (Some y) = elim (apart x y) [ inl e ↦ inl (ap (λ z. Some z) e) | inr e ↦ inr (λ same. e (cc)) ]
 
-number_apart : (x y : ℕ) → (x ≡ y) ⊎ (x ≢ y)
+pub number_apart : (x y : ℕ) → (x ≡ y) ⊎ (x ≢ y)
 number_apart x y =
     elim (cases_order x y) [
       | inl e ↦ inl e
@@ -132,8 +137,40 @@ once_leads t (named p) there gone at_there at_gone =
       | None ↦ never_once
     ]
 
-once_leads_to : (t : Tree) (r : Resolution) (there : Path → Object → Outcome) → ((p : Path) (o : Object) → Once (there p o)) → Once (leads_to t r there)
-once_leads_to t r there once = once_leads t r there (λ p name. refuses t ENOENT) once (λ p name. once_refuses t ENOENT)
+-- what has a number stands at a path
+pub numbered_path : (t : Tree) (n : ℕ) (o : Object) → HasNumber t n o → HasPath t n
+numbered_path t n o (p, is, number) = (p, o, is, number)
+
+once_numbered : (t : Tree) (n : ℕ) (rest : Object → Outcome) → ((o : Object) → Once (rest o)) → Once (with_number t n rest)
+once_numbered t n rest once a b u w m k (inl (o, is, done)) (inl (r, another, again)) =
+    once o a b u w m k done (subst (λ (x : Object). rest x b w k) (is.only r another.has) again)
+once_numbered t n rest once a b u w m k (inl (o, is, done)) (inr (unused, again)) = absurd (unused (numbered_path t n o is.has))
+once_numbered t n rest once a b u w m k (inr (unused, done)) (inl (o, is, again)) = absurd (unused (numbered_path t n o is.has))
+once_numbered t n rest once a b u w m k (inr (unused, done)) (inr (lost, again)) = once_refuses t ESTALE a b u w m k done again
+
+once_from : (t : Tree) (follow : Bool) (names : List Name) (there : Path → Object → Outcome) (gone : Path → Name → Outcome) → ((p : Path) (o : Object) → Once (there p o)) → ((p : Path) (name : Name) → Once (gone p name))
+    → (o : Object) → Once (leads_from t follow names there gone o)
+once_from t follow names there gone at_there at_gone (directory n) = λ a b u w m k one other.
+    once_leads t (resolve_within 0 t follow one.0 names) there gone at_there at_gone a b u w m k one.2
+    (subst (λ (x : Path). leads t (resolve_within 0 t follow x names) there gone b w k) (one.1.only other.0 other.1.stands) other.2)
+once_from t follow names there gone at_there at_gone (symlink n text) =
+    once_either (is_empty names) _ _ (once_either follow _ _ (once_refuses t ELOOP) (at_there [] (symlink n text))) (once_refuses t ENOTDIR)
+once_from t follow names there gone at_there at_gone (file n) =
+    once_either (is_empty names) _ _ (at_there [] (file n)) (once_refuses t ENOTDIR)
+
+once_along : (t : Tree) (follow : Bool) (text : List ℕ) (there : Path → Object → Outcome) (gone : Path → Name → Outcome) → ((p : Path) (o : Object) → Once (there p o)) → ((p : Path) (name : Name) → Once (gone p name))
+    → Once (goes_along t follow text there gone)
+once_along t follow text there gone at_there at_gone =
+    elim (start_number text) as (λ o. Once (elim o as (λ _. Outcome) [
+      | None ↦ leads t (resolve t follow text) there gone
+      | Some n ↦ with_number t n (leads_from t follow (parts_behind text) there gone)
+    ])) [
+      | None ↦ once_leads t (resolve t follow text) there gone at_there at_gone
+      | Some n ↦ once_numbered t n _ (once_from t follow (parts_behind text) there gone at_there at_gone)
+    ]
+
+once_to : (t : Tree) (follow : Bool) (text : List ℕ) (there : Path → Object → Outcome) → ((p : Path) (o : Object) → Once (there p o)) → Once (goes_to t follow text there)
+once_to t follow text there once = once_along t follow text there (λ p name. refuses t ENOENT) once (λ p name. once_refuses t ENOENT)
 
 once_names : (t : Tree) (p : Path) (rest : List Name → Outcome) → ((names : List Name) → Once (rest names)) → Once (with_names t p rest)
 once_names t p rest once a b u w m n (names, listing, done) (others, another, again) =
@@ -190,27 +227,65 @@ once_tells : (t : Tree) (o : Object) → Once (reading.tells_stat t o)
 once_tells t o = once_links t o _ (λ links. once_answers t _)
 
 once_stat : (t : Tree) (follow : Bool) (path : List ℕ) → Once (reading.stats t follow path)
-once_stat t follow path = once_tested t (text_tests path) _ (once_leads_to t (resolve t follow path) _ (λ p o. once_tells t o))
+once_stat t follow path = once_tested t (text_tests path) _ (once_to t follow path _ (λ p o. once_tells t o))
 
 once_list : (t : Tree) (path : List ℕ) → Once (reading.lists t path)
 once_list t path =
     once_tested t (text_tests path) _
-    (once_leads_to t (resolve t true path) _ (λ p o. once_by_kind o _ _ _ (λ n. once_names t p _ (λ names. once_answers t _)) (λ n text. once_refuses t ENOTDIR) (λ n. once_refuses t ENOTDIR)))
+    (once_to t true path _ (λ p o. once_by_kind o _ _ _ (λ n. once_names t p _ (λ names. once_answers t _)) (λ n text. once_refuses t ENOTDIR) (λ n. once_refuses t ENOTDIR)))
+
+-- the part of a directory's names, and what is told of them, is one
+part_once : (names : List Name) (after count : ℕ) (k l : List Name) → IsPart names after count k → IsPart names after count l → k ≡ l
+part_once names after count k l one other =
+    members_once cookie_cmp cookie_total k l one.sorted other.sorted (λ x has. (other.whole x).1 ((one.whole x).0 has)) (λ x has. (one.whole x).1 ((other.whole x).0 has))
+
+entry_once : (t : Tree) (p : Path) (x : Name) (d e : Entry) → TellsEntry t p x d → TellsEntry t p x e → d ≡ e
+entry_once t p x d e one other =
+    let object : one.object ≡ other.object = some_same (sym one.there ∙ other.there) in
+    let links : d.stat.links ≡ e.stat.links = links_once t one.object d.stat.links e.stat.links one.links (subst (λ (o : Object). HasLinks t o e.stat.links) (sym object) other.links) in
+    let stat : d.stat ≡ e.stat =
+    one.stat ∙ ap (λ (o : Object). stat_of t o d.stat.links) object ∙ ap (λ (k : ℕ). stat_of t other.object k) links ∙ sym other.stat in
+    entries_same d e (one.name ∙ sym other.name) (one.cookie ∙ sym other.cookie) stat
+  where
+    entries_same : (d e : Entry) → d.name ≡ e.name → d.cookie ≡ e.cookie → d.stat ≡ e.stat → d ≡ e
+    entries_same d e name cookie stat = λ i. record { cookie = cookie i; name = name i; stat = stat i }
+
+told_once : (t : Tree) (p : Path) (names : List Name) (k l : List Entry) → TellsEntries t p names k → TellsEntries t p names l → k ≡ l
+told_once t p [] [] [] one other = refl
+told_once t p [] [] (e ∷ l) one other = absurd other
+told_once t p [] (d ∷ k) l one other = absurd one
+told_once t p (x ∷ names) [] l one other = absurd one
+told_once t p (x ∷ names) (d ∷ k) [] one other = absurd other
+told_once t p (x ∷ names) (d ∷ k) (e ∷ l) one other =
+    let first : d ≡ e = entry_once t p x d e one.0 other.0 in
+    let rest : k ≡ l = told_once t p names k l one.1 other.1 in
+    ap (λ (z : Entry). z ∷ k) first ∙ ap (λ (z : List Entry). e ∷ z) rest
+
+once_part : (t : Tree) (p : Path) (names : List Name) (after count : ℕ) (rest : List Entry → Outcome) → ((entries : List Entry) → Once (rest entries)) → Once (with_part t p names after count rest)
+once_part t p names after count rest once a b u w m n (told, entries, part, each, done) (others, listed, another, all, again) =
+    let same : others ≡ told = part_once names after count others told another part in
+    let one : listed ≡ entries = told_once t p told listed entries (subst (λ (l : List Name). TellsEntries t p l listed) same all) each in
+    once entries a b u w m n done (subst (λ (l : List Entry). rest l b w n) one again)
+
+once_entries : (t : Tree) (path : List ℕ) (after : ℤ) (count : ℕ) → Once (reading.tells_entries t path after count)
+once_entries t path after count =
+    once_tested t (text_tests_then ((reading.is_negative after || count == 0 || nat_lt ENTRIES_TOLD count, EINVAL) ∷ []) path) _
+    (once_to t true path _ (λ p o. once_by_kind o _ _ _ (λ n. once_names t p _ (λ names. once_part t p names (nat_abs after) count _ (λ entries. once_answers t _))) (λ n text. once_refuses t ENOTDIR) (λ n. once_refuses t ENOTDIR)))
 
 once_readlink : (t : Tree) (path : List ℕ) → Once (reading.reads_link t path)
 once_readlink t path =
     once_tested t (text_tests path) _
-    (once_leads_to t (resolve t false path) _ (λ p o. once_by_kind o _ _ _ (λ n. once_refuses t EINVAL) (λ n text. once_answers t _) (λ n. once_refuses t EINVAL)))
+    (once_to t false path _ (λ p o. once_by_kind o _ _ _ (λ n. once_refuses t EINVAL) (λ n text. once_answers t _) (λ n. once_refuses t EINVAL)))
 
 once_get : (t : Tree) (path : List ℕ) (offset : ℤ) (count : ℕ) → Once (reading.gets t path offset count)
 once_get t path offset count =
     once_tested t (text_tests_then ((reading.is_negative offset || reading.is_too_many count, EINVAL) ∷ []) path) _
-    (once_leads_to t (resolve t true path) _ (λ p o. once_by_kind o _ _ _ (λ n. once_refuses t EISDIR) (λ n text. never_once) (λ n. once_answers t _)))
+    (once_to t true path _ (λ p o. once_by_kind o _ _ _ (λ n. once_refuses t EISDIR) (λ n text. never_once) (λ n. once_answers t _)))
 
 once_creates : (inodes : ℕ) (t : Tree) (path : List ℕ) (make : Path → ℕ → Tree → Tree) → Once (changing.creates inodes t path make)
 once_creates inodes t path make =
     once_tested t (new_text_tests path) _
-    (once_leads t (resolve t false path) _ _ (λ p o. once_refuses t EEXIST) (λ p name. once_place t p _ (once_fresh inodes t _ (λ n. once_changes _ _ _))))
+    (once_along t false path _ _ (λ p o. once_refuses t EEXIST) (λ p name. once_place t p _ (once_fresh inodes t _ (λ n. once_changes _ _ _))))
 
 once_symlink : (inodes : ℕ) (t : Tree) (text path : List ℕ) → Once (changing.makes_symlink inodes t text path)
 once_symlink inodes t text path =
@@ -222,18 +297,18 @@ once_removes t p = once_swept _ _ _
 once_rmdir : (t : Tree) (path : List ℕ) → Once (changing.removes_directory t path)
 once_rmdir t path =
     once_tested t (new_text_tests path ++ (is_root_text path, EBUSY) ∷ []) _
-    (once_leads_to t (resolve t false path) _ (λ p o. once_by_kind o _ _ _ (λ n. once_names t p _ (λ names. once_test t _ ENOTEMPTY _ (once_removes t p))) (λ n text. once_refuses t ENOTDIR) (λ n. once_refuses t ENOTDIR)))
+    (once_to t false path _ (λ p o. once_by_kind o _ _ _ (λ n. once_names t p _ (λ names. once_test t _ ENOTEMPTY _ (once_removes t p))) (λ n text. once_refuses t ENOTDIR) (λ n. once_refuses t ENOTDIR)))
 
 once_unlink : (t : Tree) (path : List ℕ) → Once (changing.unlinks t path)
 once_unlink t path =
     once_tested t (new_text_tests path) _
-    (once_leads_to t (resolve t false path) _ (λ p o. once_test t _ EPERM _ (once_removes t p)))
+    (once_to t false path _ (λ p o. once_test t _ EPERM _ (once_removes t p)))
 
 once_link : (t : Tree) (old path : List ℕ) → Once (changing.links t old path)
 once_link t old path =
     once_tested t (text_tests old ++ new_text_tests path) _
-    (once_leads_to t (resolve t false old) _ (λ p o. once_by_kind o _ _ _ (λ n. once_refuses t EPERM) (λ n text. once_refuses t EPERM) (λ n.
-    once_leads t (resolve t false path) _ _ (λ q r. once_refuses t EEXIST) (λ q name.
+    (once_to t false old _ (λ p o. once_by_kind o _ _ _ (λ n. once_refuses t EPERM) (λ n text. once_refuses t EPERM) (λ n.
+    once_along t false path _ _ (λ q r. once_refuses t EEXIST) (λ q name.
     once_links t (file n) _ (λ count. once_test t _ EMLINK _ (once_place t q _ (once_changes _ _ _)))))))
 
 once_target : (t : Tree) (p q : Path) (r : Option Object) (rest : Outcome) → Once rest → Once (changing.with_target t p q r rest)
@@ -246,42 +321,52 @@ once_moves : (t : Tree) (p : Path) (o : Object) (q : Path) → Once (changing.mo
 once_moves t p o q =
     once_either _ _ _ (once_answers t _) (once_tested t (changing.move_tests p o q (t.objects q)) _ (once_target t p q (t.objects q) _ (once_swept _ _ _)))
 
-once_rename : (t : Tree) (old path : List ℕ) → Once (changing.renames t old path)
-once_rename t old path =
+once_rename : (t : Tree) (only_new : Bool) (old path : List ℕ) → Once (changing.renames t only_new old path)
+once_rename t only_new old path =
     once_tested t (new_text_tests old ++ new_text_tests path ++ (is_root_text old || is_root_text path, EBUSY) ∷ []) _
-    (once_leads_to t (resolve t false old) _ (λ p o. once_leads t (resolve t false path) _ _ (λ q r. once_moves t p o q) (λ q name. once_moves t p o (q ++ name ∷ []))))
+    (once_to t false old _ (λ p o. once_along t false path _ _ (λ q r. once_test t only_new EEXIST _ (once_moves t p o q)) (λ q name. once_moves t p o (q ++ name ∷ []))))
 
 once_chmod : (t : Tree) (path : List ℕ) (mode : ℕ) → Once (changing.changes_mode t path mode)
 once_chmod t path mode =
     once_tested t (text_tests path) _
-    (once_leads_to t (resolve t true path) _ (λ p o. once_by_kind o _ _ _ (λ n. once_changes _ _ _) (λ n text. never_once) (λ n. once_changes _ _ _)))
+    (once_to t true path _ (λ p o. once_by_kind o _ _ _ (λ n. once_changes _ _ _) (λ n text. never_once) (λ n. once_changes _ _ _)))
 
 once_truncate : (t : Tree) (path : List ℕ) (size : ℤ) → Once (changing.truncates t path size)
 once_truncate t path size =
     once_tested t (text_tests_then (changing.size_tests size) path) _
-    (once_leads_to t (resolve t true path) _ (λ p o. once_by_kind o _ _ _ (λ n. once_refuses t EISDIR) (λ n text. never_once) (λ n. once_changes _ _ _)))
+    (once_to t true path _ (λ p o. once_by_kind o _ _ _ (λ n. once_refuses t EISDIR) (λ n text. never_once) (λ n. once_changes _ _ _)))
 
-once_opens_object : (t : Tree) (o : Object) (flags : Flags) (fd : ℕ) → Once (descriptors.opens_object t o flags fd)
-once_opens_object t o flags fd =
-    once_test t _ EEXIST _ (once_by_kind o _ _ _ (λ n. once_refuses t EISDIR) (λ n text. never_once) (λ n. once_either _ _ _ (once_changes _ _ _) (once_changes _ _ _)))
+once_opens_file : (tells : Bool) (n : ℕ) (flags : Flags) (fd : ℕ) (t : Tree) (need : Need) → Once (descriptors.opens_file tells n flags fd t need)
+once_opens_file tells n flags fd t need =
+    let opened : Tree = with_descriptor fd (Some (descriptors.described_by n flags)) t in
+    once_either tells _ _ (once_links opened (file n) _ (λ links. once_changes _ opened need)) (once_changes _ opened need)
 
-once_opens_new : (inodes : ℕ) (t : Tree) (p : Path) (name : Name) (flags : Flags) (mode fd : ℕ) → Once (descriptors.opens_new inodes t p name flags mode fd)
-once_opens_new inodes t p name flags mode fd =
-    once_test t _ ENOENT _ (once_place t p _ (once_fresh inodes t _ (λ n. once_changes _ _ _)))
+once_opens_object : (tells : Bool) (t : Tree) (o : Object) (flags : Flags) (fd : ℕ) → Once (descriptors.opens_object tells t o flags fd)
+once_opens_object tells t o flags fd =
+    once_test t _ EEXIST _ (once_by_kind o _ _ _ (λ n. once_refuses t EISDIR) (λ n text. never_once) (λ n. once_either _ _ _ (once_opens_file tells n flags fd _ _) (once_opens_file tells n flags fd _ _)))
 
-pub once_open : (inodes : ℕ) (t : Tree) (path : List ℕ) (flags : Flags) (mode : ℕ) → Once (descriptors.opens inodes t path flags mode)
-once_open inodes t path flags mode =
+once_opens_new : (tells : Bool) (inodes : ℕ) (t : Tree) (p : Path) (name : Name) (flags : Flags) (mode fd : ℕ) → Once (descriptors.opens_new tells inodes t p name flags mode fd)
+once_opens_new tells inodes t p name flags mode fd =
+    once_test t _ ENOENT _ (once_place t p _ (once_fresh inodes t _ (λ n. once_opens_file tells n flags fd _ _)))
+
+pub once_open : (tells : Bool) (below inodes : ℕ) (t : Tree) (path : List ℕ) (flags : Flags) (mode : ℕ) → Once (descriptors.opens tells below inodes t path flags mode)
+once_open tells below inodes t path flags mode =
     once_tested t (text_tests_then (descriptors.open_tests flags) path) _
-    (elim (lowest_free t.descriptors OPEN_FILES) as (λ o. Once (elim o as (λ _. Outcome) [
+    (elim (lowest_free t.descriptors (min below OPEN_FILES)) as (λ o. Once (elim o as (λ _. Outcome) [
       | None ↦ refuses t EMFILE
-      | Some fd ↦ leads t (resolve t (not (flags.creates && flags.exclusive)) path) (λ p o. descriptors.opens_object t o flags fd) (λ p name. descriptors.opens_new inodes t p name flags mode fd)
+      | Some fd ↦ goes_along t (not (flags.creates && flags.exclusive)) path (λ p o. descriptors.opens_object tells t o flags fd) (λ p name. descriptors.opens_new tells inodes t p name flags mode fd)
     ])) [
       | None ↦ once_refuses t EMFILE
-      | Some fd ↦ once_leads t (resolve t (not (flags.creates && flags.exclusive)) path) _ _ (λ p o. once_opens_object t o flags fd) (λ p name. once_opens_new inodes t p name flags mode fd)
+      | Some fd ↦ once_along t (not (flags.creates && flags.exclusive)) path _ _ (λ p o. once_opens_object tells t o flags fd) (λ p name. once_opens_new tells inodes t p name flags mode fd)
     ])
 
 once_puts : (t : Tree) (n offset : ℕ) (given : List ℕ) (also : Tree → Tree) → Once (descriptors.puts t n offset given also)
 once_puts t n offset given also = once_either _ _ _ (once_answers t _) (once_test t _ EFBIG _ (once_changes _ _ _))
+
+once_store : (t : Tree) (path : List ℕ) (offset : ℤ) (given : List ℕ) → Once (descriptors.stores t path offset given)
+once_store t path offset given =
+    once_tested t (text_tests_then ((reading.is_negative offset || reading.is_too_many (length given), EINVAL) ∷ []) path) _
+    (once_to t true path _ (λ p o. once_by_kind o _ _ _ (λ n. once_refuses t EISDIR) (λ n text. never_once) (λ n. once_puts t n (nat_abs offset) given (λ after. after))))
 
 pub once_close : (t : Tree) (fd : ℕ) → Once (descriptors.closes t fd)
 once_close t fd = once_described t fd _ (λ f. once_swept _ _ _)
@@ -319,6 +404,7 @@ once_fsync t fd = once_described t fd _ (λ f. once_answers t _)
 
 pub once_path : (inodes : ℕ) (t : Tree) (c : PathCall) → Once (calls inodes t c)
 once_path inodes t (call.List path) = once_list t path
+once_path inodes t (call.Entries path after count) = once_entries t path after count
 once_path inodes t (call.Stat path) = once_stat t true path
 once_path inodes t (call.Lstat path) = once_stat t false path
 once_path inodes t (call.Readlink path) = once_readlink t path
@@ -328,6 +414,8 @@ once_path inodes t (call.Rmdir path) = once_rmdir t path
 once_path inodes t (call.Unlink path) = once_unlink t path
 once_path inodes t (call.Link old path) = once_link t old path
 once_path inodes t (call.Symlink text path) = once_symlink inodes t text path
-once_path inodes t (call.Rename old path) = once_rename t old path
+once_path inodes t (call.Rename old path) = once_rename t false old path
+once_path inodes t (call.RenameNew old path) = once_rename t true old path
 once_path inodes t (call.Chmod path mode) = once_chmod t path mode
 once_path inodes t (call.Truncate path size) = once_truncate t path size
+once_path inodes t (call.Store path offset given) = once_store t path offset given

@@ -1,5 +1,5 @@
 -- A command has at most one outcome.
-use Rattle.std.proofs.Common.{◌≡◌, [], ◌∷◌, ◌++◌, Option, Some, None, bytes_eq, sym, ap, ◌∙◌}
+use Rattle.std.proofs.Common.{◌≡◌, ℕ, [], ◌∷◌, ◌++◌, true, false, Option, Some, None, bytes_eq, sym, ap, subst, ◌∙◌}
 use Rattle.std.specs.Prelude.{not, is_none, filter}
 use Rattle.model.specs.declared.limits.TheConstants.{OPEN_FILES}
 use Rattle.model.specs.declared.errno.Errno.TheVariants.{EBUSY, EROFS, NOSNAP}
@@ -8,14 +8,15 @@ use Rattle.model.specs.declared.reply.Reply.TheVariants as reply
 use Rattle.model.specs.declared.command.Command.TheVariants as command
 use Rattle.model.specs.declared.command.PathCall.{PathCall}
 use Rattle.model.specs.Paths.{Name, Tests, first_refusal}
-use Rattle.model.specs.Trees.{Tree}
+use Rattle.model.specs.Trees.{Tree, IsUsed}
 use Rattle.model.specs.Room.{Room, Need, nothing, a_snapshot, a_restore}
 use Rattle.model.specs.Outcomes.{Outcome}
 use Rattle.model.specs.Descriptors as descriptors
 use Rattle.model.specs.States.{State, with_tree, with_snapshots, ForgetsOpenFiles}
-use Rattle.model.specs.Steps.{Step, says, passing, on_tree, calls, is_reading_call, frozen, take_tests, takes, deletes, has_open_below, restores, views}
+use Rattle.model.specs.Steps.{Step, says, passing, on_tree, calls, is_reading_call, frozen, take_tests, takes, deletes, has_open_below, restores, tells_usage, usage_of, views}
 use Rattle.model.specs.Laws.{HasOneOutcome}
-use Rattle.model.proofs.OnceLemmas.{Once, forgets_once, once_path, once_open, once_close, once_read, once_write, once_pread, once_pwrite, once_seek, once_ftruncate, once_fstat, once_fsync}
+use Rattle.model.proofs.CountLemmas.{counts_once}
+use Rattle.model.proofs.OnceLemmas.{Once, number_apart, forgets_once, once_path, once_open, once_close, once_read, once_write, once_pread, once_pwrite, once_seek, once_ftruncate, once_fstat, once_fsync}
 
 -- the commands
 
@@ -78,9 +79,17 @@ once_views s name c =
           (same.reply, one.1 ∙ sym other.1, same.need))
     ]
 
+once_usage : (room : Room) (s : State) → OnceStep (tells_usage room s)
+once_usage room s a b t u m n (taken, counts, done) (others, another, again) =
+    once_says s (reply.Usage (usage_of room s taken)) a b t u m n done
+    (subst (λ (k : ℕ). says s (reply.Usage (usage_of room s k)) b u n) (counts_once (IsUsed s.tree) number_apart others taken another counts) again)
+
 pub has_one_outcome : HasOneOutcome
 has_one_outcome room s (command.Path c) = once_on_tree s (calls s.inodes s.tree c) (once_path s.inodes s.tree c)
-has_one_outcome room s (command.Open path flags mode) = once_on_tree s (descriptors.opens s.inodes s.tree path flags mode) (once_open s.inodes s.tree path flags mode)
+has_one_outcome room s (command.Open path flags mode below) =
+    once_on_tree s (descriptors.opens false below s.inodes s.tree path flags mode) (once_open false below s.inodes s.tree path flags mode)
+has_one_outcome room s (command.OpenStat path flags mode below) =
+    once_on_tree s (descriptors.opens true below s.inodes s.tree path flags mode) (once_open true below s.inodes s.tree path flags mode)
 has_one_outcome room s (command.Close fd) = once_on_tree s (descriptors.closes s.tree fd) (once_close s.tree fd)
 has_one_outcome room s (command.Read fd count) = once_on_tree s (descriptors.reads s.tree fd count) (once_read s.tree fd count)
 has_one_outcome room s (command.Write fd given) = once_on_tree s (descriptors.writes s.tree fd given) (once_write s.tree fd given)
@@ -92,6 +101,7 @@ has_one_outcome room s (command.Fstat fd) = once_on_tree s (descriptors.stats_op
 has_one_outcome room s (command.Fsync fd) = once_on_tree s (descriptors.syncs_open s.tree fd) (once_fsync s.tree fd)
 has_one_outcome room s command.Sync = once_says s _
 has_one_outcome room s command.Df = once_says s _
+has_one_outcome room s command.Statfs = once_usage room s
 has_one_outcome room s (command.SnapTake name) = once_takes s name
 has_one_outcome room s (command.SnapDelete name) = once_deletes s name
 has_one_outcome room s (command.SnapRestore name) = once_restores room s name

@@ -1,10 +1,10 @@
 -- The calls' own refusals: none of a call is one that tells of devices, memory or room.
-use Rattle.std.proofs.Common.{◌≡◌, ℕ, ℤ, zero, suc, List, [], ◌∷◌, ◌++◌, Bool, true, false, not, ◌&&◌, ◌||◌, cond, is_none, Option, Some, None, refl, sym, ap, subst, ◌∙◌}
-use Rattle.std.specs.Prelude.{if◌then◌else◌, nat_abs, nat_le, nat_lt, length, ◌+◌}
+use Rattle.std.proofs.Common.{◌≡◌, inl, inr, ℕ, ℤ, zero, suc, List, [], ◌∷◌, ◌++◌, Bool, true, false, not, ◌&&◌, ◌||◌, cond, is_none, Option, Some, None, refl, sym, ap, subst, ◌∙◌}
+use Rattle.std.specs.Prelude.{if◌then◌else◌, nat_abs, nat_le, nat_lt, min, length, ◌+◌, ◌==◌}
 use Rattle.std.proofs.lemmas.Bool.{cond_both}
-use Rattle.model.specs.declared.limits.TheConstants.{LINKS_FOLLOWED, DIRECTORY_NAMES, OPEN_FILES, GREATEST_FILE}
+use Rattle.model.specs.declared.limits.TheConstants.{LINKS_FOLLOWED, DIRECTORY_NAMES, ENTRIES_TOLD, OPEN_FILES, GREATEST_FILE}
 use Rattle.model.specs.declared.errno.Errno.{Errno}
-use Rattle.model.specs.declared.errno.Errno.TheVariants.{ENOENT, ENOTDIR, EISDIR, EEXIST, EINVAL, ENAMETOOLONG, ELOOP, EPERM, EBUSY, EBADF, EMFILE, ENOTEMPTY, EFBIG, EOVERFLOW, EMLINK, EROFS, NOSNAP, DIRFULL, NONUMBER}
+use Rattle.model.specs.declared.errno.Errno.TheVariants.{ENOENT, ENOTDIR, EISDIR, EEXIST, EINVAL, ENAMETOOLONG, ELOOP, EPERM, EBUSY, EBADF, EMFILE, ENOTEMPTY, EFBIG, EOVERFLOW, EMLINK, EROFS, NOSNAP, DIRFULL, NONUMBER, ESTALE}
 use Rattle.model.specs.declared.reply.Reply.{Reply}
 use Rattle.model.specs.declared.reply.Reply.TheVariants as reply
 use Rattle.model.specs.declared.command.Command.{Command}
@@ -13,12 +13,14 @@ use Rattle.model.specs.declared.command.Flags.{Flags}
 use Rattle.model.specs.declared.command.Whence.{Whence}
 use Rattle.model.specs.declared.command.PathCall.{PathCall}
 use Rattle.model.specs.declared.command.PathCall.TheVariants as call
-use Rattle.model.specs.Paths.{Name, Path, parts, is_empty, is_dot, is_dot_dot, last_part, starts_with_slash, is_root_text, Tests, first_refusal, text_tests_then, text_tests, new_text_tests}
+use Rattle.model.specs.Paths.{Name, Path, parts, is_empty, is_dot, is_dot_dot, last_part, starts_with_slash, is_number_alone, is_root_text, parts_behind, start_number, Tests, first_refusal, text_tests_then, text_tests, new_text_tests}
 use Rattle.model.specs.Trees.{Tree, Object, directory, symlink, file, Description}
 use Rattle.model.specs.Edits.{contents, with_object, with_directory}
 use Rattle.model.specs.Resolution.{Resolution, named, missing, refused, Next, into, over, link, absent, too_long, next, Stop, at, at_link, walk, go_on, resolve_within, resolve}
 use Rattle.model.specs.Room.{Room, Need, nothing}
-use Rattle.model.specs.Outcomes.{Outcome, answers, refuses, changes, changes_swept, tested, either, leads, leads_to, with_names, with_place, at_number, with_fresh, with_links, lowest_free, described}
+use Rattle.model.specs.Outcomes.{Outcome, answers, refuses, changes, changes_swept, tested, either, leads, leads_from, goes_along, goes_to, with_number, with_names, with_place, at_number, with_fresh, with_links, lowest_free, described}
+use Rattle.model.specs.declared.entries.Entry.{Entry}
+use Rattle.model.specs.Entries.{with_part}
 use Rattle.model.specs.Reading as reading
 use Rattle.model.specs.Changing as changing
 use Rattle.model.specs.Descriptors as descriptors
@@ -138,8 +140,32 @@ own_leads t (named p) there gone own at_there at_gone =
       | None ↦ λ answer new need never. absurd never
     ]
 
-own_leads_to : (t : Tree) (follow : Bool) (text : List ℕ) (there : Path → Object → Outcome) → ((p : Path) (o : Object) → Own t (there p o)) → Own t (leads_to t (resolve t follow text) there)
-own_leads_to t follow text there own = own_leads t (resolve t follow text) there (λ p name. refuses t ENOENT) (resolve_own t follow text) own (λ p name. own_refuses t ENOENT refl)
+own_numbered : (t : Tree) (n : ℕ) (rest : Object → Outcome) → ((o : Object) → Own t (rest o)) → Own t (with_number t n rest)
+own_numbered t n rest own answer new need (inl (o, is, done)) = own o answer new need done
+own_numbered t n rest own answer new need (inr (unused, done)) = own_refuses t ESTALE refl answer new need done
+
+own_from : (t : Tree) (follow : Bool) (names : List Name) (there : Path → Object → Outcome) (gone : Path → Name → Outcome) → ((p : Path) (o : Object) → Own t (there p o)) → ((p : Path) (name : Name) → Own t (gone p name))
+    → (o : Object) → Own t (leads_from t follow names there gone o)
+own_from t follow names there gone at_there at_gone (directory n) = λ answer new need done.
+    own_leads t (resolve_within 0 t follow done.0 names) there gone (within_own 0 t follow done.0 names) at_there at_gone answer new need done.2
+own_from t follow names there gone at_there at_gone (symlink n text) =
+    own_either t (is_empty names) _ _ (own_either t follow _ _ (own_refuses t ELOOP refl) (at_there [] (symlink n text))) (own_refuses t ENOTDIR refl)
+own_from t follow names there gone at_there at_gone (file n) =
+    own_either t (is_empty names) _ _ (at_there [] (file n)) (own_refuses t ENOTDIR refl)
+
+own_along : (t : Tree) (follow : Bool) (text : List ℕ) (there : Path → Object → Outcome) (gone : Path → Name → Outcome) → ((p : Path) (o : Object) → Own t (there p o)) → ((p : Path) (name : Name) → Own t (gone p name))
+    → Own t (goes_along t follow text there gone)
+own_along t follow text there gone at_there at_gone =
+    elim (start_number text) as (λ o. Own t (elim o as (λ _. Outcome) [
+      | None ↦ leads t (resolve t follow text) there gone
+      | Some n ↦ with_number t n (leads_from t follow (parts_behind text) there gone)
+    ])) [
+      | None ↦ own_leads t (resolve t follow text) there gone (resolve_own t follow text) at_there at_gone
+      | Some n ↦ own_numbered t n _ (own_from t follow (parts_behind text) there gone at_there at_gone)
+    ]
+
+own_to : (t : Tree) (follow : Bool) (text : List ℕ) (there : Path → Object → Outcome) → ((p : Path) (o : Object) → Own t (there p o)) → Own t (goes_to t follow text there)
+own_to t follow text there own = own_along t follow text there (λ p name. refuses t ENOENT) own (λ p name. own_refuses t ENOENT refl)
 
 own_names : (t : Tree) (p : Path) (rest : List Name → Outcome) → ((names : List Name) → Own t (rest names)) → Own t (with_names t p rest)
 own_names t p rest own answer new need (names, listing, done) = own names answer new need done
@@ -178,13 +204,13 @@ tests_append [] b own more = more
 tests_append (test ∷ a) b own more = (own.0, tests_append a b own.1 more)
 
 text_own : (more : Tests) (text : List ℕ) → TestsOwn more → TestsOwn (text_tests_then more text)
-text_own more text own = (refl, (refl, (refl, (refl, (refl, (refl, own))))))
+text_own more text own = (refl, (refl, (refl, (refl, (refl, (refl, (refl, own)))))))
 
 plain_own : (text : List ℕ) → TestsOwn (text_tests text)
 plain_own text = text_own [] text tt
 
 new_own : (text : List ℕ) → TestsOwn (new_text_tests text)
-new_own text = text_own ((is_dot (last_part text) || is_dot_dot (last_part text), EINVAL) ∷ []) text (refl, tt)
+new_own text = text_own ((is_dot (last_part text) || is_dot_dot (last_part text) || is_number_alone text, EINVAL) ∷ []) text (refl, tt)
 
 -- the calls
 
@@ -192,27 +218,39 @@ own_tells : (t : Tree) (o : Object) → Own t (reading.tells_stat t o)
 own_tells t o = own_links t o _ (λ links. own_answers t _ tt)
 
 own_stat : (t : Tree) (follow : Bool) (path : List ℕ) → Own t (reading.stats t follow path)
-own_stat t follow path = own_tested t (text_tests path) _ (plain_own path) (own_leads_to t follow path _ (λ p o. own_tells t o))
+own_stat t follow path = own_tested t (text_tests path) _ (plain_own path) (own_to t follow path _ (λ p o. own_tells t o))
 
 own_list : (t : Tree) (path : List ℕ) → Own t (reading.lists t path)
 own_list t path =
     own_tested t (text_tests path) _ (plain_own path)
-    (own_leads_to t true path _ (λ p o. by_kind t o _ _ _ (λ n. own_names t p _ (λ names. own_answers t _ tt)) (λ n text. own_refuses t ENOTDIR refl) (λ n. own_refuses t ENOTDIR refl)))
+    (own_to t true path _ (λ p o. by_kind t o _ _ _ (λ n. own_names t p _ (λ names. own_answers t _ tt)) (λ n text. own_refuses t ENOTDIR refl) (λ n. own_refuses t ENOTDIR refl)))
+
+own_part : (t : Tree) (p : Path) (names : List Name) (after count : ℕ) (rest : List Entry → Outcome) → ((entries : List Entry) → Own t (rest entries)) → Own t (with_part t p names after count rest)
+own_part t p names after count rest own answer new need (told, entries, part, each, done) = own entries answer new need done
+
+own_entries : (t : Tree) (path : List ℕ) (after : ℤ) (count : ℕ) → Own t (reading.tells_entries t path after count)
+own_entries t path after count =
+    own_tested t (text_tests_then ((reading.is_negative after || count == 0 || nat_lt ENTRIES_TOLD count, EINVAL) ∷ []) path) _
+    (text_own ((reading.is_negative after || count == 0 || nat_lt ENTRIES_TOLD count, EINVAL) ∷ []) path (refl, tt))
+    (own_to t true path _ (λ p o. by_kind t o _ _ _
+    (λ n. own_names t p _ (λ names. own_part t p names (nat_abs after) count _ (λ entries. own_answers t _ tt)))
+    (λ n text. own_refuses t ENOTDIR refl)
+    (λ n. own_refuses t ENOTDIR refl)))
 
 own_readlink : (t : Tree) (path : List ℕ) → Own t (reading.reads_link t path)
 own_readlink t path =
     own_tested t (text_tests path) _ (plain_own path)
-    (own_leads_to t false path _ (λ p o. by_kind t o _ _ _ (λ n. own_refuses t EINVAL refl) (λ n text. own_answers t _ tt) (λ n. own_refuses t EINVAL refl)))
+    (own_to t false path _ (λ p o. by_kind t o _ _ _ (λ n. own_refuses t EINVAL refl) (λ n text. own_answers t _ tt) (λ n. own_refuses t EINVAL refl)))
 
 own_get : (t : Tree) (path : List ℕ) (offset : ℤ) (count : ℕ) → Own t (reading.gets t path offset count)
 own_get t path offset count =
     own_tested t (text_tests_then ((reading.is_negative offset || reading.is_too_many count, EINVAL) ∷ []) path) _ (text_own ((reading.is_negative offset || reading.is_too_many count, EINVAL) ∷ []) path (refl, tt))
-    (own_leads_to t true path _ (λ p o. by_kind t o _ _ _ (λ n. own_refuses t EISDIR refl) (λ n text. never t) (λ n. own_answers t _ tt)))
+    (own_to t true path _ (λ p o. by_kind t o _ _ _ (λ n. own_refuses t EISDIR refl) (λ n text. never t) (λ n. own_answers t _ tt)))
 
 own_creates : (inodes : ℕ) (t : Tree) (path : List ℕ) (make : Path → ℕ → Tree → Tree) → Own t (changing.creates inodes t path make)
 own_creates inodes t path make =
     own_tested t (new_text_tests path) _ (new_own path)
-    (own_leads t (resolve t false path) _ _ (resolve_own t false path) (λ p o. own_refuses t EEXIST refl) (λ p name. own_place t p _ (own_fresh inodes t _ (λ n. own_changes _ _ _ _ tt))))
+    (own_along t false path _ _ (λ p o. own_refuses t EEXIST refl) (λ p name. own_place t p _ (own_fresh inodes t _ (λ n. own_changes _ _ _ _ tt))))
 
 own_symlink : (inodes : ℕ) (t : Tree) (text path : List ℕ) → Own t (changing.makes_symlink inodes t text path)
 own_symlink inodes t text path =
@@ -224,18 +262,18 @@ own_removes t p = own_swept _ _ _ _ tt
 own_rmdir : (t : Tree) (path : List ℕ) → Own t (changing.removes_directory t path)
 own_rmdir t path =
     own_tested t (new_text_tests path ++ (is_root_text path, EBUSY) ∷ []) _ (tests_append (new_text_tests path) ((is_root_text path, EBUSY) ∷ []) (new_own path) (refl, tt))
-    (own_leads_to t false path _ (λ p o. by_kind t o _ _ _ (λ n. own_names t p _ (λ names. own_test t _ ENOTEMPTY _ refl (own_removes t p))) (λ n text. own_refuses t ENOTDIR refl) (λ n. own_refuses t ENOTDIR refl)))
+    (own_to t false path _ (λ p o. by_kind t o _ _ _ (λ n. own_names t p _ (λ names. own_test t _ ENOTEMPTY _ refl (own_removes t p))) (λ n text. own_refuses t ENOTDIR refl) (λ n. own_refuses t ENOTDIR refl)))
 
 own_unlink : (t : Tree) (path : List ℕ) → Own t (changing.unlinks t path)
 own_unlink t path =
     own_tested t (new_text_tests path) _ (new_own path)
-    (own_leads_to t false path _ (λ p o. own_test t _ EPERM _ refl (own_removes t p)))
+    (own_to t false path _ (λ p o. own_test t _ EPERM _ refl (own_removes t p)))
 
 own_link : (t : Tree) (old path : List ℕ) → Own t (changing.links t old path)
 own_link t old path =
     own_tested t (text_tests old ++ new_text_tests path) _ (tests_append (text_tests old) (new_text_tests path) (plain_own old) (new_own path))
-    (own_leads_to t false old _ (λ p o. by_kind t o _ _ _ (λ n. own_refuses t EPERM refl) (λ n text. own_refuses t EPERM refl) (λ n.
-    own_leads t (resolve t false path) _ _ (resolve_own t false path) (λ q r. own_refuses t EEXIST refl) (λ q name.
+    (own_to t false old _ (λ p o. by_kind t o _ _ _ (λ n. own_refuses t EPERM refl) (λ n text. own_refuses t EPERM refl) (λ n.
+    own_along t false path _ _ (λ q r. own_refuses t EEXIST refl) (λ q name.
     own_links t (file n) _ (λ count. own_test t _ EMLINK _ refl (own_place t q _ (own_changes _ _ _ _ tt)))))))
 
 own_target : (t : Tree) (p q : Path) (r : Option Object) (rest : Outcome) → Own t rest → Own t (changing.with_target t p q r rest)
@@ -248,38 +286,42 @@ own_moves : (t : Tree) (p : Path) (o : Object) (q : Path) → Own t (changing.mo
 own_moves t p o q =
     own_either t _ _ _ (own_answers t _ tt) (own_tested t (changing.move_tests p o q (t.objects q)) _ (refl, (refl, (refl, tt))) (own_target t p q (t.objects q) _ (own_swept _ _ _ _ tt)))
 
-own_rename : (t : Tree) (old path : List ℕ) → Own t (changing.renames t old path)
-own_rename t old path =
+own_rename : (t : Tree) (only_new : Bool) (old path : List ℕ) → Own t (changing.renames t only_new old path)
+own_rename t only_new old path =
     own_tested t (new_text_tests old ++ new_text_tests path ++ (is_root_text old || is_root_text path, EBUSY) ∷ []) _ (tests_append (new_text_tests old ++ new_text_tests path) ((is_root_text old || is_root_text path, EBUSY) ∷ []) (tests_append (new_text_tests old) (new_text_tests path) (new_own old) (new_own path)) (refl, tt))
-    (own_leads_to t false old _ (λ p o. own_leads t (resolve t false path) _ _ (resolve_own t false path) (λ q r. own_moves t p o q) (λ q name. own_moves t p o (q ++ name ∷ []))))
+    (own_to t false old _ (λ p o. own_along t false path _ _ (λ q r. own_test t only_new EEXIST _ refl (own_moves t p o q)) (λ q name. own_moves t p o (q ++ name ∷ []))))
 
 own_chmod : (t : Tree) (path : List ℕ) (mode : ℕ) → Own t (changing.changes_mode t path mode)
 own_chmod t path mode =
     own_tested t (text_tests path) _ (plain_own path)
-    (own_leads_to t true path _ (λ p o. by_kind t o _ _ _ (λ n. own_changes _ _ _ _ tt) (λ n text. never t) (λ n. own_changes _ _ _ _ tt)))
+    (own_to t true path _ (λ p o. by_kind t o _ _ _ (λ n. own_changes _ _ _ _ tt) (λ n text. never t) (λ n. own_changes _ _ _ _ tt)))
 
 own_truncate : (t : Tree) (path : List ℕ) (size : ℤ) → Own t (changing.truncates t path size)
 own_truncate t path size =
     own_tested t (text_tests_then (changing.size_tests size) path) _ (text_own (changing.size_tests size) path (refl, (refl, tt)))
-    (own_leads_to t true path _ (λ p o. by_kind t o _ _ _ (λ n. own_refuses t EISDIR refl) (λ n text. never t) (λ n. own_changes _ _ _ _ tt)))
+    (own_to t true path _ (λ p o. by_kind t o _ _ _ (λ n. own_refuses t EISDIR refl) (λ n text. never t) (λ n. own_changes _ _ _ _ tt)))
 
-own_opens_object : (t : Tree) (o : Object) (flags : Flags) (fd : ℕ) → Own t (descriptors.opens_object t o flags fd)
-own_opens_object t o flags fd =
-    own_test t _ EEXIST _ refl (by_kind t o _ _ _ (λ n. own_refuses t EISDIR refl) (λ n text. never t) (λ n. own_either t _ _ _ (own_changes _ _ _ _ tt) (own_changes _ _ _ _ tt)))
+own_opens_file : (old : Tree) (tells : Bool) (n : ℕ) (flags : Flags) (fd : ℕ) (t : Tree) (need : Need) → Own old (descriptors.opens_file tells n flags fd t need)
+own_opens_file old true n flags fd t need answer new other done errno is = good_own (reply.Opened fd _) tt errno (sym done.2.0 ∙ is)
+own_opens_file old false n flags fd t need answer new other done errno is = good_own (reply.Fd fd) tt errno (sym done.0 ∙ is)
 
-own_opens_new : (inodes : ℕ) (t : Tree) (p : Path) (name : Name) (flags : Flags) (mode fd : ℕ) → Own t (descriptors.opens_new inodes t p name flags mode fd)
-own_opens_new inodes t p name flags mode fd =
-    own_test t _ ENOENT _ refl (own_place t p _ (own_fresh inodes t _ (λ n. own_changes _ _ _ _ tt)))
+own_opens_object : (tells : Bool) (t : Tree) (o : Object) (flags : Flags) (fd : ℕ) → Own t (descriptors.opens_object tells t o flags fd)
+own_opens_object tells t o flags fd =
+    own_test t _ EEXIST _ refl (by_kind t o _ _ _ (λ n. own_refuses t EISDIR refl) (λ n text. never t) (λ n. own_either t _ _ _ (own_opens_file t tells n flags fd _ _) (own_opens_file t tells n flags fd _ _)))
 
-own_open : (inodes : ℕ) (t : Tree) (path : List ℕ) (flags : Flags) (mode : ℕ) → Own t (descriptors.opens inodes t path flags mode)
-own_open inodes t path flags mode =
+own_opens_new : (tells : Bool) (inodes : ℕ) (t : Tree) (p : Path) (name : Name) (flags : Flags) (mode fd : ℕ) → Own t (descriptors.opens_new tells inodes t p name flags mode fd)
+own_opens_new tells inodes t p name flags mode fd =
+    own_test t _ ENOENT _ refl (own_place t p _ (own_fresh inodes t _ (λ n. own_opens_file t tells n flags fd _ _)))
+
+own_open : (tells : Bool) (below inodes : ℕ) (t : Tree) (path : List ℕ) (flags : Flags) (mode : ℕ) → Own t (descriptors.opens tells below inodes t path flags mode)
+own_open tells below inodes t path flags mode =
     own_tested t (text_tests_then (descriptors.open_tests flags) path) _ (text_own (descriptors.open_tests flags) path (refl, (refl, tt)))
-    (elim (lowest_free t.descriptors OPEN_FILES) as (λ o. Own t (elim o as (λ _. Outcome) [
+    (elim (lowest_free t.descriptors (min below OPEN_FILES)) as (λ o. Own t (elim o as (λ _. Outcome) [
       | None ↦ refuses t EMFILE
-      | Some fd ↦ leads t (resolve t (not (flags.creates && flags.exclusive)) path) (λ p o. descriptors.opens_object t o flags fd) (λ p name. descriptors.opens_new inodes t p name flags mode fd)
+      | Some fd ↦ goes_along t (not (flags.creates && flags.exclusive)) path (λ p o. descriptors.opens_object tells t o flags fd) (λ p name. descriptors.opens_new tells inodes t p name flags mode fd)
     ])) [
       | None ↦ own_refuses t EMFILE refl
-      | Some fd ↦ own_leads t (resolve t (not (flags.creates && flags.exclusive)) path) _ _ (resolve_own t (not (flags.creates && flags.exclusive)) path) (λ p o. own_opens_object t o flags fd) (λ p name. own_opens_new inodes t p name flags mode fd)
+      | Some fd ↦ own_along t (not (flags.creates && flags.exclusive)) path _ _ (λ p o. own_opens_object tells t o flags fd) (λ p name. own_opens_new tells inodes t p name flags mode fd)
     ])
 
 own_puts : (t : Tree) (n offset : ℕ) (given : List ℕ) (also : Tree → Tree) → Own t (descriptors.puts t n offset given also)
@@ -319,8 +361,15 @@ own_fstat t fd = own_described t fd _ (λ f. own_tells t (file f.number))
 own_fsync : (t : Tree) (fd : ℕ) → Own t (descriptors.syncs_open t fd)
 own_fsync t fd = own_described t fd _ (λ f. own_answers t _ tt)
 
+own_store : (t : Tree) (path : List ℕ) (offset : ℤ) (given : List ℕ) → Own t (descriptors.stores t path offset given)
+own_store t path offset given =
+    own_tested t (text_tests_then ((reading.is_negative offset || reading.is_too_many (length given), EINVAL) ∷ []) path) _
+    (text_own ((reading.is_negative offset || reading.is_too_many (length given), EINVAL) ∷ []) path (refl, tt))
+    (own_to t true path _ (λ p o. by_kind t o _ _ _ (λ n. own_refuses t EISDIR refl) (λ n text. never t) (λ n. own_puts t n (nat_abs offset) given (λ after. after))))
+
 own_path : (inodes : ℕ) (t : Tree) (c : PathCall) → Own t (calls inodes t c)
 own_path inodes t (call.List path) = own_list t path
+own_path inodes t (call.Entries path after count) = own_entries t path after count
 own_path inodes t (call.Stat path) = own_stat t true path
 own_path inodes t (call.Lstat path) = own_stat t false path
 own_path inodes t (call.Readlink path) = own_readlink t path
@@ -330,9 +379,11 @@ own_path inodes t (call.Rmdir path) = own_rmdir t path
 own_path inodes t (call.Unlink path) = own_unlink t path
 own_path inodes t (call.Link old path) = own_link t old path
 own_path inodes t (call.Symlink text path) = own_symlink inodes t text path
-own_path inodes t (call.Rename old path) = own_rename t old path
+own_path inodes t (call.Rename old path) = own_rename t false old path
+own_path inodes t (call.RenameNew old path) = own_rename t true old path
 own_path inodes t (call.Chmod path mode) = own_chmod t path mode
 own_path inodes t (call.Truncate path size) = own_truncate t path size
+own_path inodes t (call.Store path offset given) = own_store t path offset given
 
 -- the commands
 
@@ -371,7 +422,10 @@ own_views s name c =
 
 own_step : (room : Room) (s : State) (c : Command) → OwnStep s (WouldStep room s c)
 own_step room s (command.Path c) = own_on_tree s (calls s.inodes s.tree c) (own_path s.inodes s.tree c)
-own_step room s (command.Open path flags mode) = own_on_tree s (descriptors.opens s.inodes s.tree path flags mode) (own_open s.inodes s.tree path flags mode)
+own_step room s (command.Open path flags mode below) =
+    own_on_tree s (descriptors.opens false below s.inodes s.tree path flags mode) (own_open false below s.inodes s.tree path flags mode)
+own_step room s (command.OpenStat path flags mode below) =
+    own_on_tree s (descriptors.opens true below s.inodes s.tree path flags mode) (own_open true below s.inodes s.tree path flags mode)
 own_step room s (command.Close fd) = own_on_tree s (descriptors.closes s.tree fd) (own_close s.tree fd)
 own_step room s (command.Read fd count) = own_on_tree s (descriptors.reads s.tree fd count) (own_read s.tree fd count)
 own_step room s (command.Write fd given) = own_on_tree s (descriptors.writes s.tree fd given) (own_write s.tree fd given)
@@ -383,6 +437,7 @@ own_step room s (command.Fstat fd) = own_on_tree s (descriptors.stats_open s.tre
 own_step room s (command.Fsync fd) = own_on_tree s (descriptors.syncs_open s.tree fd) (own_fsync s.tree fd)
 own_step room s command.Sync = own_says s _ tt
 own_step room s command.Df = own_says s _ tt
+own_step room s command.Statfs = λ answer new need done errno is. own_says s _ tt answer new need done.2 errno is
 own_step room s (command.SnapTake name) = own_passing s (take_tests s name) _ (refl, (refl, (refl, tt))) (λ answer new need done errno is. good_own reply.Done tt errno (sym done.0 ∙ is))
 own_step room s (command.SnapDelete name) = own_passing s ((is_none (frozen s name), NOSNAP) ∷ []) _ (refl, tt) (λ answer new need done errno is. good_own reply.Done tt errno (sym done.0 ∙ is))
 own_step room s (command.SnapRestore name) = own_passing s ((is_none (frozen s name), NOSNAP) ∷ (has_open_below s.tree OPEN_FILES, EBUSY) ∷ []) _ (refl, (refl, tt)) (λ answer new need done errno is. good_own reply.Done tt errno (sym done.0 ∙ is))

@@ -3,6 +3,7 @@ use Rattle.std.proofs.Common.{◌≡◌, ◌≢◌, ◌⊎◌, inl, inr, ℕ, ze
 use Rattle.std.specs.Prelude.{if◌then◌else◌, unwrap_or}
 use Rattle.std.proofs.Math.Path.{fun_ext}
 use Rattle.std.proofs.lemmas.Bool.{cases_eq, cases_lt, cond_both, eqb-true, false≢true}
+use Rattle.model.specs.declared.limits.TheConstants.{OPEN_FILES}
 use Rattle.model.specs.Paths.{Name, Path}
 use Rattle.model.specs.Trees as trees
 use Rattle.model.specs.Trees.{Tree, Description}
@@ -105,15 +106,15 @@ chosen f false x y = refl
 
 -- what is open is a file still
 module _ (v new : Volume) (table : ℕ → Option Description) (mounted : IsMounted v table) (files : (n : ℕ) → is_file_node (v n) ≡ true → is_file_node (new n) ≡ true) where
-  open_stays : (n : ℕ) → is_open table 32 n ≡ true → swept table new n ≡ new n
+  open_stays : (n : ℕ) → is_open table OPEN_FILES n ≡ true → swept table new n ≡ new n
   open_stays n is = ap (λ b. swept_node b (new n)) is ∙ stays_open (new n)
 
   pub still_mounted : IsMounted (swept table new) table
   still_mounted = record {
     files = λ d f is.
-        let low : d < 32 = elim (cases_lt d 32) [ inl below ↦ below | inr past ↦ let none : None ≡ Some f = sym (mounted.bounded d past) ∙ is in cc ] in
-        ap is_file_node (open_stays f.number (found_open table 32 d f.number f low is refl)) ∙ files f.number (mounted.files d f is);
-    is_swept = λ n. swept_twice (is_open table 32 n) (new n);
+        let low : d < OPEN_FILES = elim (cases_lt d OPEN_FILES) [ inl below ↦ below | inr past ↦ let none : None ≡ Some f = sym (mounted.bounded d past) ∙ is in cc ] in
+        ap is_file_node (open_stays f.number (found_open table OPEN_FILES d f.number f low is refl)) ∙ files f.number (mounted.files d f is);
+    is_swept = λ n. swept_twice (is_open table OPEN_FILES n) (new n);
     bounded = mounted.bounded;
     offsets = mounted.offsets;
   }
@@ -123,8 +124,8 @@ unswept : (v new : Volume) (table : ℕ → Option Description) → IsMounted v 
 unswept v new table mounted named =
     same_volume (swept table new) new (λ n.
     elim (named n) [
-      | inl is ↦ stays_named (is_open table 32 n) (new n) is
-      | inr same ↦ swept_as (is_open table 32 n) (v n) (new n) same (mounted.is_swept n)
+      | inl is ↦ stays_named (is_open table OPEN_FILES n) (new n) is
+      | inr same ↦ swept_as (is_open table OPEN_FILES n) (v n) (new n) same (mounted.is_swept n)
     ])
 
 module _ (inodes : ℕ) (v : Volume) (volume : IsVolume inodes v) (table : ℕ → Option Description) (mounted : IsMounted v table) where

@@ -1,5 +1,6 @@
 -- `rename` on a volume does what it does on the tree.
 use Rattle.std.proofs.Common.{◌≡◌, ◌≢◌, inl, inr, ℕ, ◌≤◌, [], ◌∷◌, ◌++◌, Bool, true, false, ◌||◌, Option, Some, None, refl, sym, ap, ◌∙◌}
+use Rattle.model.specs.declared.limits.TheConstants.{OPEN_FILES}
 use Rattle.model.specs.declared.reply.Reply.{Reply}
 use Rattle.model.specs.declared.reply.Reply.TheVariants.{Done}
 use Rattle.model.specs.Paths.{Name, Path, IsName, behind, path_eq, Tests, first_refusal}
@@ -23,7 +24,7 @@ passed_tests t tests rest passed reply new need done =
       | None ↦ λ e. done
     ] passed
 
-module _ (v : Volume) (volume : IsGraph v) (table : ℕ → Option Description) (bounded : (d : ℕ) → 32 ≤ d → table d ≡ None) (files : (d : ℕ) (f : Description) → table d ≡ Some f → is_file_node (v f.number) ≡ true) (u w : Path) (a b : Name) (d k n : ℕ) (at_d : number_at (entries v) u ≡ Some d) (at_k : number_at (entries v) w ≡ Some k) (there : entries v d a ≡ Some n) (d_is : is_directory_node (v d) ≡ true) (k_is : is_directory_node (v k) ≡ true) (empty : (m : ℕ) (x : Name) → entries v k b ≡ Some m → entries v m x ≡ None) (outside : behind (u ++ a ∷ []) w ≡ None) (other : u ++ a ∷ [] ≢ w ++ b ∷ []) (distinct : entries v k b ≢ Some n) (good : IsName b) where
+module _ (v : Volume) (volume : IsGraph v) (table : ℕ → Option Description) (bounded : (d : ℕ) → OPEN_FILES ≤ d → table d ≡ None) (files : (d : ℕ) (f : Description) → table d ≡ Some f → is_file_node (v f.number) ≡ true) (u w : Path) (a b : Name) (d k n : ℕ) (at_d : number_at (entries v) u ≡ Some d) (at_k : number_at (entries v) w ≡ Some k) (there : entries v d a ≡ Some n) (d_is : is_directory_node (v d) ≡ true) (k_is : is_directory_node (v k) ≡ true) (empty : (m : ℕ) (x : Name) → entries v k b ≡ Some m → entries v m x ≡ None) (outside : behind (u ++ a ∷ []) w ≡ None) (other : u ++ a ∷ [] ≢ w ++ b ∷ []) (distinct : entries v k b ≢ Some n) (good : IsName b) where
   abbrev p : Path
   p = u ++ a ∷ []
 

@@ -4,13 +4,13 @@ use Rattle.std.proofs.lemmas.Bool.{or_parts, false≢true}
 use Rattle.std.proofs.lemmas.List.{same_from_push}
 use Rattle.std.proofs.lemmas.List.Elements.{recursion_from_All}
 use Rattle.model.specs.declared.limits.TheConstants.{DIRECTORY_NAMES}
-use Rattle.model.specs.declared.errno.Errno.TheVariants.{EBUSY, ENOTEMPTY}
+use Rattle.model.specs.declared.errno.Errno.TheVariants.{EBUSY, ENOTEMPTY, EEXIST}
 use Rattle.model.specs.declared.reply.Reply.TheVariants as reply
 use Rattle.model.specs.Counting.{Counts}
 use Rattle.model.specs.Paths.{Name, Path, IsName, new_text_tests, is_empty, is_root_text, behind, begins_with, path_eq}
 use Rattle.model.specs.Trees.{Tree, Object, directory, symlink, file, is_directory, IsTree}
 use Rattle.model.specs.Edits.{without_object, moved}
-use Rattle.model.specs.Resolution.{parent, resolve}
+use Rattle.model.specs.Resolution.{parent}
 use Rattle.model.specs.Room.{logs, adds_name}
 use Rattle.model.specs.Outcomes.{changes_swept, IsListing}
 use Rattle.model.specs.Changing as changing
@@ -18,12 +18,12 @@ use Rattle.model.proofs.CountLemmas.{same_count, one_less}
 use Rattle.model.proofs.ListingLemmas.{names_apart, listing_counts}
 use Rattle.model.proofs.WalkLemmas.{behind-is, path_eq-same, same_path, not_push}
 use Rattle.model.proofs.VolumeLemmas.{ends}
-use Rattle.model.proofs.LeadLemmas.{directory_some, all_passed, passed_both, push_filled, resolves_well, resolves_below_root, parent-push, stands_in}
+use Rattle.model.proofs.LeadLemmas.{directory_some, all_passed, passed_both, not_alone, push_filled, reached_below_root, reached_well, parent-push, stands_in}
 use Rattle.model.proofs.LooseLemmas.{IsLooseTree, tree_is_loose}
 use Rattle.model.proofs.PlaceLemmas.{put-here, put-other, no_more}
 use Rattle.model.proofs.TakeLemmas.{taken_is_loose}
 use Rattle.model.proofs.RelocateLemmas.{moved_is_loose, moved_over, all_behind}
-use Rattle.model.proofs.StayLemmas.{LeavesTree, stays_same, stays_swept, stays_tested, stays_passed, stays_either, stays_leads, stays_leads_to, stays_names, stays_place}
+use Rattle.model.proofs.StayLemmas.{LeavesTree, stays_same, stays_swept, stays_tested, stays_passed, stays_either, stays_leads, stays_leads_to, stays_along, stays_names, stays_place}
 use Rattle.model.proofs.CallLemmas.{last_tests, no_names, no_directory, low_by}
 
 module _ (inodes : ℕ) (t : Tree) (tree : IsTree inodes t) where
@@ -125,14 +125,16 @@ module _ (inodes : ℕ) (t : Tree) (tree : IsTree inodes t) where
           subst (λ v. LeavesTree inodes (changing.moves t p o v)) (sym is)
           (stays_moves p o w b at_p low (stands_in inodes t tree w b some) (recursion_from_All IsName (b ∷ []) (all_behind w (b ∷ []) (tree.names (w ++ b ∷ []) some))).0)
 
-  pub stays_rename : (old path : List ℕ) → LeavesTree inodes (changing.renames t old path)
-  stays_rename old path =
+  pub stays_rename : (only_new : Bool) (old path : List ℕ) → LeavesTree inodes (changing.renames t only_new old path)
+  stays_rename only_new old path =
       stays_tested inodes t tree (new_text_tests old ++ new_text_tests path ++ (is_root_text old || is_root_text path, EBUSY) ∷ []) _ (λ e.
       let texts = passed_both (new_text_tests old ++ new_text_tests path) ((is_root_text old || is_root_text path, EBUSY) ∷ []) e in
       let both = passed_both (new_text_tests old) (new_text_tests path) texts.0 in
       let roots = or_parts (is_root_text old) (is_root_text path) (all_passed ((is_root_text old || is_root_text path, EBUSY) ∷ []) texts.1).0 in
-      stays_leads_to inodes t tree (resolve t false old) _ (resolves_well inodes t tree (last_tests old) false old both.0) (λ p o is at_p.
-      let low : p ≢ [] = low_by inodes t tree (resolve t false old) p (resolves_below_root t old both.0 roots.0) is in
-      stays_leads inodes t tree (resolve t false path) _ _ (resolves_well inodes t tree (last_tests path) false path both.1)
-      (λ q r at at_q. stays_moves_over p o q r at_p low at_q (low_by inodes t tree (resolve t false path) q (resolves_below_root t path both.1 roots.1) at))
-      (λ q name at misses. stays_moves p o q name at_p low misses.directory misses.good)))
+      stays_along inodes t tree false old _ _ (λ s reached. stays_leads_to inodes t tree s _ (reached_well inodes t tree (last_tests old) false old both.0 s reached) (λ p o is at_p.
+      let low : p ≢ [] = low_by inodes t tree s p (reached_below_root t old both.0 roots.0 s reached) is in
+      stays_along inodes t tree false path _ _ (λ z at_z. stays_leads inodes t tree z _ _ (reached_well inodes t tree (last_tests path) false path both.1 z at_z)
+      (λ q r at at_q. stays_passed inodes t tree ((only_new, EEXIST) ∷ []) _ (λ pass. stays_moves_over p o q r at_p low at_q (low_by inodes t tree z q (reached_below_root t path both.1 roots.1 z at_z) at)))
+      (λ q name at misses. stays_moves p o q name at_p low misses.directory misses.good))
+      (λ r alone has. absurd (not_alone path both.1 alone))))
+      (λ o alone has. absurd (not_alone old both.0 alone)))

@@ -50,7 +50,7 @@ a_name_of_256_bytes = (refl, refl, refl)
 a_path_of_1024_bytes : stats fresh true (replicate 1024 47) (reply.Refused ENAMETOOLONG) fresh nothing
 a_path_of_1024_bytes = (refl, refl, refl)
 
-opens_the_root : opens 32 fresh (codes "/") reading 0o644 (reply.Refused EISDIR) fresh nothing
+opens_the_root : opens false 32 32 fresh (codes "/") reading 0o644 (reply.Refused EISDIR) fresh nothing
 opens_the_root = (refl, refl, refl)
 
 closes_nothing : closes fresh 0 (reply.Refused EBADF) fresh nothing
@@ -186,10 +186,10 @@ stat_through_the_link = (1, refl, (refl, refl, refl))
 lstat_of_the_link : stats renamed false (codes "/l") (reply.Stat (record { number = 7; kind = kind.Link; mode = 0o777; links = 1; size = 8 })) renamed nothing
 lstat_of_the_link = (1, refl, (refl, refl, refl))
 
-link_onto_directory : renames renamed (codes "/l") (codes "/c") (reply.Refused EISDIR) renamed nothing
+link_onto_directory : renames renamed false (codes "/l") (codes "/c") (reply.Refused EISDIR) renamed nothing
 link_onto_directory = (refl, refl, refl)
 
-directory_onto_link : renames renamed (codes "/c") (codes "/l") (reply.Refused ENOTDIR) renamed nothing
+directory_onto_link : renames renamed false (codes "/c") (codes "/l") (reply.Refused ENOTDIR) renamed nothing
 directory_onto_link = (refl, refl, refl)
 
 unlink_of_a_directory : unlinks renamed (codes "/c") (reply.Refused EPERM) renamed nothing
@@ -207,10 +207,10 @@ link_to_what_is_gone = (refl, refl, refl)
 abbrev two_names : Tree
 two_names = with_object (codes "y" ∷ []) (file 5) (with_file (codes "x" ∷ []) 5 0o644 (with_directory (codes "d" ∷ []) 4 0o755 fresh))
 
-onto_the_same_file : renames two_names (codes "/x") (codes "/y") reply.Done two_names nothing
+onto_the_same_file : renames two_names false (codes "/x") (codes "/y") reply.Done two_names nothing
 onto_the_same_file = (refl, refl, refl)
 
-below_itself : renames two_names (codes "/d") (codes "/d/e") (reply.Refused EINVAL) two_names nothing
+below_itself : renames two_names false (codes "/d") (codes "/d/e") (reply.Refused EINVAL) two_names nothing
 below_itself = (refl, refl, refl)
 
 -- `open /f rwca`, `write 0 6162`, `pwrite 0 0 63`, `pread 0 0 5`, `lseek 0 set 0`, `write 0 64`, `read 0 5`
@@ -236,7 +236,7 @@ appends_from_the_start = (refl, refl, refl)
 reads_behind_the_end : reads (log_of (0x63 ∷ 0x62 ∷ 0x64 ∷ []) 3) 0 5 (reply.Data []) (with_descriptor 0 (Some (appending 3)) (log_of (0x63 ∷ 0x62 ∷ 0x64 ∷ []) 3)) nothing
 reads_behind_the_end = (refl, refl, refl)
 
-creates_what_is_there : opens 32 (log_of [] 0) (codes "/f") (record reading { creates = true; exclusive = true }) 0o644 (reply.Refused EEXIST) (log_of [] 0) nothing
+creates_what_is_there : opens false 32 32 (log_of [] 0) (codes "/f") (record reading { creates = true; exclusive = true }) 0o644 (reply.Refused EEXIST) (log_of [] 0) nothing
 creates_what_is_there = (refl, refl, refl)
 
 grown_by_zeros : truncates_open (file_of [] 0) 0 (pos 3) reply.Done (with_bytes 4 (0 ∷ 0 ∷ 0 ∷ []) (file_of [] 0)) (logs (changes_size 0 3))
@@ -264,5 +264,5 @@ writes_too_far = (refl, refl, refl)
 abbrev crowded : Tree
 crowded = record (file_of [] 0) { descriptors = λ d. if nat_lt d 32 then Some (at_offset 0) else None }
 
-one_file_too_many : opens 32 crowded (codes "/f") reading 0o644 (reply.Refused EMFILE) crowded nothing
+one_file_too_many : opens false 32 32 crowded (codes "/f") reading 0o644 (reply.Refused EMFILE) crowded nothing
 one_file_too_many = (refl, refl, refl)

@@ -26,7 +26,7 @@ use Rattle.model.specs.Laws.{IsCommand, IsPathCall, CommandsLeaveStates, Allowed
 use Rattle.model.proofs.LeadLemmas.{AllPass, all_passed}
 use Rattle.model.proofs.NewTreeLemmas.{root_is_tree, tree_is_state}
 use Rattle.model.proofs.LooseLemmas.{swept_is_tree, closed_is_loose}
-use Rattle.model.proofs.StayLemmas.{LeavesTree, stays_stat, stays_list, stays_readlink, stays_get, stays_truncate, stays_chmod, stays_close, stays_read, stays_pread, stays_write, stays_pwrite, stays_seek, stays_ftruncate, stays_fstat, stays_fsync}
+use Rattle.model.proofs.StayLemmas.{LeavesTree, stays_stat, stays_list, stays_entries, stays_store, stays_readlink, stays_get, stays_truncate, stays_chmod, stays_close, stays_read, stays_pread, stays_write, stays_pwrite, stays_seek, stays_ftruncate, stays_fstat, stays_fsync}
 use Rattle.model.proofs.CallLemmas.{stays_mkdir, stays_symlink, stays_link, stays_rmdir, stays_unlink, stays_open}
 use Rattle.model.proofs.ReplaceLemmas.{stays_rename}
 use Rattle.model.proofs.OptionLaws.{none_some, some_same}
@@ -34,6 +34,7 @@ use Rattle.model.proofs.OptionLaws.{none_some, some_same}
 -- the calls by path
 stays_path : (inodes : ℕ) (t : Tree) → IsTree inodes t → (c : PathCall) → IsPathCall c → LeavesTree inodes (calls inodes t c)
 stays_path inodes t tree (call.List path) bound = stays_list inodes t tree path
+stays_path inodes t tree (call.Entries path after count) bound = stays_entries inodes t tree path after count
 stays_path inodes t tree (call.Stat path) bound = stays_stat inodes t tree true path
 stays_path inodes t tree (call.Lstat path) bound = stays_stat inodes t tree false path
 stays_path inodes t tree (call.Readlink path) bound = stays_readlink inodes t tree path
@@ -43,9 +44,11 @@ stays_path inodes t tree (call.Rmdir path) bound = stays_rmdir inodes t tree pat
 stays_path inodes t tree (call.Unlink path) bound = stays_unlink inodes t tree path
 stays_path inodes t tree (call.Link old path) bound = stays_link inodes t tree old path
 stays_path inodes t tree (call.Symlink text path) bound = stays_symlink inodes t tree text path
-stays_path inodes t tree (call.Rename old path) bound = stays_rename inodes t tree old path
+stays_path inodes t tree (call.Rename old path) bound = stays_rename inodes t tree false old path
+stays_path inodes t tree (call.RenameNew old path) bound = stays_rename inodes t tree true old path
 stays_path inodes t tree (call.Chmod path mode) bound = stays_chmod inodes t tree path mode bound
 stays_path inodes t tree (call.Truncate path size) bound = stays_truncate inodes t tree path size
+stays_path inodes t tree (call.Store path offset given) bound = stays_store inodes t tree path offset given
 
 -- a snapshot is a tree without descriptors
 forgotten_is_frozen : (inodes : ℕ) (old new : Tree) → IsTree inodes old → ForgetsOpenFiles old new → IsFrozen inodes new
@@ -158,7 +161,8 @@ module _ (s : State) (state : IsState s) where
 
   leaves_step : (room : Room) (c : Command) → IsCommand c → LeavesState (WouldStep room s c)
   leaves_step room (command.Path c) bound = leaves_on_tree _ (stays_path s.inodes s.tree state.tree c bound)
-  leaves_step room (command.Open path flags mode) bound = leaves_on_tree _ (stays_open s.inodes s.tree state.tree path flags mode bound)
+  leaves_step room (command.Open path flags mode below) bound = leaves_on_tree _ (stays_open s.inodes s.tree state.tree false below path flags mode bound)
+  leaves_step room (command.OpenStat path flags mode below) bound = leaves_on_tree _ (stays_open s.inodes s.tree state.tree true below path flags mode bound)
   leaves_step room (command.Close fd) bound = leaves_on_tree _ (stays_close s.inodes s.tree state.tree fd)
   leaves_step room (command.Read fd count) bound = leaves_on_tree _ (stays_read s.inodes s.tree state.tree fd count)
   leaves_step room (command.Write fd given) bound = leaves_on_tree _ (stays_write s.inodes s.tree state.tree fd given)
@@ -170,6 +174,7 @@ module _ (s : State) (state : IsState s) where
   leaves_step room (command.Fsync fd) bound = leaves_on_tree _ (stays_fsync s.inodes s.tree state.tree fd)
   leaves_step room command.Sync bound = leaves_same reply.Done
   leaves_step room command.Df bound = leaves_same (reply.Space room.blocks room.free room.pledged)
+  leaves_step room command.Statfs bound = λ answer new need done. leaves_same _ answer new need done.2
   leaves_step room (command.SnapTake name) bound = leaves_take name
   leaves_step room (command.SnapDelete name) bound = leaves_delete name
   leaves_step room (command.SnapRestore name) bound = leaves_restore room name

@@ -1,23 +1,23 @@
 -- Each step of a call leaves a tree: the steps, the calls that change nothing, and those on descriptors, bytes and modes.
-use Rattle.std.proofs.Common.{◌≡◌, ◌⊎◌, inl, inr, ℕ, ℤ, pos, ◌+◌, ◌≤◌, ◌<◌, List, [], ◌∷◌, length, drop, Bool, true, false, not, ◌||◌, Option, Some, None, IfSome, refl, sym, ap, subst, ◌∙◌, length-take, length-drop, arith}
+use Rattle.std.proofs.Common.{◌≡◌, ◌⊎◌, inl, inr, ℕ, ℤ, pos, ◌+◌, ◌≤◌, ◌<◌, List, [], ◌∷◌, length, drop, Bool, true, false, not, ◌&&◌, ◌||◌, is_some, Option, Some, None, IfSome, refl, sym, ap, subst, ◌∙◌, length-take, length-drop, arith}
 use Rattle.std.specs.Prelude.{◌+ℤ◌, ◌==◌, if◌then◌else◌, nat_abs, nat_le, nat_lt, unwrap_or}
 use Rattle.std.proofs.lemmas.Bool.{cases_lt, cond_both, leb-false, ltb-false}
-use Rattle.model.specs.declared.limits.TheConstants.{MODE_BITS, GREATEST_FILE, GREATEST_OFFSET, OPEN_FILES, DIRECTORY_NAMES}
+use Rattle.model.specs.declared.limits.TheConstants.{MODE_BITS, GREATEST_FILE, GREATEST_OFFSET, OPEN_FILES, DIRECTORY_NAMES, ENTRIES_TOLD}
 use Rattle.model.specs.declared.errno.Errno.{Errno}
-use Rattle.model.specs.declared.errno.Errno.TheVariants.{ENOENT, ENOTDIR, EISDIR, EINVAL, EBADF, DIRFULL, NONUMBER, EFBIG, EOVERFLOW}
+use Rattle.model.specs.declared.errno.Errno.TheVariants.{ENOENT, ENOTDIR, EISDIR, EINVAL, ELOOP, EBADF, DIRFULL, NONUMBER, EFBIG, EOVERFLOW, ESTALE}
 use Rattle.model.specs.declared.reply.Reply.{Reply}
 use Rattle.model.specs.declared.reply.Reply.TheVariants as reply
 use Rattle.model.specs.declared.command.Whence.{Whence}
-use Rattle.model.specs.Paths.{Name, Path, Tests, first_refusal, text_tests_then, is_empty}
-use Rattle.model.specs.Trees.{Tree, Object, directory, symlink, file, Description, StandsAtPath, IsOpen, IsTree}
+use Rattle.model.specs.Paths.{Name, Path, Tests, first_refusal, text_tests_then, is_empty, is_number_alone, parts_behind, start_number, starts_at_number}
+use Rattle.model.specs.Trees.{Tree, Object, directory, symlink, file, Description, HasNumber, StandsAtPath, IsOpen, IsTree, number_of_object}
 use Rattle.model.specs.Edits.{contents, resized, written, read_at, with_mode, with_bytes, with_descriptor}
-use Rattle.model.specs.Resolution.{Resolution, named, missing, refused, resolve}
+use Rattle.model.specs.Resolution.{Resolution, named, missing, refused, resolve, resolve_within}
 use Rattle.model.specs.Room.{Need}
-use Rattle.model.specs.Outcomes.{Outcome, answers, refuses, changes, changes_swept, tested, either, leads, leads_to, IsListing, with_names, with_place, IsFresh, at_number, with_fresh, HasLinks, with_links, described}
+use Rattle.model.specs.Outcomes.{Outcome, answers, refuses, changes, changes_swept, tested, either, leads, leads_from, leads_to, goes_along, goes_to, with_number, IsListing, with_names, with_place, IsFresh, at_number, with_fresh, HasLinks, with_links, described}
 use Rattle.model.specs.Reading as reading
 use Rattle.model.specs.Changing as changing
 use Rattle.model.specs.Descriptors as descriptors
-use Rattle.model.proofs.LeadLemmas.{AllPass, all_passed, Misses, AnswersWell, resolves_well}
+use Rattle.model.proofs.LeadLemmas.{AllPass, all_passed, IsReached, Misses, AnswersWell, reached_well}
 use Rattle.model.proofs.LooseLemmas.{IsLooseTree, swept_is_tree, closed_is_loose, bytes_keep, mode_keeps, held_is_tree}
 use Rattle.model.proofs.OptionLaws.{none_some, some_same}
 use Rattle.model.proofs.EditLaws.{length-resized, written_short}
@@ -26,6 +26,13 @@ use Rattle.model.proofs.EditLaws.{length-resized, written_short}
 
 reads_within : (offset count : ℕ) (bytes : List ℕ) → offset ≤ GREATEST_OFFSET → length bytes ≤ GREATEST_FILE → offset + length (read_at offset count bytes) ≤ GREATEST_OFFSET
 reads_within offset count bytes few short = omega (arith, length-take count (drop offset bytes), length-drop offset bytes, few, short)
+
+-- an object that has a number has its own
+own_number : (t : Tree) (n : ℕ) (o : Object) → HasNumber t n o → HasNumber t (number_of_object o) o
+own_number t n o (p, at_p, number) = (p, at_p, refl)
+
+both_true : (a b : Bool) → a ≡ true → b ≡ true → (a && b) ≡ true
+both_true a b one other = λ i. one i && other i
 
 -- what an outcome leaves is a tree
 abbrev pub LeavesTree : ℕ → Outcome → Type 0
@@ -107,10 +114,44 @@ module _ (inodes : ℕ) (t : Tree) (tree : IsTree inodes t) where
   stays_by_kind (symlink n text) a b c one other third = other n text refl
   stays_by_kind (file n) a b c one other third = third n refl
 
+  -- from a number
+  stays_from : (follow : Bool) (text : List ℕ) (there : Path → Object → Outcome) (gone : Path → Name → Outcome) → starts_at_number text ≡ true
+      → ((r : Resolution) → IsReached t follow text r → LeavesTree inodes (leads t r there gone))
+      → (n : ℕ) (o : Object) → HasNumber t n o → (is_number_alone text ≡ true → LeavesTree inodes (there [] o)) → LeavesTree inodes (leads_from t follow (parts_behind text) there gone o)
+  stays_from follow text there gone starts reaches n (directory k) has alone = λ answer new need done.
+      reaches (resolve_within 0 t follow done.0 (parts_behind text)) (inr (record { number = k; path = done.0; starts = starts; stands = done.1; is = refl })) answer new need done.2
+  stays_from follow text there gone starts reaches n (symlink k link) has alone =
+      stays_either (is_empty (parts_behind text)) _ _
+      (λ e. stays_either follow _ _ (λ f. stays_refused ELOOP) (λ f. alone (both_true (starts_at_number text) (is_empty (parts_behind text)) starts e)))
+      (λ e. stays_refused ENOTDIR)
+  stays_from follow text there gone starts reaches n (file k) has alone =
+      stays_either (is_empty (parts_behind text)) _ _ (λ e. alone (both_true (starts_at_number text) (is_empty (parts_behind text)) starts e)) (λ e. stays_refused ENOTDIR)
+
+  stays_numbered : (n : ℕ) (rest : Object → Outcome) → ((o : Object) → HasNumber t n o → LeavesTree inodes (rest o)) → LeavesTree inodes (with_number t n rest)
+  stays_numbered n rest leaves answer new need (inl (o, is, done)) = leaves o is.has answer new need done
+  stays_numbered n rest leaves answer new need (inr (unused, done)) = stays_refused ESTALE answer new need done
+
+  -- where a text leads, or at the object whose number it is
+  pub stays_along : (follow : Bool) (text : List ℕ) (there : Path → Object → Outcome) (gone : Path → Name → Outcome)
+      → ((r : Resolution) → IsReached t follow text r → LeavesTree inodes (leads t r there gone))
+      → ((o : Object) → is_number_alone text ≡ true → HasNumber t (number_of_object o) o → LeavesTree inodes (there [] o)) → LeavesTree inodes (goes_along t follow text there gone)
+  stays_along follow text there gone reaches alone =
+      elim (start_number text) as (λ o. start_number text ≡ o → LeavesTree inodes (elim o as (λ _. Outcome) [
+        | None ↦ leads t (resolve t follow text) there gone
+        | Some n ↦ with_number t n (leads_from t follow (parts_behind text) there gone)
+      ])) [
+        | None ↦ λ e. reaches (resolve t follow text) (inl refl)
+        | Some n ↦ λ e. stays_numbered n _ (λ o has. stays_from follow text there gone (ap is_some e) reaches n o has (λ is. alone o is (own_number t n o has)))
+      ] refl
+
   -- a path that passed its tests
-  pub stays_at : (more : Tests) (follow : Bool) (path : List ℕ) (there : Path → Object → Outcome) → ((p : Path) (o : Object) → AllPass (text_tests_then more path) → t.objects p ≡ Some o → LeavesTree inodes (there p o)) → LeavesTree inodes (tested t (text_tests_then more path) (leads_to t (resolve t follow path) there))
+  pub stays_at : (more : Tests) (follow : Bool) (path : List ℕ) (there : Path → Object → Outcome) → ((p : Path) (o : Object) → AllPass (text_tests_then more path) → HasNumber t (number_of_object o) o → LeavesTree inodes (there p o)) → LeavesTree inodes (tested t (text_tests_then more path) (goes_to t follow path there))
   stays_at more follow path there leaves =
-      stays_tested (text_tests_then more path) _ (λ e. stays_leads_to (resolve t follow path) there (resolves_well inodes t tree more follow path e) (λ p o is at_p. leaves p o (all_passed (text_tests_then more path) e) at_p))
+      stays_tested (text_tests_then more path) _ (λ e.
+      let pass = all_passed (text_tests_then more path) e in
+      stays_along follow path there (λ p name. refuses t ENOENT)
+      (λ r reached. stays_leads_to r there (reached_well inodes t tree more follow path e r reached) (λ p o is at_p. leaves p o pass (p, at_p, refl)))
+      (λ o alone has. leaves [] o pass has))
 
   -- the calls that change nothing
 
@@ -123,6 +164,13 @@ module _ (inodes : ℕ) (t : Tree) (tree : IsTree inodes t) where
   pub stays_list : (path : List ℕ) → LeavesTree inodes (reading.lists t path)
   stays_list path =
       stays_at [] true path _ (λ p o pass at_p. stays_by_kind o _ _ _ (λ n is. stays_names p _ (λ names listing. stays_same _)) (λ n text is. stays_refused ENOTDIR) (λ n is. stays_refused ENOTDIR))
+
+  pub stays_entries : (path : List ℕ) (after : ℤ) (count : ℕ) → LeavesTree inodes (reading.tells_entries t path after count)
+  stays_entries path after count =
+      stays_at ((reading.is_negative after || count == 0 || nat_lt ENTRIES_TOLD count, EINVAL) ∷ []) true path _ (λ p o pass at_p. stays_by_kind o _ _ _
+      (λ n is. stays_names p _ (λ names listing answer new need (told, entries, part, each, done). stays_same _ answer new need done))
+      (λ n text is. stays_refused ENOTDIR)
+      (λ n is. stays_refused ENOTDIR))
 
   pub stays_readlink : (path : List ℕ) → LeavesTree inodes (reading.reads_link t path)
   stays_readlink path = stays_at [] false path _ (λ p o pass at_p. stays_by_kind o _ _ _ (λ n is. stays_refused EINVAL) (λ n text is. stays_same _) (λ n is. stays_refused EINVAL))
@@ -154,25 +202,29 @@ module _ (inodes : ℕ) (t : Tree) (tree : IsTree inodes t) where
         descriptors = refl;
       })
 
+  -- what has a number stands at a path
+  pub kind_stands : (kind : ℕ → Object) (o : Object) (n : ℕ) → o ≡ kind n → HasNumber t (number_of_object o) o → StandsAtPath t kind n
+  kind_stands kind o n is (p, at_p, number) = (p, at_p ∙ ap (λ r. Some r) is)
+
   stays_truncated : (n size : ℕ) → StandsAtPath t file n ⊎ IsOpen t n → size ≤ GREATEST_FILE → LeavesTree inodes (changing.truncates_file t n size)
   stays_truncated n size stands few = stays_changed reply.Done (changing.truncated_to n size t) (changing.need_of_truncate n size t) (truncated_is n size stands few).is
 
   pub stays_truncate : (path : List ℕ) (size : ℤ) → LeavesTree inodes (changing.truncates t path size)
   stays_truncate path size =
-      stays_at (changing.size_tests size) true path _ (λ p o pass at_p. stays_by_kind o _ _ _ (λ n is. stays_refused EISDIR) (λ n text is. stays_never)
-      (λ n is. stays_truncated n (nat_abs size) (inl (p, at_p ∙ ap (λ r. Some r) is)) (ltb-false GREATEST_FILE (nat_abs size) pass.1.1.1.1.1.1.1.0)))
+      stays_at (changing.size_tests size) true path _ (λ p o pass has. stays_by_kind o _ _ _ (λ n is. stays_refused EISDIR) (λ n text is. stays_never)
+      (λ n is. stays_truncated n (nat_abs size) (inl (kind_stands (λ k. file k) o n is has)) (ltb-false GREATEST_FILE (nat_abs size) pass.1.1.1.1.1.1.1.1.0)))
 
   pub stays_chmod : (path : List ℕ) (mode : ℕ) → mode ≤ MODE_BITS → LeavesTree inodes (changing.changes_mode t path mode)
   stays_chmod path mode few =
-      stays_at [] true path _ (λ p o pass at_p. stays_by_kind o _ _ _
-      (λ n is. stays_changed _ (with_mode n mode t) _ (mode_keeps inodes t n mode tree (inl (p, at_p ∙ ap (λ r. Some r) is)) few))
+      stays_at [] true path _ (λ p o pass has. stays_by_kind o _ _ _
+      (λ n is. stays_changed _ (with_mode n mode t) _ (mode_keeps inodes t n mode tree (inl (kind_stands (λ k. directory k) o n is has)) few))
       (λ n text is. stays_never)
-      (λ n is. stays_changed _ (with_mode n mode t) _ (mode_keeps inodes t n mode tree (inr (inl (p, at_p ∙ ap (λ r. Some r) is))) few)))
+      (λ n is. stays_changed _ (with_mode n mode t) _ (mode_keeps inodes t n mode tree (inr (inl (kind_stands (λ k. file k) o n is has))) few)))
 
   -- descriptors
 
   below_table : (fd : ℕ) (f : Description) → t.descriptors fd ≡ Some f → fd < OPEN_FILES
-  below_table fd f is = elim (cases_lt fd 32) [ inl below ↦ below | inr past ↦ none_some (sym (tree.table fd past) ∙ is) ]
+  below_table fd f is = elim (cases_lt fd OPEN_FILES) [ inl below ↦ below | inr past ↦ none_some (sym (tree.table fd past) ∙ is) ]
 
   -- the offset of an open file moves
   offset_moves : (fd : ℕ) (f : Description) (offset : ℕ) → t.descriptors fd ≡ Some f → offset ≤ GREATEST_OFFSET → IsTree inodes (descriptors.with_offset fd f offset t)
@@ -195,19 +247,26 @@ module _ (inodes : ℕ) (t : Tree) (tree : IsTree inodes t) where
   stays_pread fd offset count =
       stays_described fd _ (λ f at_fd. stays_passed ((not f.reads, EBADF) ∷ (reading.is_negative offset || reading.is_too_many count, EINVAL) ∷ []) _ (λ pass. stays_same _))
 
-  stays_puts : (fd : ℕ) (f : Description) (offset : ℕ) (given : List ℕ) (also : Tree → Tree) → t.descriptors fd ≡ Some f → ((u : Tree) → IsTree inodes u → u.descriptors ≡ t.descriptors → offset + length given ≤ GREATEST_FILE → IsTree inodes (also u)) → LeavesTree inodes (descriptors.puts t f.number offset given also)
-  stays_puts fd f offset given also at_fd keeps =
+  stays_puts : (n offset : ℕ) (given : List ℕ) (also : Tree → Tree) → StandsAtPath t file n ⊎ IsOpen t n → ((u : Tree) → IsTree inodes u → u.descriptors ≡ t.descriptors → offset + length given ≤ GREATEST_FILE → IsTree inodes (also u)) → LeavesTree inodes (descriptors.puts t n offset given also)
+  stays_puts n offset given also used keeps =
       stays_either (is_empty given) _ _ (λ e. stays_same _) (λ e. stays_passed ((nat_lt GREATEST_FILE (offset + length given), EFBIG) ∷ []) _ (λ pass.
       let few : offset + length given ≤ GREATEST_FILE = ltb-false GREATEST_FILE (offset + length given) pass.0 in
-      let put : Tree = with_bytes f.number (written offset given (contents t f.number)) t in
-      stays_changed _ (also put) _ (keeps put (bytes_keep inodes t f.number (written offset given (contents t f.number)) tree (inr (fd, f, at_fd, refl)) (written_short offset given (contents t f.number) few (few_contents f.number))) refl few)))
+      let put : Tree = with_bytes n (written offset given (contents t n)) t in
+      stays_changed _ (also put) _ (keeps put (bytes_keep inodes t n (written offset given (contents t n)) tree used (written_short offset given (contents t n) few (few_contents n))) refl few)))
+
+  pub stays_store : (path : List ℕ) (offset : ℤ) (given : List ℕ) → LeavesTree inodes (descriptors.stores t path offset given)
+  stays_store path offset given =
+      stays_at ((reading.is_negative offset || reading.is_too_many (length given), EINVAL) ∷ []) true path _ (λ p o pass has. stays_by_kind o _ _ _
+      (λ n is. stays_refused EISDIR)
+      (λ n text is. stays_never)
+      (λ n is. stays_puts n (nat_abs offset) given (λ after. after) (inl (kind_stands (λ k. file k) o n is has)) (λ u keeps same few. keeps)))
 
   pub stays_write : (fd : ℕ) (given : List ℕ) → LeavesTree inodes (descriptors.writes t fd given)
   stays_write fd given =
       stays_described fd _ (λ f at_fd.
       let offset : ℕ = if f.appends then length (contents t f.number) else f.offset in
       stays_passed ((not f.writes, EBADF) ∷ (reading.is_too_many (length given), EINVAL) ∷ []) (descriptors.puts t f.number offset given (descriptors.with_offset fd f (offset + length given))) (λ pass.
-      stays_puts fd f offset given (descriptors.with_offset fd f (offset + length given)) at_fd (λ u is same few.
+      stays_puts f.number offset given (descriptors.with_offset fd f (offset + length given)) (inr (fd, f, at_fd, refl)) (λ u is same few.
       let open_now : u.descriptors fd ≡ Some f = ap (λ table. table fd) same ∙ at_fd in
       held_is_tree inodes u is fd (record f { offset = offset + length given }) (below_table fd f at_fd) (inr (fd, f, open_now, refl)) (omega (arith, few)) (λ g at_g. ap (λ (h : Description). h.number) (some_same (sym at_g ∙ open_now))))))
 
@@ -215,7 +274,7 @@ module _ (inodes : ℕ) (t : Tree) (tree : IsTree inodes t) where
   stays_pwrite fd offset given =
       stays_described fd _ (λ f at_fd.
       stays_passed ((not f.writes, EBADF) ∷ (reading.is_negative offset || reading.is_too_many (length given), EINVAL) ∷ []) (descriptors.puts t f.number (nat_abs offset) given (λ after. after)) (λ pass.
-      stays_puts fd f (nat_abs offset) given (λ after. after) at_fd (λ u is same few. is)))
+      stays_puts f.number (nat_abs offset) given (λ after. after) (inr (fd, f, at_fd, refl)) (λ u is same few. is)))
 
   pub stays_seek : (fd : ℕ) (from : Whence) (offset : ℤ) → LeavesTree inodes (descriptors.seeks t fd from offset)
   stays_seek fd from offset =

@@ -2,6 +2,7 @@
 use Rattle.std.proofs.Common.{◌≡◌, ◌≢◌, inl, inr, ℕ, zero, suc, ◌≤◌, ◌<◌, List, [], ◌∷◌, ◌++◌, Bool, true, false, ◌||◌, Option, Some, None, is_some, IsSome, refl, sym, ap, ◌∙◌, arith}
 use Rattle.std.proofs.Math.Path.{fun_ext}
 use Rattle.std.proofs.lemmas.Bool.{cases_Bool, cases_eq, cases_lt, or_left, or_right, eq-eqb, eqb-true, false≢true, cond-false}
+use Rattle.model.specs.declared.limits.TheConstants.{OPEN_FILES}
 use Rattle.model.specs.declared.attributes.Attributes.{Attributes}
 use Rattle.model.specs.Paths.{Name, Path}
 use Rattle.model.specs.Trees.{Tree, Object, number_of_object, Description, IsUsed}
@@ -76,7 +77,7 @@ pub none_from : (o : Option Node) → ¬ (o ≢ None) → o ≡ None
 none_from None e = refl
 none_from (Some o) e = absurd (e (λ is. cc))
 
-module _ (v : Volume) (volume : IsGraph v) (table : ℕ → Option Description) (bounded : (d : ℕ) → 32 ≤ d → table d ≡ None) where
+module _ (v : Volume) (volume : IsGraph v) (table : ℕ → Option Description) (bounded : (d : ℕ) → OPEN_FILES ≤ d → table d ≡ None) where
   -- what is reached has a name
   not_orphan : (r : Path) (n : ℕ) → number_at (entries v) r ≡ Some n → ¬ IsOrphan (v n)
   not_orphan r n at_r (attributes, bytes, is) =
@@ -92,19 +93,19 @@ module _ (v : Volume) (volume : IsGraph v) (table : ℕ → Option Description) 
 
   object_stays : (r : Path) (o : Option ℕ) → number_at (entries v) r ≡ o → object_at (swept table v) o ≡ object_at v o
   object_stays r None is = refl
-  object_stays r (Some n) is = ap (object_of n) (stays_named (is_open table 32 n) (v n) (not_orphan r n is))
+  object_stays r (Some n) is = ap (object_of n) (stays_named (is_open table OPEN_FILES n) (v n) (not_orphan r n is))
 
   pub objects-swept : (tree_of (swept table v) table).objects ≡ (tree_of v table).objects
   objects-swept =
       fun_ext (λ r.
-      ap (λ e. object_at (swept table v) (number_at e r)) (fun_ext {f = entries (swept table v)} {g = entries v} (λ n. fun_ext (λ x. swept_names (is_open table 32 n) (v n) x)))
+      ap (λ e. object_at (swept table v) (number_at e r)) (fun_ext {f = entries (swept table v)} {g = entries v} (λ n. fun_ext (λ x. swept_names (is_open table OPEN_FILES n) (v n) x)))
       ∙ object_stays r (number_at (entries v) r) refl)
 
   pub used_stays : (n : ℕ) → IsUsed (tree_of v table) n → swept table v n ≡ v n
-  used_stays n (inl (p, r, is, same)) = stays_named (is_open table 32 n) (v n) (not_orphan p n (found_number v (number_at (entries v) p) r n is same))
+  used_stays n (inl (p, r, is, same)) = stays_named (is_open table OPEN_FILES n) (v n) (not_orphan p n (found_number v (number_at (entries v) p) r n is same))
   used_stays n (inr (d, f, is, same)) =
-      elim (cases_lt d 32) [
-        | inl below ↦ ap (λ b. swept_node b (v n)) (found_open table 32 d n f below is same) ∙ stays_open (v n)
+      elim (cases_lt d OPEN_FILES) [
+        | inl below ↦ ap (λ b. swept_node b (v n)) (found_open table OPEN_FILES d n f below is same) ∙ stays_open (v n)
         | inr past ↦ let none : None ≡ Some f = sym (bounded d past) ∙ is in cc
       ]
 
@@ -112,7 +113,7 @@ module _ (v : Volume) (volume : IsGraph v) (table : ℕ → Option Description) 
   at_path n p at_p some = let named = named_object n (v n) some in inl (p, named.0, ap (object_at v) at_p ∙ named.1, named.2)
 
   -- what a sweep leaves is used
-  used_by : (n : ℕ) (o : Option Node) → v n ≡ o → swept_node (is_open table 32 n) o ≢ None → IsUsed (tree_of v table) n
+  used_by : (n : ℕ) (o : Option Node) → v n ≡ o → swept_node (is_open table OPEN_FILES n) o ≢ None → IsUsed (tree_of v table) n
   used_by n None is stays = absurd (stays refl)
   used_by n (Some (directory_node attributes names)) is stays = let path = volume.naming.reached n (ap is_some is) (ap is_file_node is) in at_path n path.0 path.1 (ap is_some is)
   used_by n (Some (link_node attributes text)) is stays = let path = volume.naming.reached n (ap is_some is) (ap is_file_node is) in at_path n path.0 path.1 (ap is_some is)
@@ -122,12 +123,12 @@ module _ (v : Volume) (volume : IsGraph v) (table : ℕ → Option Description) 
       let path = volume.naming.reached name.0 (directory_some (v name.0) a_directory) (directory_no_file (v name.0) a_directory) in
       at_path n (path.0 ++ name.1 ∷ []) (number_at-push (entries v) path.0 name.1 ∙ ap (λ o. enter (entries v) o name.1) path.1 ∙ name.2) (ap is_some is)
   used_by n (Some (file_node attributes zero bytes)) is stays =
-      elim (cases_Bool (is_open table 32 n)) [
-        | inl t ↦ inr (opened_by table 32 n t)
-        | inr f ↦ absurd (stays (cond-false (is_open table 32 n) _ _ f))
+      elim (cases_Bool (is_open table OPEN_FILES n)) [
+        | inl t ↦ inr (opened_by table OPEN_FILES n t)
+        | inr f ↦ absurd (stays (cond-false (is_open table OPEN_FILES n) _ _ f))
       ]
 
-  pub not_unused : (n : ℕ) → swept_node (is_open table 32 n) (v n) ≢ None → IsUsed (tree_of v table) n
+  pub not_unused : (n : ℕ) → swept_node (is_open table OPEN_FILES n) (v n) ≢ None → IsUsed (tree_of v table) n
   not_unused n stays = used_by n (v n) refl stays
 
   -- a tree with these objects and these bytes of what is used, swept
@@ -136,7 +137,7 @@ module _ (v : Volume) (volume : IsGraph v) (table : ℕ → Option Description) 
     objects = objects-swept ∙ objects;
     descriptors = sym descriptors;
     kept = λ n used. let here = of_old n used in (ap bytes_of_node (used_stays n here) ∙ (same n here).0, ap mode_of (used_stays n here) ∙ (same n here).1);
-    gone = λ n unused. let none = none_from (swept_node (is_open table 32 n) (v n)) (λ stays. unused (to_old n (not_unused n stays))) in (ap bytes_of_node none, ap mode_of none);
+    gone = λ n unused. let none = none_from (swept_node (is_open table OPEN_FILES n) (v n)) (λ stays. unused (to_old n (not_unused n stays))) in (ap bytes_of_node none, ap mode_of none);
   }
     where
       of_old : (n : ℕ) → IsUsed old n → IsUsed (tree_of v table) n

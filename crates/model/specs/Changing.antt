@@ -8,16 +8,16 @@ use Rattle.model.specs.declared.reply.Reply.TheVariants.{Done}
 use Rattle.model.specs.Paths.{Path, Tests, text_tests, text_tests_then, new_text_tests, is_empty, is_root_text, begins_with, path_eq}
 use Rattle.model.specs.Trees.{Tree, Object, directory, symlink, file, is_directory}
 use Rattle.model.specs.Edits.{contents, resized, with_object, without_object, with_mode, with_bytes, with_directory, moved}
-use Rattle.model.specs.Resolution.{parent, resolve}
+use Rattle.model.specs.Resolution.{parent}
 use Rattle.model.specs.Room.{Need, nothing, logs, adds_name, removes_name, changes_size, changes_bits}
-use Rattle.model.specs.Outcomes.{Outcome, answers, refuses, changes, changes_swept, tested, either, leads, leads_to, with_names, with_place, with_fresh, with_links}
+use Rattle.model.specs.Outcomes.{Outcome, answers, refuses, changes, changes_swept, tested, either, goes_along, goes_to, with_names, with_place, with_fresh, with_links}
 use Rattle.model.specs.Reading.{is_negative}
 
 -- an object is made where a path leads to a missing name: `make` gives the tree, by its path and
 -- its number
 abbrev pub creates : ℕ → Tree → List ℕ → (Path → ℕ → Tree → Tree) → Outcome
 creates inodes t path make =
-    tested t (new_text_tests path) (leads t (resolve t false path)
+    tested t (new_text_tests path) (goes_along t false path
     (λ p o. refuses t EEXIST)
     (λ p name. with_place t p (with_fresh inodes t (λ n. changes Done (make (p ++ name ∷ []) n t) (logs adds_name)))))
 
@@ -43,7 +43,7 @@ removes t p = changes_swept Done (without_object p t) (logs removes_name)
 abbrev pub removes_directory : Tree → List ℕ → Outcome
 removes_directory t path =
     tested t (new_text_tests path ++ (is_root_text path, EBUSY) ∷ [])
-    (leads_to t (resolve t false path) (λ p o. elim o [
+    (goes_to t false path (λ p o. elim o [
       | directory n ↦ with_names t p (λ names. tested t ((not (is_empty names), ENOTEMPTY) ∷ []) (removes t p))
       | symlink n text ↦ refuses t ENOTDIR
       | file n ↦ refuses t ENOTDIR
@@ -52,18 +52,22 @@ removes_directory t path =
 -- `unlink`: a name of a file, or a link, is taken away, and never a directory
 abbrev pub unlinks : Tree → List ℕ → Outcome
 unlinks t path =
-    tested t (new_text_tests path) (leads_to t (resolve t false path) (λ p o. tested t ((is_directory (Some o), EPERM) ∷ []) (removes t p)))
+    tested t (new_text_tests path) (goes_to t false path (λ p o. tested t ((is_directory (Some o), EPERM) ∷ []) (removes t p)))
+
+-- `link` where an object stands: a file gets one more name, at a path where nothing stands
+abbrev pub links_object : Tree → Object → List ℕ → Outcome
+links_object t o path = elim o [
+  | file n ↦ goes_along t false path
+      (λ q r. refuses t EEXIST)
+      (λ q name. with_links t (file n) (λ count. tested t ((nat_le FILE_NAMES count, EMLINK) ∷ [])
+      (with_place t q (changes Done (with_object (q ++ name ∷ []) (file n) t) (logs adds_name)))))
+  | directory n ↦ refuses t EPERM
+  | symlink n text ↦ refuses t EPERM
+]
 
 -- `link`: a file gets one more name, at a path where nothing stands
 abbrev pub links : Tree → List ℕ → List ℕ → Outcome
-links t old path =
-    tested t (text_tests old ++ new_text_tests path) (leads_to t (resolve t false old) (λ p o. elim o [
-      | file n ↦ leads t (resolve t false path)
-          (λ q r. refuses t EEXIST)
-          (λ q name. with_links t (file n) (λ count. tested t ((nat_le FILE_NAMES count, EMLINK) ∷ []) (with_place t q (changes Done (with_object (q ++ name ∷ []) (file n) t) (logs adds_name)))))
-      | directory n ↦ refuses t EPERM
-      | symlink n text ↦ refuses t EPERM
-    ]))
+links t old path = tested t (text_tests old ++ new_text_tests path) (goes_to t false old (λ p o. links_object t o path))
 
 -- two objects are one file
 abbrev pub is_same_file : Object → Option Object → Bool
@@ -93,16 +97,19 @@ moves t p o q =
     either (path_eq p q || is_same_file o (t.objects q)) (answers t Done)
     (tested t (move_tests p o q (t.objects q)) (with_target t p q (t.objects q) (changes_swept Done (moved p q t) (logs adds_name))))
 
--- `rename`: what stands at the first path moves to the second, and neither is the root
-abbrev pub renames : Tree → List ℕ → List ℕ → Outcome
-renames t old path =
+-- `rename` and `renamenew`: what stands at the first path moves to the second, and neither is the
+-- root; only_new says whether anything there refuses the move
+abbrev pub renames : Tree → Bool → List ℕ → List ℕ → Outcome
+renames t only_new old path =
     tested t (new_text_tests old ++ new_text_tests path ++ (is_root_text old || is_root_text path, EBUSY) ∷ [])
-    (leads_to t (resolve t false old) (λ p o. leads t (resolve t false path) (λ q r. moves t p o q) (λ q name. moves t p o (q ++ name ∷ []))))
+    (goes_to t false old (λ p o. goes_along t false path
+    (λ q r. tested t ((only_new, EEXIST) ∷ []) (moves t p o q))
+    (λ q name. moves t p o (q ++ name ∷ []))))
 
 -- `chmod`: the file or directory that a path leads to gets this mode
 abbrev pub changes_mode : Tree → List ℕ → ℕ → Outcome
 changes_mode t path mode =
-    tested t (text_tests path) (leads_to t (resolve t true path) (λ p o. elim o [
+    tested t (text_tests path) (goes_to t true path (λ p o. elim o [
       | directory n ↦ changes Done (with_mode n mode t) (logs changes_bits)
       | file n ↦ changes Done (with_mode n mode t) (logs changes_bits)
       | symlink n text ↦ λ _ _ _. ⊥  -- a final link is followed
@@ -127,7 +134,7 @@ size_tests size = (is_negative size, EINVAL) ∷ (nat_lt GREATEST_FILE (nat_abs 
 -- `truncate`: the file that a path leads to gets this size
 abbrev pub truncates : Tree → List ℕ → ℤ → Outcome
 truncates t path size =
-    tested t (text_tests_then (size_tests size) path) (leads_to t (resolve t true path) (λ p o. elim o [
+    tested t (text_tests_then (size_tests size) path) (goes_to t true path (λ p o. elim o [
       | file n ↦ truncates_file t n (nat_abs size)
       | directory n ↦ refuses t EISDIR
       | symlink n text ↦ λ _ _ _. ⊥  -- a final link is followed

@@ -1,6 +1,6 @@
 -- The calls on descriptors (POSIX.1-2017, open(), close(), read(), write(), lseek(), ftruncate(),
--- fstat(), fsync()).
-use Rattle.std.specs.Prelude.{ℕ, ℤ, pos, nat_abs, ◌+ℤ◌, ◌+◌, nat_lt, not, ◌&&◌, ◌||◌, if◌then◌else◌, Bool, true, false, List, [], ◌∷◌, ◌++◌, length, Some, None}
+-- fstat(), fsync()), and what a write does to a file.
+use Rattle.std.specs.Prelude.{ℕ, ℤ, pos, nat_abs, ◌+ℤ◌, ◌+◌, min, nat_lt, not, ◌&&◌, ◌||◌, if◌then◌else◌, Bool, true, false, List, [], ◌∷◌, ◌++◌, length, Some, None}
 use Rattle.model.specs.declared.limits.TheConstants.{OPEN_FILES, GREATEST_FILE, GREATEST_OFFSET}
 use Rattle.model.specs.declared.errno.Errno.TheVariants.{ENOENT, EISDIR, EEXIST, EINVAL, EBADF, EMFILE, EFBIG, EOVERFLOW}
 use Rattle.model.specs.declared.reply.Reply.TheVariants as reply
@@ -12,9 +12,9 @@ use Rattle.model.specs.declared.command.Whence.TheVariants as whence
 use Rattle.model.specs.Paths.{Name, Path, Tests, text_tests_then, is_empty}
 use Rattle.model.specs.Trees.{Tree, Object, directory, symlink, file, Description}
 use Rattle.model.specs.Edits.{contents, read_at, written, with_bytes, with_file, with_descriptor}
-use Rattle.model.specs.Resolution.{resolve}
-use Rattle.model.specs.Room.{nothing, logs, adds_name, puts_bytes}
-use Rattle.model.specs.Outcomes.{Outcome, answers, refuses, changes, changes_swept, tested, either, leads, with_place, with_fresh, lowest_free, described}
+use Rattle.model.specs.Room.{Need, nothing, logs, adds_name, puts_bytes}
+use Rattle.model.specs.Outcomes.{Outcome, answers, refuses, changes, changes_swept, tested, either, goes_along, goes_to, with_place, with_fresh, with_links, lowest_free, described}
+use Rattle.model.specs.Stats.{stat_of}
 use Rattle.model.specs.Reading.{is_negative, is_too_many, tells_stat}
 use Rattle.model.specs.Changing.{truncated_to, need_of_truncate, truncates_file, size_tests}
 
@@ -36,36 +36,45 @@ described_by n flags = record { number = n; offset = 0; reads = is_reading flags
 abbrev pub with_offset : ℕ → Description → ℕ → Tree → Tree
 with_offset fd f offset t = with_descriptor fd (Some (record f { offset = offset })) t
 
+-- a file is opened: its descriptor is told, and with `openstat` what `fstat` tells of it then
+abbrev pub opens_file : Bool → ℕ → Flags → ℕ → Tree → Need → Outcome
+opens_file tells n flags fd t need =
+    let opened = with_descriptor fd (Some (described_by n flags)) t in
+    either tells
+    (with_links opened (file n) (λ links. changes (reply.Opened fd (stat_of opened (file n) links)) opened need))
+    (changes (reply.Fd fd) opened need)
+
 -- `open` where an object stands: a file is opened, and truncated to no bytes where the flags say
 -- so; a directory is refused, and so is anything where the flags want a new file
-abbrev pub opens_object : Tree → Object → Flags → ℕ → Outcome
-opens_object t o flags fd =
+abbrev pub opens_object : Bool → Tree → Object → Flags → ℕ → Outcome
+opens_object tells t o flags fd =
     tested t ((flags.creates && flags.exclusive, EEXIST) ∷ []) (elim o [
       | directory n ↦ refuses t EISDIR
       | symlink n text ↦ λ _ _ _. ⊥  -- a final link is followed
       | file n ↦ either flags.truncates
-          (changes (reply.Fd fd) (with_descriptor fd (Some (described_by n flags)) (truncated_to n 0 t)) (need_of_truncate n 0 t))
-          (changes (reply.Fd fd) (with_descriptor fd (Some (described_by n flags)) t) nothing)
+          (opens_file tells n flags fd (truncated_to n 0 t) (need_of_truncate n 0 t))
+          (opens_file tells n flags fd t nothing)
     ])
 
 -- `open` where nothing stands: a file is made and opened where the flags say so
-abbrev pub opens_new : ℕ → Tree → Path → Name → Flags → ℕ → ℕ → Outcome
-opens_new inodes t p name flags mode fd =
+abbrev pub opens_new : Bool → ℕ → Tree → Path → Name → Flags → ℕ → ℕ → Outcome
+opens_new tells inodes t p name flags mode fd =
     tested t ((not flags.creates, ENOENT) ∷ [])
-    (with_place t p (with_fresh inodes t (λ n. changes (reply.Fd fd) (with_descriptor fd (Some (described_by n flags)) (with_file (p ++ name ∷ []) n mode t)) (logs adds_name))))
+    (with_place t p (with_fresh inodes t (λ n. opens_file tells n flags fd (with_file (p ++ name ∷ []) n mode t) (logs adds_name))))
 
 -- the tests of the flags: no exclusive without create, and no truncating without writing
 abbrev pub open_tests : Flags → Tests
 open_tests flags = (flags.exclusive && not flags.creates, EINVAL) ∷ (flags.truncates && not (is_writing flags.access), EINVAL) ∷ []
 
--- `open`: a file that is there, or a new one, gets the lowest free descriptor
-abbrev pub opens : ℕ → Tree → List ℕ → Flags → ℕ → Outcome
-opens inodes t path flags mode =
-    tested t (text_tests_then (open_tests flags) path) (elim (lowest_free t.descriptors OPEN_FILES) [
+-- `open` and `openstat`: a file that is there, or a new one, gets the lowest free descriptor, which
+-- is below a number
+abbrev pub opens : Bool → ℕ → ℕ → Tree → List ℕ → Flags → ℕ → Outcome
+opens tells below inodes t path flags mode =
+    tested t (text_tests_then (open_tests flags) path) (elim (lowest_free t.descriptors (min below OPEN_FILES)) [
       | None ↦ refuses t EMFILE
-      | Some fd ↦ leads t (resolve t (not (flags.creates && flags.exclusive)) path)
-          (λ p o. opens_object t o flags fd)
-          (λ p name. opens_new inodes t p name flags mode fd)
+      | Some fd ↦ goes_along t (not (flags.creates && flags.exclusive)) path
+          (λ p o. opens_object tells t o flags fd)
+          (λ p name. opens_new tells inodes t p name flags mode fd)
     ])
 
 -- `close`: the descriptor is free, and a file with no name and no other descriptor is gone
@@ -92,6 +101,16 @@ puts t n offset given also =
     either (is_empty given) (answers t (reply.Wrote 0))
     (tested t ((nat_lt GREATEST_FILE (offset + length given), EFBIG) ∷ [])
     (changes (reply.Wrote (length given)) (also (with_bytes n (written offset given (contents t n)) t)) (logs (puts_bytes (length (contents t n)) offset (length given)))))
+
+-- `store`: data goes to the file that a path leads to, at this offset
+abbrev pub stores : Tree → List ℕ → ℤ → List ℕ → Outcome
+stores t path offset given =
+    tested t (text_tests_then ((is_negative offset || is_too_many (length given), EINVAL) ∷ []) path)
+    (goes_to t true path (λ p o. elim o [
+      | file n ↦ puts t n (nat_abs offset) given (λ after. after)
+      | directory n ↦ refuses t EISDIR
+      | symlink n text ↦ λ _ _ _. ⊥  -- a final link is followed
+    ]))
 
 -- `write`: data goes to the descriptor's offset, or behind the last byte under append, and the
 -- offset moves behind it

@@ -94,3 +94,17 @@ IsPlaceOf v (at_entry trail x n) (named q) = (p : Path) × Trails (entries v) p 
 IsPlaceOf v (at_missing trail x) (missing p y) = Trails (entries v) p trail × (y ≡ x) × (entries v (here trail) x ≡ None)
 IsPlaceOf v (at_refusal errno) (refused other) = other ≡ errno
 IsPlaceOf v _ _ = ⊥
+
+-- the trail of a search that begins at the directory with a number
+abbrev pub trail_from : ℕ → List ℕ
+trail_from n = n ∷ []
+
+-- the same, whatever trail led to the directory at its end
+abbrev pub IsPlaceAt : Volume → Place → Resolution → Type 0
+IsPlaceAt v (at_directory trail) (named p) = number_at (entries v) p ≡ Some (here trail)
+IsPlaceAt v (at_entry trail x n) (named q) =
+    (p : Path) × (number_at (entries v) p ≡ Some (here trail)) × (q ≡ p ++ x ∷ []) × (entries v (here trail) x ≡ Some n)
+IsPlaceAt v (at_missing trail x) (missing p y) =
+    (number_at (entries v) p ≡ Some (here trail)) × (y ≡ x) × (entries v (here trail) x ≡ None)
+IsPlaceAt v (at_refusal errno) (refused other) = other ≡ errno
+IsPlaceAt v _ _ = ⊥

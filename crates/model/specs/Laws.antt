@@ -1,5 +1,7 @@
 -- Laws of the definitions, which the functions of `laws.rt` name.
-use Rattle.std.specs.Prelude.{ℕ, ◌≡◌, ◌↔◌, ◌≤◌, ◌<◌, Bool, true, false, IsTrue, IsFalse, IsSome, Contains, List, [], length, Option, Some, None}
+use Rattle.std.specs.List.{list_any}
+use Rattle.std.specs.Prelude.{ℕ, ◌≡◌, ◌↔◌, ◌≤◌, ◌<◌, Bool, true, false, IsTrue, IsFalse, IsSome, All, Contains, List, [], ◌∷◌, ◌++◌, length, slice_get, Option, Some, None}
+use Rattle.model.specs.Entries.{Part, AreTold}
 use Rattle.model.specs.declared.attributes.Attributes.{Attributes}
 use Rattle.model.specs.declared.limits.TheConstants.{LINKS_FOLLOWED, FIRST_NUMBER, MODE_BITS}
 use Rattle.model.specs.declared.errno.Errno.{Errno}
@@ -10,16 +12,16 @@ use Rattle.model.specs.declared.command.Command.{Command}
 use Rattle.model.specs.declared.command.Command.TheVariants as command
 use Rattle.model.specs.declared.command.PathCall.{PathCall}
 use Rattle.model.specs.declared.command.PathCall.TheVariants as call
-use Rattle.model.specs.Paths.{Path, parts, begins_with}
-use Rattle.model.specs.Trees.{Description, IsTree, file}
-use Rattle.model.specs.Resolution.{resolve}
+use Rattle.model.specs.Paths.{Name, Path, parts, begins_with, is_dot_dot}
+use Rattle.model.specs.Trees.{Description, HasPath, IsNumbered, IsPathOf, IsTree, IsUsed, Object, file}
+use Rattle.model.specs.Resolution.{resolve, resolve_within}
 use Rattle.model.specs.Outcomes.{IsFresh, HasLinks}
 use Rattle.model.specs.Circumstances.{Circumstances, Allowed}
-use Rattle.model.specs.Finding.{Trails, find_within, IsPlaceOf}
+use Rattle.model.specs.Finding.{Trails, find_within, IsPlaceAt, IsPlaceOf, trail_from}
 use Rattle.model.specs.Room.{Room, Need, nothing}
 use Rattle.model.specs.States.{State, IsState, empty, ForgetsOpenFiles, Forgets}
 use Rattle.model.specs.Steps.{WouldStep}
-use Rattle.model.specs.Volumes.{Volume, file_node, entries, number_at, is_file_node, IsVolume, tree_of, swept, IsMounted}
+use Rattle.model.specs.Volumes.{Volume, file_node, entries, number_at, object_of, is_directory_node, is_file_node, is_placed_node, IsVolume, tree_of, swept, IsMounted}
 use Rattle.model.specs.Changes.{TakesFreeNumber, ChangesTree}
 use Rattle.model.specs.Records.{Change, applied, IsBelow, Applies, Replays, without_orphans, Extends, work_of}
 
@@ -72,8 +74,18 @@ IsPathCall c = Unit {0}
 abbrev pub IsCommand : Command → Type 0
 IsCommand (command.Path c) = IsPathCall c
 IsCommand (command.Within name c) = IsPathCall c
-IsCommand (command.Open path flags mode) = mode ≤ MODE_BITS
+IsCommand (command.Open path flags mode below) = mode ≤ MODE_BITS
+IsCommand (command.OpenStat path flags mode below) = mode ≤ MODE_BITS
 IsCommand c = Unit {0}
+
+-- where a directory is told in parts from the first one on, until a part tells nothing, a name that
+-- it has throughout is told by just one of the parts, whatever else comes and goes between them
+abbrev pub PartsTellOnce : Type 0
+PartsTellOnce =
+    (parts : List Part) (last : Part) (name : Name)
+    → AreTold 0 (parts ++ last ∷ []) → last.told ≡ [] → All (λ part. Contains part.names name) (parts ++ last ∷ [])
+    → (part : Part) × (k : ℕ) × (slice_get parts k ≡ Some part) × Contains part.told name
+    × ((other : Part) (m : ℕ) → slice_get parts m ≡ Some other → Contains other.told name → m ≡ k)
 
 -- where nothing comes in its way, each outcome of a command on a state is a state
 abbrev pub CommandsLeaveStates : Type 0
@@ -122,6 +134,22 @@ ResolvesByNumbers =
     (inodes : ℕ) (v : Volume) (table : ℕ → Option Description) (follow : Bool) (text : List ℕ)
     → IsVolume inodes v → IsPlaceOf v (find_within LINKS_FOLLOWED v follow [] (parts text)) (resolve (tree_of v table) follow text)
 
+-- in a volume, a search from the number of a directory leads where the resolution from its path
+-- does, as long as no part leads up and no link is followed
+abbrev pub ResolvesFromNumbers : Type 0
+ResolvesFromNumbers =
+    (inodes : ℕ) (v : Volume) (table : ℕ → Option Description) (follow : Bool) (n : ℕ) (names : List Name)
+    → IsVolume inodes v → IsTrue (is_directory_node (v n)) → IsFalse (list_any is_dot_dot names)
+    → (p : Path) × IsPathOf (tree_of v table) n p
+    × IsPlaceAt v (find_within 0 v follow (trail_from n) names) (resolve_within 0 (tree_of v table) follow p names)
+
+-- in a volume, a number that an object has stands at a path, but for that of an orphan
+abbrev pub VolumesTellNumbers : Type 0
+VolumesTellNumbers =
+    (inodes : ℕ) (v : Volume) (table : ℕ → Option Description) (n : ℕ) → IsVolume inodes v
+    → (IsTrue (is_placed_node (v n)) → (o : Object) × (object_of n (v n) ≡ Some o) × IsNumbered (tree_of v table) n o)
+    × (IsFalse (is_placed_node (v n)) → ¬ HasPath (tree_of v table) n)
+
 -- what isn't a file and isn't the root lies on the trail to a directory just where its path is a
 -- beginning of that one's
 abbrev pub TrailsTellBelow : Type 0
@@ -142,6 +170,12 @@ abbrev pub VolumesTellFresh : Type 0
 VolumesTellFresh =
     (inodes : ℕ) (v : Volume) (table : ℕ → Option Description) (n : ℕ) → IsVolume inodes v → IsMounted v table
     → FIRST_NUMBER ≤ n → n < inodes → v n ≡ None → ((k : ℕ) → FIRST_NUMBER ≤ k → k < n → IsSome (v k)) → IsFresh inodes (tree_of v table) n
+
+-- of a mounted volume, the numbers that its tree uses are those that an object has
+abbrev pub VolumesTellUsed : Type 0
+VolumesTellUsed =
+    (inodes : ℕ) (v : Volume) (table : ℕ → Option Description) (n : ℕ)
+    → IsVolume inodes v → IsMounted v table → IsUsed (tree_of v table) n ↔ IsSome (v n)
 
 -- in a volume, a file's count of names is its count of paths
 abbrev pub VolumesTellLinks : Type 0

@@ -7,6 +7,8 @@ pub mod Edits
 pub mod Resolution
 pub mod Room
 pub mod Outcomes
+pub mod Stats
+pub mod Entries
 pub mod Reading
 pub mod Replies
 pub mod Changing

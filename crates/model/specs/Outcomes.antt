@@ -1,19 +1,19 @@
 -- What a call comes to, step by step: its tests in order, what stands where its path leads, and at
 -- last its reply.
-use Rattle.std.specs.Prelude.{ℕ, zero, suc, ◌≡◌, ◌↔◌, ◌<◌, ◌≤◌, nat_le, is_none, if◌then◌else◌, Bool, true, false, IsSome, Option, Some, None, MatchOption, Contains, List, [], ◌∷◌, ◌++◌, length}
+use Rattle.std.specs.Prelude.{ℕ, zero, suc, ◌≡◌, ◌⊎◌, ◌↔◌, ◌<◌, ◌≤◌, nat_le, is_none, if◌then◌else◌, Bool, true, false, IsSome, Option, Some, None, MatchOption, Contains, List, [], ◌∷◌, ◌++◌, length}
 use Rattle.std.specs.Ordering.{nat_cmp}
 use Rattle.std.specs.Cmp.Lexicographic.{slice_cmp}
 use Rattle.std.specs.List.Sorted.{IsStrictlySortedBy}
 use Rattle.model.specs.declared.limits.TheConstants.{DIRECTORY_NAMES, FIRST_NUMBER}
 use Rattle.model.specs.declared.errno.Errno.{Errno}
-use Rattle.model.specs.declared.errno.Errno.TheVariants.{ENOENT, EBADF, DIRFULL, NONUMBER}
+use Rattle.model.specs.declared.errno.Errno.TheVariants.{ENOENT, ENOTDIR, ELOOP, EBADF, DIRFULL, NONUMBER, ESTALE}
 use Rattle.model.specs.declared.reply.Reply.{Reply}
 use Rattle.model.specs.declared.reply.Reply.TheVariants.{Refused}
 use Rattle.model.specs.Counting.{Counts}
-use Rattle.model.specs.Paths.{Name, Path, Tests, first_refusal}
-use Rattle.model.specs.Trees.{Tree, Object, directory, symlink, file, Description, IsUsed}
+use Rattle.model.specs.Paths.{Name, Path, Tests, first_refusal, is_empty, parts_behind, start_number}
+use Rattle.model.specs.Trees.{Tree, Object, directory, symlink, file, Description, HasPath, IsNumbered, IsPathOf, IsUsed}
 use Rattle.model.specs.Edits.{IsSwept}
-use Rattle.model.specs.Resolution.{Resolution, named, missing, refused}
+use Rattle.model.specs.Resolution.{Resolution, named, missing, refused, resolve, resolve_within}
 use Rattle.model.specs.Room.{Need, nothing}
 
 -- what a call comes to: its reply, the tree that it leaves, and what it needs of room
@@ -54,6 +54,32 @@ leads t (named p) there gone = elim (t.objects p) [ Some o ↦ there p o | None 
 -- a call goes on with what stands where a path leads, and a missing name is ENOENT
 abbrev pub leads_to : Tree → Resolution → (Path → Object → Outcome) → Outcome
 leads_to t r there = leads t r there (λ p name. refuses t ENOENT)
+
+-- a call goes on with the object of a number, and is refused where none stands at a path
+abbrev pub with_number : Tree → ℕ → (Object → Outcome) → Outcome
+with_number t n rest reply new need =
+    ((o : Object) × IsNumbered t n o × rest o reply new need) ⊎ (¬ HasPath t n × refuses t ESTALE reply new need)
+
+-- a call goes on where names lead from an object. No link is followed there: where one would be, it
+-- is ELOOP.
+abbrev pub leads_from : Tree → Bool → List Name → (Path → Object → Outcome) → (Path → Name → Outcome) → Object → Outcome
+leads_from t follow names there gone (directory n) =
+    λ reply new need. (p : Path) × IsPathOf t n p × leads t (resolve_within 0 t follow p names) there gone reply new need
+leads_from t follow names there gone (symlink n text) =
+    either (is_empty names) (either follow (refuses t ELOOP) (there [] (symlink n text))) (refuses t ENOTDIR)
+leads_from t follow names there gone (file n) = either (is_empty names) (there [] (file n)) (refuses t ENOTDIR)
+
+-- a call goes on where the text of a path leads, from the root or from a number; follow says whether
+-- a last link is followed
+abbrev pub goes_along : Tree → Bool → List ℕ → (Path → Object → Outcome) → (Path → Name → Outcome) → Outcome
+goes_along t follow text there gone = elim (start_number text) [
+  | None ↦ leads t (resolve t follow text) there gone
+  | Some n ↦ with_number t n (leads_from t follow (parts_behind text) there gone)
+]
+
+-- the same with what stands there, where a missing name is ENOENT
+abbrev pub goes_to : Tree → Bool → List ℕ → (Path → Object → Outcome) → Outcome
+goes_to t follow text there = goes_along t follow text there (λ p name. refuses t ENOENT)
 
 -- the names in the directory at a path, sorted by their bytes, each once
 pub record IsListing (t : Tree) (p : Path) (names : List Name) : Type 0 where

@@ -1,7 +1,8 @@
 -- Paths, and the texts that name them (POSIX.1-2017, Base Definitions, "Pathname").
-use Rattle.std.specs.Prelude.{ℕ, ◌-◌, ◌≤◌, ◌≢◌, ◌==◌, nat_lt, not, ◌&&◌, ◌||◌, if◌then◌else◌, Bool, List, [], ◌∷◌, length, All, filter, slice_index, slice_index_or, codes, bytes_eq, Option, Some, None, is_some}
+use Rattle.std.specs.Prelude.{ℕ, ◌-◌, ◌≤◌, ◌≢◌, ◌^◌, ◌==◌, nat_le, nat_lt, not, ◌&&◌, ◌||◌, if◌then◌else◌, Bool, List, [], ◌∷◌, length, drop, All, filter, slice_index, slice_index_or, codes, bytes_eq, Option, Some, None, is_some}
 use Rattle.std.specs.Cmp.Lexicographic.{pointwise}
 use Rattle.std.specs.List.{slice_split, list_any}
+use Rattle.std.specs.Str.Parse.{digits_value}
 use Rattle.model.specs.declared.limits.TheConstants.{NAME_BYTES, PATH_BYTES}
 use Rattle.model.specs.declared.errno.Errno.{Errno}
 use Rattle.model.specs.declared.errno.Errno.TheVariants.{ENOENT, EINVAL, ENAMETOOLONG}
@@ -57,6 +58,36 @@ starts_with_slash text = is_slash (slice_index text 0)
 abbrev pub ends_with_slash : List ℕ → Bool
 ends_with_slash text = is_slash (slice_index text (length text - 1))
 
+-- a decimal digit
+abbrev pub is_digit : ℕ → Bool
+is_digit byte = nat_le 48 byte && nat_le byte 57
+
+-- decimal digits as numbers are written: one or more, and no zero before others
+abbrev pub is_numeral : List ℕ → Bool
+is_numeral digits =
+    not (is_empty digits) && not (list_any (λ byte. not (is_digit byte)) digits)
+    && (length digits == 1 || not (slice_index digits 0 == 48))
+
+-- the number that a part names by `@` and its decimal digits, if it has 32 bits
+abbrev pub number_named : Name → Option ℕ
+number_named part =
+    let digits = drop 1 part in
+    if slice_index part 0 == 64 && is_numeral digits && nat_lt (digits_value 10 digits) (2 ^ 32)
+    then Some (digits_value 10 digits) else None
+
+-- the number of the object that a text leads from, where it begins with one and not with a slash
+abbrev pub start_number : List ℕ → Option ℕ
+start_number text =
+    if starts_with_slash text then None else number_named (slice_index_or (parts text) 0 [])
+
+-- the text begins at a number
+abbrev pub starts_at_number : List ℕ → Bool
+starts_at_number text = is_some (start_number text)
+
+-- the parts behind where a text begins: the root, or a number
+abbrev pub parts_behind : List ℕ → List Name
+parts_behind text = if starts_at_number text then drop 1 (parts text) else parts text
+
 -- the part is longer than a name may be
 abbrev pub is_too_long : Name → Bool
 is_too_long part = nat_lt NAME_BYTES (length part)
@@ -64,6 +95,10 @@ is_too_long part = nat_lt NAME_BYTES (length part)
 -- the last part of a text
 abbrev pub last_part : List ℕ → Name
 last_part text = slice_index_or (parts text) (length (parts text) - 1) []
+
+-- the text is a number alone, which leads to an object by none of its names
+abbrev pub is_number_alone : List ℕ → Bool
+is_number_alone text = starts_at_number text && is_empty (parts_behind text)
 
 -- tests in order, each with the refusal that it gives where it holds
 abbrev pub Tests : Type 0
@@ -80,9 +115,10 @@ text_tests_then more text =
     (is_empty text, ENOENT)
     ∷ (list_any (λ byte. byte == 0) text, EINVAL)
     ∷ (nat_lt PATH_BYTES (length text), ENAMETOOLONG)
-    ∷ (not (starts_with_slash text), EINVAL)
+    ∷ (not (starts_with_slash text || starts_at_number text), EINVAL)
     ∷ (ends_with_slash text && nat_lt 1 (length text), EINVAL)
     ∷ (list_any is_too_long (parts text), ENAMETOOLONG)
+    ∷ (starts_at_number text && list_any is_dot_dot (parts text), EINVAL)
     ∷ more
 
 -- the tests of a text that names something that is there
@@ -91,7 +127,8 @@ text_tests = text_tests_then []
 
 -- the tests of a text that names something to be made or taken away: its last part is a name
 abbrev pub new_text_tests : List ℕ → Tests
-new_text_tests text = text_tests_then ((is_dot (last_part text) || is_dot_dot (last_part text), EINVAL) ∷ []) text
+new_text_tests text =
+    text_tests_then ((is_dot (last_part text) || is_dot_dot (last_part text) || is_number_alone text, EINVAL) ∷ []) text
 
 -- the path `/` alone, as a text that passed its tests
 abbrev pub is_root_text : List ℕ → Bool

@@ -16,6 +16,11 @@ abbrev pub IsDescriptor : Reply → Type 0
 IsDescriptor (reply.Fd fd) = Unit {0}
 IsDescriptor other = ⊥
 
+-- a descriptor, and what stands there
+abbrev pub IsOpened : Reply → Type 0
+IsOpened (reply.Opened fd stat) = Unit {0}
+IsOpened other = ⊥
+
 -- bytes
 abbrev pub IsData : Reply → Type 0
 IsData (reply.Data bytes) = Unit {0}
@@ -41,6 +46,11 @@ abbrev pub IsNames : Reply → Type 0
 IsNames (reply.Names names) = Unit {0}
 IsNames other = ⊥
 
+-- a directory's names with what is told of each
+abbrev pub IsEntries : Reply → Type 0
+IsEntries (reply.Entries entries) = Unit {0}
+IsEntries other = ⊥
+
 -- the snapshots' names
 abbrev pub IsSnapshots : Reply → Type 0
 IsSnapshots (reply.Snaps names) = Unit {0}
@@ -56,19 +66,27 @@ abbrev pub IsSpace : Reply → Type 0
 IsSpace (reply.Space blocks free pledged) = Unit {0}
 IsSpace other = ⊥
 
+-- the room of the disk, and for objects
+abbrev pub IsUsage : Reply → Type 0
+IsUsage (reply.Usage usage) = Unit {0}
+IsUsage other = ⊥
+
 -- what a call that names a path is answered, where it isn't refused
 abbrev pub IsAnswerToPath : PathCall → Reply → Type 0
 IsAnswerToPath (call.List path) r = IsNames r
+IsAnswerToPath (call.Entries path after count) r = IsEntries r
 IsAnswerToPath (call.Stat path) r = IsStat r
 IsAnswerToPath (call.Lstat path) r = IsStat r
 IsAnswerToPath (call.Readlink path) r = IsTextOf r
 IsAnswerToPath (call.Get path offset count) r = IsData r
+IsAnswerToPath (call.Store path offset bytes) r = IsWritten r
 IsAnswerToPath other r = IsDone r
 
 -- what a command is answered, where it isn't refused
 abbrev pub IsAnswerTo : Command → Reply → Type 0
 IsAnswerTo (command.Path call) r = IsAnswerToPath call r
-IsAnswerTo (command.Open path flags mode) r = IsDescriptor r
+IsAnswerTo (command.Open path flags mode below) r = IsDescriptor r
+IsAnswerTo (command.OpenStat path flags mode below) r = IsOpened r
 IsAnswerTo (command.Read fd count) r = IsData r
 IsAnswerTo (command.Write fd bytes) r = IsWritten r
 IsAnswerTo (command.Pread fd offset count) r = IsData r
@@ -76,6 +94,7 @@ IsAnswerTo (command.Pwrite fd offset bytes) r = IsWritten r
 IsAnswerTo (command.Lseek fd whence offset) r = IsOffset r
 IsAnswerTo (command.Fstat fd) r = IsStat r
 IsAnswerTo command.Df r = IsSpace r
+IsAnswerTo command.Statfs r = IsUsage r
 IsAnswerTo command.SnapList r = IsSnapshots r
 IsAnswerTo (command.Within name call) r = IsAnswerToPath call r
 IsAnswerTo other r = IsDone r

@@ -55,6 +55,11 @@ pub record Room : Type 0 where
   pub is_covered : Bool  -- the settled root has the tree as it is now, and no record stands beside it
   pub orphans_of : List ℕ → ℕ  -- orphans that the image keeps under the snapshot of a name
 
+-- the blocks that no new data may have, of the free ones: pledged ones, those that the next
+-- consistency point stores whatever changed, and those that stay for removals
+abbrev pub reserved_of : Room → ℕ
+reserved_of room = room.pledged + fixed_of room.blocks + HEADROOM_BLOCKS
+
 -- the room isn't enough for a need, although the settled root covers all that was done
 abbrev pub IsShort : Room → Need → Type 0
 IsShort room nothing = ⊥

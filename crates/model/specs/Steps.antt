@@ -1,22 +1,24 @@
 -- Which reply and which new state each command gives, where nothing comes in its way.
-use Rattle.std.specs.Prelude.{ℕ, zero, suc, ◌≡◌, nat_le, nat_lt, not, ◌&&◌, ◌||◌, ◌==◌, length, Bool, true, false, List, [], ◌∷◌, ◌++◌, map, find, filter, bytes_eq, Option, Some, None, is_none}
+use Rattle.std.specs.Prelude.{ℕ, zero, suc, ◌≡◌, nat_le, nat_lt, not, ◌&&◌, ◌||◌, ◌==◌, ◌-◌, length, Bool, true, false, List, [], ◌∷◌, ◌++◌, map, find, filter, bytes_eq, Option, Some, None, is_none}
 use Rattle.std.specs.List.{list_any}
-use Rattle.model.specs.declared.limits.TheConstants.{OPEN_FILES, SNAPSHOTS, SNAPSHOT_NAME_BYTES}
+use Rattle.model.specs.declared.limits.TheConstants.{OPEN_FILES, ROOT_NUMBER, SNAPSHOTS, SNAPSHOT_NAME_BYTES}
 use Rattle.model.specs.declared.errno.Errno.TheVariants.{EBUSY, EROFS, BADNAME, SNAPEXISTS, NOSNAP, SNAPFULL}
 use Rattle.model.specs.declared.reply.Reply.{Reply}
-use Rattle.model.specs.declared.reply.Reply.TheVariants.{Done, Snaps, Space, Refused}
+use Rattle.model.specs.declared.reply.Reply.TheVariants.{Done, Snaps, Space, Usage as tells, Refused}
+use Rattle.model.specs.declared.reply.Usage.{Usage}
 use Rattle.model.specs.declared.command.Command.{Command}
 use Rattle.model.specs.declared.command.Command.TheVariants as command
 use Rattle.model.specs.declared.command.PathCall.{PathCall}
 use Rattle.model.specs.declared.command.PathCall.TheVariants as call
 use Rattle.model.specs.Paths.{Name, Tests, first_refusal}
-use Rattle.model.specs.Trees.{Tree}
+use Rattle.model.specs.Counting.{Counts}
+use Rattle.model.specs.Trees.{Tree, IsUsed}
 use Rattle.model.specs.States.{State, with_tree, with_snapshots, ForgetsOpenFiles}
-use Rattle.model.specs.Room.{Need, nothing, a_snapshot, a_restore, Room}
+use Rattle.model.specs.Room.{Need, nothing, a_snapshot, a_restore, Room, reserved_of}
 use Rattle.model.specs.Outcomes.{Outcome}
-use Rattle.model.specs.Reading.{lists, stats, reads_link, gets}
+use Rattle.model.specs.Reading.{lists, tells_entries, stats, reads_link, gets}
 use Rattle.model.specs.Changing.{makes_directory, makes_symlink, removes_directory, unlinks, links, renames, changes_mode, truncates}
-use Rattle.model.specs.Descriptors.{opens, closes, reads, reads_from, writes, writes_to, seeks, truncates_open, stats_open, syncs_open}
+use Rattle.model.specs.Descriptors.{opens, closes, reads, reads_from, stores, writes, writes_to, seeks, truncates_open, stats_open, syncs_open}
 
 -- what a command comes to: its reply, the state that it leaves, and what it needs of room
 abbrev pub Step : Type 1
@@ -37,6 +39,7 @@ on_tree s outcome reply new need = outcome reply new.tree need × (new ≡ with_
 -- what each call by a path comes to on a tree
 abbrev pub calls : ℕ → Tree → PathCall → Outcome
 calls inodes t (call.List path) = lists t path
+calls inodes t (call.Entries path after count) = tells_entries t path after count
 calls inodes t (call.Stat path) = stats t true path
 calls inodes t (call.Lstat path) = stats t false path
 calls inodes t (call.Readlink path) = reads_link t path
@@ -46,13 +49,16 @@ calls inodes t (call.Rmdir path) = removes_directory t path
 calls inodes t (call.Unlink path) = unlinks t path
 calls inodes t (call.Link old path) = links t old path
 calls inodes t (call.Symlink text path) = makes_symlink inodes t text path
-calls inodes t (call.Rename old path) = renames t old path
+calls inodes t (call.Rename old path) = renames t false old path
+calls inodes t (call.RenameNew old path) = renames t true old path
 calls inodes t (call.Chmod path mode) = changes_mode t path mode
 calls inodes t (call.Truncate path size) = truncates t path size
+calls inodes t (call.Store path offset given) = stores t path offset given
 
 -- a call that only reads
 abbrev pub is_reading_call : PathCall → Bool
 is_reading_call (call.List path) = true
+is_reading_call (call.Entries path after count) = true
 is_reading_call (call.Stat path) = true
 is_reading_call (call.Lstat path) = true
 is_reading_call (call.Readlink path) = true
@@ -107,11 +113,27 @@ views s name c = elim (frozen s name) [
       (λ reply new need. calls s.inodes pair.1 c reply pair.1 need × (new ≡ s))
 ]
 
+-- what `statfs` tells where so many numbers are used
+abbrev pub usage_of : Room → State → ℕ → Usage
+usage_of room s taken = record {
+  blocks = room.blocks;
+  free = room.free;
+  reserved = reserved_of room;
+  inodes = s.inodes - ROOT_NUMBER;
+  taken = taken;
+}
+
+-- `statfs`: the room at the answer, and how many of the numbers that an object may have, the root's
+-- among them, are used
+abbrev pub tells_usage : Room → State → Step
+tells_usage room s reply new need = (taken : ℕ) × Counts (IsUsed s.tree) taken × says s (tells (usage_of room s taken)) reply new need
+
 -- the reply, the new state and the need of a command, where nothing comes in its way; `df` tells
 -- the room at the answer
 abbrev pub WouldStep : Room → State → Command → Step
 WouldStep room s (command.Path c) = on_tree s (calls s.inodes s.tree c)
-WouldStep room s (command.Open path flags mode) = on_tree s (opens s.inodes s.tree path flags mode)
+WouldStep room s (command.Open path flags mode below) = on_tree s (opens false below s.inodes s.tree path flags mode)
+WouldStep room s (command.OpenStat path flags mode below) = on_tree s (opens true below s.inodes s.tree path flags mode)
 WouldStep room s (command.Close fd) = on_tree s (closes s.tree fd)
 WouldStep room s (command.Read fd count) = on_tree s (reads s.tree fd count)
 WouldStep room s (command.Write fd given) = on_tree s (writes s.tree fd given)
@@ -123,6 +145,7 @@ WouldStep room s (command.Fstat fd) = on_tree s (stats_open s.tree fd)
 WouldStep room s (command.Fsync fd) = on_tree s (syncs_open s.tree fd)
 WouldStep room s command.Sync = says s Done
 WouldStep room s command.Df = says s (Space room.blocks room.free room.pledged)
+WouldStep room s command.Statfs = tells_usage room s
 WouldStep room s (command.SnapTake name) = takes s name
 WouldStep room s (command.SnapDelete name) = deletes s name
 WouldStep room s (command.SnapRestore name) = restores room s name

@@ -52,6 +52,20 @@ IsOpen t n = (d : ℕ) × (f : Description) × (t.descriptors d ≡ Some f) × (
 abbrev pub IsUsed : Tree → ℕ → Type 0
 IsUsed t n = HasPath t n ⊎ IsOpen t n
 
+-- an object with this number stands at a path
+abbrev pub HasNumber : Tree → ℕ → Object → Type 0
+HasNumber t n o = (p : Path) × (t.objects p ≡ Some o) × (number_of_object o ≡ n)
+
+-- the one object that has a number, at whichever paths
+pub record IsNumbered (t : Tree) (n : ℕ) (o : Object) : Type 0 where
+  pub has : HasNumber t n o
+  pub only : (r : Object) → HasNumber t n r → r ≡ o
+
+-- the one path of the directory with a number
+pub record IsPathOf (t : Tree) (n : ℕ) (p : Path) : Type 0 where
+  pub stands : t.objects p ≡ Some (directory n)
+  pub only : (q : Path) → t.objects q ≡ Some (directory n) → q ≡ p
+
 -- what makes the four maps a tree of so many inodes
 pub record IsTree (inodes : ℕ) (t : Tree) : Type 0 where
   pub root : t.objects [] ≡ Some (directory ROOT_NUMBER)

@@ -1,5 +1,5 @@
 -- The tree as numbered objects: what the file system has, and the tree that it stands for.
-use Rattle.std.specs.Prelude.{ℕ, zero, suc, ◌||◌, ◌≡◌, ◌≢◌, ◌⊎◌, ◌+◌, ◌-◌, ◌≤◌, ◌<◌, ◌==◌, ◌&&◌, if◌then◌else◌, IsSome, IfSome, Bool, true, false, IsTrue, IsFalse, List, length, fold, bytes_eq, Option, Some, None}
+use Rattle.std.specs.Prelude.{ℕ, zero, suc, ◌||◌, ◌≡◌, ◌≢◌, ◌⊎◌, ◌+◌, ◌-◌, ◌≤◌, ◌<◌, ◌==◌, ◌&&◌, if◌then◌else◌, IsSome, IfSome, Bool, true, false, IsTrue, IsFalse, List, length, fold, bytes_eq, not, Option, Some, None, is_some}
 use Rattle.model.specs.declared.limits.TheConstants.{ROOT_NUMBER, FIRST_NUMBER, FILE_NAMES, DIRECTORY_NAMES, GREATEST_FILE, GREATEST_OFFSET, OPEN_FILES}
 use Rattle.model.specs.declared.attributes.Attributes.{Attributes}
 use Rattle.model.specs.Attributes.{AreAttributes}
@@ -189,6 +189,10 @@ is_open table (suc d) n = is_numbered (table d) n || is_open table d n
 abbrev pub is_orphan : Option Node → Bool
 is_orphan (Some (file_node attributes zero bytes)) = true
 is_orphan _ = false
+
+-- a directory names the object, or it is the root
+abbrev pub is_placed_node : Option Node → Bool
+is_placed_node o = is_some o && not (is_orphan o)
 
 -- an object, or none where it is an orphan that isn't open
 abbrev pub swept_node : Bool → Option Node → Option Node

@@ -2,8 +2,10 @@
 
 ghost use Rattle.model.specs.Laws.{RefusesByItsOwn, RefusalsChangeNothing, HasOneOutcome, RecordsKeepVolumes, SweepsKeepVolumes};
 ghost use Rattle.model.specs.Laws.{IsPathCall, IsCommand, CommandsLeaveStates, AllowedAreStates, MountsFindStates};
-ghost use Rattle.model.specs.Laws.{VolumesAreTrees, RecordsChangeTrees, VolumesTellFresh, VolumesTellLinks};
-ghost use Rattle.model.specs.Laws.{ResolvesByNumbers, TrailsTellBelow, BelowIsByPaths};
+ghost use Rattle.model.specs.Laws.{VolumesAreTrees, RecordsChangeTrees, VolumesTellFresh, VolumesTellLinks, VolumesTellNumbers};
+ghost use Rattle.model.specs.Laws.{VolumesTellUsed};
+ghost use Rattle.model.specs.Laws.{ResolvesByNumbers, ResolvesFromNumbers, TrailsTellBelow, BelowIsByPaths};
+ghost use Rattle.model.specs.Laws.{PartsTellOnce};
 ghost use Rattle.model.specs.Laws.{ReplayFollows, ReplayEndsSame, ReplaysCostTheSame};
 ghost use Rattle.model.specs.Laws.{ReplaysKeepVolumes, MountsFind, MountsForget};
 
@@ -56,6 +58,16 @@ pub fn resolution_is_by_numbers()
     ensures { ResolvesByNumbers }
 {}
 
+/// A search from a directory's number leads where the resolution from its path does.
+pub fn resolution_is_from_numbers()
+    ensures { ResolvesFromNumbers }
+{}
+
+/// What has a number stands at a path, but for an orphan.
+pub fn volumes_tell_numbers()
+    ensures { VolumesTellNumbers }
+{}
+
 /// What lies on the trail to a directory is what that directory lies below.
 pub fn trails_tell_what_lies_below()
     ensures { TrailsTellBelow }
@@ -64,6 +76,11 @@ pub fn trails_tell_what_lies_below()
 /// The least number that no object of a mounted volume has is the number of a new object.
 pub fn volumes_tell_fresh_numbers()
     ensures { VolumesTellFresh }
+{}
+
+/// The numbers that the tree of a mounted volume uses are those that an object has.
+pub fn volumes_tell_used_numbers()
+    ensures { VolumesTellUsed }
 {}
 
 /// A file's count of names is its count of paths.
@@ -133,9 +150,14 @@ pub fn commands_are_bounded(command: &Command)
     match command {
         Command::Path(call) => path_calls_are_bounded(call),
         Command::Within { call, .. } => path_calls_are_bounded(call),
-        Command::Open { mode, .. } => {
+        Command::Open { mode, .. } | Command::OpenStat { mode, .. } => {
             let _ = mode.bits();
         }
         _ => {}
     }
 }
+
+/// A directory told in parts tells each name that stays just once.
+pub fn parts_tell_names_once()
+    ensures { PartsTellOnce }
+{}

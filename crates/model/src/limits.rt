@@ -21,8 +21,14 @@ pub const FILE_NAMES: u32 = 1000;
 /// Greatest number of names in one directory.
 pub const DIRECTORY_NAMES: usize = 65_536;
 
+/// Greatest number of names that `entries` is asked for at once.
+pub const ENTRIES_TOLD: u32 = 1024;
+
 /// Descriptors are below this number.
-pub const OPEN_FILES: u32 = 32;
+pub const OPEN_FILES: u32 = 65_536;
+
+/// Descriptors of a session of lines are below this number.
+pub const SESSION_FILES: u32 = 32;
 
 /// Greatest number of bytes that one call reads or writes, and so of those that a record of the log
 /// writes.

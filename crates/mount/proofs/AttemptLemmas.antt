@@ -11,9 +11,9 @@ use Rattle.station.specs.declared.station.Station.{Ghosts}
 use Rattle.model.specs.declared.errno.Errno.{Errno}
 use Rattle.model.specs.declared.errno.Errno.TheVariants.{ENOSPC, ENOMEM, EIO}
 use Rattle.model.specs.declared.reply.Reply.{Reply}
-use Rattle.model.specs.declared.reply.Reply.TheVariants.{Done, Space, Refused}
+use Rattle.model.specs.declared.reply.Reply.TheVariants.{Done, Refused}
 use Rattle.model.specs.declared.command.Command.{Command}
-use Rattle.model.specs.declared.command.Command.TheVariants.{Sync, Df}
+use Rattle.model.specs.declared.command.Command.TheVariants.{Sync}
 use Rattle.model.specs.States.{State, going, failed, as_failed}
 use Rattle.model.specs.Trees.{Description}
 use Rattle.model.specs.Circumstances.{Circumstances, IsSure, IsDone, IsExcused, IsShortFor, Allowed, clear}
@@ -21,6 +21,7 @@ use Rattle.model.specs.Room.{Room, nothing}
 use Rattle.model.specs.Records as records
 use Rattle.model.specs.Records.{pledged_for}
 use Rattle.model.specs.Runs.{IsWithin}
+use Rattle.model.specs.Steps.{WouldStep}
 use Rattle.system.specs.Errors.{IsRefused}
 use Rattle.system.specs.Counting.{Counted, beside_reads, call_error_failed, point_error_failed}
 use Rattle.system.specs.Images.{OpensTo}
@@ -54,7 +55,7 @@ came read write memory room =
     record { read_failed = read; write_failed = write; memory_refused = memory; room = room }
 
 -- the room of a system at a state that it serves
-abbrev room_at : {S : Type 0} {G : Ghosts S} (f : System S G) (s : State) → ServesState f s → Bool → Room
+abbrev pub room_at : {S : Type 0} {G : Ghosts S} (f : System S G) (s : State) → ServesState f s → Bool → Room
 room_at f s serves covered = record {
   blocks = f.root.geometry.blocks;
   free = free_under (whole (blocks_of serves.settled.disk) serves.settled.root).active serves.settled.root.geometry.blocks;
@@ -63,7 +64,7 @@ room_at f s serves covered = record {
   orphans_of = orphans_of f s serves;
 }
 
-has_room : {S : Type 0} {G : Ghosts S} (f : System S G) (s : State) (serves : ServesState f s) (covered : Bool)
+pub has_room : {S : Type 0} {G : Ghosts S} (f : System S G) (s : State) (serves : ServesState f s) (covered : Bool)
     → (IsTrue covered → records.CoversAll serves.settled.volume serves.running serves.lasts.replayed.changes) → HasRoomAtPoint f s (room_at f s serves covered)
 has_room f s serves covered all = record { serves = serves; blocks = refl; free = refl; told = record { pledged = refl; covered = all }; orphans = orphans_told f s serves }
 
@@ -276,18 +277,18 @@ module _ {S : Type 0} {G : Ghosts S} (old new : Fs S G) (s : State) where
               (allowed_by s Sync c Done s is_still (λ no. no) (inl ((nothing, (refl, refl, refl)), λ _ _. refl))),
         )
 
--- `df` tells the room
+-- a sure command that tells of the room and leaves the state
 pub told_room : {S : Type 0} {G : Ghosts S} (f : Fs S G) (s : State) → Serves (mounted f s) → IsFalse f.has_failed → (room : Room) → HasRoomAtPoint f.system s room
-    → EachCut (systems.meaning_of f.system) (OpensTo (systems.meaning_of f.system) s) → IsAppliedAt f s f Df (Space room.blocks room.free room.pledged)
-told_room f s serves runs room has opens =
+    → (command : Command) (reply : Reply) → IsSure s command → WouldStep room s command reply s nothing
+    → EachCut (systems.meaning_of f.system) (OpensTo (systems.meaning_of f.system) s) → IsAppliedAt f s f command reply
+told_room f s serves runs room has command reply sure step opens =
     let m = systems.meaning_of f.system in
     let is = still_going f s serves runs in
     let c = clear room in
-    let reply = Space room.blocks room.free room.pledged in
     let stays = stays_by f f s serves runs (same_none m) runs (serves.kept is) (started m (OpensTo m s) opens) in (
       s,
-      stayed f f s Df serves is stays reply c (record { reads = refl; writes = refl; room = λ _. has })
-          (allowed_surely s Df c reply s is tt refl (nothing, (refl, refl, refl))),
+      stayed f f s command serves is stays reply c (record { reads = refl; writes = refl; room = λ _. has })
+          (allowed_surely s command c reply s is sure refl (nothing, step)),
     )
 
 -- an image that was opened

@@ -7,7 +7,8 @@ use Rattle.dispatch.specs.Serving.{IsCall}
 -- not behind a consistency point
 pub no_checkpoint : (c : Command) → IsCall c → ¬ IsCheckpoint c
 no_checkpoint (command.Path c) is checkpointing = checkpointing
-no_checkpoint (command.Open path flags mode) is checkpointing = checkpointing
+no_checkpoint (command.Open path flags mode below) is checkpointing = checkpointing
+no_checkpoint (command.OpenStat path flags mode below) is checkpointing = checkpointing
 no_checkpoint (command.Close fd) is checkpointing = checkpointing
 no_checkpoint (command.Read fd count) is checkpointing = checkpointing
 no_checkpoint (command.Write fd given) is checkpointing = checkpointing
@@ -19,6 +20,7 @@ no_checkpoint (command.Fstat fd) is checkpointing = checkpointing
 no_checkpoint (command.Fsync fd) is checkpointing = checkpointing
 no_checkpoint command.Sync is checkpointing = is
 no_checkpoint command.Df is checkpointing = checkpointing
+no_checkpoint command.Statfs is checkpointing = checkpointing
 no_checkpoint (command.SnapTake name) is checkpointing = is
 no_checkpoint (command.SnapDelete name) is checkpointing = is
 no_checkpoint (command.SnapRestore name) is checkpointing = is

@@ -10,3 +10,4 @@ mod AnswerLemmas
 mod PointLemmas
 mod RunLemmas
 mod ReplyLemmas
+mod StartLemmas

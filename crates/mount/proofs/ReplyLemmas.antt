@@ -1,12 +1,14 @@
 -- A reply of a command's kind is a refusal or of that kind.
 use Rattle.std.proofs.Common.{◌≡◌, ◌≢◌, ℕ, List, refl, subst}
 use Rattle.station.specs.declared.station.Station.{Ghosts}
-use Rattle.model.specs.Replies.{IsData, IsDescriptor, IsDone, IsNames, IsOffset, IsReplyTo, IsSnapshots, IsSpace, IsStat, IsTextOf, IsWritten}
+use Rattle.model.specs.Replies.{IsData, IsDescriptor, IsDone, IsEntries, IsNames, IsOffset, IsOpened, IsReplyTo, IsSnapshots, IsSpace, IsStat, IsTextOf, IsUsage, IsWritten}
 use Rattle.model.specs.declared.command.Command.{Command}
+use Rattle.model.specs.declared.entries.Entry.{Entry}
 use Rattle.model.specs.declared.errno.Errno.{Errno}
 use Rattle.model.specs.declared.reply.Reply.{Reply}
 use Rattle.model.specs.declared.reply.Reply.TheVariants as replies
 use Rattle.model.specs.declared.reply.Stat.{Stat}
+use Rattle.model.specs.declared.reply.Usage.{Usage}
 use Rattle.mount.specs.Applying.{AppliesCommand, HasOnlyAnswers}
 use Rattle.mount.specs.declared.fs.Fs.{Fs}
 
@@ -27,6 +29,13 @@ only_descriptor command reply answers is not other = by_kind reply (not_other Is
   where
     by_kind : (reply : Reply) → IsDescriptor reply → ((a : ℕ) → reply ≢ replies.Fd a) → ⊥
     by_kind (replies.Fd a) kind not = not a refl
+    by_kind reply kind not = kind
+
+pub only_opened : (command : Command) (reply : Reply) → HasOnlyAnswers command IsOpened → IsReplyTo command reply → ((a : ℕ) (b : Stat) → reply ≢ replies.Opened a b) → ((errno : Errno) → reply ≢ replies.Refused errno) → ⊥
+only_opened command reply answers is not other = by_kind reply (not_other IsOpened command reply answers is other) not
+  where
+    by_kind : (reply : Reply) → IsOpened reply → ((a : ℕ) (b : Stat) → reply ≢ replies.Opened a b) → ⊥
+    by_kind (replies.Opened a b) kind not = not a b refl
     by_kind reply kind not = kind
 
 pub only_data : (command : Command) (reply : Reply) → HasOnlyAnswers command IsData → IsReplyTo command reply → ((a : List ℕ) → reply ≢ replies.Data a) → ((errno : Errno) → reply ≢ replies.Refused errno) → ⊥
@@ -64,6 +73,13 @@ only_names command reply answers is not other = by_kind reply (not_other IsNames
     by_kind (replies.Names a) kind not = not a refl
     by_kind reply kind not = kind
 
+pub only_entries : (command : Command) (reply : Reply) → HasOnlyAnswers command IsEntries → IsReplyTo command reply → ((a : List Entry) → reply ≢ replies.Entries a) → ((errno : Errno) → reply ≢ replies.Refused errno) → ⊥
+only_entries command reply answers is not other = by_kind reply (not_other IsEntries command reply answers is other) not
+  where
+    by_kind : (reply : Reply) → IsEntries reply → ((a : List Entry) → reply ≢ replies.Entries a) → ⊥
+    by_kind (replies.Entries a) kind not = not a refl
+    by_kind reply kind not = kind
+
 pub only_snapshots : (command : Command) (reply : Reply) → HasOnlyAnswers command IsSnapshots → IsReplyTo command reply → ((a : List (List ℕ)) → reply ≢ replies.Snaps a) → ((errno : Errno) → reply ≢ replies.Refused errno) → ⊥
 only_snapshots command reply answers is not other = by_kind reply (not_other IsSnapshots command reply answers is other) not
   where
@@ -83,6 +99,13 @@ only_space command reply answers is not other = by_kind reply (not_other IsSpace
   where
     by_kind : (reply : Reply) → IsSpace reply → ((a : ℕ) (b : ℕ) (c : ℕ) → reply ≢ replies.Space a b c) → ⊥
     by_kind (replies.Space a b c) kind not = not a b c refl
+    by_kind reply kind not = kind
+
+pub only_usage : (command : Command) (reply : Reply) → HasOnlyAnswers command IsUsage → IsReplyTo command reply → ((a : Usage) → reply ≢ replies.Usage a) → ((errno : Errno) → reply ≢ replies.Refused errno) → ⊥
+only_usage command reply answers is not other = by_kind reply (not_other IsUsage command reply answers is other) not
+  where
+    by_kind : (reply : Reply) → IsUsage reply → ((a : Usage) → reply ≢ replies.Usage a) → ⊥
+    by_kind (replies.Usage a) kind not = not a refl
     by_kind reply kind not = kind
 
 -- what is promised of a command, of one in other words

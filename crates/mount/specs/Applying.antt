@@ -5,12 +5,13 @@ use Rattle.station.specs.Images.{Images}
 use Rattle.station.specs.Moments.{Meaning, LeftBetween, HasGrown, IsSameStation, LeavesOnly}
 use Rattle.station.specs.declared.station.Station.{Ghosts}
 use Rattle.model.specs.declared.command.Command.{Command}
-use Rattle.model.specs.declared.command.Command.TheVariants.{Df}
+use Rattle.model.specs.declared.command.Command.TheVariants.{Df, Statfs}
 use Rattle.model.specs.declared.errno.Errno.{Errno}
 use Rattle.model.specs.declared.errno.Errno.TheVariants.{EIO, FAILED}
 use Rattle.model.specs.declared.reply.Reply.{Reply}
 use Rattle.model.specs.declared.reply.Reply.TheVariants as replies
 use Rattle.model.specs.declared.reply.Reply.TheVariants.{Done, Refused}
+use Rattle.model.specs.declared.reply.Stat.{Stat}
 use Rattle.model.specs.States.{State, going}
 use Rattle.model.specs.Replies.{IsAnswerTo, IsReplyTo}
 use Rattle.model.specs.Room.{Need, Room}
@@ -232,11 +233,17 @@ pub record MakesRoom {S : Type 0} {G : Ghosts S} (old new : Fs S G) (result : Re
   pub applied : (command : Command) (s : State) → Serves (mounted old s) → HasPoints 1 old → ¬ IsSure s command
       → IfErr result (λ errno. IsAppliedAt old s new command (Refused errno))
 
+-- the command only tells what memory has: `df` and `statfs`
+abbrev pub IsQuiet : Command → Type 0
+IsQuiet Df = Unit {0}
+IsQuiet Statfs = Unit {0}
+IsQuiet command = ⊥
+
 -- What is promised of a command that is applied, with its reply, whatever the images hold.
 pub record AppliesCommand {S : Type 0} {G : Ghosts S} (old new : Fs S G) (command : Command) (reply : Reply) : Type 0 where
   pub answers : AnswersAlways old new command reply
   pub at_once : IsAtOnce old.system.files command → AnswersAtOnce old.system new.system reply
-  pub quiet : command ≡ Df → new ≡ old
+  pub quiet : IsQuiet command → new ≡ old
   pub failed : IsTrue old.has_failed → (reply ≡ Refused FAILED) × (new ≡ old)
   -- a run that led here goes on by this command
   pub goes_on : (first : Fs S G) (s : State) (steps : List (Command × Reply)) → RunsAt first s old steps → IsYoung old
@@ -250,6 +257,10 @@ reply_of answer (Err errno) = Refused errno
 -- what is told of a command that is done
 abbrev pub done_reply : Unit {0} → Reply
 done_reply it = Done
+
+-- of a file that is opened, its descriptor and what `fstat` tells of it then
+abbrev pub opened_reply : ℕ × Stat → Reply
+opened_reply (fd, stat) = replies.Opened fd stat
 
 -- and of the room of the disk
 abbrev pub space_reply : Space → Reply

@@ -37,7 +37,7 @@ impl<S: Station> Fs<S> {
     ghost use Rattle.system.specs.Serving.{ServesState};
     ghost use Rattle.dispatch.specs.Serving.{AnswersAtOnce, IsAccepted, IsAtOnce, IsCall};
     ghost use Rattle.system.specs.CheckpointCommands.{IsPrepared};
-    ghost use Rattle.mount.specs.Applying.{AppliesCommand, AnswersCommand, AnswersAlways, Attempts, IsAppliedAt, LogsItsNeed, MakesRoom, RunsAt, WaitsForPoint};
+    ghost use Rattle.mount.specs.Applying.{AppliesCommand, AnswersCommand, AnswersAlways, Attempts, IsAppliedAt, IsQuiet, LogsItsNeed, MakesRoom, RunsAt, WaitsForPoint};
     ghost use Rattle.mount.specs.Systems.{mounted, Serves, IsYoung, LeavesState};
     ghost use Rattle.mount.specs.declared.fs.Fs.{Fs};
 
@@ -46,8 +46,9 @@ impl<S: Station> Fs<S> {
     /// call failed, and where a write or a sync failed nothing else comes; after that, and only
     /// then as long as the generations last, every command answers FAILED, with no device call.
     /// ENOMEM comes where there was no memory, ENOSPC where the disk has no room although its
-    /// newest root covers all, and then nothing changed. `lseek`, `fsync`, `df`, and `close` but of
-    /// a file that has no name call no device and tell no want of memory, whatever the images hold.
+    /// newest root covers all, and then nothing changed. `lseek`, `fsync`, `df`, `statfs`, and
+    /// `close` but of a file that has no name call no device and tell no want of memory, whatever
+    /// the images hold.
     pub fn apply(&mut self, command: &Command<'_>) -> Reply
         ensures { AppliesCommand self.old self.new command.now result }
     {
@@ -61,7 +62,7 @@ impl<S: Station> Fs<S> {
         ensures answers { AnswersAlways self.old self.new command.now result }
         ensures at_once { IsAtOnce self.old.system.files command.now
             → AnswersAtOnce self.old.system self.new.system result }
-        ensures quiet { command.now ≡ Command.Df → self.new ≡ self.old }
+        ensures quiet { IsQuiet command.now → self.new ≡ self.old }
         ensures failed { IsTrue self.old.has_failed
             → (result ≡ Reply.Refused Errno.FAILED) × (self.new ≡ self.old) }
     {
@@ -70,6 +71,7 @@ impl<S: Station> Fs<S> {
         }
         match command {
             Command::Df => self.space(),
+            Command::Statfs => self.usage(),
             _ => self.answer_anew(command),
         }
     }
@@ -78,7 +80,7 @@ impl<S: Station> Fs<S> {
     /// read.
     fn answer_anew(&mut self, command: &Command<'_>) -> Reply
         requires going { IsFalse self.old.has_failed }
-        requires other { command.now ≢ Command.Df }
+        requires other { IsQuiet command.now → ⊥ }
         ensures answers { AnswersAlways self.old self.new command.now result }
         ensures at_once { IsAtOnce self.old.system.files command.now
             → AnswersAtOnce self.old.system self.new.system result }
@@ -120,6 +122,20 @@ impl<S: Station> Fs<S> {
             free,
             pledged,
         }
+    }
+
+    /// `statfs`: the room of the disk, and how many objects there are and may be, with no device
+    /// call.
+    fn usage(&self) -> Reply
+        ensures kind { IsReplyTo Command.Statfs result }
+        ensures answers { (errno : Errno) → result ≡ Reply.Refused errno → ⊥ }
+        ensures logs { (s : State) (served : ServesState self.now.system s)
+            → LogsItsNeed (all_bodies served.lasts.bodies) s self.now.system Command.Statfs result }
+        ensures applied { (s : State) → Serves (mounted self.now s) → IsFalse self.now.has_failed
+            → IsAppliedAt self.now s self.now Command.Statfs result }
+    {
+        served_states_open(&self.system);
+        Reply::Usage(self.system.usage())
     }
 
     /// The same of a call on the tree, on a descriptor or on a snapshot's tree, or of `snap list`.

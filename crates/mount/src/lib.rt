@@ -12,6 +12,7 @@ mod path_calls;
 mod prefix;
 mod refusals;
 mod replies;
+mod starts;
 mod whole_image;
 mod within_snapshots;
 
@@ -20,4 +21,5 @@ pub use image::make;
 pub use making::MakeError;
 pub use mounting::mount;
 pub use prefix::cut_opens_to_prefix;
+pub use starts::path_from;
 pub use system::{MountError, Space};

@@ -2,22 +2,44 @@
 //! asked.
 
 ghost use Rattle.model.specs.declared.command.Command.{Command};
+ghost use Rattle.model.specs.declared.limits.TheConstants.{OPEN_FILES};
 ghost use Rattle.model.specs.declared.reply.Reply.{Reply};
-ghost use Rattle.mount.specs.Applying.{AppliesCommand, done_reply, reply_of};
+ghost use Rattle.mount.specs.Applying.{AppliesCommand, done_reply, opened_reply, reply_of};
 
 use crate::Fs;
-use model::{Bytes, Command, Errno, Flags, Mode, Stat, Text, Whence};
+use model::{Bytes, Command, Errno, Flags, Mode, OPEN_FILES, Stat, Text, Whence};
 use station::Station;
 
 impl<S: Station> Fs<S> {
-    /// `open`: opens a file, or makes it, and gives its descriptor. EMFILE where 32 are open,
+    /// `open`: opens a file, or makes it, and gives its descriptor. EMFILE where 65,536 are open,
     /// EINVAL of flags that don't go together.
     pub fn open(&mut self, path: &[u8], flags: Flags, mode: Mode) -> Result<u32, Errno>
-        ensures { AppliesCommand self.old self.new (Command.Open path.now flags mode)
+        ensures { AppliesCommand self.old self.new (Command.Open path.now flags mode OPEN_FILES)
             (reply_of Reply.Fd result) }
     {
         let path = Bytes::of(path);
-        self.apply_for_descriptor(&Command::Open { path, flags, mode })
+        let below = OPEN_FILES;
+        self.apply_for_descriptor(&Command::Open {
+            path,
+            flags,
+            mode,
+            below,
+        })
+    }
+
+    /// `openstat`: the same, and tells what `fstat` tells of the file then.
+    pub fn open_stat(&mut self, path: &[u8], flags: Flags, mode: Mode) -> Result<(u32, Stat), Errno>
+        ensures { AppliesCommand self.old self.new (Command.OpenStat path.now flags mode OPEN_FILES)
+            (reply_of opened_reply result) }
+    {
+        let path = Bytes::of(path);
+        let below = OPEN_FILES;
+        self.apply_for_opened(&Command::OpenStat {
+            path,
+            flags,
+            mode,
+            below,
+        })
     }
 
     /// `close`: gives a descriptor back.

@@ -1,5 +1,5 @@
-//! Calls that name a path. A path that leads to nothing is ENOENT; docs/COMMANDS.md says which
-//! other refusals come, and in what order.
+//! Calls that name a path. A path that leads to nothing is ENOENT, and where it begins at a number
+//! that no object has ESTALE; docs/COMMANDS.md says which other refusals come, and in what order.
 
 ghost use Rattle.model.specs.declared.command.Command.{Command};
 ghost use Rattle.model.specs.declared.command.PathCall.{PathCall};
@@ -7,7 +7,7 @@ ghost use Rattle.model.specs.declared.reply.Reply.{Reply};
 ghost use Rattle.mount.specs.Applying.{AppliesCommand, done_reply, reply_of};
 
 use crate::Fs;
-use model::{Bytes, Command, Errno, Mode, Names, PathCall, Stat, Text};
+use model::{Bytes, Command, Entries, Errno, Mode, Names, PathCall, Stat, Text};
 use station::Station;
 
 impl<S: Station> Fs<S> {
@@ -20,6 +20,21 @@ impl<S: Station> Fs<S> {
         let path = Bytes::of(path);
         let call = PathCall::List { path };
         self.apply_for_names(&Command::Path(call))
+    }
+
+    /// `entries`: of the directory that a path leads to, the names behind a cookie, in the order of
+    /// their cookies: at least so many where there are as many, and all of a cookie where there is
+    /// one of it; each with its cookie and what `lstat` tells of it. A first call is behind the
+    /// cookie 0, and further ones behind the last cookie of the one before. EINVAL where the cookie
+    /// is negative, or none or more than 1,024 are asked for, ENOTDIR where the path leads to no
+    /// directory.
+    pub fn entries(&mut self, path: &[u8], after: i64, count: u32) -> Result<Entries, Errno>
+        ensures { AppliesCommand self.old self.new
+            (Command.Path (PathCall.Entries path.now after count)) (reply_of Reply.Entries result) }
+    {
+        let path = Bytes::of(path);
+        let call = PathCall::Entries { path, after, count };
+        self.apply_for_entries(&Command::Path(call))
     }
 
     /// `stat`: what a path leads to. A last link is followed.
@@ -133,6 +148,17 @@ impl<S: Station> Fs<S> {
         self.apply_for_done(&Command::Path(call))
     }
 
+    /// `renamenew`: the same, but EEXIST where anything has that name, and then nothing changes.
+    pub fn rename_new(&mut self, old: &[u8], new: &[u8]) -> Result<(), Errno>
+        ensures { AppliesCommand self.old self.new
+            (Command.Path (PathCall.RenameNew old.now new.now)) (reply_of done_reply result) }
+    {
+        let old = Bytes::of(old);
+        let new = Bytes::of(new);
+        let call = PathCall::RenameNew { old, new };
+        self.apply_for_done(&Command::Path(call))
+    }
+
     /// `chmod`: gives this mode to a file or a directory. A last link is followed.
     pub fn chmod(&mut self, path: &[u8], mode: Mode) -> Result<(), Errno>
         ensures { AppliesCommand self.old self.new (Command.Path (PathCall.Chmod path.now mode))
@@ -152,5 +178,18 @@ impl<S: Station> Fs<S> {
         let path = Bytes::of(path);
         let call = PathCall::Truncate { path, size };
         self.apply_for_done(&Command::Path(call))
+    }
+
+    /// `store`: puts bytes into the file that a path leads to, as `pwrite` puts them there, and tells
+    /// how many. EINVAL where the offset is negative or these are more than 65,536, EFBIG where the
+    /// file would be too large, EISDIR of a directory.
+    pub fn store(&mut self, path: &[u8], offset: i64, bytes: &[u8]) -> Result<u32, Errno>
+        ensures { AppliesCommand self.old self.new
+            (Command.Path (PathCall.Store path.now offset bytes.now)) (reply_of Reply.Wrote result) }
+    {
+        let path = Bytes::of(path);
+        let data = Bytes::of(bytes);
+        let call = PathCall::Store { path, offset, data };
+        self.apply_for_written(&Command::Path(call))
     }
 }

@@ -1,11 +1,11 @@
 //! Commands applied whose reply is a value, by the kind of it.
 
-ghost use Rattle.model.specs.Replies.{IsData, IsDescriptor, IsDone, IsNames, IsOffset, IsSnapshots, IsSpace, IsStat, IsTextOf, IsWritten};
+ghost use Rattle.model.specs.Replies.{IsData, IsDescriptor, IsDone, IsEntries, IsNames, IsOffset, IsOpened, IsSnapshots, IsSpace, IsStat, IsTextOf, IsUsage, IsWritten};
 ghost use Rattle.model.specs.declared.reply.Reply.{Reply};
-ghost use Rattle.mount.specs.Applying.{AppliesCommand, HasOnlyAnswers, done_reply, reply_of, space_reply};
+ghost use Rattle.mount.specs.Applying.{AppliesCommand, HasOnlyAnswers, done_reply, opened_reply, reply_of, space_reply};
 
 use crate::Fs;
-use model::{Command, Errno, Names, Reply, Stat, Text};
+use model::{Command, Entries, Errno, Names, Reply, Stat, Text, Usage};
 use station::Station;
 use system::Space;
 
@@ -29,6 +29,18 @@ impl<S: Station> Fs<S> {
     {
         match self.apply(command) {
             Reply::Fd(fd) => Ok(fd),
+            Reply::Refused(errno) => Err(errno),
+            _ => unreachable!(),
+        }
+    }
+
+    /// Applies a command that is answered a descriptor, and what stands there.
+    pub(crate) fn apply_for_opened(&mut self, command: &Command<'_>) -> Result<(u32, Stat), Errno>
+        requires { HasOnlyAnswers command.now IsOpened }
+        ensures { AppliesCommand self.old self.new command.now (reply_of opened_reply result) }
+    {
+        match self.apply(command) {
+            Reply::Opened { fd, stat } => Ok((fd, stat)),
             Reply::Refused(errno) => Err(errno),
             _ => unreachable!(),
         }
@@ -94,6 +106,18 @@ impl<S: Station> Fs<S> {
         }
     }
 
+    /// Applies a command that is answered a directory's names with what is told of each.
+    pub(crate) fn apply_for_entries(&mut self, command: &Command<'_>) -> Result<Entries, Errno>
+        requires { HasOnlyAnswers command.now IsEntries }
+        ensures { AppliesCommand self.old self.new command.now (reply_of Reply.Entries result) }
+    {
+        match self.apply(command) {
+            Reply::Entries(entries) => Ok(entries),
+            Reply::Refused(errno) => Err(errno),
+            _ => unreachable!(),
+        }
+    }
+
     /// Applies a command that is answered the snapshots' names.
     pub(crate) fn apply_for_snapshots(&mut self, command: &Command<'_>) -> Result<Names, Errno>
         requires { HasOnlyAnswers command.now IsSnapshots }
@@ -133,6 +157,18 @@ impl<S: Station> Fs<S> {
                 free,
                 pledged,
             }),
+            Reply::Refused(errno) => Err(errno),
+            _ => unreachable!(),
+        }
+    }
+
+    /// Applies a command that is answered the room of the disk, and for objects.
+    pub(crate) fn apply_for_usage(&mut self, command: &Command<'_>) -> Result<Usage, Errno>
+        requires { HasOnlyAnswers command.now IsUsage }
+        ensures { AppliesCommand self.old self.new command.now (reply_of Reply.Usage result) }
+    {
+        match self.apply(command) {
+            Reply::Usage(usage) => Ok(usage),
             Reply::Refused(errno) => Err(errno),
             _ => unreachable!(),
         }

@@ -5,7 +5,7 @@ ghost use Rattle.model.specs.declared.reply.Reply.{Reply};
 ghost use Rattle.mount.specs.Applying.{AppliesCommand, done_reply, reply_of, space_reply};
 
 use crate::Fs;
-use model::{Bytes, Command, Errno, Names};
+use model::{Bytes, Command, Errno, Names, Usage};
 use station::Station;
 use system::Space;
 
@@ -22,6 +22,14 @@ impl<S: Station> Fs<S> {
         ensures { AppliesCommand self.old self.new Command.Df (reply_of space_reply result) }
     {
         self.apply_for_space(&Command::Df)
+    }
+
+    /// `statfs`: the room of the disk, and how many objects there are and may be, with no device
+    /// call.
+    pub fn statfs(&mut self) -> Result<Usage, Errno>
+        ensures { AppliesCommand self.old self.new Command.Statfs (reply_of Reply.Usage result) }
+    {
+        self.apply_for_usage(&Command::Statfs)
     }
 
     /// `snap take`: keeps the tree as it stands under this name. BADNAME of a name that no snapshot

@@ -6,7 +6,7 @@ ghost use Rattle.model.specs.declared.reply.Reply.{Reply};
 ghost use Rattle.mount.specs.Applying.{AppliesCommand, reply_of};
 
 use crate::Fs;
-use model::{Bytes, Command, Errno, Names, PathCall, Stat, Text};
+use model::{Bytes, Command, Entries, Errno, Names, PathCall, Stat, Text};
 use station::Station;
 
 impl<S: Station> Fs<S> {
@@ -19,6 +19,24 @@ impl<S: Station> Fs<S> {
         let path = Bytes::of(path);
         let call = PathCall::List { path };
         self.apply_for_names(&Command::Within { name, call })
+    }
+
+    /// A part of the names in a directory of the snapshot, as `entries` gives them.
+    pub fn entries_in(
+        &mut self,
+        name: &[u8],
+        path: &[u8],
+        after: i64,
+        count: u32,
+    ) -> Result<Entries, Errno>
+        ensures { AppliesCommand self.old self.new
+            (Command.Within name.now (PathCall.Entries path.now after count))
+            (reply_of Reply.Entries result) }
+    {
+        let name = Bytes::of(name);
+        let path = Bytes::of(path);
+        let call = PathCall::Entries { path, after, count };
+        self.apply_for_entries(&Command::Within { name, call })
     }
 
     /// What a path leads to in the snapshot, as `stat` tells it.

@@ -4,7 +4,7 @@ use Rattle.std.specs.Prelude.{if◌then◌else◌, All}
 use Rattle.std.proofs.lemmas.Bool.{cond_both, false≢true}
 use Rattle.std.proofs.lemmas.List.Elements.{All-nil, All-append, All-take, All-get_or, All-cons}
 use Rattle.model.specs.declared.errno.Errno.TheVariants.{ENOENT, ENOTDIR, ELOOP}
-use Rattle.model.specs.Finding.{Place, at_entry, at_missing, at_refusal, here, WalkEnd, halts, halts_at_link, Turn, stays_on, enters, ends_at, follows, finds_nothing, finds_damage, finds_long, turn, turn_at, turn_by, find_along, find_on, find_within}
+use Rattle.model.specs.Finding.{Place, at_entry, at_missing, at_refusal, here, WalkEnd, halts, halts_at_link, Turn, stays_on, enters, ends_at, follows, finds_nothing, finds_damage, finds_long, turn, turn_at, turn_by, find_along, find_on, find_within, trail_from}
 use Rattle.model.specs.Paths.{Name, parts, is_dot, is_dot_dot, is_empty, is_too_long, starts_with_slash}
 use Rattle.model.specs.Volumes.{Node, directory_node, file_node, link_node, Volume, entries, is_directory_node}
 use Rattle.paths.specs.Ends.{EndsWell, EndsInName, IsAtName}
@@ -100,6 +100,10 @@ module _ (v : Volume) (root : found_in (v 3) ≡ found.Directory) where
     pub ends_well : (links : ℕ) (names : List Name) → EndsWell v follow (find_within links v follow [] names)
     ends_well links names = within links [] names (All-nil IsDirectory)
 
+    -- from a directory with a number as well
+    pub ends_well_from : (n links : ℕ) (names : List Name) → IsDirectory n → EndsWell v follow (find_within links v follow (trail_from n) names)
+    ends_well_from n links names is = within links (trail_from n) names (All-cons IsDirectory n [] is (All-nil IsDirectory))
+
 -- ---- a last part that is a name
 
 name_behind : (x : Name) (names : List Name) → EndsInName names → EndsInName (x ∷ names)
@@ -171,3 +175,6 @@ module _ (v : Volume) where
 
   pub ends_at_name : (follow : Bool) (links : ℕ) (names : List Name) → follow ≡ false → EndsInName names → IsAtName (find_within links v follow [] names)
   ends_at_name follow links names not plain = subst (λ (b : Bool). IsAtName (find_within links v b [] names)) (sym not) (within_names links [] names plain)
+
+  pub ends_at_name_from : (follow : Bool) (n links : ℕ) (names : List Name) → follow ≡ false → EndsInName names → IsAtName (find_within links v follow (trail_from n) names)
+  ends_at_name_from follow n links names not plain = subst (λ (b : Bool). IsAtName (find_within links v b (trail_from n) names)) (sym not) (within_names links (trail_from n) names plain)

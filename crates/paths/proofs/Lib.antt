@@ -5,4 +5,9 @@ pub mod Tests
 pub mod Walks
 pub mod Objects
 pub mod EndLaws
+pub mod PlaceTells
 pub mod Resolving
+pub mod Numerals
+pub mod NewTexts
+pub mod FromNumbers
+pub mod Reaching

@@ -1,8 +1,15 @@
 -- Objects in memory, as those of the volume that they stand for.
-use Rattle.std.proofs.Common.{◌≡◌, ◌≢◌, ℕ, ◌/◌, List, [], Option, Some, None, IfNone, IfSome, IsSome, true, false, refl, sym, ap, subst, arith}
+use Rattle.std.proofs.Common.{◌≡◌, ◌≢◌, ◌∙◌, ℕ, zero, suc, ◌/◌, List, [], All, IfOk, Result, Ok, Err, Option, Some, None, IfNone, IfSome, IsSome, true, false, refl, sym, ap, subst, arith}
+use Rattle.std.specs.Prelude.{◌==◌, if◌then◌else◌}
+use Rattle.std.proofs.lemmas.Bool.Decides.{nat_tests}
+use Rattle.std.proofs.lemmas.List.Elements.{All-nil, All-weaker}
+use Rattle.std.specs.Global.{Vec}
 use Rattle.std.specs.List.Sorted.{IsStrictlySortedBy}
 use Rattle.dirs.specs.Directory.{AreDirectoryBlocks}
-use Rattle.dirs.specs.Listings.{IsListingOfNames}
+use Rattle.dirs.specs.Listings.{AreInOrder, IsListingOfNames, IsNumberedListing}
+use Rattle.dirs.specs.declared.directory.NumberedName.{NumberedName}
+use Rattle.buffers.specs.declared.error.BlockError.{BlockError}
+use Rattle.entries.specs.Entries.{IsObjectNumber}
 use Rattle.layout.specs.DirectoryNames.{NameMap, HoldNames}
 use Rattle.layout.specs.declared.kind.Kind.{Kind}
 use Rattle.layout.specs.declared.kind.Kind.TheVariants as kinds
@@ -17,8 +24,12 @@ use Rattle.images.specs.Soundness.{Detail}
 use Rattle.inofile.specs.Settled.{content_of_object}
 use Rattle.inofile.proofs.DetailLaws.{HasSizeOf, by_size, directory_readable}
 use Rattle.model.specs.Paths.{Name}
-use Rattle.model.specs.Volumes.{Node, directory_node, names_in}
-use Rattle.paths.specs.Steps.{found_as, found_in, text_in}
+use Rattle.model.specs.declared.attributes.Attributes.{Attributes}
+use Rattle.model.specs.Volumes.{Node, directory_node, file_node, names_in}
+use Rattle.paths.specs.Listed.{IsListedWithin}
+use Rattle.paths.specs.Numbers.{IsInodeNumber}
+use Rattle.paths.specs.Steps.{found_as, found_in, placed_in, text_in}
+use Rattle.paths.specs.declared.lookup.Found.TheVariants as found
 
 module _ {detail : Detail} (disk : ℕ → List ℕ) (inodes : ℕ) (settled : Inode) (o : Object) (node : Option Node) (object : IsObjectIn detail disk inodes settled o node) where
   -- it stands for what its kind says
@@ -108,3 +119,40 @@ nothing_listed names none = record {
   sorted = tt;
   whole = λ x. (λ is. absurd (omega (arith, is.1)), λ is. let some : false ≡ true = subst IsSome (none x) is in absurd cc);
 }
+
+pub none_numbered : (names : NameMap) → ((x : Name) → names x ≡ None) → IsNumberedListing names []
+none_numbered names none = record {
+  listing = nothing_listed names none;
+  numbers = All-nil (λ (n : NumberedName). names n.name.items ≡ Some n.number);
+}
+
+-- what is listed with numbers, whatever memory stands for
+pub none_within : (inodes : ℕ) → IsListedWithin inodes []
+unfolding IsStrictlySortedBy
+none_within inodes = record { ordered = tt; numbers = All-nil (λ (n : NumberedName). IsInodeNumber inodes n.number) }
+
+pub listed_within : (inodes : ℕ) (r : Result (Vec NumberedName) BlockError) → IfOk r (λ l. AreInOrder l.items) → IfOk r (λ l. All (λ n. IsObjectNumber inodes n.number) l.items)
+    → IfOk r (λ l. IsListedWithin inodes l.items)
+listed_within inodes (Ok listed) ordered ordinary = record {
+  ordered = ordered;
+  numbers = All-weaker (λ (n : NumberedName). IsObjectNumber inodes n.number) (λ (n : NumberedName). IsInodeNumber inodes n.number) (λ n is. (omega (arith, is.0), is.1)) listed.items ordinary;
+}
+listed_within inodes (Err e) ordered ordinary = tt
+
+-- a file without names doesn't stand at a path
+named_file : (attributes : Attributes) (links : ℕ) (bytes : List ℕ) → placed_in (Some (file_node attributes links bytes)) ≡ (if links == 0 then found.Nothing else found.File)
+named_file attributes zero bytes = grind (arith, nat_tests)
+named_file attributes (suc links) bytes = grind (arith, nat_tests)
+
+pub placed_file : (inodes : ℕ) (c : Content) (node : Option Node) → HasSizeOf kinds.File inodes c node → placed_in node ≡ (if c.links == 0 then found.Nothing else found.File)
+placed_file inodes c node is = ap placed_in is.2 ∙ named_file c.attributes c.links _
+
+-- and what is no file does
+pub placed_other : (kind : Kind) (inodes : ℕ) (c : Content) (node : Option Node) → kind ≢ kinds.File → IsObjectKind kind → HasSizeOf kind inodes c node → found_as kind ≡ placed_in node
+placed_other kinds.Free inodes c node other kind is = absurd kind
+placed_other kinds.File inodes c node other kind is = absurd (other refl)
+placed_other kinds.Directory inodes c node other kind is = sym (ap placed_in is.2)
+placed_other kinds.Link inodes c node other kind is = sym (ap placed_in is.2)
+placed_other kinds.InodeFile inodes c node other kind is = absurd kind
+placed_other kinds.InodeMap inodes c node other kind is = absurd kind
+placed_other kinds.BlockMap inodes c node other kind is = absurd kind

@@ -11,7 +11,7 @@ use Rattle.model.specs.Volumes.{Volume}
 use Rattle.paths.specs.Ends.{EndsWell, IsAtName}
 use Rattle.paths.specs.Loads.{LooksUp}
 use Rattle.paths.specs.Places.{model_place_of, IsPlaceWithin}
-use Rattle.paths.specs.Resolves.{Resolves}
+use Rattle.paths.specs.Resolves.{ResolvesParts}
 use Rattle.paths.specs.declared.place.Place.{Place}
 use Rattle.paths.proofs.EndLaws.{ends_at_name, ends_well, found_directory}
 use Rattle.paths.proofs.Links.{leads}
@@ -21,7 +21,7 @@ abbrev pub IsLedTo : List Name → Bool → Volume → Place → Type 0
 IsLedTo path follow v p = model_place_of p ≡ find_within 8 v follow [] path
 
 pub resolves : {B : Type 0} {G : Ghosts B} {a b : B} {s t : InodeFile} {path : List Name} {follow : Bool} {r : Result Place BlockError} → ResolvesByNumbers
-    → LooksUp G a b s t (IsPlaceWithin s.geometry.inodes) (IsLedTo path follow) r → Resolves G a b s t path follow r
+    → LooksUp G a b s t (IsPlaceWithin s.geometry.inodes) (IsLedTo path follow) r → ResolvesParts G a b s t path follow r
 resolves {s = s} {path = path} {follow = follow} {r = r} law up = record {
   looks = up.looks;
   loads = up.loads;

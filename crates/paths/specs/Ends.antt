@@ -1,8 +1,8 @@
 -- What stands where a walk along a path ends.
-use Rattle.std.specs.Prelude.{◌≡◌, ◌≢◌, Bool, false, IsTrue, List, [], ◌∷◌}
+use Rattle.std.specs.Prelude.{◌≡◌, ◌≢◌, Bool, false, IsTrue, List, [], ◌∷◌, Some, None}
 use Rattle.model.specs.Finding.{Place, at_directory, at_entry, at_missing, at_refusal, here}
 use Rattle.model.specs.Paths.{Name, is_dot, is_dot_dot}
-use Rattle.model.specs.Volumes.{Volume}
+use Rattle.model.specs.Volumes.{Volume, entries}
 use Rattle.paths.specs.Steps.{found_in}
 use Rattle.paths.specs.declared.lookup.Found.TheVariants as found
 
@@ -26,3 +26,10 @@ IsAtName (at_directory trail) = ⊥
 IsAtName (at_entry trail x n) = Unit {0}
 IsAtName (at_missing trail x) = Unit {0}
 IsAtName (at_refusal errno) = Unit {0}
+
+-- the directory at the end of the trail has this number at the name, or nothing
+abbrev pub TellsName : Volume → Place → Type 0
+TellsName v (at_directory trail) = Unit {0}
+TellsName v (at_entry trail x n) = entries v (here trail) x ≡ Some n
+TellsName v (at_missing trail x) = entries v (here trail) x ≡ None
+TellsName v (at_refusal errno) = Unit {0}

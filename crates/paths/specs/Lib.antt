@@ -1,10 +1,13 @@
 pub mod Numbers
 pub mod Refusals
 pub mod Standing
+pub mod Listed
 pub mod Loads
 pub mod Places
 pub mod Steps
 pub mod Halts
 pub mod Following
 pub mod Ends
+pub mod Targets
+pub mod Starts
 pub mod Resolves

@@ -6,7 +6,7 @@ use Rattle.model.specs.declared.errno.Errno.TheVariants.{ENOENT, ENOTDIR, ENAMET
 use Rattle.model.specs.Finding as model
 use Rattle.model.specs.Finding.{find_along, halts, halts_at_link, at_entry, at_missing, at_refusal}
 use Rattle.model.specs.Paths.{Name, is_empty}
-use Rattle.model.specs.Volumes.{Node, directory_node, file_node, link_node, Volume}
+use Rattle.model.specs.Volumes.{Node, directory_node, file_node, link_node, Volume, is_placed_node}
 use Rattle.paths.specs.Numbers.{IsInodeNumber}
 use Rattle.paths.specs.Refusals.{is_walk_refusal}
 use Rattle.paths.specs.declared.lookup.Found.{Found}
@@ -20,6 +20,10 @@ found_in None = found.Nothing
 found_in (Some (directory_node attributes names)) = found.Directory
 found_in (Some (file_node attributes links bytes)) = found.File
 found_in (Some (link_node attributes text)) = found.Link
+
+-- what kind of object it is that stands at a path, as an orphan doesn't
+abbrev pub placed_in : Option Node → Found
+placed_in o = if is_placed_node o then found_in o else found.Nothing
 
 -- what an object of this kind is
 abbrev pub found_as : Kind → Found

@@ -13,8 +13,8 @@ mod trail;
 mod walk;
 
 pub use loading::{load, object};
-pub use lookup::{Found, list, number_at, object_at, text_at};
-pub use place::Place;
-pub use resolution::resolve;
+pub use lookup::{Found, list, list_numbered, number_at, object_at, text_at};
+pub use place::{Place, Target};
+pub use resolution::{resolve, resolve_place};
 pub use text::{Parts, refusal_of_new_text, refusal_of_text};
 pub use trail::Trail;

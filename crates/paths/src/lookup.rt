@@ -4,7 +4,7 @@ ghost use Rattle.std.specs.Prelude.{◌≡◌, ℕ, List, Option, Some, IfOk, If
 ghost use Rattle.buffers.specs.Reads.{ReadsBlocks};
 ghost use Rattle.buffers.specs.Errors.{IsFault};
 ghost use Rattle.blocktree.specs.Trees.{IsSoundAt};
-ghost use Rattle.dirs.specs.Listings.{IsListingOfNames};
+ghost use Rattle.dirs.specs.Listings.{IsListingOfNames, IsNumberedListing};
 ghost use Rattle.entries.specs.Entries.{IsObjectNumber};
 ghost use Rattle.images.specs.Soundness.{Detail};
 ghost use Rattle.inode.specs.declared.object.Object.{Object};
@@ -13,12 +13,14 @@ ghost use Rattle.layout.specs.declared.inode.Inode.{Inode};
 ghost use Rattle.layout.specs.declared.kind.Kind.TheVariants as kinds;
 ghost use Rattle.inode.specs.Files.{bytes_of_file};
 ghost use Rattle.model.specs.Volumes.{Node, entries, names_in};
+ghost use Rattle.paths.specs.Listed.{IsListedWithin};
 ghost use Rattle.paths.specs.Loads.{IsAny, LooksInto, LooksUp};
 ghost use Rattle.paths.specs.Numbers.{IsInodeNumber};
-ghost use Rattle.paths.specs.Steps.{found_as, found_in, text_in};
+ghost use Rattle.paths.specs.Steps.{found_as, found_in, placed_in, text_in};
 
 use crate::loading::{load, object};
 use buffers::{BlockError, Blocks};
+use dirs::NumberedName;
 use inode::{File, Object};
 use inofile::{InodeFile, objects_stand_in_their_grammar};
 use layout::{InodeNumber, Kind};
@@ -49,6 +51,27 @@ pub fn object_at<B: Blocks>(
     let Some(object) = object(inodes, number) else {
         return Ok(Found::Nothing);
     };
+    Ok(found_by(object.status.kind))
+}
+
+/// What stands at a number, and at a path: an orphan doesn't.
+pub(crate) fn placed_at<B: Blocks>(
+    alloc: Global,
+    inodes: &mut InodeFile,
+    blocks: &mut B,
+    number: InodeNumber,
+) -> Result<Found, BlockError>
+    requires { IsInodeNumber inodes.old.geometry.inodes number }
+    ensures { LooksInto B.Blocks blocks.old blocks.new inodes.old inodes.new IsAny
+        (λ v found. found ≡ placed_in (v number)) result }
+{
+    load(alloc, inodes, blocks, number)?;
+    let Some(object) = object(inodes, number) else {
+        return Ok(Found::Nothing);
+    };
+    if object.status.kind == Kind::File && object.status.links == 0 {
+        return Ok(Found::Nothing);
+    }
     Ok(found_by(object.status.kind))
 }
 
@@ -151,6 +174,31 @@ pub fn list<B: Blocks>(
     }
     objects_stand_in_their_grammar();
     dirs::list(alloc, &object.file, blocks, count)
+}
+
+/// The names of a directory, sorted by their bytes, each with the number that it stands for; none
+/// where it is no directory.
+pub fn list_numbered<B: Blocks>(
+    alloc: Global,
+    inodes: &mut InodeFile,
+    blocks: &mut B,
+    directory: InodeNumber,
+) -> Result<Vec<NumberedName>, BlockError>
+    requires { IsInodeNumber inodes.old.geometry.inodes directory }
+    ensures { LooksInto B.Blocks blocks.old blocks.new inodes.old inodes.new
+        (λ listed. IsListedWithin inodes.old.geometry.inodes listed.items)
+        (λ v listed. IsNumberedListing (entries v directory) listed.items) result }
+{
+    load(alloc, inodes, blocks, directory)?;
+    let count = inodes.geometry().inodes();
+    let Some(object) = object(inodes, directory) else {
+        return Ok(Vec::new(alloc));
+    };
+    if object.status.kind != Kind::Directory {
+        return Ok(Vec::new(alloc));
+    }
+    objects_stand_in_their_grammar();
+    dirs::list_numbered(alloc, &object.file, blocks, count)
 }
 
 /// The text of a link; none where it is no link.

@@ -23,3 +23,12 @@ pub enum Place {
     /// Nowhere.
     Refusal(Errno),
 }
+
+/// Where the text of a path leads, from the root or from an object's number.
+#[derive(Debug, Drop)]
+pub enum Target {
+    /// To where parts lead: from the root, or from the directory with the number.
+    Place(Place),
+    /// To the object with this number, which is no directory, by its number alone.
+    Object(InodeNumber),
+}

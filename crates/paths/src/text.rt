@@ -1,9 +1,9 @@
 //! The text of a path: its parts, and why it is refused.
 
-ghost use Rattle.std.specs.Prelude.{◌≡◌, ◌∷◌, ◌++◌, ◌==◌, ◌||◌, List, map, IfOk, IfSome, IfNone, []};
+ghost use Rattle.std.specs.Prelude.{◌≡◌, ◌∷◌, ◌++◌, ◌==◌, ◌||◌, List, drop, map, not, IfOk, IfSome, IfNone, []};
 ghost use Rattle.std.specs.List.{list_any};
 ghost use Rattle.paths.specs.Places.{last_of};
-ghost use Rattle.model.specs.Paths.{parts as parts_of, is_empty, is_dot, is_dot_dot, is_too_long, first_refusal, text_tests, new_text_tests, starts_with_slash as slashes};
+ghost use Rattle.model.specs.Paths.{parts as parts_of, is_empty, is_dot, is_dot_dot, is_too_long, first_refusal, is_digit, is_number_alone, is_numeral, last_part, number_named, start_number, text_tests, new_text_tests, starts_with_slash as slashes};
 
 use model::{Errno, NAME_BYTES, PATH_BYTES};
 use std::alloc::{AllocError, Global};
@@ -58,6 +58,52 @@ impl Parts {
         self.parts.iter().any(|part| part.len() > NAME_BYTES)
     }
 
+    // Whether one is `..`.
+    fn has_parent(&self) -> bool
+        ensures { result ≡ list_any is_dot_dot self.now }
+    {
+        self.parts.iter().any(|part| part.as_slice() == PARENT)
+    }
+
+    // Whether a text with these parts is a number alone.
+    fn is_number_alone(&self, text: &[u8]) -> bool
+        requires { self.now ≡ parts_of text.now }
+        ensures { result ≡ is_number_alone text.now }
+    {
+        self.start(text).is_some() && self.is_single()
+    }
+
+    // Whether a text with these parts ends in no name that a directory could have.
+    fn is_nameless(&self, text: &[u8]) -> bool
+        requires { self.now ≡ parts_of text.now }
+        ensures { result ≡ (is_dot (last_part text.now) || is_dot_dot (last_part text.now)
+            || is_number_alone text.now) }
+    {
+        self.ends_in_directory() || self.is_number_alone(text)
+    }
+
+    // Whether there is just one, or none.
+    fn is_single(&self) -> bool
+        ensures { result ≡ is_empty (drop 1 self.now) }
+    {
+        self.parts.len() <= 1
+    }
+
+    /// The number of the object that a text with these parts begins at; None where it begins with a
+    /// slash, or with no number.
+    pub(crate) fn start(&self, text: &[u8]) -> Option<u32>
+        requires { self.now ≡ parts_of text.now }
+        ensures { result ≡ start_number text.now }
+    {
+        if starts_with_slash(text) {
+            return None;
+        }
+        match self.parts.front() {
+            Some(part) => number_named(part),
+            None => None,
+        }
+    }
+
     // Whether the last one is `.` or `..`.
     fn ends_in_directory(&self) -> bool
         ensures { result ≡ (is_dot (last_of self.now) || is_dot_dot (last_of self.now)) }
@@ -102,6 +148,37 @@ pub(crate) fn starts_with_slash(text: &[u8]) -> bool
     !text.is_empty() && text[0] == b'/'
 }
 
+// The number that a part names by `@` and its decimal digits, if it has 32 bits.
+fn number_named(part: &[u8]) -> Option<u32>
+    ensures { result ≡ number_named part.now }
+{
+    if part.is_empty() || part[0] != b'@' {
+        return None;
+    }
+    let digits = &part[1..];
+    if !is_numeral(digits) {
+        return None;
+    }
+    let Ok(text) = std::str::from_utf8(digits) else {
+        return None;
+    };
+    text.parse::<u32>().ok()
+}
+
+// Whether these are decimal digits as numbers are written.
+fn is_numeral(digits: &[u8]) -> bool
+    ensures { result ≡ is_numeral digits.now }
+{
+    !digits.is_empty() && !has_other(digits) && (digits.len() == 1 || digits[0] != b'0')
+}
+
+// Whether a byte is no decimal digit.
+fn has_other(digits: &[u8]) -> bool
+    ensures { result ≡ list_any (λ byte. not (is_digit byte)) digits.now }
+{
+    digits.iter().any(|byte| *byte < b'0' || *byte > b'9')
+}
+
 fn has_zero(text: &[u8]) -> bool
     ensures { result ≡ list_any (λ byte. byte == 0) text.now }
 {
@@ -119,12 +196,14 @@ pub fn refusal_of_text(text: &[u8], parts: &Parts) -> Option<Errno>
         Some(Errno::EINVAL)
     } else if text.len() > PATH_BYTES {
         Some(Errno::ENAMETOOLONG)
-    } else if text[0] != b'/' {
+    } else if text[0] != b'/' && parts.start(text).is_none() {
         Some(Errno::EINVAL)
     } else if text[text.len() - 1] == b'/' && text.len() > 1 {
         Some(Errno::EINVAL)
     } else if parts.has_long() {
         Some(Errno::ENAMETOOLONG)
+    } else if parts.start(text).is_some() && parts.has_parent() {
+        Some(Errno::EINVAL)
     } else {
         None
     }
@@ -135,11 +214,8 @@ pub fn refusal_of_new_text(text: &[u8], parts: &Parts) -> Option<Errno>
     requires { parts.now ≡ parts_of text.now }
     ensures { result ≡ first_refusal (new_text_tests text.now) }
 {
-    if let Some(errno) = refusal_of_text(text, parts) {
-        return Some(errno);
+    match refusal_of_text(text, parts) {
+        Some(errno) => Some(errno),
+        None => parts.is_nameless(text).then_some(Errno::EINVAL),
     }
-    if parts.ends_in_directory() {
-        return Some(Errno::EINVAL);
-    }
-    None
 }

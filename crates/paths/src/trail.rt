@@ -1,8 +1,8 @@
 //! The directories that a walk came through.
 
-ghost use Rattle.std.specs.Prelude.{◌≡◌, ◌-◌, ◌++◌, ◌∷◌, ◌↔◌, [], List, ℕ, IsTrue, length, take, OnOk, OnErr};
+ghost use Rattle.std.specs.Prelude.{◌≡◌, ◌-◌, ◌++◌, ◌∷◌, ◌↔◌, [], List, ℕ, IsTrue, length, take, IfOk, OnOk, OnErr};
 ghost use Rattle.std.specs.List.{Contains};
-ghost use Rattle.model.specs.Finding.{here};
+ghost use Rattle.model.specs.Finding.{here, trail_from};
 
 use layout::InodeNumber;
 use model::ROOT_NUMBER;
@@ -30,6 +30,15 @@ impl Trail {
         Trail {
             numbers: Vec::new(alloc),
         }
+    }
+
+    /// The trail of a walk that begins at a directory's number.
+    pub(crate) fn from(alloc: Global, number: InodeNumber) -> Result<Trail, AllocError>
+        ensures { IfOk result (λ trail. trail ≡ trail_from number) }
+    {
+        let mut trail = Trail::root(alloc);
+        trail.enter(number)?;
+        Ok(trail)
     }
 
     /// Whether a directory is one of them.

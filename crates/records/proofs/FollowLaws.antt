@@ -7,6 +7,7 @@ use Rattle.layout.specs.FileBytes.{byte_in}
 use Rattle.layout.specs.declared.inode.Inode.{Inode}
 use Rattle.model.specs.Records.{Change, applied}
 use Rattle.model.specs.Trees.{Description}
+use Rattle.model.specs.declared.limits.TheConstants.{OPEN_FILES}
 use Rattle.model.specs.Volumes.{Node, directory_node, file_node, link_node, Volume, IsMounted, is_file_node, is_open, swept, swept_node, with_node}
 use Rattle.model.proofs.SweepLemmas.{opened_by, stays_open}
 use Rattle.inode.specs.declared.object.Object.{Object}
@@ -89,19 +90,19 @@ module _ (n size links : ℕ) where
 -- ---- the table beside what no descriptor is open for
 
 -- a table that fits a volume fits it with another object too that isn't open
-pub closed_fits : (t : Descriptors) (n : ℕ) (node : Option Node) (v : Volume) → is_open (table_of t) 32 n ≡ false → FitsVolume t v → FitsVolume t (with_node n node v)
+pub closed_fits : (t : Descriptors) (n : ℕ) (node : Option Node) (v : Volume) → is_open (table_of t) OPEN_FILES n ≡ false → FitsVolume t v → FitsVolume t (with_node n node v)
 closed_fits t n node v closed fits = fits_same t v (with_node n node v) fits (λ k opened. ap node_figures (node_other n k node v (λ e. apart k opened e)))
   where
     both : (b : Bool) → b ≡ true → b ≡ false → ⊥
     both b is not = cc
 
-    apart : (k : ℕ) → is_open (table_of t) 32 k ≡ true → k ≡ n → ⊥
-    apart k opened e = both (is_open (table_of t) 32 n) (ap (is_open (table_of t) 32) (sym e) ∙ opened) closed
+    apart : (k : ℕ) → is_open (table_of t) OPEN_FILES k ≡ true → k ≡ n → ⊥
+    apart k opened e = both (is_open (table_of t) OPEN_FILES n) (ap (is_open (table_of t) OPEN_FILES) (sym e) ∙ opened) closed
 
 -- what a descriptor is open for is a file
-pub opened_file : (table : ℕ → Option Description) (v : Volume) (n : ℕ) → OpensFiles table v → is_open table 32 n ≡ true → IsTrue (is_file_node (v n))
+pub opened_file : (table : ℕ → Option Description) (v : Volume) (n : ℕ) → OpensFiles table v → is_open table OPEN_FILES n ≡ true → IsTrue (is_file_node (v n))
 opened_file table v n opens is =
-    let (d, f, there, same) = opened_by table 32 n is in
+    let (d, f, there, same) = opened_by table OPEN_FILES n is in
     subst (λ (k : ℕ). IsTrue (is_file_node (v k))) same (opens d f there)
 
 -- ---- the whole change
@@ -114,7 +115,7 @@ file_before b (Some (link_node attributes text)) is = is
 
 -- what is swept has its open files already
 pub swept_opens : (table : ℕ → Option Description) (w : Volume) → IsMounted (swept table w) table → OpensFiles table w
-swept_opens table w mounted = λ d f e. file_before (is_open table 32 f.number) (w f.number) (mounted.files d f e)
+swept_opens table w mounted = λ d f e. file_before (is_open table OPEN_FILES f.number) (w f.number) (mounted.files d f e)
 
 module _ (disk : ℕ → List ℕ) (settled : ℕ → Inode) (s : InodeFile) (v : Volume) (p : Prepared) (change : Change) (does : Does disk settled s v p change) (t : Descriptors) where
   abbrev table : ℕ → Option Description
@@ -130,19 +131,19 @@ module _ (disk : ℕ → List ℕ) (settled : ℕ → Inode) (s : InodeFile) (v 
   two = without_file table (number_of p.next) one
 
   -- what is open stays where a file goes that has neither name nor descriptor
-  open_stays : (x : Volume) (n : Option ℕ) (k : ℕ) → is_open table 32 k ≡ true → without_file table n x k ≡ x k
+  open_stays : (x : Volume) (n : Option ℕ) (k : ℕ) → is_open table OPEN_FILES k ≡ true → without_file table n x k ≡ x k
   open_stays x None k opened = refl
   open_stays x (Some n) k opened = elim (cases_eq k n) [
     | inl here ↦
-        node_here n k (swept_node (is_open table 32 n) (x n)) x here ∙ ap (λ (j : ℕ). swept_node (is_open table 32 j) (x j)) (sym here)
+        node_here n k (swept_node (is_open table OPEN_FILES n) (x n)) x here ∙ ap (λ (j : ℕ). swept_node (is_open table OPEN_FILES j) (x j)) (sym here)
         ∙ ap (λ (b : Bool). swept_node b (x k)) opened ∙ stays_open (x k)
-    | inr other ↦ node_other n k (swept_node (is_open table 32 n) (x n)) x other
+    | inr other ↦ node_other n k (swept_node (is_open table OPEN_FILES n) (x n)) x other
   ]
 
-  open_number : (d : ℕ) (f : Description) → table d ≡ Some f → is_open table 32 f.number ≡ true
+  open_number : (d : ℕ) (f : Description) → table d ≡ Some f → is_open table OPEN_FILES f.number ≡ true
   open_number d f e =
       let (g, some, is) = mapped description_of (open_at t d) f e in
-      ap (λ (h : Description). is_open table 32 h.number) (sym is) ∙ is_opened t d g some
+      ap (λ (h : Description). is_open table OPEN_FILES h.number) (sym is) ∙ is_opened t d g some
 
   -- so its files are files still
   pub still_files : (x : Volume) (n : Option ℕ) → OpensFiles table x → OpensFiles table (without_file table n x)
@@ -165,7 +166,7 @@ module _ (disk : ℕ → List ℕ) (settled : ℕ → Inode) (s : InodeFile) (v 
   abbrev all_taken : Volume
   all_taken = with_object_of two (number_of p.last) next_taken
 
-  taken_is : (k : ℕ) → is_open table 32 k ≡ true → all_taken k ≡ w k
+  taken_is : (k : ℕ) → is_open table OPEN_FILES k ≡ true → all_taken k ≡ w k
   taken_is k opened =
       let one_is : one k ≡ w k = open_stays w (Some p.first.number) k opened in
       let two_is : two k ≡ w k = open_stays one (number_of p.next) k opened ∙ one_is in
@@ -188,5 +189,5 @@ module _ (disk : ℕ → List ℕ) (settled : ℕ → Inode) (s : InodeFile) (v 
       (subst (λ (n : Option ℕ). FitsVolume new (with_object_of two n next_taken)) is_last
       (subst (λ (n : Option ℕ). FitsVolume new (with_object_of (without_file table n one) last (with_object_of one n first_taken))) is_next fits))
       (λ k opened.
-      let is : is_open table 32 k ≡ true = ap (λ (t : ℕ → Option Description). is_open t 32 k) (sym is_table) ∙ opened in
+      let is : is_open table OPEN_FILES k ≡ true = ap (λ (t : ℕ → Option Description). is_open t OPEN_FILES k) (sym is_table) ∙ opened in
       ap node_figures (ap (λ (b : Bool). swept_node b (w k)) is ∙ stays_open (w k) ∙ sym (taken_is k is)))

@@ -6,6 +6,7 @@ use Rattle.std.proofs.lemmas.Bool.{cases_eq}
 use Rattle.layout.specs.declared.inode.Inode.{Inode}
 use Rattle.model.specs.Records.{Change, applied}
 use Rattle.model.specs.Trees.{Description}
+use Rattle.model.specs.declared.limits.TheConstants.{OPEN_FILES}
 use Rattle.model.specs.Volumes.{Node, directory_node, file_node, link_node, Volume, IsMounted, is_orphan, is_open, swept, swept_node, with_node}
 use Rattle.model.proofs.RecordLemmas.{swept_twice}
 use Rattle.model.proofs.SweepLemmas.{stays_open}
@@ -64,11 +65,11 @@ number_of step = option_map (λ (step : ObjectUpdate). step.number) step
 
 module _ (table : ℕ → Option Description) where
   -- what is open stays
-  pub open_stays : (n : ℕ) (v : Volume) → is_open table 32 n ≡ true → v ≡ without_file table (Some n) v
-  open_stays n v is = node_same n (swept_node (is_open table 32 n) (v n)) v (sym (ap (λ (b : Bool). swept_node b (v n)) is ∙ stays_open (v n)))
+  pub open_stays : (n : ℕ) (v : Volume) → is_open table OPEN_FILES n ≡ true → v ≡ without_file table (Some n) v
+  open_stays n v is = node_same n (swept_node (is_open table OPEN_FILES n) (v n)) v (sym (ap (λ (b : Bool). swept_node b (v n)) is ∙ stays_open (v n)))
 
   -- what isn't open goes where it has no name
-  pub closed_goes : (n : ℕ) (v : Volume) → is_open table 32 n ≡ false → with_node n (swept_node false (v n)) v ≡ without_file table (Some n) v
+  pub closed_goes : (n : ℕ) (v : Volume) → is_open table OPEN_FILES n ≡ false → with_node n (swept_node false (v n)) v ≡ without_file table (Some n) v
   closed_goes n v is = ap (λ (b : Bool). with_node n (swept_node b (v n)) v) (sym is)
 
   -- an object of a volume is as before, or swept
@@ -77,7 +78,7 @@ module _ (table : ℕ → Option Description) where
 
   module _ (w x : Volume) (n k : ℕ) where
     abbrev sweeps : ℕ → Option Node → Option Node
-    sweeps j o = swept_node (is_open table 32 j) o
+    sweeps j o = swept_node (is_open table OPEN_FILES j) o
 
     abbrev after : Volume
     after = without_file table (Some n) x
@@ -87,7 +88,7 @@ module _ (table : ℕ → Option Description) where
 
     stays_done : x k ≡ swept table w k → after k ≡ swept table w k
     stays_done is = elim (cases_eq k n) [
-      | inl here ↦ at_number here ∙ ap (sweeps k) is ∙ swept_twice (is_open table 32 k) (w k)
+      | inl here ↦ at_number here ∙ ap (sweeps k) is ∙ swept_twice (is_open table OPEN_FILES k) (w k)
       | inr other ↦ node_other n k (sweeps n (x n)) x other ∙ is
     ]
 
@@ -143,7 +144,7 @@ module _ (disk : ℕ → List ℕ) (settled : ℕ → Inode) (s : InodeFile) (v 
     untouched : (k : ℕ) → IsBeside k (Some p.first) → IsBeside k p.next → IsBeside k p.last → swept table w k ≡ w k
     untouched k first next last =
         let same = rest_stays k first next last in
-        ap (swept_node (is_open table 32 k)) same ∙ mounted.is_swept k ∙ sym same
+        ap (swept_node (is_open table OPEN_FILES k)) same ∙ mounted.is_swept k ∙ sym same
 
     by_half : (k : ℕ) → swept table w k ≡ w k → IsHalf table w three k → three k ≡ swept table w k
     by_half k stays (inl same) = same ∙ sym stays

@@ -32,5 +32,5 @@ pub use new_objects::{is_vacant, new_object};
 pub use orphans::{commit_swept, drop_orphan, is_orphan};
 pub use prepared::{Prepared, commit, prepare, prepare_new};
 pub use reading::read_bytes;
-pub use renaming::{is_directory_at, prepare_move};
+pub use renaming::{goes_below, is_directory_at, prepare_move};
 pub use rewriting::{truncate_bytes, write_bytes};

@@ -12,7 +12,7 @@ ghost use Rattle.inofile.specs.Inodes.{HasRoomFor, IsKnown};
 ghost use Rattle.inofile.specs.Room.{memory_room};
 ghost use Rattle.inofile.specs.Volumes.{IsVolumeIn, IsVolumeOf};
 ghost use Rattle.descriptors.specs.Fits.{FitsVolume};
-ghost use Rattle.descriptors.specs.Tables.{table_of};
+ghost use Rattle.descriptors.specs.Tables.{KeepsRoom, table_of};
 ghost use Rattle.records.specs.Opened.{HasNumbers};
 ghost use Rattle.records.specs.Prepared.{Does, IsReady};
 ghost use Rattle.records.specs.Steps.{IsAtHand};
@@ -31,6 +31,7 @@ pub fn commit_swept(inodes: &mut InodeFile, files: &mut Descriptors, prepared: P
     requires { IsReady inodes.old prepared }
     ensures geometry { inodes.new.geometry ≡ inodes.old.geometry }
     ensures opened { table_of files.new ≡ table_of files.old }
+    ensures kept { KeepsRoom files.old files.new }
     ensures numbers { (n : ℕ) → HasNumbers n files.old → HasNumbers n files.new }
     ensures volume { (count : ℕ) (disk : ℕ → List ℕ) (settled : ℕ → Inode) (v : Volume)
         (change : Change) → IsVolumeOf count disk settled inodes.old v
@@ -104,6 +105,7 @@ fn drop_or_note(inodes: &mut InodeFile, files: &mut Descriptors, number: Option<
     ensures stays { (n : ℕ) → IsKnown inodes.old n → IsKnown inodes.new n }
     ensures keeps { (n : ℕ) → HasRoomFor inodes.old n → HasRoomFor inodes.new n }
     ensures opened { table_of files.new ≡ table_of files.old }
+    ensures kept { KeepsRoom files.old files.new }
     ensures numbers { (n : ℕ) → HasNumbers n files.old → HasNumbers n files.new }
     ensures volume { (base : Volume) (count : ℕ) (disk : ℕ → List ℕ) (settled : ℕ → Inode)
         (v : Volume) → IsVolumeOf count disk settled inodes.old v
@@ -126,6 +128,7 @@ fn drop_or_note(inodes: &mut InodeFile, files: &mut Descriptors, number: Option<
 fn note_figures(inodes: &InodeFile, files: &mut Descriptors, number: InodeNumber)
     requires { IsKnown inodes.now number }
     ensures opened { table_of files.new ≡ table_of files.old }
+    ensures kept { KeepsRoom files.old files.new }
     ensures numbers { (n : ℕ) → HasNumbers n files.old → HasNumbers n files.new }
     ensures fits { (count : ℕ) (disk : ℕ → List ℕ) (settled : ℕ → Inode) (v w : Volume)
         → IsVolumeOf count disk settled inodes.now w → IsTrue (is_file_node (w number))

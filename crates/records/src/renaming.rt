@@ -73,9 +73,10 @@ pub(crate) fn prepare_rename<'n, B: Blocks>(
     )
 }
 
-// Whether what a directory has a name for would come below itself in another one. In the same one
-// it can't, so nothing is looked into then.
-fn goes_below<B: Blocks>(
+/// Whether what a directory has a name for would come below itself in another one. In the same one
+/// it can't, so nothing is looked into then; in another one all that lies below the object may be.
+/// NoMemory; Device where a read failed; Damaged where a block on the way is outside its format.
+pub fn goes_below<B: Blocks>(
     alloc: Global,
     inodes: &mut InodeFile,
     blocks: &mut B,

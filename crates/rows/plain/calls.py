@@ -4,6 +4,7 @@ Each has its tests in order, and then what it changes. It takes the system and i
 gives the reply; a refusal is raised.
 """
 
+import hashlib
 import re
 
 from model import refuse
@@ -14,6 +15,7 @@ GREATEST_FILE = 68719476736
 MOST_BYTES = 65536
 MOST_LINKS = 1000
 MOST_NAMES = 65536
+MOST_ENTRIES = 1024
 
 
 # Words and replies
@@ -37,16 +39,25 @@ def shown_data(data):
     return b'data ' + (data.hex() or '-').encode()
 
 
-def shown_stat(system, number):
-    """What `stat`, `lstat` and `fstat` tell."""
+def figures_of(system, number):
+    """Number, kind, mode, links and size of an object."""
     thing = system.volume[number]
     links, size = 1, 0
     if thing.kind == 'link':
         size = len(thing.text)
     if thing.kind == 'file':
         links, size = system.links(number), thing.size
-    form = b'stat number %d kind %s mode %04o links %d size %d'
-    return form % (number, thing.kind.encode(), thing.mode, links, size)
+    return number, thing.kind.encode(), thing.mode, links, size
+
+
+def shown_stat(system, number):
+    """What `stat`, `lstat` and `fstat` tell."""
+    return b'stat ' + shown_figures(system, number)
+
+
+def shown_figures(system, number):
+    """The same without its first word."""
+    return b'number %d kind %s mode %04o links %d size %d' % figures_of(system, number)
 
 
 # Calls that read by a path
@@ -74,6 +85,30 @@ def list_names(system, words):
     if thing.kind != 'dir':
         refuse('ENOTDIR')
     return b' '.join([b'names'] + [word_of(name) for name in sorted(thing.names)])
+
+
+def cookie_of(name):
+    """Which place a name has among those of a directory that is told in parts."""
+    return max(4, int.from_bytes(hashlib.md5(name).digest()[:8], 'big') // 4)
+
+
+def entries(system, words):
+    text, after, count = text_of(words[1]), int(words[2]), int(words[3])
+    test_text(text)
+    if after < 0 or count == 0 or count > MOST_ENTRIES:
+        refuse('EINVAL')
+    thing = system.volume[find(system, text, True).number]
+    if thing.kind != 'dir':
+        refuse('ENOTDIR')
+    behind = sorted((cookie_of(name), name) for name in thing.names if cookie_of(name) > after)
+    cookies = [cookie for cookie, _ in behind]
+    told = [(cookie, name) for cookie, name in behind if cookies.index(cookie) < count]
+    return b' '.join([b'entries'] + [shown_entry(system, cookie, name, thing.names[name]) for cookie, name in told])
+
+
+def shown_entry(system, cookie, name, number):
+    """A name as `entries` tells it."""
+    return b'%s %d %d %s %04o %d %d' % (word_of(name), cookie, *figures_of(system, number))
 
 
 def get(system, words):
@@ -188,6 +223,8 @@ def rename(system, words):
         refuse('EBUSY')
     source = find(system, old, False)
     target = resolve(system, new, False)
+    if target.number is not None and words[0] == b'renamenew':
+        refuse('EEXIST')
     if target.number == source.number:
         return b'ok'
     test_rename(system, source, target)

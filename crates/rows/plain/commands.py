@@ -3,7 +3,7 @@
 import random
 import string
 
-from calls import word_of
+from calls import cookie_of, word_of
 from model import ROOT
 
 NAMES = ['a', 'b', 'c', 'd', 'e']
@@ -27,6 +27,13 @@ CROWDED_WEIGHTS = dict(WEIGHTS, open=50, mkdir=30, symlink=12, rmdir=10, close=1
                        sync=2, unlink=1, rename=3)
 FULL_WEIGHTS = dict(WEIGHTS, open=12, write=40, pwrite=30, sync=8, close=2, unlink=3, truncate=1,
                     ftruncate=1)
+# What is asked beside these where paths begin at numbers.
+NUMBERED_WEIGHTS = {'openstat': 6, 'store': 7, 'renamenew': 5, 'entries': 6, 'statfs': 3, 'lstat': 5}
+# Behind what would be a number if it were written as numbers are, or behind one that nothing has.
+ODD_STARTS = ['@', '@03', '@-1', '@3x', '@4294967296', '@4294967295', '@0', '@1', '@2', '@31', '@1000000', 'at3']
+ODD_ENDS = ['/..', '/../a', '/a/..', '/.', '/./a', '//a', '/', '/%00', '/' + 'n' * 256, '/' + 'l' * 255, '/@3', '/@4/a']
+ENTRIES = [1, 1, 2, 3, 5, 1024]
+ODD_ENTRIES = [0, 1025, 4294967295]
 ON_DESCRIPTORS = ['close', 'read', 'write', 'pread', 'pwrite', 'lseek', 'ftruncate', 'fstat',
                   'fsync']
 
@@ -37,11 +44,13 @@ class Numbers(random.Random):
     Of three seeds one is for all commands alike, one for many names and open files, and one for
     many bytes, so that the log and the disk get full. Where there are to be snapshots, of six
     commands one is on them. Before a snapshot is restored all open files are closed; so what is
-    wanted then stands in `wanted` until none is open.
+    wanted then stands in `wanted` until none is open. Where paths are to begin at numbers, two of
+    five do.
     """
 
-    def __init__(self, seed, has_snapshots=False):
+    def __init__(self, seed, has_snapshots=False, has_numbers=False):
         super().__init__(seed)
+        self.has_numbers = has_numbers
         self.has_snapshots, self.wanted = has_snapshots, None
         self.names, self.weights, self.longest_run = NAMES, WEIGHTS, 90
         self.standing_part = 0.45
@@ -51,6 +60,8 @@ class Numbers(random.Random):
             self.longest_run, self.standing_part = 150, 0.2
         if self.is_full:
             self.weights = FULL_WEIGHTS
+        if has_numbers:
+            self.weights = {**self.weights, **NUMBERED_WEIGHTS}
 
 
 def standing_paths(system):
@@ -67,6 +78,8 @@ def standing_paths(system):
 
 def path(numbers, system):
     """A path: an odd one, one that leads to something, or any of few names."""
+    if numbers.has_numbers and numbers.random() < 0.4:
+        return path_at_number(numbers, system)
     chance = numbers.random()
     if chance < 0.06:
         return numbers.choice(ODD_PATHS)
@@ -74,6 +87,42 @@ def path(numbers, system):
         return numbers.choice(standing_paths(system))
     depth = numbers.choice([1, 1, 1, 1, 1, 1, 2, 2, 3])
     return '/' + '/'.join(numbers.choice(numbers.names) for _ in range(depth))
+
+
+def path_at_number(numbers, system):
+    """A path that begins at a number: mostly at one that something has, of an orphan too."""
+    standing = sorted(system.volume)
+    directories = [number for number in standing if system.volume[number].kind == 'dir']
+    start = '@%d' % numbers.choice(standing)
+    chance = numbers.random()
+    if chance < 0.06:
+        return numbers.choice(ODD_STARTS) + numbers.choice(['', '', '/a', '/..'])
+    if chance < 0.12:
+        return start + numbers.choice(ODD_ENDS)
+    if chance < 0.4:
+        return start
+    if chance < 0.85:
+        start = '@%d' % numbers.choice(directories)
+    depth = numbers.choice([1, 1, 1, 1, 2, 3])
+    return '/'.join([start] + [numbers.choice(numbers.names) for _ in range(depth)])
+
+
+def path_of_file(numbers, system):
+    """A path: mostly the number of a file."""
+    files = sorted(number for number, thing in system.volume.items() if thing.kind == 'file')
+    if files and numbers.random() < 0.6:
+        return '@%d' % numbers.choice(files)
+    return path(numbers, system)
+
+
+def part(numbers, system):
+    """Behind which cookie names are asked for, and how many: mostly behind one that a name has."""
+    names = [name for thing in system.volume.values() if thing.kind == 'dir' for name in thing.names]
+    cookies = [0, 0, 3, 4] + [cookie_of(name) for name in sorted(names)]
+    after = numbers.choice(cookies) + numbers.choice([0, 0, 0, -1, 1])
+    if numbers.random() < 0.05:
+        after = numbers.choice([-1, -2 ** 63, 2 ** 62, 2 ** 63 - 1])
+    return '%d %d' % (after, numbers.choice(ODD_ENTRIES if numbers.random() < 0.05 else ENTRIES))
 
 
 def size(numbers):
@@ -123,13 +172,19 @@ def mode(numbers, default):
 
 def on_path(numbers, system, name):
     """A command that goes by a path."""
-    if name == 'open':
-        return 'open %s %s%s' % (path(numbers, system), flags(numbers), mode(numbers, 0o644))
+    if name in ('open', 'openstat'):
+        return '%s %s %s%s' % (name, path(numbers, system), flags(numbers), mode(numbers, 0o644))
+    if name == 'store':
+        return 'store %s %d %s' % (path_of_file(numbers, system), size(numbers), data(numbers))
+    if name == 'entries':
+        return 'entries %s %s' % (path(numbers, system), part(numbers, system))
     if name == 'get':
         return 'get %s %d %d' % (path(numbers, system), size(numbers), numbers.choice(COUNTS))
     if name == 'mkdir':
         return 'mkdir %s%s' % (path(numbers, system), mode(numbers, 0o755))
-    if name in ('link', 'rename'):
+    if name == 'renamenew' and numbers.random() < 0.6:
+        return 'renamenew %s %s' % (numbers.choice(standing_paths(system)), path(numbers, system))
+    if name in ('link', 'rename', 'renamenew'):
         return '%s %s %s' % (name, path(numbers, system), path(numbers, system))
     if name == 'symlink':
         return 'symlink %s %s' % (numbers.choice(TEXTS), path(numbers, system))
@@ -193,7 +248,8 @@ def on_snapshots(numbers, system):
     for kept in system.snapshots:
         if kept.name == name.encode():
             view.volume = kept.volume
-    call = numbers.choice(['list', 'stat', 'lstat', 'readlink', 'get', 'get', 'get', 'mkdir', 'truncate'])
+    calls = ['list', 'stat', 'lstat', 'readlink', 'get', 'get', 'get', 'mkdir', 'truncate']
+    call = numbers.choice(calls + ['entries', 'entries', 'store'] if numbers.has_numbers else calls)
     return 'in %s %s' % (name, on_path(numbers, view, call))
 
 
@@ -222,7 +278,7 @@ def command(numbers, system):
     if numbers.has_snapshots and numbers.random() < 1 / 6:
         return on_snapshots(numbers, system)
     name = numbers.choices(list(numbers.weights), list(numbers.weights.values()))[0]
-    if name in ('sync', 'df'):
+    if name in ('sync', 'df', 'statfs'):
         return name
     if name not in ON_DESCRIPTORS:
         return on_path(numbers, system, name)

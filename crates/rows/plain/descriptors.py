@@ -1,12 +1,12 @@
-"""The commands of the plain model that go by a descriptor, and `open`."""
+"""The commands of the plain model that put bytes or go by a descriptor, and `open`."""
 
 import re
 
-from calls import GREATEST_FILE, MOST_BYTES, create, resize, shown_data, shown_stat
-from calls import test_size, text_of
+from calls import GREATEST_FILE, MOST_BYTES, create, resize, shown_data, shown_figures
+from calls import shown_stat, test_size, text_of
 from model import refuse
 from objects import BLOCK, File
-from paths import resolve, test_text
+from paths import find, resolve, test_text
 
 LAST_OFFSET = 2 ** 63 - 1
 # A file up to this size has one row of indirect blocks at the most.
@@ -53,6 +53,8 @@ def open_file(system, words):
         resize(system, number, 0)
     descriptor = system.descriptors.index(None)
     system.descriptors[descriptor] = Opened(number, 'r' in access, 'w' in access, appends == 'a')
+    if words[0] == b'openstat':
+        return b'opened fd %d %s' % (descriptor, shown_figures(system, number))
     return b'fd %d' % descriptor
 
 
@@ -97,7 +99,7 @@ def read(system, words):
 
 def write(system, words):
     descriptor, opened = opened_of(system, words[1])
-    data = bytes.fromhex('' if words[-1] == b'-' else words[-1].decode())
+    data = data_of(words[-1])
     is_placed = words[0] == b'pwrite'
     end = system.volume[opened.number].size
     offset = int(words[2]) if is_placed else end if opened.appends else opened.offset
@@ -109,6 +111,24 @@ def write(system, words):
         put(system, opened.number, offset, data)
     if data and not is_placed:
         system.descriptors[descriptor] = opened.moved(offset + len(data))
+    return b'wrote %d' % len(data)
+
+
+def data_of(word):
+    """The bytes that a word of data stands for."""
+    return bytes.fromhex('' if word == b'-' else word.decode())
+
+
+def store(system, words):
+    text, offset, data = text_of(words[1]), int(words[2]), data_of(words[3])
+    test_text(text)
+    if offset < 0 or len(data) > MOST_BYTES:
+        refuse('EINVAL')
+    number = find(system, text, True).number
+    if system.volume[number].kind == 'dir':
+        refuse('EISDIR')
+    if data:
+        put(system, number, offset, data)
     return b'wrote %d' % len(data)
 
 

@@ -30,14 +30,15 @@ HALF = 131072
 LENGTH = 150
 KEEPS = ['none', 'all', '10', '01', '110']
 LOSING_KEEPS = ['2', '021']
-# File, blocks, inodes, whether there are snapshots, what cuts keep, and the seed of each list. The
-# seeds are ones with refusals of many kinds.
+# File, blocks, inodes, whether there are snapshots and paths that begin at numbers, what cuts keep, and the
+# seed of each list. The seeds are ones with refusals of many kinds.
 FILES = [
-    ('random_64.rows', 64, 32, False, KEEPS, [43, 47, 50, 101, 117, 128]),
-    ('random_128.rows', 128, 32, False, KEEPS, [17, 47, 59, 101, 122, 150]),
-    ('random_256.rows', 256, 64, False, KEEPS, [43, 45, 117, 122, 141, 149]),
-    ('random_snapshots.rows', 128, 32, True, KEEPS, [11, 14, 35, 47, 50, 56]),
-    ('random_unreadable.rows', 128, 32, True, LOSING_KEEPS, [3, 65, 83, 93, 116, 140]),
+    ('random_64.rows', 64, 32, False, False, KEEPS, [43, 47, 50, 101, 117, 128]),
+    ('random_128.rows', 128, 32, False, False, KEEPS, [17, 47, 59, 101, 122, 150]),
+    ('random_256.rows', 256, 64, False, False, KEEPS, [43, 45, 117, 122, 141, 149]),
+    ('random_snapshots.rows', 128, 32, True, False, KEEPS, [11, 14, 35, 47, 50, 56]),
+    ('random_unreadable.rows', 128, 32, True, False, LOSING_KEEPS, [3, 65, 83, 93, 116, 140]),
+    ('random_numbers.rows', 128, 32, True, True, LOSING_KEEPS, [56, 75, 119, 130, 132, 141]),
 ]
 # The seeds of the lists that are cut at each of their writes: in one a snapshot is restored while a point is under way, in the other a
 # snapshot is deleted then.
@@ -101,12 +102,28 @@ def shown_lines(pairs, replies):
     return ['  %s -> %s' % (shown(bytes_of(line)), shown(reply)) for (line, _), reply in zip(pairs, replies)]
 
 
-def reading(system):
-    """Commands that read all that a system has."""
-    lines = reading_tree(system.volume) + ['df']
+def reading(system, has_numbers=False):
+    """Commands that read all that a system has, once more by numbers where that is asked."""
+    read_tree = reading_by_numbers if has_numbers else reading_tree
+    lines = read_tree(system.volume) + ['df'] + (['statfs'] if has_numbers else [])
     for kept in system.snapshots:
-        lines += ['in %s %s' % (word_of(kept.name).decode(), line) for line in reading_tree(kept.volume)]
+        lines += ['in %s %s' % (word_of(kept.name).decode(), line) for line in read_tree(kept.volume)]
     return lines + (['snap list'] if system.snapshots else [])
+
+
+def reading_by_numbers(volume):
+    """Commands that read a tree, and again by the numbers in it, and by the next one."""
+    lines = reading_tree(volume)
+    for number, thing in sorted(volume.items()):
+        lines.append('lstat @%d' % number)
+        if thing.kind == 'link':
+            lines.append('readlink @%d' % number)
+        if thing.kind == 'file':
+            lines.append('get @%d 0 20' % number)
+        if thing.kind == 'dir':
+            lines += ['list @%d' % number, 'entries @%d 0 1024' % number]
+            lines += ['lstat @%d/%s' % (number, word_of(name).decode()) for name in thing.names]
+    return lines + ['lstat @%d' % (max(volume) + 1)]
 
 
 def reading_tree(volume):
@@ -130,10 +147,10 @@ def reading_tree(volume):
     return lines
 
 
-def some_row(blocks, inodes, has_snapshots, keeps, seed):
+def some_row(blocks, inodes, has_snapshots, has_numbers, keeps, seed):
     """A row of as many commands as `LENGTH` over a new image, and then what reads all that is left."""
     made = ['', 'row random %d' % seed, 'image %d %d %d' % (blocks, inodes, HALF)]
-    return going_on(System(blocks, inodes, HALF), made, Numbers(seed, has_snapshots), keeps)
+    return going_on(System(blocks, inodes, HALF), made, Numbers(seed, has_snapshots, has_numbers), keeps)
 
 
 def row_of_version_1(name, seed):
@@ -155,16 +172,16 @@ def going_on(system, made, numbers, keeps):
         count += len(more) - 1
     mounted = system.copy()
     mounted.mount()
-    last = reading(mounted)
+    last = reading(mounted, numbers.has_numbers)
     replies, _ = run(system, [bytes_of(line) for line in last])
     return lines + ['run'] + shown_lines([(line, None) for line in last], replies) + ['unchanged']
 
 
-def made_file(blocks, inodes, has_snapshots, keeps, seeds):
+def made_file(blocks, inodes, has_snapshots, has_numbers, keeps, seeds):
     """The text of a file with a row for each seed."""
     lines = HEAD.splitlines()
     for seed in seeds:
-        lines += some_row(blocks, inodes, has_snapshots, keeps, seed)
+        lines += some_row(blocks, inodes, has_snapshots, has_numbers, keeps, seed)
     return '\n'.join(lines) + '\n'
 
 
@@ -223,9 +240,9 @@ def main(words):
         return 0 if check() else 1
     if len(words) == 4 and words[0] == '--more':
         for seed in range(int(words[1]), int(words[1]) + int(words[2])):
-            _, blocks, inodes, has_snapshots, keeps, _ = FILES[seed // 3 % len(FILES)]
+            _, *sizes_and_keeps, _ = FILES[seed // 3 % len(FILES)]
             path = Path(words[3]) / ('random_%d.rows' % seed)
-            path.write_text(made_file(blocks, inodes, has_snapshots, keeps, [seed]))
+            path.write_text(made_file(*sizes_and_keeps, [seed]))
         return 0
     if words:
         print(__doc__)

@@ -36,6 +36,7 @@ LOG_START = 9
 SLOTS = (0, 8)
 VERSION = 2
 SLICE = 8
+HEADROOM = 16
 NUMBERS_OF_A_BLOCK = 8 * BLOCK
 OF_A_ROOT = ['costs', 'kept_nameless', 'is_changed', 'records', 'log_end', 'is_log_open', 'is_beyond',
              'inode_blocks', 'changed_inodes', 'numbers', 'places', 'snapshots', 'free']
@@ -354,6 +355,10 @@ class System:
         if self.settled is not None:
             costs, kept = self.settled['costs'] + costs, self.settled['kept_nameless']
         return costs + 4 * kept
+
+    def reserved(self):
+        """Blocks that no new data may have: what a point may store, and what stays for removals."""
+        return self.pledged() + self.fixed() + HEADROOM
 
     def checked(self):
         """What a check says of it."""

@@ -1,5 +1,7 @@
 """Texts of paths in the plain model, and what they lead to."""
 
+import re
+
 from model import ROOT, refuse
 
 LONGEST_PATH = 1023
@@ -8,12 +10,23 @@ MOST_LINKS = 8
 
 
 class Place:
-    """What a path leads to: `number` is None for a name that isn't there, `name` for the root."""
+    """What a path leads to: `number` is None for a name that isn't there, `name` for the root and for a number alone."""
 
     def __init__(self, number, directory, name):
         self.number = number
         self.directory = directory
         self.name = name
+
+
+def start_of(text):
+    """The number that a text begins at; None where it begins at the root, or nowhere."""
+    found = re.fullmatch(rb'@(0|[1-9][0-9]*)', text.split(b'/')[0])
+    return int(found[1]) if found and int(found[1]) < 2 ** 32 else None
+
+
+def parts_behind(text):
+    """The names behind where a text begins."""
+    return parts_of(text) if start_of(text) is None else parts_of(text)[1:]
 
 
 def test_text(text):
@@ -24,16 +37,22 @@ def test_text(text):
         refuse('EINVAL')
     if len(text) > LONGEST_PATH:
         refuse('ENAMETOOLONG')
-    if text[:1] != b'/' or len(text) > 1 and text[-1:] == b'/':
+    if text[:1] != b'/' and start_of(text) is None:
+        refuse('EINVAL')
+    if len(text) > 1 and text[-1:] == b'/':
         refuse('EINVAL')
     if any(len(part) > LONGEST_NAME for part in text.split(b'/')):
         refuse('ENAMETOOLONG')
+    if start_of(text) is not None and b'..' in parts_of(text):
+        refuse('EINVAL')
 
 
 def test_new_text(text):
     """The tests of the text of something that is to be made or taken away."""
     test_text(text)
     if text.split(b'/')[-1] in (b'.', b'..'):
+        refuse('EINVAL')
+    if start_of(text) is not None and not parts_behind(text):
         refuse('EINVAL')
 
 
@@ -53,9 +72,16 @@ def parts_of(text):
 
 
 def resolve(system, text, follows):
-    """Where a path leads. A last symbolic link is followed where `follows` says so."""
-    parts = parts_of(text)
-    trail = [(ROOT, None)]
+    """Where a path leads. A last symbolic link is followed where `follows` says so.
+
+    Behind a number none is followed, and the way up from a directory is never asked for.
+    """
+    parts, start = parts_behind(text), start_of(text)
+    if start is not None:
+        test_start(system, start, parts, follows)
+        if not parts:
+            return Place(start, None, None)
+    trail = [(ROOT if start is None else start, None)]
     links = 0
     while parts:
         part = parts.pop(0)
@@ -72,7 +98,7 @@ def resolve(system, text, follows):
         thing = system.volume[number]
         if thing.kind == 'link' and (parts or follows):
             links += 1
-            if links > MOST_LINKS:
+            if links > (MOST_LINKS if start is None else 0):
                 refuse('ELOOP')
             parts = parts_of(thing.text) + parts
             trail = [(ROOT, None)] if thing.text[:1] == b'/' else trail
@@ -82,6 +108,17 @@ def resolve(system, text, follows):
             return refuse('ENOTDIR') if parts else Place(number, directory, part)
     number, name = trail[-1]
     return Place(number, trail[-2][0] if len(trail) > 1 else ROOT, name)
+
+
+def test_start(system, number, parts, follows):
+    """The tests of the number that a path begins at."""
+    if number not in system.volume or number in system.nameless():
+        refuse('ESTALE')
+    kind = system.volume[number].kind
+    if parts and kind != 'dir':
+        refuse('ENOTDIR')
+    if kind == 'link' and follows:
+        refuse('ELOOP')
 
 
 def find(system, text, follows):

@@ -3,7 +3,7 @@
 import calls
 import descriptors
 import snapshots
-from model import Refusal
+from model import ROOT, Refusal
 
 
 def sync(system, _words):
@@ -16,8 +16,14 @@ def free_blocks(system, _words):
     return b'blocks %d free %d pledged %d' % numbers
 
 
+def usage(system, _words):
+    numbers = (system.block_count, system.free, system.reserved(), system.inode_count - ROOT, len(system.volume))
+    return b'usage blocks %d free %d reserved %d inodes %d taken %d' % numbers
+
+
 COMMANDS = {
     b'list': calls.list_names,
+    b'entries': calls.entries,
     b'stat': calls.stat,
     b'lstat': calls.stat,
     b'readlink': calls.readlink,
@@ -28,11 +34,15 @@ COMMANDS = {
     b'link': calls.link,
     b'symlink': calls.symlink,
     b'rename': calls.rename,
+    b'renamenew': calls.rename,
     b'chmod': calls.chmod,
     b'truncate': calls.truncate,
+    b'store': descriptors.store,
     b'sync': sync,
     b'df': free_blocks,
+    b'statfs': usage,
     b'open': descriptors.open_file,
+    b'openstat': descriptors.open_file,
     b'close': descriptors.close,
     b'read': descriptors.read,
     b'write': descriptors.write,

@@ -6,8 +6,8 @@ import calls
 from model import DESCRIPTORS, refuse
 
 MOST_SNAPSHOTS = 30
-READING = {b'list': calls.list_names, b'stat': calls.stat, b'lstat': calls.stat,
-           b'readlink': calls.readlink, b'get': calls.get}
+READING = {b'list': calls.list_names, b'entries': calls.entries, b'stat': calls.stat,
+           b'lstat': calls.stat, b'readlink': calls.readlink, b'get': calls.get}
 
 
 def snap(system, words):

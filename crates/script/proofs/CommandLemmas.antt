@@ -1,6 +1,7 @@
 -- A first word and its fields spell one command at most, and where no fields of its form stand behind it, none.
 use Rattle.std.proofs.Common.{◌≡◌, ◌≢◌, ℕ, ℤ, true, false, List, [], ◌∷◌, ◌++◌, ◌≤◌, length, map, get_or, arith, Result, Ok, Err, IfOk, OnErr, OnOk, refl, sym, ◌∙◌, ap, subst}
 use Rattle.model.specs.declared.command.Command.{Command}
+use Rattle.model.specs.declared.command.Command.TheVariants as command
 use Rattle.model.specs.declared.command.PathCall.{PathCall}
 use Rattle.model.specs.declared.command.PathCall.TheVariants as call
 use Rattle.script.specs.Forms.{end, form_words, AreValues, Form, Values}
@@ -12,6 +13,12 @@ use Rattle.script.specs.declared.error.ScriptError.{ScriptError}
 use Rattle.script.specs.declared.verb.Verb.{Verb}
 use Rattle.script.specs.declared.verb.Verb.TheVariants as verb
 use Rattle.script.proofs.VerbLemmas.{verb_name-unique}
+
+-- a command in form is spelled by values that fit
+pub in_form : (c : Command) → IsCommandInForm c → IsSpelling (spelling_of c)
+in_form (command.Open p f m b) good = good.1
+in_form (command.OpenStat p f m b) good = good.1
+in_form c good = good
 
 -- no fields of a form stand in these words
 abbrev pub HasNone : Form → List (List ℕ) → Type 0
@@ -41,6 +48,7 @@ refused_call v words none c good e = behind call_form v (call_fields c).0 words 
 
 pub call_is_call : (c : PathCall) → is_call (call_fields c).0 ≡ true
 call_is_call (call.List p) = refl
+call_is_call (call.Entries p o n) = refl
 call_is_call (call.Stat p) = refl
 call_is_call (call.Lstat p) = refl
 call_is_call (call.Readlink p) = refl
@@ -51,12 +59,15 @@ call_is_call (call.Unlink p) = refl
 call_is_call (call.Link p q) = refl
 call_is_call (call.Symlink t p) = refl
 call_is_call (call.Rename p q) = refl
+call_is_call (call.RenameNew p q) = refl
 call_is_call (call.Chmod p m) = refl
 call_is_call (call.Truncate p n) = refl
+call_is_call (call.Store p o d) = refl
 
 -- no verb of a call begins another command
 pub no_command : (v : Verb) → is_call v ≡ true → Values (command_form v) → ⊥
 no_command verb.Open e vs = absurd (cc)
+no_command verb.OpenStat e vs = absurd (cc)
 no_command verb.Close e vs = absurd (cc)
 no_command verb.Read e vs = absurd (cc)
 no_command verb.Write e vs = absurd (cc)
@@ -68,6 +79,7 @@ no_command verb.Fstat e vs = absurd (cc)
 no_command verb.Fsync e vs = absurd (cc)
 no_command verb.Sync e vs = absurd (cc)
 no_command verb.Df e vs = absurd (cc)
+no_command verb.Statfs e vs = absurd (cc)
 no_command v e vs = vs
 
 by_path : (v : Verb) (words : List (List ℕ)) → is_call v ≡ true → HasNone (call_form v) words → (s : Spelling) → IsSpelling s → verb_name v ∷ words ≡ spelling_words s → ⊥
@@ -79,7 +91,7 @@ by_path v words is none (snap w vs) good e =
     let same = same_verb v verb.Snap words (verb_name w ∷ form_words (snap_form w) vs) e in let no : true ≡ false = sym is ∙ ap is_call same in absurd (cc)
 
 pub refused_path : (v : Verb) (words : List (List ℕ)) → is_call v ≡ true → HasNone (call_form v) words → (c : Command) → IsCommandInForm c → verb_name v ∷ words ≡ command_words c → ⊥
-refused_path v words is none c good e = by_path v words is none (spelling_of c) good e
+refused_path v words is none c good e = by_path v words is none (spelling_of c) (in_form c good) e
 
 by_plain : (v : Verb) (words : List (List ℕ)) → is_call v ≡ false → (v ≡ verb.Snap → ⊥) → (v ≡ verb.In → ⊥) → HasNone (command_form v) words → (s : Spelling) → IsSpelling s → verb_name v ∷ words ≡ spelling_words s → ⊥
 by_plain v words is not_snap not_in none (plain w vs) good e = behind command_form v w words none vs good e
@@ -89,7 +101,7 @@ by_plain v words is not_snap not_in none (within name c) good e = not_in (same_v
 by_plain v words is not_snap not_in none (snap w vs) good e = not_snap (same_verb v verb.Snap words (verb_name w ∷ form_words (snap_form w) vs) e)
 
 pub refused_plain : (v : Verb) (words : List (List ℕ)) → is_call v ≡ false → (v ≡ verb.Snap → ⊥) → (v ≡ verb.In → ⊥) → HasNone (command_form v) words → (c : Command) → IsCommandInForm c → verb_name v ∷ words ≡ command_words c → ⊥
-refused_plain v words is not_snap not_in none c good e = by_plain v words is not_snap not_in none (spelling_of c) good e
+refused_plain v words is not_snap not_in none c good e = by_plain v words is not_snap not_in none (spelling_of c) (in_form c good) e
 
 by_snap : (words : List (List ℕ)) → ((w : Verb) (vs : Values (snap_form w)) → AreValues (snap_form w) vs → words ≡ verb_name w ∷ form_words (snap_form w) vs → ⊥) → (s : Spelling) → IsSpelling s → verb_name verb.Snap ∷ words ≡ spelling_words s → ⊥
 by_snap words none (plain w vs) good e = subst (λ u. Values (command_form u)) (sym (same_verb verb.Snap w words (form_words (command_form w) vs) e)) vs
@@ -100,12 +112,12 @@ by_snap words none (snap w vs) good e = none w vs good (same_words (verb_name ve
 
 -- behind `snap` stands no second word, or one behind which no fields of its form stand
 pub refused_snap : (v : Verb) (words : List (List ℕ)) → HasNone (snap_form v) words → (c : Command) → IsCommandInForm c → verb_name verb.Snap ∷ verb_name v ∷ words ≡ command_words c → ⊥
-refused_snap v words none c good e = by_snap (verb_name v ∷ words) (λ w vs fine is. behind snap_form v w words none vs fine is) (spelling_of c) good e
+refused_snap v words none c good e = by_snap (verb_name v ∷ words) (λ w vs fine is. behind snap_form v w words none vs fine is) (spelling_of c) (in_form c good) e
 
 pub refused_second : {X : Type 0} (word : X → List ℕ) (xs : List X) (d : X) → 1 ≤ length xs → ((w : Verb) → word (get_or xs 0 d) ≡ verb_name w → ⊥) → (c : Command) → IsCommandInForm c → verb_name verb.Snap ∷ map word xs ≡ command_words c → ⊥
 refused_second word [] d some none c good e = absurd (omega (arith, some))
 refused_second word (x ∷ xs) d some none c good e =
-    by_snap (word x ∷ map word xs) (λ w vs fine is. none w (same_word (word x) (verb_name w) (map word xs) (form_words (snap_form w) vs) is)) (spelling_of c) good e
+    by_snap (word x ∷ map word xs) (λ w vs fine is. none w (same_word (word x) (verb_name w) (map word xs) (form_words (snap_form w) vs) is)) (spelling_of c) (in_form c good) e
 
 -- a first word that begins no command
 by_first : (first : List ℕ) (more : List (List ℕ)) → ((w : Verb) → first ≡ verb_name w → ⊥) → (s : Spelling) → first ∷ more ≡ spelling_words s → ⊥
@@ -119,24 +131,27 @@ refused_first word [] d some none c good e = absurd (omega (arith, some))
 refused_first word (x ∷ xs) d some none c good e = by_first (word x) (map word xs) none (spelling_of c) e
 
 -- the verbs that have no fields of their own
-pub not_change : (v : Verb) → v ≢ verb.Mkdir → v ≢ verb.Rmdir → v ≢ verb.Unlink → v ≢ verb.Link → v ≢ verb.Symlink → v ≢ verb.Rename → v ≢ verb.Chmod → v ≢ verb.Truncate → Values (change_form v) → ⊥
-not_change verb.Mkdir a b c d e f g h vs = a refl
-not_change verb.Rmdir a b c d e f g h vs = b refl
-not_change verb.Unlink a b c d e f g h vs = c refl
-not_change verb.Link a b c d e f g h vs = d refl
-not_change verb.Symlink a b c d e f g h vs = e refl
-not_change verb.Rename a b c d e f g h vs = f refl
-not_change verb.Chmod a b c d e f g h vs = g refl
-not_change verb.Truncate a b c d e f g h vs = h refl
-not_change v a b c d e f g h vs = vs
+pub not_change : (v : Verb) → v ≢ verb.Mkdir → v ≢ verb.Rmdir → v ≢ verb.Unlink → v ≢ verb.Link → v ≢ verb.Symlink → v ≢ verb.Rename → v ≢ verb.RenameNew → v ≢ verb.Chmod → v ≢ verb.Truncate → v ≢ verb.Store → Values (change_form v) → ⊥
+not_change verb.Mkdir a b c d e f g h i j vs = a refl
+not_change verb.Rmdir a b c d e f g h i j vs = b refl
+not_change verb.Unlink a b c d e f g h i j vs = c refl
+not_change verb.Link a b c d e f g h i j vs = d refl
+not_change verb.Symlink a b c d e f g h i j vs = e refl
+not_change verb.Rename a b c d e f g h i j vs = f refl
+not_change verb.RenameNew a b c d e f g h i j vs = g refl
+not_change verb.Chmod a b c d e f g h i j vs = h refl
+not_change verb.Truncate a b c d e f g h i j vs = i refl
+not_change verb.Store a b c d e f g h i j vs = j refl
+not_change v a b c d e f g h i j vs = vs
 
-pub is_change : (v : Verb) → v ≢ verb.List → v ≢ verb.Stat → v ≢ verb.Lstat → v ≢ verb.Readlink → v ≢ verb.Get → call_form v ≡ change_form v
-is_change verb.List a b c d e = absurd (a refl)
-is_change verb.Stat a b c d e = absurd (b refl)
-is_change verb.Lstat a b c d e = absurd (c refl)
-is_change verb.Readlink a b c d e = absurd (d refl)
-is_change verb.Get a b c d e = absurd (e refl)
-is_change v a b c d e = refl
+pub is_change : (v : Verb) → v ≢ verb.List → v ≢ verb.Entries → v ≢ verb.Stat → v ≢ verb.Lstat → v ≢ verb.Readlink → v ≢ verb.Get → call_form v ≡ change_form v
+is_change verb.List a b c d e f = absurd (a refl)
+is_change verb.Entries a b c d e f = absurd (b refl)
+is_change verb.Stat a b c d e f = absurd (c refl)
+is_change verb.Lstat a b c d e f = absurd (d refl)
+is_change verb.Readlink a b c d e f = absurd (e refl)
+is_change verb.Get a b c d e f = absurd (f refl)
+is_change v a b c d e f = refl
 
 pub not_file : (v : Verb) → v ≢ verb.Read → v ≢ verb.Write → v ≢ verb.Pread → v ≢ verb.Pwrite → v ≢ verb.Lseek → v ≢ verb.Ftruncate → Values (file_form v) → ⊥
 not_file verb.Read a b c d e f vs = a refl
@@ -147,14 +162,16 @@ not_file verb.Lseek a b c d e f vs = e refl
 not_file verb.Ftruncate a b c d e f vs = f refl
 not_file v a b c d e f vs = vs
 
-pub is_file : (v : Verb) → v ≢ verb.Open → v ≢ verb.Close → v ≢ verb.Fstat → v ≢ verb.Fsync → v ≢ verb.Sync → v ≢ verb.Df → command_form v ≡ file_form v
-is_file verb.Open a b c d e f = absurd (a refl)
-is_file verb.Close a b c d e f = absurd (b refl)
-is_file verb.Fstat a b c d e f = absurd (c refl)
-is_file verb.Fsync a b c d e f = absurd (d refl)
-is_file verb.Sync a b c d e f = absurd (e refl)
-is_file verb.Df a b c d e f = absurd (f refl)
-is_file v a b c d e f = refl
+pub is_file : (v : Verb) → v ≢ verb.Open → v ≢ verb.OpenStat → v ≢ verb.Close → v ≢ verb.Fstat → v ≢ verb.Fsync → v ≢ verb.Sync → v ≢ verb.Df → v ≢ verb.Statfs → command_form v ≡ file_form v
+is_file verb.Open a b c d e f g h = absurd (a refl)
+is_file verb.OpenStat a b c d e f g h = absurd (b refl)
+is_file verb.Close a b c d e f g h = absurd (c refl)
+is_file verb.Fstat a b c d e f g h = absurd (d refl)
+is_file verb.Fsync a b c d e f g h = absurd (e refl)
+is_file verb.Sync a b c d e f g h = absurd (f refl)
+is_file verb.Df a b c d e f g h = absurd (g refl)
+is_file verb.Statfs a b c d e f g h = absurd (h refl)
+is_file v a b c d e f g h = refl
 
 pub not_snapping : (v : Verb) → v ≢ verb.Take → v ≢ verb.Delete → v ≢ verb.Restore → v ≢ verb.List → Values (snap_form v) → ⊥
 not_snapping verb.Take a b c d vs = a refl
@@ -164,13 +181,13 @@ not_snapping verb.List a b c d vs = d refl
 not_snapping v a b c d vs = vs
 
 -- what is read by the last case of a form is read by the form
-pub change_read : (v : Verb) (words : List (List ℕ)) (r : Result PathCall ScriptError) → v ≢ verb.List → v ≢ verb.Stat → v ≢ verb.Lstat → v ≢ verb.Readlink → v ≢ verb.Get
+pub change_read : (v : Verb) (words : List (List ℕ)) (r : Result PathCall ScriptError) → v ≢ verb.List → v ≢ verb.Entries → v ≢ verb.Stat → v ≢ verb.Lstat → v ≢ verb.Readlink → v ≢ verb.Get
     → ReadsFields (change_form v) call_words IsPathCallInForm (verb_name v ∷ []) words r → ReadsFields (call_form v) call_words IsPathCallInForm (verb_name v ∷ []) words r
-change_read v words r a b c d e reads = subst (λ f. ReadsFields f call_words IsPathCallInForm (verb_name v ∷ []) words r) (sym (is_change v a b c d e)) reads
+change_read v words r a b c d e f reads = subst (λ u. ReadsFields u call_words IsPathCallInForm (verb_name v ∷ []) words r) (sym (is_change v a b c d e f)) reads
 
-pub file_read : (v : Verb) (words : List (List ℕ)) (r : Result Command ScriptError) → v ≢ verb.Open → v ≢ verb.Close → v ≢ verb.Fstat → v ≢ verb.Fsync → v ≢ verb.Sync → v ≢ verb.Df
+pub file_read : (v : Verb) (words : List (List ℕ)) (r : Result Command ScriptError) → v ≢ verb.Open → v ≢ verb.OpenStat → v ≢ verb.Close → v ≢ verb.Fstat → v ≢ verb.Fsync → v ≢ verb.Sync → v ≢ verb.Df → v ≢ verb.Statfs
     → ReadsFields (file_form v) command_words IsCommandInForm (verb_name v ∷ []) words r → ReadsFields (command_form v) command_words IsCommandInForm (verb_name v ∷ []) words r
-file_read v words r a b c d e f reads = subst (λ u. ReadsFields u command_words IsCommandInForm (verb_name v ∷ []) words r) (sym (is_file v a b c d e f)) reads
+file_read v words r a b c d e f g h reads = subst (λ u. ReadsFields u command_words IsCommandInForm (verb_name v ∷ []) words r) (sym (is_file v a b c d e f g h)) reads
 
 -- what is read behind a verb is read as words
 pub call_read : (v : Verb) (words : List (List ℕ)) (r : Result PathCall ScriptError) → ReadsFields (call_form v) call_words IsPathCallInForm (verb_name v ∷ []) words r → ReadsWords call_words IsPathCallInForm (verb_name v ∷ words) r
@@ -200,10 +217,6 @@ pub pushed : {X Y : Type 0} (c d : PathCall) (old new : List ℕ) (r : Result X 
 pushed c d old new r e h = subst (λ x. OnOk r (new ≡ old ++ line_of (call_words x))) (sym e) h
 
 -- the same of a call with a signed number that was read back
-pub pushed_get : {X Y : Type 0} (c : PathCall) (path : List ℕ) (z offset : ℤ) (count : ℕ) (old new : List ℕ) (r : Result X Y) → c ≡ call.Get path offset count → z ≡ offset
-    → OnOk r (new ≡ old ++ line_of (call_words (call.Get path z count))) → OnOk r (new ≡ old ++ line_of (call_words c))
-pushed_get c path z offset count old new r e back h = pushed c (call.Get path offset count) old new r e (subst (λ (x : ℤ). OnOk r (new ≡ old ++ line_of (call_words (call.Get path x count)))) back h)
-
-pub pushed_truncate : {X Y : Type 0} (c : PathCall) (path : List ℕ) (z size : ℤ) (old new : List ℕ) (r : Result X Y) → c ≡ call.Truncate path size → z ≡ size
-    → OnOk r (new ≡ old ++ line_of (call_words (call.Truncate path z))) → OnOk r (new ≡ old ++ line_of (call_words c))
-pushed_truncate c path z size old new r e back h = pushed c (call.Truncate path size) old new r e (subst (λ (x : ℤ). OnOk r (new ≡ old ++ line_of (call_words (call.Truncate path x)))) back h)
+pub pushed_at : {X Y : Type 0} (make : ℤ → PathCall) (c : PathCall) (z offset : ℤ) (old new : List ℕ) (r : Result X Y) → c ≡ make offset → z ≡ offset
+    → OnOk r (new ≡ old ++ line_of (call_words (make z))) → OnOk r (new ≡ old ++ line_of (call_words c))
+pushed_at make c z offset old new r e back h = pushed c (make offset) old new r e (subst (λ (x : ℤ). OnOk r (new ≡ old ++ line_of (call_words (make x)))) back h)

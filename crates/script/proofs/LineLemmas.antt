@@ -21,6 +21,7 @@ use Rattle.script.specs.Words.{access_word, byte_word, data_word, flags_word, he
 use Rattle.script.specs.declared.error.ScriptError.{ScriptError}
 use Rattle.script.specs.declared.verb.Verb.{Verb}
 use Rattle.script.specs.declared.verb.Verb.TheVariants as verb
+use Rattle.script.proofs.CommandLemmas.{in_form}
 use Rattle.script.proofs.NumberLemmas.{small, small_mag}
 
 -- no space stands in a word
@@ -143,6 +144,7 @@ form_has_words none vs good = absurd vs
 
 verb_is_word : (v : Verb) → IsWord (verb_name v)
 verb_is_word verb.List = letters_are_word (codes "list") refl
+verb_is_word verb.Entries = letters_are_word (codes "entries") refl
 verb_is_word verb.Stat = letters_are_word (codes "stat") refl
 verb_is_word verb.Lstat = letters_are_word (codes "lstat") refl
 verb_is_word verb.Readlink = letters_are_word (codes "readlink") refl
@@ -153,9 +155,12 @@ verb_is_word verb.Unlink = letters_are_word (codes "unlink") refl
 verb_is_word verb.Link = letters_are_word (codes "link") refl
 verb_is_word verb.Symlink = letters_are_word (codes "symlink") refl
 verb_is_word verb.Rename = letters_are_word (codes "rename") refl
+verb_is_word verb.RenameNew = letters_are_word (codes "renamenew") refl
 verb_is_word verb.Chmod = letters_are_word (codes "chmod") refl
 verb_is_word verb.Truncate = letters_are_word (codes "truncate") refl
+verb_is_word verb.Store = letters_are_word (codes "store") refl
 verb_is_word verb.Open = letters_are_word (codes "open") refl
+verb_is_word verb.OpenStat = letters_are_word (codes "openstat") refl
 verb_is_word verb.Close = letters_are_word (codes "close") refl
 verb_is_word verb.Read = letters_are_word (codes "read") refl
 verb_is_word verb.Write = letters_are_word (codes "write") refl
@@ -167,6 +172,7 @@ verb_is_word verb.Fstat = letters_are_word (codes "fstat") refl
 verb_is_word verb.Fsync = letters_are_word (codes "fsync") refl
 verb_is_word verb.Sync = letters_are_word (codes "sync") refl
 verb_is_word verb.Df = letters_are_word (codes "df") refl
+verb_is_word verb.Statfs = letters_are_word (codes "statfs") refl
 verb_is_word verb.Snap = letters_are_word (codes "snap") refl
 verb_is_word verb.Take = letters_are_word (codes "take") refl
 verb_is_word verb.Delete = letters_are_word (codes "delete") refl
@@ -198,7 +204,7 @@ parts_of_spelling (within name c) good = split_line _ _ (verb_is_word verb.In, (
 parts_of_spelling (snap v vs) good = split_line _ _ (verb_is_word verb.Snap, (verb_is_word v, form_has_words (snap_form v) vs good))
 
 pub parts_of_command : (c : Command) → IsCommandInForm c → slice_split (λ b. eqb b 32) (command_line c) ≡ command_words c
-parts_of_command c good = parts_of_spelling (spelling_of c) good
+parts_of_command c good = parts_of_spelling (spelling_of c) (in_form c good)
 
 -- where the parts of a line are a command's words, the line is its line
 pub line_spelled : (line : List ℕ) (r : Result Command ScriptError) → IfOk r (λ c. slice_split (λ b. eqb b 32) line ≡ command_words c) → IfOk r (λ c. line ≡ command_line c)

@@ -5,6 +5,7 @@ use Rattle.std.proofs.lemmas.Fmt.{decimal_injective, signed_decimal_injective}
 use Rattle.hex.specs.Hex.{decode_of, encode_lower}
 use Rattle.hex.specs.declared.error.FromHexError.TheVariants.{OddLength}
 use Rattle.hex.proofs.HexLemmas.{decode_of-same}
+use Rattle.model.specs.declared.limits.TheConstants.{SESSION_FILES}
 use Rattle.model.specs.declared.command.Access.{Access}
 use Rattle.model.specs.declared.command.Access.TheVariants.{Reading, Writing, Both}
 use Rattle.model.specs.declared.command.Command.{Command}
@@ -23,7 +24,7 @@ use Rattle.script.specs.declared.error.ScriptError.{ScriptError}
 use Rattle.script.specs.declared.error.ScriptError.TheVariants.{NoMemory, NotACommand}
 use Rattle.script.specs.declared.verb.Verb.{Verb}
 use Rattle.script.specs.declared.verb.Verb.TheVariants as verb
-use Rattle.script.proofs.CommandLemmas.{call_is_call, no_command, same_verb, same_word, same_words}
+use Rattle.script.proofs.CommandLemmas.{call_is_call, in_form, no_command, same_verb, same_word, same_words}
 use Rattle.script.proofs.DataLemmas.{decoded}
 use Rattle.script.proofs.NumberLemmas.{small, small_mag}
 use Rattle.script.proofs.WordLemmas.{text_word-unique}
@@ -204,6 +205,7 @@ same_made {X} form make v w vs ws gv gw e =
 
 call_of : (v : Verb) → Values (call_form v) → PathCall
 call_of verb.List (p, _) = call.List p
+call_of verb.Entries (p, (o, (n, _))) = call.Entries p o n
 call_of verb.Stat (p, _) = call.Stat p
 call_of verb.Lstat (p, _) = call.Lstat p
 call_of verb.Readlink (p, _) = call.Readlink p
@@ -214,13 +216,16 @@ call_of verb.Unlink (p, _) = call.Unlink p
 call_of verb.Link (p, (q, _)) = call.Link p q
 call_of verb.Symlink (t, (p, _)) = call.Symlink t p
 call_of verb.Rename (p, (q, _)) = call.Rename p q
+call_of verb.RenameNew (p, (q, _)) = call.RenameNew p q
 call_of verb.Chmod (p, (m, _)) = call.Chmod p m
 call_of verb.Truncate (p, (n, _)) = call.Truncate p n
+call_of verb.Store (p, (o, (d, _))) = call.Store p o d
 call_of v vs = absurd vs
 
 call_of_fields : (c : PathCall) → call_of (call_fields c).0 (call_fields c).1 ≡ c
 unfolding call_of
 call_of_fields (call.List p) = refl
+call_of_fields (call.Entries p o n) = refl
 call_of_fields (call.Stat p) = refl
 call_of_fields (call.Lstat p) = refl
 call_of_fields (call.Readlink p) = refl
@@ -231,8 +236,10 @@ call_of_fields (call.Unlink p) = refl
 call_of_fields (call.Link p q) = refl
 call_of_fields (call.Symlink t p) = refl
 call_of_fields (call.Rename p q) = refl
+call_of_fields (call.RenameNew p q) = refl
 call_of_fields (call.Chmod p m) = refl
 call_of_fields (call.Truncate p n) = refl
+call_of_fields (call.Store p o d) = refl
 
 call_words-unique : (c d : PathCall) → IsPathCallInForm c → IsPathCallInForm d → call_words c ≡ call_words d → c ≡ d
 call_words-unique c d gc gd e = sym (call_of_fields c) ∙ same_made call_form call_of (call_fields c).0 (call_fields d).0 (call_fields c).1 (call_fields d).1 gc gd e ∙ call_of_fields d
@@ -281,7 +288,8 @@ spelling_words-unique (snap v vs) t gs gt e = snap_only v vs t gs gt e
 
 -- the command of a spelling
 plain_command : (v : Verb) → Values (command_form v) → Command
-plain_command verb.Open (p, (f, m)) = command.Open p f m
+plain_command verb.Open (p, (f, m)) = command.Open p f m SESSION_FILES
+plain_command verb.OpenStat (p, (f, m)) = command.OpenStat p f m SESSION_FILES
 plain_command verb.Close (fd, _) = command.Close fd
 plain_command verb.Read (fd, (n, _)) = command.Read fd n
 plain_command verb.Write (fd, (d, _)) = command.Write fd d
@@ -293,6 +301,7 @@ plain_command verb.Fstat (fd, _) = command.Fstat fd
 plain_command verb.Fsync (fd, _) = command.Fsync fd
 plain_command verb.Sync _ = command.Sync
 plain_command verb.Df _ = command.Df
+plain_command verb.Statfs _ = command.Statfs
 plain_command v vs = absurd vs
 
 snap_command : (v : Verb) → Values (snap_form v) → Command
@@ -308,30 +317,32 @@ command_of (named c) = command.Path c
 command_of (within name c) = command.Within name c
 command_of (snap v vs) = snap_command v vs
 
-command_of_spelling : (c : Command) → command_of (spelling_of c) ≡ c
+command_of_spelling : (c : Command) → IsCommandInForm c → command_of (spelling_of c) ≡ c
 unfolding command_of plain_command snap_command
-command_of_spelling (command.Path c) = refl
-command_of_spelling (command.Open p f m) = refl
-command_of_spelling (command.Close fd) = refl
-command_of_spelling (command.Read fd n) = refl
-command_of_spelling (command.Write fd d) = refl
-command_of_spelling (command.Pread fd o n) = refl
-command_of_spelling (command.Pwrite fd o d) = refl
-command_of_spelling (command.Lseek fd w o) = refl
-command_of_spelling (command.Ftruncate fd n) = refl
-command_of_spelling (command.Fstat fd) = refl
-command_of_spelling (command.Fsync fd) = refl
-command_of_spelling command.Sync = refl
-command_of_spelling command.Df = refl
-command_of_spelling (command.SnapTake name) = refl
-command_of_spelling (command.SnapDelete name) = refl
-command_of_spelling (command.SnapRestore name) = refl
-command_of_spelling command.SnapList = refl
-command_of_spelling (command.Within name c) = refl
+command_of_spelling (command.Path c) good = refl
+command_of_spelling (command.Open p f m b) good = ap (λ n. command.Open p f m n) (sym good.0)
+command_of_spelling (command.OpenStat p f m b) good = ap (λ n. command.OpenStat p f m n) (sym good.0)
+command_of_spelling (command.Close fd) good = refl
+command_of_spelling (command.Read fd n) good = refl
+command_of_spelling (command.Write fd d) good = refl
+command_of_spelling (command.Pread fd o n) good = refl
+command_of_spelling (command.Pwrite fd o d) good = refl
+command_of_spelling (command.Lseek fd w o) good = refl
+command_of_spelling (command.Ftruncate fd n) good = refl
+command_of_spelling (command.Fstat fd) good = refl
+command_of_spelling (command.Fsync fd) good = refl
+command_of_spelling command.Sync good = refl
+command_of_spelling command.Df good = refl
+command_of_spelling command.Statfs good = refl
+command_of_spelling (command.SnapTake name) good = refl
+command_of_spelling (command.SnapDelete name) good = refl
+command_of_spelling (command.SnapRestore name) good = refl
+command_of_spelling command.SnapList good = refl
+command_of_spelling (command.Within name c) good = refl
 
 -- words are one command's at most
 pub command_words-unique : (c d : Command) → IsCommandInForm c → IsCommandInForm d → command_words c ≡ command_words d → c ≡ d
-command_words-unique c d gc gd e = sym (command_of_spelling c) ∙ ap command_of (spelling_words-unique (spelling_of c) (spelling_of d) gc gd e) ∙ command_of_spelling d
+command_words-unique c d gc gd e = sym (command_of_spelling c gc) ∙ ap command_of (spelling_words-unique (spelling_of c) (spelling_of d) (in_form c gc) (in_form d gd) e) ∙ command_of_spelling d gd
 
 -- words that are read are read as the command that they spell
 pub reads_command : (words : List (List ℕ)) (r : Result Command ScriptError) → ReadsWords command_words IsCommandInForm words r → (c : Command) → IsCommandInForm c → words ≡ command_words c → (r ≡ Ok c) ⊎ (r ≡ Err NoMemory)

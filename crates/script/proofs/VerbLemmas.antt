@@ -6,40 +6,45 @@ use Rattle.script.specs.declared.verb.Verb.{Verb}
 use Rattle.script.specs.declared.verb.Verb.TheVariants as verb
 
 abbrev pub all_verbs : List Verb
-all_verbs = verb.List ∷ verb.Stat ∷ verb.Lstat ∷ verb.Readlink ∷ verb.Get ∷ verb.Mkdir ∷ verb.Rmdir ∷ verb.Unlink ∷ verb.Link ∷ verb.Symlink ∷ verb.Rename ∷ verb.Chmod ∷ verb.Truncate ∷ verb.Open ∷ verb.Close ∷ verb.Read ∷ verb.Write ∷ verb.Pread ∷ verb.Pwrite ∷ verb.Lseek ∷ verb.Ftruncate ∷ verb.Fstat ∷ verb.Fsync ∷ verb.Sync ∷ verb.Df ∷ verb.Snap ∷ verb.Take ∷ verb.Delete ∷ verb.Restore ∷ verb.In ∷ []
+all_verbs = verb.List ∷ verb.Entries ∷ verb.Stat ∷ verb.Lstat ∷ verb.Readlink ∷ verb.Get ∷ verb.Mkdir ∷ verb.Rmdir ∷ verb.Unlink ∷ verb.Link ∷ verb.Symlink ∷ verb.Rename ∷ verb.RenameNew ∷ verb.Chmod ∷ verb.Truncate ∷ verb.Store ∷ verb.Open ∷ verb.OpenStat ∷ verb.Close ∷ verb.Read ∷ verb.Write ∷ verb.Pread ∷ verb.Pwrite ∷ verb.Lseek ∷ verb.Ftruncate ∷ verb.Fstat ∷ verb.Fsync ∷ verb.Sync ∷ verb.Df ∷ verb.Statfs ∷ verb.Snap ∷ verb.Take ∷ verb.Delete ∷ verb.Restore ∷ verb.In ∷ []
 
 -- a word that names none of all verbs names no verb
 pub none_named : (word : List ℕ) → All (λ v. word ≡ verb_name v → ⊥) all_verbs → (v : Verb) → word ≡ verb_name v → ⊥
 none_named word none verb.List = none 0 verb.List (lit< tt)
-none_named word none verb.Stat = none 1 verb.Stat (lit< tt)
-none_named word none verb.Lstat = none 2 verb.Lstat (lit< tt)
-none_named word none verb.Readlink = none 3 verb.Readlink (lit< tt)
-none_named word none verb.Get = none 4 verb.Get (lit< tt)
-none_named word none verb.Mkdir = none 5 verb.Mkdir (lit< tt)
-none_named word none verb.Rmdir = none 6 verb.Rmdir (lit< tt)
-none_named word none verb.Unlink = none 7 verb.Unlink (lit< tt)
-none_named word none verb.Link = none 8 verb.Link (lit< tt)
-none_named word none verb.Symlink = none 9 verb.Symlink (lit< tt)
-none_named word none verb.Rename = none 10 verb.Rename (lit< tt)
-none_named word none verb.Chmod = none 11 verb.Chmod (lit< tt)
-none_named word none verb.Truncate = none 12 verb.Truncate (lit< tt)
-none_named word none verb.Open = none 13 verb.Open (lit< tt)
-none_named word none verb.Close = none 14 verb.Close (lit< tt)
-none_named word none verb.Read = none 15 verb.Read (lit< tt)
-none_named word none verb.Write = none 16 verb.Write (lit< tt)
-none_named word none verb.Pread = none 17 verb.Pread (lit< tt)
-none_named word none verb.Pwrite = none 18 verb.Pwrite (lit< tt)
-none_named word none verb.Lseek = none 19 verb.Lseek (lit< tt)
-none_named word none verb.Ftruncate = none 20 verb.Ftruncate (lit< tt)
-none_named word none verb.Fstat = none 21 verb.Fstat (lit< tt)
-none_named word none verb.Fsync = none 22 verb.Fsync (lit< tt)
-none_named word none verb.Sync = none 23 verb.Sync (lit< tt)
-none_named word none verb.Df = none 24 verb.Df (lit< tt)
-none_named word none verb.Snap = none 25 verb.Snap (lit< tt)
-none_named word none verb.Take = none 26 verb.Take (lit< tt)
-none_named word none verb.Delete = none 27 verb.Delete (lit< tt)
-none_named word none verb.Restore = none 28 verb.Restore (lit< tt)
-none_named word none verb.In = none 29 verb.In (lit< tt)
+none_named word none verb.Entries = none 1 verb.Entries (lit< tt)
+none_named word none verb.Stat = none 2 verb.Stat (lit< tt)
+none_named word none verb.Lstat = none 3 verb.Lstat (lit< tt)
+none_named word none verb.Readlink = none 4 verb.Readlink (lit< tt)
+none_named word none verb.Get = none 5 verb.Get (lit< tt)
+none_named word none verb.Mkdir = none 6 verb.Mkdir (lit< tt)
+none_named word none verb.Rmdir = none 7 verb.Rmdir (lit< tt)
+none_named word none verb.Unlink = none 8 verb.Unlink (lit< tt)
+none_named word none verb.Link = none 9 verb.Link (lit< tt)
+none_named word none verb.Symlink = none 10 verb.Symlink (lit< tt)
+none_named word none verb.Rename = none 11 verb.Rename (lit< tt)
+none_named word none verb.RenameNew = none 12 verb.RenameNew (lit< tt)
+none_named word none verb.Chmod = none 13 verb.Chmod (lit< tt)
+none_named word none verb.Truncate = none 14 verb.Truncate (lit< tt)
+none_named word none verb.Store = none 15 verb.Store (lit< tt)
+none_named word none verb.Open = none 16 verb.Open (lit< tt)
+none_named word none verb.OpenStat = none 17 verb.OpenStat (lit< tt)
+none_named word none verb.Close = none 18 verb.Close (lit< tt)
+none_named word none verb.Read = none 19 verb.Read (lit< tt)
+none_named word none verb.Write = none 20 verb.Write (lit< tt)
+none_named word none verb.Pread = none 21 verb.Pread (lit< tt)
+none_named word none verb.Pwrite = none 22 verb.Pwrite (lit< tt)
+none_named word none verb.Lseek = none 23 verb.Lseek (lit< tt)
+none_named word none verb.Ftruncate = none 24 verb.Ftruncate (lit< tt)
+none_named word none verb.Fstat = none 25 verb.Fstat (lit< tt)
+none_named word none verb.Fsync = none 26 verb.Fsync (lit< tt)
+none_named word none verb.Sync = none 27 verb.Sync (lit< tt)
+none_named word none verb.Df = none 28 verb.Df (lit< tt)
+none_named word none verb.Statfs = none 29 verb.Statfs (lit< tt)
+none_named word none verb.Snap = none 30 verb.Snap (lit< tt)
+none_named word none verb.Take = none 31 verb.Take (lit< tt)
+none_named word none verb.Delete = none 32 verb.Delete (lit< tt)
+none_named word none verb.Restore = none 33 verb.Restore (lit< tt)
+none_named word none verb.In = none 34 verb.In (lit< tt)
 
 pub no_verb : (r : Option Verb) (word : List ℕ) → IfNone r (All (λ v. word ≡ verb_name v → ⊥) all_verbs) → IfNone r ((v : Verb) → word ≡ verb_name v → ⊥)
 no_verb None word none = none_named word none
@@ -51,6 +56,7 @@ first_named (v ∷ vs) word = cond (bytes_eq (verb_name v) word) (Some v) (first
 
 named : (v : Verb) → first_named all_verbs (verb_name v) ≡ Some v
 named verb.List = refl
+named verb.Entries = refl
 named verb.Stat = refl
 named verb.Lstat = refl
 named verb.Readlink = refl
@@ -61,9 +67,12 @@ named verb.Unlink = refl
 named verb.Link = refl
 named verb.Symlink = refl
 named verb.Rename = refl
+named verb.RenameNew = refl
 named verb.Chmod = refl
 named verb.Truncate = refl
+named verb.Store = refl
 named verb.Open = refl
+named verb.OpenStat = refl
 named verb.Close = refl
 named verb.Read = refl
 named verb.Write = refl
@@ -75,6 +84,7 @@ named verb.Fstat = refl
 named verb.Fsync = refl
 named verb.Sync = refl
 named verb.Df = refl
+named verb.Statfs = refl
 named verb.Snap = refl
 named verb.Take = refl
 named verb.Delete = refl

@@ -1,6 +1,7 @@
 -- How a command is spelled: words, one space apart.
-use Rattle.std.specs.Prelude.{ℕ, List, [], ◌∷◌, ◌++◌}
+use Rattle.std.specs.Prelude.{ℕ, ◌≡◌, List, [], ◌∷◌, ◌++◌}
 use Rattle.std.specs.List.{flat_map}
+use Rattle.model.specs.declared.limits.TheConstants.{SESSION_FILES}
 use Rattle.model.specs.declared.command.Command.{Command}
 use Rattle.model.specs.declared.command.Command.TheVariants as command
 use Rattle.model.specs.declared.command.PathCall.{PathCall}
@@ -23,6 +24,7 @@ line_of (word ∷ words) = word ++ spaced words
 -- the first word of a call that names a path, and its fields
 abbrev pub call_fields : PathCall → (v : Verb) × Values (call_form v)
 call_fields (call.List path) = (verb.List, (path, tt))
+call_fields (call.Entries path after count) = (verb.Entries, (path, (after, (count, tt))))
 call_fields (call.Stat path) = (verb.Stat, (path, tt))
 call_fields (call.Lstat path) = (verb.Lstat, (path, tt))
 call_fields (call.Readlink path) = (verb.Readlink, (path, tt))
@@ -33,8 +35,10 @@ call_fields (call.Unlink path) = (verb.Unlink, (path, tt))
 call_fields (call.Link old new) = (verb.Link, (old, (new, tt)))
 call_fields (call.Symlink text path) = (verb.Symlink, (text, (path, tt)))
 call_fields (call.Rename old new) = (verb.Rename, (old, (new, tt)))
+call_fields (call.RenameNew old new) = (verb.RenameNew, (old, (new, tt)))
 call_fields (call.Chmod path mode) = (verb.Chmod, (path, (mode, tt)))
 call_fields (call.Truncate path size) = (verb.Truncate, (path, (size, tt)))
+call_fields (call.Store path offset bytes) = (verb.Store, (path, (offset, (bytes, tt))))
 
 abbrev pub call_words : PathCall → List (List ℕ)
 call_words c = verb_name (call_fields c).0 ∷ form_words (call_form (call_fields c).0) (call_fields c).1
@@ -53,7 +57,8 @@ pub data Spelling : Type 0 where
 
 abbrev pub spelling_of : Command → Spelling
 spelling_of (command.Path call) = named call
-spelling_of (command.Open path flags mode) = plain verb.Open (path, (flags, mode))
+spelling_of (command.Open path flags mode below) = plain verb.Open (path, (flags, mode))
+spelling_of (command.OpenStat path flags mode below) = plain verb.OpenStat (path, (flags, mode))
 spelling_of (command.Close fd) = plain verb.Close (fd, tt)
 spelling_of (command.Read fd count) = plain verb.Read (fd, (count, tt))
 spelling_of (command.Write fd bytes) = plain verb.Write (fd, (bytes, tt))
@@ -65,6 +70,7 @@ spelling_of (command.Fstat fd) = plain verb.Fstat (fd, tt)
 spelling_of (command.Fsync fd) = plain verb.Fsync (fd, tt)
 spelling_of command.Sync = plain verb.Sync tt
 spelling_of command.Df = plain verb.Df tt
+spelling_of command.Statfs = plain verb.Statfs tt
 spelling_of (command.SnapTake name) = snap verb.Take (name, tt)
 spelling_of (command.SnapDelete name) = snap verb.Delete (name, tt)
 spelling_of (command.SnapRestore name) = snap verb.Restore (name, tt)
@@ -86,8 +92,13 @@ IsSpelling (snap v fields) = AreValues (snap_form v) fields
 abbrev pub command_words : Command → List (List ℕ)
 command_words c = spelling_words (spelling_of c)
 
--- a command's texts are bytes, its numbers and its mode fit
+-- a command's texts are bytes, its numbers and its mode fit, and a descriptor that it opens is a
+-- session's, below a number that isn't spelled
 abbrev pub IsCommandInForm : Command → Type 0
+IsCommandInForm (command.Open path flags mode below) =
+    (below ≡ SESSION_FILES) × IsSpelling (spelling_of (command.Open path flags mode below))
+IsCommandInForm (command.OpenStat path flags mode below) =
+    (below ≡ SESSION_FILES) × IsSpelling (spelling_of (command.OpenStat path flags mode below))
 IsCommandInForm c = IsSpelling (spelling_of c)
 
 -- a command's line

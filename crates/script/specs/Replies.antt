@@ -1,12 +1,15 @@
 -- How a reply is spelled.
 use Rattle.std.specs.Prelude.{ℕ, List, [], ◌∷◌, ◌++◌, codes, map}
 use Rattle.std.specs.Fmt.{decimal}
+use Rattle.std.specs.List.{flat_map}
 use Rattle.model.specs.Errnos.{errno_name}
 use Rattle.model.specs.declared.reply.Reply.{Reply}
 use Rattle.model.specs.declared.reply.Reply.TheVariants as reply
 use Rattle.model.specs.declared.reply.FileType.{FileType}
 use Rattle.model.specs.declared.reply.FileType.TheVariants as kind
 use Rattle.model.specs.declared.reply.Stat.{Stat}
+use Rattle.model.specs.declared.reply.Usage.{Usage}
+use Rattle.model.specs.declared.entries.Entry.{Entry}
 use Rattle.script.specs.Lines.{line_of}
 use Rattle.script.specs.Words.{data_word, mode_word, text_word}
 
@@ -18,7 +21,7 @@ kind_word kind.Link = codes "link"
 
 -- the words that describe an object: what it is, and its mode, links and size
 abbrev pub kind_words : Stat → List (List ℕ)
-kind_words s = codes "stat" ∷ codes "number" ∷ decimal s.number ∷ codes "kind" ∷ kind_word s.kind ∷ []
+kind_words s = codes "number" ∷ decimal s.number ∷ codes "kind" ∷ kind_word s.kind ∷ []
 
 abbrev pub size_words : Stat → List (List ℕ)
 size_words s =
@@ -27,19 +30,36 @@ size_words s =
 abbrev pub stat_words : Stat → List (List ℕ)
 stat_words s = kind_words s ++ size_words s
 
+-- the same without a name for each of them
+abbrev pub figure_words : Stat → List (List ℕ)
+figure_words s = decimal s.number ∷ kind_word s.kind ∷ mode_word s.mode ∷ decimal s.links ∷ decimal s.size ∷ []
+
+-- the words of a name in a directory: itself, its cookie, and what it names
+abbrev pub entry_words : Entry → List (List ℕ)
+entry_words e = text_word e.name ∷ decimal e.cookie ∷ figure_words e.stat
+
+-- the words of the room of the disk and for objects
+abbrev pub usage_words : Usage → List (List ℕ)
+usage_words u =
+    codes "blocks" ∷ decimal u.blocks ∷ codes "free" ∷ decimal u.free ∷ codes "reserved" ∷ decimal u.reserved
+    ∷ codes "inodes" ∷ decimal u.inodes ∷ codes "taken" ∷ decimal u.taken ∷ []
+
 -- the words of a reply
 abbrev pub reply_words : Reply → List (List ℕ)
 reply_words reply.Done = codes "ok" ∷ []
 reply_words (reply.Fd fd) = codes "fd" ∷ decimal fd ∷ []
+reply_words (reply.Opened fd stat) = codes "opened" ∷ codes "fd" ∷ decimal fd ∷ stat_words stat
 reply_words (reply.Data bytes) = codes "data" ∷ data_word bytes ∷ []
 reply_words (reply.Wrote count) = codes "wrote" ∷ decimal count ∷ []
 reply_words (reply.At offset) = codes "at" ∷ decimal offset ∷ []
 reply_words (reply.Text text) = codes "text" ∷ text_word text ∷ []
 reply_words (reply.Names names) = codes "names" ∷ map text_word names
+reply_words (reply.Entries entries) = codes "entries" ∷ flat_map entry_words entries
 reply_words (reply.Snaps names) = codes "snaps" ∷ map text_word names
-reply_words (reply.Stat stat) = stat_words stat
+reply_words (reply.Stat stat) = codes "stat" ∷ stat_words stat
 reply_words (reply.Space blocks free pledged) =
     codes "blocks" ∷ decimal blocks ∷ codes "free" ∷ decimal free ∷ codes "pledged" ∷ decimal pledged ∷ []
+reply_words (reply.Usage usage) = codes "usage" ∷ usage_words usage
 reply_words (reply.Refused errno) = codes "err" ∷ errno_name errno ∷ []
 
 -- the line of a reply

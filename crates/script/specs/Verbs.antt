@@ -7,6 +7,7 @@ use Rattle.script.specs.Forms as form
 
 abbrev pub verb_name : Verb → List ℕ
 verb_name verb.List = codes "list"
+verb_name verb.Entries = codes "entries"
 verb_name verb.Stat = codes "stat"
 verb_name verb.Lstat = codes "lstat"
 verb_name verb.Readlink = codes "readlink"
@@ -17,9 +18,12 @@ verb_name verb.Unlink = codes "unlink"
 verb_name verb.Link = codes "link"
 verb_name verb.Symlink = codes "symlink"
 verb_name verb.Rename = codes "rename"
+verb_name verb.RenameNew = codes "renamenew"
 verb_name verb.Chmod = codes "chmod"
 verb_name verb.Truncate = codes "truncate"
+verb_name verb.Store = codes "store"
 verb_name verb.Open = codes "open"
+verb_name verb.OpenStat = codes "openstat"
 verb_name verb.Close = codes "close"
 verb_name verb.Read = codes "read"
 verb_name verb.Write = codes "write"
@@ -31,6 +35,7 @@ verb_name verb.Fstat = codes "fstat"
 verb_name verb.Fsync = codes "fsync"
 verb_name verb.Sync = codes "sync"
 verb_name verb.Df = codes "df"
+verb_name verb.Statfs = codes "statfs"
 verb_name verb.Snap = codes "snap"
 verb_name verb.Take = codes "take"
 verb_name verb.Delete = codes "delete"
@@ -40,6 +45,7 @@ verb_name verb.In = codes "in"
 -- a call that names a path begins with it
 abbrev pub is_call : Verb → Bool
 is_call verb.List = true
+is_call verb.Entries = true
 is_call verb.Stat = true
 is_call verb.Lstat = true
 is_call verb.Readlink = true
@@ -50,8 +56,10 @@ is_call verb.Unlink = true
 is_call verb.Link = true
 is_call verb.Symlink = true
 is_call verb.Rename = true
+is_call verb.RenameNew = true
 is_call verb.Chmod = true
 is_call verb.Truncate = true
+is_call verb.Store = true
 is_call v = false
 
 -- the fields of a call that changes the tree; a new directory has mode 0755 unless another is
@@ -63,13 +71,16 @@ change_form verb.Unlink = field form.text end
 change_form verb.Link = field form.text (field form.text end)
 change_form verb.Symlink = field form.text (field form.text end)
 change_form verb.Rename = field form.text (field form.text end)
+change_form verb.RenameNew = field form.text (field form.text end)
 change_form verb.Chmod = field form.text (field form.mode end)
 change_form verb.Truncate = field form.text (field form.offset end)
+change_form verb.Store = field form.text (field form.offset (field form.bytes end))
 change_form v = none
 
 -- the fields of a call that names a path
 abbrev pub call_form : Verb → Form
 call_form verb.List = field form.text end
+call_form verb.Entries = field form.text (field form.offset (field form.count end))
 call_form verb.Stat = field form.text end
 call_form verb.Lstat = field form.text end
 call_form verb.Readlink = field form.text end
@@ -89,11 +100,13 @@ file_form v = none
 -- the fields of other commands; a new file has mode 0644 unless another is written
 abbrev pub command_form : Verb → Form
 command_form verb.Open = field form.text (field form.flags (last_mode 0o644))
+command_form verb.OpenStat = field form.text (field form.flags (last_mode 0o644))
 command_form verb.Close = field form.count end
 command_form verb.Fstat = field form.count end
 command_form verb.Fsync = field form.count end
 command_form verb.Sync = end
 command_form verb.Df = end
+command_form verb.Statfs = end
 command_form v = file_form v
 
 -- the fields behind `snap` and a second word

@@ -7,7 +7,7 @@ ghost use Rattle.script.specs.Readings.{ReadsFields, ReadsWords};
 ghost use Rattle.script.specs.Verbs.{call_form, change_form, verb_name};
 
 use crate::ScriptError;
-use crate::fields::{End, Fields, ModeOr, Then};
+use crate::fields::{Data, End, Fields, ModeOr, Then};
 use crate::verb::Verb;
 use model::{Bytes, PathCall};
 use std::alloc::Global;
@@ -50,6 +50,10 @@ pub(crate) fn read_fields(
         Verb::List => {
             let Then(path, End) = Fields::read(alloc, words)?;
             Ok(PathCall::List { path })
+        }
+        Verb::Entries => {
+            let Then(path, Then(after, Then(count, End))) = Fields::read(alloc, words)?;
+            Ok(PathCall::Entries { path, after, count })
         }
         Verb::Stat => {
             let Then(path, End) = Fields::read(alloc, words)?;
@@ -105,6 +109,10 @@ fn read_change(alloc: Global, verb: Verb, words: &[&[u8]]) -> Result<PathCall<'s
             let Then(old, Then(new, End)) = Fields::read(alloc, words)?;
             Ok(PathCall::Rename { old, new })
         }
+        Verb::RenameNew => {
+            let Then(old, Then(new, End)) = Fields::read(alloc, words)?;
+            Ok(PathCall::RenameNew { old, new })
+        }
         Verb::Chmod => {
             let Then(path, Then(mode, End)) = Fields::read(alloc, words)?;
             Ok(PathCall::Chmod { path, mode })
@@ -112,6 +120,10 @@ fn read_change(alloc: Global, verb: Verb, words: &[&[u8]]) -> Result<PathCall<'s
         Verb::Truncate => {
             let Then(path, Then(size, End)) = Fields::read(alloc, words)?;
             Ok(PathCall::Truncate { path, size })
+        }
+        Verb::Store => {
+            let Then(path, Then(offset, Then(Data(data), End))) = Fields::read(alloc, words)?;
+            Ok(PathCall::Store { path, offset, data })
         }
         _ => Err(ScriptError::NotACommand),
     }

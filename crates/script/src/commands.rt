@@ -11,7 +11,7 @@ use crate::calls::{read_call, read_fields};
 use crate::fields::{Data, End, Fields, ModeOr, Then};
 use crate::verb::Verb;
 use crate::words::read_text;
-use model::{Bytes, Command, Flags};
+use model::{Bytes, Command, Flags, SESSION_FILES};
 use std::alloc::Global;
 
 /// The command that words spell.
@@ -122,6 +122,17 @@ fn read_plain(alloc: Global, verb: Verb, words: &[&[u8]]) -> Result<Command<'sta
                 path,
                 flags,
                 mode: mode.0,
+                below: SESSION_FILES,
+            })
+        }
+        Verb::OpenStat => {
+            let Then(path, Then(flags, mode)): Then<Bytes<'static>, Then<Flags, ModeOr<0o644>>> =
+                Fields::read(alloc, words)?;
+            Ok(Command::OpenStat {
+                path,
+                flags,
+                mode: mode.0,
+                below: SESSION_FILES,
             })
         }
         Verb::Close => {
@@ -138,6 +149,7 @@ fn read_plain(alloc: Global, verb: Verb, words: &[&[u8]]) -> Result<Command<'sta
         }
         Verb::Sync => read_alone(Command::Sync, words),
         Verb::Df => read_alone(Command::Df, words),
+        Verb::Statfs => read_alone(Command::Statfs, words),
         _ => read_file(alloc, verb, words),
     }
 }

@@ -1,13 +1,14 @@
 //! The lines of replies.
 
-ghost use Rattle.std.specs.Prelude.{◌≡◌, ◌++◌, OnOk, map};
+ghost use Rattle.std.specs.Prelude.{◌≡◌, ◌∷◌, ◌++◌, [], OnOk, map};
 ghost use Rattle.std.specs.Fmt.{decimal};
-ghost use Rattle.script.specs.Lines.{line_of, spaced};
-ghost use Rattle.script.specs.Replies.{kind_word, kind_words, reply_line, size_words, stat_words};
+ghost use Rattle.std.specs.List.{flat_map};
+ghost use Rattle.script.specs.Lines.{spaced};
+ghost use Rattle.script.specs.Replies.{entry_words, figure_words, kind_word, kind_words, reply_line, size_words, stat_words, usage_words};
 ghost use Rattle.script.specs.Words.{text_word, AddsText};
 
 use crate::words::{mode_word, push_data, push_text};
-use model::{FileType, Names, Reply, Stat};
+use model::{Entries, Entry, FileType, Names, Reply, Stat, Usage};
 use std::alloc::{AllocError, Global};
 
 /// Adds a reply's line.
@@ -17,6 +18,10 @@ pub(crate) fn push_reply(alloc: Global, line: &mut Vec<u8>, reply: &Reply) -> Re
     match reply {
         Reply::Done => line.extend_from_slice(b"ok"),
         Reply::Fd(fd) => push_number(alloc, line, b"fd ", u64::from(*fd)),
+        Reply::Opened { fd, stat } => {
+            push_number(alloc, line, b"opened fd ", u64::from(*fd))?;
+            push_stat(alloc, line, stat)
+        }
         Reply::Data(data) => {
             line.extend_from_slice(b"data ")?;
             push_data(line, data.as_bytes())
@@ -31,11 +36,18 @@ pub(crate) fn push_reply(alloc: Global, line: &mut Vec<u8>, reply: &Reply) -> Re
             line.extend_from_slice(b"names")?;
             push_names(line, names)
         }
+        Reply::Entries(entries) => {
+            line.extend_from_slice(b"entries")?;
+            push_entries(alloc, line, entries)
+        }
         Reply::Snaps(names) => {
             line.extend_from_slice(b"snaps")?;
             push_names(line, names)
         }
-        Reply::Stat(stat) => push_stat(alloc, line, stat),
+        Reply::Stat(stat) => {
+            line.extend_from_slice(b"stat")?;
+            push_stat(alloc, line, stat)
+        }
         Reply::Space {
             blocks,
             free,
@@ -44,6 +56,10 @@ pub(crate) fn push_reply(alloc: Global, line: &mut Vec<u8>, reply: &Reply) -> Re
             push_number(alloc, line, b"blocks ", u64::from(*blocks))?;
             push_number(alloc, line, b" free ", u64::from(*free))?;
             push_number(alloc, line, b" pledged ", *pledged)
+        }
+        Reply::Usage(usage) => {
+            line.extend_from_slice(b"usage")?;
+            push_usage(alloc, line, usage)
         }
         Reply::Refused(errno) => {
             line.extend_from_slice(b"err ")?;
@@ -84,18 +100,70 @@ fn push_names(line: &mut Vec<u8>, names: &Names) -> Result<(), AllocError>
     Ok(())
 }
 
+/// Adds names with what is told of each.
+fn push_entries(alloc: Global, line: &mut Vec<u8>, entries: &Entries) -> Result<(), AllocError>
+    ensures { OnOk result (AddsText line.old line.new (spaced (flat_map entry_words entries.now))) }
+{
+    for entry in entries.as_slice() {
+        push_entry(alloc, line, entry)?;
+    }
+    Ok(())
+}
+
+/// Adds a name, its cookie and what it names.
+fn push_entry(alloc: Global, line: &mut Vec<u8>, entry: &Entry) -> Result<(), AllocError>
+    ensures { OnOk result (AddsText line.old line.new (spaced (entry_words entry.now))) }
+{
+    line.extend_from_slice(b" ")?;
+    push_text(line, entry.name.as_bytes())?;
+    push_number(alloc, line, b" ", entry.cookie)?;
+    push_figures(alloc, line, &entry.stat)
+}
+
+/// Adds what a name names.
+fn push_figures(alloc: Global, line: &mut Vec<u8>, stat: &Stat) -> Result<(), AllocError>
+    ensures { OnOk result (AddsText line.old line.new (spaced (figure_words stat.now))) }
+{
+    push_number(alloc, line, b" ", u64::from(stat.number))?;
+    push_kind_word(line, stat.kind)?;
+    line.extend_from_slice(b" ")?;
+    line.extend_from_slice(&mode_word(stat.mode))?;
+    push_number(alloc, line, b" ", u64::from(stat.links))?;
+    push_number(alloc, line, b" ", stat.size)
+}
+
+/// Adds how much room there is.
+fn push_usage(alloc: Global, line: &mut Vec<u8>, usage: &Usage) -> Result<(), AllocError>
+    ensures { OnOk result (AddsText line.old line.new (spaced (usage_words usage.now))) }
+{
+    push_number(alloc, line, b" blocks ", u64::from(usage.blocks))?;
+    push_number(alloc, line, b" free ", u64::from(usage.free))?;
+    push_number(alloc, line, b" reserved ", usage.reserved)?;
+    push_number(alloc, line, b" inodes ", u64::from(usage.inodes))?;
+    push_number(alloc, line, b" taken ", u64::from(usage.taken))
+}
+
+/// Adds what stands somewhere.
 fn push_stat(alloc: Global, line: &mut Vec<u8>, stat: &Stat) -> Result<(), AllocError>
-    ensures { OnOk result (AddsText line.old line.new (line_of (stat_words stat.now))) }
+    ensures { OnOk result (AddsText line.old line.new (spaced (stat_words stat.now))) }
 {
     push_kind(alloc, line, stat)?;
     push_mode_and_size(alloc, line, stat)
 }
 
 fn push_kind(alloc: Global, line: &mut Vec<u8>, stat: &Stat) -> Result<(), AllocError>
-    ensures { OnOk result (AddsText line.old line.new (line_of (kind_words stat.now))) }
+    ensures { OnOk result (AddsText line.old line.new (spaced (kind_words stat.now))) }
 {
-    push_number(alloc, line, b"stat number ", u64::from(stat.number))?;
-    push_word(line, b" kind ", kind_word(stat.kind))
+    push_number(alloc, line, b" number ", u64::from(stat.number))?;
+    line.extend_from_slice(b" kind")?;
+    push_kind_word(line, stat.kind)
+}
+
+/// Adds the word of a kind behind a space.
+fn push_kind_word(line: &mut Vec<u8>, kind: FileType) -> Result<(), AllocError>
+    ensures { OnOk result (AddsText line.old line.new (spaced (kind_word kind ∷ []))) }
+{
+    push_word(line, b" ", kind_word(kind))
 }
 
 fn push_mode_and_size(alloc: Global, line: &mut Vec<u8>, stat: &Stat) -> Result<(), AllocError>

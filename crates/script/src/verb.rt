@@ -7,6 +7,7 @@ ghost use Rattle.script.specs.Verbs.{is_call, verb_name};
 #[derive(Clone, Copy)]
 pub(crate) enum Verb {
     List,
+    Entries,
     Stat,
     Lstat,
     Readlink,
@@ -17,9 +18,12 @@ pub(crate) enum Verb {
     Link,
     Symlink,
     Rename,
+    RenameNew,
     Chmod,
     Truncate,
+    Store,
     Open,
+    OpenStat,
     Close,
     Read,
     Write,
@@ -31,6 +35,7 @@ pub(crate) enum Verb {
     Fsync,
     Sync,
     Df,
+    Statfs,
     Snap,
     Take,
     Delete,
@@ -39,8 +44,9 @@ pub(crate) enum Verb {
 }
 
 impl Verb {
-    const ALL: [Verb; 30] = [
+    const ALL: [Verb; 35] = [
         Verb::List,
+        Verb::Entries,
         Verb::Stat,
         Verb::Lstat,
         Verb::Readlink,
@@ -51,9 +57,12 @@ impl Verb {
         Verb::Link,
         Verb::Symlink,
         Verb::Rename,
+        Verb::RenameNew,
         Verb::Chmod,
         Verb::Truncate,
+        Verb::Store,
         Verb::Open,
+        Verb::OpenStat,
         Verb::Close,
         Verb::Read,
         Verb::Write,
@@ -65,6 +74,7 @@ impl Verb {
         Verb::Fsync,
         Verb::Sync,
         Verb::Df,
+        Verb::Statfs,
         Verb::Snap,
         Verb::Take,
         Verb::Delete,
@@ -99,6 +109,7 @@ impl Verb {
         matches!(
             self,
             Verb::List
+                | Verb::Entries
                 | Verb::Stat
                 | Verb::Lstat
                 | Verb::Readlink
@@ -109,8 +120,10 @@ impl Verb {
                 | Verb::Link
                 | Verb::Symlink
                 | Verb::Rename
+                | Verb::RenameNew
                 | Verb::Chmod
                 | Verb::Truncate
+                | Verb::Store
         )
     }
 
@@ -119,6 +132,7 @@ impl Verb {
     {
         match self {
             Verb::List => b"list",
+            Verb::Entries => b"entries",
             Verb::Stat => b"stat",
             Verb::Lstat => b"lstat",
             Verb::Readlink => b"readlink",
@@ -129,9 +143,12 @@ impl Verb {
             Verb::Link => b"link",
             Verb::Symlink => b"symlink",
             Verb::Rename => b"rename",
+            Verb::RenameNew => b"renamenew",
             Verb::Chmod => b"chmod",
             Verb::Truncate => b"truncate",
+            Verb::Store => b"store",
             Verb::Open => b"open",
+            Verb::OpenStat => b"openstat",
             Verb::Close => b"close",
             Verb::Read => b"read",
             Verb::Write => b"write",
@@ -143,6 +160,7 @@ impl Verb {
             Verb::Fsync => b"fsync",
             Verb::Sync => b"sync",
             Verb::Df => b"df",
+            Verb::Statfs => b"statfs",
             Verb::Snap => b"snap",
             Verb::Take => b"take",
             Verb::Delete => b"delete",

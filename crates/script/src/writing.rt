@@ -23,9 +23,23 @@ pub(crate) fn push_command(
 {
     match command {
         Command::Path(call) => push_call(alloc, line, call),
-        Command::Open { path, flags, mode } => {
+        Command::Open {
+            path,
+            flags,
+            mode,
+            ..
+        } => {
             let fields = Then(path, Then(*flags, ModeOr::<0o644>(*mode)));
             push_fields(alloc, line, Verb::Open, &fields)
+        }
+        Command::OpenStat {
+            path,
+            flags,
+            mode,
+            ..
+        } => {
+            let fields = Then(path, Then(*flags, ModeOr::<0o644>(*mode)));
+            push_fields(alloc, line, Verb::OpenStat, &fields)
         }
         Command::Close { fd } => push_fields(alloc, line, Verb::Close, &Then(*fd, End)),
         Command::Read { fd, count } => {
@@ -58,6 +72,7 @@ pub(crate) fn push_command(
         Command::Fsync { fd } => push_fields(alloc, line, Verb::Fsync, &Then(*fd, End)),
         Command::Sync => push_fields(alloc, line, Verb::Sync, &End),
         Command::Df => push_fields(alloc, line, Verb::Df, &End),
+        Command::Statfs => push_fields(alloc, line, Verb::Statfs, &End),
         Command::SnapTake { name } => push_snap(alloc, line, Verb::Take, &Then(name, End)),
         Command::SnapDelete { name } => push_snap(alloc, line, Verb::Delete, &Then(name, End)),
         Command::SnapRestore { name } => push_snap(alloc, line, Verb::Restore, &Then(name, End)),
@@ -102,6 +117,10 @@ fn push_call(alloc: Global, line: &mut Vec<u8>, call: &PathCall<'_>) -> Result<(
 {
     match call {
         PathCall::List { path } => push_fields(alloc, line, Verb::List, &Then(path, End)),
+        PathCall::Entries { path, after, count } => {
+            let fields = Then(path, Then(*after, Then(*count, End)));
+            push_fields(alloc, line, Verb::Entries, &fields)
+        }
         PathCall::Stat { path } => push_fields(alloc, line, Verb::Stat, &Then(path, End)),
         PathCall::Lstat { path } => push_fields(alloc, line, Verb::Lstat, &Then(path, End)),
         PathCall::Readlink { path } => push_fields(alloc, line, Verb::Readlink, &Then(path, End)),
@@ -128,11 +147,18 @@ fn push_call(alloc: Global, line: &mut Vec<u8>, call: &PathCall<'_>) -> Result<(
         PathCall::Rename { old, new } => {
             push_fields(alloc, line, Verb::Rename, &Then(old, Then(new, End)))
         }
+        PathCall::RenameNew { old, new } => {
+            push_fields(alloc, line, Verb::RenameNew, &Then(old, Then(new, End)))
+        }
         PathCall::Chmod { path, mode } => {
             push_fields(alloc, line, Verb::Chmod, &Then(path, Then(*mode, End)))
         }
         PathCall::Truncate { path, size } => {
             push_fields(alloc, line, Verb::Truncate, &Then(path, Then(*size, End)))
+        }
+        PathCall::Store { path, offset, data } => {
+            let fields = Then(path, Then(*offset, Then(DataOf(data), End)));
+            push_fields(alloc, line, Verb::Store, &fields)
         }
     }
 }

@@ -4,7 +4,6 @@ use Rattle.std.specs.Prelude.{ℕ, ◌≡◌, ◌≤◌, ◌+◌, ◌*◌, ◌�
 use Rattle.std.specs.List.{flat_map}
 use Rattle.std.specs.Io.KnownBytes.{Appends}
 use Rattle.model.specs.declared.command.Command.{Command}
-use Rattle.model.specs.declared.command.Command.TheVariants.{Df}
 use Rattle.model.specs.declared.errno.Errno.TheVariants.{FAILED}
 use Rattle.model.specs.declared.reply.Reply.{Reply}
 use Rattle.model.specs.declared.reply.Reply.TheVariants.{Refused as refused}
@@ -12,7 +11,7 @@ use Rattle.model.specs.States.{State}
 use Rattle.script.specs.Replies.{reply_line}
 use Rattle.station.specs.declared.station.Station.{Ghosts}
 use Rattle.dispatch.specs.Serving.{AnswersAtOnce, IsAtOnce}
-use Rattle.mount.specs.Applying.{AnswersAlways, RunsAt}
+use Rattle.mount.specs.Applying.{AnswersAlways, IsQuiet, RunsAt}
 use Rattle.mount.specs.Systems.{mounted, Serves, IsYoung, LastsFor}
 use Rattle.mount.specs.declared.fs.Fs.{Fs}
 use Rattle.mount.specs.declared.fs.TheConstants.{POINTS}
@@ -41,7 +40,7 @@ lines_of_steps steps = flat_map (λ step. shown step.1) steps
 pub record IsAnsweredBy {S : Type 0} {G : Ghosts S} (old new : Fs S G) (command : Command) (reply : Reply) : Type 0 where
   pub answers : AnswersAlways old new command reply
   pub at_once : IsAtOnce old.system.files command → AnswersAtOnce old.system new.system reply
-  pub quiet : command ≡ Df → new ≡ old
+  pub quiet : IsQuiet command → new ≡ old
   pub failed : IsTrue old.has_failed → (reply ≡ refused FAILED) × (new ≡ old)
   pub lasts : new.system.log.epoch ≤ old.system.log.epoch + POINTS
   pub goes_on : (first : Fs S G) (s : State) (steps : List (Command × Reply)) → RunsAt first s old steps → IsYoung old

@@ -29,3 +29,9 @@ pub busy : (s : State) (name : Name) (pair : Name × Tree) → frozen s name ≡
 busy s name pair is is_open room =
     let first = λ (o : Option (Name × Tree)) (b : Bool). first_refusal ((is_none o, NOSNAP) ∷ (b, EBUSY) ∷ []) in
     refused s ((is_none (frozen s name), NOSNAP) ∷ (has_open_below s.tree OPEN_FILES, EBUSY) ∷ []) _ EBUSY (ap (λ (o : Option (Name × Tree)). first o (has_open_below s.tree OPEN_FILES)) is ∙ ap (first (Some pair)) is_open)
+
+-- no snapshot has the name
+pub missing : (s : State) (name : Name) → frozen s name ≡ None → Refuses s (SnapRestore name) NOSNAP
+missing s name is room =
+    refused s ((is_none (frozen s name), NOSNAP) ∷ (has_open_below s.tree OPEN_FILES, EBUSY) ∷ []) _ NOSNAP
+    (ap (λ (o : Option (Name × Tree)). first_refusal ((is_none o, NOSNAP) ∷ (has_open_below s.tree OPEN_FILES, EBUSY) ∷ [])) is)

@@ -1,5 +1,5 @@
 -- Commands that change the snapshots, once their tests are passed.
-use Rattle.std.specs.Prelude.{ℕ, ◌≡◌, ◌≤◌, Bool, true, false, Option, None, length}
+use Rattle.std.specs.Prelude.{◌≡◌, ◌≤◌, Bool, true, false, None, length}
 use Rattle.layout.specs.Places.{Blocks}
 use Rattle.layout.specs.Version.{greatest_size}
 use Rattle.layout.specs.declared.root.Root.{Root}

@@ -12,6 +12,7 @@ mod RestLaws
 mod SteppingLaws
 mod CoveringLaws
 pub mod RoomLaws
+mod UsageLaws
 pub mod CoveredLaws
 pub mod ViewLaws
 mod CheckpointLaws

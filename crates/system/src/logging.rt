@@ -8,7 +8,7 @@ ghost use Rattle.model.specs.Room.{cost};
 ghost use Rattle.model.specs.States.{State};
 ghost use Rattle.model.specs.Trees.{Description};
 ghost use Rattle.model.specs.Volumes.{Volume};
-ghost use Rattle.descriptors.specs.Tables.{table_of};
+ghost use Rattle.descriptors.specs.Tables.{KeepsRoom, table_of};
 ghost use Rattle.oplog.specs.LogEnd.{HasRoomInHalf, behind_record, logged_body};
 ghost use Rattle.records.specs.Prepared.{IsReady};
 ghost use Rattle.system.specs.Logging.{Advances, Appends, LogsAt};
@@ -98,6 +98,7 @@ impl<S: Station> System<S> {
             × (self.new.blocks.pending ≡ self.old.blocks.pending)
             × (self.new.log.epoch ≡ self.old.log.epoch)
             × OnOk result (self.new.log.is_stopped ≡ self.old.log.is_stopped) }
+        ensures keeps { KeepsRoom self.old.files self.new.files }
         ensures stops { IsErrOf result CallError.NotWritten → IsTrue self.new.log.is_stopped }
         ensures full { IsErrOf result CallError.LogFull
             → (self.old.log.epoch ≢ self.old.root.generation + 1)

@@ -181,7 +181,7 @@ fn open_found<S: Station>(
                 pledged,
                 pledged_then: pledged,
                 free,
-                files: Descriptors::new(),
+                files: Descriptors::new(alloc),
             })
         }
         Err(error) => Err((error, blocks.buffers.into_station())),

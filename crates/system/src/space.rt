@@ -5,13 +5,17 @@ ghost use Rattle.layout.specs.Places.{blocks_of};
 ghost use Rattle.model.specs.Paths.{Name};
 ghost use Rattle.model.specs.Records as records;
 ghost use Rattle.model.specs.Records.{TellsRoom};
+ghost use Rattle.model.specs.Room.{Room, nothing};
 ghost use Rattle.model.specs.States.{State};
+ghost use Rattle.model.specs.Steps.{tells_usage};
 ghost use Rattle.model.specs.Trees.{Description};
+ghost use Rattle.model.specs.declared.reply.Reply.{Reply};
 ghost use Rattle.images.specs.Roots.{whole};
 ghost use Rattle.images.specs.Room.{free_under};
 ghost use Rattle.system.specs.Systems.{HasState};
 
 use crate::System;
+use model::{HEADROOM_BLOCKS, ROOT_NUMBER, Usage, fixed_cost, volumes_tell_used_numbers};
 use station::Station;
 
 /// The room of a disk, in blocks.
@@ -50,6 +54,33 @@ impl<S: Station> System<S> {
             blocks: self.map.count(),
             free: self.free,
             pledged: self.pledged,
+        }
+    }
+
+    /// How much room there is, and for how many objects, with no device call.
+    pub fn usage(&self) -> Usage
+        ensures { (table : ℕ → Option Description) (s : State)
+            → (serves : HasState self.now table s) → (room : Room) → let root = serves.settled.root in
+            room.blocks ≡ self.now.root.geometry.blocks
+            → room.free
+            ≡ free_under (whole (blocks_of serves.settled.disk) root).active root.geometry.blocks
+            → TellsRoom root.geometry.inodes serves.settled.volume serves.running
+            serves.lasts.replayed.changes room
+            → tells_usage room s (Reply.Usage result) s nothing }
+    {
+        volumes_tell_used_numbers();
+        let Space {
+            blocks,
+            free,
+            pledged,
+        } = self.space();
+        Usage {
+            blocks,
+            free,
+            // A system that serves a state pledges free blocks alone, so this is the sum.
+            reserved: pledged.saturating_add(fixed_cost(blocks) + HEADROOM_BLOCKS),
+            inodes: self.inodes.geometry().inodes() - ROOT_NUMBER,
+            taken: self.inodes.count_taken(),
         }
     }
 }

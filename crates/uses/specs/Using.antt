@@ -8,7 +8,7 @@ use Rattle.model.specs.declared.command.Command.TheVariants as command
 use Rattle.model.specs.declared.command.Flags.{Flags}
 use Rattle.model.specs.declared.command.PathCall.TheVariants as call
 use Rattle.model.specs.declared.errno.Errno.{Errno}
-use Rattle.model.specs.declared.limits.TheConstants.{TRANSFER_BYTES}
+use Rattle.model.specs.declared.limits.TheConstants.{OPEN_FILES, TRANSFER_BYTES}
 use Rattle.model.specs.declared.reply.Reply.{Reply}
 use Rattle.model.specs.declared.reply.Reply.TheVariants as reply
 use Rattle.model.specs.States.{State}
@@ -31,7 +31,7 @@ new_file = record { access = Both; creates = true; exclusive = true; truncates =
 abbrev pub note_steps : List ℕ → ℕ → ℕ → List ℕ → Steps
 note_steps note fd written kept =
     (command.Path (call.Mkdir (codes "/notes") 0o755), reply.Done)
-    ∷ (command.Open (codes "/notes/first") new_file 0o600, reply.Fd fd)
+    ∷ (command.Open (codes "/notes/first") new_file 0o600 OPEN_FILES, reply.Fd fd)
     ∷ (command.Write fd note, reply.Wrote written)
     ∷ (command.Pread fd (pos 0) TRANSFER_BYTES, reply.Data kept)
     ∷ (command.Close fd, reply.Done)

@@ -4,12 +4,11 @@ ghost use Rattle.std.specs.Prelude.{◌≡◌, ◌++◌, None, Ok, false};
 ghost use Rattle.model.specs.Changing.{links};
 ghost use Rattle.model.specs.Paths.{first_refusal, new_text_tests, text_tests, parts as parts_of};
 ghost use Rattle.model.specs.Records.{link};
-ghost use Rattle.model.specs.Resolution.{resolve};
 ghost use Rattle.model.specs.Volumes.{tree_of};
 ghost use Rattle.paths.specs.Steps.{found_in};
 ghost use Rattle.paths.specs.declared.lookup.Found.TheVariants as found;
 ghost use Rattle.calls.specs.Changing.{Comes, Decides};
-ghost use Rattle.calls.specs.Leading.{LeadsTo};
+ghost use Rattle.calls.specs.Leading.{LeadsAlong};
 ghost use Rattle.calls.specs.Preparing.{Prepares};
 
 use crate::leading::find_object;
@@ -18,7 +17,7 @@ use buffers::Blocks;
 use inofile::InodeFile;
 use layout::InodeNumber;
 use model::{Errno, records_change_trees, volumes_are_trees, volumes_tell_links};
-use paths::{Found, Parts, Place, refusal_of_new_text, refusal_of_text, resolve};
+use paths::{Found, Parts, Place, refusal_of_new_text, refusal_of_text, resolve_place};
 use records::{Failure, kind_at, prepare_link};
 use std::alloc::Global;
 
@@ -64,7 +63,7 @@ fn link_along<B: Blocks>(
         (λ inodes v table. Comes (links (tree_of v table) old.now path.now) inodes v table) result }
 {
     volumes_are_trees();
-    let number = find_object(alloc, inodes, blocks, from, false)?;
+    let number = find_object(alloc, inodes, blocks, old, from, false)?;
     let found = kind_at(alloc, inodes, blocks, number)?;
     match found {
         Found::File => link_file(alloc, inodes, blocks, old, path, parts, number),
@@ -85,14 +84,14 @@ fn link_file<B: Blocks>(
     requires parts { parts ≡ parts_of path.now }
     requires passed { first_refusal (text_tests old.now ++ new_text_tests path.now) ≡ None }
     ensures { Prepares B.Blocks blocks.old blocks.new inodes.old inodes.new
-        (λ inodes v table r. found_in (v number) ≡ found.File → LeadsTo v (resolve (tree_of v table)
-        false old.now) (Ok number) → Comes (links (tree_of v table) old.now path.now) inodes v table r)
+        (λ inodes v table r. found_in (v number) ≡ found.File → LeadsAlong (tree_of v table)
+        v false old.now (Ok number) → Comes (links (tree_of v table) old.now path.now) inodes v table r)
         result }
 {
     volumes_are_trees();
     volumes_tell_links();
     records_change_trees();
-    let place = resolve(alloc, inodes, blocks, parts, false)?;
+    let place = resolve_place(alloc, inodes, blocks, path, parts, false)?;
     match place {
         Place::Missing { trail, name } => {
             return link_in(alloc, inodes, blocks, trail.here(), name, number);

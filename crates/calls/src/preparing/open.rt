@@ -17,10 +17,10 @@ use buffers::Blocks;
 use inofile::InodeFile;
 use layout::InodeNumber;
 use model::{
-    Errno, FileType, Flags, Mode, records_change_trees, volumes_are_trees,
-    volumes_tell_fresh_numbers,
+    Errno, FileType, Flags, Mode, records_change_trees, records_keep_volumes, sweeps_keep_volumes,
+    volumes_are_trees, volumes_tell_fresh_numbers, volumes_tell_links,
 };
-use paths::{Parts, Place, resolve};
+use paths::{Parts, Place, Target, resolve};
 use records::Failure;
 use std::alloc::Global;
 
@@ -33,6 +33,8 @@ pub struct Opened {
     pub size: u64,
     /// How many names it has.
     pub links: u32,
+    /// Its mode.
+    pub mode: Mode,
     /// What is changed beside: the file is made, or truncated to no bytes.
     pub changing: Option<Changing>,
 }
@@ -60,8 +62,16 @@ pub fn open_along<B: Blocks>(
 {
     volumes_are_trees();
     volumes_tell_fresh_numbers();
+    volumes_tell_links();
     records_change_trees();
-    let place = resolve(alloc, inodes, blocks, parts, !wants_new(flags))?;
+    records_keep_volumes();
+    sweeps_keep_volumes();
+    let follow = !wants_new(flags);
+    let target = resolve(alloc, inodes, blocks, path, parts, follow)?;
+    let place = match target {
+        Target::Object(number) => return open_object(alloc, inodes, blocks, number, flags),
+        Target::Place(place) => place,
+    };
     match place {
         Place::Missing { trail, name } => {
             open_new(alloc, inodes, blocks, trail.here(), name, flags, mode)
@@ -97,8 +107,10 @@ fn open_object<B: Blocks>(
     ensures opens { PreparesOpening B.Blocks blocks.old blocks.new inodes.old inodes.new
         (λ inodes v table r. (o : trees.Object) → object_of number (v number) ≡ Some o → (IsTrue
         (not (flags.creates && flags.exclusive)) → found_in (v number) ≢ found.Link) → OpensAt
-        (opens_object (tree_of v table) o flags) inodes flags v table r) result }
+        (λ tells. opens_object tells (tree_of v table) o flags) inodes flags v table r) result }
 {
+    volumes_tell_links();
+    records_keep_volumes();
     if wants_new(flags) {
         return Err(Failure::Refused(Errno::EEXIST));
     }
@@ -111,6 +123,7 @@ fn open_object<B: Blocks>(
             number,
             size: stat.size,
             links: stat.links,
+            mode: stat.mode,
             changing: None,
         });
     }
@@ -119,6 +132,7 @@ fn open_object<B: Blocks>(
         number,
         size: 0,
         links: stat.links,
+        mode: stat.mode,
         changing,
     })
 }
@@ -149,6 +163,7 @@ fn open_new<B: Blocks>(
         number,
         size: 0,
         links: 1,
+        mode,
         changing: Some(changing),
     })
 }

@@ -14,7 +14,7 @@ use buffers::Blocks;
 use inofile::InodeFile;
 use layout::InodeNumber;
 use model::{Errno, records_change_trees, volumes_are_trees};
-use paths::{Found, Parts, Place, refusal_of_new_text, resolve};
+use paths::{Found, Parts, Place, refusal_of_new_text, resolve_place};
 use records::{Failure, kind_at};
 use std::alloc::Global;
 
@@ -39,7 +39,7 @@ pub fn remove_directory<B: Blocks>(
     if is_root(path) {
         return Err(Failure::Refused(Errno::EBUSY));
     }
-    let place = resolve(alloc, inodes, blocks, parts, false)?;
+    let place = resolve_place(alloc, inodes, blocks, path, parts, false)?;
     match place {
         Place::Entry {
             trail,

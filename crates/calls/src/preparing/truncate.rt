@@ -76,7 +76,7 @@ fn truncate_along<B: Blocks>(
         (λ inodes v table. ComesOrStays (truncates (tree_of v table) path.now size) inodes v table)
         result }
 {
-    let number = find_object(alloc, inodes, blocks, parts, true)?;
+    let number = find_object(alloc, inodes, blocks, path, parts, true)?;
     let found = kind_at(alloc, inodes, blocks, number)?;
     match found {
         Found::File => truncate_file(alloc, inodes, blocks, number, size.unsigned_abs()),

@@ -13,7 +13,7 @@ use buffers::Blocks;
 use inofile::InodeFile;
 use layout::InodeNumber;
 use model::{Errno, records_change_trees, volumes_are_trees};
-use paths::{Found, Parts, Place, refusal_of_new_text, resolve};
+use paths::{Found, Parts, Place, refusal_of_new_text, resolve_place};
 use records::{Failure, kind_at, prepare_remove_name};
 use std::alloc::Global;
 
@@ -35,7 +35,7 @@ pub fn unlink<B: Blocks>(
     if let Some(errno) = refusal_of_new_text(path, &parts) {
         return Err(Failure::Refused(errno));
     }
-    let place = resolve(alloc, inodes, blocks, parts, false)?;
+    let place = resolve_place(alloc, inodes, blocks, path, parts, false)?;
     match place {
         Place::Entry {
             trail,

@@ -32,17 +32,17 @@ pub fn get<B: Blocks>(
     if let Some(errno) = refusal_of_text(path, &parts) {
         return Err(Failure::Refused(errno));
     }
-    if is_no_range(offset, count) {
+    if is_no_range(offset, count as usize) {
         return Err(Failure::Refused(Errno::EINVAL));
     }
     get_along(alloc, inodes, blocks, path, parts, offset, count)
 }
 
-// Whether nothing is read from such an offset, or so many bytes are too many.
-fn is_no_range(offset: i64, count: u32) -> bool
+/// Whether there is no such offset, or so many bytes are more than one call reads or writes.
+pub(crate) fn is_no_range(offset: i64, count: usize) -> bool
     ensures { result ≡ (is_negative offset || is_too_many count) }
 {
-    offset < 0 || count as usize > TRANSFER_BYTES
+    offset < 0 || count > TRANSFER_BYTES
 }
 
 // The same with a text that passed its tests, and its parts; EISDIR where it leads to no file.
@@ -60,7 +60,7 @@ fn get_along<B: Blocks>(
     ensures { Answers B.Blocks blocks.old blocks.new inodes.old inodes.new
         (λ t. gets t path.now offset count) data_reply result }
 {
-    let number = find_object(alloc, inodes, blocks, parts, true)?;
+    let number = find_object(alloc, inodes, blocks, path, parts, true)?;
     let found = read_bytes(alloc, inodes, blocks, number, offset.unsigned_abs(), count)?;
     match found {
         Some(text) => Ok(text),

@@ -8,7 +8,7 @@ use std::io::Write;
 const OWN_INODES: u32 = 4;
 
 /// What the refusals mean, by their names.
-const MEANINGS: [(&str, &str); 26] = [
+const MEANINGS: [(&str, &str); 27] = [
     (
         "ENOENT",
         "nothing is at this path, or a directory on the way isn't there",
@@ -21,7 +21,7 @@ const MEANINGS: [(&str, &str); 26] = [
     ("EEXIST", "something is there already"),
     (
         "EINVAL",
-        "an argument is outside what this command takes (a path begins at / and has no / at its end)",
+        "an argument is outside what this command takes (a path begins at / or at a number, as @17, and has no / at its end)",
     ),
     (
         "ENAMETOOLONG",
@@ -29,7 +29,7 @@ const MEANINGS: [(&str, &str); 26] = [
     ),
     (
         "ELOOP",
-        "the path goes through more than eight symbolic links",
+        "the path goes through more than eight symbolic links, or through one behind a number",
     ),
     (
         "EPERM",
@@ -75,6 +75,10 @@ const MEANINGS: [(&str, &str); 26] = [
     (
         "SNAPFULL",
         "there are 30 snapshots, the most there may be: delete one",
+    ),
+    (
+        "ESTALE",
+        "nothing that has a path has the number that this one begins at",
     ),
     (
         "ENOSPC",

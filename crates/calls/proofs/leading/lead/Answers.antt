@@ -1,10 +1,8 @@
-use Rattle.std.proofs.Common.{rules, ◌≡◌, ◌∙◌, inl, ℕ, List, None, Err, IfOk, sym, subst}
+use Rattle.std.proofs.Common.{rules, ◌≡◌, ◌∙◌, inl, None, sym}
 use Rattle.std.proofs.lemmas.Result.{IfOk-weaker}
 use Rattle.model.specs.Paths.{first_refusal, text_tests}
-use Rattle.model.specs.Resolution.{resolve}
 use Rattle.model.specs.Volumes.{tree_of}
 use Rattle.paths.proofs.Looks.{looks_ok}
-use Rattle.calls.specs.Leading.{IsLed}
 use Rattle.calls.proofs.LeadLaws.{led_by}
 use Rattle.calls.proofs.RefusalLaws.{text_own}
 use Rattle.records.specs.Failures.{read_outcome}
@@ -18,8 +16,7 @@ returns-in-Some g c =
       looks = looks_ok no_look;
       within = tt;
       own = text_own c.args.path.now c.in-Some.errno is;
-      leads = λ disk settled v table text stands volume same.
-          subst (λ (t : List ℕ). IsLed (text_tests t) v (resolve (tree_of v table) c.args.follow t) (Err c.in-Some.errno)) (sym same) (inl is);
+      leads = λ disk settled v table stands volume. inl is;
       followed = λ disk settled v stands volume follow. tt;
       damaged = λ disk settled v stands bad. cc;
     }
@@ -32,11 +29,10 @@ returns g c =
       looks = all.looks;
       within = all.within;
       own = all.own;
-      leads = λ disk settled v table text stands volume same.
-          subst (λ (t : List ℕ). IfOk (read_outcome c.find_object.result) (IsLed (text_tests t) v (resolve (tree_of v table) c.args.follow t))) (sym same)
-          (IfOk-weaker (read_outcome c.find_object.result) _ _
-          (λ found leads. led_by (text_tests c.args.path.now) v (resolve (tree_of v table) c.args.follow c.args.path.now) found passed leads)
-          (all.leads disk settled v table c.args.path.now stands volume (search rules)));
+      leads = λ disk settled v table stands volume.
+          IfOk-weaker (read_outcome c.find_object.result) _ _
+          (λ found leads. led_by (text_tests c.args.path.now) (tree_of v table) v c.args.follow c.args.path.now found passed leads)
+          (all.leads disk settled v table stands volume);
       followed = all.followed;
       damaged = all.damaged;
     }

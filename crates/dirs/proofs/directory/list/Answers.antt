@@ -1,52 +1,6 @@
-use Rattle.std.proofs.Common.{rules, ◌≡◌, ◌∙◌, ◌||◌, inl, inr, ◌<◌, ◌/◌, map, is_some, ap, sym, subst, add-one, arith}
-use Rattle.std.proofs.lemmas.Bool.{cases_eq}
-use Rattle.layout.specs.Directory.{HoldsEntries}
-use Rattle.inode.specs.Files.{file_block}
-use Rattle.layout.specs.DirectoryNames.{number_of}
-use Rattle.dirs.specs.Directory.{first_entries}
-use Rattle.dirs.specs.Listings.{lists_name}
-use Rattle.dirs.proofs.ListingLaws.{stands-append, or_comm, listing}
+use Rattle.std.proofs.Common.{sym, subst}
+use Rattle.dirs.specs.Listings.{IsListingOfNames}
 use Rattle.dirs.proofs.directory.list.Goals as goal
 
-pub returns-in_err-add_names-clause-damaged : goal.returns-in_err-add_names-clause-damaged
-returns-in_err-add_names-clause-damaged g c = λ disk shows is reached sound.
-    let i = c.loop-i.i in
-    let now = c.loop-i.invariant.read.same disk shows in
-    let located = c.in_ok-location.ensures in
-    let bytes = c.bytes.ensures disk (located.reads.same disk now) (located.found disk now) in
-    let held = sound i (subst (λ s. i < s / 4096) c.size.ensures.value c.loop-i-test.true) in
-    c.in_err-add_names.ensures.damaged (search rules) held.0 (subst (λ b. HoldsEntries c.args.inodes b held.0) (sym bytes) held.1)
-
-pub loop-i-preserved : goal.loop-i-preserved
-loop-i-preserved g c =
-    let so_far = c.loop-i.invariant in
-    let located = c.in_ok-location.ensures in
-    let i = c.loop-i.i in
-    let below : i < c.args.file.now.size / 4096 = subst (λ s. i < s / 4096) c.size.ensures.value c.loop-i-test.true in
-    record {
-      read = search rules;
-      sound = λ disk shows j before.
-          let now = so_far.read.same disk shows in
-          let bytes = c.bytes.ensures disk (located.reads.same disk now) (located.found disk now) in
-          let held = c.in_ok-add_names.ensures.sound in
-          elim (cases_eq j i) [
-            | inl here ↦ (held.0, subst (λ k. HoldsEntries c.args.inodes (file_block disk c.args.file.now k) held.0) (sym here) (subst (λ b. HoldsEntries c.args.inodes b held.0) bytes held.1))
-            | inr else ↦ so_far.sound disk shows j (omega (arith, before, else))
-          ];
-      lists = λ disk entries shows holds name.
-          let now = so_far.read.same disk shows in
-          let bytes = c.bytes.ensures disk (located.reads.same disk now) (located.found disk now) in
-          let here = c.in_ok-add_names.ensures.names (entries i) (subst (λ b. HoldsEntries c.args.inodes b (entries i)) (sym bytes) (holds i below)) name in
-          subst (λ k. lists_name (map (λ n. n.items) c.add_names.new.names.keys) name ≡ is_some (number_of name (first_entries entries k))) (sym (add-one i))
-          (here ∙ ap (λ l. l || is_some (number_of name (entries i))) (so_far.lists disk entries shows holds name)
-          ∙ or_comm (is_some (number_of name (first_entries entries i))) (is_some (number_of name (entries i)))
-          ∙ sym (stands-append name (entries i) (first_entries entries i)));
-    }
-
 pub returns-clause-listed : goal.returns-clause-listed
-returns-clause-listed g c = λ disk names shows is.
-    let end : c.size.result / 4096 ≡ c.args.file.now.size / 4096 = ap (λ s. s / 4096) c.size.ensures.value in
-    let all : c.loop-i.i ≡ c.args.file.now.size / 4096 = omega (arith, end) in
-    listing c.args.inodes (c.args.file.now.size / 4096) (file_block disk c.args.file.now) names c.in_ok-in_order.field-0 is c.in_ok-in_order.ensures.sorted
-    (λ name. ap (λ l. lists_name l name) c.in_ok-in_order.ensures.same ∙ c.loop-i.invariant.lists disk is.entries shows is.holds name
-    ∙ ap (λ k. is_some (number_of name (first_entries is.entries k))) all)
+returns-clause-listed g c = λ disk names shows is. subst (IsListingOfNames names) (sym c.in_ok-names_alone.ensures) (c.in_ok-listed.ensures.listed disk names shows is).listing

@@ -1,9 +1,12 @@
-use Rattle.std.proofs.Common.{ℕ, Option, Err, ap, refl, subst}
+use Rattle.std.proofs.Common.{◌∙◌, ℕ, Option, Err, ap, refl, subst, sym}
+use Rattle.layout.specs.Limits.{Sizes}
 use Rattle.model.specs.Trees.{Description}
 use Rattle.model.specs.Volumes.{IsMounted}
 use Rattle.model.specs.declared.command.Command.TheVariants as command
 use Rattle.model.specs.declared.reply.Reply.TheVariants.{Done, Refused}
 use Rattle.overlay.specs.declared.overlay.Overlay.{Overlay}
+use Rattle.records.specs.Opened.{HasNumbers}
+use Rattle.system.proofs.LookedLaws.{reads_nothing}
 use Rattle.dispatch.proofs.CloseLaws.{close_leads, close_sure, orphans_not_sure}
 use Rattle.dispatch.proofs.LookedLaws.{looked_on, never_damaged, on_open, reads_on}
 use Rattle.dispatch.proofs.ServingLaws.{answered_leading, done_is_no_fault, done_is_no_want, own_refusal, own_want, unanswered_read}
@@ -57,3 +60,38 @@ returns-in-Err g c =
     (λ s served. (looked_on {G = g.S.Station} fs c.prepare_close.new.blocks c.prepare_close.new.inodes looks s served, refl))
     (λ s served. orphans_not_sure {G = g.S.Station} c.named_files_have_paths.ensures fs s served c.args.fd (on_open {G = g.S.Station} fs told.sure s served), λ is. (told.linked is).1) c.in-Err.error _ c.call_error.ensures looks.reads.device
     (λ s served is. never_damaged {G = g.S.Station} fs told.damaged s served (ap (λ e. Err e) is))
+
+pub invariant_of-system : goal.invariant_of-system
+invariant_of-system g c =
+    let f = c.args.system.now in
+    let looks = c.prepare_close.ensures.looks in
+    let reads = looks.reads.reads f.blocks (reads_nothing g.S.Station f.blocks) in
+    let geometry = c.close.ensures.geometry ∙ looks.geometry in
+    record {
+      sectors = reads.below.same.sectors ∙ f.sectors;
+      nvram = reads.below.same.nvram_bytes ∙ f.nvram;
+      half = f.half;
+      sizes = geometry ∙ f.sizes;
+      count = f.count;
+      counted = f.counted;
+      few = f.few;
+      numbers = subst (λ (s : Sizes). HasNumbers s.inodes c.close.new.table) (sym geometry) (c.close.ensures.numbers f.inodes.geometry.inodes f.numbers);
+      is_root = f.is_root;
+    }
+
+pub invariant_of-system-in-Err-prepare_close : goal.invariant_of-system-in-Err-prepare_close
+invariant_of-system-in-Err-prepare_close g c =
+    let f = c.args.system.now in
+    let looks = c.prepare_close.ensures.looks in
+    let reads = looks.reads.reads f.blocks (reads_nothing g.S.Station f.blocks) in
+    record {
+      sectors = reads.below.same.sectors ∙ f.sectors;
+      nvram = reads.below.same.nvram_bytes ∙ f.nvram;
+      half = f.half;
+      sizes = looks.geometry ∙ f.sizes;
+      count = f.count;
+      counted = f.counted;
+      few = f.few;
+      numbers = subst (λ (s : Sizes). HasNumbers s.inodes f.files) (sym looks.geometry) f.numbers;
+      is_root = f.is_root;
+    }

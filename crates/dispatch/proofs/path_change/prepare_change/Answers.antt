@@ -25,6 +25,14 @@ returns-in-Rename g c =
     asked_or_stays _ c.args.call.now (path_calls.Rename old path) v table y
     (two_texts c.args.call.now path_calls.Rename c.in-Rename.old c.in-Rename.new old path c.in-Rename.is c.as_bytes.ensures c.as_bytes-in-Rename.ensures) told)
 
+pub returns-in-RenameNew : goal.returns-in-RenameNew
+returns-in-RenameNew g c =
+    let old = c.as_bytes-in-RenameNew.result.now in
+    let path = c.as_bytes-in-RenameNew-2.result.now in
+    leaves c.rename-in-RenameNew.ensures (λ disk settled v table stands volume mounted y told.
+    asked_or_stays _ c.args.call.now (path_calls.RenameNew old path) v table y
+    (two_texts c.args.call.now path_calls.RenameNew c.in-RenameNew.old c.in-RenameNew.new old path c.in-RenameNew.is c.as_bytes-in-RenameNew.ensures c.as_bytes-in-RenameNew-2.ensures) told)
+
 pub returns-in-Truncate : goal.returns-in-Truncate
 returns-in-Truncate g c =
     let path = c.as_bytes-in-Truncate.result.now in

@@ -1,17 +1,22 @@
-use Rattle.std.proofs.Common.{Option, Ok, subst, sym}
+use Rattle.std.proofs.Common.{rules, ◌∙◌, ℤ, List, ℕ, w64, ap, subst, sym}
+use Rattle.std.proofs.lemmas.Int.{to_z-of_z}
 use Rattle.model.specs.declared.command.Command.TheVariants as command
-use Rattle.model.specs.declared.reply.Reply.TheVariants.{Done}
+use Rattle.model.specs.declared.command.PathCall.{PathCall}
+use Rattle.model.specs.declared.command.PathCall.TheVariants as path_calls
 use Rattle.dispatch.specs.Preparing.{PreparesCall}
-use Rattle.dispatch.specs.declared.prepared_call.PreparedChange.{PreparedChange}
-use Rattle.dispatch.specs.declared.table_move.TableMove.TheVariants.{Stays}
-use Rattle.dispatch.proofs.DoingLaws.{path_done, path_refused}
+use Rattle.dispatch.proofs.ChangingLaws.{writes_none}
+use Rattle.dispatch.proofs.OpenFileLaws.{asked_so}
 use Rattle.dispatch.proofs.path_change.prepare_path_call.Goals as goal
 
-pub returns-in_err-changing : goal.returns-in_err-changing
-returns-in_err-changing g c = λ files. path_refused c.args.call.now _ c.from_residual.result c.from_residual.ensures.1 c.in_err-changing.ensures files
+pub returns-in-Store : goal.returns-in-Store
+returns-in-Store g c = λ files.
+    let path = c.as_bytes.result.now in
+    let bytes = c.as_bytes-bytes.result.now in
+    let offset = c.in-Store.offset in
+    asked_so (command.Path c.args.call.now) (command.Path (path_calls.Store path offset bytes)) c.prepare_storing.result
+    (ap (λ (x : PathCall). command.Path x) (c.in-Store.is ∙ ap (λ (p : List ℕ). path_calls.Store p offset c.in-Store.data) (sym c.as_bytes.ensures) ∙ ap (λ (b : List ℕ). path_calls.Store path offset b) (sym c.as_bytes-bytes.ensures)))
+    (subst (λ (z : ℤ). PreparesCall g.B.Blocks c.args.blocks.now c.prepare_storing.new.blocks c.args.inodes.now c.prepare_storing.new.inodes files (command.Path (path_calls.Store path z bytes)) c.prepare_storing.result)
+    (to_z-of_z w64 offset (search rules)) (c.prepare_storing.ensures files))
 
-pub returns : goal.returns
-returns g c = λ files.
-    let call = c.args.call.now in
-    subst (λ (x : Option PreparedChange). PreparesCall g.B.Blocks c.args.blocks.now c.prepare_change.new.blocks c.args.inodes.now c.prepare_change.new.inodes files (command.Path call)
-    (Ok (record { reply = Done; change = x; table = Stays }))) (sym c.said.ensures) (path_done call c.requires c.in_ok-changing.changing c.in_ok-changing.ensures files)
+pub prepare_done-requires-clause-writes_none : goal.prepare_done-requires-clause-writes_none
+prepare_done-requires-clause-writes_none g c = writes_none c.args.call.now c.in_default.not-Store

@@ -10,13 +10,20 @@ returns-in-Path g c = rw c.in-Path.is (c.prepare_path_call.ensures c.args.files.
 
 pub returns-in-Open : goal.returns-in-Open
 returns-in-Open g c =
-    asked_so c.args.call.now (command.Open c.as_bytes.result.now c.in-Open.flags c.in-Open.mode) c.prepare_opening.result
-    (c.in-Open.is ∙ ap (λ (p : List ℕ). command.Open p c.in-Open.flags c.in-Open.mode) (sym c.as_bytes.ensures)) c.prepare_opening.ensures
+    let path = c.as_bytes-path.result.now in
+    asked_so c.args.call.now (command.Open path c.in-Open.flags c.in-Open.mode c.in-Open.below) c.prepare_opening.result
+    (c.in-Open.is ∙ ap (λ (p : List ℕ). command.Open p c.in-Open.flags c.in-Open.mode c.in-Open.below) (sym c.as_bytes-path.ensures)) c.prepare_opening.ensures
+
+pub returns-in-OpenStat : goal.returns-in-OpenStat
+returns-in-OpenStat g c =
+    let path = c.as_bytes-path-in-OpenStat.result.now in
+    asked_so c.args.call.now (command.OpenStat path c.in-OpenStat.flags c.in-OpenStat.mode c.in-OpenStat.below) c.prepare_opening-in-OpenStat.result
+    (c.in-OpenStat.is ∙ ap (λ (p : List ℕ). command.OpenStat p c.in-OpenStat.flags c.in-OpenStat.mode c.in-OpenStat.below) (sym c.as_bytes-path-in-OpenStat.ensures)) c.prepare_opening-in-OpenStat.ensures
 
 pub returns-in-Write : goal.returns-in-Write
 returns-in-Write g c =
-    asked_so c.args.call.now (command.Write c.in-Write.fd c.as_bytes-in-Write.result.now) c.prepare_writing.result
-    (c.in-Write.is ∙ ap (λ (b : List ℕ). command.Write c.in-Write.fd b) (sym c.as_bytes-in-Write.ensures)) c.prepare_writing.ensures
+    asked_so c.args.call.now (command.Write c.in-Write.fd c.as_bytes.result.now) c.prepare_writing.result
+    (c.in-Write.is ∙ ap (λ (b : List ℕ). command.Write c.in-Write.fd b) (sym c.as_bytes.ensures)) c.prepare_writing.ensures
 
 pub returns-in-Pwrite : goal.returns-in-Pwrite
 returns-in-Pwrite g c =

@@ -1,7 +1,7 @@
 use Rattle.std.proofs.Common.{rules, List, ℕ, w64, refl}
 use Rattle.std.proofs.lemmas.Int.{to_z-of_z}
 use Rattle.model.specs.declared.command.PathCall.TheVariants as path_calls
-use Rattle.dispatch.proofs.AskingLaws.{fails, gets_at, gives}
+use Rattle.dispatch.proofs.AskingLaws.{entries_behind, fails, gets_at, gives}
 use Rattle.dispatch.proofs.ChangingLaws.{one_text}
 use Rattle.dispatch.proofs.reading.read.Goals as goal
 
@@ -12,6 +12,21 @@ returns-in_err-names-in-List-clause-tells g c =
 pub returns-in_ok-names-in-List-clause-tells : goal.returns-in_ok-names-in-List-clause-tells
 returns-in_ok-names-in-List-clause-tells g c =
     gives c.args.call.now (path_calls.List c.as_bytes.result.now) (one_text c.args.call.now path_calls.List c.in-List.path _ c.in-List.is c.as_bytes.ensures) (λ n. c.in_ok-names-in-List.ensures)
+
+pub returns-in_err-entries-in-Entries-clause-tells : goal.returns-in_err-entries-in-Entries-clause-tells
+returns-in_err-entries-in-Entries-clause-tells g c =
+    let path = c.as_bytes-in-Entries.result.now in
+    fails c.args.call.now (path_calls.Entries path c.in-Entries.after c.in-Entries.count)
+    (one_text c.args.call.now (λ (p : List ℕ). path_calls.Entries p c.in-Entries.after c.in-Entries.count) c.in-Entries.path _ c.in-Entries.is c.as_bytes-in-Entries.ensures) _
+    c.from_residual-in_err-entries-in-Entries.result c.from_residual-in_err-entries-in-Entries.ensures.1 (λ errno. refl)
+    (λ n. entries_behind path c.in-Entries.count (to_z-of_z w64 c.in-Entries.after (search rules)) c.in_err-entries-in-Entries.ensures)
+
+pub returns-in_ok-entries-in-Entries-clause-tells : goal.returns-in_ok-entries-in-Entries-clause-tells
+returns-in_ok-entries-in-Entries-clause-tells g c =
+    let path = c.as_bytes-in-Entries.result.now in
+    gives c.args.call.now (path_calls.Entries path c.in-Entries.after c.in-Entries.count)
+    (one_text c.args.call.now (λ (p : List ℕ). path_calls.Entries p c.in-Entries.after c.in-Entries.count) c.in-Entries.path _ c.in-Entries.is c.as_bytes-in-Entries.ensures)
+    (λ n. entries_behind path c.in-Entries.count (to_z-of_z w64 c.in-Entries.after (search rules)) c.in_ok-entries-in-Entries.ensures)
 
 pub returns-in_err-stat-in-Stat-clause-tells : goal.returns-in_err-stat-in-Stat-clause-tells
 returns-in_err-stat-in-Stat-clause-tells g c =

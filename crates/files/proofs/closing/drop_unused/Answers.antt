@@ -2,11 +2,15 @@ use Rattle.std.proofs.Common.{ℕ, false, sym, subst, ◌∙◌, ◌<◌, ◌≤
 use Rattle.model.specs.Volumes.{Volume, swept_node, with_node}
 use Rattle.inofile.specs.Room.{memory_room}
 use Rattle.inofile.specs.Volumes.{IsVolumeOf}
+use Rattle.records.specs.Steps.{IsAtHand}
 use Rattle.descriptors.specs.Files.{figures_of}
 use Rattle.descriptors.specs.Tables.{table_of}
 use Rattle.files.proofs.CloseLaws.{drops, named_stays, open_stays}
 use Rattle.files.proofs.closing.drop_unused.Goals.{else-file-eq0-via-then-file-eq0+else-not-is_open, else-file-eq0-via-else-file-eq0}
 use Rattle.files.proofs.closing.drop_unused.Goals as goal
+
+pub drop_orphan-requires : goal.drop_orphan-requires
+drop_orphan-requires c = subst (λ (n : ℕ). IsAtHand c.args.inodes.now n) (sym c.new.ensures) (c.requires c.if-file-eq0.true)
 
 pub returns-then-not-is_open-clause-volume : goal.returns-then-not-is_open-clause-volume
 returns-then-not-is_open-clause-volume c = λ count disk settled v stands is.

@@ -1,13 +1,21 @@
-use Rattle.std.proofs.Common.{◌≡◌, ℕ, ℤ, nat_abs, w64, Ok, IsOkAnd, ap, subst, ◌∙◌}
+use Rattle.std.proofs.Common.{◌≡◌, ℕ, ℤ, nat_abs, w64, Ok, Err, IsOkAnd, ap, subst, ◌∙◌}
 use Rattle.std.proofs.lemmas.Int.{to_z-of_z}
 use Rattle.calls.specs.Truncate.{TruncatesFile}
 use Rattle.descriptors.specs.Tables.{table_of}
 use Rattle.files.specs.Ftruncate.{truncate_tests}
 use Rattle.files.specs.Reading.{PassesOpen}
-use Rattle.files.proofs.FtruncateLaws.{ftruncate_told}
+use Rattle.files.proofs.FtruncateLaws.{ftruncate_refused, ftruncate_told}
 use Rattle.files.proofs.OpenLaws.{at_file}
-use Rattle.files.proofs.Preparing.{leaves}
+use Rattle.files.proofs.Preparing.{leaves, refused_at_once}
 use Rattle.files.proofs.ftruncate.prepare_ftruncate.Goals as goal
+
+pub returns-in_err-file : goal.returns-in_err-file
+returns-in_err-file g c =
+    let table = c.args.table.now in
+    let errno = c.in_err-file.field-0.0 in
+    let refused = subst (λ (z : ℤ). PassesOpen (truncate_tests z) table c.args.fd (Err errno)) (to_z-of_z w64 c.args.size c.ranges.size) c.in_err-file.ensures.passes in
+    refused_at_once errno c.from_residual.result c.from_residual.ensures.1 c.in_err-file.ensures.own (λ disk settled v stands volume mounted fits.
+    ftruncate_refused v table c.args.fd c.args.size errno refused)
 
 pub returns : goal.returns
 returns g c = leaves c.truncate_file.ensures (λ disk settled v stands volume mounted fits r truncates_file.

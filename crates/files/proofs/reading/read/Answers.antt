@@ -3,10 +3,16 @@ use Rattle.paths.proofs.Looks.{looks_ok}
 use Rattle.descriptors.specs.Files.{description_of, figures_of}
 use Rattle.descriptors.specs.Tables.{put_open, table_of}
 use Rattle.files.proofs.OpenLaws.{moved_numbers}
-use Rattle.files.proofs.Preparing.{not_moved, passes, sees}
+use Rattle.files.proofs.Preparing.{not_moved, passes, refused_at_once, sees}
 use Rattle.descriptors.proofs.FitLemmas.{figured_file}
-use Rattle.files.proofs.ReadLaws.{read_done}
+use Rattle.files.proofs.ReadLaws.{read_done, read_refused}
 use Rattle.files.proofs.reading.read.Goals as goal
+
+pub returns-in_err-file : goal.returns-in_err-file
+returns-in_err-file g c =
+    let errno = c.in_err-file.field-0.0 in
+    not_moved (refused_at_once errno c.from_residual.result c.from_residual.ensures.1 c.in_err-file.ensures.own (λ disk settled v stands volume mounted fits.
+    read_refused c.args.table.now v c.args.fd c.args.count errno c.in_err-file.ensures.passes))
 
 pub returns-in_err-text : goal.returns-in_err-text
 returns-in_err-text g c =

@@ -1,11 +1,23 @@
-use Rattle.std.proofs.Common.{◌≡◌, ◌||◌, Bool, ℕ, ℤ, length, nat_abs, w64, Ok, ap, subst, ◌∙◌}
+use Rattle.std.proofs.Common.{◌≡◌, ◌||◌, Bool, ℕ, ℤ, length, nat_abs, w64, Ok, Err, ap, subst, ◌∙◌}
 use Rattle.std.proofs.lemmas.Int.{to_z-of_z}
 use Rattle.model.specs.Reading.{is_negative, is_too_many}
 use Rattle.descriptors.specs.Tables.{table_of}
 use Rattle.files.specs.Reading.{PassesOpen}
 use Rattle.files.specs.Writing.{PutsFile, write_tests}
-use Rattle.files.proofs.WriteLaws.{pwrite_told, written_through}
+use Rattle.files.proofs.Preparing.{refused_at_once}
+use Rattle.files.proofs.WriteLaws.{pwrite_refused, pwrite_told, written_through}
 use Rattle.files.proofs.writing.prepare_pwrite.Goals as goal
+
+pub returns-in_err-file : goal.returns-in_err-file
+returns-in_err-file g c =
+    let table = c.args.table.now in
+    let errno = c.in_err-file.field-0.0 in
+    let bytes = c.args.bytes.now in
+    let wrong : c.is_no_range.result ≡ (is_negative c.args.offset || is_too_many (length bytes)) =
+    c.is_no_range.ensures ∙ ap (λ (z : ℤ). is_negative z || is_too_many (length bytes)) (to_z-of_z w64 c.args.offset c.ranges.offset) in
+    let refused = subst (λ (b : Bool). PassesOpen (write_tests b) table c.args.fd (Err errno)) wrong c.in_err-file.ensures.passes in
+    refused_at_once errno c.from_residual.result c.from_residual.ensures.1 c.in_err-file.ensures.own (λ disk settled v stands volume mounted fits.
+    pwrite_refused v table c.args.fd bytes c.args.offset errno refused)
 
 pub returns : goal.returns
 returns g c =

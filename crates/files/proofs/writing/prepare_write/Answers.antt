@@ -1,8 +1,15 @@
 use Rattle.std.proofs.Common.{ℕ, subst}
 use Rattle.descriptors.specs.Tables.{table_of}
 use Rattle.files.specs.Writing.{PutsFile}
-use Rattle.files.proofs.WriteLaws.{write_told, written_through}
+use Rattle.files.proofs.Preparing.{refused_at_once}
+use Rattle.files.proofs.WriteLaws.{write_refused, write_told, written_through}
 use Rattle.files.proofs.writing.prepare_write.Goals as goal
+
+pub returns-in_err-file : goal.returns-in_err-file
+returns-in_err-file g c =
+    let errno = c.in_err-file.field-0.0 in
+    refused_at_once errno c.from_residual.result c.from_residual.ensures.1 c.in_err-file.ensures.own (λ disk settled v stands volume mounted fits.
+    write_refused v c.args.table.now c.args.fd c.args.bytes.now errno c.in_err-file.ensures.passes)
 
 pub returns : goal.returns
 returns g c =

@@ -8,6 +8,7 @@ use Rattle.inofile.specs.declared.inode_file.InodeFile.{InodeFile}
 use Rattle.records.specs.Prepared.{Does}
 use Rattle.descriptors.specs.Fits.{FitsVolume}
 use Rattle.descriptors.specs.Tables.{table_of}
+use Rattle.descriptors.proofs.RoomLemmas.{keeps_both}
 use Rattle.records.specs.Steps.{IsAtHand}
 use Rattle.records.specs.Sweeping.{OpensFiles, StandsNoMore, with_object_of, without_file}
 use Rattle.records.proofs.FollowLaws.{fits_all, still_files, swept_opens}
@@ -104,3 +105,11 @@ returns-clause-fits c = λ count disk settled v change stands does mounted fits 
     let fits_last = c.drop_or_note-3.ensures.fits count disk settled _ (two at v change) is_two (subst (λ (t : ℕ → Option Description). OpensFiles t (two at v change)) (sym (back at v change)) opens_two) fits_two in
     fits_all disk settled s v p change does old c.number_of-next.result c.number_of-last.result c.drop_or_note-3.new.files c.number_of-next.ensures c.number_of-last.ensures
     (c.drop_or_note-3.ensures.opened ∙ back at v change) fits_last
+
+pub returns-clause-kept : goal.returns-clause-kept
+returns-clause-kept c =
+    keeps_both c.args.files.now c.drop_or_note-2.new.files c.drop_or_note-3.new.files
+    (keeps_both c.args.files.now c.drop_or_note.new.files c.drop_or_note-2.new.files c.drop_or_note.ensures.kept c.drop_or_note-2.ensures.kept) c.drop_or_note-3.ensures.kept
+
+pub returns-clause-numbers : goal.returns-clause-numbers
+returns-clause-numbers c n has = c.drop_or_note-3.ensures.numbers n (c.drop_or_note-2.ensures.numbers n (c.drop_or_note.ensures.numbers n has))

@@ -1,12 +1,18 @@
-use Rattle.std.proofs.Common.{◌≡◌, ℕ, Option, subst, sym, ◌∙◌, arith}
+use Rattle.std.proofs.Common.{◌≡◌, ℕ, IfSome, Option, Some, subst, sym, ◌∙◌, arith}
 use Rattle.model.specs.Volumes.{is_open}
 use Rattle.model.specs.declared.limits.TheConstants.{OPEN_FILES}
 use Rattle.descriptors.specs.Fits.{FitsVolume}
 use Rattle.descriptors.specs.Tables.{table_of}
+use Rattle.descriptors.proofs.RoomLemmas.{keeps_still}
+use Rattle.inofile.specs.declared.inode_file.InodeFile.{InodeFile}
+use Rattle.records.specs.Steps.{IsAtHand}
 use Rattle.records.specs.Sweeping.{StandsNoMore, with_object_of, without_file}
 use Rattle.records.proofs.FollowLaws.{closed_fits, opened_file}
 use Rattle.records.proofs.SweepLaws.{closed_goes, open_stays}
 use Rattle.records.proofs.orphans.drop_or_note.Goals as goal
+
+at_hand : (s : InodeFile) (o : Option ℕ) (n : ℕ) → o ≡ Some n → IfSome o (IsAtHand s) → IsAtHand s n
+at_hand s o n is at = subst (λ (p : Option ℕ). IfSome p (IsAtHand s)) is at
 
 pub returns-then-is_open-clause-volume : goal.returns-then-is_open-clause-volume
 returns-then-is_open-clause-volume c = λ base count disk settled v stands.
@@ -43,3 +49,15 @@ pub returns-in_default-clause-volume : goal.returns-in_default-clause-volume
 returns-in_default-clause-volume c = λ base count disk settled v stands.
     let s = c.args.inodes.now in
     subst (λ (n : Option ℕ). StandsNoMore base count disk settled s v s (without_file (table_of c.args.files.now) n v)) (sym c.in_default.is) (stands, omega arith)
+
+pub returns-else-is_open-clause-kept : goal.returns-else-is_open-clause-kept
+returns-else-is_open-clause-kept c = keeps_still c.args.files.now
+
+pub returns-in_default-clause-kept : goal.returns-in_default-clause-kept
+returns-in_default-clause-kept c = keeps_still c.args.files.now
+
+pub note_figures-requires : goal.note_figures-requires
+note_figures-requires c = (at_hand c.args.inodes.now c.args.number c.in-Some.number c.in-Some.is c.requires).known
+
+pub drop_orphan-requires : goal.drop_orphan-requires
+drop_orphan-requires c = at_hand c.args.inodes.now c.args.number c.in-Some.number c.in-Some.is c.requires

@@ -2,6 +2,7 @@ use Rattle.std.proofs.Common.{ℕ, Some, ap, subst, sym, ◌∙◌}
 use Rattle.std.proofs.lemmas.Bool.{false≢true}
 use Rattle.model.specs.Volumes.{is_file_node, with_node}
 use Rattle.descriptors.specs.Fits.{FitsVolume}
+use Rattle.descriptors.proofs.RoomLemmas.{keeps_both, keeps_still}
 use Rattle.records.proofs.FollowLaws.{noted_fits, object_figures}
 use Rattle.records.proofs.orphans.note_figures.Goals as goal
 
@@ -18,3 +19,9 @@ returns-in-Some-clause-fits c = λ count disk settled v w stands file fits.
 pub returns-in_default-clause-fits : goal.returns-in_default-clause-fits
 returns-in_default-clause-fits c = λ count disk settled v w stands file fits.
     absurd (false≢true (sym (ap is_file_node (c.in_default.ensures.stands_for_none _ count disk settled w stands)) ∙ file))
+
+pub returns-in-Some-clause-kept : goal.returns-in-Some-clause-kept
+returns-in-Some-clause-kept c = keeps_both c.args.files.now c.resized.new.self c.relinked.new.self c.resized.ensures.keeps c.relinked.ensures.keeps
+
+pub returns-in_default-clause-kept : goal.returns-in_default-clause-kept
+returns-in_default-clause-kept c = keeps_still c.args.files.now

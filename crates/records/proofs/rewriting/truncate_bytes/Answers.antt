@@ -6,14 +6,19 @@ use Rattle.model.specs.Volumes.{IsVolume, tree_of}
 use Rattle.model.specs.declared.errno.Errno.TheVariants.{EFBIG}
 use Rattle.paths.proofs.Looks.{looks_more, looks_ok}
 use Rattle.records.specs.Obstacles.{IsObstacle}
+use Rattle.records.specs.Rewriting.{TruncatesBytes}
 use Rattle.records.specs.declared.contents.Rewrite.TheVariants.{Truncate}
-use Rattle.records.proofs.Failures.{damaged_by, damaged_read, looks_failed, looks_read, refusal_is, refused_by}
+use Rattle.records.proofs.Failures.{damaged_by, damaged_read, looks_failed, looks_read, read_told, refusal_is, refused_by}
 use Rattle.records.proofs.RewriteLaws.{truncates_all, truncates_nothing, other_size, rewritten}
 use Rattle.records.proofs.rewriting.truncate_bytes.Goals as goal
 use Rattle.std.proofs.lemmas.Bool.{eq-eqb}
 
 pub returns-in_err-now-clause-damaged : goal.returns-in_err-now-clause-damaged
 returns-in_err-now-clause-damaged g c = λ disk settled v stands. damaged_read c.from_residual.result c.from_residual.ensures.1 (c.in_err-now.ensures.damaged disk settled v stands)
+
+pub returns-in_err-now-clause-answers : goal.returns-in_err-now-clause-answers
+returns-in_err-now-clause-answers g c = λ disk settled v table stands volume mounted is.
+    read_told (TruncatesBytes c.args.inodes.now.geometry.inodes v table c.args.number c.args.size) _ c.from_residual.result c.from_residual.ensures.1
 
 pub returns-then-now-size-clause-answers : goal.returns-then-now-size-clause-answers
 returns-then-now-size-clause-answers g c = λ disk settled v table stands volume mounted is.

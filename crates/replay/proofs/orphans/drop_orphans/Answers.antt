@@ -1,4 +1,5 @@
-use Rattle.std.proofs.Common.{rules, sym, subst, ap, arith, ℕ, ◌≡◌, ◌+◌, ◌≤◌, ◌∙◌, refl}
+use Rattle.std.proofs.Common.{rules, Err, sym, subst, ap, arith, ℕ, ◌≡◌, ◌+◌, ◌≤◌, ◌∙◌, refl}
+use Rattle.std.proofs.lemmas.Result.{err_from_is_err_and}
 use Rattle.layout.specs.Limits.{Sizes}
 use Rattle.model.specs.Volumes.{Volume}
 use Rattle.inofile.specs.Room.{memory_room}
@@ -46,7 +47,8 @@ returns-in_err-drop_if_orphan-clause-drops g c detail disk settled v shows has =
     let m = c.loop-number.number in
     let why = c.in_err-drop_if_orphan.ensures.drops detail disk settled (dropped_below m v) (read.same disk shows)
     (subst (λ (n : ℕ). IsVolumeIn detail n disk settled c.loop-number.inodes (dropped_below m v)) (sym read.count) (c.loop-number.invariant.drops detail disk settled v shows has)) in
-    passed _ c.from_residual.result c.in_err-drop_if_orphan.field-0.0 (search rules) why
+    let at = err_from_is_err_and c.from_residual.result c.from_residual.ensures.1 in
+    passed _ c.from_residual.result c.in_err-drop_if_orphan.field-0.0 (at.1 ∙ ap (λ e. Err e) at.2) why
 
 pub returns-clause-drops : goal.returns-clause-drops
 returns-clause-drops g c detail disk settled v shows has =

@@ -23,15 +23,21 @@ returns-in_err-text-in-Symlink c = at_form change_form call_words IsPathCallInFo
 pub returns-in_err-old-in-Rename : goal.returns-in_err-old-in-Rename
 returns-in_err-old-in-Rename c = at_form change_form call_words IsPathCallInForm (λ v. verb_name v ∷ []) c.args.verb verb.Rename (map (λ word. word.now) c.args.words.now) c.from_residual-in_err-old-in-Rename.result c.in-Rename.is (search rules)
 
+pub returns-in_err-old-in-RenameNew : goal.returns-in_err-old-in-RenameNew
+returns-in_err-old-in-RenameNew c = at_form change_form call_words IsPathCallInForm (λ v. verb_name v ∷ []) c.args.verb verb.RenameNew (map (λ word. word.now) c.args.words.now) c.from_residual-in_err-old-in-RenameNew.result c.in-RenameNew.is (search rules)
+
 pub returns-in_err-path-in-Chmod : goal.returns-in_err-path-in-Chmod
 returns-in_err-path-in-Chmod c = at_form change_form call_words IsPathCallInForm (λ v. verb_name v ∷ []) c.args.verb verb.Chmod (map (λ word. word.now) c.args.words.now) c.from_residual-in_err-path-in-Chmod.result c.in-Chmod.is (search rules)
 
 pub returns-in_err-path-in-Truncate : goal.returns-in_err-path-in-Truncate
 returns-in_err-path-in-Truncate c = at_form change_form call_words IsPathCallInForm (λ v. verb_name v ∷ []) c.args.verb verb.Truncate (map (λ word. word.now) c.args.words.now) c.from_residual-in_err-path-in-Truncate.result c.in-Truncate.is (search rules)
 
+pub returns-in_err-path-in-Store : goal.returns-in_err-path-in-Store
+returns-in_err-path-in-Store c = at_form change_form call_words IsPathCallInForm (λ v. verb_name v ∷ []) c.args.verb verb.Store (map (λ word. word.now) c.args.words.now) c.from_residual-in_err-path-in-Store.result c.in-Store.is (search rules)
+
 pub returns-in_default : goal.returns-in_default
 returns-in_default c = record {
   spelled = tt;
   good = tt;
-  refused = λ _ vs _ _. not_change c.args.verb c.in_default.not-Mkdir c.in_default.not-Rmdir c.in_default.not-Unlink c.in_default.not-Link c.in_default.not-Symlink c.in_default.not-Rename c.in_default.not-Chmod c.in_default.not-Truncate vs;
+  refused = λ _ vs _ _. not_change c.args.verb c.in_default.not-Mkdir c.in_default.not-Rmdir c.in_default.not-Unlink c.in_default.not-Link c.in_default.not-Symlink c.in_default.not-Rename c.in_default.not-RenameNew c.in_default.not-Chmod c.in_default.not-Truncate c.in_default.not-Store vs;
 }

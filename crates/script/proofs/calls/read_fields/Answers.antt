@@ -8,6 +8,9 @@ use Rattle.script.proofs.calls.read_fields.Goals as goal
 pub returns-in_err-path-in-List : goal.returns-in_err-path-in-List
 returns-in_err-path-in-List c = at_form call_form call_words IsPathCallInForm (λ v. verb_name v ∷ []) c.args.verb verb.List (map (λ word. word.now) c.args.words.now) c.from_residual.result c.in-List.is (search rules)
 
+pub returns-in_err-path-in-Entries : goal.returns-in_err-path-in-Entries
+returns-in_err-path-in-Entries c = at_form call_form call_words IsPathCallInForm (λ v. verb_name v ∷ []) c.args.verb verb.Entries (map (λ word. word.now) c.args.words.now) c.from_residual-in_err-path-in-Entries.result c.in-Entries.is (search rules)
+
 pub returns-in_err-path-in-Stat : goal.returns-in_err-path-in-Stat
 returns-in_err-path-in-Stat c = at_form call_form call_words IsPathCallInForm (λ v. verb_name v ∷ []) c.args.verb verb.Stat (map (λ word. word.now) c.args.words.now) c.from_residual-in_err-path-in-Stat.result c.in-Stat.is (search rules)
 
@@ -21,4 +24,4 @@ pub returns-in_err-path-in-Get : goal.returns-in_err-path-in-Get
 returns-in_err-path-in-Get c = at_form call_form call_words IsPathCallInForm (λ v. verb_name v ∷ []) c.args.verb verb.Get (map (λ word. word.now) c.args.words.now) c.from_residual-in_err-path-in-Get.result c.in-Get.is (search rules)
 
 pub returns-in_default : goal.returns-in_default
-returns-in_default c = change_read c.args.verb _ _ c.in_default.not-List c.in_default.not-Stat c.in_default.not-Lstat c.in_default.not-Readlink c.in_default.not-Get c.read_change.ensures
+returns-in_default c = change_read c.args.verb _ _ c.in_default.not-List c.in_default.not-Entries c.in_default.not-Stat c.in_default.not-Lstat c.in_default.not-Readlink c.in_default.not-Get c.read_change.ensures

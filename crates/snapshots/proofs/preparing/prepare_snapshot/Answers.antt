@@ -1,10 +1,10 @@
-use Rattle.std.proofs.Common.{◌≡◌, ◌∙◌, Bool, true, Option, Some, None, Result, ap, subst, sym}
+use Rattle.std.proofs.Common.{◌≡◌, ◌∙◌, Bool, Option, None, Result, ap, subst, sym}
 use Rattle.std.specs.Prelude.{IfOk, MatchResult}
 use Rattle.model.specs.Paths.{first_refusal}
 use Rattle.model.specs.Room.{nothing}
 use Rattle.model.specs.Steps.{WouldStep, take_tests}
 use Rattle.model.specs.declared.errno.Errno.{Errno}
-use Rattle.model.specs.declared.errno.Errno.TheVariants.{EBUSY}
+use Rattle.model.specs.declared.errno.Errno.TheVariants.{EBUSY, NOSNAP}
 use Rattle.model.specs.declared.reply.Reply.TheVariants.{Refused}
 use Rattle.snapshots.specs.Found.{FindsSnapshot, named}
 use Rattle.snapshots.specs.Prepared.{TellsOpen, command_of}
@@ -13,7 +13,7 @@ use Rattle.snapshots.specs.declared.finding.FoundSnapshot.{FoundSnapshot}
 use Rattle.snapshots.specs.declared.preparing.SnapshotRequest.{SnapshotRequest}
 use Rattle.snapshots.specs.declared.preparing.SnapshotRequest.TheVariants.{Restore, Take}
 use Rattle.snapshots.specs.declared.taking.Taking.{Taking}
-use Rattle.snapshots.proofs.PreparedLaws.{busy, refused}
+use Rattle.snapshots.proofs.PreparedLaws.{busy, missing, refused}
 use Rattle.snapshots.proofs.preparing.prepare_snapshot.Goals as goal
 
 pub returns-in-Ok-clause-tests : goal.returns-in-Ok-clause-tests
@@ -40,3 +40,10 @@ returns-in-Some-2-clause-tests g c = λ disk shows v pairs holds s same is_open 
     let found = subst (λ (o : Option FoundSnapshot). FindsSnapshot c.args.root.now disk name pairs o) c.in-Some-2.is (c.in_ok-find-in-Restore.ensures.finds disk shows v pairs holds) in
     subst (λ (r : SnapshotRequest). WouldStep room s (command_of r) (Refused EBUSY) s nothing) (sym is)
     (busy s name _ (ap (named name) same ∙ found.1.listed) (subst (λ (b : Bool). TellsOpen b s) c.if-has_open.true is_open) room)
+
+pub returns-in-None-2-clause-tests : goal.returns-in-None-2-clause-tests
+returns-in-None-2-clause-tests g c = λ disk shows v pairs holds s same is_open room.
+    let name = c.in-Restore.name.now in
+    let is : c.args.request.now ≡ Restore c.in-Restore.name = cc in
+    let none = subst (λ (o : Option FoundSnapshot). FindsSnapshot c.args.root.now disk name pairs o) c.in-None-2.is (c.in_ok-find-in-Restore.ensures.finds disk shows v pairs holds) in
+    subst (λ (r : SnapshotRequest). WouldStep room s (command_of r) (Refused NOSNAP) s nothing) (sym is) (missing s name (ap (named name) same ∙ none) room)

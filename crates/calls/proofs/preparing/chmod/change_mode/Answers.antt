@@ -6,7 +6,7 @@ use Rattle.calls.proofs.PrepareSteps.{follows, granted, hindered, passes}
 use Rattle.calls.proofs.preparing.chmod.change_mode.Goals as goal
 
 pub returns-in_err-number : goal.returns-in_err-number
-returns-in_err-number g c = passes _ c.from_residual.result c.from_residual.ensures.1 c.in_err-number.ensures c.args.path.now refl
+returns-in_err-number g c = passes _ c.from_residual.result c.from_residual.ensures.1 c.in_err-number.ensures
     (λ disk settled v table stands volume mounted. mode_refused c.args.inodes.now.geometry.inodes v table c.args.path.now c.args.mode)
 
 pub returns-in_err-prepared : goal.returns-in_err-prepared
@@ -15,7 +15,7 @@ returns-in_err-prepared g c =
     follows {Q = λ inodes v table. Decides inodes v (change_mode c.in_ok-number.number c.args.mode)} led.looks
     (hindered _ c.from_residual-in_err-prepared.result c.from_residual-in_err-prepared.ensures.1 c.in_err-prepared.ensures (λ disk settled v table stands volume errno first. first stands))
     (λ disk settled v table stands volume mounted r. mode_comes c.args.inodes.now.geometry.inodes v table c.args.path.now c.args.mode volume mounted c.records_change_trees.ensures
-    c.in_ok-number.number r (led.leads disk settled v table c.args.path.now stands volume refl) (led.followed disk settled v stands volume refl))
+    c.in_ok-number.number r (led.leads disk settled v table stands volume) (led.followed disk settled v stands volume refl))
 
 pub returns : goal.returns
 returns g c =
@@ -23,4 +23,4 @@ returns g c =
     follows {Q = λ inodes v table. Decides inodes v (change_mode c.in_ok-number.number c.args.mode)} led.looks
     (granted c.in_ok-prepared.ensures refl refl (λ disk settled v stands. stands) (λ disk settled v table stands volume applies. (refl, applies stands)))
     (λ disk settled v table stands volume mounted r. mode_comes c.args.inodes.now.geometry.inodes v table c.args.path.now c.args.mode volume mounted c.records_change_trees.ensures
-    c.in_ok-number.number r (led.leads disk settled v table c.args.path.now stands volume refl) (led.followed disk settled v stands volume refl))
+    c.in_ok-number.number r (led.leads disk settled v table stands volume) (led.followed disk settled v stands volume refl))

@@ -34,4 +34,4 @@ returns-clause-opens g c =
     let what = file c.args.mode in
     let makes = prepares.answers disk settled v table stands volume mounted in
     let same = created_number c.in_ok-changing.changing.change c.in-Some.number d makes.0 what x c.in-Some.ensures.some makes.1 in
-    (not-false c.args.flags.creates c.if-not-flags.false, (makes, makes.1 ∙ ap (λ (k : ℕ). create k d what x) same, refl, refl)))
+    (not-false c.args.flags.creates c.if-not-flags.false, (makes, makes.1 ∙ ap (λ (k : ℕ). create k d what x) same, refl, refl, refl)))

@@ -16,7 +16,7 @@ use Rattle.calls.proofs.preparing.open.open_object.Goals as goal
 
 pub returns-then-wants_new-clause-opens : goal.returns-then-wants_new-clause-opens
 returns-then-wants_new-clause-opens g c = refuses no_look refl
-    (λ disk settled v table stands volume mounted o object plain fd. opens_exclusive _ o c.args.flags (sym c.wants_new.ensures ∙ c.if-wants_new.true) fd)
+    (λ disk settled v table stands volume mounted o object plain tells fd. opens_exclusive _ o c.args.flags (sym c.wants_new.ensures ∙ c.if-wants_new.true) tells fd)
 
 pub returns-in_err-stat-clause-opens : goal.returns-in_err-stat-clause-opens
 returns-in_err-stat-clause-opens g c =
@@ -34,7 +34,7 @@ pub returns-then-not-flags-clause-opens : goal.returns-then-not-flags-clause-ope
 returns-then-not-flags-clause-opens g c = grants c.in_ok-stat.ensures.told.looks tt (λ disk settled v stands. tt) (λ disk settled v table stands volume mounted o object plain.
     let old = sym c.wants_new.ensures ∙ c.if-wants_new.false in
     let told = c.in_ok-stat.ensures.told.tells disk settled v stands in
-    opens_whole c.args.inodes.now.geometry.inodes v table c.args.number o object c.args.flags old c.in_ok-stat.stat told c.in-File.is c.if-not-flags.true)
+    opens_whole c.args.inodes.now.geometry.inodes v table c.args.number o object c.args.flags old c.in_ok-stat.stat told c.in-File.is c.volumes_tell_links.ensures volume c.if-not-flags.true)
 
 pub returns-in_err-changing-clause-opens : goal.returns-in_err-changing-clause-opens
 returns-in_err-changing-clause-opens g c =
@@ -62,5 +62,5 @@ returns-clause-opens g c =
     let told = c.in_ok-stat.ensures.told.tells disk settled v stands in
     let all = subst (λ (s : Sizes). IsVolume s.inodes v) (sym first.geometry) volume in
     let file = is_file_at inodes v table n o object c.args.flags old c.in_ok-stat.stat told c.in-File.is in
-    opens_truncated inodes v table n o object c.args.flags old c.in_ok-stat.stat told c.in-File.is c.if-not-flags.false c.in_ok-changing.changing
+    opens_truncated inodes v table n o object c.args.flags old c.in_ok-stat.stat told c.in-File.is c.volumes_tell_links.ensures volume c.records_keep_volumes.ensures c.if-not-flags.false c.in_ok-changing.changing
     (subst (λ (s : Sizes). TruncatesFile s.inodes v table n 0 c.in_ok-changing.changing) first.geometry (c.in_ok-changing.ensures.answers disk settled v table (first.kept disk settled v stands) all mounted file)))

@@ -1,17 +1,17 @@
 use Rattle.std.proofs.Common.{rules, ◌≡◌, ◌∙◌, ℕ, false, Some, None, IsFalse, refl, ap, sym, subst}
-use Rattle.model.specs.Paths.{first_refusal, is_root_text, new_text_tests, parts}
+use Rattle.model.specs.Paths.{first_refusal, is_root_text, new_text_tests}
 use Rattle.calls.proofs.PrepareSteps.{refuses, follows, stops}
 use Rattle.calls.proofs.RefusalLaws.{new_text_own}
 use Rattle.calls.proofs.RemoveLaws.{remove_refused, remove_root, finds_entry, remove_comes, remove_led_nowhere}
 use Rattle.records.proofs.StandLaws.{no_look}
-use Rattle.model.specs.Finding.{IsPlaceOf}
-use Rattle.model.specs.Resolution.{resolve}
 use Rattle.model.specs.Volumes.{tree_of}
-use Rattle.paths.specs.Ends.{EndsInName, IsAtName}
+use Rattle.paths.specs.Ends.{IsAtName}
 use Rattle.paths.specs.Places.{model_place_of}
 use Rattle.calls.specs.Rmdir.{RemovesDirectory}
 use Rattle.calls.proofs.NameLaws.{ends_in_name}
-use Rattle.calls.proofs.WhereSteps.{finds_none, led_of}
+use Rattle.calls.specs.Leading.{led_of}
+use Rattle.calls.proofs.ReachLaws.{LeadsAt, level, named_text}
+use Rattle.calls.proofs.WhereSteps.{finds_none}
 use Rattle.calls.proofs.preparing.rmdir.remove_directory.Goals as goal
 
 pub returns-in-Some : goal.returns-in-Some
@@ -26,40 +26,44 @@ returns-then-is_root g c =
     refuses no_look refl
     (λ disk settled v table stands volume mounted. remove_root v table c.args.path.now passed (sym c.is_root.ensures ∙ c.if-is_root.true))
 
+pub resolve_place-requires-clause-named : goal.resolve_place-requires-clause-named
+resolve_place-requires-clause-named g c =
+    let passed : first_refusal (new_text_tests c.args.path.now) ≡ None = search rules in
+    named_text c.args.path.now passed
+
 pub returns-in_err-place : goal.returns-in_err-place
 returns-in_err-place g c = stops c.from_residual-in_err-place.result c.from_residual-in_err-place.ensures.1 c.in_err-place.ensures.looks c.in_err-place.ensures.damaged
 
 pub returns-in-Entry : goal.returns-in-Entry
 returns-in-Entry g c = follows c.in_ok-place.ensures.looks c.remove_entry.ensures (λ disk settled v table stands volume mounted y told.
-    let passed : first_refusal (new_text_tests c.args.path.now) ≡ None = search rules in
-    let not_root : IsFalse (is_root_text c.args.path.now) = search rules in
-    let inodes = c.args.inodes.now.geometry.inodes in
     let text = c.args.path.now in
-    let r = resolve (tree_of v table) false text in
-    let at = subst (λ p. IsPlaceOf v (model_place_of p) r) c.in-Entry.is (c.in_ok-place.ensures.found disk settled v table text stands volume (search rules)) in
+    let passed : first_refusal (new_text_tests text) ≡ None = search rules in
+    let not_root : IsFalse (is_root_text text) = search rules in
+    let inodes = c.args.inodes.now.geometry.inodes in
+    let (r, reaches, at) = subst (LeadsAt (tree_of v table) v false text) c.in-Entry.is (c.in_ok-place.ensures.found disk settled v table stands volume (level text passed)) in
     let name = c.in-Entry.name.items in
     let n = c.in-Entry.number in
-    remove_comes inodes v table volume mounted (c.volumes_are_trees.ensures inodes v table volume mounted) c.records_change_trees.ensures text passed not_root _ name n
+    remove_comes inodes v table volume mounted (c.volumes_are_trees.ensures inodes v table volume mounted) c.records_change_trees.ensures text passed not_root r reaches _ name n
     (finds_entry v c.in-Entry.trail name n r at) y (subst (λ (d : ℕ). RemovesDirectory inodes v d name n y) c.here.ensures told))
 
 pub returns-in-Directory : goal.returns-in-Directory
 returns-in-Directory g c = refuses c.in_ok-place.ensures.looks refl (λ disk settled v table stands volume mounted.
     let passed : first_refusal (new_text_tests c.args.path.now) ≡ None = search rules in
     let not_root : IsFalse (is_root_text c.args.path.now) = search rules in
-    let same : c.in_ok-parts.parts ≡ parts c.args.path.now = search rules in
-    let plain = subst EndsInName (sym same) (ends_in_name c.args.path.now passed not_root) in
-    absurd (subst (λ p. IsAtName (model_place_of p)) c.in-Directory.is (c.in_ok-place.ensures.named disk settled v stands refl plain)))
+    absurd (subst (λ p. IsAtName (model_place_of p)) c.in-Directory.is (c.in_ok-place.ensures.named disk settled v stands refl (ends_in_name c.args.path.now passed not_root))))
 
 pub returns-in-Refusal : goal.returns-in-Refusal
-returns-in-Refusal g c = finds_none c.in_ok-place.ensures (ap led_of c.in-Refusal.is) c.args.path.now (search rules) (λ disk settled v table stands volume mounted.
+returns-in-Refusal g c =
     let passed : first_refusal (new_text_tests c.args.path.now) ≡ None = search rules in
     let not_root : IsFalse (is_root_text c.args.path.now) = search rules in
+    finds_none c.in_ok-place.ensures (level c.args.path.now passed) (ap led_of c.in-Refusal.is) (λ disk settled v table stands volume mounted.
     let inodes = c.args.inodes.now.geometry.inodes in
     remove_led_nowhere inodes v table volume mounted (c.volumes_are_trees.ensures inodes v table volume mounted) c.records_change_trees.ensures c.args.path.now passed not_root _)
 
 pub returns-in-Missing : goal.returns-in-Missing
-returns-in-Missing g c = finds_none c.in_ok-place.ensures (ap led_of c.in-Missing.is) c.args.path.now (search rules) (λ disk settled v table stands volume mounted.
+returns-in-Missing g c =
     let passed : first_refusal (new_text_tests c.args.path.now) ≡ None = search rules in
     let not_root : IsFalse (is_root_text c.args.path.now) = search rules in
+    finds_none c.in_ok-place.ensures (level c.args.path.now passed) (ap led_of c.in-Missing.is) (λ disk settled v table stands volume mounted.
     let inodes = c.args.inodes.now.geometry.inodes in
     remove_led_nowhere inodes v table volume mounted (c.volumes_are_trees.ensures inodes v table volume mounted) c.records_change_trees.ensures c.args.path.now passed not_root _)

@@ -1,8 +1,12 @@
-use Rattle.std.proofs.Common.{◌≡◌, ap, ◌∙◌, arith}
-use Rattle.descriptors.proofs.CountLemmas.{all_counted, count_first}
+use Rattle.std.proofs.Common.{◌∙◌, arith}
+use Rattle.descriptors.proofs.OrphanLemmas.{orphans_counted, orphans_few}
 use Rattle.descriptors.proofs.table.Descriptors.open_orphans.Goals as goal
 
+pub overflow_cast-result : goal.overflow_cast-result
+overflow_cast-result c = omega (arith, c.orphans.ensures.counted, orphans_few c.args.self.now c.orphans.ensures.unique)
+
+pub returns-clause-few : goal.returns-clause-few
+returns-clause-few c = omega (arith, c.orphans.ensures.counted, orphans_few c.args.self.now c.orphans.ensures.unique)
+
 pub returns-clause-counted : goal.returns-clause-counted
-returns-clause-counted c = λ inodes v volume mounted fits.
-    let last : c.loop-fd.fd ≡ 32 = omega arith in
-    c.loop-fd.invariant.counted ∙ ap (count_first c.args.self.now) last ∙ all_counted c.args.self.now inodes v volume mounted fits
+returns-clause-counted c inodes v volume mounted fits = c.orphans.ensures.counted ∙ orphans_counted c.args.self.now c.orphans.ensures.unique inodes v volume mounted fits

@@ -20,7 +20,7 @@ returns-clause-applied g c s serves runs =
       free = told.free s.tree.descriptors s served;
       told = told.told s.tree.descriptors s served (orphans_of fs.system s served) false (λ e. absurd (false≢true e));
       orphans = orphans_told fs.system s served;
-    }) opens
+    }) Df _ tt (refl, refl, refl) opens
 
 pub returns-clause-logs : goal.returns-clause-logs
 returns-clause-logs g c s served =

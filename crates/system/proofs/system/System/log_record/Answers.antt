@@ -45,6 +45,12 @@ overflow_add-self g c =
       f.is_root.head.sizes.most_blocks,
     )
 
+pub overflow_add-self-in-Ok : goal.overflow_add-self-in-Ok
+overflow_add-self-in-Ok g c =
+    let f = c.args.self.now in
+    let room : HasRoomInHalf f.log (length (logged_body (change_of c.args.change.now))) = had_room f.log _ (λ why. no_error c.in-Ok.field-0 (c.in-Ok.ensures.full.1 why)) (λ is. no_error c.in-Ok.field-0 (c.in-Ok.ensures.stopped is).0) in
+    omega (arith, f.few, c.cost_of-cost.ensures.few, room, f.half, f.is_root.head.sizes.most_half)
+
 pub invariant_of-self : goal.invariant_of-self
 invariant_of-self g c =
     let blocks = c.args.self.now.blocks in

@@ -46,3 +46,19 @@ returns-in-Err-clause-glances g c =
     let reads = told.reads.reads fs.blocks (reads_nothing g.S.Station fs.blocks) in
     not_glanced fs _ reads.below refl (λ s served. (stays_read {G = g.S.Station} fs c.prepare_snapshot.new.blocks s reads told.reads.same served, refl)) c.in-Err.error _ c.call_error.ensures told.reads.device
     (λ s served is. told.damaged d served.shows served.first served.snapshots served.under.holds (ap (λ e. Err e) is))
+
+pub invariant_of-self : goal.invariant_of-self
+invariant_of-self g c =
+    let f = c.args.self.now in
+    let reads = c.prepare_snapshot.ensures.reads.reads f.blocks (reads_nothing g.S.Station f.blocks) in
+    record {
+      sectors = reads.below.same.sectors ∙ f.sectors;
+      nvram = reads.below.same.nvram_bytes ∙ f.nvram;
+      half = f.half;
+      sizes = f.sizes;
+      count = f.count;
+      counted = f.counted;
+      few = f.few;
+      numbers = f.numbers;
+      is_root = f.is_root;
+    }
