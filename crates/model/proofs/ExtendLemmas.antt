@@ -10,8 +10,8 @@ use Rattle.model.specs.Edits.{written, resized}
 use Rattle.model.specs.Trees.{Description}
 use Rattle.model.specs.Volumes.{Node, directory_node, file_node, link_node, Volume, Entries, bytes_of_node, names_in, entries, with_node, set_name, with_entry, is_file_node, is_directory_node, is_orphan, with_name_less, with_name_more, released, is_open, swept_node, swept}
 use Rattle.model.specs.Laws.{ReplayFollows, ReplayEndsSame, ReplaysCostTheSame}
-use Rattle.model.specs.Room.{puts_bytes, changes_size}
-use Rattle.model.specs.Records.{Change, create, link, remove_name, rename, write, truncate, change_mode, node_of, with_file_bytes, with_node_mode, applied, IsBelow, TakesName, IsEmpty, is_vacant, CanReplace, Applies, without_orphans, Extends}
+use Rattle.model.specs.Room.{puts_bytes, changes_size, changes_both}
+use Rattle.model.specs.Records.{Change, create, link, remove_name, rename, write, truncate, change_mode, set_file, node_of, with_file_bytes, with_node_mode, with_size, applied, IsBelow, TakesName, IsEmpty, is_vacant, CanReplace, Applies, without_orphans, Extends}
 use Rattle.model.proofs.OptionLaws.{some_or_none}
 
 -- what has no object has no names, whatever stands for it
@@ -174,6 +174,7 @@ module _ (v w : Volume) (extends : Extends v w) where
   }
   applies_too inodes (write number offset bytes) can = (ap is_file_node (file_kept number can.0) ∙ can.0, can.1, can.2, can.3)
   applies_too inodes (truncate number size) can = (ap is_file_node (file_kept number can.0) ∙ can.0, can.1)
+  applies_too inodes (set_file number mode size) can = (ap is_file_node (file_kept number can.0) ∙ can.0, can.1, can.2)
   applies_too inodes (change_mode number mode) can = (ap (λ o. is_file_node o || is_directory_node o) (kept_by (λ o. is_file_node o || is_directory_node o) refl number can.0) ∙ can.0, can.1)
 
   -- behind the last record, both are the same
@@ -250,6 +251,8 @@ applied_too v w extends inodes (rename parent name new_parent new_name) can =
 applied_too v w extends inodes (write number offset bytes) can = with_both v w extends number (with_file_bytes (written offset bytes)) refl (bytes_vacant (written offset bytes))
 applied_too v w extends inodes (truncate number size) can = with_both v w extends number (with_file_bytes (resized size)) refl (bytes_vacant (resized size))
 applied_too v w extends inodes (change_mode number mode) can = with_both v w extends number (with_node_mode mode) refl (mode_vacant mode)
+applied_too v w extends inodes (set_file number mode size) can =
+    with_both (with_size number size v) (with_size number size w) (with_both v w extends number (with_file_bytes (resized size)) refl (bytes_vacant (resized size))) number (with_node_mode mode) refl (mode_vacant mode)
 
 pub extends_on : ReplayFollows
 extends_on inodes v w table change extends can = (
@@ -268,3 +271,4 @@ costs_the_same inodes v w (rename parent name new_parent new_name) extends can =
 costs_the_same inodes v w (write number offset bytes) extends can = ap (λ o. puts_bytes (length (unwrap_or (bytes_of_node o) [])) offset (length bytes)) (file_kept v w extends number can.0)
 costs_the_same inodes v w (truncate number size) extends can = ap (λ o. changes_size (length (unwrap_or (bytes_of_node o) [])) size) (file_kept v w extends number can.0)
 costs_the_same inodes v w (change_mode number mode) extends can = refl
+costs_the_same inodes v w (set_file number mode size) extends can = ap (λ o. changes_both (length (unwrap_or (bytes_of_node o) [])) size) (file_kept v w extends number can.0)

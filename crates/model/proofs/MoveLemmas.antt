@@ -10,7 +10,7 @@ use Rattle.model.specs.Paths.{Name, Path, IsName, behind}
 use Rattle.model.specs.Trees.{Description}
 use Rattle.model.specs.Edits.{written, resized}
 use Rattle.model.specs.Volumes.{Node, directory_node, file_node, link_node, Volume, Entries, names_in, entries, enter, number_at, with_node, with_edge, with_entry, is_file_node, is_directory_node, IsGraph, IsNode, IsVolume, with_name_more, released, created, linked, unnamed, renamed, swept}
-use Rattle.model.specs.Records.{Made, file, directory, symbolic_link, create, link, remove_name, rename, write, truncate, change_mode, node_of, with_file_bytes, with_node_mode, IsMade, CanReplace, CanRename}
+use Rattle.model.specs.Records.{Made, file, directory, symbolic_link, create, link, remove_name, rename, write, truncate, change_mode, set_file, node_of, with_file_bytes, with_node_mode, with_size, with_bits, IsMade, CanReplace, CanRename}
 use Rattle.model.specs.Laws.{RecordsKeepVolumes, SweepsKeepVolumes}
 use Rattle.model.proofs.AttributeLaws.{new_fit, set_fit}
 use Rattle.model.proofs.WalkLemmas.{behind-is, edge_other}
@@ -237,6 +237,14 @@ mode_good bits (Some (link_node attributes text)) few good = good
 resized_short : (size : ℕ) (bytes : List ℕ) → size ≤ GREATEST_FILE → length bytes ≤ GREATEST_FILE → length (resized size bytes) ≤ GREATEST_FILE
 resized_short size bytes fits short = subst (λ k. k ≤ GREATEST_FILE) (sym (length-resized size bytes)) fits
 
+-- a file's size changes, or a mode
+volume-size : (inodes : ℕ) (v : Volume) → IsVolume inodes v → (number size : ℕ) → size ≤ GREATEST_FILE → IsVolume inodes (with_size number size v)
+volume-size inodes v volume number size fits = volume-bytes inodes v volume number (resized size) (λ old short. resized_short size old fits short)
+
+volume-bits : (inodes : ℕ) (v : Volume) → IsVolume inodes v → (number mode : ℕ) → mode ≤ MODE_BITS → IsVolume inodes (with_bits number mode v)
+volume-bits inodes v volume number mode few =
+    volume-altered inodes v volume number (with_node_mode mode (v number)) (mode_names mode (v number)) (mode_file mode (v number)) (mode_directory mode (v number)) (mode_some mode (v number)) (mode_links mode (v number)) (mode_good mode (v number) few (volume.limits.nodes number))
+
 -- a record that applies keeps a volume
 pub records_keep_volumes : RecordsKeepVolumes
 records_keep_volumes inodes v (create number parent made name) volume can =
@@ -290,9 +298,10 @@ records_keep_volumes inodes v (rename parent name new_parent new_name) volume ca
       };
     }
 records_keep_volumes inodes v (write number offset bytes) volume can = volume-bytes inodes v volume number (written offset bytes) (λ old short. written_short offset bytes old can.3 short)
-records_keep_volumes inodes v (truncate number size) volume can = volume-bytes inodes v volume number (resized size) (λ old short. resized_short size old can.1 short)
-records_keep_volumes inodes v (change_mode number mode) volume can =
-    volume-altered inodes v volume number (with_node_mode mode (v number)) (mode_names mode (v number)) (mode_file mode (v number)) (mode_directory mode (v number)) (mode_some mode (v number)) (mode_links mode (v number)) (mode_good mode (v number) can.1 (volume.limits.nodes number))
+records_keep_volumes inodes v (truncate number size) volume can = volume-size inodes v volume number size can.1
+records_keep_volumes inodes v (change_mode number mode) volume can = volume-bits inodes v volume number mode can.1
+records_keep_volumes inodes v (set_file number mode size) volume can =
+    volume-bits inodes (with_size number size v) (volume-size inodes v volume number size can.2) number mode can.1
 
 -- and so does a sweep
 pub volume-swept : (inodes : ℕ) (v : Volume) (table : ℕ → Option Description) → IsVolume inodes v → IsVolume inodes (swept table v)

@@ -10,6 +10,7 @@ use Rattle.model.specs.declared.errno.Errno.TheVariants.{ENOENT, ENOTDIR, EISDIR
 use Rattle.model.specs.declared.reply.Reply.{Reply}
 use Rattle.model.specs.declared.reply.Reply.TheVariants as reply
 use Rattle.model.specs.declared.command.Flags.{Flags}
+use Rattle.model.specs.declared.command.Settings.{Settings}
 use Rattle.model.specs.declared.command.Whence.{Whence}
 use Rattle.model.specs.declared.command.PathCall.{PathCall}
 use Rattle.model.specs.declared.command.PathCall.TheVariants as call
@@ -336,6 +337,20 @@ once_truncate t path size =
     once_tested t (text_tests_then (changing.size_tests size) path) _
     (once_to t true path _ (λ p o. once_by_kind o _ _ _ (λ n. once_refuses t EISDIR) (λ n text. never_once) (λ n. once_changes _ _ _)))
 
+once_sets_mode : (t : Tree) (n : ℕ) (mode : Option ℕ) → Once (changing.sets_mode t n mode)
+once_sets_mode t n None = once_answers t _
+once_sets_mode t n (Some mode) = once_changes _ _ _
+
+once_sets_file : (t : Tree) (n : ℕ) (mode : Option ℕ) (size : Option ℤ) → Once (changing.sets_file t n mode size)
+once_sets_file t n mode None = once_sets_mode t n mode
+once_sets_file t n None (Some size) = once_changes _ _ _
+once_sets_file t n (Some mode) (Some size) = once_either _ _ _ (once_changes _ _ _) (once_changes _ _ _)
+
+once_set : (t : Tree) (path : List ℕ) (settings : Settings) → Once (changing.sets t path settings)
+once_set t path settings =
+    once_tested t (text_tests_then (changing.given_size_tests settings.size) path) _
+    (once_to t true path _ (λ p o. once_by_kind o _ _ _ (λ n. once_test t _ EISDIR _ (once_sets_mode t n settings.mode)) (λ n text. never_once) (λ n. once_sets_file t n settings.mode settings.size)))
+
 once_opens_file : (tells : Bool) (n : ℕ) (flags : Flags) (fd : ℕ) (t : Tree) (need : Need) → Once (descriptors.opens_file tells n flags fd t need)
 once_opens_file tells n flags fd t need =
     let opened : Tree = with_descriptor fd (Some (descriptors.described_by n flags)) t in
@@ -419,3 +434,4 @@ once_path inodes t (call.RenameNew old path) = once_rename t true old path
 once_path inodes t (call.Chmod path mode) = once_chmod t path mode
 once_path inodes t (call.Truncate path size) = once_truncate t path size
 once_path inodes t (call.Store path offset given) = once_store t path offset given
+once_path inodes t (call.Set path settings) = once_set t path settings

@@ -10,6 +10,7 @@ use Rattle.model.specs.declared.reply.Reply.TheVariants as reply
 use Rattle.model.specs.declared.command.Command.{Command}
 use Rattle.model.specs.declared.command.Command.TheVariants as command
 use Rattle.model.specs.declared.command.Flags.{Flags}
+use Rattle.model.specs.declared.command.Settings.{Settings}
 use Rattle.model.specs.declared.command.Whence.{Whence}
 use Rattle.model.specs.declared.command.PathCall.{PathCall}
 use Rattle.model.specs.declared.command.PathCall.TheVariants as call
@@ -301,6 +302,24 @@ own_truncate t path size =
     own_tested t (text_tests_then (changing.size_tests size) path) _ (text_own (changing.size_tests size) path (refl, (refl, tt)))
     (own_to t true path _ (λ p o. by_kind t o _ _ _ (λ n. own_refuses t EISDIR refl) (λ n text. never t) (λ n. own_changes _ _ _ _ tt)))
 
+own_sets_mode : (t : Tree) (n : ℕ) (mode : Option ℕ) → Own t (changing.sets_mode t n mode)
+own_sets_mode t n None = own_answers t _ tt
+own_sets_mode t n (Some mode) = own_changes _ _ _ _ tt
+
+own_sets_file : (t : Tree) (n : ℕ) (mode : Option ℕ) (size : Option ℤ) → Own t (changing.sets_file t n mode size)
+own_sets_file t n mode None = own_sets_mode t n mode
+own_sets_file t n None (Some size) = own_changes _ _ _ _ tt
+own_sets_file t n (Some mode) (Some size) = own_either t _ _ _ (own_changes _ _ _ _ tt) (own_changes _ _ _ _ tt)
+
+own_sizes : (size : Option ℤ) → TestsOwn (changing.given_size_tests size)
+own_sizes None = tt
+own_sizes (Some size) = (refl, (refl, tt))
+
+own_set : (t : Tree) (path : List ℕ) (settings : Settings) → Own t (changing.sets t path settings)
+own_set t path settings =
+    own_tested t (text_tests_then (changing.given_size_tests settings.size) path) _ (text_own (changing.given_size_tests settings.size) path (own_sizes settings.size))
+    (own_to t true path _ (λ p o. by_kind t o _ _ _ (λ n. own_test t _ EISDIR _ refl (own_sets_mode t n settings.mode)) (λ n text. never t) (λ n. own_sets_file t n settings.mode settings.size)))
+
 own_opens_file : (old : Tree) (tells : Bool) (n : ℕ) (flags : Flags) (fd : ℕ) (t : Tree) (need : Need) → Own old (descriptors.opens_file tells n flags fd t need)
 own_opens_file old true n flags fd t need answer new other done errno is = good_own (reply.Opened fd _) tt errno (sym done.2.0 ∙ is)
 own_opens_file old false n flags fd t need answer new other done errno is = good_own (reply.Fd fd) tt errno (sym done.0 ∙ is)
@@ -384,6 +403,7 @@ own_path inodes t (call.RenameNew old path) = own_rename t true old path
 own_path inodes t (call.Chmod path mode) = own_chmod t path mode
 own_path inodes t (call.Truncate path size) = own_truncate t path size
 own_path inodes t (call.Store path offset given) = own_store t path offset given
+own_path inodes t (call.Set path settings) = own_set t path settings
 
 -- the commands
 

@@ -1,5 +1,5 @@
 -- What a record does to a volume is what it says of the tree.
-use Rattle.std.proofs.Common.{◌≡◌, ◌≢◌, ◌⊎◌, inl, inr, ℕ, zero, suc, ◌+◌, ◌≤◌, ◌<◌, ◌==◌, arith, List, [], ◌∷◌, ◌++◌, Bool, true, false, ◌||◌, Option, Some, None, refl, sym, ap, ◌∙◌}
+use Rattle.std.proofs.Common.{◌≡◌, ◌≢◌, ◌⊎◌, inl, inr, ℕ, zero, suc, ◌+◌, ◌≤◌, ◌<◌, ◌==◌, arith, List, [], ◌∷◌, ◌++◌, Bool, true, false, ◌||◌, Option, Some, None, refl, sym, ap, subst, ◌∙◌}
 use Rattle.std.specs.Prelude.{if◌then◌else◌, unwrap_or}
 use Rattle.std.proofs.Math.Path.{fun_ext}
 use Rattle.std.proofs.lemmas.Bool.{cases_eq, cases_lt, cond_both, eqb-true, false≢true}
@@ -7,9 +7,9 @@ use Rattle.model.specs.declared.limits.TheConstants.{OPEN_FILES}
 use Rattle.model.specs.Paths.{Name, Path}
 use Rattle.model.specs.Trees as trees
 use Rattle.model.specs.Trees.{Tree, Description}
-use Rattle.model.specs.Edits.{contents, resized, written, put_at, without_object}
+use Rattle.model.specs.Edits.{contents, resized, written, put_at, without_object, with_mode, with_bytes}
 use Rattle.model.specs.Volumes.{Node, directory_node, file_node, link_node, Volume, names_in, entries, number_at, object_of, object_at, bytes_of_node, mode_of, tree_of, with_node, set_name, with_entry, is_file_node, is_directory_node, is_orphan, IsGraph, IsVolume, with_name_more, released, created, linked, unnamed, is_open, swept_node, swept, IsMounted}
-use Rattle.model.specs.Records.{Made, file, directory, symbolic_link, Change, create, link, remove_name, rename, write, truncate, change_mode, node_of, with_file_bytes, with_node_mode, applied, CanCreate, CanLink, Applies}
+use Rattle.model.specs.Records.{Made, file, directory, symbolic_link, Change, create, link, remove_name, rename, write, truncate, change_mode, set_file, node_of, with_file_bytes, with_node_mode, with_size, with_bits, applied, CanCreate, CanLink, Applies}
 use Rattle.model.specs.Changes.{IsAt, with_made, ChangesTree, TakesFreeNumber}
 use Rattle.model.specs.Laws.{RecordsChangeTrees, VolumesAreTrees}
 use Rattle.model.proofs.VolumeLemmas.{enters_directory}
@@ -20,7 +20,7 @@ use Rattle.model.proofs.SweepLemmas.{swept_from, stays_open, found_open}
 use Rattle.model.proofs.RenameLemmas.{renamed_swept}
 use Rattle.model.proofs.OnceLemmas.{trees_same}
 use Rattle.model.proofs.AddLemmas.{more_kept, vacant_unnamed}
-use Rattle.model.proofs.MoveLemmas.{path_to, from_path, to_path, is_move, made_bare, bytes_names, bytes_by, mode_names, mode_file}
+use Rattle.model.proofs.MoveLemmas.{records_keep_volumes as keeps_volumes, path_to, from_path, to_path, is_move, made_bare, bytes_names, bytes_by, mode_names, mode_file}
 use Rattle.model.proofs.MountedLemmas.{tree_of_is_tree, node_file}
 use Rattle.model.proofs.ObjectLaws.{directory_object, node_other}
 
@@ -127,6 +127,120 @@ unswept v new table mounted named =
       | inl is ↦ stays_named (is_open table OPEN_FILES n) (new n) is
       | inr same ↦ swept_as (is_open table OPEN_FILES n) (v n) (new n) same (mounted.is_swept n)
     ])
+
+-- what one object's change shows of a tree
+module _ (inodes : ℕ) (v : Volume) (volume : IsVolume inodes v) (table : ℕ → Option Description) (mounted : IsMounted v table) where
+  abbrev before : Tree
+  before = tree_of v table
+
+  -- one object changes but for its kind, its names and its links
+  module _ (n : ℕ) (o : Option Node) (names : (x : Name) → names_in o x ≡ names_in (v n) x) (object : (m : ℕ) → object_of m o ≡ object_of m (v n)) (orphans : is_orphan o ≡ is_orphan (v n)) where
+    abbrev altered : Volume
+    altered = with_node n o v
+
+    by_node : {X : Type 0} (f : Option Node → X) → f o ≡ f (v n) → (m : ℕ) → f (altered m) ≡ f (v m)
+    by_node f same m =
+        elim (cases_eq m n) [
+          | inl is ↦ ap (λ k. f (altered k)) is ∙ ap f (node-here n o v) ∙ same ∙ ap (λ k. f (v k)) (sym is)
+          | inr other ↦ ap f (node_other n m o v other)
+        ]
+
+    altered_at : (r : Option ℕ) → object_at altered r ≡ object_at v r
+    altered_at None = refl
+    altered_at (Some m) = by_node (object_of m) (object m) m
+
+    altered_objects : (tree_of altered table).objects ≡ before.objects
+    altered_objects = fun_ext (λ r. ap (λ e. object_at altered (number_at e r)) (entries-node n o v names) ∙ altered_at (number_at (entries v) r))
+
+    altered_swept : swept table altered ≡ altered
+    altered_swept = unswept v altered table mounted (λ m. inr (by_node is_orphan orphans m))
+
+  bytes_object : (f : List ℕ → List ℕ) (o : Option Node) (m : ℕ) → object_of m (with_file_bytes f o) ≡ object_of m o
+  bytes_object f o m = bytes_by (object_of m) (λ attributes links a b. refl) f o
+
+  bytes_here : (f : List ℕ → List ℕ) (o : Option Node) → is_file_node o ≡ true → bytes_of_node (with_file_bytes f o) ≡ Some (f (unwrap_or (bytes_of_node o) []))
+  bytes_here f None is = absurd (false≢true is)
+  bytes_here f (Some (directory_node attributes names)) is = absurd (false≢true is)
+  bytes_here f (Some (file_node attributes links bytes)) is = refl
+  bytes_here f (Some (link_node attributes text)) is = absurd (false≢true is)
+
+  bytes_mode : (f : List ℕ → List ℕ) (o : Option Node) → mode_of (with_file_bytes f o) ≡ mode_of o
+  bytes_mode f o = bytes_by mode_of (λ attributes links a b. refl) f o
+
+  -- a file's bytes change
+  module _ (n : ℕ) (f : List ℕ → List ℕ) (is : is_file_node (v n) ≡ true) where
+    bytes_swept : swept table (with_node n (with_file_bytes f (v n)) v) ≡ with_node n (with_file_bytes f (v n)) v
+    bytes_swept = altered_swept n (with_file_bytes f (v n)) (bytes_names f (v n)) (bytes_object f (v n)) (bytes_orphan f (v n))
+
+    bytes_tree : tree_of (with_node n (with_file_bytes f (v n)) v) table ≡ record before { bytes = λ k. if k == n then Some (f (contents before n)) else before.bytes k }
+    bytes_tree =
+        trees_same (tree_of (with_node n (with_file_bytes f (v n)) v) table) (record before { bytes = λ k. if k == n then Some (f (contents before n)) else before.bytes k })
+        (altered_objects n (with_file_bytes f (v n)) (bytes_names f (v n)) (bytes_object f (v n)) (bytes_orphan f (v n)))
+        (fun_ext (λ k. chosen bytes_of_node (k == n) (with_file_bytes f (v n)) (v k) ∙ ap (λ b. if k == n then b else before.bytes k) (bytes_here f (v n) is)))
+        (fun_ext (λ k. by_node n (with_file_bytes f (v n)) (bytes_names f (v n)) (bytes_object f (v n)) (bytes_orphan f (v n)) mode_of (bytes_mode f (v n)) k)) refl
+
+  mode_object : (bits : ℕ) (o : Option Node) (m : ℕ) → object_of m (with_node_mode bits o) ≡ object_of m o
+  mode_object bits None m = refl
+  mode_object bits (Some (directory_node attributes names)) m = refl
+  mode_object bits (Some (file_node attributes links bytes)) m = refl
+  mode_object bits (Some (link_node attributes text)) m = refl
+
+  mode_here : (bits : ℕ) (o : Option Node) → (is_file_node o || is_directory_node o) ≡ true → mode_of (with_node_mode bits o) ≡ Some bits
+  mode_here bits None is = absurd (false≢true is)
+  mode_here bits (Some (directory_node attributes names)) is = refl
+  mode_here bits (Some (file_node attributes links bytes)) is = refl
+  mode_here bits (Some (link_node attributes text)) is = absurd (false≢true is)
+
+  mode_bytes : (bits : ℕ) (o : Option Node) → bytes_of_node (with_node_mode bits o) ≡ bytes_of_node o
+  mode_bytes bits None = refl
+  mode_bytes bits (Some (directory_node attributes names)) = refl
+  mode_bytes bits (Some (file_node attributes links bytes)) = refl
+  mode_bytes bits (Some (link_node attributes text)) = refl
+
+  -- a mode changes
+  module _ (n bits : ℕ) (is : (is_file_node (v n) || is_directory_node (v n)) ≡ true) where
+    modes_swept : swept table (with_node n (with_node_mode bits (v n)) v) ≡ with_node n (with_node_mode bits (v n)) v
+    modes_swept = altered_swept n (with_node_mode bits (v n)) (mode_names bits (v n)) (mode_object bits (v n)) (mode_orphan bits (v n))
+
+    modes_tree : tree_of (with_node n (with_node_mode bits (v n)) v) table ≡ record before { mode = λ k. if k == n then Some bits else before.mode k }
+    modes_tree =
+        trees_same (tree_of (with_node n (with_node_mode bits (v n)) v) table) (record before { mode = λ k. if k == n then Some bits else before.mode k })
+        (altered_objects n (with_node_mode bits (v n)) (mode_names bits (v n)) (mode_object bits (v n)) (mode_orphan bits (v n)))
+        (fun_ext (λ k. by_node n (with_node_mode bits (v n)) (mode_names bits (v n)) (mode_object bits (v n)) (mode_orphan bits (v n)) bytes_of_node (mode_bytes bits (v n)) k))
+        (fun_ext (λ k. chosen mode_of (k == n) (with_node_mode bits (v n)) (v k) ∙ ap (λ b. if k == n then b else before.mode k) (mode_here bits (v n) is))) refl
+
+-- a size changes, and then a mode
+module _ (inodes : ℕ) (v : Volume) (volume : IsVolume inodes v) (table : ℕ → Option Description) (mounted : IsMounted v table) (n mode size : ℕ) (can : Applies inodes v (set_file n mode size)) where
+  abbrev sized : Volume
+  sized = with_size n size v
+
+  sized_file : (k : ℕ) → is_file_node (v k) ≡ true → is_file_node (sized k) ≡ true
+  sized_file k is =
+      by_node inodes v volume table mounted n (with_file_bytes (resized size) (v n)) (bytes_names (resized size) (v n)) (bytes_object inodes v volume table mounted (resized size) (v n)) (bytes_orphan (resized size) (v n)) is_file_node (bytes_by is_file_node (λ attributes links a b. refl) (resized size) (v n)) k ∙ is
+
+  sized_swept : swept table sized ≡ sized
+  sized_swept = bytes_swept inodes v volume table mounted n (resized size) can.0
+
+  sized_mounted : IsMounted sized table
+  sized_mounted = subst (λ (w : Volume). IsMounted w table) sized_swept (still_mounted v sized table mounted sized_file)
+
+  sized_volume : IsVolume inodes sized
+  sized_volume = keeps_volumes inodes v (truncate n size) volume (can.0, can.2)
+
+  sized_has : (is_file_node (sized n) || is_directory_node (sized n)) ≡ true
+  sized_has = ap (λ b. b || is_directory_node (sized n)) (sized_file n can.0)
+
+  set_tree : tree_of (swept table (with_bits n mode sized)) table
+      ≡ with_mode n mode (with_bytes n (resized size (contents (tree_of v table) n)) (tree_of v table))
+  set_tree =
+      ap (λ w. tree_of w table) (modes_swept inodes sized sized_volume table sized_mounted n mode sized_has)
+      ∙ modes_tree inodes sized sized_volume table sized_mounted n mode sized_has
+      ∙ ap (λ u. with_mode n mode u) (bytes_tree inodes v volume table mounted n (resized size) can.0)
+
+  set_files : (k : ℕ) → is_file_node (v k) ≡ true → is_file_node (with_bits n mode sized k) ≡ true
+  set_files k is =
+      by_node inodes sized sized_volume table sized_mounted n (with_node_mode mode (sized n)) (mode_names mode (sized n)) (mode_object inodes sized sized_volume table sized_mounted mode (sized n)) (mode_orphan mode (sized n)) is_file_node (mode_file mode (sized n)) k
+      ∙ sized_file k is
 
 module _ (inodes : ℕ) (v : Volume) (volume : IsVolume inodes v) (table : ℕ → Option Description) (mounted : IsMounted v table) where
   abbrev graph : IsGraph v
@@ -236,82 +350,6 @@ module _ (inodes : ℕ) (v : Volume) (volume : IsVolume inodes v) (table : ℕ �
     linked_swept : swept table linked_now ≡ linked_now
     linked_swept = unswept v linked_now table mounted linked_named
 
-  -- one object changes but for its kind, its names and its links
-  module _ (n : ℕ) (o : Option Node) (names : (x : Name) → names_in o x ≡ names_in (v n) x) (object : (m : ℕ) → object_of m o ≡ object_of m (v n)) (orphans : is_orphan o ≡ is_orphan (v n)) where
-    abbrev altered : Volume
-    altered = with_node n o v
-
-    by_node : {X : Type 0} (f : Option Node → X) → f o ≡ f (v n) → (m : ℕ) → f (altered m) ≡ f (v m)
-    by_node f same m =
-        elim (cases_eq m n) [
-          | inl is ↦ ap (λ k. f (altered k)) is ∙ ap f (node-here n o v) ∙ same ∙ ap (λ k. f (v k)) (sym is)
-          | inr other ↦ ap f (node_other n m o v other)
-        ]
-
-    altered_at : (r : Option ℕ) → object_at altered r ≡ object_at v r
-    altered_at None = refl
-    altered_at (Some m) = by_node (object_of m) (object m) m
-
-    altered_objects : (tree_of altered table).objects ≡ t.objects
-    altered_objects = fun_ext (λ r. ap (λ e. object_at altered (number_at e r)) (entries-node n o v names) ∙ altered_at (number_at (entries v) r))
-
-    altered_swept : swept table altered ≡ altered
-    altered_swept = unswept v altered table mounted (λ m. inr (by_node is_orphan orphans m))
-
-  bytes_object : (f : List ℕ → List ℕ) (o : Option Node) (m : ℕ) → object_of m (with_file_bytes f o) ≡ object_of m o
-  bytes_object f o m = bytes_by (object_of m) (λ attributes links a b. refl) f o
-
-  bytes_here : (f : List ℕ → List ℕ) (o : Option Node) → is_file_node o ≡ true → bytes_of_node (with_file_bytes f o) ≡ Some (f (unwrap_or (bytes_of_node o) []))
-  bytes_here f None is = absurd (false≢true is)
-  bytes_here f (Some (directory_node attributes names)) is = absurd (false≢true is)
-  bytes_here f (Some (file_node attributes links bytes)) is = refl
-  bytes_here f (Some (link_node attributes text)) is = absurd (false≢true is)
-
-  bytes_mode : (f : List ℕ → List ℕ) (o : Option Node) → mode_of (with_file_bytes f o) ≡ mode_of o
-  bytes_mode f o = bytes_by mode_of (λ attributes links a b. refl) f o
-
-  -- a file's bytes change
-  module _ (n : ℕ) (f : List ℕ → List ℕ) (is : is_file_node (v n) ≡ true) where
-    bytes_swept : swept table (with_node n (with_file_bytes f (v n)) v) ≡ with_node n (with_file_bytes f (v n)) v
-    bytes_swept = altered_swept n (with_file_bytes f (v n)) (bytes_names f (v n)) (bytes_object f (v n)) (bytes_orphan f (v n))
-
-    bytes_tree : tree_of (with_node n (with_file_bytes f (v n)) v) table ≡ record t { bytes = λ k. if k == n then Some (f (contents t n)) else t.bytes k }
-    bytes_tree =
-        trees_same (tree_of (with_node n (with_file_bytes f (v n)) v) table) (record t { bytes = λ k. if k == n then Some (f (contents t n)) else t.bytes k })
-        (altered_objects n (with_file_bytes f (v n)) (bytes_names f (v n)) (bytes_object f (v n)) (bytes_orphan f (v n)))
-        (fun_ext (λ k. chosen bytes_of_node (k == n) (with_file_bytes f (v n)) (v k) ∙ ap (λ b. if k == n then b else t.bytes k) (bytes_here f (v n) is)))
-        (fun_ext (λ k. by_node n (with_file_bytes f (v n)) (bytes_names f (v n)) (bytes_object f (v n)) (bytes_orphan f (v n)) mode_of (bytes_mode f (v n)) k)) refl
-
-  mode_object : (bits : ℕ) (o : Option Node) (m : ℕ) → object_of m (with_node_mode bits o) ≡ object_of m o
-  mode_object bits None m = refl
-  mode_object bits (Some (directory_node attributes names)) m = refl
-  mode_object bits (Some (file_node attributes links bytes)) m = refl
-  mode_object bits (Some (link_node attributes text)) m = refl
-
-  mode_here : (bits : ℕ) (o : Option Node) → (is_file_node o || is_directory_node o) ≡ true → mode_of (with_node_mode bits o) ≡ Some bits
-  mode_here bits None is = absurd (false≢true is)
-  mode_here bits (Some (directory_node attributes names)) is = refl
-  mode_here bits (Some (file_node attributes links bytes)) is = refl
-  mode_here bits (Some (link_node attributes text)) is = absurd (false≢true is)
-
-  mode_bytes : (bits : ℕ) (o : Option Node) → bytes_of_node (with_node_mode bits o) ≡ bytes_of_node o
-  mode_bytes bits None = refl
-  mode_bytes bits (Some (directory_node attributes names)) = refl
-  mode_bytes bits (Some (file_node attributes links bytes)) = refl
-  mode_bytes bits (Some (link_node attributes text)) = refl
-
-  -- a mode changes
-  module _ (n bits : ℕ) (is : (is_file_node (v n) || is_directory_node (v n)) ≡ true) where
-    modes_swept : swept table (with_node n (with_node_mode bits (v n)) v) ≡ with_node n (with_node_mode bits (v n)) v
-    modes_swept = altered_swept n (with_node_mode bits (v n)) (mode_names bits (v n)) (mode_object bits (v n)) (mode_orphan bits (v n))
-
-    modes_tree : tree_of (with_node n (with_node_mode bits (v n)) v) table ≡ record t { mode = λ k. if k == n then Some bits else t.mode k }
-    modes_tree =
-        trees_same (tree_of (with_node n (with_node_mode bits (v n)) v) table) (record t { mode = λ k. if k == n then Some bits else t.mode k })
-        (altered_objects n (with_node_mode bits (v n)) (mode_names bits (v n)) (mode_object bits (v n)) (mode_orphan bits (v n)))
-        (fun_ext (λ k. by_node n (with_node_mode bits (v n)) (mode_names bits (v n)) (mode_object bits (v n)) (mode_orphan bits (v n)) bytes_of_node (mode_bytes bits (v n)) k))
-        (fun_ext (λ k. chosen mode_of (k == n) (with_node_mode bits (v n)) (v k) ∙ ap (λ b. if k == n then b else t.mode k) (mode_here bits (v n) is))) refl
-
   -- what a record does to the tree
   changes_tree : (change : Change) → Applies inodes v change → TakesFreeNumber v change → ChangesTree change t (tree_of (swept table (applied change v)) table)
   changes_tree (create number parent made name) can free =
@@ -339,9 +377,10 @@ module _ (inodes : ℕ) (v : Volume) (volume : IsVolume inodes v) (table : ℕ �
         is_at to.0 new_parent to.1 m.k_is,
         renamed_swept v graph table mounted.bounded mounted.files from.0 to.0 name new_name parent new_parent can.number m.at_d m.at_k m.there m.d_is m.k_is m.empty m.outside m.other m.distinct m.name,
       )
-  changes_tree (write number offset bytes) can free = ap (λ w. tree_of w table) (bytes_swept number (written offset bytes) can.0) ∙ bytes_tree number (written offset bytes) can.0
-  changes_tree (truncate number size) can free = ap (λ w. tree_of w table) (bytes_swept number (resized size) can.0) ∙ bytes_tree number (resized size) can.0
-  changes_tree (change_mode number mode) can free = ap (λ w. tree_of w table) (modes_swept number mode can.0) ∙ modes_tree number mode can.0
+  changes_tree (write number offset bytes) can free = ap (λ w. tree_of w table) (bytes_swept inodes v volume table mounted number (written offset bytes) can.0) ∙ bytes_tree inodes v volume table mounted number (written offset bytes) can.0
+  changes_tree (truncate number size) can free = ap (λ w. tree_of w table) (bytes_swept inodes v volume table mounted number (resized size) can.0) ∙ bytes_tree inodes v volume table mounted number (resized size) can.0
+  changes_tree (change_mode number mode) can free = ap (λ w. tree_of w table) (modes_swept inodes v volume table mounted number mode can.0) ∙ modes_tree inodes v volume table mounted number mode can.0
+  changes_tree (set_file number mode size) can free = set_tree inodes v volume table mounted number mode size can
 
   -- what was a file is one still
   files_stay : (change : Change) → Applies inodes v change → TakesFreeNumber v change → (n : ℕ) → is_file_node (v n) ≡ true → is_file_node (applied change v n) ≡ true
@@ -355,11 +394,12 @@ module _ (inodes : ℕ) (v : Volume) (volume : IsVolume inodes v) (table : ℕ �
       let m = is_move v graph parent name new_parent new_name can in
       (keeps v graph from.0 to.0 name new_name parent new_parent can.number m.at_d m.at_k m.there m.d_is m.k_is m.empty m.outside m.other n (λ there. is)).file ∙ is
   files_stay (write number offset bytes) can free n is =
-      by_node number (with_file_bytes (written offset bytes) (v number)) (bytes_names (written offset bytes) (v number)) (bytes_object (written offset bytes) (v number)) (bytes_orphan (written offset bytes) (v number)) is_file_node (bytes_by is_file_node (λ attributes links a b. refl) (written offset bytes) (v number)) n ∙ is
+      by_node inodes v volume table mounted number (with_file_bytes (written offset bytes) (v number)) (bytes_names (written offset bytes) (v number)) (bytes_object inodes v volume table mounted (written offset bytes) (v number)) (bytes_orphan (written offset bytes) (v number)) is_file_node (bytes_by is_file_node (λ attributes links a b. refl) (written offset bytes) (v number)) n ∙ is
   files_stay (truncate number size) can free n is =
-      by_node number (with_file_bytes (resized size) (v number)) (bytes_names (resized size) (v number)) (bytes_object (resized size) (v number)) (bytes_orphan (resized size) (v number)) is_file_node (bytes_by is_file_node (λ attributes links a b. refl) (resized size) (v number)) n ∙ is
+      by_node inodes v volume table mounted number (with_file_bytes (resized size) (v number)) (bytes_names (resized size) (v number)) (bytes_object inodes v volume table mounted (resized size) (v number)) (bytes_orphan (resized size) (v number)) is_file_node (bytes_by is_file_node (λ attributes links a b. refl) (resized size) (v number)) n ∙ is
   files_stay (change_mode number mode) can free n is =
-      by_node number (with_node_mode mode (v number)) (mode_names mode (v number)) (mode_object mode (v number)) (mode_orphan mode (v number)) is_file_node (mode_file mode (v number)) n ∙ is
+      by_node inodes v volume table mounted number (with_node_mode mode (v number)) (mode_names mode (v number)) (mode_object inodes v volume table mounted mode (v number)) (mode_orphan mode (v number)) is_file_node (mode_file mode (v number)) n ∙ is
+  files_stay (set_file number mode size) can free n is = set_files inodes v volume table mounted number mode size can n is
 
 pub records_change_trees : RecordsChangeTrees
 records_change_trees inodes v table change volume mounted can free = (

@@ -26,7 +26,7 @@ use Rattle.model.specs.Laws.{IsCommand, IsPathCall, CommandsLeaveStates, Allowed
 use Rattle.model.proofs.LeadLemmas.{AllPass, all_passed}
 use Rattle.model.proofs.NewTreeLemmas.{root_is_tree, tree_is_state}
 use Rattle.model.proofs.LooseLemmas.{swept_is_tree, closed_is_loose}
-use Rattle.model.proofs.StayLemmas.{LeavesTree, stays_stat, stays_list, stays_entries, stays_store, stays_readlink, stays_get, stays_truncate, stays_chmod, stays_close, stays_read, stays_pread, stays_write, stays_pwrite, stays_seek, stays_ftruncate, stays_fstat, stays_fsync}
+use Rattle.model.proofs.StayLemmas.{LeavesTree, stays_stat, stays_list, stays_entries, stays_store, stays_readlink, stays_get, stays_truncate, stays_chmod, stays_set, stays_close, stays_read, stays_pread, stays_write, stays_pwrite, stays_seek, stays_ftruncate, stays_fstat, stays_fsync}
 use Rattle.model.proofs.CallLemmas.{stays_mkdir, stays_symlink, stays_link, stays_rmdir, stays_unlink, stays_open}
 use Rattle.model.proofs.ReplaceLemmas.{stays_rename}
 use Rattle.model.proofs.OptionLaws.{none_some, some_same}
@@ -49,6 +49,7 @@ stays_path inodes t tree (call.RenameNew old path) bound = stays_rename inodes t
 stays_path inodes t tree (call.Chmod path mode) bound = stays_chmod inodes t tree path mode bound
 stays_path inodes t tree (call.Truncate path size) bound = stays_truncate inodes t tree path size
 stays_path inodes t tree (call.Store path offset given) bound = stays_store inodes t tree path offset given
+stays_path inodes t tree (call.Set path settings) bound = stays_set inodes t tree path settings bound
 
 -- a snapshot is a tree without descriptors
 forgotten_is_frozen : (inodes : ℕ) (old new : Tree) → IsTree inodes old → ForgetsOpenFiles old new → IsFrozen inodes new

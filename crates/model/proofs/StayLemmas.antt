@@ -7,6 +7,7 @@ use Rattle.model.specs.declared.errno.Errno.{Errno}
 use Rattle.model.specs.declared.errno.Errno.TheVariants.{ENOENT, ENOTDIR, EISDIR, EINVAL, ELOOP, EBADF, DIRFULL, NONUMBER, EFBIG, EOVERFLOW, ESTALE}
 use Rattle.model.specs.declared.reply.Reply.{Reply}
 use Rattle.model.specs.declared.reply.Reply.TheVariants as reply
+use Rattle.model.specs.declared.command.Settings.{Settings}
 use Rattle.model.specs.declared.command.Whence.{Whence}
 use Rattle.model.specs.Paths.{Name, Path, Tests, first_refusal, text_tests_then, is_empty, is_number_alone, parts_behind, start_number, starts_at_number}
 use Rattle.model.specs.Trees.{Tree, Object, directory, symlink, file, Description, HasNumber, StandsAtPath, IsOpen, IsTree, number_of_object}
@@ -220,6 +221,34 @@ module _ (inodes : ℕ) (t : Tree) (tree : IsTree inodes t) where
       (λ n is. stays_changed _ (with_mode n mode t) _ (mode_keeps inodes t n mode tree (inl (kind_stands (λ k. directory k) o n is has)) few))
       (λ n text is. stays_never)
       (λ n is. stays_changed _ (with_mode n mode t) _ (mode_keeps inodes t n mode tree (inr (inl (kind_stands (λ k. file k) o n is has))) few)))
+
+  stays_sets_mode : (n : ℕ) (mode : Option ℕ) → StandsAtPath t directory n ⊎ StandsAtPath t file n ⊎ IsOpen t n → IfSome mode (λ bits. bits ≤ MODE_BITS) → LeavesTree inodes (changing.sets_mode t n mode)
+  stays_sets_mode n None stands few = stays_same _
+  stays_sets_mode n (Some mode) stands few = stays_changed _ (with_mode n mode t) _ (mode_keeps inodes t n mode tree stands few)
+
+  stays_sets_both : (n mode size : ℕ) → StandsAtPath t file n → mode ≤ MODE_BITS → size ≤ GREATEST_FILE → LeavesTree inodes (changing.sets_both t n mode size)
+  stays_sets_both n mode size stands few fits =
+      let sized : Tree = with_bytes n (resized size (contents t n)) t in
+      let is : IsTree inodes sized = bytes_keep inodes t n (resized size (contents t n)) tree (inl stands) (subst (λ k. k ≤ GREATEST_FILE) (sym (length-resized size (contents t n))) fits) in
+      stays_either (size == length (contents t n)) _ _
+      (λ e. stays_changed _ (with_mode n mode t) _ (mode_keeps inodes t n mode tree (inr (inl stands)) few))
+      (λ e. stays_changed _ (with_mode n mode sized) _ (mode_keeps inodes sized n mode is (inr (inl stands)) few))
+
+  stays_sets_file : (n : ℕ) (mode : Option ℕ) (size : Option ℤ) → StandsAtPath t file n → IfSome mode (λ bits. bits ≤ MODE_BITS) → IfSome size (λ s. nat_abs s ≤ GREATEST_FILE) → LeavesTree inodes (changing.sets_file t n mode size)
+  stays_sets_file n mode None stands few fits = stays_sets_mode n mode (inr (inl stands)) few
+  stays_sets_file n None (Some size) stands few fits = stays_truncated n (nat_abs size) (inl stands) fits
+  stays_sets_file n (Some mode) (Some size) stands few fits = stays_sets_both n mode (nat_abs size) stands few fits
+
+  fits_given : (path : List ℕ) (size : Option ℤ) → AllPass (text_tests_then (changing.given_size_tests size) path) → IfSome size (λ s. nat_abs s ≤ GREATEST_FILE)
+  fits_given path None pass = tt
+  fits_given path (Some size) pass = ltb-false GREATEST_FILE (nat_abs size) pass.1.1.1.1.1.1.1.1.0
+
+  pub stays_set : (path : List ℕ) (settings : Settings) → IfSome settings.mode (λ bits. bits ≤ MODE_BITS) → LeavesTree inodes (changing.sets t path settings)
+  stays_set path settings few =
+      stays_at (changing.given_size_tests settings.size) true path _ (λ p o pass has. stays_by_kind o _ _ _
+      (λ n is. stays_passed ((is_some settings.size, EISDIR) ∷ []) _ (λ passed. stays_sets_mode n settings.mode (inl (kind_stands (λ k. directory k) o n is has)) few))
+      (λ n text is. stays_never)
+      (λ n is. stays_sets_file n settings.mode settings.size (kind_stands (λ k. file k) o n is has) few (fits_given path settings.size pass)))
 
   -- descriptors
 

@@ -5,7 +5,7 @@ use Rattle.model.specs.Trees.{Tree}
 use Rattle.model.specs.Trees as trees
 use Rattle.model.specs.Edits.{contents, resized, written, with_object, without_object, with_mode, with_bytes, with_directory, with_file, moved, IsSwept}
 use Rattle.model.specs.Volumes.{Volume}
-use Rattle.model.specs.Records.{Made, file, directory, symbolic_link, Change, create, link, remove_name, rename, write, truncate, change_mode}
+use Rattle.model.specs.Records.{Made, file, directory, symbolic_link, Change, create, link, remove_name, rename, write, truncate, change_mode, set_file}
 
 -- the directory of this number stands at the path
 abbrev pub IsAt : Tree → Path → ℕ → Type 0
@@ -30,6 +30,7 @@ ChangesTree (rename parent name new_parent new_name) old new =
 ChangesTree (write number offset bytes) old new = new ≡ with_bytes number (written offset bytes (contents old number)) old
 ChangesTree (truncate number size) old new = new ≡ with_bytes number (resized size (contents old number)) old
 ChangesTree (change_mode number mode) old new = new ≡ with_mode number mode old
+ChangesTree (set_file number mode size) old new = new ≡ with_mode number mode (with_bytes number (resized size (contents old number)) old)
 
 -- what a record makes takes a number that no object has
 abbrev pub TakesFreeNumber : Volume → Change → Type 0

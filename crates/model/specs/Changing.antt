@@ -4,12 +4,13 @@ use Rattle.std.specs.Prelude.{ℕ, ℤ, nat_abs, ◌==◌, nat_le, nat_lt, not, 
 use Rattle.std.specs.List.{list_any}
 use Rattle.model.specs.declared.limits.TheConstants.{PATH_BYTES, FILE_NAMES, GREATEST_FILE}
 use Rattle.model.specs.declared.errno.Errno.TheVariants.{ENOENT, ENOTDIR, EISDIR, EEXIST, EINVAL, ENAMETOOLONG, EPERM, EBUSY, ENOTEMPTY, EFBIG, EMLINK}
+use Rattle.model.specs.declared.command.Settings.{Settings}
 use Rattle.model.specs.declared.reply.Reply.TheVariants.{Done}
 use Rattle.model.specs.Paths.{Path, Tests, text_tests, text_tests_then, new_text_tests, is_empty, is_root_text, begins_with, path_eq}
 use Rattle.model.specs.Trees.{Tree, Object, directory, symlink, file, is_directory}
 use Rattle.model.specs.Edits.{contents, resized, with_object, without_object, with_mode, with_bytes, with_directory, moved}
 use Rattle.model.specs.Resolution.{parent}
-use Rattle.model.specs.Room.{Need, nothing, logs, adds_name, removes_name, changes_size, changes_bits}
+use Rattle.model.specs.Room.{Need, nothing, logs, adds_name, removes_name, changes_size, changes_bits, changes_both}
 use Rattle.model.specs.Outcomes.{Outcome, answers, refuses, changes, changes_swept, tested, either, goes_along, goes_to, with_names, with_place, with_fresh, with_links}
 use Rattle.model.specs.Reading.{is_negative}
 
@@ -137,5 +138,36 @@ truncates t path size =
     tested t (text_tests_then (size_tests size) path) (goes_to t true path (λ p o. elim o [
       | file n ↦ truncates_file t n (nat_abs size)
       | directory n ↦ refuses t EISDIR
+      | symlink n text ↦ λ _ _ _. ⊥  -- a final link is followed
+    ]))
+
+-- a directory or a file gets a mode, where one is given
+abbrev pub sets_mode : Tree → ℕ → Option ℕ → Outcome
+sets_mode t n None = answers t Done
+sets_mode t n (Some mode) = changes Done (with_mode n mode t) (logs changes_bits)
+
+-- a file gets a mode and a size by one record, or the mode alone where it has the size
+abbrev pub sets_both : Tree → ℕ → ℕ → ℕ → Outcome
+sets_both t n mode size =
+    either (size == length (contents t n)) (changes Done (with_mode n mode t) (logs changes_bits))
+    (changes Done (with_mode n mode (with_bytes n (resized size (contents t n)) t)) (logs (changes_both (length (contents t n)) size)))
+
+-- a file gets all that is given
+abbrev pub sets_file : Tree → ℕ → Option ℕ → Option ℤ → Outcome
+sets_file t n mode None = sets_mode t n mode
+sets_file t n None (Some size) = truncates_file t n (nat_abs size)
+sets_file t n (Some mode) (Some size) = sets_both t n mode (nat_abs size)
+
+-- the tests of a size, where one is given
+abbrev pub given_size_tests : Option ℤ → Tests
+given_size_tests None = []
+given_size_tests (Some size) = size_tests size
+
+-- `set`: what a path leads to gets the mode and the size that are given; a directory has no size
+abbrev pub sets : Tree → List ℕ → Settings → Outcome
+sets t path settings =
+    tested t (text_tests_then (given_size_tests settings.size) path) (goes_to t true path (λ p o. elim o [
+      | file n ↦ sets_file t n settings.mode settings.size
+      | directory n ↦ tested t ((is_some settings.size, EISDIR) ∷ []) (sets_mode t n settings.mode)
       | symlink n text ↦ λ _ _ _. ⊥  -- a final link is followed
     ]))

@@ -1,6 +1,6 @@
 -- Laws of the definitions, which the functions of `laws.rt` name.
 use Rattle.std.specs.List.{list_any}
-use Rattle.std.specs.Prelude.{ℕ, ◌≡◌, ◌↔◌, ◌≤◌, ◌<◌, Bool, true, false, IsTrue, IsFalse, IsSome, All, Contains, List, [], ◌∷◌, ◌++◌, length, slice_get, Option, Some, None}
+use Rattle.std.specs.Prelude.{ℕ, ◌≡◌, ◌↔◌, ◌≤◌, ◌<◌, Bool, true, false, IsTrue, IsFalse, IsSome, IfSome, All, Contains, List, [], ◌∷◌, ◌++◌, length, slice_get, Option, Some, None}
 use Rattle.model.specs.Entries.{Part, AreTold}
 use Rattle.model.specs.declared.attributes.Attributes.{Attributes}
 use Rattle.model.specs.declared.limits.TheConstants.{LINKS_FOLLOWED, FIRST_NUMBER, MODE_BITS}
@@ -68,6 +68,7 @@ HasOneOutcome =
 abbrev pub IsPathCall : PathCall → Type 0
 IsPathCall (call.Mkdir path mode) = mode ≤ MODE_BITS
 IsPathCall (call.Chmod path mode) = mode ≤ MODE_BITS
+IsPathCall (call.Set path settings) = IfSome settings.mode (λ mode. mode ≤ MODE_BITS)
 IsPathCall c = Unit {0}
 
 -- what the types of a command hold it to: a mode has twelve bits

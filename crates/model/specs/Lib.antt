@@ -21,4 +21,5 @@ pub mod Volumes
 pub mod Records
 pub mod Changes
 pub mod Finding
+pub mod Generations
 pub mod Laws

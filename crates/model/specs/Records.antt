@@ -7,7 +7,7 @@ use Rattle.model.specs.Attributes.{new_attributes, set_mode}
 use Rattle.model.specs.Counting.{Counts}
 use Rattle.model.specs.Paths.{Name, Path, IsName, IsLinkText}
 use Rattle.model.specs.Edits.{written, resized}
-use Rattle.model.specs.Room.{Room, Work, adds_name, removes_name, puts_bytes, changes_size, changes_bits, cost}
+use Rattle.model.specs.Room.{Room, Work, adds_name, removes_name, puts_bytes, changes_size, changes_bits, changes_both, cost}
 use Rattle.model.specs.Volumes.{Node, directory_node, file_node, link_node, Volume, Entries, entries, enter, bytes_of_node, with_node, is_file_node, is_directory_node, is_orphan, created, linked, unnamed, renamed, swept_node}
 
 -- what a record makes, with all that a call gives it
@@ -25,6 +25,7 @@ pub data Change : Type 0 where
   write : (number offset : ℕ) → (bytes : List ℕ) → Change
   truncate : (number size : ℕ) → Change
   change_mode : (number mode : ℕ) → Change
+  set_file : (number mode size : ℕ) → Change
 
 -- the object that a record makes, with its one name; a file has no bytes and a directory no names
 abbrev pub node_of : Made → Node
@@ -43,6 +44,14 @@ with_node_mode mode (Some (directory_node attributes names)) = Some (directory_n
 with_node_mode mode (Some (file_node attributes links bytes)) = Some (file_node (set_mode mode attributes) links bytes)
 with_node_mode mode o = o
 
+-- the volume with a file that has another size
+abbrev pub with_size : ℕ → ℕ → Volume → Volume
+with_size number size v = with_node number (with_file_bytes (resized size) (v number)) v
+
+-- the volume with a file or directory that has another mode
+abbrev pub with_bits : ℕ → ℕ → Volume → Volume
+with_bits number mode v = with_node number (with_node_mode mode (v number)) v
+
 -- the volume that a record leaves, where a file stays that has no name any more
 abbrev pub applied : Change → Volume → Volume
 applied (create number parent made name) v = created number parent name (node_of made) v
@@ -50,8 +59,9 @@ applied (link number parent name) v = linked number parent name v
 applied (remove_name parent name) v = unnamed parent name v
 applied (rename parent name new_parent new_name) v = renamed parent name new_parent new_name v
 applied (write number offset bytes) v = with_node number (with_file_bytes (written offset bytes) (v number)) v
-applied (truncate number size) v = with_node number (with_file_bytes (resized size) (v number)) v
-applied (change_mode number mode) v = with_node number (with_node_mode mode (v number)) v
+applied (truncate number size) v = with_size number size v
+applied (change_mode number mode) v = with_bits number mode v
+applied (set_file number mode size) v = with_bits number mode (with_size number size v)
 
 -- the number k lies below n, or is it
 abbrev pub IsBelow : Entries → ℕ → ℕ → Type 0
@@ -134,6 +144,7 @@ Applies inodes v (write number offset bytes) =
 Applies inodes v (truncate number size) = IsTrue (is_file_node (v number)) × (size ≤ GREATEST_FILE)
 Applies inodes v (change_mode number mode) =
     IsTrue (is_file_node (v number) || is_directory_node (v number)) × (mode ≤ MODE_BITS)
+Applies inodes v (set_file number mode size) = IsTrue (is_file_node (v number)) × (mode ≤ MODE_BITS) × (size ≤ GREATEST_FILE)
 
 -- records that apply one after the other lead from one volume to another
 abbrev pub Replays : ℕ → Volume → List Change → Volume → Type 0
@@ -164,6 +175,7 @@ work_of v (rename parent name new_parent new_name) = adds_name
 work_of v (write number offset bytes) = puts_bytes (size_before v number) offset (length bytes)
 work_of v (truncate number size) = changes_size (size_before v number) size
 work_of v (change_mode number mode) = changes_bits
+work_of v (set_file number mode size) = changes_both (size_before v number) size
 
 -- what records cost that change a volume one after the other
 abbrev pub costs : Volume → List Change → ℕ

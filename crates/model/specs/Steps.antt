@@ -17,7 +17,7 @@ use Rattle.model.specs.States.{State, with_tree, with_snapshots, ForgetsOpenFile
 use Rattle.model.specs.Room.{Need, nothing, a_snapshot, a_restore, Room, reserved_of}
 use Rattle.model.specs.Outcomes.{Outcome}
 use Rattle.model.specs.Reading.{lists, tells_entries, stats, reads_link, gets}
-use Rattle.model.specs.Changing.{makes_directory, makes_symlink, removes_directory, unlinks, links, renames, changes_mode, truncates}
+use Rattle.model.specs.Changing.{makes_directory, makes_symlink, removes_directory, unlinks, links, renames, changes_mode, truncates, sets}
 use Rattle.model.specs.Descriptors.{opens, closes, reads, reads_from, stores, writes, writes_to, seeks, truncates_open, stats_open, syncs_open}
 
 -- what a command comes to: its reply, the state that it leaves, and what it needs of room
@@ -54,6 +54,7 @@ calls inodes t (call.RenameNew old path) = renames t true old path
 calls inodes t (call.Chmod path mode) = changes_mode t path mode
 calls inodes t (call.Truncate path size) = truncates t path size
 calls inodes t (call.Store path offset given) = stores t path offset given
+calls inodes t (call.Set path settings) = sets t path settings
 
 -- a call that only reads
 abbrev pub is_reading_call : PathCall → Bool

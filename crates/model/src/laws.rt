@@ -5,6 +5,7 @@ ghost use Rattle.model.specs.Laws.{IsPathCall, IsCommand, CommandsLeaveStates, A
 ghost use Rattle.model.specs.Laws.{VolumesAreTrees, RecordsChangeTrees, VolumesTellFresh, VolumesTellLinks, VolumesTellNumbers};
 ghost use Rattle.model.specs.Laws.{VolumesTellUsed};
 ghost use Rattle.model.specs.Laws.{ResolvesByNumbers, ResolvesFromNumbers, TrailsTellBelow, BelowIsByPaths};
+ghost use Rattle.model.specs.Generations.{GenerationsTell};
 ghost use Rattle.model.specs.Laws.{PartsTellOnce};
 ghost use Rattle.model.specs.Laws.{ReplayFollows, ReplayEndsSame, ReplaysCostTheSame};
 ghost use Rattle.model.specs.Laws.{ReplaysKeepVolumes, MountsFind, MountsForget};
@@ -139,6 +140,11 @@ pub fn path_calls_are_bounded(call: &PathCall)
         PathCall::Chmod { mode, .. } => {
             let _ = mode.bits();
         }
+        PathCall::Set { settings, .. } => {
+            if let Some(mode) = settings.mode {
+                let _ = mode.bits();
+            }
+        }
         _ => {}
     }
 }
@@ -160,4 +166,9 @@ pub fn commands_are_bounded(command: &Command)
 /// A directory told in parts tells each name that stays just once.
 pub fn parts_tell_names_once()
     ensures { PartsTellOnce }
+{}
+
+/// An object whose number and generation are the same behind any commands is the same object.
+pub fn generations_tell_objects()
+    ensures { GenerationsTell }
 {}

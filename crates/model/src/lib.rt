@@ -15,7 +15,7 @@ mod reply;
 mod text;
 
 pub use attributes::Attributes;
-pub use command::{Access, Command, Flags, PathCall, Whence};
+pub use command::{Access, Command, Flags, PathCall, Settings, Whence};
 pub use cookies::cookie_of;
 pub use costs::{
     FILE_COST, GREAT_FILE_COST, HEADROOM_BLOCKS, MODE_COST, NAMES_COST, ORPHAN_COST, POINT_COST,
@@ -25,18 +25,18 @@ pub use entries::{Entries, Entry};
 pub use errno::Errno;
 pub use laws::{
     commands_are_bounded, commands_have_one_outcome, commands_refuse_by_their_own,
-    mounts_find_volumes, mounts_forget_open_files, numbers_tell_what_lies_below,
-    outcomes_are_states, parts_tell_names_once, path_calls_are_bounded, records_change_trees,
-    records_keep_volumes, refusals_change_nothing, replays_cost_the_same, replays_end_same,
-    replays_follow, replays_keep_volumes, resolution_is_by_numbers, resolution_is_from_numbers,
-    sweeps_keep_volumes, trails_tell_what_lies_below, volumes_are_trees,
-    volumes_tell_fresh_numbers, volumes_tell_links, volumes_tell_numbers,
-    volumes_tell_used_numbers,
+    generations_tell_objects, mounts_find_volumes, mounts_forget_open_files,
+    numbers_tell_what_lies_below, outcomes_are_states, parts_tell_names_once,
+    path_calls_are_bounded, records_change_trees, records_keep_volumes, refusals_change_nothing,
+    replays_cost_the_same, replays_end_same, replays_follow, replays_keep_volumes,
+    resolution_is_by_numbers, resolution_is_from_numbers, sweeps_keep_volumes,
+    trails_tell_what_lies_below, volumes_are_trees, volumes_tell_fresh_numbers, volumes_tell_links,
+    volumes_tell_numbers, volumes_tell_used_numbers,
 };
 pub use limits::{
-    DIRECTORY_NAMES, ENTRIES_TOLD, FILE_NAMES, FIRST_NUMBER, GREATEST_FILE, GREATEST_OFFSET,
-    LINK_MODE, LINKS_FOLLOWED, MODE_BITS, NAME_BYTES, OPEN_FILES, PATH_BYTES, ROOT_NUMBER,
-    SESSION_FILES, SINGLE_FILE, SNAPSHOT_NAME_BYTES, SNAPSHOTS, TRANSFER_BYTES,
+    DIRECTORY_NAMES, ENTRIES_TOLD, FILE_NAMES, FIRST_NUMBER, GREATEST_FILE, GREATEST_GENERATION,
+    GREATEST_OFFSET, LINK_MODE, LINKS_FOLLOWED, MODE_BITS, NAME_BYTES, OPEN_FILES, PATH_BYTES,
+    ROOT_NUMBER, SESSION_FILES, SINGLE_FILE, SNAPSHOT_NAME_BYTES, SNAPSHOTS, TRANSFER_BYTES,
 };
 pub use mode::Mode;
 pub use reply::{FileType, Reply, Stat, Usage};

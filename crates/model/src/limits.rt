@@ -44,6 +44,9 @@ pub const GREATEST_FILE: u64 = 68_719_476_736;
 /// Greatest offset of an open file.
 pub const GREATEST_OFFSET: u64 = 9_223_372_036_854_775_807;
 
+/// Greatest generation of a number: it stays there.
+pub const GREATEST_GENERATION: u32 = 4_294_967_295;
+
 /// Greatest number of snapshots.
 pub const SNAPSHOTS: usize = 30;
 
