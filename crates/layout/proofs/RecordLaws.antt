@@ -5,8 +5,8 @@ use Rattle.std.proofs.lemmas.List.{nil_from_length}
 use Rattle.layout.specs.Bytes.{little, IsBytes}
 use Rattle.layout.specs.Format.{Format}
 use Rattle.layout.specs.Reading.{◌>>=◌, number_read, counted_at, all_of}
-use Rattle.layout.specs.Record.{Made, file, directory, symbolic_link, Change, create, link, remove_name, rename, write, truncate, change_mode, create_head, link_fields, remove_name_fields, rename_fields, write_fields, truncate_fields, change_mode_fields, kind_of_made, mode_of_made, text_bytes, change_bytes, KeepsMadeLimits, FitsFields, IsChange}
-use Rattle.layout.specs.RecordReading.{link_in, remove_name_in, rename_in, write_in, truncate_in, change_mode_in, made_in, create_in, change_in}
+use Rattle.layout.specs.Record.{Made, file, directory, symbolic_link, Change, create, link, remove_name, rename, write, truncate, change_mode, set_file, create_head, link_fields, remove_name_fields, rename_fields, write_fields, truncate_fields, change_mode_fields, set_file_fields, kind_of_made, mode_of_made, text_bytes, change_bytes, KeepsMadeLimits, FitsFields, IsChange}
+use Rattle.layout.specs.RecordReading.{link_in, remove_name_in, rename_in, write_in, truncate_in, change_mode_in, set_file_in, made_in, create_in, change_in}
 use Rattle.layout.proofs.NumberLaws.{little_one}
 use Rattle.layout.proofs.Formats.{bind_some, some_is, if_then, tried, IsExact, num_exact, ranged_exact, counted_exact, then_exact, whole_takes, made_again, byte_again, IsBytes-behind}
 
@@ -30,6 +30,9 @@ truncate_exact = then_exact (num_exact 4) (num_exact 8)
 
 change_mode_exact : IsExact change_mode_fields
 change_mode_exact = then_exact (num_exact 4) (ranged_exact 2 0 4095 (omega arith))
+
+set_file_exact : IsExact set_file_fields
+set_file_exact = then_exact (num_exact 4) (then_exact (ranged_exact 2 0 4095 (omega arith)) (num_exact 8))
 
 -- the bytes of a record whose op this is, behind the op
 abbrev Spells : ℕ → List ℕ → Change → Type 0
@@ -101,7 +104,7 @@ spelled_by op bytes x rest c small parts is_op law =
     record { bytes_are = parts ∙ front ∙ law.0; fields = law.1 }
 
 pub change_takes : (bytes : List ℕ) (c : Change) → IsBytes bytes → change_in bytes ≡ Some c → Spelled bytes c
-unfolding change_in link_in remove_name_in rename_in write_in truncate_in change_mode_in
+unfolding change_in link_in remove_name_in rename_in write_in truncate_in change_mode_in set_file_in
 change_takes bytes c fits e =
     let w = bind_some (number_read 1 bytes) _ c e in
     let rest = w.0.1 in
@@ -114,7 +117,8 @@ change_takes bytes c fits e =
     tried (eqb w.0.0 4) _ _ c e (λ is e. by 4 (omega arith) is (fields_take 4 rename_exact (λ v. rename v.0 v.1.0 v.1.1.0 v.1.1.1) (λ v fits ok. (refl, fits)) rest c ok e)) (λ e.
     tried (eqb w.0.0 5) _ _ c e (λ is e. by 5 (omega arith) is (fields_take 5 write_exact (λ v. write v.0 v.1.0 v.1.1) (λ v fits ok. (refl, (fits, written_bytes v.0 v.1.0 v.1.1 ok))) rest c ok e)) (λ e.
     tried (eqb w.0.0 6) _ _ c e (λ is e. by 6 (omega arith) is (fields_take 6 truncate_exact (λ v. truncate v.0 v.1) (λ v fits ok. (refl, fits)) rest c ok e)) (λ e.
-    tried (eqb w.0.0 7) _ _ c e (λ is e. by 7 (omega arith) is (fields_take 7 change_mode_exact (λ v. change_mode v.0 v.1) (λ v fits ok. (refl, fits)) rest c ok e)) (λ e. absurd cc)))))))
+    tried (eqb w.0.0 7) _ _ c e (λ is e. by 7 (omega arith) is (fields_take 7 change_mode_exact (λ v. change_mode v.0 v.1) (λ v fits ok. (refl, fits)) rest c ok e)) (λ e.
+    tried (eqb w.0.0 8) _ _ c e (λ is e. by 8 (omega arith) is (fields_take 8 set_file_exact (λ v. set_file v.0 v.1.0 v.1.1) (λ v fits ok. (refl, fits)) rest c ok e)) (λ e. absurd cc))))))))
 
 object_again : (made : Made) → KeepsMadeLimits made → made_in (kind_of_made made) (mode_of_made made) (text_bytes made) ≡ Some made
 unfolding made_in
@@ -128,7 +132,7 @@ kind_small (directory mode) = omega arith
 kind_small (symbolic_link text) = omega arith
 
 pub change_again : (c : Change) → IsChange c → change_in (change_bytes c) ≡ Some c
-unfolding change_in create_in link_in remove_name_in rename_in write_in truncate_in change_mode_in
+unfolding change_in create_in link_in remove_name_in rename_in write_in truncate_in change_mode_in set_file_in
 change_again (create number parent made name) is =
     let head = create_exact.again (number, (parent, (kind_of_made made, (mode_of_made made, name)))) (text_bytes made)
     (is.fields.0, (is.fields.1, (kind_small made, ((omega arith, is.fields.2), omega (arith, is.limits.1.short))))) in
@@ -140,6 +144,7 @@ change_again (rename parent name new_parent new_name) is =
 change_again (write number offset bytes) is = rw byte_again (made_again write_exact (λ v. write v.0 v.1.0 v.1.1) (number, (offset, bytes)) is.fields.0)
 change_again (truncate number size) is = rw byte_again (made_again truncate_exact (λ v. truncate v.0 v.1) (number, size) is.fields)
 change_again (change_mode number mode) is = rw byte_again (made_again change_mode_exact (λ v. change_mode v.0 v.1) (number, mode) is.fields)
+change_again (set_file number mode size) is = rw byte_again (made_again set_file_exact (λ v. set_file v.0 v.1.0 v.1.1) (number, (mode, size)) is.fields)
 
 -- no bytes spell two records
 pub change_injective : (c d : Change) → IsChange c → IsChange d → change_bytes c ≡ change_bytes d → c ≡ d

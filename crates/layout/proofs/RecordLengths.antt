@@ -1,7 +1,7 @@
 -- How long the body of each record is.
 use Rattle.std.proofs.Common.{◌≡◌, ℕ, ◌+◌, List, length, arith}
 use Rattle.std.proofs.lemmas.List.{length-append}
-use Rattle.layout.specs.Record.{Made, symbolic_link, create, link, remove_name, rename, write, truncate, change_mode, text_bytes, change_bytes}
+use Rattle.layout.specs.Record.{Made, symbolic_link, create, link, remove_name, rename, write, truncate, change_mode, set_file, text_bytes, change_bytes}
 use Rattle.layout.proofs.NumberLaws.{length-little}
 
 pub length-text_bytes : (text : List ℕ) → length (text_bytes (symbolic_link text)) ≡ 2 + length text
@@ -27,3 +27,6 @@ length-truncate number size = simp (length-append, length-little) (omega arith)
 
 pub length-change_mode : (number mode : ℕ) → length (change_bytes (change_mode number mode)) ≡ 7
 length-change_mode number mode = simp (length-append, length-little) (omega arith)
+
+pub length-set_file : (number mode size : ℕ) → length (change_bytes (set_file number mode size)) ≡ 15
+length-set_file number mode size = simp (length-append, length-little) (omega arith)

@@ -3,7 +3,7 @@ use Rattle.std.specs.Prelude.{ℕ, ◌≤◌, ◌<◌, ◌^◌, List, [], ◌∷
 use Rattle.layout.specs.Bytes.{IsBytes}
 use Rattle.layout.specs.Format.{Format, num, counted, mode_bits, ◌▸◌}
 use Rattle.model.specs.Paths.{IsName}
-pub use Rattle.model.specs.Records.{Made, file, directory, symbolic_link, Change, create, link, remove_name, rename, write, truncate, change_mode}
+pub use Rattle.model.specs.Records.{Made, file, directory, symbolic_link, Change, create, link, remove_name, rename, write, truncate, change_mode, set_file}
 use Rattle.layout.specs.LinkText.{IsLinkText}
 use Rattle.model.specs.declared.limits.TheConstants.{LINK_MODE, MODE_BITS, TRANSFER_BYTES}
 use Rattle.layout.specs.declared.record.NewObject.{NewObject}
@@ -53,6 +53,9 @@ truncate_fields = num 4 ▸ num 8  -- number, size
 abbrev pub change_mode_fields : Format (ℕ × ℕ)
 change_mode_fields = num 4 ▸ mode_bits  -- number, mode
 
+abbrev pub set_file_fields : Format (ℕ × (ℕ × ℕ))
+set_file_fields = num 4 ▸ mode_bits ▸ num 8  -- number, mode, size
+
 -- the one spelling of each record: its op, and its fields
 abbrev pub change_bytes : Change → List ℕ
 change_bytes (create number parent made name) =
@@ -64,6 +67,7 @@ change_bytes (rename parent name new_parent new_name) =
 change_bytes (write number offset bytes) = 5 ∷ write_fields.text (number, (offset, bytes))
 change_bytes (truncate number size) = 6 ∷ truncate_fields.text (number, size)
 change_bytes (change_mode number mode) = 7 ∷ change_mode_fields.text (number, mode)
+change_bytes (set_file number mode size) = 8 ∷ set_file_fields.text (number, (mode, size))
 
 -- the limits of what a record says
 abbrev pub KeepsMadeLimits : Made → Type 0
@@ -79,6 +83,7 @@ KeepsLimits (rename parent name new_parent new_name) = IsName name × IsName new
 KeepsLimits (write number offset bytes) = (1 ≤ length bytes) × (length bytes ≤ TRANSFER_BYTES)
 KeepsLimits (truncate number size) = Unit {0}
 KeepsLimits (change_mode number mode) = Unit {0}
+KeepsLimits (set_file number mode size) = Unit {0}
 
 -- each value fits its field
 abbrev pub FitsFields : Change → Type 0
@@ -89,6 +94,7 @@ FitsFields (rename parent name new_parent new_name) = rename_fields.Fits (parent
 FitsFields (write number offset bytes) = write_fields.Fits (number, (offset, bytes)) × IsBytes bytes
 FitsFields (truncate number size) = truncate_fields.Fits (number, size)
 FitsFields (change_mode number mode) = change_mode_fields.Fits (number, mode)
+FitsFields (set_file number mode size) = set_file_fields.Fits (number, (mode, size))
 
 -- what can stand in the log
 pub record IsChange (c : Change) : Type 0 where
@@ -109,6 +115,7 @@ change_of (records.Rename parent name new_parent new_name) = rename parent name.
 change_of (records.Write number offset bytes) = write number offset bytes.now
 change_of (records.Truncate number size) = truncate number size
 change_of (records.ChangeMode number mode) = change_mode number mode
+change_of (records.SetFile number mode size) = set_file number mode size
 
 -- the body of a record: its bytes in the log
 abbrev pub body_of : Record → List ℕ

@@ -2,7 +2,7 @@
 use Rattle.std.specs.Prelude.{ℕ, List, length, Option, Some, None, ◌==◌, if◌then◌else◌}
 use Rattle.model.specs.declared.limits.TheConstants.{LINK_MODE}
 use Rattle.layout.specs.Reading.{◌>>=◌, number_read, counted_at, all_of}
-use Rattle.layout.specs.Record.{Made, file, directory, symbolic_link, Change, create, link, remove_name, rename, write, truncate, change_mode, create_head, link_fields, remove_name_fields, rename_fields, write_fields, truncate_fields, change_mode_fields}
+use Rattle.layout.specs.Record.{Made, file, directory, symbolic_link, Change, create, link, remove_name, rename, write, truncate, change_mode, set_file, create_head, link_fields, remove_name_fields, rename_fields, write_fields, truncate_fields, change_mode_fields, set_file_fields}
 
 unfoldable pub link_in : List ℕ → Option Change
 link_in bytes = all_of link_fields.at bytes >>= λ v. Some (link v.0 v.1.0 v.1.1)
@@ -21,6 +21,9 @@ truncate_in bytes = all_of truncate_fields.at bytes >>= λ v. Some (truncate v.0
 
 unfoldable pub change_mode_in : List ℕ → Option Change
 change_mode_in bytes = all_of change_mode_fields.at bytes >>= λ v. Some (change_mode v.0 v.1)
+
+unfoldable pub set_file_in : List ℕ → Option Change
+set_file_in bytes = all_of set_file_fields.at bytes >>= λ v. Some (set_file v.0 v.1.0 v.1.1)
 
 -- what is made, of this kind and mode: only a link has more bytes
 unfoldable pub made_in : ℕ → ℕ → List ℕ → Option Made
@@ -46,4 +49,5 @@ change_in bytes =
     else (if x.0 == 5 then write_in x.1
     else (if x.0 == 6 then truncate_in x.1
     else (if x.0 == 7 then change_mode_in x.1
-    else None))))))
+    else (if x.0 == 8 then set_file_in x.1
+    else None)))))))

@@ -57,4 +57,10 @@ pub enum Record<'a> {
         number: InodeNumber,
         mode: Mode,
     },
+    /// Gives the file this mode and this size.
+    SetFile {
+        number: InodeNumber,
+        mode: Mode,
+        size: u64,
+    },
 }

@@ -3,7 +3,7 @@
 ghost use Rattle.std.specs.Prelude.{◌≡◌, ◌↔◌, IsTrue, IfSome, IsSomeAnd};
 ghost use Rattle.std.specs.Option.{option_map};
 ghost use Rattle.layout.specs.Record.{Change, IsChange, KeepsLimits, KeepsMadeLimits, body_of, change_bytes, change_of, made_of};
-ghost use Rattle.layout.specs.RecordReading.{create_in, link_in, remove_name_in, rename_in, write_in, truncate_in, change_mode_in, made_in, change_in};
+ghost use Rattle.layout.specs.RecordReading.{create_in, link_in, remove_name_in, rename_in, write_in, truncate_in, change_mode_in, set_file_in, made_in, change_in};
 
 use crate::InodeNumber;
 use crate::name::{is_link_text, is_name};
@@ -41,7 +41,7 @@ impl<'a> Record<'a> {
             Record::Link { name, .. } | Record::RemoveName { name, .. } => is_name(name),
             Record::Rename { name, new_name, .. } => is_name(name) && is_name(new_name),
             Record::Write { bytes, .. } => !bytes.is_empty() && bytes.len() <= TRANSFER_BYTES,
-            Record::Truncate { .. } | Record::ChangeMode { .. } => true,
+            Record::Truncate { .. } | Record::ChangeMode { .. } | Record::SetFile { .. } => true,
         }
     }
 }
@@ -68,6 +68,7 @@ fn read_fields(bytes: &[u8]) -> Option<Record<'_>>
         5 => read_write(fields),
         6 => read_truncate(fields),
         7 => read_change_mode(fields),
+        8 => read_set_file(fields),
         _ => None,
     }
 }
@@ -208,5 +209,22 @@ fn read_change_mode(bytes: &[u8]) -> Option<Record<'_>>
     Some(Record::ChangeMode {
         number: InodeNumber::new(number),
         mode: Mode::new(bits).unwrap(),
+    })
+}
+
+#[tactic(auto, unfolding(crate::specs::RecordReading::set_file_in))]
+fn read_set_file(bytes: &[u8]) -> Option<Record<'_>>
+    ensures { option_map change_of result ≡ set_file_in bytes.now }
+{
+    let (number, bytes) = u32_at(bytes)?;
+    let (bits, bytes) = mode_at(bytes)?;
+    let (size, bytes) = u64_at(bytes)?;
+    if !bytes.is_empty() {
+        return None;
+    }
+    Some(Record::SetFile {
+        number: InodeNumber::new(number),
+        mode: Mode::new(bits).unwrap(),
+        size,
     })
 }

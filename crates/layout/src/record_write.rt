@@ -3,7 +3,7 @@
 ghost use Rattle.std.specs.Prelude.{◌≡◌, ◌≤◌, ◌+◌, length};
 ghost use Rattle.model.specs.declared.limits.TheConstants.{NAME_BYTES, TRANSFER_BYTES};
 ghost use Rattle.layout.specs.Bytes.{Writes, little};
-ghost use Rattle.layout.specs.Record.{KeepsLimits, KeepsMadeLimits, change_bytes, change_of, create, link, remove_name, rename, write, truncate, change_mode, made_of, kind_of_made, mode_of_made, name_bytes, body_of, text_of};
+ghost use Rattle.layout.specs.Record.{KeepsLimits, KeepsMadeLimits, change_bytes, change_of, create, link, remove_name, rename, write, truncate, change_mode, set_file, made_of, kind_of_made, mode_of_made, name_bytes, body_of, text_of};
 
 use crate::InodeNumber;
 use crate::record::{NewObject, Record};
@@ -24,6 +24,7 @@ impl Record<'_> {
             Record::Write { bytes, .. } => 17 + count_of(bytes),
             Record::Truncate { .. } => 13,
             Record::ChangeMode { .. } => 7,
+            Record::SetFile { .. } => 15,
         }
     }
 
@@ -59,6 +60,7 @@ impl Record<'_> {
             } => write_write(*number, *offset, bytes, out),
             Record::Truncate { number, size } => write_truncate(*number, *size, out),
             Record::ChangeMode { number, mode } => write_change_mode(*number, *mode, out),
+            Record::SetFile { number, mode, size } => write_set_file(*number, *mode, *size, out),
         }
     }
 }
@@ -229,4 +231,15 @@ fn write_change_mode(number: InodeNumber, mode: Mode, out: &mut [u8]) -> usize
     put_number(out, 1, number);
     put_mode(out, 5, mode);
     7
+}
+
+fn write_set_file(number: InodeNumber, mode: Mode, size: u64, out: &mut [u8]) -> usize
+    requires { 15 ≤ length out.old }
+    ensures { Writes 0 result (change_bytes (set_file number mode size)) out.old out.new }
+{
+    put_byte(out, 0, 8);
+    put_number(out, 1, number);
+    put_mode(out, 5, mode);
+    put_u64(out, 7, size);
+    15
 }

@@ -1,6 +1,6 @@
 use Rattle.std.proofs.Common.{arith}
 use Rattle.layout.specs.Record.{made_of}
-use Rattle.layout.proofs.RecordLengths.{length-create, length-link, length-remove_name, length-rename, length-write, length-truncate, length-change_mode}
+use Rattle.layout.proofs.RecordLengths.{length-create, length-link, length-remove_name, length-rename, length-write, length-truncate, length-change_mode, length-set_file}
 use Rattle.layout.proofs.record.Record.encoded_len.Goals as goal
 
 pub overflow_add-result-in-Create : goal.overflow_add-result-in-Create
@@ -28,3 +28,6 @@ returns-in-Truncate c = rw c.in-Truncate.is (omega (arith, length-truncate c.in-
 
 pub returns-in-ChangeMode : goal.returns-in-ChangeMode
 returns-in-ChangeMode c = rw c.in-ChangeMode.is (omega (arith, length-change_mode c.in-ChangeMode.number c.in-ChangeMode.mode))
+
+pub returns-in-SetFile : goal.returns-in-SetFile
+returns-in-SetFile c = rw c.in-SetFile.is (omega (arith, length-set_file c.in-SetFile.number c.in-SetFile.mode c.in-SetFile.size))

@@ -1,6 +1,6 @@
 use Rattle.std.proofs.Common.{arith}
 use Rattle.layout.specs.Record.{made_of}
-use Rattle.layout.proofs.RecordLengths.{length-create, length-link, length-remove_name, length-rename, length-write, length-truncate, length-change_mode}
+use Rattle.layout.proofs.RecordLengths.{length-create, length-link, length-remove_name, length-rename, length-write, length-truncate, length-change_mode, length-set_file}
 use Rattle.layout.proofs.record.Record.write.Goals as goal
 
 pub write_create-requires-clause-room : goal.write_create-requires-clause-room
@@ -37,3 +37,8 @@ pub write_change_mode-requires : goal.write_change_mode-requires
 write_change_mode-requires c =
     let room = rw c.in-ChangeMode.is at c.requires.room in
     omega (arith, room, length-change_mode c.in-ChangeMode.number c.in-ChangeMode.mode)
+
+pub write_set_file-requires : goal.write_set_file-requires
+write_set_file-requires c =
+    let room = rw c.in-SetFile.is at c.requires.room in
+    omega (arith, room, length-set_file c.in-SetFile.number c.in-SetFile.mode c.in-SetFile.size)
