@@ -7,7 +7,7 @@ use Rattle.layout.specs.Limits.{Sizes}
 use Rattle.layout.specs.Places.{Blocks, blocks_of}
 use Rattle.layout.specs.Record.{IsChange}
 use Rattle.model.specs.Counting.{Counts}
-use Rattle.model.specs.Records.{Applies, CanRename, CanReplace, Change, Replays, applied, change_mode, create, truncate, link, rename, remove_name, write}
+use Rattle.model.specs.Records.{Applies, CanRename, CanReplace, Change, Replays, applied, change_mode, create, set_file, truncate, link, rename, remove_name, write}
 use Rattle.model.proofs.MoveLemmas.{records_keep_volumes}
 use Rattle.model.proofs.CountLemmas.{one_less, same_count}
 use Rattle.model.proofs.ListingLemmas.{names_apart}
@@ -180,6 +180,7 @@ leaves_place inodes v (rename d x k y) volume can = move_leaves_place inodes v v
 leaves_place inodes v (write number offset bytes) volume can = tt
 leaves_place inodes v (truncate number size) volume can = tt
 leaves_place inodes v (change_mode number mode) volume can = tt
+leaves_place inodes v (set_file number mode size) volume can = tt
 
 -- over a volume no limit is passed, and over that of its lowest bytes all that is changed in part can be read
 within : (inodes : ℕ) (changes : List Change) (v w : Volume) → All IsChange changes → IsVolume inodes v → Replays inodes v changes w → ReplaysWithin inodes (low v) changes (low w)

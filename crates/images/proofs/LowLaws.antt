@@ -9,7 +9,7 @@ use Rattle.model.specs.declared.attributes.Attributes.{Attributes}
 use Rattle.model.specs.Counting.{Counts}
 use Rattle.model.specs.Edits.{resized, written}
 use Rattle.model.specs.Paths.{Name}
-use Rattle.model.specs.Records.{Applies, CanReplace, Change, IsBelow, IsEmpty, Made, TakesName, applied, change_mode, create, truncate, directory, file, is_vacant, link, node_of, rename, symbolic_link, remove_name, with_file_bytes, with_node_mode, write}
+use Rattle.model.specs.Records.{Applies, CanReplace, Change, IsBelow, IsEmpty, Made, TakesName, applied, change_mode, create, truncate, directory, file, is_vacant, link, node_of, rename, set_file, symbolic_link, remove_name, with_bits, with_file_bytes, with_node_mode, with_size, write}
 use Rattle.model.specs.Volumes.{Entries, Node, Volume, directory_node, entries, file_node, is_directory_node, is_file_node, link_node, released, set_name, with_entry, with_name_less, with_name_more, with_node}
 use Rattle.model.specs.declared.limits.TheConstants.{DIRECTORY_NAMES}
 use Rattle.model.proofs.MoveLemmas.{bytes_by, bytes_names}
@@ -147,6 +147,9 @@ low_applied (rename d x k y) v is =
 low_applied (write number offset bytes) v is = change_low (with_file_bytes (written offset bytes)) (with_bytes (written offset bytes) (λ b. low_written offset bytes b is.fields.1)) number v
 low_applied (truncate number size) v is = change_low (with_file_bytes (resized size)) (with_bytes (resized size) (low_resized size)) number v
 low_applied (change_mode number mode) v is = change_low (with_node_mode mode) (moded mode) number v
+low_applied (set_file number mode size) v is =
+    change_low (with_node_mode mode) (moded mode) number (with_size number size v)
+    ∙ ap (with_bits number mode) (change_low (with_file_bytes (resized size)) (with_bytes (resized size) (low_resized size)) number v)
 
 -- ---- a record that applies to the one applies to the other
 
@@ -202,6 +205,7 @@ module _ (v : Volume) where
   }
   low_applies inodes (write number offset bytes) can = (is_file number ∙ can.0, can.1, can.2, can.3)
   low_applies inodes (truncate number size) can = (is_file number ∙ can.0, can.1)
+  low_applies inodes (set_file number mode size) can = (is_file number ∙ can.0, can.1, can.2)
   low_applies inodes (change_mode number mode) can =
       (bytes_by (λ o. is_file_node o || is_directory_node o) (λ attributes links a b. refl) low_bytes (v number) ∙ can.0, can.1)
 
@@ -214,6 +218,7 @@ module _ (v : Volume) where
   low_place (write number offset bytes) place = tt
   low_place (truncate number size) place = tt
   low_place (change_mode number mode) place = tt
+  low_place (set_file number mode size) place = tt
 
   read : (o : Option Node) (k : ℕ) → slice_index (bytes_of_node (low_node o)) k < 256
   read None k = omega arith
@@ -229,3 +234,4 @@ module _ (v : Volume) where
   low_reads (write number offset bytes) = λ i part. read (v number) (4096 * i)
   low_reads (truncate number size) = λ cuts. read (v number) (4096 * (size / 4096))
   low_reads (change_mode number mode) = tt
+  low_reads (set_file number mode size) = λ cuts. read (v number) (4096 * (size / 4096))

@@ -4,7 +4,7 @@ use Rattle.std.specs.Prelude.{ℕ, ◌≡◌, ◌≢◌, ◌/◌, ◌<◌, IsSom
 use Rattle.layout.specs.declared.TheConstants.{BLOCK_BYTES}
 use Rattle.model.specs.Counting.{Counts}
 use Rattle.model.specs.Paths.{Name}
-use Rattle.model.specs.Records.{Applies, Change, applied, truncate, rename, write}
+use Rattle.model.specs.Records.{Applies, Change, applied, truncate, rename, set_file, write}
 use Rattle.model.specs.Volumes.{Node, Volume, entries, file_node}
 use Rattle.model.specs.declared.limits.TheConstants.{DIRECTORY_NAMES}
 use Rattle.images.specs.Edges.{TruncatesBlock, IsPartlyWritten}
@@ -27,6 +27,7 @@ bytes_of_node o = []
 abbrev pub ReadsParts : Volume → Change → Type 0
 ReadsParts v (write n offset bytes) = (i : ℕ) → IsPartlyWritten offset (length bytes) i → IsReadBlock (bytes_of_node (v n)) i
 ReadsParts v (truncate n size) = TruncatesBlock (length (bytes_of_node (v n))) size → IsReadBlock (bytes_of_node (v n)) (size / BLOCK_BYTES)
+ReadsParts v (set_file n mode size) = TruncatesBlock (length (bytes_of_node (v n))) size → IsReadBlock (bytes_of_node (v n)) (size / BLOCK_BYTES)
 ReadsParts v change = Unit {0}
 
 -- the same, where this isn't known of all blocks

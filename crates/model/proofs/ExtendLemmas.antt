@@ -10,7 +10,7 @@ use Rattle.model.specs.Edits.{written, resized}
 use Rattle.model.specs.Trees.{Description}
 use Rattle.model.specs.Volumes.{Node, directory_node, file_node, link_node, Volume, Entries, bytes_of_node, names_in, entries, with_node, set_name, with_entry, is_file_node, is_directory_node, is_orphan, with_name_less, with_name_more, released, is_open, swept_node, swept}
 use Rattle.model.specs.Laws.{ReplayFollows, ReplayEndsSame, ReplaysCostTheSame}
-use Rattle.model.specs.Room.{puts_bytes, changes_size, changes_both}
+use Rattle.model.specs.Room.{puts_bytes, changes_size}
 use Rattle.model.specs.Records.{Change, create, link, remove_name, rename, write, truncate, change_mode, set_file, node_of, with_file_bytes, with_node_mode, with_size, applied, IsBelow, TakesName, IsEmpty, is_vacant, CanReplace, Applies, without_orphans, Extends}
 use Rattle.model.proofs.OptionLaws.{some_or_none}
 
@@ -271,4 +271,4 @@ costs_the_same inodes v w (rename parent name new_parent new_name) extends can =
 costs_the_same inodes v w (write number offset bytes) extends can = ap (λ o. puts_bytes (length (unwrap_or (bytes_of_node o) [])) offset (length bytes)) (file_kept v w extends number can.0)
 costs_the_same inodes v w (truncate number size) extends can = ap (λ o. changes_size (length (unwrap_or (bytes_of_node o) [])) size) (file_kept v w extends number can.0)
 costs_the_same inodes v w (change_mode number mode) extends can = refl
-costs_the_same inodes v w (set_file number mode size) extends can = ap (λ o. changes_both (length (unwrap_or (bytes_of_node o) [])) size) (file_kept v w extends number can.0)
+costs_the_same inodes v w (set_file number mode size) extends can = ap (λ o. changes_size (length (unwrap_or (bytes_of_node o) [])) size) (file_kept v w extends number can.0)

@@ -10,7 +10,7 @@ use Rattle.model.specs.Paths.{Path, Tests, text_tests, text_tests_then, new_text
 use Rattle.model.specs.Trees.{Tree, Object, directory, symlink, file, is_directory}
 use Rattle.model.specs.Edits.{contents, resized, with_object, without_object, with_mode, with_bytes, with_directory, moved}
 use Rattle.model.specs.Resolution.{parent}
-use Rattle.model.specs.Room.{Need, nothing, logs, adds_name, removes_name, changes_size, changes_bits, changes_both}
+use Rattle.model.specs.Room.{Need, nothing, logs, adds_name, removes_name, changes_size, changes_bits}
 use Rattle.model.specs.Outcomes.{Outcome, answers, refuses, changes, changes_swept, tested, either, goes_along, goes_to, with_names, with_place, with_fresh, with_links}
 use Rattle.model.specs.Reading.{is_negative}
 
@@ -150,7 +150,7 @@ sets_mode t n (Some mode) = changes Done (with_mode n mode t) (logs changes_bits
 abbrev pub sets_both : Tree → ℕ → ℕ → ℕ → Outcome
 sets_both t n mode size =
     either (size == length (contents t n)) (changes Done (with_mode n mode t) (logs changes_bits))
-    (changes Done (with_mode n mode (with_bytes n (resized size (contents t n)) t)) (logs (changes_both (length (contents t n)) size)))
+    (changes Done (with_mode n mode (with_bytes n (resized size (contents t n)) t)) (logs (changes_size (length (contents t n)) size)))
 
 -- a file gets all that is given
 abbrev pub sets_file : Tree → ℕ → Option ℕ → Option ℤ → Outcome

@@ -7,7 +7,7 @@ use Rattle.model.specs.Attributes.{new_attributes, set_mode}
 use Rattle.model.specs.Counting.{Counts}
 use Rattle.model.specs.Paths.{Name, Path, IsName, IsLinkText}
 use Rattle.model.specs.Edits.{written, resized}
-use Rattle.model.specs.Room.{Room, Work, adds_name, removes_name, puts_bytes, changes_size, changes_bits, changes_both, cost}
+use Rattle.model.specs.Room.{Room, Work, adds_name, removes_name, puts_bytes, changes_size, changes_bits, cost}
 use Rattle.model.specs.Volumes.{Node, directory_node, file_node, link_node, Volume, Entries, entries, enter, bytes_of_node, with_node, is_file_node, is_directory_node, is_orphan, created, linked, unnamed, renamed, swept_node}
 
 -- what a record makes, with all that a call gives it
@@ -175,7 +175,7 @@ work_of v (rename parent name new_parent new_name) = adds_name
 work_of v (write number offset bytes) = puts_bytes (size_before v number) offset (length bytes)
 work_of v (truncate number size) = changes_size (size_before v number) size
 work_of v (change_mode number mode) = changes_bits
-work_of v (set_file number mode size) = changes_both (size_before v number) size
+work_of v (set_file number mode size) = changes_size (size_before v number) size
 
 -- what records cost that change a volume one after the other
 abbrev pub costs : Volume → List Change → ℕ

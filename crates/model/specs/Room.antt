@@ -8,9 +8,8 @@ pub data Work : Type 0 where
   adds_name : Work  -- it creates, links or renames
   removes_name : Work
   puts_bytes : (size offset count : ℕ) → Work  -- so many bytes at an offset, into a file of this size
-  changes_size : (size to : ℕ) → Work
+  changes_size : (size to : ℕ) → Work  -- and a mode with it, perhaps
   changes_bits : Work  -- of a mode
-  changes_both : (size to : ℕ) → Work  -- a size, and a mode
 
 -- how many blocks of 4,096 bytes so many bytes at an offset touch
 abbrev pub touched : ℕ → ℕ → ℕ
@@ -28,7 +27,6 @@ cost removes_name = NAMES_COST
 cost (puts_bytes size offset count) = 2 * touched offset count + beside (max size (offset + count))
 cost (changes_size size to) = FILE_COST
 cost changes_bits = MODE_COST
-cost (changes_both size to) = FILE_COST + MODE_COST
 
 -- the blocks that stay free behind a record, so that files can still be taken away
 abbrev pub headroom : Work → ℕ
@@ -37,7 +35,6 @@ headroom removes_name = 0
 headroom (puts_bytes size offset count) = HEADROOM_BLOCKS
 headroom (changes_size size to) = if nat_lt size to then HEADROOM_BLOCKS else 0
 headroom changes_bits = 0
-headroom (changes_both size to) = if nat_lt size to then HEADROOM_BLOCKS else 0
 
 -- the blocks that each consistency point stores whatever changed, on a disk of so many blocks
 abbrev pub fixed_of : ℕ → ℕ
