@@ -26,7 +26,7 @@ use Rattle.inofile.specs.Objects.{IsObjectIn, IsObjectOrNone}
 use Rattle.inofile.specs.Settled.{content_of_object}
 use Rattle.records.specs.Contents.{IsSoundIn, IsWholeIn, rewriting}
 use Rattle.records.specs.declared.contents.Rewrite.{Rewrite}
-use Rattle.records.specs.declared.contents.Rewrite.TheVariants.{Truncate, Write}
+use Rattle.records.specs.declared.contents.Rewrite.TheVariants.{Set, Truncate, Write}
 use Rattle.inode.proofs.BytePositions.{truncated_below, truncated_past, written_above, written_below, written_in}
 use Rattle.layout.proofs.PartLaws.{length-first_bytes}
 use Rattle.inode.proofs.EdgeLaws.{list_of_truncated, list_of_write}
@@ -172,6 +172,7 @@ module _ (disk : ℕ → List ℕ) (inodes : ℕ) (settled : Inode) (v : Volume)
       let kind = is_kind by_sizes o.status.kind inodes (content_of_object disk o) (v n) is.stands file in
       let held = subst Sized kind is.stands in
       λ i part. subst (λ (x : Option Node). IsReadBlock (bytes_of_node x) i) (sym held.3) ((held.2 i).1 (whole kind i part))
+  whole_reads by_sizes (Set mode size) is file whole = whole_reads by_sizes (Truncate size) is file whole
   whole_reads by_sizes (Truncate size) is file whole =
       let kind = is_kind by_sizes o.status.kind inodes (content_of_object disk o) (v n) is.stands file in
       let held = subst Sized kind is.stands in
@@ -185,6 +186,7 @@ module _ (disk : ℕ → List ℕ) (inodes : ℕ) (settled : Inode) (v : Volume)
   reads_sound by_sizes (Write offset bytes) count is sound reads kind i part =
       let held = subst Sized kind is.stands in
       sound i ((held.2 i).0 (subst (λ (x : Option Node). IsReadBlock (bytes_of_node x) i) held.3 (reads i part)))
+  reads_sound by_sizes (Set mode size) count is sound reads kind i part = reads_sound by_sizes (Truncate size) count is sound reads kind i part
   reads_sound by_sizes (Truncate size) count is sound reads kind i part =
       let held = subst Sized kind is.stands in
       let read = subst (λ (x : Option Node). IsReadBlock (bytes_of_node x) (size / 4096)) held.3 (reads (subst (λ (k : ℕ). TruncatesBlock k size) (sym (size_is held)) part.0)) in

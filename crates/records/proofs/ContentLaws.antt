@@ -1,6 +1,7 @@
 -- Bytes that a file in memory gets.
-use Rattle.std.proofs.Common.{◌≡◌, ◌+◌, ◌-◌, ◌++◌, ◌≤◌, ℕ, List, length, take, drop, Option, Some, None, Result, Ok, Err, IfOk, IfSome, IsTrue, refl, sym, ap, subst, ◌∙◌, append_assoc, arith}
+use Rattle.std.proofs.Common.{◌≡◌, ◌+◌, ◌-◌, ◌++◌, ◌≤◌, ℕ, List, length, take, drop, Option, Some, None, Result, Ok, Err, IfOk, IfSome, IsTrue, refl, sym, ap, subst, ◌∙◌, append_assoc, inl, inr, arith}
 use Rattle.std.proofs.Math.Path.{fun_ext}
+use Rattle.std.proofs.lemmas.Bool.{cases_eq}
 use Rattle.layout.specs.Bytes.{zeros}
 use Rattle.layout.specs.FileBytes.{byte_in, first_bytes, EndsAt}
 use Rattle.layout.specs.Inode.{FitsKind}
@@ -9,7 +10,7 @@ use Rattle.layout.specs.declared.inode.Inode.{Inode}
 use Rattle.layout.specs.declared.kind.Kind.{Kind}
 use Rattle.layout.specs.declared.kind.Kind.TheVariants as kinds
 use Rattle.model.specs.Edits.{resized, written}
-use Rattle.model.specs.Records.{Applies, applied, size_before, with_file_bytes, work_of}
+use Rattle.model.specs.Records.{Applies, applied, size_before, with_file_bytes, with_node_mode, work_of}
 use Rattle.model.specs.Room.{cost}
 use Rattle.model.specs.Volumes.{Node, Volume, file_node, is_file_node, with_node}
 use Rattle.model.specs.declared.errno.Errno.TheVariants.{EFBIG}
@@ -29,13 +30,15 @@ use Rattle.inofile.specs.Inodes.{IsKnown}
 use Rattle.inofile.specs.Objects.{EndsIn, IsObjectIn}
 use Rattle.inofile.specs.Settled.{content_of_object}
 use Rattle.inofile.specs.declared.inode_file.InodeFile.{InodeFile}
-use Rattle.records.specs.Contents.{KeepsRewriteBounds, Resizes, RewriteRoom, Rewrites, RewritesFile, bytes_after, rewriting}
+use Rattle.records.specs.Contents.{KeepsRewriteBounds, Resizes, RewriteRoom, Rewrites, RewritesFile, bytes_after, mode_after, rewriting}
 use Rattle.records.specs.Obstacles.{IsObstacle, tells_obstacle}
 use Rattle.records.specs.Prepared.{KnowsFile}
 use Rattle.records.specs.Room.{StoresIn}
+use Rattle.records.specs.Steps.{with_given_mode}
 use Rattle.records.specs.declared.contents.Rewrite.{Rewrite}
-use Rattle.records.specs.declared.contents.Rewrite.TheVariants.{Write, Truncate}
+use Rattle.records.specs.declared.contents.Rewrite.TheVariants.{Write, Truncate, Set}
 use Rattle.records.proofs.KindLaws.{file_stands, is_kind}
+use Rattle.model.proofs.ObjectLaws.{node_here, node_other}
 use Rattle.records.proofs.SizeLaws.{write_costs}
 
 -- ---- lists of bytes
@@ -148,26 +151,40 @@ bytes_put detail disk inodes settled o found f change new was is rewrites done =
 pub file_changed : (inodes : ℕ) (v : Volume) (n : ℕ) (rewrite : Rewrite) → Applies inodes v (rewriting n rewrite) → IsTrue (is_file_node (v n))
 file_changed inodes v n (Write offset bytes) can = can.0
 file_changed inodes v n (Truncate size) can = can.0
+file_changed inodes v n (Set mode size) can = can.0
 
 pub rewriting_applies : (inodes : ℕ) (v : Volume) (n : ℕ) (rewrite : Rewrite) → IsTrue (is_file_node (v n)) → KeepsRewriteBounds rewrite → Applies inodes v (rewriting n rewrite)
 rewriting_applies inodes v n (Write offset bytes) is keeps = (is, keeps.0, keeps.1, keeps.2)
 rewriting_applies inodes v n (Truncate size) is keeps = (is, keeps)
+rewriting_applies inodes v n (Set mode size) is keeps = (is, keeps.0, keeps.1)
 
 pub rewriting_place : (v : Volume) (n : ℕ) (rewrite : Rewrite) → LeavesPlace v (rewriting n rewrite)
 rewriting_place v n (Write offset bytes) = tt
 rewriting_place v n (Truncate size) = tt
+rewriting_place v n (Set mode size) = tt
 
-pub rewriting_applied : (n : ℕ) (rewrite : Rewrite) (v : Volume) → applied (rewriting n rewrite) v ≡ with_node n (with_file_bytes (bytes_after rewrite) (v n)) v
+-- an object is changed twice
+changed_twice : (n : ℕ) (o : Option Node) (f : Option Node → Option Node) (v : Volume) → with_node n (f (with_node n o v n)) (with_node n o v) ≡ with_node n (f o) v
+changed_twice n o f v =
+    fun_ext {f = with_node n (f (with_node n o v n)) (with_node n o v)} {g = with_node n (f o) v} (λ k. elim (cases_eq k n) [
+      | inl here ↦ node_here n k (f (with_node n o v n)) (with_node n o v) here ∙ ap f (node_here n n o v refl) ∙ sym (node_here n k (f o) v here)
+      | inr other ↦ node_other n k (f (with_node n o v n)) (with_node n o v) other ∙ node_other n k o v other ∙ sym (node_other n k (f o) v other)
+    ])
+
+pub rewriting_applied : (n : ℕ) (rewrite : Rewrite) (v : Volume) → applied (rewriting n rewrite) v ≡ with_node n (with_given_mode (mode_after rewrite) (with_file_bytes (bytes_after rewrite) (v n))) v
 rewriting_applied n (Write offset bytes) v = refl
 rewriting_applied n (Truncate size) v = refl
+rewriting_applied n (Set mode size) v = changed_twice n (with_file_bytes (resized size) (v n)) (with_node_mode mode) v
 
 pub rewriting_knows : (n : ℕ) (rewrite : Rewrite) (s : InodeFile) → IsKnown s n → KnowsFile s (rewriting n rewrite)
 rewriting_knows n (Write offset bytes) s known = known
 rewriting_knows n (Truncate size) s known = known
+rewriting_knows n (Set mode size) s known = known
 
 pub bounds_kept : (inodes : ℕ) (v : Volume) (n : ℕ) (rewrite : Rewrite) → Applies inodes v (rewriting n rewrite) → KeepsRewriteBounds rewrite
 bounds_kept inodes v n (Write offset bytes) can = (can.1, can.2, can.3)
 bounds_kept inodes v n (Truncate size) can = can.1
+bounds_kept inodes v n (Set mode size) can = (can.1, can.2)
 
 -- what is told of an answer twice is told of it at once
 pub told_both : {T E : Type 0} (r : Result T E) (P Q : T → Type 0) → IfOk r P → IfOk r Q → IfOk r (λ x. P x × Q x)
@@ -179,10 +196,12 @@ told_both (Err e) P Q one two = tt
 pub tells_rewriting : (n : ℕ) (rewrite : Rewrite) → IsTrue (tells_obstacle (rewriting n rewrite) EFBIG)
 tells_rewriting n (Write offset bytes) = refl
 tells_rewriting n (Truncate size) = refl
+tells_rewriting n (Set mode size) = refl
 
 pub bars_rewriting : (inodes : ℕ) (v : Volume) (n : ℕ) (rewrite : Rewrite) → (Applies inodes v (rewriting n rewrite) → ⊥) → IsObstacle inodes v (rewriting n rewrite) EFBIG
 bars_rewriting inodes v n (Write offset bytes) never = never
 bars_rewriting inodes v n (Truncate size) never = never
+bars_rewriting inodes v n (Set mode size) never = never
 
 -- ---- what it may store
 
@@ -198,3 +217,5 @@ rewrite_within n (Write offset bytes) (Some o) change v same room = (
 )
 rewrite_within n (Truncate size) None change v same room = (0, tt, omega arith)
 rewrite_within n (Truncate size) (Some o) change v same room = (size_room o.file.size size, room, omega arith)
+rewrite_within n (Set mode size) None change v same room = (0, tt, omega arith)
+rewrite_within n (Set mode size) (Some o) change v same room = (size_room o.file.size size, room, omega arith)

@@ -153,7 +153,7 @@ alone_fits : (o : Option Object) (u : Update) → IsAlone u → FitsUpdate o u
 alone_fits o (updates.Set object) alone = tt
 alone_fits o (updates.Names edit) alone = absurd alone
 alone_fits o (updates.SetMode mode) alone = tt
-alone_fits o (updates.Bytes change) alone = absurd alone
+alone_fits o (updates.Bytes change mode) alone = absurd alone
 alone_fits o (updates.Links links) alone = tt
 
 pub alone_takes : (s : InodeFile) (number : ℕ) (u : Update) → IsAlone u → IsAtHand s number → TakesUpdate s number u
@@ -167,7 +167,7 @@ pub alone_apart : (n number : ℕ) (u : Update) → IsAlone u → IsApart n numb
 alone_apart n number (updates.Set object) alone = tt
 alone_apart n number (updates.Names edit) alone = absurd alone
 alone_apart n number (updates.SetMode mode) alone = tt
-alone_apart n number (updates.Bytes change) alone = absurd alone
+alone_apart n number (updates.Bytes change mode) alone = absurd alone
 alone_apart n number (updates.Links links) alone = tt
 
 pub alone_some_apart : (n : ℕ) (step : Option ObjectUpdate) → IsSomeAlone step → IsSomeApart n step

@@ -3,7 +3,7 @@ use Rattle.std.proofs.Common.{◌≡◌, ◌≢◌, ◌||◌, inl, inr, ℕ, Boo
 use Rattle.std.proofs.lemmas.Bool.{both_ways, false≢true}
 use Rattle.layout.specs.declared.inode.Inode.{Inode}
 use Rattle.model.specs.Paths.{IsName, Name}
-use Rattle.model.specs.Records.{Applies, CanRename, CanReplace, Change, IsBelow, change_mode, create, truncate, link, rename, remove_name, write}
+use Rattle.model.specs.Records.{Applies, CanRename, CanReplace, Change, IsBelow, change_mode, create, set_file, truncate, link, rename, remove_name, write}
 use Rattle.model.specs.Volumes.{Volume, entries, is_directory_node, is_file_node}
 use Rattle.model.specs.declared.errno.Errno.{Errno}
 use Rattle.model.specs.declared.errno.Errno.TheVariants.{DAMAGED, DIRFULL, EEXIST, EFBIG, EINVAL, EISDIR, EMLINK, ENAMETOOLONG, ENOENT, ENOTDIR, ENOTEMPTY, EPERM}
@@ -69,6 +69,7 @@ obstacle_stops inodes v (rename d x k y) ENOENT is can = none_some (sym is ∙ c
 obstacle_stops inodes v (rename d x k y) errno (n, there, bars) can = move_stops v d x k y n there can errno bars
 obstacle_stops inodes v (write n offset bytes) EFBIG is can = is can
 obstacle_stops inodes v (truncate n size) EFBIG is can = is can
+obstacle_stops inodes v (set_file n mode size) EFBIG is can = is can
 obstacle_stops inodes v (change_mode n mode) DAMAGED is can = both_ways (is_file_node (v n) || is_directory_node (v n)) is can.0
 obstacle_stops inodes v _ _ is can = absurd is
 

@@ -4,10 +4,10 @@ use Rattle.std.proofs.Math.Path.{fun_ext}
 use Rattle.std.proofs.lemmas.Bool.{cases_eq, cond-true, cond-false}
 use Rattle.std.proofs.lemmas.Bool.Decides.{nat_tests}
 use Rattle.layout.specs.declared.kind.Kind.{Kind}
-use Rattle.model.specs.Changing.{truncates_file}
+use Rattle.model.specs.Changing.{sets_both, truncates_file}
 use Rattle.model.specs.Changes.{ChangesTree, TakesFreeNumber}
 use Rattle.model.specs.Descriptors.{puts}
-use Rattle.model.specs.Edits.{contents, with_bytes, written}
+use Rattle.model.specs.Edits.{contents, with_bytes, with_mode, written}
 use Rattle.model.specs.Laws.{RecordsChangeTrees}
 use Rattle.model.specs.Paths.{is_empty}
 use Rattle.model.specs.Records.{Applies, applied, with_file_bytes}
@@ -17,10 +17,11 @@ use Rattle.model.specs.Volumes.{Node, directory_node, file_node, link_node, Volu
 use Rattle.model.specs.declared.errno.Errno.TheVariants.{EFBIG}
 use Rattle.model.specs.declared.limits.TheConstants.{GREATEST_FILE, OPEN_FILES}
 use Rattle.model.specs.declared.reply.Reply.TheVariants.{Done, Refused, Wrote}
-use Rattle.records.specs.Contents.{bytes_after, rewriting}
+use Rattle.records.specs.Contents.{bytes_after, mode_after, rewriting}
 use Rattle.records.specs.Rewriting.{GoesOver}
+use Rattle.records.specs.Steps.{with_given_mode}
 use Rattle.records.specs.declared.contents.Rewrite.{Rewrite}
-use Rattle.records.specs.declared.contents.Rewrite.TheVariants.{Write, Truncate}
+use Rattle.records.specs.declared.contents.Rewrite.TheVariants.{Write, Truncate, Set}
 use Rattle.images.specs.Contents.{Content}
 use Rattle.images.specs.Soundness.{Detail}
 use Rattle.images.specs.Sizes.{StandsAsIn}
@@ -41,16 +42,33 @@ swept_bytes f false (Some (file_node attributes zero bytes)) is = absurd (none_s
 swept_bytes f open_now (Some (file_node attributes (suc links) bytes)) is = refl
 swept_bytes f open_now (Some (link_node attributes text)) is = refl
 
-module _ (v : Volume) (table : ℕ → Option Description) (n : ℕ) (f : List ℕ → List ℕ) (is_swept : (k : ℕ) → swept table v k ≡ v k) where
+-- and so of one that gets a mode
+swept_mode : (mode : Option ℕ) (open_now : Bool) (o : Option Node) → swept_node open_now o ≡ o → swept_node open_now (with_given_mode mode o) ≡ with_given_mode mode o
+swept_mode None open_now o is = is
+swept_mode (Some mode) open_now None is = refl
+swept_mode (Some mode) open_now (Some (directory_node attributes names)) is = refl
+swept_mode (Some mode) true (Some (file_node attributes zero bytes)) is = refl
+swept_mode (Some mode) false (Some (file_node attributes zero bytes)) is = absurd (none_some is)
+  where
+    none_some : {X Y : Type 0} {x : X} → None ≡ Some x → Y
+    none_some e = cc
+swept_mode (Some mode) open_now (Some (file_node attributes (suc links) bytes)) is = refl
+swept_mode (Some mode) open_now (Some (link_node attributes text)) is = refl
+
+module _ (v : Volume) (table : ℕ → Option Description) (n : ℕ) (f : List ℕ → List ℕ) (mode : Option ℕ) (is_swept : (k : ℕ) → swept table v k ≡ v k) where
+  abbrev now : Option Node → Option Node
+  now o = with_given_mode mode (with_file_bytes f o)
+
   abbrev changed : Volume
-  changed = with_node n (with_file_bytes f (v n)) v
+  changed = with_node n (now (v n)) v
 
   each : (k : ℕ) → swept table changed k ≡ changed k
   each k = elim (cases_eq k n) [
     | inl here ↦
-        let same : changed k ≡ with_file_bytes f (v k) = node_here n k (with_file_bytes f (v n)) v here ∙ ap (λ (m : ℕ). with_file_bytes f (v m)) (sym here) in
-        subst (λ (o : Option Node). swept_node (is_open table OPEN_FILES k) o ≡ o) (sym same) (swept_bytes f (is_open table OPEN_FILES k) (v k) (is_swept k))
-    | inr other ↦ subst (λ (o : Option Node). swept_node (is_open table OPEN_FILES k) o ≡ o) (sym (node_other n k (with_file_bytes f (v n)) v other)) (is_swept k)
+        let same : changed k ≡ now (v k) = node_here n k (now (v n)) v here ∙ ap (λ (m : ℕ). now (v m)) (sym here) in
+        subst (λ (o : Option Node). swept_node (is_open table OPEN_FILES k) o ≡ o) (sym same)
+        (swept_mode mode (is_open table OPEN_FILES k) (with_file_bytes f (v k)) (swept_bytes f (is_open table OPEN_FILES k) (v k) (is_swept k)))
+    | inr other ↦ subst (λ (o : Option Node). swept_node (is_open table OPEN_FILES k) o ≡ o) (sym (node_other n k (now (v n)) v other)) (is_swept k)
   ]
 
   bytes_unswept : swept table changed ≡ changed
@@ -61,10 +79,17 @@ module _ (v : Volume) (table : ℕ → Option Description) (n : ℕ) (f : List �
 takes_free : (v : Volume) (n : ℕ) (rewrite : Rewrite) → TakesFreeNumber v (rewriting n rewrite)
 takes_free v n (Write offset bytes) = tt
 takes_free v n (Truncate size) = tt
+takes_free v n (Set mode size) = tt
 
-tree_after : (n : ℕ) (rewrite : Rewrite) (old new : Tree) → ChangesTree (rewriting n rewrite) old new → new ≡ with_bytes n (bytes_after rewrite (contents old n)) old
+-- the tree with a mode at a number, where it is given
+abbrev pub with_mode_given : Option ℕ → ℕ → Tree → Tree
+with_mode_given None n t = t
+with_mode_given (Some mode) n t = with_mode n mode t
+
+tree_after : (n : ℕ) (rewrite : Rewrite) (old new : Tree) → ChangesTree (rewriting n rewrite) old new → new ≡ with_mode_given (mode_after rewrite) n (with_bytes n (bytes_after rewrite (contents old n)) old)
 tree_after n (Write offset bytes) old new is = is
 tree_after n (Truncate size) old new is = is
+tree_after n (Set mode size) old new is = is
 
 module _ (inodes : ℕ) (v : Volume) (table : ℕ → Option Description) (volume : IsVolume inodes v) (mounted : IsMounted v table) (law : RecordsChangeTrees) (n : ℕ) where
   abbrev t : Tree
@@ -72,11 +97,11 @@ module _ (inodes : ℕ) (v : Volume) (table : ℕ → Option Description) (volum
 
   -- the record leads to the tree with these bytes
   pub rewritten : (rewrite : Rewrite) → Applies inodes v (rewriting n rewrite)
-      → GoesOver inodes v table (rewriting n rewrite) × (tree_of (applied (rewriting n rewrite) v) table ≡ with_bytes n (bytes_after rewrite (contents t n)) t)
+      → GoesOver inodes v table (rewriting n rewrite) × (tree_of (applied (rewriting n rewrite) v) table ≡ with_mode_given (mode_after rewrite) n (with_bytes n (bytes_after rewrite (contents t n)) t))
   rewritten rewrite can = ((can, told.0), tree_after n rewrite t (tree_of (applied (rewriting n rewrite) v) table) told.1)
     where
       whole : swept table (applied (rewriting n rewrite) v) ≡ applied (rewriting n rewrite) v
-      whole = subst (λ (w : Volume). swept table w ≡ w) (sym (rewriting_applied n rewrite v)) (bytes_unswept v table n (bytes_after rewrite) mounted.is_swept)
+      whole = subst (λ (w : Volume). swept table w ≡ w) (sym (rewriting_applied n rewrite v)) (bytes_unswept v table n (bytes_after rewrite) (mode_after rewrite) mounted.is_swept)
 
       told : IsMounted (applied (rewriting n rewrite) v) table × ChangesTree (rewriting n rewrite) t (tree_of (applied (rewriting n rewrite) v) table)
       told = subst (λ (w : Volume). IsMounted w table × ChangesTree (rewriting n rewrite) t (tree_of w table)) whole (law inodes v table (rewriting n rewrite) volume mounted can (takes_free v n rewrite))
@@ -110,6 +135,12 @@ truncates_all t n size new other is = (
   is ∙ sym (cond-false (size == length (contents t n)) t _ other),
   sym (cond-false (size == length (contents t n)) nothing _ other),
 )
+
+-- both
+
+pub sets_all : (t : Tree) (n mode size : ℕ) (new : Tree) → (size == length (contents t n)) ≡ false → new ≡ with_mode n mode (with_bytes n (bytes_after (Set mode size) (contents t n)) t)
+    → sets_both t n mode size Done new (logs (changes_size (length (contents t n)) size))
+sets_all t n mode size new other is = rw other (refl, is, refl)
 
 -- ---- tests
 

@@ -5,6 +5,7 @@ use Rattle.std.specs.BTreeMap.{get}
 use Rattle.std.proofs.lemmas.Bool.{false≢true}
 use Rattle.layout.specs.DirectoryNames.{NameMap}
 use Rattle.layout.specs.declared.inode.Inode.{Inode}
+use Rattle.model.specs.declared.attributes.Attributes.{Attributes}
 use Rattle.model.specs.Attributes.{set_mode}
 use Rattle.model.specs.Records.{with_file_bytes, with_node_mode}
 use Rattle.model.specs.Volumes.{Node, Volume, directory_node, file_node, link_node, is_directory_node, is_file_node, is_orphan}
@@ -25,7 +26,7 @@ use Rattle.inofile.proofs.RoomLaws.{changed_room, gone_room, known_room, moved_o
 use Rattle.records.specs.Entering.{EditsIn, with_node_names}
 use Rattle.records.specs.Prepared.{AreBeside}
 use Rattle.records.specs.Room.{CountsObject, RaisesFile, SomeRoom, StoresIn, UpdateRoom}
-use Rattle.records.specs.Steps.{Commits, with_node_links}
+use Rattle.records.specs.Steps.{Commits, with_given_mode, with_node_links}
 use Rattle.records.specs.declared.steps.ObjectUpdate.{ObjectUpdate}
 use Rattle.records.specs.declared.steps.Update.TheVariants as updates
 
@@ -86,18 +87,26 @@ module _ (detail : Detail) (disk : ℕ → List ℕ) (inodes : ℕ) (settled : I
   mode_room (Some (file_node old (suc links) bytes)) (Some o) after mode k is has had raises room =
       omega (arith, room, more (file_node old (suc links) bytes) (file_node (set_mode mode old) (suc links) bytes) o after 0 had raises (omega arith))
 
-  -- a file has other bytes
-  pub bytes_room : (found : Option Node) (was after : Option Object) (f : List ℕ → List ℕ) (change : FileUpdate) (k : ℕ) → IsObjectOrNone detail disk inodes settled was found → IsTrue (is_file_node found)
-      → CountsObject was slot → ((m : ℕ) → StoresIn was change m → RaisesFile was after m) → UpdateRoom was (updates.Bytes change) k
-      → room_of (Some (Changed after)) base (with_file_bytes f found) ≤ room_of slot base found + k
-  bytes_room None was after f change k is file had raises room = absurd (false≢true file)
-  bytes_room (Some (link_node attributes text)) was after f change k is file had raises room = absurd (false≢true file)
-  bytes_room (Some (directory_node old names)) was after f change k is file had raises room = absurd (false≢true file)
-  bytes_room (Some (file_node attributes links bytes)) None after f change k is file had raises room = absurd cc
-  bytes_room (Some (file_node attributes zero bytes)) (Some o) after f change k is file had raises room =
-      omega (arith, room.1, more (file_node attributes zero bytes) (file_node attributes zero (f bytes)) o after room.0 had (raises room.0 room.2) (omega arith))
-  bytes_room (Some (file_node attributes (suc links) bytes)) (Some o) after f change k is file had raises room =
-      omega (arith, room.1, more (file_node attributes (suc links) bytes) (file_node attributes (suc links) (f bytes)) o after room.0 had (raises room.0 room.2) (omega arith))
+  -- a file has other bytes, and a mode, where it is given
+  pub bytes_room : (found : Option Node) (was after : Option Object) (f : List ℕ → List ℕ) (change : FileUpdate) (mode : Option ℕ) (k : ℕ) → IsObjectOrNone detail disk inodes settled was found → IsTrue (is_file_node found)
+      → CountsObject was slot → ((m : ℕ) → StoresIn was change m → RaisesFile was after m) → UpdateRoom was (updates.Bytes change mode) k
+      → room_of (Some (Changed after)) base (with_given_mode mode (with_file_bytes f found)) ≤ room_of slot base found + k
+  bytes_room None was after f change mode k is file had raises room = absurd (false≢true file)
+  bytes_room (Some (link_node attributes text)) was after f change mode k is file had raises room = absurd (false≢true file)
+  bytes_room (Some (directory_node old names)) was after f change mode k is file had raises room = absurd (false≢true file)
+  bytes_room (Some (file_node attributes links bytes)) None after f change mode k is file had raises room = absurd cc
+  bytes_room (Some (file_node attributes links bytes)) (Some o) after f change mode k is file had raises room = by mode links
+    where
+      -- its count of names is the same
+      same : (a b : Attributes) (n : ℕ) (x y : List ℕ) → orphan_room (Some (file_node a n x)) ≤ orphan_room (Some (file_node b n y))
+      same a b zero x y = omega arith
+      same a b (suc n) x y = omega arith
+
+      by : (mode : Option ℕ) (n : ℕ) → room_of (Some (Changed after)) base (with_given_mode mode (Some (file_node attributes n (f bytes)))) ≤ room_of slot base (Some (file_node attributes n bytes)) + k
+      by None n =
+          omega (arith, room.1, more (file_node attributes n bytes) (file_node attributes n (f bytes)) o after room.0 had (raises room.0 room.2) (same attributes attributes n (f bytes) bytes))
+      by (Some mode) n =
+          omega (arith, room.1, more (file_node attributes n bytes) (file_node (set_mode mode attributes) n (f bytes)) o after room.0 had (raises room.0 room.2) (same (set_mode mode attributes) attributes n (f bytes) bytes))
 
   -- a file has so many names
   pub links_room : (found : Option Node) (was after : Option Object) (links k : ℕ) → IsObjectOrNone detail disk inodes settled was found → IsTrue (is_file_node found)
@@ -135,3 +144,12 @@ module _ {s t : InodeFile} where
   room_behind None (Some step) k commits beside room = subst (λ (o : Option Object). UpdateRoom o step.update k) (sym (commits.rest step.number tt)) room
   room_behind (Some other) (Some step) k commits beside room =
       subst (λ (o : Option Object). UpdateRoom o step.update k) (sym (commits.rest step.number (λ e. beside (sym e)))) room
+
+-- what is raised twice
+pub raises_then : {a b c : Option Object} (k : ℕ) → RaisesFile a b k → RaisesFile b c 0 → RaisesFile a c k
+raises_then k first then o is =
+    let p = first o is in
+    let q = then p.0 p.1 in
+    let one = p.2 in
+    let two = q.2 in
+    (q.0, q.1, omega (arith, one, two))

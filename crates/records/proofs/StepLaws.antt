@@ -147,7 +147,7 @@ fits_same : (o p : Option Object) (n number : ℕ) (u : Update) → IsApart n nu
 fits_same o p n number (updates.Set object) apart same fits = tt
 fits_same o p n number (updates.Names edit) apart same fits = subst (λ (x : Option Object). FitsObject x edit) (sym (same apart)) fits
 fits_same o p n number (updates.SetMode mode) apart same fits = tt
-fits_same o p n number (updates.Bytes change) apart same fits = subst (λ (x : Option Object). FitsFile x change) (sym (same apart)) fits
+fits_same o p n number (updates.Bytes change mode) apart same fits = subst (λ (x : Option Object). FitsFile x change) (sym (same apart)) fits
 fits_same o p n number (updates.Links links) apart same fits = tt
 
 -- where there is no step, nothing is put in force

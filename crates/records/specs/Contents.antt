@@ -4,7 +4,7 @@ use Rattle.layout.specs.FileBytes.{EndsAt}
 use Rattle.layout.specs.declared.kind.Kind.TheVariants as kinds
 use Rattle.model.specs.Edits.{resized, written}
 use Rattle.model.specs.Records as records
-use Rattle.model.specs.declared.limits.TheConstants.{GREATEST_FILE, TRANSFER_BYTES}
+use Rattle.model.specs.declared.limits.TheConstants.{GREATEST_FILE, MODE_BITS, TRANSFER_BYTES}
 use Rattle.buffers.specs.Reads.{ReadsBlocks}
 use Rattle.buffers.specs.declared.blocks.Blocks.{Ghosts}
 use Rattle.buffers.specs.Errors.{IsFault}
@@ -20,28 +20,38 @@ use Rattle.inode.specs.declared.file_update.FileUpdate.{FileUpdate}
 use Rattle.inode.specs.declared.file.File.{File}
 use Rattle.inode.specs.declared.object.Object.{Object}
 use Rattle.records.specs.declared.contents.Rewrite.{Rewrite}
-use Rattle.records.specs.declared.contents.Rewrite.TheVariants.{Write, Truncate}
+use Rattle.records.specs.declared.contents.Rewrite.TheVariants.{Write, Truncate, Set}
 
 -- the record of such a change of the file with this number
 abbrev pub rewriting : ℕ → Rewrite → records.Change
 rewriting number (Write offset bytes) = records.write number offset bytes.now
 rewriting number (Truncate size) = records.truncate number size
+rewriting number (Set mode size) = records.set_file number mode size
 
 -- the bytes that it makes of others
 abbrev pub bytes_after : Rewrite → List ℕ → List ℕ
 bytes_after (Write offset bytes) = written offset bytes.now
 bytes_after (Truncate size) = resized size
+bytes_after (Set mode size) = resized size
+
+-- the mode that the file gets with them, if it gets one
+abbrev pub mode_after : Rewrite → Option ℕ
+mode_after (Write offset bytes) = None
+mode_after (Truncate size) = None
+mode_after (Set mode size) = Some mode
 
 -- so many blocks more it stores at the most, of a file of this size
 abbrev pub rewrite_room : ℕ → Rewrite → ℕ
 rewrite_room size (Write offset bytes) = write_room size offset (length bytes.now)
 rewrite_room size (Truncate to) = size_room size to
+rewrite_room size (Set mode to) = size_room size to
 
 -- it keeps to the limits
 abbrev pub KeepsRewriteBounds : Rewrite → Type 0
 KeepsRewriteBounds (Write offset bytes) =
     (1 ≤ length bytes.now) × (length bytes.now ≤ TRANSFER_BYTES) × (offset + length bytes.now ≤ GREATEST_FILE)
 KeepsRewriteBounds (Truncate size) = size ≤ GREATEST_FILE
+KeepsRewriteBounds (Set mode size) = (mode ≤ MODE_BITS) × (size ≤ GREATEST_FILE)
 
 -- a prepared change makes these bytes of those that a file has
 pub record Rewrites (disk : ℕ → List ℕ) (f : List ℕ → List ℕ) (file : File) (change : FileUpdate) : Type 0 where
@@ -64,6 +74,7 @@ RewritesFile by_sizes disk f file change = Resizes disk f file change
 abbrev pub LeavesPart : ℕ → Rewrite → ℕ → Type 0
 LeavesPart size (Write offset bytes) i = IsPartlyWritten offset (length bytes.now) i
 LeavesPart size (Truncate to) i = EndsIn size to i
+LeavesPart size (Set mode to) i = EndsIn size to i
 
 -- the blocks of a file that are left in part are sound
 abbrev pub ArePartsSound : ℕ → (ℕ → List ℕ) → (ℕ → Type 0) → File → Type 0

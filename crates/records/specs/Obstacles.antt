@@ -2,7 +2,7 @@
 use Rattle.std.specs.Prelude.{ℕ, ◌≡◌, ◌≢◌, ◌≤◌, ◌<◌, ◌||◌, Bool, true, IsFalse, IsTrue, Option, Some, None}
 use Rattle.model.specs.Laws.{is_own}
 use Rattle.model.specs.Paths.{IsName, Name}
-use Rattle.model.specs.Records.{Applies, Change, IsBelow, IsEmpty, IsMade, Made, TakesName, change_mode, create, truncate, is_vacant, link, rename, remove_name, write}
+use Rattle.model.specs.Records.{Applies, Change, IsBelow, IsEmpty, IsMade, Made, TakesName, change_mode, create, set_file, truncate, is_vacant, link, rename, remove_name, write}
 use Rattle.model.specs.Volumes.{Volume, entries, is_directory_node, is_file_node}
 use Rattle.model.specs.declared.errno.Errno.{Errno}
 use Rattle.model.specs.declared.errno.Errno.TheVariants.{DAMAGED, DIRFULL, EEXIST, EFBIG, EINVAL, EISDIR, EMLINK, ENAMETOOLONG, ENOENT, ENOTDIR, ENOTEMPTY, EPERM}
@@ -50,6 +50,7 @@ IsObstacle inodes v (rename d x k y) ENOENT = entries v d x ≡ None
 IsObstacle inodes v (rename d x k y) errno = (n : ℕ) × (entries v d x ≡ Some n) × BarsMove v d n k y (entries v k y) errno
 IsObstacle inodes v (write n offset bytes) EFBIG = Applies inodes v (write n offset bytes) → ⊥
 IsObstacle inodes v (truncate n size) EFBIG = Applies inodes v (truncate n size) → ⊥
+IsObstacle inodes v (set_file n mode size) EFBIG = Applies inodes v (set_file n mode size) → ⊥
 IsObstacle inodes v (change_mode n mode) DAMAGED = IsFalse (is_file_node (v n) || is_directory_node (v n))
 IsObstacle inodes v change errno = ⊥
 

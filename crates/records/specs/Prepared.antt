@@ -1,7 +1,7 @@
 -- Prepared changes of the image in memory.
 use Rattle.std.specs.Prelude.{ℕ, ◌+◌, ◌≤◌, List, Option, Some, None}
 use Rattle.layout.specs.declared.inode.Inode.{Inode}
-use Rattle.model.specs.Records.{Change, applied, truncate, work_of, write}
+use Rattle.model.specs.Records.{Change, applied, set_file, truncate, work_of, write}
 use Rattle.model.specs.Room.{cost}
 use Rattle.model.specs.Volumes.{Volume}
 use Rattle.images.specs.Soundness.{Detail, by_bytes}
@@ -41,6 +41,7 @@ pub record AreAtHand (s : InodeFile) (p : Prepared) : Type 0 where
 abbrev pub KnowsFile : InodeFile → Change → Type 0
 KnowsFile s (write number offset bytes) = IsKnown s number
 KnowsFile s (truncate number size) = IsKnown s number
+KnowsFile s (set_file number mode size) = IsKnown s number
 KnowsFile s change = Unit {0}
 
 -- Put in force on this memory, which stands for this volume in so much detail, a prepared change

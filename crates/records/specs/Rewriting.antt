@@ -1,9 +1,9 @@
 -- What a change of the bytes of a file with a number comes to.
-use Rattle.std.specs.Prelude.{ℕ, List, length, Option, Some, None, Result, Ok, Err}
-use Rattle.model.specs.Changing.{truncates_file}
+use Rattle.std.specs.Prelude.{ℕ, ◌≡◌, List, length, Option, Some, None, Result, Ok, Err}
+use Rattle.model.specs.Changing.{sets_both, truncates_file}
 use Rattle.model.specs.Descriptors.{puts}
 use Rattle.model.specs.Edits.{contents}
-use Rattle.model.specs.Records.{Change, Applies, applied, truncate, write}
+use Rattle.model.specs.Records.{Change, Applies, applied, set_file, truncate, write}
 use Rattle.model.specs.Room.{nothing, logs, changes_size, puts_bytes}
 use Rattle.model.specs.Trees.{Tree, Description}
 use Rattle.model.specs.Volumes.{Volume, IsMounted, tree_of}
@@ -35,3 +35,12 @@ TruncatesBytes inodes v table n size (Ok None) = truncates_file (tree_of v table
 TruncatesBytes inodes v table n size (Ok (Some p)) =
     GoesOver inodes v table (truncate n size)
     × truncates_file (tree_of v table) n size Done (tree_of (applied (truncate n size) v) table) (logs (changes_size (length (contents (tree_of v table) n)) size))
+
+-- what a mode and a size of a file come to: the mode alone is left where the size is the old one, or
+-- what the record of both does; it isn't refused
+abbrev pub SetsBoth : ℕ → Volume → (ℕ → Option Description) → (n mode size : ℕ) → Result (Option Prepared) Errno → Type 0
+SetsBoth inodes v table n mode size (Err errno) = ⊥
+SetsBoth inodes v table n mode size (Ok None) = size ≡ length (contents (tree_of v table) n)
+SetsBoth inodes v table n mode size (Ok (Some p)) =
+    GoesOver inodes v table (set_file n mode size)
+    × sets_both (tree_of v table) n mode size Done (tree_of (applied (set_file n mode size) v) table) (logs (changes_size (length (contents (tree_of v table) n)) size))

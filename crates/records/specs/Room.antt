@@ -22,7 +22,7 @@ UpdateRoom o (updates.Set None) k = 3 ≤ k
 UpdateRoom o (updates.Set (Some object)) k = 7 + file_room object.file ≤ k
 UpdateRoom o (updates.Names edit) k = edit_room (piece_count edit) + 2 ≤ k
 UpdateRoom o (updates.SetMode mode) k = 2 ≤ k
-UpdateRoom o (updates.Bytes change) k = (more : ℕ) × (more + 2 ≤ k) × StoresIn o change more
+UpdateRoom o (updates.Bytes change mode) k = (more : ℕ) × (more + 2 ≤ k) × StoresIn o change more
 UpdateRoom o (updates.Links links) k = 6 ≤ k
 
 -- a new object's file needs so few blocks: those of the longest text of a link, and of the places

@@ -35,7 +35,7 @@ IsSomeAtHand s (Some step) = IsAtHand s step.number
 -- an object has room for what an update sets
 abbrev pub FitsUpdate : Option Object → Update → Type 0
 FitsUpdate o (updates.Names edit) = FitsObject o edit
-FitsUpdate o (updates.Bytes change) = FitsFile o change
+FitsUpdate o (updates.Bytes change mode) = FitsFile o change
 FitsUpdate o update = Unit {0}
 
 -- the object of this number is at hand, with room for what an update sets
@@ -46,13 +46,13 @@ pub record TakesUpdate (s : InodeFile) (number : ℕ) (update : Update) : Type 0
 -- an update doesn't depend on what the object of this number is in memory
 abbrev pub IsApart : ℕ → ℕ → Update → Type 0
 IsApart n number (updates.Names edit) = number ≢ n
-IsApart n number (updates.Bytes change) = number ≢ n
+IsApart n number (updates.Bytes change mode) = number ≢ n
 IsApart n number update = Unit {0}
 
 -- an update that doesn't depend on any object in memory
 abbrev pub IsAlone : Update → Type 0
 IsAlone (updates.Names edit) = ⊥
-IsAlone (updates.Bytes change) = ⊥
+IsAlone (updates.Bytes change mode) = ⊥
 IsAlone update = Unit {0}
 
 -- memory has room for a step, if there is one
@@ -80,6 +80,11 @@ abbrev pub with_node_links : ℕ → Option Node → Option Node
 with_node_links links (Some (file_node attributes old bytes)) = Some (file_node attributes links bytes)
 with_node_links links o = o
 
+-- an object with this mode, where one is given
+abbrev pub with_given_mode : Option ℕ → Option Node → Option Node
+with_given_mode None o = o
+with_given_mode (Some mode) o = with_node_mode mode o
+
 -- An update makes one object of a volume of another, or of none, in so much detail; in memory it is
 -- this one, or none.
 abbrev pub Updates : Detail → (ℕ → List ℕ) → ℕ → Inode → Option Node → Option Object → Update → Option Node → Type 0
@@ -88,8 +93,8 @@ Updates detail disk inodes settled found o (updates.Names edit) to =
     (f : NameMap → NameMap) × EditsIn disk inodes f found o edit × (to ≡ with_node_names f found)
 Updates detail disk inodes settled found o (updates.SetMode mode) to =
     IsTrue (is_file_node found || is_directory_node found) × (to ≡ with_node_mode mode found)
-Updates detail disk inodes settled found o (updates.Bytes change) to =
-    (f : List ℕ → List ℕ) × IsTrue (is_file_node found) × RewritesIn detail disk f o change × (to ≡ with_file_bytes f found)
+Updates detail disk inodes settled found o (updates.Bytes change mode) to =
+    (f : List ℕ → List ℕ) × IsTrue (is_file_node found) × RewritesIn detail disk f o change × (to ≡ with_given_mode mode (with_file_bytes f found))
 Updates detail disk inodes settled found o (updates.Links links) to =
     IsTrue (is_file_node found) × (links ≤ FILE_NAMES) × (to ≡ with_node_links links found)
 

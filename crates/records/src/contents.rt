@@ -18,7 +18,7 @@ ghost use Rattle.inofile.specs.Inodes.{loaded};
 ghost use Rattle.inofile.specs.Objects.{EndsIn, IsObjectIn, IsObjectOrNone, IsSameObject, IsSameOrNone, StaysKnown};
 ghost use Rattle.paths.specs.Numbers.{IsInodeNumber};
 ghost use Rattle.paths.specs.Standing.{Looks};
-ghost use Rattle.records.specs.Contents.{FitsFile, IsSoundIn, IsWholeIn, KeepsRewriteBounds, LeavesPart, PlansFile, RewriteRoom, RewritesFile, RewritesIn, bytes_after, rewrite_room, rewriting};
+ghost use Rattle.records.specs.Contents.{FitsFile, IsSoundIn, IsWholeIn, KeepsRewriteBounds, LeavesPart, PlansFile, RewriteRoom, RewritesFile, RewritesIn, bytes_after, mode_after, rewrite_room, rewriting};
 ghost use Rattle.records.specs.Failures.{read_outcome};
 ghost use Rattle.records.specs.Preparing.{DecidesRecord};
 ghost use Rattle.records.specs.Shown.{OnVolumesIn};
@@ -32,7 +32,7 @@ use buffers::{BlockError, Blocks};
 use inode::{ChangeError, File, FileUpdate, Object};
 use inofile::{InodeFile, objects_stand_in_their_grammar};
 use layout::{InodeNumber, Kind};
-use model::{Errno, GREATEST_FILE, TRANSFER_BYTES};
+use model::{Errno, GREATEST_FILE, Mode, TRANSFER_BYTES};
 use std::alloc::Global;
 
 /// What becomes of a file's bytes.
@@ -42,6 +42,20 @@ pub(crate) enum Rewrite<'a> {
     Write { offset: u64, bytes: &'a [u8] },
     /// There are so many from then on.
     Truncate { size: u64 },
+    /// The same, and the file has this mode.
+    Set { mode: Mode, size: u64 },
+}
+
+impl Rewrite<'_> {
+    // The mode that the file gets with its bytes, if it gets one.
+    fn mode(&self) -> Option<Mode>
+        ensures { result ≡ mode_after self.now }
+    {
+        match self {
+            Rewrite::Write { .. } | Rewrite::Truncate { .. } => None,
+            Rewrite::Set { mode, .. } => Some(*mode),
+        }
+    }
 }
 
 /// Prepares that a file's bytes are changed; or tells the obstacle: EFBIG where the number is of no
@@ -71,7 +85,7 @@ pub(crate) fn prepare_bytes<B: Blocks>(
     Ok(Prepared {
         first: ObjectUpdate {
             number,
-            update: Update::Bytes(change),
+            update: Update::Bytes(change, rewrite.mode()),
         },
         next: None,
         last: None,
@@ -89,6 +103,11 @@ fn keeps_bounds(rewrite: &Rewrite<'_>) -> bool
                 && *offset <= GREATEST_FILE - bytes.len() as u64
         }
         Rewrite::Truncate { size } => *size <= GREATEST_FILE,
+        Rewrite::Set { mode, size } => {
+            // The type of a mode holds it to its bits.
+            let _ = mode.bits();
+            *size <= GREATEST_FILE
+        }
     }
 }
 
@@ -112,7 +131,7 @@ fn plan_number<B: Blocks>(
     ensures damaged { (detail : Detail) → OnVolumesIn detail B.Blocks blocks.old inodes.old (λ disk settled v.
         ReadsIn detail v (rewriting number rewrite.now) → IsErrOf result BlockError.Damaged → ⊥) }
     ensures ready { IfOk result
-        (λ w. IfSome w (λ x. TakesUpdate inodes.new number (Update.Bytes x))) }
+        (λ w. IfSome w (λ x. TakesUpdate inodes.new number (Update.Bytes x (mode_after rewrite.now)))) }
     ensures stores { IfOk result
         (λ w. IfSome w (RewriteRoom rewrite.now (loaded inodes.new number))) }
 {
@@ -208,6 +227,7 @@ fn plan<B: Blocks>(
     match rewrite {
         Rewrite::Write { offset, bytes } => plan_write(alloc, file, blocks, *offset, bytes),
         Rewrite::Truncate { size } => plan_truncate(alloc, file, blocks, *size),
+        Rewrite::Set { size, .. } => plan_truncate(alloc, file, blocks, *size),
     }
 }
 

@@ -33,4 +33,4 @@ pub use orphans::{commit_swept, drop_orphan, is_orphan};
 pub use prepared::{Prepared, commit, prepare, prepare_new};
 pub use reading::read_bytes;
 pub use renaming::{goes_below, is_directory_at, prepare_move};
-pub use rewriting::{truncate_bytes, write_bytes};
+pub use rewriting::{set_bytes, truncate_bytes, write_bytes};

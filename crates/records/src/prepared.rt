@@ -94,6 +94,13 @@ pub fn prepare<B: Blocks>(
             new_name,
         } => prepare_rename(alloc, inodes, blocks, *parent, name, *new_parent, new_name),
         Record::ChangeMode { number, mode } => prepare_mode(alloc, inodes, blocks, *number, *mode),
+        Record::SetFile { number, mode, size } => {
+            let rewrite = Rewrite::Set {
+                mode: *mode,
+                size: *size,
+            };
+            prepare_bytes(alloc, inodes, blocks, *number, &rewrite)
+        }
     }
 }
 

@@ -1,7 +1,7 @@
 //! Changes of the bytes of a file with a number, which a descriptor or a path leads to.
 
 ghost use Rattle.std.specs.Prelude.{◌≡◌, ◌+◌, ◌≤◌, IfErr, IfOk, IfSome, IsTrue, length, unwrap_or, []};
-ghost use Rattle.model.specs.Records.{truncate, write};
+ghost use Rattle.model.specs.Records.{set_file, truncate, write};
 ghost use Rattle.model.specs.Volumes.{bytes_of_node, is_file_node};
 ghost use Rattle.model.specs.declared.errno.Errno.TheVariants.{EFBIG};
 ghost use Rattle.model.specs.declared.limits.TheConstants.{GREATEST_FILE, TRANSFER_BYTES};
@@ -11,7 +11,7 @@ ghost use Rattle.paths.specs.Standing.{Looks};
 ghost use Rattle.records.specs.Failures.{read_outcome};
 ghost use Rattle.records.specs.Looking.{Finds};
 ghost use Rattle.records.specs.Prepared.{Does, IsReady};
-ghost use Rattle.records.specs.Rewriting.{TruncatesBytes, PutsBytes};
+ghost use Rattle.records.specs.Rewriting.{PutsBytes, SetsBoth, TruncatesBytes};
 ghost use Rattle.records.specs.Shown.{NeverDamaged, OnMounted, OnVolumes};
 
 use crate::contents::{Rewrite, prepare_bytes};
@@ -20,7 +20,7 @@ use crate::{Failure, Prepared};
 use buffers::{BlockError, Blocks};
 use inofile::InodeFile;
 use layout::InodeNumber;
-use model::records_change_trees;
+use model::{Mode, records_change_trees};
 use std::alloc::Global;
 
 /// Prepares that bytes are written into the file with a number, at an offset; None where there are
@@ -86,6 +86,41 @@ pub fn truncate_bytes<B: Blocks>(
         return Ok(None);
     }
     let rewrite = Rewrite::Truncate { size };
+    let prepared = prepare_bytes(alloc, inodes, blocks, number, &rewrite)?;
+    Ok(Some(prepared))
+}
+
+/// Prepares that the file with a number gets a mode and a size by one record; None where it has the
+/// size, EFBIG where it is no file. NoMemory; Device where a read failed; Damaged where a block on
+/// the way is outside its format.
+pub fn set_bytes<B: Blocks>(
+    alloc: Global,
+    inodes: &mut InodeFile,
+    blocks: &mut B,
+    number: InodeNumber,
+    mode: Mode,
+    size: u64,
+) -> Result<Option<Prepared>, Failure>
+    requires number { IsInodeNumber inodes.old.geometry.inodes number }
+    requires within { size ≤ GREATEST_FILE }
+    ensures looks { Looks B.Blocks IsFault blocks.old blocks.new inodes.old inodes.new (read_outcome result) }
+    ensures own { IfOk (read_outcome result) (λ r. IfErr r (λ e. e ≡ EFBIG)) }
+    ensures ready { IfOk result (λ p. IfSome p (IsReady inodes.new)) }
+    ensures does { OnVolumes B.Blocks blocks.old inodes.old (λ disk settled v.
+        IfOk result (λ p. IfSome p (λ x. Does disk settled inodes.new v x (set_file number mode size)))) }
+    ensures answers { OnMounted B.Blocks blocks.old inodes.old (λ v table.
+        IsTrue (is_file_node (v number)) → IfOk (read_outcome result)
+        (SetsBoth inodes.old.geometry.inodes v table number mode size)) }
+    ensures damaged { NeverDamaged B.Blocks blocks.old inodes.old (read_outcome result) }
+{
+    records_change_trees();
+    // The type of a mode holds it to its bits.
+    let _ = mode.bits();
+    let now = size_at(alloc, inodes, blocks, number)?;
+    if now == size {
+        return Ok(None);
+    }
+    let rewrite = Rewrite::Set { mode, size };
     let prepared = prepare_bytes(alloc, inodes, blocks, number, &rewrite)?;
     Ok(Some(prepared))
 }

@@ -2,7 +2,7 @@
 
 ghost use Rattle.std.specs.Prelude.{◌+◌, ◌≤◌, ◌||◌, ℕ, List, Option, Some, IsTrue};
 ghost use Rattle.layout.specs.declared.inode.Inode.{Inode};
-ghost use Rattle.model.specs.Records.{with_node_mode};
+ghost use Rattle.model.specs.Records.{with_file_bytes, with_node_mode};
 ghost use Rattle.model.specs.Volumes.{Node, is_directory_node, is_file_node};
 ghost use Rattle.model.specs.declared.limits.TheConstants.{FILE_NAMES};
 ghost use Rattle.images.specs.Soundness.{Detail};
@@ -10,8 +10,9 @@ ghost use Rattle.inofile.specs.Objects.{IsObjectOrNone};
 ghost use Rattle.inofile.specs.Room.{room_of};
 ghost use Rattle.inofile.specs.declared.inode_file.ObjectSlot.{ObjectSlot};
 ghost use Rattle.inofile.specs.declared.inode_file.ObjectSlot.TheVariants.{Changed};
-ghost use Rattle.records.specs.Room.{CountsObject, RaisesFile, UpdateRoom};
-ghost use Rattle.records.specs.Steps.{Commits, FitsUpdate, TakesSome, TakesUpdate, Updates, with_node_links};
+ghost use Rattle.records.specs.Contents.{FitsFile, RewritesIn};
+ghost use Rattle.records.specs.Room.{CountsObject, RaisesFile, StoresIn, UpdateRoom};
+ghost use Rattle.records.specs.Steps.{Commits, FitsUpdate, TakesSome, TakesUpdate, Updates, with_given_mode, with_node_links};
 
 use crate::contents::commit_bytes;
 use crate::directory_names::commit_edit;
@@ -30,8 +31,8 @@ pub(crate) enum Update {
     Names(Edit),
     /// The file or directory has this mode.
     SetMode(Mode),
-    /// The file has the bytes that this change gives it.
-    Bytes(FileUpdate),
+    /// The file has the bytes that this change gives it, and this mode, where it is given.
+    Bytes(FileUpdate, Option<Mode>),
     /// The file has so many names.
     Links(u32),
 }
@@ -82,8 +83,26 @@ fn update_object(object: &mut Option<Object>, update: Update)
         Update::Set(new) => *object = new,
         Update::Names(edit) => commit_edit(object, edit),
         Update::SetMode(mode) => set_mode(object, mode),
-        Update::Bytes(change) => commit_bytes(object, change),
+        Update::Bytes(change, mode) => commit_file(object, change, mode),
         Update::Links(links) => set_links(object, links),
+    }
+}
+
+// Puts a change of a file's bytes in force, and gives it a mode, where it is given.
+fn commit_file(object: &mut Option<Object>, change: FileUpdate, mode: Option<Mode>)
+    requires { FitsFile object.old change }
+    ensures room { (k : ℕ) → StoresIn object.old change k → RaisesFile object.old object.new k }
+    ensures rewrites { (detail : Detail) (disk : ℕ → List ℕ) (inodes : ℕ) (settled : Inode)
+        (found : Option Node) (f : List ℕ → List ℕ)
+        → IsObjectOrNone detail disk inodes settled object.old found
+        → IsTrue (is_file_node found) → RewritesIn detail disk f object.old change
+        → IsObjectOrNone detail disk inodes settled object.new
+        (with_given_mode mode (with_file_bytes f found)) }
+{
+    commit_bytes(object, change);
+    match mode {
+        Some(mode) => set_mode(object, mode),
+        None => {}
     }
 }
 

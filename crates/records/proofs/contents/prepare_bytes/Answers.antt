@@ -5,8 +5,8 @@ use Rattle.std.proofs.lemmas.Bool.{both_ways, false≢true}
 use Rattle.model.specs.Records.{with_file_bytes}
 use Rattle.model.specs.Volumes.{Node, is_file_node, with_node}
 use Rattle.inofile.specs.Inodes.{loaded}
-use Rattle.records.specs.Contents.{RewriteRoom, RewritesIn, bytes_after, rewriting}
-use Rattle.records.specs.Steps.{TakesUpdate}
+use Rattle.records.specs.Contents.{RewriteRoom, RewritesIn, bytes_after, mode_after, rewriting}
+use Rattle.records.specs.Steps.{TakesUpdate, with_given_mode}
 use Rattle.records.specs.declared.steps.Update.TheVariants as updates
 use Rattle.records.proofs.DetailLaws.{known_of}
 use Rattle.records.proofs.ContentLaws.{bars_rewriting, bounds_kept, file_changed, rewrite_within, rewriting_applied, rewriting_applies, rewriting_knows, rewriting_place, tells_rewriting}
@@ -40,7 +40,7 @@ returns-clause-decides g c =
     let f = bytes_after c.args.rewrite.now in
     decides planned.looks
     (record {
-      first = subst (λ o. IfSome o (λ x. TakesUpdate s n (updates.Bytes x))) c.in-Some.is planned.ready;
+      first = subst (λ o. IfSome o (λ x. TakesUpdate s n (updates.Bytes x (mode_after c.args.rewrite.now)))) c.in-Some.is planned.ready;
       next = tt;
       last = tt;
       next_apart = tt;
@@ -51,14 +51,15 @@ returns-clause-decides g c =
     let told = planned.planned detail disk settled v stands in
     let is : IsTrue (is_file_node (v n)) = sym told.0 ∙ ap is_some c.in-Some.is in
     let gives = subst (λ o. IfSome o (RewritesIn detail disk f (loaded s n))) c.in-Some.is told.1 in
-    let w = with_node n (with_file_bytes f (v n)) v in
+    let mode = mode_after c.args.rewrite.now in
+    let w = with_node n (with_given_mode mode (with_file_bytes f (v n))) v in
     let now = planned.looks.kept {detail = detail} disk settled v stands in
     let same = loaded_bytes detail disk s.geometry.inodes (settled n) (v n) (tree.get nat_cmp s.slots n) (now.volume.objects n) is in
     let room = rewrite_within n c.args.rewrite.now (loaded s n) c.in-Some.change v same (subst (λ o. IfSome o (RewriteRoom c.args.rewrite.now (loaded s n))) c.in-Some.is planned.stores) in
     record {
       between = w;
       second = w;
-      first = (with_file_bytes f (v n), (f, is, gives, refl), refl);
+      first = (with_given_mode mode (with_file_bytes f (v n)), (f, is, gives, refl), refl);
       next = refl;
       last = rewriting_applied n c.args.rewrite.now v;
       next_beside = tt;
@@ -71,7 +72,7 @@ returns-clause-decides g c =
       next_room = tt;
       last_room = tt;
       within = omega (arith, room.2);
-      knows = rewriting_knows n c.args.rewrite.now s (subst (λ o. IfSome o (λ x. TakesUpdate s n (updates.Bytes x))) c.in-Some.is planned.ready).at_hand.known;
+      knows = rewriting_knows n c.args.rewrite.now s (subst (λ o. IfSome o (λ x. TakesUpdate s n (updates.Bytes x (mode_after c.args.rewrite.now)))) c.in-Some.is planned.ready).at_hand.known;
     })
     (λ detail disk settled v stands.
     rewriting_applies c.args.inodes.now.geometry.inodes v n c.args.rewrite.now (sym (planned.planned detail disk settled v stands).0 ∙ ap is_some c.in-Some.is)

@@ -19,5 +19,8 @@ returns-in-RemoveName g c = rw c.in-RemoveName.is (of_known c.prepare_remove_nam
 pub returns-in-Rename : goal.returns-in-Rename
 returns-in-Rename g c = rw c.in-Rename.is c.prepare_rename.ensures
 
+pub returns-in-SetFile : goal.returns-in-SetFile
+returns-in-SetFile g c = rw c.in-SetFile.is (of_known c.prepare_bytes-in-SetFile.ensures.decides)
+
 pub returns-in-ChangeMode : goal.returns-in-ChangeMode
 returns-in-ChangeMode g c = rw c.in-ChangeMode.is (of_known c.prepare_mode.ensures)

@@ -12,8 +12,8 @@ use Rattle.records.proofs.steps.update_object.Goals as goal
 pub commit_edit-requires : goal.commit_edit-requires
 commit_edit-requires c = subst (FitsUpdate c.args.object.now) c.in-Names.is c.requires
 
-pub commit_bytes-requires : goal.commit_bytes-requires
-commit_bytes-requires c = subst (FitsUpdate c.args.object.now) c.in-Bytes.is c.requires
+pub commit_file-requires : goal.commit_file-requires
+commit_file-requires c = subst (FitsUpdate c.args.object.now) c.in-Bytes.is c.requires
 
 pub returns-in-Set-clause-updates : goal.returns-in-Set-clause-updates
 returns-in-Set-clause-updates c = λ detail disk inodes settled found to stands updates.
@@ -32,7 +32,7 @@ returns-in-SetMode-clause-updates c = λ detail disk inodes settled found to sta
 pub returns-in-Bytes-clause-updates : goal.returns-in-Bytes-clause-updates
 returns-in-Bytes-clause-updates c = λ detail disk inodes settled found to stands updates.
     let up = subst (λ (u : Update). Updates detail disk inodes settled found c.args.object.now u to) c.in-Bytes.is updates in
-    subst (λ (o : Option Node). IsObjectOrNone detail disk inodes settled c.commit_bytes.new.object o) (sym up.3) (c.commit_bytes.ensures.rewrites detail disk inodes settled found up.0 stands up.1 up.2)
+    subst (λ (o : Option Node). IsObjectOrNone detail disk inodes settled c.commit_file.new.object o) (sym up.3) (c.commit_file.ensures.rewrites detail disk inodes settled found up.0 stands up.1 up.2)
 
 pub returns-in-Links-clause-updates : goal.returns-in-Links-clause-updates
 returns-in-Links-clause-updates c = λ detail disk inodes settled found to stands updates.
@@ -63,8 +63,8 @@ pub returns-in-Bytes-clause-room : goal.returns-in-Bytes-clause-room
 returns-in-Bytes-clause-room c = λ detail disk inodes settled base found to slot k stands updates had room.
     let up = subst (λ (u : Update). Updates detail disk inodes settled found c.args.object.now u to) c.in-Bytes.is updates in
     let few = subst (λ (u : Update). UpdateRoom c.args.object.now u k) c.in-Bytes.is room in
-    subst (λ (o : Option Node). room_of (Some (Changed c.commit_bytes.new.object)) base o ≤ room_of slot base found + k) (sym up.3)
-    (bytes_room detail disk inodes settled slot base found c.args.object.now c.commit_bytes.new.object up.0 c.in-Bytes.change k stands up.1 had c.commit_bytes.ensures.room few)
+    subst (λ (o : Option Node). room_of (Some (Changed c.commit_file.new.object)) base o ≤ room_of slot base found + k) (sym up.3)
+    (bytes_room detail disk inodes settled slot base found c.args.object.now c.commit_file.new.object up.0 c.in-Bytes.field-0 c.in-Bytes.field-1 k stands up.1 had c.commit_file.ensures.room few)
 
 pub returns-in-Links-clause-room : goal.returns-in-Links-clause-room
 returns-in-Links-clause-room c = λ detail disk inodes settled base found to slot k stands updates had room.

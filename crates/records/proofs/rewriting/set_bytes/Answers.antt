@@ -1,0 +1,64 @@
+use Rattle.std.proofs.Common.{ℕ, ◌≡◌, ◌≤◌, length, Err, IfErr, sym, subst, ◌∙◌}
+use Rattle.layout.specs.Limits.{Sizes}
+use Rattle.model.specs.Edits.{contents}
+use Rattle.model.specs.Records.{applied, set_file}
+use Rattle.model.specs.Volumes.{IsVolume, tree_of}
+use Rattle.model.specs.declared.errno.Errno.TheVariants.{EFBIG}
+use Rattle.paths.proofs.Looks.{looks_more, looks_ok}
+use Rattle.records.specs.Obstacles.{IsObstacle}
+use Rattle.records.specs.Rewriting.{SetsBoth}
+use Rattle.records.specs.declared.contents.Rewrite.TheVariants.{Set}
+use Rattle.records.proofs.Failures.{damaged_by, damaged_read, looks_failed, looks_read, read_told, refusal_is, refused_by}
+use Rattle.records.proofs.RewriteLaws.{other_size, rewritten, sets_all}
+use Rattle.records.proofs.rewriting.set_bytes.Goals as goal
+
+pub returns-in_err-now-clause-damaged : goal.returns-in_err-now-clause-damaged
+returns-in_err-now-clause-damaged g c = λ disk settled v stands. damaged_read c.from_residual.result c.from_residual.ensures.1 (c.in_err-now.ensures.damaged disk settled v stands)
+
+pub returns-in_err-now-clause-answers : goal.returns-in_err-now-clause-answers
+returns-in_err-now-clause-answers g c = λ disk settled v table stands volume mounted is.
+    read_told (SetsBoth c.args.inodes.now.geometry.inodes v table c.args.number c.args.mode c.args.size) _ c.from_residual.result c.from_residual.ensures.1
+
+pub returns-then-now-size-clause-answers : goal.returns-then-now-size-clause-answers
+returns-then-now-size-clause-answers g c = λ disk settled v table stands volume mounted is.
+    let size = c.in_ok-now.ensures.found disk settled v stands is in
+    sym c.if-now-size.true ∙ size
+
+pub returns-in_err-prepared-clause-looks : goal.returns-in_err-prepared-clause-looks
+returns-in_err-prepared-clause-looks g c = looks_failed _ c.from_residual-in_err-prepared.result c.from_residual-in_err-prepared.ensures.1 (looks_more c.in_ok-now.ensures.looks c.in_err-prepared.ensures.decides.looks)
+
+pub returns-in_err-prepared-clause-own : goal.returns-in_err-prepared-clause-own
+returns-in_err-prepared-clause-own g c = refused_by (λ r. IfErr r (λ e. e ≡ EFBIG)) _ _ c.from_residual-in_err-prepared.result c.from_residual-in_err-prepared.ensures.1 (λ errno own. own) c.in_err-prepared.ensures.own
+
+pub returns-in_err-prepared-clause-answers : goal.returns-in_err-prepared-clause-answers
+returns-in_err-prepared-clause-answers g c = λ disk settled v table stands volume mounted is.
+    let looks = c.in_ok-now.ensures.looks in
+    let failed = c.in_err-prepared.ensures in
+    let all = subst (λ (s : Sizes). IsVolume s.inodes v) (sym looks.geometry) volume in
+    refused_by (λ r. IfErr r (λ errno. ⊥)) _ _ c.from_residual-in_err-prepared.result c.from_residual-in_err-prepared.ensures.1 (λ errno never. never)
+    (refusal_is (λ errno. ⊥) (IsObstacle c.size_at.new.inodes.geometry.inodes v (set_file c.args.number c.args.mode c.args.size)) (Err _) failed.own (failed.decides.refused disk settled v (looks.kept disk settled v stands) all) (λ never. never (is, (subst (λ (m : ℕ). m ≤ 4095) c.bits.ensures.same c.bits.ensures.fits), c.requires.within)))
+
+pub returns-in_err-prepared-clause-damaged : goal.returns-in_err-prepared-clause-damaged
+returns-in_err-prepared-clause-damaged g c = λ disk settled v stands.
+    damaged_by _ c.from_residual-in_err-prepared.result c.from_residual-in_err-prepared.ensures.1 (c.in_err-prepared.ensures.decides.damaged disk settled v (c.in_ok-now.ensures.looks.kept disk settled v stands) tt)
+
+pub returns-clause-looks : goal.returns-clause-looks
+returns-clause-looks g c = looks_ok (looks_more c.in_ok-now.ensures.looks c.in_ok-prepared.ensures.decides.looks)
+
+pub returns-clause-does : goal.returns-clause-does
+returns-clause-does g c = λ disk settled v stands. c.in_ok-prepared.ensures.decides.does disk settled v (c.in_ok-now.ensures.looks.kept disk settled v stands)
+
+pub returns-clause-answers : goal.returns-clause-answers
+returns-clause-answers g c = λ disk settled v table stands volume mounted is.
+    let inodes = c.args.inodes.now.geometry.inodes in
+    let n = c.args.number in
+    let t = tree_of v table in
+    let size = c.in_ok-now.ensures.found disk settled v stands is in
+    let all = rewritten inodes v table volume mounted c.records_change_trees.ensures n (Set c.args.mode c.args.size) (is, (subst (λ (m : ℕ). m ≤ 4095) c.bits.ensures.same c.bits.ensures.fits), c.requires.within) in
+    (all.0, sets_all t n c.args.mode c.args.size (tree_of (applied (set_file n c.args.mode c.args.size) v) table) (other_size c.args.size (length (contents t n)) (λ e. c.if-now-size.false (size ∙ sym e))) all.1)
+
+pub returns-in_err-now-clause-looks : goal.returns-in_err-now-clause-looks
+returns-in_err-now-clause-looks g c = looks_read c.from_residual.result c.from_residual.ensures.1 c.in_err-now.ensures.looks
+
+pub returns-then-now-size-clause-looks : goal.returns-then-now-size-clause-looks
+returns-then-now-size-clause-looks g c = looks_ok c.in_ok-now.ensures.looks
