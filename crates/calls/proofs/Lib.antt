@@ -21,6 +21,7 @@ pub mod RenameEnds
 pub mod RenameTests
 pub mod RenameComes
 pub mod TruncateLaws
+pub mod SetLaws
 pub mod StoreLaws
 pub mod OpenLaws
 pub mod SweptLaws

@@ -45,6 +45,32 @@ has_mode (Some (directory_node attributes names)) some other = refl
 has_mode (Some (file_node attributes links bytes)) some other = refl
 has_mode (Some (link_node attributes text)) some other = absurd (other refl)
 
+-- a mode changes at a number
+module _ (inodes : ℕ) (v : Volume) (table : ℕ → Option Description) (mode : ℕ) (volume : IsVolume inodes v) (mounted : IsMounted v table) (law : RecordsChangeTrees) (n : ℕ) where
+  abbrev change : Change
+  change = change_mode n mode
+
+  abbrev moded : Volume
+  moded = applied change v
+
+  each : (k : ℕ) → swept table moded k ≡ moded k
+  each k =
+      elim (cases_eq k n) [
+        | inl same ↦
+            let e = node_here n k (with_node_mode mode (v n)) v same in
+            let kept = subst (λ (i : ℕ). swept_node (is_open table OPEN_FILES k) (v i) ≡ v i) same (mounted.is_swept k) in
+            ap (swept_node (is_open table OPEN_FILES k)) e ∙ mode_swept (is_open table OPEN_FILES k) mode (v n) kept ∙ sym e
+        | inr other ↦
+            let e = node_other n k (with_node_mode mode (v n)) v other in
+            ap (swept_node (is_open table OPEN_FILES k)) e ∙ mounted.is_swept k ∙ sym e
+      ]
+
+  unswept : swept table moded ≡ moded
+  unswept = fun_ext {f = swept table moded} {g = moded} each
+
+  pub mode_changed : Applies inodes v change → IsMounted moded table × ChangesTree change (tree_of v table) (tree_of moded table)
+  mode_changed applies = subst (λ (w : Volume). IsMounted w table × ChangesTree change (tree_of v table) (tree_of w table)) unswept (law inodes v table change volume mounted applies tt)
+
 module _ (inodes : ℕ) (v : Volume) (table : ℕ → Option Description) (text : List ℕ) (mode : ℕ) where
   abbrev t : Tree
   t = tree_of v table
@@ -60,29 +86,8 @@ module _ (inodes : ℕ) (v : Volume) (table : ℕ → Option Description) (text 
   mode_refused errno led = led_refused v table true text there (text_tests text) errno led
 
   module _ (volume : IsVolume inodes v) (mounted : IsMounted v table) (law : RecordsChangeTrees) (n : ℕ) where
-    abbrev change : Change
-    change = change_mode n mode
-
     abbrev new : Volume
-    new = applied change v
-
-    each : (k : ℕ) → swept table new k ≡ new k
-    each k =
-        elim (cases_eq k n) [
-          | inl same ↦
-              let e = node_here n k (with_node_mode mode (v n)) v same in
-              let kept = subst (λ (i : ℕ). swept_node (is_open table OPEN_FILES k) (v i) ≡ v i) same (mounted.is_swept k) in
-              ap (swept_node (is_open table OPEN_FILES k)) e ∙ mode_swept (is_open table OPEN_FILES k) mode (v n) kept ∙ sym e
-          | inr other ↦
-              let e = node_other n k (with_node_mode mode (v n)) v other in
-              ap (swept_node (is_open table OPEN_FILES k)) e ∙ mounted.is_swept k ∙ sym e
-        ]
-
-    unswept : swept table new ≡ new
-    unswept = fun_ext {f = swept table new} {g = new} each
-
-    changed : Applies inodes v change → IsMounted new table × ChangesTree change t (tree_of new table)
-    changed applies = subst (λ (w : Volume). IsMounted w table × ChangesTree change t (tree_of w table)) unswept (law inodes v table change volume mounted applies tt)
+    new = applied (change_mode n mode) v
 
     done : (o : Option Node) (p : Path) (x : Object) → (is_file_node o || is_directory_node o) ≡ true → object_of n o ≡ Some x → tree_of new table ≡ with_mode n mode t
         → there p x Done (tree_of new table) (logs changes_bits)
@@ -93,13 +98,13 @@ module _ (inodes : ℕ) (v : Volume) (table : ℕ → Option Description) (text 
         subst (λ (y : Object). there p y Done (tree_of new table) (logs changes_bits)) (some_same object) (refl, same, refl)
     done (Some (link_node attributes text)) p x is object same = absurd (false≢true is)
 
-    pub mode_comes : (r : Result Changing Errno) → IsLed (text_tests text) t v true text (Ok n) → found_in (v n) ≢ found.Link → Decides inodes v change r
+    pub mode_comes : (r : Result Changing Errno) → IsLed (text_tests text) t v true text (Ok n) → found_in (v n) ≢ found.Link → Decides inodes v (change_mode n mode) r
         → Comes (changes_mode t text mode) inodes v table r
     mode_comes (Ok c) led other (says, applies) =
         subst (ComesBy (changes_mode t text mode) inodes v table) (sym says) (
           applies,
-          (changed applies).0,
-          led_there v table true text there n Done (tree_of new table) (logs changes_bits) (λ p x stands. done (v n) p x applies.0 stands.here (changed applies).1) (text_tests text) led,
+          (mode_changed inodes v table mode volume mounted law n applies).0,
+          led_there v table true text there n Done (tree_of new table) (logs changes_bits) (λ p x stands. done (v n) p x applies.0 stands.here (mode_changed inodes v table mode volume mounted law n applies).1) (text_tests text) led,
         )
     mode_comes (Err DAMAGED) led other not = absurd (false≢true (sym not ∙ has_mode (v n) (led_some t v true text n led.1) other))
     mode_comes (Err _) led other not = absurd not

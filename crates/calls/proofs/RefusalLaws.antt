@@ -3,7 +3,7 @@ use Rattle.std.proofs.Common.{◌≡◌, inl, inr, ℕ, ℤ, List, [], ◌∷◌
 use Rattle.std.proofs.lemmas.Bool.{cases_Bool, cond-true, cond-false, false≢true}
 use Rattle.model.specs.Changing.{link_text_tests, size_tests}
 use Rattle.model.specs.Paths.{Tests, first_refusal, text_tests, new_text_tests}
-use Rattle.model.specs.Records.{Change, change_mode, create, truncate, link, rename, remove_name, write}
+use Rattle.model.specs.Records.{Change, change_mode, set_file, create, truncate, link, rename, remove_name, write}
 use Rattle.model.specs.declared.errno.Errno.{Errno}
 use Rattle.model.specs.declared.errno.Errno.TheVariants.{ENOENT, ENOTDIR, ENAMETOOLONG, ELOOP, ESTALE, DAMAGED}
 use Rattle.model.proofs.LooseLemmas.{some_same}
@@ -55,3 +55,4 @@ obstacle_own (rename d x k y) e is = is
 obstacle_own (write n offset bytes) e is = is
 obstacle_own (truncate n size) e is = is
 obstacle_own (change_mode n mode) e is = is
+obstacle_own (set_file n mode size) e is = is

@@ -1,7 +1,7 @@
 -- What calls by a path that change something come to.
 use Rattle.std.specs.Prelude.{ℕ, ◌≡◌, Option, Some, None, Result, Ok, Err}
 use Rattle.model.specs.Outcomes.{Outcome}
-use Rattle.model.specs.Records.{Change, Made, Applies, applied, create, file, directory, symbolic_link, link, remove_name, rename, truncate, change_mode, work_of}
+use Rattle.model.specs.Records.{Change, Made, Applies, applied, create, file, directory, symbolic_link, link, remove_name, rename, truncate, change_mode, set_file, work_of}
 use Rattle.model.specs.Room.{nothing, logs}
 use Rattle.model.specs.Trees.{Description}
 use Rattle.model.specs.Volumes.{Volume, IsMounted, swept, tree_of}
@@ -33,6 +33,7 @@ said_by (owned.RemoveName parent name) = remove_name parent name.bytes.items
 said_by (owned.Rename parent name new_parent new_name) = rename parent name.bytes.items new_parent new_name.bytes.items
 said_by (owned.ChangeMode number mode) = change_mode number mode
 said_by (owned.Truncate number size) = truncate number size
+said_by (owned.SetFile number mode size) = set_file number mode size
 
 -- A call comes to what this record, which applies, does on the tree of a volume with these
 -- descriptors, and needs room for it. Behind it nothing is to be swept.

@@ -64,6 +64,12 @@ pub enum OwnedChange {
         number: InodeNumber,
         size: u64,
     },
+    /// The file gets this mode and this size, in bytes.
+    SetFile {
+        number: InodeNumber,
+        mode: Mode,
+        size: u64,
+    },
 }
 
 /// What a call is to change: what its record says, and its prepared change.
@@ -142,6 +148,14 @@ impl OwnedChange {
                 let _ = (number.get(), *size);
                 Record::Truncate {
                     number: *number,
+                    size: *size,
+                }
+            }
+            OwnedChange::SetFile { number, mode, size } => {
+                let _ = (number.get(), mode.bits(), *size);
+                Record::SetFile {
+                    number: *number,
+                    mode: *mode,
                     size: *size,
                 }
             }

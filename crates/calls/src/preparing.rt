@@ -6,6 +6,7 @@ pub mod mkdir;
 pub mod open;
 pub mod rename;
 pub mod rmdir;
+pub mod set;
 pub mod store;
 pub mod symlink;
 pub mod truncate;

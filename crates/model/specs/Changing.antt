@@ -163,11 +163,15 @@ abbrev pub given_size_tests : Option ℤ → Tests
 given_size_tests None = []
 given_size_tests (Some size) = size_tests size
 
--- `set`: what a path leads to gets the mode and the size that are given; a directory has no size
+-- an object gets all that is given; a directory has no size
+abbrev pub sets_object : Tree → Settings → Object → Outcome
+sets_object t settings o = elim o [
+  | file n ↦ sets_file t n settings.mode settings.size
+  | directory n ↦ tested t ((is_some settings.size, EISDIR) ∷ []) (sets_mode t n settings.mode)
+  | symlink n text ↦ λ _ _ _. ⊥  -- a final link is followed
+]
+
+-- `set`: what a path leads to gets the mode and the size that are given
 abbrev pub sets : Tree → List ℕ → Settings → Outcome
 sets t path settings =
-    tested t (text_tests_then (given_size_tests settings.size) path) (goes_to t true path (λ p o. elim o [
-      | file n ↦ sets_file t n settings.mode settings.size
-      | directory n ↦ tested t ((is_some settings.size, EISDIR) ∷ []) (sets_mode t n settings.mode)
-      | symlink n text ↦ λ _ _ _. ⊥  -- a final link is followed
-    ]))
+    tested t (text_tests_then (given_size_tests settings.size) path) (goes_to t true path (λ p o. sets_object t settings o))

@@ -165,6 +165,21 @@ module _ (disk : ℕ → List ℕ) (inodes : ℕ) (settled : Inode) (v : Volume)
   size_is : (held : Sized kinds.File) → length (bytes_of_node (v n)) ≡ o.file.size
   size_is held = ap (λ (x : Option Node). length (bytes_of_node x)) held.3 ∙ held.1
 
+  -- the same of the block that a new size ends in
+  size_reads : (size : ℕ) → IsObjectIn by_sizes disk inodes settled o (v n) → IsTrue (is_file_node (v n)) → IsWholeIn disk (Truncate size) o → ReadsIn by_sizes v (rewriting n (Truncate size))
+  size_reads size is file whole =
+      let kind = is_kind by_sizes o.status.kind inodes (content_of_object disk o) (v n) is.stands file in
+      let held = subst Sized kind is.stands in
+      λ truncates_file. subst (λ (x : Option Node). IsReadBlock (bytes_of_node x) (size / 4096)) (sym held.3)
+      ((held.2 (size / 4096)).1 (whole kind (size / 4096) (subst (λ (k : ℕ). TruncatesBlock k size) (size_is held) truncates_file, refl)))
+
+  size_sound : (size count : ℕ) → IsObjectIn by_sizes disk inodes settled o (v n) → ((i : ℕ) → CanReadBlock by_sizes (file_block disk o.file) i → IsSoundAt count disk o.file.tree i)
+      → ReadsIn by_sizes v (rewriting n (Truncate size)) → IsSoundIn count disk (Truncate size) o
+  size_sound size count is sound reads kind i part =
+      let held = subst Sized kind is.stands in
+      let read = subst (λ (x : Option Node). IsReadBlock (bytes_of_node x) (size / 4096)) held.3 (reads (subst (λ (k : ℕ). TruncatesBlock k size) (sym (size_is held)) part.0)) in
+      sound i ((held.2 i).0 (subst (IsReadBlock held.0) (sym part.1) read))
+
   -- where they can be read in memory, they can in the volume
   whole_reads : (detail : Detail) (rewrite : Rewrite) → IsObjectIn detail disk inodes settled o (v n) → IsTrue (is_file_node (v n)) → IsWholeIn disk rewrite o → ReadsIn detail v (rewriting n rewrite)
   whole_reads by_bytes rewrite is file whole = tt
@@ -172,12 +187,8 @@ module _ (disk : ℕ → List ℕ) (inodes : ℕ) (settled : Inode) (v : Volume)
       let kind = is_kind by_sizes o.status.kind inodes (content_of_object disk o) (v n) is.stands file in
       let held = subst Sized kind is.stands in
       λ i part. subst (λ (x : Option Node). IsReadBlock (bytes_of_node x) i) (sym held.3) ((held.2 i).1 (whole kind i part))
-  whole_reads by_sizes (Set mode size) is file whole = whole_reads by_sizes (Truncate size) is file whole
-  whole_reads by_sizes (Truncate size) is file whole =
-      let kind = is_kind by_sizes o.status.kind inodes (content_of_object disk o) (v n) is.stands file in
-      let held = subst Sized kind is.stands in
-      λ truncates_file. subst (λ (x : Option Node). IsReadBlock (bytes_of_node x) (size / 4096)) (sym held.3)
-      ((held.2 (size / 4096)).1 (whole kind (size / 4096) (subst (λ (k : ℕ). TruncatesBlock k size) (size_is held) truncates_file, refl)))
+  whole_reads by_sizes (Set mode size) is file whole = size_reads size is file whole
+  whole_reads by_sizes (Truncate size) is file whole = size_reads size is file whole
 
   -- and the other way round
   pub reads_sound : (detail : Detail) (rewrite : Rewrite) (count : ℕ) → IsObjectIn detail disk inodes settled o (v n) → ((i : ℕ) → CanReadBlock detail (file_block disk o.file) i → IsSoundAt count disk o.file.tree i)
@@ -186,11 +197,8 @@ module _ (disk : ℕ → List ℕ) (inodes : ℕ) (settled : Inode) (v : Volume)
   reads_sound by_sizes (Write offset bytes) count is sound reads kind i part =
       let held = subst Sized kind is.stands in
       sound i ((held.2 i).0 (subst (λ (x : Option Node). IsReadBlock (bytes_of_node x) i) held.3 (reads i part)))
-  reads_sound by_sizes (Set mode size) count is sound reads kind i part = reads_sound by_sizes (Truncate size) count is sound reads kind i part
-  reads_sound by_sizes (Truncate size) count is sound reads kind i part =
-      let held = subst Sized kind is.stands in
-      let read = subst (λ (x : Option Node). IsReadBlock (bytes_of_node x) (size / 4096)) held.3 (reads (subst (λ (k : ℕ). TruncatesBlock k size) (sym (size_is held)) part.0)) in
-      sound i ((held.2 i).0 (subst (IsReadBlock held.0) (sym part.1) read))
+  reads_sound by_sizes (Set mode size) count is sound reads kind i part = size_sound size count is sound reads kind i part
+  reads_sound by_sizes (Truncate size) count is sound reads kind i part = size_sound size count is sound reads kind i part
 
 pub parts_read : (detail : Detail) (disk : ℕ → List ℕ) (inodes : ℕ) (settled : Inode) (v : Volume) (n : ℕ) (x : Option Object) (rewrite : Rewrite) {T E : Type 0} (r : Result T E)
     → IsObjectOrNone detail disk inodes settled x (v n) → IsTrue (is_file_node (v n)) → ((o : Object) → x ≡ Some o → OnOk r (IsWholeIn disk rewrite o)) → OnOk r (ReadsIn detail v (rewriting n rewrite))

@@ -147,9 +147,9 @@ module _ {s t : InodeFile} where
 
 -- what is raised twice
 pub raises_then : {a b c : Option Object} (k : ℕ) → RaisesFile a b k → RaisesFile b c 0 → RaisesFile a c k
-raises_then k first then o is =
+raises_then k first second o is =
     let p = first o is in
-    let q = then p.0 p.1 in
+    let q = second p.0 p.1 in
     let one = p.2 in
     let two = q.2 in
     (q.0, q.1, omega (arith, one, two))

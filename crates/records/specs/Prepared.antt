@@ -37,7 +37,7 @@ pub record AreAtHand (s : InodeFile) (p : Prepared) : Type 0 where
   pub next : IsSomeAtHand s p.next
   pub last : IsSomeAtHand s p.last
 
--- the file that a record writes to or truncates is in memory
+-- the file that a record writes to or gives a size is in memory
 abbrev pub KnowsFile : InodeFile → Change → Type 0
 KnowsFile s (write number offset bytes) = IsKnown s number
 KnowsFile s (truncate number size) = IsKnown s number

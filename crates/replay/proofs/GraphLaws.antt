@@ -1,6 +1,6 @@
 -- What names and numbers keep, where the limits of objects aren't known.
 use Rattle.std.proofs.Common.{◌∙◌, ◌≡◌, inr, ℕ, List, Option, Some, None, IsSome, false, is_some, ap, sym, refl, [], ◌∷◌}
-use Rattle.model.specs.Records.{Applies, Change, applied, change_mode, create, truncate, link, node_of, rename, remove_name, with_file_bytes, with_node_mode, without_orphans, write}
+use Rattle.model.specs.Records.{Applies, Change, applied, change_mode, create, set_file, truncate, link, node_of, rename, remove_name, with_bits, with_file_bytes, with_node_mode, with_size, without_orphans, write}
 use Rattle.model.specs.Edits.{resized, written}
 use Rattle.model.specs.Volumes.{IsGraph, IsVolume, Node, Volume, entries, is_directory_node, is_file_node, released, swept_node, with_entry, with_name_more, with_node}
 use Rattle.model.proofs.AddLemmas.{graph-altered, graph-created, graph-linked, graph-swept}
@@ -25,6 +25,13 @@ module _ (inodes : ℕ) (v : Volume) (has : HasGraph inodes v) where
       (bytes_by is_some (λ attributes links a b. refl) f (v n)) (bytes_links f (v n)))
       (bytes_by is_some (λ attributes links a b. refl) f (v n))
 
+  mode_changed : (n mode : ℕ) → HasGraph inodes (with_bits n mode v)
+  mode_changed n mode =
+      altered n (with_node_mode mode (v n))
+      (graph-altered v has.graph n (with_node_mode mode (v n)) (mode_names mode (v n)) (mode_file mode (v n)) (mode_directory mode (v n)) (mode_some mode (v n)) (mode_links mode (v n)))
+      (mode_some mode (v n))
+
+module _ (inodes : ℕ) (v : Volume) (has : HasGraph inodes v) where
   -- a record that applies keeps it
   pub record_kept : (change : Change) → Applies inodes v change → HasGraph inodes (applied change v)
   record_kept (create n d made x) can =
@@ -51,12 +58,10 @@ module _ (inodes : ℕ) (v : Volume) (has : HasGraph inodes v) where
     numbers = numbers_entry inodes (with_entry d x None (released (entries v k y) v)) k y (entries v d x)
         (numbers_entry inodes (released (entries v k y) v) d x None (numbers_released inodes (entries v k y) v has.numbers));
   }
-  record_kept (write n offset bytes) can = bytes_changed n (written offset bytes)
-  record_kept (truncate n size) can = bytes_changed n (resized size)
-  record_kept (change_mode n mode) can =
-      altered n (with_node_mode mode (v n))
-      (graph-altered v has.graph n (with_node_mode mode (v n)) (mode_names mode (v n)) (mode_file mode (v n)) (mode_directory mode (v n)) (mode_some mode (v n)) (mode_links mode (v n)))
-      (mode_some mode (v n))
+  record_kept (write n offset bytes) can = bytes_changed inodes v has n (written offset bytes)
+  record_kept (truncate n size) can = bytes_changed inodes v has n (resized size)
+  record_kept (change_mode n mode) can = mode_changed inodes v has n mode
+  record_kept (set_file n mode size) can = mode_changed inodes (with_size n size v) (bytes_changed inodes v has n (resized size)) n mode
 
 swept_some : (o : Option Node) → IsSome (swept_node false o) → IsSome o
 swept_some None some = some

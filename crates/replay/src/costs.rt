@@ -1,6 +1,6 @@
 //! What the records of the log cost a consistency point.
 
-ghost use Rattle.std.specs.Prelude.{◌≡◌, ◌≤◌, ℕ, List};
+ghost use Rattle.std.specs.Prelude.{◌≡◌, ◌≤◌, ℕ, List, if◌then◌else◌, nat_lt};
 ghost use Rattle.layout.specs.Record.{KeepsLimits, change_of};
 ghost use Rattle.layout.specs.declared.inode.Inode.{Inode};
 ghost use Rattle.model.specs.declared.limits.TheConstants.{TRANSFER_BYTES};
@@ -21,8 +21,8 @@ use model::{FILE_COST, GREAT_FILE_COST, HEADROOM_BLOCKS, MODE_COST, NAMES_COST, 
 /// file.
 pub const MOST_COST: u64 = 42;
 
-/// How many bytes the file has that a record writes to or truncates, before it is put in force: the
-/// file is in memory then. Of any other record 0.
+/// How many bytes the file has that a record writes to or gives a size, before it is put in force:
+/// the file is in memory then. Of any other record 0.
 pub fn size_before(inodes: &InodeFile, logged: &Record<'_>) -> u64
     ensures { (detail : Detail) (count : ℕ) (disk : ℕ → List ℕ) (settled : ℕ → Inode)
         (v : Volume) → IsVolumeIn detail count disk settled inodes.now v → KnowsFile inodes.now (change_of logged.now)
@@ -31,6 +31,7 @@ pub fn size_before(inodes: &InodeFile, logged: &Record<'_>) -> u64
     match logged {
         Record::Write { number, .. } => file_size(inodes, number.get()),
         Record::Truncate { number, .. } => file_size(inodes, number.get()),
+        Record::SetFile { number, .. } => file_size(inodes, number.get()),
         Record::Create { .. }
         | Record::Link { .. }
         | Record::RemoveName { .. }
@@ -74,7 +75,7 @@ pub fn cost_of(logged: &Record<'_>, size: u64) -> u64
             let end = offset.saturating_add(bytes.len() as u64);
             2 * touched(*offset, bytes.len()) + beside(size.max(end))
         }
-        Record::Truncate { .. } => FILE_COST,
+        Record::Truncate { .. } | Record::SetFile { .. } => FILE_COST,
         Record::ChangeMode { .. } => MODE_COST,
     }
 }
@@ -111,7 +112,16 @@ pub fn headroom_of(logged: &Record<'_>, size: u64) -> u64
 {
     match logged {
         Record::RemoveName { .. } | Record::ChangeMode { .. } => 0,
-        Record::Truncate { size: new, .. } => { if size < *new { HEADROOM_BLOCKS } else { 0 } }
+        Record::Truncate { size: new, .. } => headroom_to(size, *new),
+        Record::SetFile { size: new, .. } => headroom_to(size, *new),
         _ => HEADROOM_BLOCKS,
     }
+}
+
+/// Those behind a record that gives a file of this size another one.
+fn headroom_to(size: u64, new: u64) -> u64
+    ensures headroom { result ≡ (if nat_lt size new then HEADROOM_BLOCKS else 0) }
+    ensures few { result ≤ 16 }
+{
+    if size < new { HEADROOM_BLOCKS } else { 0 }
 }

@@ -6,7 +6,7 @@ use Rattle.std.proofs.lemmas.List.{length-replicate}
 use Rattle.layout.specs.Limits.{Sizes}
 use Rattle.layout.specs.Places.{blocks_of}
 use Rattle.model.specs.Attributes.{no_attributes}
-use Rattle.model.specs.Records.{Change, Replays, applied, costs, count_orphans, pledged_for, work_of, create, link, remove_name, rename, write, truncate, change_mode}
+use Rattle.model.specs.Records.{Change, Replays, applied, costs, count_orphans, pledged_for, work_of, create, link, remove_name, rename, write, truncate, change_mode, set_file}
 use Rattle.model.specs.Room.{cost}
 use Rattle.model.specs.States.{State}
 use Rattle.model.specs.Trees.{Description}
@@ -121,6 +121,7 @@ files_sized (rename parent name new_parent new_name) size = tt
 files_sized (write number offset bytes) size = sym (length-replicate size 0)
 files_sized (truncate number new) size = sym (length-replicate size 0)
 files_sized (change_mode number mode) size = tt
+files_sized (set_file number mode new) size = sym (length-replicate size 0)
 
 -- ---- orphans
 

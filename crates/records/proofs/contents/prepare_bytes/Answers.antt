@@ -40,7 +40,7 @@ returns-clause-decides g c =
     let f = bytes_after c.args.rewrite.now in
     decides planned.looks
     (record {
-      first = subst (λ o. IfSome o (λ x. TakesUpdate s n (updates.Bytes x (mode_after c.args.rewrite.now)))) c.in-Some.is planned.ready;
+      first = subst (λ m. TakesUpdate s n (updates.Bytes c.in-Some.change m)) (sym c.mode.ensures) (subst (λ o. IfSome o (λ x. TakesUpdate s n (updates.Bytes x (mode_after c.args.rewrite.now)))) c.in-Some.is planned.ready);
       next = tt;
       last = tt;
       next_apart = tt;
@@ -51,7 +51,7 @@ returns-clause-decides g c =
     let told = planned.planned detail disk settled v stands in
     let is : IsTrue (is_file_node (v n)) = sym told.0 ∙ ap is_some c.in-Some.is in
     let gives = subst (λ o. IfSome o (RewritesIn detail disk f (loaded s n))) c.in-Some.is told.1 in
-    let mode = mode_after c.args.rewrite.now in
+    let mode = c.mode.result in
     let w = with_node n (with_given_mode mode (with_file_bytes f (v n))) v in
     let now = planned.looks.kept {detail = detail} disk settled v stands in
     let same = loaded_bytes detail disk s.geometry.inodes (settled n) (v n) (tree.get nat_cmp s.slots n) (now.volume.objects n) is in
@@ -61,7 +61,7 @@ returns-clause-decides g c =
       second = w;
       first = (with_given_mode mode (with_file_bytes f (v n)), (f, is, gives, refl), refl);
       next = refl;
-      last = rewriting_applied n c.args.rewrite.now v;
+      last = rewriting_applied n c.args.rewrite.now v ∙ ap (λ m. with_node n (with_given_mode m (with_file_bytes f (v n))) v) (sym c.mode.ensures);
       next_beside = tt;
       last_beside = tt;
       beside = tt;

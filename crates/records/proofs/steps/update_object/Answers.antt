@@ -64,7 +64,7 @@ returns-in-Bytes-clause-room c = λ detail disk inodes settled base found to slo
     let up = subst (λ (u : Update). Updates detail disk inodes settled found c.args.object.now u to) c.in-Bytes.is updates in
     let few = subst (λ (u : Update). UpdateRoom c.args.object.now u k) c.in-Bytes.is room in
     subst (λ (o : Option Node). room_of (Some (Changed c.commit_file.new.object)) base o ≤ room_of slot base found + k) (sym up.3)
-    (bytes_room detail disk inodes settled slot base found c.args.object.now c.commit_file.new.object up.0 c.in-Bytes.field-0 c.in-Bytes.field-1 k stands up.1 had c.commit_file.ensures.room few)
+    (bytes_room detail disk inodes settled slot base found c.args.object.now c.commit_file.new.object up.0 c.in-Bytes.change c.in-Bytes.mode k stands up.1 had c.commit_file.ensures.room few)
 
 pub returns-in-Links-clause-room : goal.returns-in-Links-clause-room
 returns-in-Links-clause-room c = λ detail disk inodes settled base found to slot k stands updates had room.

@@ -5,3 +5,6 @@ returns-in-Write c = rw (c.in-Write.is, ← c.get.ensures) c.file_size.ensures
 
 pub returns-in-Truncate : goal.returns-in-Truncate
 returns-in-Truncate c = rw (c.in-Truncate.is, ← c.get-in-Truncate.ensures) c.file_size-in-Truncate.ensures
+
+pub returns-in-SetFile : goal.returns-in-SetFile
+returns-in-SetFile c = rw (c.in-SetFile.is, ← c.get-in-SetFile.ensures) c.file_size-in-SetFile.ensures

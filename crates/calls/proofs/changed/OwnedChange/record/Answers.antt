@@ -1,5 +1,5 @@
 use Rattle.std.proofs.Common.{◌≡◌, length, ap, arith}
-use Rattle.layout.proofs.RecordLengths.{length-change_mode, length-truncate, length-link, length-rename, length-remove_name}
+use Rattle.layout.proofs.RecordLengths.{length-change_mode, length-set_file, length-truncate, length-link, length-rename, length-remove_name}
 use Rattle.calls.proofs.changed.OwnedChange.record.Goals as goal
 
 pub returns-in-Link-clause-short : goal.returns-in-Link-clause-short
@@ -34,3 +34,6 @@ returns-in-ChangeMode-clause-short c = let long = length-change_mode c.in-Change
 
 pub returns-in-Truncate-clause-short : goal.returns-in-Truncate-clause-short
 returns-in-Truncate-clause-short c = let long = length-truncate c.in-Truncate.number c.in-Truncate.size in omega (arith, long)
+
+pub returns-in-SetFile-clause-short : goal.returns-in-SetFile-clause-short
+returns-in-SetFile-clause-short c = let long = length-set_file c.in-SetFile.number c.in-SetFile.mode c.in-SetFile.size in omega (arith, long)

@@ -1,0 +1,149 @@
+-- What the definitions say of giving a mode and a size, by what was found in a volume.
+use Rattle.std.proofs.Common.{◌≡◌, ◌≢◌, ◌∙◌, ◌||◌, inl, inr, ℕ, ℤ, nat_abs, List, Bool, true, false, ◌==◌, length, Option, Some, None, IsSome, is_some, Result, Ok, Err, IsTrue, refl, sym, ap, subst, eq-eqb}
+use Rattle.std.specs.Result.{IsOkAnd}
+use Rattle.std.proofs.Math.Path.{fun_ext}
+use Rattle.std.proofs.lemmas.Bool.{false≢true}
+use Rattle.model.specs.Changing.{given_size_tests, sets, sets_both, sets_mode, sets_object, truncates_file}
+use Rattle.model.specs.Edits.{contents, with_mode}
+use Rattle.model.specs.Laws.{RecordsChangeTrees}
+use Rattle.model.specs.Outcomes.{Outcome, changes}
+use Rattle.model.specs.Paths.{Path, Tests, first_refusal, text_tests_then}
+use Rattle.model.specs.Records.{Change, Applies, applied, change_mode, set_file, truncate, work_of}
+use Rattle.model.specs.Room.{Need, logs, nothing, changes_bits}
+use Rattle.model.specs.Trees.{Tree, Object, Description}
+use Rattle.model.specs.Trees as trees
+use Rattle.model.specs.Volumes.{IsMounted, IsVolume, Node, directory_node, file_node, link_node, Volume, is_directory_node, is_file_node, object_of, swept, tree_of}
+use Rattle.model.specs.declared.command.Settings.{Settings}
+use Rattle.model.specs.declared.errno.Errno.{Errno}
+use Rattle.model.specs.declared.errno.Errno.TheVariants.{DAMAGED}
+use Rattle.model.specs.declared.reply.Reply.{Reply}
+use Rattle.model.specs.declared.reply.Reply.TheVariants.{Done, Refused}
+use Rattle.model.proofs.LooseLemmas.{some_same}
+use Rattle.paths.specs.Steps.{found_in}
+use Rattle.paths.specs.declared.lookup.Found.TheVariants as found
+use Rattle.records.specs.Obstacles.{IsObstacle}
+use Rattle.records.specs.Rewriting.{GoesOver, SetsBoth}
+use Rattle.calls.specs.Leading.{IsLed}
+use Rattle.calls.specs.Changing.{ComesBy, ComesOrStays, ComesSweptBy, said_by}
+use Rattle.calls.specs.Truncate.{TruncatesFile}
+use Rattle.calls.specs.declared.changed.Changing.{Changing}
+use Rattle.calls.proofs.LeadLaws.{led_refused, led_some, led_there}
+use Rattle.calls.proofs.ModeLaws.{mode_changed}
+use Rattle.calls.proofs.SweptLaws.{comes_swept}
+use Rattle.calls.proofs.TestedLaws.{tested_some}
+use Rattle.model.proofs.OptionLaws.{none_some}
+
+-- ---- where a path leads
+
+pub set_refused : (v : Volume) (table : ℕ → Option Description) (text : List ℕ) (settings : Settings) (errno : Errno) → first_refusal (text_tests_then (given_size_tests settings.size) text) ≡ Some errno
+    → sets (tree_of v table) text settings (Refused errno) (tree_of v table) nothing
+set_refused v table text settings errno is = tested_some (tree_of v table) (text_tests_then (given_size_tests settings.size) text) _ errno is
+
+-- what is there is an object
+object_there : (n : ℕ) (o : Option Node) → IsSome o → (x : Object) × (object_of n o ≡ Some x)
+object_there n None some = absurd (false≢true some)
+object_there n (Some (directory_node attributes names)) some = (trees.directory n, refl)
+object_there n (Some (file_node attributes links bytes)) some = (trees.file n, refl)
+object_there n (Some (link_node attributes text)) some = (trees.symlink n text, refl)
+
+module _ (inodes : ℕ) (v : Volume) (table : ℕ → Option Description) (text : List ℕ) (settings : Settings) where
+  abbrev t : Tree
+  t = tree_of v table
+
+  abbrev tests : Tests
+  tests = text_tests_then (given_size_tests settings.size) text
+
+  abbrev there : Path → Object → Outcome
+  there p o = sets_object t settings o
+
+  pub set_nowhere : (errno : Errno) → IsLed tests t v true text (Err errno) → sets t text settings (Refused errno) t nothing
+  set_nowhere errno led = led_refused v table true text there tests errno led
+
+  -- what is given to the object there is what the call comes to
+  pub set_comes : (n : ℕ) → IsLed tests t v true text (Ok n) → (r : Result (Option Changing) Errno)
+      → ((o : Object) → object_of n (v n) ≡ Some o → ComesOrStays (sets_object t settings o) inodes v table r) → ComesOrStays (sets t text settings) inodes v table r
+  set_comes n led (Err errno) given = led_there v table true text there n (Refused errno) t nothing (λ p x stands. given x stands.here) tests led
+  set_comes n led (Ok None) given = led_there v table true text there n Done t nothing (λ p x stands. given x stands.here) tests led
+  set_comes n led (Ok (Some c)) given =
+      let x = object_there n (v n) (led_some t v true text n led.1) in
+      let one = given x.0 x.1 in
+      let change = said_by c.change in
+      (one.0, one.1, led_there v table true text there n Done (tree_of (swept table (applied change v)) table) (logs (work_of v change)) (λ p y stands. (given y stands.here).2) tests led)
+
+-- ---- what is found
+
+pub file_object : (n : ℕ) (o : Option Node) (x : Object) → is_file_node o ≡ true → object_of n o ≡ Some x → trees.file n ≡ x
+file_object n None x is object = none_some object
+file_object n (Some (directory_node attributes names)) x is object = absurd (false≢true is)
+file_object n (Some (file_node attributes links bytes)) x is object = some_same object
+file_object n (Some (link_node attributes text)) x is object = absurd (false≢true is)
+
+-- what is neither file nor link
+pub directory_left : (n : ℕ) (o : Option Node) (x : Object) → found_in o ≢ found.File → found_in o ≢ found.Link → object_of n o ≡ Some x → IsTrue (is_directory_node o) × (trees.directory n ≡ x)
+directory_left n None x file link object = none_some object
+directory_left n (Some (directory_node attributes names)) x file link object = (refl, some_same object)
+directory_left n (Some (file_node attributes links bytes)) x file link object = absurd (file refl)
+directory_left n (Some (link_node attributes text)) x file link object = absurd (link refl)
+
+pub directory_has_mode : (o : Option Node) → IsTrue (is_directory_node o) → IsTrue (is_file_node o || is_directory_node o)
+directory_has_mode None is = absurd (false≢true is)
+directory_has_mode (Some (directory_node attributes names)) is = refl
+directory_has_mode (Some (file_node attributes links bytes)) is = refl
+directory_has_mode (Some (link_node attributes text)) is = absurd (false≢true is)
+
+pub file_has_mode : (o : Option Node) → IsTrue (is_file_node o) → IsTrue (is_file_node o || is_directory_node o)
+file_has_mode o is = ap (λ (b : Bool). b || is_directory_node o) is
+
+-- ---- a mode
+
+-- a record that changes a mode applies, and this is it, or there is an obstacle
+abbrev pub DecidesMode : ℕ → Volume → ℕ → ℕ → Result (Option Changing) Errno → Type 0
+DecidesMode inodes v n mode (Ok (Some c)) = (said_by c.change ≡ change_mode n mode) × Applies inodes v (change_mode n mode)
+DecidesMode inodes v n mode (Ok None) = ⊥
+DecidesMode inodes v n mode (Err errno) = IsObstacle inodes v (change_mode n mode) errno
+
+pub sets_mode_comes : (inodes : ℕ) (v : Volume) (table : ℕ → Option Description) (volume : IsVolume inodes v) (mounted : IsMounted v table) (law : RecordsChangeTrees) (n mode : ℕ) (r : Result (Option Changing) Errno)
+    → IsTrue (is_file_node (v n) || is_directory_node (v n)) → DecidesMode inodes v n mode r → ComesOrStays (sets_mode (tree_of v table) n (Some mode)) inodes v table r
+sets_mode_comes inodes v table volume mounted law n mode (Ok None) is decides = absurd decides
+sets_mode_comes inodes v table volume mounted law n mode (Err DAMAGED) is decides = absurd (false≢true (sym decides ∙ is))
+sets_mode_comes inodes v table volume mounted law n mode (Err _) is decides = absurd decides
+sets_mode_comes inodes v table volume mounted law n mode (Ok (Some c)) is (says, applies) =
+    let changed = mode_changed inodes v table mode volume mounted law n applies in
+    comes_swept (sets_mode (tree_of v table) n (Some mode)) inodes v table (Ok c)
+    (subst (ComesBy (sets_mode (tree_of v table) n (Some mode)) inodes v table) (sym says) (applies, changed.0, (refl, changed.1, refl)))
+
+-- ---- a size
+
+-- nothing is to be swept in a mounted volume
+whole : (w : Volume) (table : ℕ → Option Description) → IsMounted w table → swept table w ≡ w
+whole w table mounted = fun_ext {f = swept table w} {g = w} mounted.is_swept
+
+-- what a record does where nothing is swept
+unswept : (outcome : Outcome) (inodes : ℕ) (v : Volume) (table : ℕ → Option Description) (change : Change) (c : Changing) → said_by c.change ≡ change → GoesOver inodes v table change
+    → outcome Done (tree_of (applied change v) table) (logs (work_of v change)) → ComesOrStays outcome inodes v table (Ok (Some c))
+unswept outcome inodes v table change c says over done =
+    let same = sym (whole (applied change v) table over.1) in
+    subst (ComesSweptBy outcome inodes v table) (sym says) (
+      over.0,
+      subst (λ (w : Volume). IsMounted w table) same over.1,
+      subst (λ (w : Volume). outcome Done (tree_of w table) (logs (work_of v change))) same done,
+    )
+
+pub truncate_file_comes : (inodes : ℕ) (v : Volume) (table : ℕ → Option Description) (n size : ℕ) (r : Result (Option Changing) Errno) → IsOkAnd r (TruncatesFile inodes v table n size)
+    → ComesOrStays (truncates_file (tree_of v table) n size) inodes v table r
+truncate_file_comes inodes v table n size (Err errno) truncates = absurd truncates
+truncate_file_comes inodes v table n size (Ok None) truncates = truncates
+truncate_file_comes inodes v table n size (Ok (Some c)) (says, (over, done)) = unswept (truncates_file (tree_of v table) n size) inodes v table (truncate n size) c says over done
+
+-- ---- both
+
+pub sets_both_comes : (inodes : ℕ) (v : Volume) (table : ℕ → Option Description) (n mode size : ℕ) (c : Changing) → said_by c.change ≡ set_file n mode size
+    → SetsBoth inodes v table n mode size (Ok (Some c.prepared)) → ComesOrStays (sets_both (tree_of v table) n mode size) inodes v table (Ok (Some c))
+sets_both_comes inodes v table n mode size c says (over, done) = unswept (sets_both (tree_of v table) n mode size) inodes v table (set_file n mode size) c says over done
+
+-- the mode alone, where the size is the old one
+pub sets_mode_alone : (inodes : ℕ) (v : Volume) (table : ℕ → Option Description) (n mode size : ℕ) (r : Result (Option Changing) Errno) → size ≡ length (contents (tree_of v table) n)
+    → ComesOrStays (sets_mode (tree_of v table) n (Some mode)) inodes v table r → ComesOrStays (sets_both (tree_of v table) n mode size) inodes v table r
+sets_mode_alone inodes v table n mode size r same comes =
+    let test : (size == length (contents (tree_of v table) n)) ≡ true = eq-eqb size (length (contents (tree_of v table) n)) same in
+    rw test comes

@@ -1,0 +1,211 @@
+//! Giving a mode and a size over a path, by one record.
+
+ghost use Rattle.std.specs.Prelude.{◌≡◌, ◌≤◌, ◌||◌, IfSome, IsTrue, None, Option, nat_abs};
+ghost use Rattle.model.specs.Changing.{given_size_tests, sets, sets_both, sets_file, sets_mode, sets_object};
+ghost use Rattle.model.specs.Paths.{first_refusal, parts as parts_of, text_tests_then};
+ghost use Rattle.model.specs.Trees as trees;
+ghost use Rattle.model.specs.Trees.{Object};
+ghost use Rattle.model.specs.Volumes.{is_directory_node, is_file_node, object_of, tree_of};
+ghost use Rattle.model.specs.declared.limits.TheConstants.{GREATEST_FILE};
+ghost use Rattle.paths.specs.Numbers.{IsInodeNumber};
+ghost use Rattle.paths.specs.Steps.{found_in};
+ghost use Rattle.paths.specs.declared.lookup.Found.TheVariants as found;
+ghost use Rattle.calls.specs.Changing.{ComesOrStays};
+ghost use Rattle.calls.specs.Preparing.{PreparesAny};
+
+use crate::leading::find_object;
+use crate::preparing::truncate::{refusal_of_size, truncate_file};
+use crate::{Changing, OwnedChange};
+use buffers::Blocks;
+use inofile::InodeFile;
+use layout::InodeNumber;
+use model::{Errno, Mode, Settings, records_change_trees};
+use paths::{Found, Parts, refusal_of_text};
+use records::{Failure, kind_at, prepare_mode, set_bytes};
+use std::alloc::Global;
+
+/// Gives what stands where a path leads, where a last symbolic link is followed, all that is given,
+/// as far as nothing of it is seen yet: prepares one record, or tells that there is nothing to
+/// change, or why the call is refused. NoMemory; Device where a read failed; Damaged where a block
+/// on the way is outside its format.
+pub fn set<B: Blocks>(
+    alloc: Global,
+    inodes: &mut InodeFile,
+    blocks: &mut B,
+    path: &[u8],
+    settings: Settings,
+) -> Result<Option<Changing>, Failure>
+    ensures { PreparesAny B.Blocks blocks.old blocks.new inodes.old inodes.new
+        (λ inodes v table. ComesOrStays (sets (tree_of v table) path.now settings) inodes v table)
+        result }
+{
+    let parts = Parts::of(alloc, path)?;
+    if let Some(errno) = refusal_of_text(path, &parts) {
+        return Err(Failure::Refused(errno));
+    }
+    if let Some(errno) = refusal_of_given_size(settings.size) {
+        return Err(Failure::Refused(errno));
+    }
+    set_along(alloc, inodes, blocks, path, parts, settings)
+}
+
+// Why a file can't get a size, if one is given and it can't.
+fn refusal_of_given_size(size: Option<i64>) -> Option<Errno>
+    ensures { result ≡ first_refusal (given_size_tests size) }
+{
+    match size {
+        Some(size) => refusal_of_size(size),
+        None => None,
+    }
+}
+
+// The same with a text and a size that passed their tests, and the text's parts.
+fn set_along<B: Blocks>(
+    alloc: Global,
+    inodes: &mut InodeFile,
+    blocks: &mut B,
+    path: &[u8],
+    parts: Parts,
+    settings: Settings,
+) -> Result<Option<Changing>, Failure>
+    requires parts { parts ≡ parts_of path.now }
+    requires passed { first_refusal (text_tests_then (given_size_tests settings.size) path.now) ≡ None }
+    requires within { IfSome settings.size (λ size. nat_abs size ≤ GREATEST_FILE) }
+    ensures { PreparesAny B.Blocks blocks.old blocks.new inodes.old inodes.new
+        (λ inodes v table. ComesOrStays (sets (tree_of v table) path.now settings) inodes v table)
+        result }
+{
+    let number = find_object(alloc, inodes, blocks, path, parts, true)?;
+    set_object(alloc, inodes, blocks, number, settings)
+}
+
+// The same of the file or directory with a number; EISDIR where a directory is to get a size.
+fn set_object<B: Blocks>(
+    alloc: Global,
+    inodes: &mut InodeFile,
+    blocks: &mut B,
+    number: InodeNumber,
+    settings: Settings,
+) -> Result<Option<Changing>, Failure>
+    requires number { IsInodeNumber inodes.old.geometry.inodes number }
+    requires within { IfSome settings.size (λ size. nat_abs size ≤ GREATEST_FILE) }
+    ensures { PreparesAny B.Blocks blocks.old blocks.new inodes.old inodes.new
+        (λ inodes v table r. (o : Object) → object_of number (v number) ≡ Some o
+        → (found_in (v number) ≡ found.Link → ⊥)
+        → ComesOrStays (sets_object (tree_of v table) settings o) inodes v table r) result }
+{
+    let found = kind_at(alloc, inodes, blocks, number)?;
+    match found {
+        Found::File => set_file(alloc, inodes, blocks, number, settings),
+        _ => set_directory(alloc, inodes, blocks, number, settings),
+    }
+}
+
+// The same of a directory.
+fn set_directory<B: Blocks>(
+    alloc: Global,
+    inodes: &mut InodeFile,
+    blocks: &mut B,
+    number: InodeNumber,
+    settings: Settings,
+) -> Result<Option<Changing>, Failure>
+    ensures { PreparesAny B.Blocks blocks.old blocks.new inodes.old inodes.new
+        (λ inodes v table r. IsTrue (is_directory_node (v number))
+        → ComesOrStays (sets_object (tree_of v table) settings (trees.directory number)) inodes v table r)
+        result }
+{
+    if settings.size.is_some() {
+        return Err(Failure::Refused(Errno::EISDIR));
+    }
+    set_mode(alloc, inodes, blocks, number, settings.mode)
+}
+
+// The same of a file.
+fn set_file<B: Blocks>(
+    alloc: Global,
+    inodes: &mut InodeFile,
+    blocks: &mut B,
+    number: InodeNumber,
+    settings: Settings,
+) -> Result<Option<Changing>, Failure>
+    requires number { IsInodeNumber inodes.old.geometry.inodes number }
+    requires within { IfSome settings.size (λ size. nat_abs size ≤ GREATEST_FILE) }
+    ensures { PreparesAny B.Blocks blocks.old blocks.new inodes.old inodes.new
+        (λ inodes v table r. IsTrue (is_file_node (v number))
+        → ComesOrStays (sets_file (tree_of v table) number settings.mode settings.size) inodes v table r)
+        result }
+{
+    match settings.size {
+        None => set_mode(alloc, inodes, blocks, number, settings.mode),
+        Some(size) => set_size(alloc, inodes, blocks, number, settings.mode, size),
+    }
+}
+
+// A file gets a size, and a mode where one is given.
+fn set_size<B: Blocks>(
+    alloc: Global,
+    inodes: &mut InodeFile,
+    blocks: &mut B,
+    number: InodeNumber,
+    mode: Option<Mode>,
+    size: i64,
+) -> Result<Option<Changing>, Failure>
+    requires number { IsInodeNumber inodes.old.geometry.inodes number }
+    requires within { nat_abs size ≤ GREATEST_FILE }
+    ensures { PreparesAny B.Blocks blocks.old blocks.new inodes.old inodes.new
+        (λ inodes v table r. IsTrue (is_file_node (v number))
+        → ComesOrStays (sets_file (tree_of v table) number mode (Some size)) inodes v table r) result }
+{
+    match mode {
+        None => truncate_file(alloc, inodes, blocks, number, size.unsigned_abs()),
+        Some(mode) => set_both(alloc, inodes, blocks, number, mode, size.unsigned_abs()),
+    }
+}
+
+// A file gets a mode and a size, by one record; the mode alone where it has the size.
+fn set_both<B: Blocks>(
+    alloc: Global,
+    inodes: &mut InodeFile,
+    blocks: &mut B,
+    number: InodeNumber,
+    mode: Mode,
+    size: u64,
+) -> Result<Option<Changing>, Failure>
+    requires number { IsInodeNumber inodes.old.geometry.inodes number }
+    requires within { size ≤ GREATEST_FILE }
+    ensures { PreparesAny B.Blocks blocks.old blocks.new inodes.old inodes.new
+        (λ inodes v table r. IsTrue (is_file_node (v number))
+        → ComesOrStays (sets_both (tree_of v table) number mode size) inodes v table r) result }
+{
+    let planned = set_bytes(alloc, inodes, blocks, number, mode, size)?;
+    match planned {
+        Some(prepared) => Ok(Some(Changing {
+            change: OwnedChange::SetFile { number, mode, size },
+            prepared,
+        })),
+        None => set_mode(alloc, inodes, blocks, number, Some(mode)),
+    }
+}
+
+// A file or directory gets a mode, where one is given.
+fn set_mode<B: Blocks>(
+    alloc: Global,
+    inodes: &mut InodeFile,
+    blocks: &mut B,
+    number: InodeNumber,
+    mode: Option<Mode>,
+) -> Result<Option<Changing>, Failure>
+    ensures { PreparesAny B.Blocks blocks.old blocks.new inodes.old inodes.new
+        (λ inodes v table r. IsTrue (is_file_node (v number) || is_directory_node (v number))
+        → ComesOrStays (sets_mode (tree_of v table) number mode) inodes v table r) result }
+{
+    let Some(mode) = mode else {
+        return Ok(None);
+    };
+    records_change_trees();
+    let prepared = prepare_mode(alloc, inodes, blocks, number, mode)?;
+    Ok(Some(Changing {
+        change: OwnedChange::ChangeMode { number, mode },
+        prepared,
+    }))
+}
