@@ -1,7 +1,7 @@
 -- Refusals of calls by a path are their own.
-use Rattle.std.proofs.Common.{◌≡◌, inl, inr, ℕ, ℤ, List, [], ◌∷◌, Some, IsTrue, refl, sym, subst, ◌∙◌}
+use Rattle.std.proofs.Common.{◌≡◌, inl, inr, ℕ, ℤ, List, [], ◌∷◌, Option, None, Some, IsTrue, refl, sym, subst, ◌∙◌}
 use Rattle.std.proofs.lemmas.Bool.{cases_Bool, cond-true, cond-false, false≢true}
-use Rattle.model.specs.Changing.{link_text_tests, size_tests}
+use Rattle.model.specs.Changing.{given_size_tests, link_text_tests, size_tests}
 use Rattle.model.specs.Paths.{Tests, first_refusal, text_tests, new_text_tests}
 use Rattle.model.specs.Records.{Change, change_mode, set_file, create, truncate, link, rename, remove_name, write}
 use Rattle.model.specs.declared.errno.Errno.{Errno}
@@ -44,6 +44,10 @@ link_text_own text e is = first_own (link_text_tests text) e (refl, (refl, (refl
 
 pub size_own : (size : ℤ) (e : Errno) → first_refusal (size_tests size) ≡ Some e → IsTrue (is_path_refusal e)
 size_own size e is = first_own (size_tests size) e (refl, (refl, tt)) is
+
+pub given_size_own : (size : Option ℤ) (e : Errno) → first_refusal (given_size_tests size) ≡ Some e → IsTrue (is_path_refusal e)
+given_size_own None e is = none_some is
+given_size_own (Some size) e is = size_own size e is
 
 -- an obstacle to a record is told by an errno of paths
 pub obstacle_own : (change : Change) (e : Errno) → IsTrue (tells_obstacle change e) → IsTrue (is_path_refusal e)

@@ -281,3 +281,4 @@ reading_forgets inodes old new (call.RenameNew from path) reply forgets reading 
 reading_forgets inodes old new (call.Chmod path mode) reply forgets reading told = no_reading reading
 reading_forgets inodes old new (call.Truncate path size) reply forgets reading told = no_reading reading
 reading_forgets inodes old new (call.Store path offset bytes) reply forgets reading told = no_reading reading
+reading_forgets inodes old new (call.Set path settings) reply forgets reading told = no_reading reading
