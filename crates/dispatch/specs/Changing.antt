@@ -21,9 +21,10 @@ abbrev pub is_writing_call : PathCall → Bool
 is_writing_call (call.Store path offset given) = true
 is_writing_call _ = false
 
--- the call may find nothing to change: it is `rename`, `renamenew` or `truncate`
+-- the call may find nothing to change: it is `rename`, `renamenew`, `truncate` or `set`
 abbrev pub may_stay : PathCall → Bool
 may_stay (call.Rename old path) = true
 may_stay (call.RenameNew old path) = true
 may_stay (call.Truncate path size) = true
+may_stay (call.Set path settings) = true
 may_stay _ = false

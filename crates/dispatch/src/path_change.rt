@@ -121,6 +121,9 @@ fn prepare_change<B: Blocks>(
         PathCall::Truncate { path, size } => {
             calls::truncate(alloc, inodes, blocks, path.as_bytes(), *size)
         }
+        PathCall::Set { path, settings } => {
+            calls::set(alloc, inodes, blocks, path.as_bytes(), *settings)
+        }
         _ => {
             let changing = prepare_record(alloc, inodes, blocks, call)?;
             Ok(Some(changing))

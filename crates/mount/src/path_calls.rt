@@ -7,7 +7,7 @@ ghost use Rattle.model.specs.declared.reply.Reply.{Reply};
 ghost use Rattle.mount.specs.Applying.{AppliesCommand, done_reply, reply_of};
 
 use crate::Fs;
-use model::{Bytes, Command, Entries, Errno, Mode, Names, PathCall, Stat, Text};
+use model::{Bytes, Command, Entries, Errno, Mode, Names, PathCall, Settings, Stat, Text};
 use station::Station;
 
 impl<S: Station> Fs<S> {
@@ -177,6 +177,18 @@ impl<S: Station> Fs<S> {
     {
         let path = Bytes::of(path);
         let call = PathCall::Truncate { path, size };
+        self.apply_for_done(&Command::Path(call))
+    }
+
+    /// `set`: gives a file or a directory this mode and this size in bytes, as far as they are given,
+    /// all of it or none: a power cut leaves no part. A last link is followed. EINVAL of a negative
+    /// size, EFBIG of a greater one than a file may have, EISDIR of a directory's size.
+    pub fn set(&mut self, path: &[u8], settings: Settings) -> Result<(), Errno>
+        ensures { AppliesCommand self.old self.new (Command.Path (PathCall.Set path.now settings))
+            (reply_of done_reply result) }
+    {
+        let path = Bytes::of(path);
+        let call = PathCall::Set { path, settings };
         self.apply_for_done(&Command::Path(call))
     }
 

@@ -63,6 +63,7 @@ call_is_call (call.RenameNew p q) = refl
 call_is_call (call.Chmod p m) = refl
 call_is_call (call.Truncate p n) = refl
 call_is_call (call.Store p o d) = refl
+call_is_call (call.Set p s) = refl
 
 -- no verb of a call begins another command
 pub no_command : (v : Verb) → is_call v ≡ true → Values (command_form v) → ⊥
@@ -131,18 +132,19 @@ refused_first word [] d some none c good e = absurd (omega (arith, some))
 refused_first word (x ∷ xs) d some none c good e = by_first (word x) (map word xs) none (spelling_of c) e
 
 -- the verbs that have no fields of their own
-pub not_change : (v : Verb) → v ≢ verb.Mkdir → v ≢ verb.Rmdir → v ≢ verb.Unlink → v ≢ verb.Link → v ≢ verb.Symlink → v ≢ verb.Rename → v ≢ verb.RenameNew → v ≢ verb.Chmod → v ≢ verb.Truncate → v ≢ verb.Store → Values (change_form v) → ⊥
-not_change verb.Mkdir a b c d e f g h i j vs = a refl
-not_change verb.Rmdir a b c d e f g h i j vs = b refl
-not_change verb.Unlink a b c d e f g h i j vs = c refl
-not_change verb.Link a b c d e f g h i j vs = d refl
-not_change verb.Symlink a b c d e f g h i j vs = e refl
-not_change verb.Rename a b c d e f g h i j vs = f refl
-not_change verb.RenameNew a b c d e f g h i j vs = g refl
-not_change verb.Chmod a b c d e f g h i j vs = h refl
-not_change verb.Truncate a b c d e f g h i j vs = i refl
-not_change verb.Store a b c d e f g h i j vs = j refl
-not_change v a b c d e f g h i j vs = vs
+pub not_change : (v : Verb) → v ≢ verb.Mkdir → v ≢ verb.Rmdir → v ≢ verb.Unlink → v ≢ verb.Link → v ≢ verb.Symlink → v ≢ verb.Rename → v ≢ verb.RenameNew → v ≢ verb.Chmod → v ≢ verb.Truncate → v ≢ verb.Store → v ≢ verb.Set → Values (change_form v) → ⊥
+not_change verb.Mkdir a b c d e f g h i j k vs = a refl
+not_change verb.Rmdir a b c d e f g h i j k vs = b refl
+not_change verb.Unlink a b c d e f g h i j k vs = c refl
+not_change verb.Link a b c d e f g h i j k vs = d refl
+not_change verb.Symlink a b c d e f g h i j k vs = e refl
+not_change verb.Rename a b c d e f g h i j k vs = f refl
+not_change verb.RenameNew a b c d e f g h i j k vs = g refl
+not_change verb.Chmod a b c d e f g h i j k vs = h refl
+not_change verb.Truncate a b c d e f g h i j k vs = i refl
+not_change verb.Store a b c d e f g h i j k vs = j refl
+not_change verb.Set a b c d e f g h i j k vs = k refl
+not_change v a b c d e f g h i j k vs = vs
 
 pub is_change : (v : Verb) → v ≢ verb.List → v ≢ verb.Entries → v ≢ verb.Stat → v ≢ verb.Lstat → v ≢ verb.Readlink → v ≢ verb.Get → call_form v ≡ change_form v
 is_change verb.List a b c d e f = absurd (a refl)

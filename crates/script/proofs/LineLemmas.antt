@@ -1,6 +1,8 @@
 -- A line is its words and the spaces between them.
-use Rattle.std.proofs.Common.{◌≡◌, Result, Ok, Err, IfOk, ℕ, zero, suc, pos, negsuc, ◌+◌, ◌/◌, ◌%◌, ◌^◌, ◌<◌, ◌≤◌, ◌==◌, Bool, true, false, List, [], ◌∷◌, ◌++◌, All, codes, cond, eqb, nat_le, get_or, arith, refl, sym, ◌∙◌, ap}
-use Rattle.std.specs.Fmt.{decimal}
+use Rattle.std.proofs.Common.{◌≡◌, Result, Ok, Err, IfOk, Option, Some, None, ℕ, ℤ, zero, suc, pos, negsuc, ◌+◌, ◌/◌, ◌%◌, ◌^◌, ◌<◌, ◌≤◌, ◌==◌, Bool, true, false, List, [], ◌∷◌, ◌++◌, All, codes, cond, eqb, nat_le, get_or, arith, refl, sym, ◌∙◌, ap}
+use Rattle.std.specs.Fmt.{decimal, signed_decimal}
+use Rattle.std.specs.Int.RustNames.{FitsSigned}
+use mir.Syntax.{w64}
 use Rattle.std.specs.List.{flat_map, join_with_byte, list_all, slice_split}
 use Rattle.std.proofs.lemmas.Fmt.{decimal_by_steps}
 use Rattle.std.proofs.lemmas.List.{append-nil}
@@ -14,7 +16,7 @@ use Rattle.model.specs.declared.command.Flags.{Flags}
 use Rattle.model.specs.declared.command.PathCall.{PathCall}
 use Rattle.model.specs.declared.command.Whence.{Whence}
 use Rattle.model.specs.declared.command.Whence.TheVariants.{Set, Cur, End}
-use Rattle.script.specs.Forms.{bytes, count, end, field, flags, form_words, last_mode, mode, none, offset, text, whence, word_of, AreValues, Form, IsValue, Kind, Value, Values}
+use Rattle.script.specs.Forms.{bytes, count, end, field, flags, form_words, given_mode, given_offset, last_mode, mode, none, offset, text, whence, word_of, AreValues, Form, IsValue, Kind, Value, Values}
 use Rattle.script.specs.Lines.{call_fields, call_words, command_line, command_words, line_of, spelling_of, spelling_words, named, plain, snap, within, IsPathCallInForm, IsCommandInForm, IsSpelling, Spelling}
 use Rattle.script.specs.Verbs.{call_form, command_form, snap_form, verb_name}
 use Rattle.script.specs.Words.{access_word, byte_word, data_word, flags_word, hex_digit, is_plain, letter, mode_word, mode_words, text_word, whence_word}
@@ -126,15 +128,22 @@ whence_is_word Set = letters_are_word (codes "set") refl
 whence_is_word Cur = letters_are_word (codes "cur") refl
 whence_is_word End = letters_are_word (codes "end") refl
 
+offset_is_word : (z : ℤ) → FitsSigned w64 z → IsWord (signed_decimal z)
+offset_is_word (pos n) good = number_is_word n (omega (arith, small_mag (pos n) good))
+offset_is_word (negsuc n) good = with_letter 45 (decimal (suc n)) (omega arith) (number_is_word (suc n) (omega (arith, small_mag (negsuc n) good)))
+
 value_is_word : (k : Kind) (v : Value k) → IsValue k v → IsWord (word_of k v)
 value_is_word text t good = text_is_word t
 value_is_word bytes t good = data_is_word t
 value_is_word count n good = number_is_word n (small n good)
-value_is_word offset (pos n) good = number_is_word n (omega (arith, small_mag (pos n) good))
-value_is_word offset (negsuc n) good = with_letter 45 (decimal (suc n)) (omega arith) (number_is_word (suc n) (omega (arith, small_mag (negsuc n) good)))
+value_is_word offset z good = offset_is_word z good
 value_is_word mode m good = mode_is_word m
 value_is_word flags f good = flags_are_word f
 value_is_word whence w good = whence_is_word w
+value_is_word given_mode None good = letters_are_word (codes "-") refl
+value_is_word given_mode (Some m) good = mode_is_word m
+value_is_word given_offset None good = letters_are_word (codes "-") refl
+value_is_word given_offset (Some z) good = offset_is_word z good
 
 form_has_words : (f : Form) (vs : Values f) → AreValues f vs → AreWords (form_words f vs)
 form_has_words end vs good = tt
@@ -159,6 +168,7 @@ verb_is_word verb.RenameNew = letters_are_word (codes "renamenew") refl
 verb_is_word verb.Chmod = letters_are_word (codes "chmod") refl
 verb_is_word verb.Truncate = letters_are_word (codes "truncate") refl
 verb_is_word verb.Store = letters_are_word (codes "store") refl
+verb_is_word verb.Set = letters_are_word (codes "set") refl
 verb_is_word verb.Open = letters_are_word (codes "open") refl
 verb_is_word verb.OpenStat = letters_are_word (codes "openstat") refl
 verb_is_word verb.Close = letters_are_word (codes "close") refl

@@ -1,7 +1,9 @@
 -- A command has one spelling.
-use Rattle.std.proofs.Common.{◌≡◌, ℕ, ◌+◌, ◌/◌, ◌%◌, ◌==◌, ◌||◌, Bool, true, false, cond, eqb, List, [], ◌∷◌, ◌++◌, Result, Ok, Err, ◌⊎◌, inl, inr, codes, arith, refl, sym, ◌∙◌, ap, subst}
+use Rattle.std.proofs.Common.{◌≡◌, ℕ, ℤ, pos, negsuc, zero, suc, ◌<◌, ◌^◌, get_or, length, Option, Some, None, ◌+◌, ◌/◌, ◌%◌, ◌==◌, ◌||◌, Bool, true, false, cond, eqb, List, [], ◌∷◌, ◌++◌, Result, Ok, Err, ◌⊎◌, inl, inr, codes, arith, refl, sym, ◌∙◌, ap, subst}
 use Rattle.std.specs.List.{list_any}
-use Rattle.std.proofs.lemmas.Fmt.{decimal_injective, signed_decimal_injective}
+use Rattle.std.proofs.lemmas.Fmt.{decimal_injective, decimal_nonempty, first_decimal, signed_decimal_injective}
+use Rattle.std.specs.Fmt.{signed_decimal}
+use lib.Signed.{mag}
 use Rattle.hex.specs.Hex.{decode_of, encode_lower}
 use Rattle.hex.specs.declared.error.FromHexError.TheVariants.{OddLength}
 use Rattle.hex.proofs.HexLemmas.{decode_of-same}
@@ -15,7 +17,7 @@ use Rattle.model.specs.declared.command.PathCall.{PathCall}
 use Rattle.model.specs.declared.command.PathCall.TheVariants as call
 use Rattle.model.specs.declared.command.Whence.{Whence}
 use Rattle.model.specs.declared.command.Whence.TheVariants.{Set, Cur, End}
-use Rattle.script.specs.Forms.{bytes, count, end, field, flags, form_words, last_mode, mode, none, offset, text, whence, word_of, AreValues, Form, IsValue, Kind, Value, Values}
+use Rattle.script.specs.Forms.{bytes, count, end, field, flags, form_words, given_mode, given_offset, last_mode, mode, none, offset, text, whence, word_of, AreValues, Form, IsValue, Kind, Value, Values}
 use Rattle.script.specs.Lines.{call_fields, call_words, command_words, spelling_of, spelling_words, named, plain, snap, within, IsPathCallInForm, IsCommandInForm, IsSpelling, Spelling}
 use Rattle.script.specs.Readings.{ReadsWords}
 use Rattle.script.specs.Verbs.{call_form, command_form, is_call, snap_form, verb_name}
@@ -172,6 +174,12 @@ whence_word-unique End Set e = absurd (grind (arith, e))
 whence_word-unique End Cur e = absurd (grind (arith, e))
 whence_word-unique End End e = refl
 
+-- '-' alone is no number
+no_number : (z : ℤ) → mag z < 2 ^ 63 → codes "-" ≡ signed_decimal z → ⊥
+no_number (pos zero) few e = cc
+no_number (pos (suc n)) few e = let first = first_decimal (suc n) (omega arith) (omega (arith, few)) in omega (arith, first, ap (λ (l : List ℕ). get_or l 0 0) e)
+no_number (negsuc n) few e = let some = decimal_nonempty (suc n) (omega (arith, few)) in let long = ap (length {A = ℕ}) e in omega (arith, some, long)
+
 word_of-unique : (k : Kind) (v w : Value k) → IsValue k v → IsValue k w → word_of k v ≡ word_of k w → v ≡ w
 word_of-unique text v w gv gw e = text_word-unique v w gv gw e
 word_of-unique bytes v w gv gw e = data_word-unique v w gv gw e
@@ -180,6 +188,14 @@ word_of-unique offset v w gv gw e = signed_decimal_injective v w (small_mag v gv
 word_of-unique mode v w gv gw e = mode_word-unique v w e
 word_of-unique flags v w gv gw e = flags_word-unique v w e
 word_of-unique whence v w gv gw e = whence_word-unique v w e
+word_of-unique given_mode None None gv gw e = refl
+word_of-unique given_mode None (Some m) gv gw e = absurd (cc)
+word_of-unique given_mode (Some m) None gv gw e = absurd (cc)
+word_of-unique given_mode (Some m) (Some n) gv gw e = ap (λ k. Some k) (mode_word-unique m n e)
+word_of-unique given_offset None None gv gw e = refl
+word_of-unique given_offset None (Some z) gv gw e = absurd (no_number z (small_mag z gw) e)
+word_of-unique given_offset (Some y) None gv gw e = absurd (no_number y (small_mag y gv) (sym e))
+word_of-unique given_offset (Some y) (Some z) gv gw e = ap (λ k. Some k) (signed_decimal_injective y z (small_mag y gv) (small_mag z gw) e)
 
 abbrev joined : (k : Kind) (more : Form) → Value k → Values more → Values (field k more)
 joined k more v vs = (v, vs)
@@ -220,6 +236,7 @@ call_of verb.RenameNew (p, (q, _)) = call.RenameNew p q
 call_of verb.Chmod (p, (m, _)) = call.Chmod p m
 call_of verb.Truncate (p, (n, _)) = call.Truncate p n
 call_of verb.Store (p, (o, (d, _))) = call.Store p o d
+call_of verb.Set (p, (m, (z, _))) = call.Set p (record { mode = m; size = z })
 call_of v vs = absurd vs
 
 call_of_fields : (c : PathCall) → call_of (call_fields c).0 (call_fields c).1 ≡ c
@@ -240,6 +257,7 @@ call_of_fields (call.RenameNew p q) = refl
 call_of_fields (call.Chmod p m) = refl
 call_of_fields (call.Truncate p n) = refl
 call_of_fields (call.Store p o d) = refl
+call_of_fields (call.Set p s) = refl
 
 call_words-unique : (c d : PathCall) → IsPathCallInForm c → IsPathCallInForm d → call_words c ≡ call_words d → c ≡ d
 call_words-unique c d gc gd e = sym (call_of_fields c) ∙ same_made call_form call_of (call_fields c).0 (call_fields d).0 (call_fields c).1 (call_fields d).1 gc gd e ∙ call_of_fields d

@@ -6,7 +6,7 @@ use Rattle.script.specs.declared.verb.Verb.{Verb}
 use Rattle.script.specs.declared.verb.Verb.TheVariants as verb
 
 abbrev pub all_verbs : List Verb
-all_verbs = verb.List ∷ verb.Entries ∷ verb.Stat ∷ verb.Lstat ∷ verb.Readlink ∷ verb.Get ∷ verb.Mkdir ∷ verb.Rmdir ∷ verb.Unlink ∷ verb.Link ∷ verb.Symlink ∷ verb.Rename ∷ verb.RenameNew ∷ verb.Chmod ∷ verb.Truncate ∷ verb.Store ∷ verb.Open ∷ verb.OpenStat ∷ verb.Close ∷ verb.Read ∷ verb.Write ∷ verb.Pread ∷ verb.Pwrite ∷ verb.Lseek ∷ verb.Ftruncate ∷ verb.Fstat ∷ verb.Fsync ∷ verb.Sync ∷ verb.Df ∷ verb.Statfs ∷ verb.Snap ∷ verb.Take ∷ verb.Delete ∷ verb.Restore ∷ verb.In ∷ []
+all_verbs = verb.List ∷ verb.Entries ∷ verb.Stat ∷ verb.Lstat ∷ verb.Readlink ∷ verb.Get ∷ verb.Mkdir ∷ verb.Rmdir ∷ verb.Unlink ∷ verb.Link ∷ verb.Symlink ∷ verb.Rename ∷ verb.RenameNew ∷ verb.Chmod ∷ verb.Truncate ∷ verb.Store ∷ verb.Set ∷ verb.Open ∷ verb.OpenStat ∷ verb.Close ∷ verb.Read ∷ verb.Write ∷ verb.Pread ∷ verb.Pwrite ∷ verb.Lseek ∷ verb.Ftruncate ∷ verb.Fstat ∷ verb.Fsync ∷ verb.Sync ∷ verb.Df ∷ verb.Statfs ∷ verb.Snap ∷ verb.Take ∷ verb.Delete ∷ verb.Restore ∷ verb.In ∷ []
 
 -- a word that names none of all verbs names no verb
 pub none_named : (word : List ℕ) → All (λ v. word ≡ verb_name v → ⊥) all_verbs → (v : Verb) → word ≡ verb_name v → ⊥
@@ -26,25 +26,26 @@ none_named word none verb.RenameNew = none 12 verb.RenameNew (lit< tt)
 none_named word none verb.Chmod = none 13 verb.Chmod (lit< tt)
 none_named word none verb.Truncate = none 14 verb.Truncate (lit< tt)
 none_named word none verb.Store = none 15 verb.Store (lit< tt)
-none_named word none verb.Open = none 16 verb.Open (lit< tt)
-none_named word none verb.OpenStat = none 17 verb.OpenStat (lit< tt)
-none_named word none verb.Close = none 18 verb.Close (lit< tt)
-none_named word none verb.Read = none 19 verb.Read (lit< tt)
-none_named word none verb.Write = none 20 verb.Write (lit< tt)
-none_named word none verb.Pread = none 21 verb.Pread (lit< tt)
-none_named word none verb.Pwrite = none 22 verb.Pwrite (lit< tt)
-none_named word none verb.Lseek = none 23 verb.Lseek (lit< tt)
-none_named word none verb.Ftruncate = none 24 verb.Ftruncate (lit< tt)
-none_named word none verb.Fstat = none 25 verb.Fstat (lit< tt)
-none_named word none verb.Fsync = none 26 verb.Fsync (lit< tt)
-none_named word none verb.Sync = none 27 verb.Sync (lit< tt)
-none_named word none verb.Df = none 28 verb.Df (lit< tt)
-none_named word none verb.Statfs = none 29 verb.Statfs (lit< tt)
-none_named word none verb.Snap = none 30 verb.Snap (lit< tt)
-none_named word none verb.Take = none 31 verb.Take (lit< tt)
-none_named word none verb.Delete = none 32 verb.Delete (lit< tt)
-none_named word none verb.Restore = none 33 verb.Restore (lit< tt)
-none_named word none verb.In = none 34 verb.In (lit< tt)
+none_named word none verb.Set = none 16 verb.Set (lit< tt)
+none_named word none verb.Open = none 17 verb.Open (lit< tt)
+none_named word none verb.OpenStat = none 18 verb.OpenStat (lit< tt)
+none_named word none verb.Close = none 19 verb.Close (lit< tt)
+none_named word none verb.Read = none 20 verb.Read (lit< tt)
+none_named word none verb.Write = none 21 verb.Write (lit< tt)
+none_named word none verb.Pread = none 22 verb.Pread (lit< tt)
+none_named word none verb.Pwrite = none 23 verb.Pwrite (lit< tt)
+none_named word none verb.Lseek = none 24 verb.Lseek (lit< tt)
+none_named word none verb.Ftruncate = none 25 verb.Ftruncate (lit< tt)
+none_named word none verb.Fstat = none 26 verb.Fstat (lit< tt)
+none_named word none verb.Fsync = none 27 verb.Fsync (lit< tt)
+none_named word none verb.Sync = none 28 verb.Sync (lit< tt)
+none_named word none verb.Df = none 29 verb.Df (lit< tt)
+none_named word none verb.Statfs = none 30 verb.Statfs (lit< tt)
+none_named word none verb.Snap = none 31 verb.Snap (lit< tt)
+none_named word none verb.Take = none 32 verb.Take (lit< tt)
+none_named word none verb.Delete = none 33 verb.Delete (lit< tt)
+none_named word none verb.Restore = none 34 verb.Restore (lit< tt)
+none_named word none verb.In = none 35 verb.In (lit< tt)
 
 pub no_verb : (r : Option Verb) (word : List ℕ) → IfNone r (All (λ v. word ≡ verb_name v → ⊥) all_verbs) → IfNone r ((v : Verb) → word ≡ verb_name v → ⊥)
 no_verb None word none = none_named word none
@@ -71,6 +72,7 @@ named verb.RenameNew = refl
 named verb.Chmod = refl
 named verb.Truncate = refl
 named verb.Store = refl
+named verb.Set = refl
 named verb.Open = refl
 named verb.OpenStat = refl
 named verb.Close = refl

@@ -1,12 +1,12 @@
 -- The forms of the words behind a command's name: which kinds of fields stand there, and how their
 -- values are spelled.
-use Rattle.std.specs.Prelude.{ℕ, ℤ, ◌^◌, ◌<◌, ◌≤◌, List, [], ◌∷◌}
+use Rattle.std.specs.Prelude.{ℕ, ℤ, ◌^◌, ◌<◌, ◌≤◌, List, [], ◌∷◌, Option, IfSome}
 use Rattle.std.specs.Fmt.{decimal, signed_decimal}
 use Rattle.std.specs.Int.RustNames.{FitsSigned}
 use Rattle.model.specs.declared.limits.TheConstants.{MODE_BITS}
 use Rattle.model.specs.declared.command.Flags.{Flags}
 use Rattle.model.specs.declared.command.Whence.{Whence}
-use Rattle.script.specs.Words.{data_word, flags_word, mode_word, mode_words, text_word, whence_word, AreByteValues}
+use Rattle.script.specs.Words.{data_word, flags_word, given_word, mode_word, mode_words, text_word, whence_word, AreByteValues}
 use mir.Syntax.{w64}
 
 -- what a word can be
@@ -18,6 +18,8 @@ pub data Kind : Type 0 where
   mode : Kind
   flags : Kind
   whence : Kind
+  given_mode : Kind  -- or none is given
+  given_offset : Kind
 
 -- what such a word stands for
 abbrev pub Value : Kind → Type 0
@@ -28,6 +30,8 @@ Value offset = ℤ
 Value mode = ℕ
 Value flags = Flags
 Value whence = Whence
+Value given_mode = Option ℕ
+Value given_offset = Option ℤ
 
 -- the values that a field can have
 abbrev pub IsValue : (k : Kind) → Value k → Type 0
@@ -38,6 +42,8 @@ IsValue offset z = FitsSigned w64 z
 IsValue mode m = m ≤ MODE_BITS
 IsValue flags f = Unit {0}
 IsValue whence w = Unit {0}
+IsValue given_mode o = IfSome o (λ m. m ≤ MODE_BITS)
+IsValue given_offset o = IfSome o (FitsSigned w64)
 
 -- the one word of a value
 abbrev pub word_of : (k : Kind) → Value k → List ℕ
@@ -48,6 +54,8 @@ word_of offset z = signed_decimal z
 word_of mode m = mode_word m
 word_of flags f = flags_word f
 word_of whence w = whence_word w
+word_of given_mode o = given_word mode_word o
+word_of given_offset o = given_word signed_decimal o
 
 -- nothing, or a word of a kind and further words, or a last mode that may be left out where it is
 -- the default; `none` is no form

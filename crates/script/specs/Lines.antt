@@ -39,6 +39,7 @@ call_fields (call.RenameNew old new) = (verb.RenameNew, (old, (new, tt)))
 call_fields (call.Chmod path mode) = (verb.Chmod, (path, (mode, tt)))
 call_fields (call.Truncate path size) = (verb.Truncate, (path, (size, tt)))
 call_fields (call.Store path offset bytes) = (verb.Store, (path, (offset, (bytes, tt))))
+call_fields (call.Set path settings) = (verb.Set, (path, (settings.mode, (settings.size, tt))))
 
 abbrev pub call_words : PathCall → List (List ℕ)
 call_words c = verb_name (call_fields c).0 ∷ form_words (call_form (call_fields c).0) (call_fields c).1

@@ -22,6 +22,7 @@ verb_name verb.RenameNew = codes "renamenew"
 verb_name verb.Chmod = codes "chmod"
 verb_name verb.Truncate = codes "truncate"
 verb_name verb.Store = codes "store"
+verb_name verb.Set = codes "set"
 verb_name verb.Open = codes "open"
 verb_name verb.OpenStat = codes "openstat"
 verb_name verb.Close = codes "close"
@@ -60,6 +61,7 @@ is_call verb.RenameNew = true
 is_call verb.Chmod = true
 is_call verb.Truncate = true
 is_call verb.Store = true
+is_call verb.Set = true
 is_call v = false
 
 -- the fields of a call that changes the tree; a new directory has mode 0755 unless another is
@@ -75,6 +77,7 @@ change_form verb.RenameNew = field form.text (field form.text end)
 change_form verb.Chmod = field form.text (field form.mode end)
 change_form verb.Truncate = field form.text (field form.offset end)
 change_form verb.Store = field form.text (field form.offset (field form.bytes end))
+change_form verb.Set = field form.text (field form.given_mode (field form.given_offset end))
 change_form v = none
 
 -- the fields of a call that names a path

@@ -1,5 +1,5 @@
 -- How each kind of field is spelled as a word of a line.
-use Rattle.std.specs.Prelude.{◌≡◌, ℕ, ◌<◌, ◌+◌, ◌/◌, ◌%◌, ◌==◌, Bool, true, false, nat_lt, nat_le, ◌&&◌, not, List, [], ◌∷◌, ◌++◌, All, if◌then◌else◌, codes}
+use Rattle.std.specs.Prelude.{◌≡◌, ℕ, ◌<◌, ◌+◌, ◌/◌, ◌%◌, ◌==◌, Bool, true, false, nat_lt, nat_le, ◌&&◌, not, List, [], ◌∷◌, ◌++◌, All, if◌then◌else◌, codes, Option, Some, None}
 use Rattle.std.specs.Global.{Vec}
 use Rattle.std.specs.List.{flat_map, slice_split}
 use Rattle.model.specs.declared.command.Access.{Access}
@@ -73,3 +73,8 @@ abbrev pub whence_word : Whence → List ℕ
 whence_word Set = codes "set"
 whence_word Cur = codes "cur"
 whence_word End = codes "end"
+
+-- the word of a value where one is given, and '-' where none is
+abbrev pub given_word : {X : Type 0} → (X → List ℕ) → Option X → List ℕ
+given_word word None = codes "-"
+given_word word (Some x) = word x

@@ -9,7 +9,7 @@ ghost use Rattle.script.specs.Verbs.{call_form, change_form, verb_name};
 use crate::ScriptError;
 use crate::fields::{Data, End, Fields, ModeOr, Then};
 use crate::verb::Verb;
-use model::{Bytes, PathCall};
+use model::{Bytes, PathCall, Settings};
 use std::alloc::Global;
 
 /// The call that words spell.
@@ -124,6 +124,11 @@ fn read_change(alloc: Global, verb: Verb, words: &[&[u8]]) -> Result<PathCall<'s
         Verb::Store => {
             let Then(path, Then(offset, Then(Data(data), End))) = Fields::read(alloc, words)?;
             Ok(PathCall::Store { path, offset, data })
+        }
+        Verb::Set => {
+            let Then(path, Then(mode, Then(size, End))) = Fields::read(alloc, words)?;
+            let settings = Settings { mode, size };
+            Ok(PathCall::Set { path, settings })
         }
         _ => Err(ScriptError::NotACommand),
     }

@@ -8,7 +8,7 @@ ghost use Rattle.script.specs.Readings.{ReadsForm, ReadsWord};
 use crate::ScriptError;
 use crate::flags::{read_flags, read_whence};
 use crate::numbers::{read_count, read_offset};
-use crate::words::{read_data, read_mode, read_text};
+use crate::words::{NOT_GIVEN, read_data, read_mode, read_text};
 use model::{Bytes, Flags, Mode, Whence};
 use std::alloc::Global;
 
@@ -164,5 +164,31 @@ impl Word for Whence {
 
     fn read(_alloc: Global, word: &[u8]) -> Result<Whence, ScriptError> {
         read_whence(word)
+    }
+}
+
+impl Word for Option<Mode> {
+    ghost kind = { form.given_mode };
+
+    ghost value = { λ mode. mode };
+
+    fn read(_alloc: Global, word: &[u8]) -> Result<Option<Mode>, ScriptError> {
+        if word == NOT_GIVEN {
+            return Ok(None);
+        }
+        Ok(Some(read_mode(word)?))
+    }
+}
+
+impl Word for Option<i64> {
+    ghost kind = { form.given_offset };
+
+    ghost value = { λ offset. offset };
+
+    fn read(alloc: Global, word: &[u8]) -> Result<Option<i64>, ScriptError> {
+        if word == NOT_GIVEN {
+            return Ok(None);
+        }
+        Ok(Some(read_offset(alloc, word)?))
     }
 }

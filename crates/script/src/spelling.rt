@@ -10,7 +10,7 @@ ghost use Rattle.script.specs.Words.{AddsText};
 use crate::fields::{End, ModeOr, Then};
 use crate::flags::{push_flags, whence_word};
 use crate::verb::Verb;
-use crate::words::{mode_word, push_data, push_text};
+use crate::words::{NOT_GIVEN, mode_word, push_data, push_text};
 use model::{Bytes, Flags, Mode, Whence};
 use std::alloc::{AllocError, Global};
 
@@ -160,5 +160,31 @@ impl Spelled for Whence {
 
     fn push(&self, _alloc: Global, line: &mut Vec<u8>) -> Result<(), AllocError> {
         line.extend_from_slice(whence_word(*self))
+    }
+}
+
+impl Spelled for Option<Mode> {
+    ghost kind = { form.given_mode };
+
+    ghost value = { λ mode. mode };
+
+    fn push(&self, alloc: Global, line: &mut Vec<u8>) -> Result<(), AllocError> {
+        match self {
+            Some(mode) => mode.push(alloc, line),
+            None => line.extend_from_slice(NOT_GIVEN),
+        }
+    }
+}
+
+impl Spelled for Option<i64> {
+    ghost kind = { form.given_offset };
+
+    ghost value = { λ offset. offset };
+
+    fn push(&self, alloc: Global, line: &mut Vec<u8>) -> Result<(), AllocError> {
+        match self {
+            Some(offset) => offset.push(alloc, line),
+            None => line.extend_from_slice(NOT_GIVEN),
+        }
     }
 }

@@ -22,6 +22,7 @@ pub(crate) enum Verb {
     Chmod,
     Truncate,
     Store,
+    Set,
     Open,
     OpenStat,
     Close,
@@ -44,7 +45,7 @@ pub(crate) enum Verb {
 }
 
 impl Verb {
-    const ALL: [Verb; 35] = [
+    const ALL: [Verb; 36] = [
         Verb::List,
         Verb::Entries,
         Verb::Stat,
@@ -61,6 +62,7 @@ impl Verb {
         Verb::Chmod,
         Verb::Truncate,
         Verb::Store,
+        Verb::Set,
         Verb::Open,
         Verb::OpenStat,
         Verb::Close,
@@ -124,6 +126,7 @@ impl Verb {
                 | Verb::Chmod
                 | Verb::Truncate
                 | Verb::Store
+                | Verb::Set
         )
     }
 
@@ -147,6 +150,7 @@ impl Verb {
             Verb::Chmod => b"chmod",
             Verb::Truncate => b"truncate",
             Verb::Store => b"store",
+            Verb::Set => b"set",
             Verb::Open => b"open",
             Verb::OpenStat => b"openstat",
             Verb::Close => b"close",

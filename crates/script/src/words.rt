@@ -13,6 +13,9 @@ use hex::FromHexError;
 use model::{Bytes, Mode};
 use std::alloc::{AllocError, Global};
 
+/// The word that stands where no value is given.
+pub(crate) const NOT_GIVEN: &[u8] = b"-";
+
 /// The parts of a line between its spaces.
 pub(crate) fn split_words<'a>(alloc: Global, line: &'a [u8]) -> Result<Vec<&'a [u8]>, AllocError>
     ensures { IfOk result (λ words. map (λ word. word.now) words.items ≡ words_of line.now) }

@@ -160,5 +160,9 @@ fn push_call(alloc: Global, line: &mut Vec<u8>, call: &PathCall<'_>) -> Result<(
             let fields = Then(path, Then(*offset, Then(DataOf(data), End)));
             push_fields(alloc, line, Verb::Store, &fields)
         }
+        PathCall::Set { path, settings } => {
+            let fields = Then(path, Then(settings.mode, Then(settings.size, End)));
+            push_fields(alloc, line, Verb::Set, &fields)
+        }
     }
 }

@@ -41,3 +41,10 @@ returns-in-Truncate g c =
     asked_or_stays n c.args.call.now (path_calls.Truncate path c.in-Truncate.size) v table y
     (one_text c.args.call.now (λ (p : List ℕ). path_calls.Truncate p c.in-Truncate.size) c.in-Truncate.path path c.in-Truncate.is c.as_bytes-in-Truncate.ensures)
     (subst (λ (z : ℤ). ComesOrStays (truncates (tree_of v table) path z) n v table y) (to_z-of_z w64 c.in-Truncate.size (search rules)) told))
+
+pub returns-in-Set : goal.returns-in-Set
+returns-in-Set g c =
+    let path = c.as_bytes-in-Set.result.now in
+    leaves c.set.ensures (λ disk settled v table stands volume mounted y told.
+    asked_or_stays c.args.inodes.now.geometry.inodes c.args.call.now (path_calls.Set path c.in-Set.settings) v table y
+    (one_text c.args.call.now (λ (p : List ℕ). path_calls.Set p c.in-Set.settings) c.in-Set.path path c.in-Set.is c.as_bytes-in-Set.ensures) told)

@@ -35,9 +35,12 @@ returns-in_err-path-in-Truncate c = at_form change_form call_words IsPathCallInF
 pub returns-in_err-path-in-Store : goal.returns-in_err-path-in-Store
 returns-in_err-path-in-Store c = at_form change_form call_words IsPathCallInForm (λ v. verb_name v ∷ []) c.args.verb verb.Store (map (λ word. word.now) c.args.words.now) c.from_residual-in_err-path-in-Store.result c.in-Store.is (search rules)
 
+pub returns-in_err-path-in-Set : goal.returns-in_err-path-in-Set
+returns-in_err-path-in-Set c = at_form change_form call_words IsPathCallInForm (λ v. verb_name v ∷ []) c.args.verb verb.Set (map (λ word. word.now) c.args.words.now) c.from_residual-in_err-path-in-Set.result c.in-Set.is (search rules)
+
 pub returns-in_default : goal.returns-in_default
 returns-in_default c = record {
   spelled = tt;
   good = tt;
-  refused = λ _ vs _ _. not_change c.args.verb c.in_default.not-Mkdir c.in_default.not-Rmdir c.in_default.not-Unlink c.in_default.not-Link c.in_default.not-Symlink c.in_default.not-Rename c.in_default.not-RenameNew c.in_default.not-Chmod c.in_default.not-Truncate c.in_default.not-Store vs;
+  refused = λ _ vs _ _. not_change c.args.verb c.in_default.not-Mkdir c.in_default.not-Rmdir c.in_default.not-Unlink c.in_default.not-Link c.in_default.not-Symlink c.in_default.not-Rename c.in_default.not-RenameNew c.in_default.not-Chmod c.in_default.not-Truncate c.in_default.not-Store c.in_default.not-Set vs;
 }

@@ -59,3 +59,6 @@ pub returns-in-Store : goal.returns-in-Store
 returns-in-Store c =
     let f : SFits w64 c.in-Store.offset = search rules in
     pushed_at (λ z. call.Store c.in-Store.path z c.in-Store.data) _ _ _ _ _ _ c.in-Store.is (to_z-of_z w64 c.in-Store.offset f) c.push_fields-in-Store.ensures
+
+pub returns-in-Set : goal.returns-in-Set
+returns-in-Set c = pushed _ _ _ _ _ c.in-Set.is c.push_fields-in-Set.ensures
