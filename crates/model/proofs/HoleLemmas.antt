@@ -1,8 +1,8 @@
 -- What is told of a file's stored blocks and holes is told in one way.
-use Rattle.std.proofs.Common.{◌≡◌, ◌⊎◌, inl, inr, ℕ, ◌<◌, Bool, Option, Some, None, refl, sym, ◌∙◌, ap, arith}
-use Rattle.std.specs.Prelude.{not, IsTrue}
+use Rattle.std.proofs.Common.{◌≡◌, inl, inr, ℕ, ◌<◌, Bool, Option, Some, None, refl, sym, ◌∙◌, ap, arith}
+use Rattle.std.specs.Prelude.{not}
 use Rattle.std.proofs.lemmas.Bool.{cases_order, false≢true}
-use Rattle.model.specs.Holes.{CountsStored, IsFirst, FindsFirst, FindsHole, TellsExtent}
+use Rattle.model.specs.Holes.{IsFirst, FindsFirst, FindsHole, TellsExtent}
 use Rattle.model.specs.declared.reply.Extent.{Extent}
 use Rattle.model.proofs.CountLemmas.{counts_once}
 use Rattle.model.proofs.OnceLemmas.{number_apart}
