@@ -14,7 +14,8 @@ impl BlockTree {
     ghost use Rattle.blocktree.specs.Trees.{AreHoles, AreSettledHoles, AreSettledPlaces, AreSound, is_stored};
 
     /// The places of the settled blocks. Each indirect block over them that is stored is read and
-    /// tested once, and the memory that they take goes by what is stored.
+    /// tested once, and the memory that they take goes by what is stored. Damaged where a pointer or
+    /// an indirect block among these is outside the format.
     pub fn settled_places<B: Blocks>(
         &self,
         alloc: Global,

@@ -84,11 +84,13 @@ fn next_unstored(tree: &BlockTree, places: &PlaceMap, from: u32, to: u32) -> u32
 
 impl File {
     /// Counts the stored blocks of the file, and finds its next data and its next hole from an
-    /// offset on, in bytes. Bytes that stand in the inode are block 0, which is changed in memory
-    /// then and counts as stored. Each indirect block that is stored is read and tested once, and
-    /// the memory that is taken goes by what is stored of the file, however large it is: that
-    /// of the places of its settled blocks, as a plan of the file takes it. Damaged where a pointer
-    /// or an indirect block over these is outside the format.
+    /// offset on, in bytes. Bytes that stand in the inode are block 0, which memory has as a changed
+    /// one: it counts as stored.
+    ///
+    /// The places of the settled blocks are read for it, each indirect block over them once, into
+    /// memory that goes by what is stored of the file, as a plan of it takes, however large it is.
+    /// Damaged where one of these pointers or indirect blocks is outside the format, Device where a
+    /// read fails, NoMemory where there is none for the places.
     pub fn extent<B: Blocks>(
         &self,
         alloc: Global,
