@@ -1,6 +1,6 @@
 //! How many blocks of a file are stored, and where its next data and its next hole begin.
 
-ghost use Rattle.std.specs.Prelude.{◌≡◌, ℕ, ◌+◌, ◌<◌, ◌≤◌, List, OnOk, IfOk, IsTrue, IsFalse, IsErrOf};
+ghost use Rattle.std.specs.Prelude.{ℕ, ◌<◌, ◌≤◌, List, OnOk, IfOk, IsTrue, IsFalse, IsErrOf};
 ghost use Rattle.layout.specs.Version.{greatest_size};
 ghost use Rattle.layout.specs.declared.version.TheConstants.{VERSION};
 ghost use Rattle.model.specs.Holes.{CountsStored, FindsFirst, FindsHole, TellsExtent};
