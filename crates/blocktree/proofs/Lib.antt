@@ -4,3 +4,4 @@ pub mod WalkLaws
 pub mod SlotLaws
 pub mod NameLaws
 pub mod NodeLaws
+pub mod StoredLaws

@@ -1,11 +1,14 @@
 -- A file's blocks: those of its settled inode, and over them the changed ones.
-use Rattle.std.specs.Prelude.{ℕ, ◌≡◌, ◌<◌, List, nat_lt, if◌then◌else◌, Option, Some, None}
+use Rattle.std.specs.Prelude.{ℕ, ◌≡◌, ◌<◌, ◌≤◌, List, nat_lt, if◌then◌else◌, Bool, true, false, ◌&&◌, IsFalse, Option, Some, None}
 use Rattle.std.specs.Ordering.{nat_cmp}
 use Rattle.std.specs.BTreeMap as tree
 use Rattle.layout.specs.Bytes.{zeros}
 use Rattle.layout.specs.declared.pointer.Pointer.{Pointer}
+use Rattle.layout.specs.declared.pointer.Pointer.TheVariants.{Hole, Block}
 use Rattle.buffers.specs.Disks.{IsWhole}
+use Rattle.blocktree.specs.Names.{AreNodes}
 use Rattle.blocktree.specs.Places.{pointed, place, IsPath}
+use Rattle.blocktree.specs.declared.place_map.PlaceMap.{PlaceMap}
 use Rattle.blocktree.specs.declared.slot.Slot.{Slot}
 use Rattle.blocktree.specs.declared.slot.Slot.TheVariants.{AsSettled, Changed}
 use Rattle.blocktree.specs.declared.tree.Location.{Location}
@@ -99,3 +102,32 @@ abbrev pub OnDisk : Location → (ℕ → Type 0) → Type 0
 OnDisk locations.Changed P = Unit {0}
 OnDisk locations.Hole P = Unit {0}
 OnDisk (locations.Disk place) P = P place
+
+-- a pointer leads to a block
+abbrev pub is_block : Pointer → Bool
+is_block Hole = false
+is_block (Block block) = true
+
+-- whether a block is stored, with what is in memory of it over whether it is stored below
+abbrev pub is_stored_over : Option Slot → Bool → Bool
+is_stored_over (Some (Changed block)) below = true
+is_stored_over (Some AsSettled) below = below
+is_stored_over None below = below
+
+-- whether block i is stored: it is changed in memory, or the settled inode counts for it and leads
+-- to a block
+abbrev pub is_stored : (ℕ → List ℕ) → BlockTree → ℕ → Bool
+is_stored disk t i =
+    is_stored_over (tree.get nat_cmp t.slots i) (nat_lt i t.kept && is_block (place disk t.pointers t.depth i))
+
+-- no block from one index on and before another is stored
+abbrev pub AreHoles : (ℕ → List ℕ) → BlockTree → ℕ → ℕ → Type 0
+AreHoles disk t from to = (i : ℕ) → from ≤ i → i < to → IsFalse (is_stored disk t i)
+
+-- no unchanged one of them is
+abbrev pub AreSettledHoles : (ℕ → List ℕ) → BlockTree → ℕ → ℕ → Type 0
+AreSettledHoles disk t from to = (i : ℕ) → from ≤ i → i < to → (IsChanged t i → ⊥) → IsFalse (is_stored disk t i)
+
+-- these are the places of the settled blocks
+abbrev pub AreSettledPlaces : (ℕ → List ℕ) → BlockTree → PlaceMap → Type 0
+AreSettledPlaces disk t places = AreNodes disk t.pointers t.depth t.count places

@@ -5,13 +5,16 @@
 #![tactic(auto)]
 
 mod group;
+mod laws;
 mod names;
 mod nodes;
 mod place;
 mod place_map;
 mod slot;
+mod stored;
 mod tree;
 
+pub use laws::holes_are_zeros;
 pub use place_map::{PlaceMap, StoredNode};
 pub use slot::Slot;
 pub use tree::{BlockTree, Location};

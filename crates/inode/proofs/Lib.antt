@@ -7,3 +7,4 @@ pub mod BaseLaws
 pub mod HeldLaws
 pub mod GroupLaws
 pub mod RoomLaws
+pub mod ExtentLaws

@@ -16,7 +16,7 @@ use layout::{INLINE_BYTES, VERSION, greatest_size};
 use std::alloc::{AllocError, Global};
 
 /// How many blocks hold so many bytes.
-fn block_count(size: u64) -> u32
+pub(crate) fn block_count(size: u64) -> u32
     requires { size ≤ greatest_size VERSION }
     ensures { result ≡ block_count size }
 {

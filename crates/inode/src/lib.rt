@@ -6,6 +6,7 @@
 
 mod changing;
 mod error;
+mod extent;
 mod file;
 mod file_update;
 mod laws;

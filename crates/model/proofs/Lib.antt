@@ -46,4 +46,5 @@ pub mod CallLemmas
 pub mod ReplaceLemmas
 pub mod StateLemmas
 mod GenerationLemmas
+pub mod HoleLemmas
 mod ToldLemmas

@@ -22,4 +22,5 @@ pub mod Records
 pub mod Changes
 pub mod Finding
 pub mod Generations
+pub mod Holes
 pub mod Laws

@@ -39,5 +39,5 @@ pub use limits::{
     ROOT_NUMBER, SESSION_FILES, SINGLE_FILE, SNAPSHOT_NAME_BYTES, SNAPSHOTS, TRANSFER_BYTES,
 };
 pub use mode::Mode;
-pub use reply::{FileType, Reply, Stat, Usage};
+pub use reply::{Extent, FileType, Reply, Stat, Usage};
 pub use text::{Bytes, Names, Text};
