@@ -176,7 +176,7 @@ whence_word-unique End End e = refl
 
 -- '-' alone is no number
 no_number : (z : ℤ) → mag z < 2 ^ 63 → codes "-" ≡ signed_decimal z → ⊥
-no_number (pos zero) few e = cc
+no_number (pos zero) few e = let first = ap (λ (l : List ℕ). get_or l 0 0) e in omega (arith, first)
 no_number (pos (suc n)) few e = let first = first_decimal (suc n) (omega arith) (omega (arith, few)) in omega (arith, first, ap (λ (l : List ℕ). get_or l 0 0) e)
 no_number (negsuc n) few e = let some = decimal_nonempty (suc n) (omega (arith, few)) in let long = ap (length {A = ℕ}) e in omega (arith, some, long)
 
