@@ -270,10 +270,39 @@ def is_below(system, number, top):
 def chmod(system, words):
     text = text_of(words[1])
     test_text(text)
-    number = find(system, text, True).number
+    change_mode(system, find(system, text, True).number, int(words[2], 8))
+    return b'ok'
+
+
+def change_mode(system, number, mode):
+    """Gives an object a mode, also where it has it."""
     system.log(7, 2, 0)
-    system.volume[number].mode = int(words[2], 8)
+    system.volume[number].mode = mode
     system.touch(number)
+
+
+def set_given(system, words):
+    """Gives what a path leads to a mode, a size or both, by one record."""
+    text = text_of(words[1])
+    mode = None if words[2] == b'-' else int(words[2], 8)
+    size = None if words[3] == b'-' else int(words[3])
+    test_text(text)
+    if size is not None:
+        test_size(size)
+    number = find(system, text, True).number
+    thing = system.volume[number]
+    if size is not None and thing.kind == 'dir':
+        refuse('EISDIR')
+    has_size = size is None or thing.size == size
+    if mode is not None and not has_size:
+        system.log(15, 6, 16 if size > thing.size else 0)
+        thing.mode = mode
+        thing.resize(size)
+        system.touch(number)
+    elif mode is not None:
+        change_mode(system, number, mode)
+    elif not has_size:
+        resize(system, number, size)
     return b'ok'
 
 

@@ -28,7 +28,7 @@ CROWDED_WEIGHTS = dict(WEIGHTS, open=50, mkdir=30, symlink=12, rmdir=10, close=1
 FULL_WEIGHTS = dict(WEIGHTS, open=12, write=40, pwrite=30, sync=8, close=2, unlink=3, truncate=1,
                     ftruncate=1)
 # What is asked beside these where paths begin at numbers.
-NUMBERED_WEIGHTS = {'openstat': 6, 'store': 7, 'renamenew': 5, 'entries': 6, 'statfs': 3, 'lstat': 5}
+NUMBERED_WEIGHTS = {'openstat': 6, 'store': 7, 'set': 8, 'renamenew': 5, 'entries': 6, 'statfs': 3, 'lstat': 5}
 # Behind what would be a number if it were written as numbers are, or behind one that nothing has.
 ODD_STARTS = ['@', '@03', '@-1', '@3x', '@4294967296', '@4294967295', '@0', '@1', '@2', '@31', '@1000000', 'at3']
 ODD_ENDS = ['/..', '/../a', '/a/..', '/.', '/./a', '//a', '/', '/%00', '/' + 'n' * 256, '/' + 'l' * 255, '/@3', '/@4/a']
@@ -193,6 +193,10 @@ def on_path(numbers, system, name):
         return 'chmod %s %04o' % (path(numbers, system), chosen)
     if name == 'truncate':
         return 'truncate %s %d' % (path(numbers, system), size(numbers))
+    if name == 'set':
+        chosen = numbers.choice(['-', '0700', '0644', '7777', '0000'])
+        target = path(numbers, system) if numbers.random() < 0.4 else path_of_file(numbers, system)
+        return 'set %s %s %s' % (target, chosen, '-' if numbers.random() < 0.3 else size(numbers))
     if name == 'rmdir' and numbers.random() < 0.5:
         return 'rmdir ' + numbers.choice(standing_paths(system))
     return '%s %s' % (name, path(numbers, system))

@@ -37,6 +37,7 @@ COMMANDS = {
     b'renamenew': calls.rename,
     b'chmod': calls.chmod,
     b'truncate': calls.truncate,
+    b'set': calls.set_given,
     b'store': descriptors.store,
     b'sync': sync,
     b'df': free_blocks,
