@@ -1,8 +1,9 @@
 //! The map from numbers to objects, as it is read.
 
-use crate::Numbers;
+use crate::hints::ParentHints;
 use crate::past::Past;
 use crate::settled::read_inode;
+use crate::{Numbers, ParentHint};
 use buffers::{BlockError, Blocks};
 use inode::{File, Object};
 use layout::{Geometry, INODES_PER_BLOCK, Inode, Kind};
@@ -31,6 +32,7 @@ pub struct InodeFile {
     pub(crate) slots: BTreeMap<u32, ObjectSlot>,
     pub(crate) numbers: Numbers,
     pub(crate) past: Past,
+    pub(crate) hints: ParentHints,
     ghost same: { numbers.inodes ≡ geometry.inodes },
     ghost changes: { ChangesObjects geometry.inodes slots },
 }
@@ -107,6 +109,7 @@ impl InodeFile {
             slots: BTreeMap::new(alloc),
             numbers: Numbers::new(map, inodes),
             past: Past::new(alloc),
+            hints: ParentHints::new(alloc),
         }
     }
 
@@ -307,6 +310,29 @@ impl InodeFile {
         ensures length { length result.now ≡ div_ceil self.now.geometry.inodes 8 }
     {
         self.numbers.bytes()
+    }
+
+    /// Remembers that a directory stands in a parent under a name, as far as there is memory for it:
+    /// a hint, of which nothing is promised. Nothing else changes by it.
+    pub fn note_parent(&mut self, directory: u32, parent: u32, name: &[u8])
+        ensures { self.new ≡ self.old }
+    {
+        self.hints.note(directory, parent, name);
+    }
+
+    /// The same of a number of which such a hint is there; of no other one.
+    pub fn note_move(&mut self, number: u32, parent: u32, name: &[u8])
+        ensures { self.new ≡ self.old }
+    {
+        self.hints.note_move(number, parent, name);
+    }
+
+    /// Where the directory with a number may stand, if that is remembered. It needn't be true, so
+    /// look whether it is.
+    pub fn parent_hint(&mut self, directory: u32) -> Option<ParentHint>
+        ensures { self.new ≡ self.old }
+    {
+        self.hints.get(directory)
     }
 
     /// What memory has of a number: a consistency point stores the changed ones.

@@ -4,12 +4,14 @@
 #![tactic(auto)]
 
 mod changing;
+mod hints;
 mod inode_file;
 mod laws;
 mod numbers;
 mod past;
 mod settled;
 
+pub use hints::ParentHint;
 pub use inode_file::{InodeFile, ObjectSlot};
 pub use laws::{
     memory_holds_its_volume, objects_stand_in_their_grammar, unchanged_memory_is_settled,

@@ -3,7 +3,7 @@ use Rattle.std.proofs.Common.{◌≡◌, ℕ, zero, suc, Bool, not, ◌&&◌, Li
 use Rattle.std.specs.Prelude.{if◌then◌else◌}
 use Rattle.std.proofs.lemmas.Bool.{cond_both}
 use Rattle.model.specs.declared.errno.Errno.TheVariants.{ELOOP, ENOENT, ENOTDIR}
-use Rattle.model.specs.Finding.{Place, at_directory, at_entry, at_missing, at_refusal, here, WalkEnd, halts, halts_at_link, Turn, stays_on, enters, ends_at, follows, finds_nothing, finds_damage, finds_long, turn, turn_at, turn_by, find_along, find_on, find_within}
+use Rattle.model.specs.Finding.{Place, at_entry, at_missing, at_refusal, here, WalkEnd, halts, halts_at_link, Turn, stays_on, enters, ends_at, follows, finds_nothing, finds_damage, finds_long, turn, turn_at, turn_by, find_along, find_on, find_within}
 use Rattle.model.specs.Paths.{Name, parts, is_dot, is_dot_dot, is_empty, is_too_long, starts_with_slash}
 use Rattle.model.specs.Volumes.{Node, directory_node, file_node, link_node, Volume, entries}
 use Rattle.paths.specs.Ends.{TellsName}

@@ -63,7 +63,23 @@ pub(crate) fn walk_step<B: Blocks>(
         return Ok(step_to_nothing(is_last));
     };
     let found = object_at(alloc, inodes, blocks, number)?;
+    note_found(inodes, directory, part, number, found);
     Ok(step_to(number, found, is_last, follow))
+}
+
+// Remembers where a directory was found, as a hint.
+fn note_found(
+    inodes: &mut InodeFile,
+    parent: InodeNumber,
+    name: &[u8],
+    number: InodeNumber,
+    found: Found,
+)
+    ensures { inodes.new ≡ inodes.old }
+{
+    if found == Found::Directory {
+        inodes.note_parent(number.get(), parent.get(), name);
+    }
 }
 
 // The step by a part that leads to nothing.

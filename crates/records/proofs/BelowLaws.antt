@@ -1,15 +1,18 @@
 -- What lies below an object.
-use Rattle.std.proofs.Common.{◌≡◌, ◌⊎◌, inl, inr, ℕ, zero, suc, ◌+◌, ◌<◌, ◌≤◌, ◌↔◌, Bool, true, false, cond, List, [], ◌∷◌, ◌++◌, length, get_or, Option, Some, None, IfSome, IsFalse, IsTrue, fold, refl, sym, ap, subst, ◌∙◌, arith}
-use Rattle.std.proofs.Math.ListN.{replicate, set, length-set}
+use Rattle.std.proofs.Common.{◌≡◌, ◌≢◌, ◌⊎◌, inl, inr, ℕ, ◌+◌, ◌<◌, ◌≤◌, ◌↔◌, Bool, true, false, cond, List, [], ◌∷◌, ◌++◌, length, get_or, Option, Some, None, IfSome, IsFalse, IsSome, IsTrue, fold, map, refl, sym, ap, subst, ◌∙◌, arith}
+use Rattle.std.proofs.Math.ListN.{set, length-set}
 use Rattle.std.proofs.lemmas.Bool.{cases_eq, false≢true}
-use Rattle.std.proofs.lemmas.List.{get_or-set_other, get_or-set_same, length_push}
-use Rattle.std.proofs.lemmas.List.Elements.{All-head, All-replicate, All-tail, Contains-append_left, Contains-push, Contains-push_cases}
+use Rattle.std.proofs.lemmas.List.{get_or-map, get_or-set_other, get_or-set_same, length-map, length_push}
+use Rattle.std.proofs.lemmas.List.Elements.{All-contains, All-map, All-weaker, Contains-append_left, Contains-get_or, Contains-push, Contains-push_cases}
 use Rattle.std.proofs.lemmas.List.Sums.{fold-append, sum_by-set}
 use Rattle.std.specs.List.{All, Contains}
 use Rattle.model.specs.Paths.{Name, Path}
 use Rattle.model.specs.Records.{IsBelow, IsEmpty}
 use Rattle.model.specs.Volumes.{Entries, IsGraph, Volume, enter, entries, is_directory_node, is_file_node}
 use Rattle.model.specs.declared.limits.TheConstants.{ROOT_NUMBER}
+use Rattle.dirs.specs.Listings.{IsNumberedListing, listed_names}
+use Rattle.dirs.specs.declared.directory.NumberedName.{NumberedName}
+use Rattle.layout.specs.DirectoryNames.{NameMap}
 use Rattle.records.specs.Below.{IsChild, IsMarkedNumber, MarksMore, Searches, count_unmarked}
 use Rattle.records.proofs.FileLaws.{same_some}
 use Rattle.model.proofs.OptionLaws.{none_some}
@@ -67,6 +70,44 @@ module _ (v : Volume) (graph : IsGraph v) where
       let at_k = fold-append (enter e) (Some ROOT_NUMBER) from.0 p ∙ ap (λ (o : Option ℕ). fold (enter e) o p) from.1 ∙ below in
       let at_n = number_at-push e (from.0 ++ p) y ∙ ap (λ (o : Option ℕ). enter e o y) at_k ∙ there in
       longer from.0 p y (alone v graph ((from.0 ++ p) ++ y ∷ []) from.0 n at_n from.1 other)
+
+-- what is no directory has no names
+pub no_directory_empty : (v : Volume) (n : ℕ) → IsFalse (is_directory_node (v n)) → IsEmpty v n
+no_directory_empty v n not x = by (entries v n x) refl
+  where
+    by : (o : Option ℕ) → entries v n x ≡ o → entries v n x ≡ None
+    by None at = at
+    by (Some m) at = absurd (false≢true (sym not ∙ enters_directory (v n) x m at))
+
+-- ---- from parent to parent
+
+module _ (v : Volume) (graph : IsGraph v) (n : ℕ) where
+  abbrev e : Entries
+  e = entries v
+
+  -- the root lies below nothing else
+  pub below_root : IsBelow e n ROOT_NUMBER → n ≡ ROOT_NUMBER
+  below_root below =
+      closed_below e (λ j. j ≡ ROOT_NUMBER → n ≡ ROOT_NUMBER) (λ d m before child is. absurd (graph.naming.not_root d child.0 (child.1 ∙ ap (λ (j : ℕ). Some j) is))) n ROOT_NUMBER (λ is. is) below refl
+
+  -- another directory lies below an object just where its parent does
+  module _ (p k : ℕ) (directory : IsTrue (is_directory_node (v k))) (parent : IsChild e p k) where
+    abbrev StandsBelow : ℕ → Type 0
+    StandsBelow j = IsBelow e n j × (j ≡ k → n ≢ k → IsBelow e n p)
+
+    lies_below : (d m : ℕ) → StandsBelow d → IsChild e d m → StandsBelow m
+    lies_below d m was child = (
+      below_child e n d m was.0 child,
+      λ is other.
+          let there : e d child.0 ≡ Some k = child.1 ∙ ap (λ (j : ℕ). Some j) is in
+          subst (λ (j : ℕ). IsBelow e n j) (graph.naming.once d p k child.0 parent.0 there parent.1 (directory_no_file (v k) directory)).0 was.0,
+    )
+
+    pub below_parent : n ≢ k → IsBelow e n p ↔ IsBelow e n k
+    below_parent other = (
+      λ below. below_child e n p k below parent,
+      λ below. (closed_below e StandsBelow lies_below n k (below_self e n, λ is not. absurd (not is)) below).1 refl other,
+    )
 
 -- ---- marks
 
@@ -131,35 +172,64 @@ module _ (marks : List Bool) (left : List ℕ) (n : ℕ) (within : n < length ma
 
 -- ---- children
 
-pub has_more : (o : Option ℕ) (xs ys : List ℕ) → ((n : ℕ) → Contains xs n → Contains ys n) → IfSome o (Contains xs) → IfSome o (Contains ys)
-has_more None xs ys more has = tt
-has_more (Some n) xs ys more has = more n has
+-- a listing has just the numbers that names stand for
+module _ (names : NameMap) (listed : List NumberedName) (is : IsNumberedListing names listed) where
+  abbrev IsNamed : ℕ → Type 0
+  IsNamed n = (x : Name) × (names x ≡ Some n)
+
+  abbrev name : NumberedName → Name
+  name m = m.name.items
+
+  abbrev number : NumberedName → ℕ
+  number m = m.number
+
+  abbrev numbers : List ℕ
+  numbers = map number listed
+
+  all_named : All IsNamed numbers
+  all_named = All-map IsNamed number listed (All-weaker (λ m. names (name m) ≡ Some (number m)) (λ m. IsNamed (number m)) (λ m at. (name m, at)) listed is.numbers)
+
+  all_listed : All (λ x. IfSome (names x) (Contains numbers)) (listed_names listed)
+  all_listed = All-map (λ x. IfSome (names x) (Contains numbers)) name listed (λ k d within.
+      let many : k < length numbers = omega (arith, length-map listed number, within) in
+      let here = subst (Contains numbers) (get_or-map number listed k d (number d) within) (Contains-get_or numbers k (number d) many) in
+      subst (λ (o : Option ℕ). IfSome o (Contains numbers)) (sym (is.numbers k d within)) here)
+
+  pub listed_children : (n : ℕ) → Contains numbers n ↔ IsNamed n
+  listed_children n = (
+    All-contains IsNamed numbers n all_named,
+    λ child.
+        let there = (is.listing.whole child.0).1 (subst (λ (o : Option ℕ). IsSome o) (sym child.1) refl) in
+        subst (λ (o : Option ℕ). IfSome o (Contains numbers)) child.1 (All-contains (λ x. IfSome (names x) (Contains numbers)) (listed_names listed) child.0 all_listed there),
+  )
 
 -- ---- a search
 
 nothing : {X : Type 0} {n : ℕ} → Contains [] n → X
 nothing is = absurd (omega (arith, is.1))
 
-all_false : (marks : List Bool) → All (λ mark. mark ≡ false) marks → (n : ℕ) → get_or marks n false ≡ false
-all_false [] all n = refl
-all_false (x ∷ xs) all zero = All-head (λ mark. mark ≡ false) x xs all
-all_false (x ∷ xs) all (suc n) = all_false xs (All-tail (λ mark. mark ≡ false) x xs all) n
+-- an object without children has no names
+pub childless : (v : Volume) (n : ℕ) (children : List ℕ) → children ≡ [] → ((k : ℕ) → Contains children k ↔ IsChild (entries v) n k) → IsEmpty v n
+childless v n children none are x = by (entries v n x) refl
+  where
+    by : (o : Option ℕ) → entries v n x ≡ o → entries v n x ≡ None
+    by None at = at
+    by (Some m) at = nothing (subst (λ (xs : List ℕ). Contains xs m) none ((are m).1 (x, at)))
 
--- where no mark is set, no number is marked
-pub unmarked : (count n : ℕ) → IsMarkedNumber (replicate count false) n → ⊥
-unmarked count n is = false≢true (sym (all_false (replicate count false) (All-replicate (λ mark. mark ≡ false) count false refl) n) ∙ is)
-
--- an object that is marked, and nothing else
-pub searched_first : (e : Entries) (top : ℕ) (none marks : List Bool) (empty left : List ℕ) → ((n : ℕ) → IsMarkedNumber none n → ⊥) → empty ≡ []
-    → MarksMore none marks empty left → IsMarkedNumber marks top → ((n : ℕ) → IsMarkedNumber marks n → IsMarkedNumber none n ⊎ (n ≡ top)) → Searches e top marks left
-searched_first e top none marks empty left none_yet is_empty marking marked only = record {
-  itself = marked;
+-- an object is marked, and then its children
+pub searched_first : (e : Entries) (top : ℕ) (marks after : List Bool) (empty left children : List ℕ) → ((n : ℕ) → IsMarkedNumber marks n ↔ (n ≡ top)) → ((n : ℕ) → Contains children n ↔ IsChild e top n) → empty ≡ []
+    → MarksMore marks after empty left → ((n : ℕ) → Contains children n → IsMarkedNumber after n) → ((n : ℕ) → IsMarkedNumber after n → IsMarkedNumber marks n ⊎ Contains children n) → Searches e top after left
+searched_first e top marks after empty left children one are is_empty marking all only = record {
+  itself = marking.kept top ((one top).1 refl);
   below = λ n is. elim (only n is) [
-    | inl before ↦ absurd (none_yet n before)
-    | inr same ↦ subst (λ (k : ℕ). IsBelow e top k) (sym same) (below_self e top)
+    | inl before ↦ subst (λ (k : ℕ). IsBelow e top k) (sym ((one n).0 before)) (below_self e top)
+    | inr child ↦ below_child e top top n (below_self e top) ((are n).0 child)
   ];
   marked = marking.marked (λ n is. nothing (subst (λ (xs : List ℕ). Contains xs n) is_empty is));
-  closed = λ d n is child. elim (marking.fresh d is) [ inl before ↦ absurd (none_yet d before) | inr waits ↦ inr waits ];
+  closed = λ d n is child. elim (marking.fresh d is) [
+    | inl before ↦ inl (all n ((are n).1 (subst (λ (k : ℕ). IsChild e k n) ((one d).0 before) child)))
+    | inr waits ↦ inr waits
+  ];
 }
 
 module _ (e : Entries) (top here : ℕ) (marks after : List Bool) (left rest more : List ℕ) (children : List ℕ) where

@@ -74,8 +74,9 @@ pub(crate) fn prepare_rename<'n, B: Blocks>(
 }
 
 /// Whether what a directory has a name for would come below itself in another one. In the same one
-/// it can't, so nothing is looked into then; in another one all that lies below the object may be.
-/// NoMemory; Device where a read failed; Damaged where a block on the way is outside its format.
+/// it can't, so nothing is looked into then. Else the directories above the new one are, where it is
+/// remembered how it was reached; if not, all that lies below the object. NoMemory; Device where a
+/// read failed; Damaged where a block on the way is outside its format.
 pub fn goes_below<B: Blocks>(
     alloc: Global,
     inodes: &mut InodeFile,

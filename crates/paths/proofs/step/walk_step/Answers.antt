@@ -27,7 +27,7 @@ returns-in_err-found g c =
     then_fails c.from_residual-in_err-found.result c.from_residual-in_err-found.ensures.1 (has_looked c.in_ok-number.ensures.looks c.number_at.ensures.loads) (looked_into c.in_err-found.ensures)
 
 pub returns : goal.returns
-returns g c = then_finds (has_looked c.in_ok-number.ensures.looks c.number_at.ensures.loads) (looked_into c.in_ok-found.ensures)
+returns g c = rw c.note_found.ensures (then_finds (has_looked c.in_ok-number.ensures.looks c.number_at.ensures.loads) (looked_into c.in_ok-found.ensures)
     (c.step_to.ensures.within c.args.inodes.now.geometry.inodes (subst (λ o. IfSome o (IsInodeNumber c.args.inodes.now.geometry.inodes)) c.in-Some.is c.in_ok-number.ensures.within))
     (λ disk settled v stands trail rest at last.
     let part = c.args.part.now in
@@ -38,4 +38,4 @@ returns g c = then_finds (has_looked c.in_ok-number.ensures.looks c.number_at.en
     let short : is_too_long part ≡ false = search (rules, tests) in
     let some : entries v (here trail) part ≡ Some n = ap (λ d. entries v d part) at ∙ sym (c.in_ok-number.ensures.found disk settled v stands) ∙ c.in-Some.is in
     c.step_to.ensures.step v trail part rest (c.in_ok-found.ensures.found disk settled v now) last
-    ∙ turned_to v c.args.follow trail part rest here_not up_not short n some)
+    ∙ turned_to v c.args.follow trail part rest here_not up_not short n some))

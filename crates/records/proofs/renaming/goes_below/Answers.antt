@@ -18,4 +18,4 @@ returns-then-is_same-clause-below g c = λ detail name disk settled v stands kno
 )
 
 pub returns-clause-below : goal.returns-clause-below
-returns-clause-below g c = λ detail name disk settled v stands known there. c.is_below.ensures.below detail disk settled v stands
+returns-clause-below g c = λ detail name disk settled v stands known there. c.is_below.ensures.below detail disk settled v stands known
