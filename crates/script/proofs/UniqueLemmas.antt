@@ -1,8 +1,8 @@
 -- A command has one spelling.
 use Rattle.std.proofs.Common.{◌≡◌, ℕ, ℤ, pos, negsuc, zero, suc, ◌<◌, ◌^◌, get_or, length, Option, Some, None, ◌+◌, ◌/◌, ◌%◌, ◌==◌, ◌||◌, Bool, true, false, cond, eqb, List, [], ◌∷◌, ◌++◌, Result, Ok, Err, ◌⊎◌, inl, inr, codes, arith, refl, sym, ◌∙◌, ap, subst}
 use Rattle.std.specs.List.{list_any}
-use Rattle.std.proofs.lemmas.Fmt.{decimal_injective, decimal_nonempty, first_decimal, signed_decimal_injective}
-use Rattle.std.specs.Fmt.{signed_decimal}
+use Rattle.std.proofs.lemmas.Fmt.{decimal_digit, decimal_injective, decimal_nonempty, first_decimal, signed_decimal_injective}
+use Rattle.std.specs.Fmt.{decimal, signed_decimal}
 use lib.Signed.{mag}
 use Rattle.hex.specs.Hex.{decode_of, encode_lower}
 use Rattle.hex.specs.declared.error.FromHexError.TheVariants.{OddLength}
@@ -176,7 +176,7 @@ whence_word-unique End End e = refl
 
 -- '-' alone is no number
 no_number : (z : ℤ) → mag z < 2 ^ 63 → codes "-" ≡ signed_decimal z → ⊥
-no_number (pos zero) few e = let first = ap (λ (l : List ℕ). get_or l 0 0) e in omega (arith, first)
+no_number (pos zero) few e = let one : decimal 0 ≡ 48 ∷ [] = decimal_digit 0 (omega arith) in let first = ap (λ (l : List ℕ). get_or l 0 0) (e ∙ one) in omega (arith, first)
 no_number (pos (suc n)) few e = let first = first_decimal (suc n) (omega arith) (omega (arith, few)) in omega (arith, first, ap (λ (l : List ℕ). get_or l 0 0) e)
 no_number (negsuc n) few e = let some = decimal_nonempty (suc n) (omega (arith, few)) in let long = ap (length {A = ℕ}) e in omega (arith, some, long)
 
