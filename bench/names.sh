@@ -2,8 +2,9 @@
 # Looks up 10,000 directories by their paths, by a name behind their parent's number, and by their own numbers, and then moves each of
 # them into another directory under another name, with a sync every 1,000, on an image of 16,384 blocks. Tells seconds, writes and peak
 # memory of each; beside it the same through debugfs and on rows of SQLite, where these are installed. Then it moves one directory 200
-# times into another one and back: an empty one, and one with 20,000 files below it, which must cost the same. These 20,000 names it tells
-# at once (`list`), and in parts of 1,000 and of 100 (`entries`; the parts' cookies need python3).
+# times into another one and back, by paths from the root and by its parents' numbers: an empty one, and one with 20,000 files below it,
+# which must cost the same. These 20,000 names it tells at once (`list`), and in parts of 1,000 and of 100 (`entries`; the parts' cookies
+# need python3).
 #
 #   sh bench/names.sh [1|10]         the 10,000 stand in one directory, or (without a word) 1,000 each in ten
 #
@@ -32,10 +33,13 @@ commands() {
     }'
 }
 
-# moves NAME : moves the directory of this name from /here to /there, and back, 100 times.
+# moves HERE THERE NAME : moves the directory of this name from HERE to THERE, and back, 100 times.
 moves() {
-    awk -v name="$1" 'BEGIN {
-        for (i = 0; i < 100; i++) printf "rename /here/%s /there/%s\nrename /there/%s /here/%s\n", name, name, name, name
+    awk -v here="$1" -v there="$2" -v name="$3" 'BEGIN {
+        for (i = 0; i < 100; i++) {
+            printf "rename %s/%s %s/%s\n", here, name, there, name
+            printf "rename %s/%s %s/%s\n", there, name, here, name
+        }
     }'
 }
 
@@ -82,8 +86,12 @@ awk 'BEGIN {
     for (n = 0; n < 20000; n++) printf "open /here/full/n%05d wc\nclose 0\n", n
     print "sync"
 }' > below.script
-moves empty > empty.script
-moves full > full.script
+moves /here /there empty > empty.script
+moves /here /there full > full.script
+# /here is number 4, and /there 5. A server looked each directory up before it names it by its number.
+for name in empty full; do
+    { echo 'lstat @3/here'; echo 'lstat @3/there'; moves @4 @5 "$name"; } > "$name.numbered.script"
+done
 "$wafl" make disk nvram --blocks 16384 --inodes 32768 --half 131072
 "$wafl" run disk nvram below.script > replies; refused '^(ok|fd 0)$'
 keep
@@ -93,6 +101,11 @@ restore
 measure 'wafl full' "$wafl" run disk nvram full.script
 refused '^ok$'
 restore
+for name in empty full; do
+    measure "wafl $name by numbers" "$wafl" run disk nvram "$name.numbered.script"
+    refused '^(ok|stat number [45] kind dir .*)$'
+    restore
+done
 echo 'list /here/full' > list.script
 measure 'wafl list' "$wafl" run disk nvram list.script
 refused '^names n00000 '

@@ -4,7 +4,7 @@ use std::alloc::{AllocError, Global};
 
 /// The calls that name a path, with their fields in capitals; one that may be left out stands in
 /// brackets.
-const CALLS: [&str; 16] = [
+const CALLS: [&str; 17] = [
     "list PATH",
     "entries PATH COOKIE COUNT",
     "stat PATH",
@@ -20,6 +20,7 @@ const CALLS: [&str; 16] = [
     "renamenew PATH NEW",
     "chmod PATH MODE",
     "truncate PATH SIZE",
+    "set PATH MODE SIZE",
     "store PATH OFFSET DATA",
 ];
 

@@ -42,6 +42,7 @@ pub const COMMAND_NOTES: &str = "Commands, one a line, with an example of each:
   renamenew PATH NEW          the same, where nothing has that name: renamenew /f /d/f
   chmod PATH MODE             changes the mode: chmod /f 0600
   truncate PATH SIZE          gives a file another size: truncate /f 100
+  set PATH MODE SIZE          gives a file both by one write, - leaves one as it is: set /f 0600 9
   store PATH OFFSET DATA      puts bytes in a file: store /f 4 64
   open PATH FLAGS [MODE]      opens a file and tells its descriptor: open /f rwc 0600
   openstat PATH FLAGS [MODE]  the same, and what fstat tells then: openstat /f r
