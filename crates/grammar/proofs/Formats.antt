@@ -3,8 +3,8 @@ use Rattle.std.proofs.Common.{◌≡◌, ℕ, zero, suc, ◌+◌, ◌-◌, ◌*�
 use Rattle.std.proofs.lemmas.Bool.{cases_lt, ltb-false, le-ltb, le-leb, leb-true, eqb-true, and_parts}
 use Rattle.std.proofs.lemmas.List.{get_or_append_left, get_or_past, take_at, drop_at, take-append-drop, length-append, length-take, get_or-drop, append-nil, nil_from_length}
 use Rattle.grammar.specs.Bytes.{little, number, zeros, IsBytes}
-use Rattle.grammar.specs.Format.{Format, num, ranged, part, blank, counted, padded, ◌▸◌}
-use Rattle.grammar.specs.Reading.{◌>>=◌, number_read, ranged_at, part_at, is_zero, zeros_at, counted_at, padded_at, then_at, all_of}
+use Rattle.grammar.specs.Format.{Format, num, ranged, part, blank, counted, padded, nothing, counting, ◌▸◌}
+use Rattle.grammar.specs.Reading.{◌>>=◌, number_read, ranged_at, part_at, is_zero, zeros_at, counted_at, padded_at, counting_at, then_at, all_of}
 use Rattle.grammar.proofs.NumberLaws.{length-little, number-spelled, number-little, number-lt}
 use Rattle.grammar.proofs.ZeroLaws.{length-zeros}
 
@@ -131,6 +131,26 @@ then_exact {A} {B} {f} {g} first second = record {
   again = λ v rest fits.
       let regrouped : (f.text v.0 ++ g.text v.1) ++ rest ≡ f.text v.0 ++ (g.text v.1 ++ rest) = append_assoc (f.text v.0) (g.text v.1) rest in
       ap (then_at f.at g.at) regrouped ∙ rw (first.again v.0 (g.text v.1 ++ rest) fits.0, second.again v.1 rest fits.1) refl;
+}
+
+pub nothing_exact : IsExact nothing
+nothing_exact = record {
+  takes = λ bytes x fits e. (subst (λ (y : Unit {0} × List ℕ). Takes bytes [] y.1) (some_is (tt, bytes) x e) (record { parts = refl; rest_fits = fits }), tt);
+  again = λ v rest fits. refl;
+}
+
+pub counting_exact : {A : Type 0} {f : Format A} → IsExact f → (count : A → ℕ) → IsExact (counting f count)
+counting_exact {A} {f} exact count = record {
+  takes = λ bytes x fits e.
+      let a = bind_some (f.at bytes) (λ y. part_at (count y.0) y.1 >>= λ z. Some ((y.0, z.0), z.1)) x e in
+      let b = bind_some (part_at (count a.0.0) a.0.1) (λ z. Some ((a.0.0, z.0), z.1)) x a.2 in
+      let one = exact.takes bytes a.0 fits a.1 in
+      let two = (part_exact (count a.0.0)).takes a.0.1 b.0 one.0.rest_fits b.1 in
+      let both = Takes-then bytes (f.text a.0.0) a.0.1 b.0.0 b.0.1 one.0 two.0 in
+      subst (λ (y : (A × List ℕ) × List ℕ). Takes bytes (f.text y.0.0 ++ y.0.1) y.1 × (f.Fits y.0.0 × (length y.0.1 ≡ count y.0.0))) (some_is ((a.0.0, b.0.0), b.0.1) x b.2) (both, (one.1, two.1));
+  again = λ v rest fits.
+      let regrouped : (f.text v.0 ++ v.1) ++ rest ≡ f.text v.0 ++ (v.1 ++ rest) = append_assoc (f.text v.0) v.1 rest in
+      ap (counting_at f.at count) regrouped ∙ rw (exact.again v.0 (v.1 ++ rest) fits.0, (part_exact (count v.0)).again v.1 rest fits.1) refl;
 }
 
 pub padded_exact : (n : ℕ) → n < 256 → IsExact (padded n)

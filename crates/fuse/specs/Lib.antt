@@ -1,0 +1,5 @@
+pub mod Names
+pub mod Head
+pub mod Operation
+pub mod Bodies
+pub mod Request

@@ -1,0 +1,14 @@
+//! The requests and replies of the kernel's protocol for file systems in user space (FUSE, version
+//! 7.31), as bytes: `include/uapi/linux/fuse.h` of the kernel. Nothing here knows a file system or a
+//! device. All numbers are little-endian.
+#![tactic(auto)]
+
+mod head;
+mod name;
+mod opcode;
+mod operation;
+mod request;
+
+pub use head::Head;
+pub use operation::Operation;
+pub use request::{Request, read_request};
