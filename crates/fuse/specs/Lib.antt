@@ -1,5 +1,9 @@
 pub mod Names
 pub mod Head
+pub mod Flags
+pub mod Forgets
+pub mod AttributeChanges
 pub mod Operation
 pub mod Bodies
+pub mod Transfers
 pub mod Request

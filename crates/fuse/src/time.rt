@@ -1,0 +1,10 @@
+//! Times.
+
+/// A moment: seconds since 1970 began, and nanoseconds behind them. The protocol's field of seconds
+/// is unsigned; the kernel takes it as a signed number of 64 bits.
+#[derive(Clone, Copy, Debug)]
+pub struct Time {
+    pub seconds: u64,
+    /// Below 1,000,000,000.
+    pub nanoseconds: u32,
+}
