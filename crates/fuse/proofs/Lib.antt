@@ -1,3 +1,5 @@
 mod NameLaws
 mod BodyLaws
 mod RequestLaws
+mod ReplyLaws
+mod DirectoryLaws

@@ -1,5 +1,6 @@
 pub mod Names
 pub mod Head
+pub mod Attributes
 pub mod Flags
 pub mod Forgets
 pub mod AttributeChanges
@@ -7,3 +8,5 @@ pub mod Operation
 pub mod Bodies
 pub mod Transfers
 pub mod Request
+pub mod Replies
+pub mod Directory

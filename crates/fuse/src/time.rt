@@ -8,3 +8,11 @@ pub struct Time {
     /// Below 1,000,000,000.
     pub nanoseconds: u32,
 }
+
+/// How long the kernel may keep what it was told.
+#[derive(Clone, Copy, Debug)]
+pub struct Timeout {
+    pub seconds: u64,
+    /// Below 1,000,000,000.
+    pub nanoseconds: u32,
+}

@@ -27,6 +27,11 @@ writes_both {a} {b} {c} {front} {piece} {old} {mid} {new} first second =
       bytes_are = second.bytes_are ∙ rw (before, behind) (append_assoc (take a old) front (piece ++ drop c old) ∙ ap (λ (r : List ℕ). take a old ++ r) (sym (append_assoc front piece (drop c old))));
     }
 
+-- one part behind the other, and the next behind both
+infixl 10 ◌⨾◌
+pub ◌⨾◌ : {a b c : ℕ} {front piece old mid new : List ℕ} → Writes a b front old mid → Writes b c piece mid new → Writes a c (front ++ piece) old new
+first ⨾ second = writes_both first second
+
 -- a part that was given these bytes
 pub mid_written : (at to : ℕ) (old bytes : List ℕ) → at + length bytes ≡ to → to ≤ length old → Writes at to bytes old (put_mid at (to - at) old bytes)
 mid_written at to old bytes len within =
