@@ -1,4 +1,5 @@
--- What a request asks to change of an object's attributes: three groups of fields, and what they ask.
+-- What a request asks to change of an object's attributes: three groups of fields, and what they
+-- ask.
 use Rattle.std.specs.Prelude.{ℕ, if◌then◌else◌}
 use Rattle.grammar.specs.Format.{Format, num, ◌▸◌}
 use Rattle.fuse.specs.Flags.{is_set, given}
@@ -36,7 +37,16 @@ abbrev pub targets_of : Targets → TargetsFields
 targets_of t = (t.valid, (t.padding, (t.handle, (t.size, t.lock_owner))))
 
 abbrev pub times_of : Times → TimesFields
-times_of t = (t.atime.seconds, (t.mtime.seconds, (t.ctime.seconds, (t.atime.nanoseconds, (t.mtime.nanoseconds, t.ctime.nanoseconds)))))
+times_of t = (
+  t.atime.seconds,
+  (
+    t.mtime.seconds,
+    (
+      t.ctime.seconds,
+      (t.atime.nanoseconds, (t.mtime.nanoseconds, t.ctime.nanoseconds)),
+    ),
+  ),
+)
 
 abbrev pub rights_of : Rights → RightsFields
 rights_of r = (r.mode, (r.unused, (r.uid, (r.gid, r.last_unused))))
@@ -50,7 +60,9 @@ moment_in valid now at = if is_set valid now then Now else At at
 
 -- what the fields ask
 unfoldable pub changes_of : TargetsFields → TimesFields → RightsFields → AttributeChanges
-changes_of (valid, (padding, (handle, (size, lock_owner)))) (atime, (mtime, (ctime, (atime_n, (mtime_n, ctime_n))))) (mode, (unused, (uid, (gid, last_unused)))) =
+changes_of (valid, (padding, (handle, (size, lock_owner))))
+    (atime, (mtime, (ctime, (atime_n, (mtime_n, ctime_n)))))
+    (mode, (unused, (uid, (gid, last_unused)))) =
     record {
       mode = given valid FATTR_MODE mode;
       uid = given valid FATTR_UID uid;

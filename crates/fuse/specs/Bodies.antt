@@ -1,5 +1,7 @@
--- What stands behind a request's head: the fields of each opcode, in their order, and what they ask.
--- The numbers that pad, and those that only a lock is for, may be any; no operation has them.
+-- What stands behind a request's head: the fields of each opcode, in their order, and what they
+-- ask. A field that an operation leaves out may have any value, and a bit of flags that no operation
+-- tells of may be set or not: what pads and what a lock is for, which a kernel fills as it likes, and
+-- flags that tell a file system nothing. So several bodies may ask the same.
 use Rattle.std.specs.Prelude.{ℕ, ◌*◌, List, ◌==◌}
 use Rattle.grammar.specs.Format.{Format, num, nothing, counting, ◌▸◌}
 use Rattle.grammar.specs.Grammar.{Grammar, saying, saying_first, choose}
@@ -29,13 +31,15 @@ abbrev pub get_attributes_fields : Format (ℕ × (ℕ × ℕ))
 get_attributes_fields = num 4 ▸ num 4 ▸ num 8
 
 unfoldable pub get_attributes_body : Grammar OperationValue
-get_attributes_body = saying get_attributes_fields (λ v. get_attributes (given v.0 GETATTR_FH v.1.1))
+get_attributes_body =
+    saying get_attributes_fields (λ v. get_attributes (given v.0 GETATTR_FH v.1.1))
 
 abbrev pub set_attributes_fields : Format (TargetsFields × (TimesFields × RightsFields))
 set_attributes_fields = targets_fields ▸ times_fields ▸ rights_fields
 
 unfoldable pub set_attributes_body : Grammar OperationValue
-set_attributes_body = saying set_attributes_fields (λ v. set_attributes (changes_of v.0 v.1.0 v.1.1))
+set_attributes_body =
+    saying set_attributes_fields (λ v. set_attributes (changes_of v.0 v.1.0 v.1.1))
 
 unfoldable pub read_link_body : Grammar OperationValue
 read_link_body = saying nothing (λ v. read_link)

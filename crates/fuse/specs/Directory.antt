@@ -33,7 +33,8 @@ padding count = (8 - count % 8) % 8
 
 -- what stands in front of the name
 unfoldable pub listed_head_text : ListedValue → List ℕ
-listed_head_text l = little 8 l.inode ++ little 8 l.offset ++ little 4 (length l.name) ++ little 4 (code_of l.kind)
+listed_head_text l =
+    little 8 l.inode ++ little 8 l.offset ++ little 4 (length l.name) ++ little 4 (code_of l.kind)
 
 unfoldable pub listed_text : ListedValue → List ℕ
 listed_text l = listed_head_text l ++ l.name ++ zeros (padding (length l.name))

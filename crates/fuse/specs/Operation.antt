@@ -50,11 +50,14 @@ operation_of (asked.MakeNode name mode device umask) = make_node name.now mode d
 operation_of (asked.MakeDirectory name mode umask) = make_directory name.now mode umask
 operation_of (asked.Unlink name) = unlink name.now
 operation_of (asked.RemoveDirectory name) = remove_directory name.now
-operation_of (asked.Rename name new_parent new_name flags) = rename name.now new_parent new_name.now flags
+operation_of (asked.Rename name new_parent new_name flags) =
+    rename name.now new_parent new_name.now flags
 operation_of (asked.Link name node) = link name.now node
 operation_of (asked.Open flags open_flags) = open_file flags open_flags
-operation_of (asked.Read handle offset size read_flags flags) = read handle offset size read_flags flags
-operation_of (asked.Write handle offset bytes write_flags flags) = write handle offset bytes.now write_flags flags
+operation_of (asked.Read handle offset size read_flags flags) =
+    read handle offset size read_flags flags
+operation_of (asked.Write handle offset bytes write_flags flags) =
+    write handle offset bytes.now write_flags flags
 operation_of asked.StatFileSystem = stat_file_system
 operation_of (asked.Release handle flags release_flags) = release handle flags release_flags
 operation_of (asked.Sync handle data_only) = sync handle data_only
@@ -66,7 +69,8 @@ operation_of (asked.ReadDirectoryPlus handle offset size) = read_directory_plus 
 operation_of (asked.ReleaseDirectory handle) = release_directory handle
 operation_of (asked.SyncDirectory handle data_only) = sync_directory handle data_only
 operation_of (asked.Access mask) = access mask
-operation_of (asked.Create name mode umask flags open_flags) = create name.now mode umask flags open_flags
+operation_of (asked.Create name mode umask flags open_flags) =
+    create name.now mode umask flags open_flags
 operation_of (asked.Interrupt unique) = interrupt unique
 operation_of (asked.Seek handle offset whence) = seek handle offset whence
 operation_of asked.Destroy = destroy

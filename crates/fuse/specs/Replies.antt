@@ -32,7 +32,8 @@ offset_text offset = little 8 offset
 
 -- how long the attributes stay, four bytes of padding, and the attributes
 unfoldable pub attributes_reply_text : Timeout → Attributes → List ℕ
-attributes_reply_text stay told = little 8 stay.seconds ++ little 4 stay.nanoseconds ++ little 4 0 ++ attributes_text told
+attributes_reply_text stay told =
+    little 8 stay.seconds ++ little 4 stay.nanoseconds ++ little 4 0 ++ attributes_text told
 
 -- an entry of node 0: nothing has the name, and that stays so long
 unfoldable pub no_entry_text : Timeout → List ℕ

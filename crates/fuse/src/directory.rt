@@ -103,14 +103,14 @@ fn append_listed_plus(
 }
 
 // Whether a listing that may have `size` bytes has room for so many more.
-fn has_room(listing: &Vec<u8>, size: usize, count: usize) -> bool
-    ensures { IsTrue result ↔ (length listing.now.items + count ≤ size) }
+fn has_room(listing: &[u8], size: usize, count: usize) -> bool
+    ensures { IsTrue result ↔ (length listing.now + count ≤ size) }
 {
     count <= size && listing.len() <= size - count
 }
 
 /// Appends an entry to a listing that may have `size` bytes, and answers whether it did: false where
-/// the listing would have more.
+/// the listing would have more. Where memory runs out nothing is appended.
 pub fn list_entry(
     listing: &mut Vec<u8>,
     size: usize,
@@ -142,7 +142,8 @@ pub fn list_entry_plus(
 ) -> Result<bool, AllocError>
     requires { length listed.now.name.now ≤ LISTED_NAME_BYTES }
     ensures fits { IfOk result (λ fits. IsTrue fits
-        ↔ (length listing.old.items + length (listed_plus_text entry.now (listed_of listed.now)) ≤ size)) }
+        ↔ (length listing.old.items
+        + length (listed_plus_text entry.now (listed_of listed.now)) ≤ size)) }
     ensures ok { IfOk result (λ fits. listing.new.items ≡ (if fits
         then listing.old.items ++ listed_plus_text entry.now (listed_of listed.now)
         else listing.old.items)) }

@@ -12,7 +12,8 @@ use std::alloc::AllocError;
 
 /// Writes the reply that tells what a name leads to.
 pub fn write_entry(out: &mut Vec<u8>, unique: u64, entry: &Entry) -> Result<(), AllocError>
-    ensures ok { OnOk result (out.new.items ≡ out.old.items ++ reply_text unique (entry_text entry.now)) }
+    ensures ok { OnOk result (out.new.items
+        ≡ out.old.items ++ reply_text unique (entry_text entry.now)) }
     ensures err { OnErr result (out.new.items ≡ out.old.items) }
 {
     write_bytes(out, unique, &entry_bytes(entry))
@@ -34,7 +35,8 @@ fn no_entry_bytes(stays: Timeout) -> [u8; 128]
 
 /// Writes the reply that nothing has the name, which the kernel may keep so long.
 pub fn write_no_entry(out: &mut Vec<u8>, unique: u64, stays: Timeout) -> Result<(), AllocError>
-    ensures ok { OnOk result (out.new.items ≡ out.old.items ++ reply_text unique (no_entry_text stays)) }
+    ensures ok { OnOk result (out.new.items
+        ≡ out.old.items ++ reply_text unique (no_entry_text stays)) }
     ensures err { OnErr result (out.new.items ≡ out.old.items) }
 {
     write_bytes(out, unique, &no_entry_bytes(stays))

@@ -24,8 +24,9 @@ pub struct Head {
 }
 
 /// The head that the bytes begin with, its last four bytes, which nobody looks at, and the bytes
-/// behind it; None where they are too few.
-pub(crate) fn read_head(bytes: &[u8]) -> Option<(Head, u32, &[u8])>
+/// behind it; None where they are too few. Where `read_request` finds no request, its head still
+/// says what to answer.
+pub fn read_head(bytes: &[u8]) -> Option<(Head, u32, &[u8])>
     ensures { option_map (λ x. (fields_of x.0 x.1, x.2.now)) result ≡ head.at bytes.now }
 {
     let (length, bytes) = u32_at(bytes)?;

@@ -71,7 +71,8 @@ fn init_bytes(reply: &InitReply) -> [u8; 64]
 
 /// Writes the reply to the first request.
 pub fn write_init(out: &mut Vec<u8>, unique: u64, reply: &InitReply) -> Result<(), AllocError>
-    ensures ok { OnOk result (out.new.items ≡ out.old.items ++ reply_text unique (init_text reply.now)) }
+    ensures ok { OnOk result (out.new.items
+        ≡ out.old.items ++ reply_text unique (init_text reply.now)) }
     ensures err { OnErr result (out.new.items ≡ out.old.items) }
 {
     write_bytes(out, unique, &init_bytes(reply))

@@ -1,6 +1,6 @@
 //! The requests and replies of the kernel's protocol for file systems in user space (FUSE, version
-//! 7.31), as bytes: `include/uapi/linux/fuse.h` of the kernel. Nothing here knows a file system or a
-//! device. All numbers are little-endian.
+//! 7.31), as bytes. The source is `include/uapi/linux/fuse.h` of the kernel. Nothing here knows a
+//! file system or a device. All numbers are little-endian.
 #![tactic(auto)]
 
 mod attribute_changes;
@@ -29,12 +29,13 @@ pub use directory::{
 };
 pub use entry_reply::{write_attributes, write_entry, write_no_entry};
 pub use forgets::{Forget, Forgets};
-pub use head::Head;
+pub use head::{Head, read_head};
 pub use init_reply::{
     ASYNC_DIO, ASYNC_READ, ATOMIC_O_TRUNC, BIG_WRITES, CACHE_SYMLINKS, DO_READDIRPLUS,
     HANDLE_KILLPRIV_V2, InitReply, MAJOR_VERSION, MAX_PAGES, MINOR_VERSION, PARALLEL_DIROPS,
     READDIRPLUS_AUTO, write_init,
 };
+pub use opcode::{OPEN_KILL_SUIDGID, WRITE_KILL_SUIDGID};
 pub use open_reply::{
     FOPEN_CACHE_DIR, FOPEN_DIRECT_IO, FOPEN_KEEP_CACHE, OpenReply, write_created, write_open,
 };

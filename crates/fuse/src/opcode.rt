@@ -70,6 +70,12 @@ pub const GETATTR_FH: u32 = 1;
 /// In the flags of `FSYNC` and `FSYNCDIR`: the bytes alone, and not what is told of the file.
 pub const FSYNC_FDATASYNC: u32 = 1;
 
+/// In the protocol's own flags of `OPEN` and `CREATE`: the set-user bit goes, and the set-group bit
+/// of what the group may execute.
+pub const OPEN_KILL_SUIDGID: u32 = 1;
+/// The same in those of `WRITE`.
+pub const WRITE_KILL_SUIDGID: u32 = 1 << 2;
+
 /// In `valid` of `SETATTR`: the mode is given, and so on for each that may be.
 pub const FATTR_MODE: u32 = 1;
 

@@ -36,7 +36,8 @@ fn open_bytes(opened: &OpenReply) -> [u8; 16]
 
 /// Writes the reply to what opened a file or a directory.
 pub fn write_open(out: &mut Vec<u8>, unique: u64, opened: &OpenReply) -> Result<(), AllocError>
-    ensures ok { OnOk result (out.new.items ≡ out.old.items ++ reply_text unique (open_text opened.now)) }
+    ensures ok { OnOk result (out.new.items
+        ≡ out.old.items ++ reply_text unique (open_text opened.now)) }
     ensures err { OnErr result (out.new.items ≡ out.old.items) }
 {
     write_bytes(out, unique, &open_bytes(opened))

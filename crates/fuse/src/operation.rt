@@ -54,8 +54,8 @@ pub enum Operation<'a> {
     RemoveDirectory {
         name: &'a [u8],
     },
-    /// Moves what has the name to the new one, in the directory `new_parent`. The flags are those of
-    /// `renameat2`; none where the opcode has no field for them.
+    /// Moves what has the name to the new one, in the directory `new_parent`. The flags are those
+    /// of `renameat2`; none where the opcode has no field for them.
     Rename {
         name: &'a [u8],
         new_parent: u64,
@@ -69,7 +69,7 @@ pub enum Operation<'a> {
     },
     Open {
         flags: u32,
-        /// `FUSE_OPEN_..`.
+        /// The protocol's own (`FUSE_OPEN_..`), here as in what else opens something.
         open_flags: u32,
     },
     /// Up to `size` bytes of a file, from the offset on.

@@ -23,7 +23,7 @@ fn head_bytes(length: u32, error: u32, unique: u64) -> [u8; 16]
     bytes
 }
 
-/// Writes the reply that says why a request failed behind what was written: the error is a number of
+/// Writes the reply that says why a request failed behind what was written. The error is a number of
 /// `errno` as Linux has it. Where memory runs out nothing is written, here as in each `write_..`.
 pub fn write_error(out: &mut Vec<u8>, unique: u64, errno: u32) -> Result<(), AllocError>
     requires least { 1 ≤ errno }
@@ -32,7 +32,7 @@ pub fn write_error(out: &mut Vec<u8>, unique: u64, errno: u32) -> Result<(), All
     ensures err { OnErr result (out.new.items ≡ out.old.items) }
 {
     let error = u32::MAX - errno + 1;
-    out.extend_from_slice(&head_bytes(16, error, unique))
+    out.extend_from_slice(&head_bytes(REPLY_HEAD_BYTES as u32, error, unique))
 }
 
 /// Writes the reply that says that a request is done, and no more.
@@ -66,7 +66,8 @@ fn count_bytes(count: u32) -> [u8; 8]
 
 /// Writes the reply to a write: how many bytes it took.
 pub fn write_count(out: &mut Vec<u8>, unique: u64, count: u32) -> Result<(), AllocError>
-    ensures ok { OnOk result (out.new.items ≡ out.old.items ++ reply_text unique (count_text count)) }
+    ensures ok { OnOk result (out.new.items
+        ≡ out.old.items ++ reply_text unique (count_text count)) }
     ensures err { OnErr result (out.new.items ≡ out.old.items) }
 {
     write_bytes(out, unique, &count_bytes(count))
@@ -82,7 +83,8 @@ fn offset_bytes(offset: u64) -> [u8; 8]
 
 /// Writes the reply to a seek: the offset that was found.
 pub fn write_offset(out: &mut Vec<u8>, unique: u64, offset: u64) -> Result<(), AllocError>
-    ensures ok { OnOk result (out.new.items ≡ out.old.items ++ reply_text unique (offset_text offset)) }
+    ensures ok { OnOk result (out.new.items
+        ≡ out.old.items ++ reply_text unique (offset_text offset)) }
     ensures err { OnErr result (out.new.items ≡ out.old.items) }
 {
     write_bytes(out, unique, &offset_bytes(offset))

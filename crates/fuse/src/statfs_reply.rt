@@ -44,7 +44,8 @@ fn statfs_bytes(told: &StatfsReply) -> [u8; 80]
 
 /// Writes the reply that tells sizes and counts of the whole file system.
 pub fn write_statfs(out: &mut Vec<u8>, unique: u64, told: &StatfsReply) -> Result<(), AllocError>
-    ensures ok { OnOk result (out.new.items ≡ out.old.items ++ reply_text unique (statfs_text told.now)) }
+    ensures ok { OnOk result (out.new.items
+        ≡ out.old.items ++ reply_text unique (statfs_text told.now)) }
     ensures err { OnErr result (out.new.items ≡ out.old.items) }
 {
     write_bytes(out, unique, &statfs_bytes(told))

@@ -47,5 +47,6 @@ abbrev pub all_of : {A : Type 0} → (List ℕ → Option (A × List ℕ)) → L
 all_of p bytes = p bytes >>= λ x. if length x.1 == 0 then Some x.0 else None
 
 -- a value, and behind it so many bytes as it says
-abbrev pub counting_at : {A : Type 0} → (List ℕ → Option (A × List ℕ)) → (A → ℕ) → List ℕ → Option ((A × List ℕ) × List ℕ)
+abbrev pub counting_at : {A : Type 0} → (List ℕ → Option (A × List ℕ)) → (A → ℕ)
+    → List ℕ → Option ((A × List ℕ) × List ℕ)
 counting_at p count bytes = p bytes >>= λ x. part_at (count x.0) x.1 >>= λ y. Some ((x.0, y.0), y.1)
