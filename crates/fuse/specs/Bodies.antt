@@ -24,7 +24,7 @@ abbrev pub forgets_fields : Format ((ℕ × ℕ) × List ℕ)
 forgets_fields = counting (num 4 ▸ num 4) (λ v. 16 * v.0)
 
 unfoldable pub batch_forget_body : Grammar OperationValue
-batch_forget_body = saying forgets_fields (λ v. batch_forget v.1)
+batch_forget_body = saying forgets_fields (λ ((count, padding), forgets). batch_forget forgets)
 
 -- flags, four bytes of padding, handle
 abbrev pub get_attributes_fields : Format (ℕ × (ℕ × ℕ))
@@ -32,35 +32,40 @@ get_attributes_fields = num 4 ▸ num 4 ▸ num 8
 
 unfoldable pub get_attributes_body : Grammar OperationValue
 get_attributes_body =
-    saying get_attributes_fields (λ v. get_attributes (given v.0 GETATTR_FH v.1.1))
+    saying get_attributes_fields
+    (λ (flags, (padding, handle)). get_attributes (given flags GETATTR_FH handle))
 
 abbrev pub set_attributes_fields : Format (TargetsFields × (TimesFields × RightsFields))
 set_attributes_fields = targets_fields ▸ times_fields ▸ rights_fields
 
 unfoldable pub set_attributes_body : Grammar OperationValue
 set_attributes_body =
-    saying set_attributes_fields (λ v. set_attributes (changes_of v.0 v.1.0 v.1.1))
+    saying set_attributes_fields
+    (λ (targets, (times, rights)). set_attributes (changes_of targets times rights))
 
 unfoldable pub read_link_body : Grammar OperationValue
 read_link_body = saying nothing (λ v. read_link)
 
 -- name, text
 unfoldable pub symbolic_link_body : Grammar OperationValue
-symbolic_link_body = saying (ended ▸ ended) (λ v. symbolic_link v.0 v.1)
+symbolic_link_body = saying (ended ▸ ended) (λ (name, text). symbolic_link name text)
 
 -- mode, device, mask, four bytes of padding, name
 abbrev pub make_node_fields : Format (ℕ × (ℕ × (ℕ × (ℕ × List ℕ))))
 make_node_fields = num 4 ▸ num 4 ▸ num 4 ▸ num 4 ▸ ended
 
 unfoldable pub make_node_body : Grammar OperationValue
-make_node_body = saying make_node_fields (λ v. make_node v.1.1.1.1 v.0 v.1.0 v.1.1.0)
+make_node_body =
+    saying make_node_fields
+    (λ (mode, (device, (umask, (padding, name)))). make_node name mode device umask)
 
 -- mode, mask, name
 abbrev pub make_directory_fields : Format (ℕ × (ℕ × List ℕ))
 make_directory_fields = num 4 ▸ num 4 ▸ ended
 
 unfoldable pub make_directory_body : Grammar OperationValue
-make_directory_body = saying make_directory_fields (λ v. make_directory v.1.1 v.0 v.1.0)
+make_directory_body =
+    saying make_directory_fields (λ (mode, (umask, name)). make_directory name mode umask)
 
 -- name
 unfoldable pub unlink_body : Grammar OperationValue
@@ -75,28 +80,31 @@ abbrev pub rename_fields : Format (ℕ × (List ℕ × List ℕ))
 rename_fields = num 8 ▸ ended ▸ ended
 
 unfoldable pub rename_body : Grammar OperationValue
-rename_body = saying rename_fields (λ v. rename v.1.0 v.0 v.1.1 0)
+rename_body =
+    saying rename_fields (λ (new_parent, (name, new_name)). rename name new_parent new_name 0)
 
 -- new directory, flags, four bytes of padding, name, new name
 abbrev pub rename_by_flags_fields : Format (ℕ × (ℕ × (ℕ × (List ℕ × List ℕ))))
 rename_by_flags_fields = num 8 ▸ num 4 ▸ num 4 ▸ ended ▸ ended
 
 unfoldable pub rename_by_flags_body : Grammar OperationValue
-rename_by_flags_body = saying rename_by_flags_fields (λ v. rename v.1.1.1.0 v.0 v.1.1.1.1 v.1.0)
+rename_by_flags_body =
+    saying rename_by_flags_fields
+    (λ (new_parent, (flags, (padding, (name, new_name)))). rename name new_parent new_name flags)
 
 -- node, name
 abbrev pub link_fields : Format (ℕ × List ℕ)
 link_fields = num 8 ▸ ended
 
 unfoldable pub link_body : Grammar OperationValue
-link_body = saying link_fields (λ v. link v.1 v.0)
+link_body = saying link_fields (λ (node, name). link name node)
 
 -- flags, flags of the protocol's own
 abbrev pub open_fields : Format (ℕ × ℕ)
 open_fields = num 4 ▸ num 4
 
 unfoldable pub open_body : Grammar OperationValue
-open_body = saying open_fields (λ v. open_file v.0 v.1)
+open_body = saying open_fields (λ (flags, open_flags). open_file flags open_flags)
 
 -- handle, offset, size, flags of the transfer, the lock's owner, flags of the file, and four bytes
 -- of padding
@@ -107,14 +115,20 @@ abbrev pub transfer_fields : Format TransferFields
 transfer_fields = num 8 ▸ num 8 ▸ num 4 ▸ num 4 ▸ num 8 ▸ num 4 ▸ num 4
 
 unfoldable pub read_body : Grammar OperationValue
-read_body = saying transfer_fields (λ v. read v.0 v.1.0 v.1.1.0 v.1.1.1.0 v.1.1.1.1.1.0)
+read_body =
+    saying transfer_fields
+    (λ (handle, (offset, (size, (read_flags, (lock_owner, (flags, padding)))))).
+    read handle offset size read_flags flags)
 
 -- and so many bytes as the size says
 abbrev pub write_fields : Format (TransferFields × List ℕ)
 write_fields = counting transfer_fields (λ v. v.1.1.0)
 
 unfoldable pub write_body : Grammar OperationValue
-write_body = saying write_fields (λ v. write v.0.0 v.0.1.0 v.1 v.0.1.1.1.0 v.0.1.1.1.1.1.0)
+write_body =
+    saying write_fields
+    (λ ((handle, (offset, (size, (write_flags, (lock_owner, (flags, padding)))))), bytes).
+    write handle offset bytes write_flags flags)
 
 unfoldable pub stat_file_system_body : Grammar OperationValue
 stat_file_system_body = saying nothing (λ v. stat_file_system)
@@ -124,48 +138,61 @@ abbrev pub release_fields : Format (ℕ × (ℕ × (ℕ × ℕ)))
 release_fields = num 8 ▸ num 4 ▸ num 4 ▸ num 8
 
 unfoldable pub release_body : Grammar OperationValue
-release_body = saying release_fields (λ v. release v.0 v.1.0 v.1.1.0)
+release_body =
+    saying release_fields
+    (λ (handle, (flags, (release_flags, lock_owner))). release handle flags release_flags)
 
 -- handle, flags, four bytes of padding
 abbrev pub sync_fields : Format (ℕ × (ℕ × ℕ))
 sync_fields = num 8 ▸ num 4 ▸ num 4
 
 unfoldable pub sync_body : Grammar OperationValue
-sync_body = saying sync_fields (λ v. sync v.0 (is_set v.1.0 FSYNC_FDATASYNC))
+sync_body =
+    saying sync_fields (λ (handle, (flags, padding)). sync handle (is_set flags FSYNC_FDATASYNC))
 
 -- handle, four unused bytes, four bytes of padding, the lock's owner
 unfoldable pub flush_body : Grammar OperationValue
-flush_body = saying release_fields (λ v. flush v.0)
+flush_body =
+    saying release_fields (λ (handle, (unused, (padding, lock_owner))). flush handle)
 
 -- major and minor version, bytes read ahead, flags; newer kernels have more behind them
 abbrev pub init_fields : Format (ℕ × (ℕ × (ℕ × ℕ)))
 init_fields = num 4 ▸ num 4 ▸ num 4 ▸ num 4
 
 unfoldable pub init_body : Grammar OperationValue
-init_body = saying_first init_fields (λ v. init v.0 v.1.0 v.1.1.0 v.1.1.1)
+init_body =
+    saying_first init_fields
+    (λ (major, (minor, (max_readahead, flags))). init major minor max_readahead flags)
 
 unfoldable pub open_directory_body : Grammar OperationValue
-open_directory_body = saying open_fields (λ v. open_directory v.0 v.1)
+open_directory_body =
+    saying open_fields (λ (flags, open_flags). open_directory flags open_flags)
 
 unfoldable pub read_directory_body : Grammar OperationValue
-read_directory_body = saying transfer_fields (λ v. read_directory v.0 v.1.0 v.1.1.0)
+read_directory_body =
+    saying transfer_fields (λ (handle, (offset, (size, rest))). read_directory handle offset size)
 
 unfoldable pub read_directory_plus_body : Grammar OperationValue
-read_directory_plus_body = saying transfer_fields (λ v. read_directory_plus v.0 v.1.0 v.1.1.0)
+read_directory_plus_body =
+    saying transfer_fields (λ (handle, (offset, (size, rest))). read_directory_plus handle offset size)
 
 unfoldable pub release_directory_body : Grammar OperationValue
-release_directory_body = saying release_fields (λ v. release_directory v.0)
+release_directory_body = saying release_fields (λ (handle, rest). release_directory handle)
 
 unfoldable pub sync_directory_body : Grammar OperationValue
-sync_directory_body = saying sync_fields (λ v. sync_directory v.0 (is_set v.1.0 FSYNC_FDATASYNC))
+sync_directory_body =
+    saying sync_fields
+    (λ (handle, (flags, padding)). sync_directory handle (is_set flags FSYNC_FDATASYNC))
 
 -- mask, four bytes of padding
 unfoldable pub access_body : Grammar OperationValue
-access_body = saying (num 4 ▸ num 4) (λ v. access v.0)
+access_body = saying (num 4 ▸ num 4) (λ (mask, padding). access mask)
 
 -- flags, mode, mask, flags of the protocol's own, name
 unfoldable pub create_body : Grammar OperationValue
-create_body = saying make_node_fields (λ v. create v.1.1.1.1 v.1.0 v.1.1.0 v.0 v.1.1.1.0)
+create_body =
+    saying make_node_fields
+    (λ (flags, (mode, (umask, (open_flags, name)))). create name mode umask flags open_flags)
 
 -- the request's own number
 unfoldable pub interrupt_body : Grammar OperationValue
@@ -176,7 +203,8 @@ abbrev pub seek_fields : Format (ℕ × (ℕ × (ℕ × ℕ)))
 seek_fields = num 8 ▸ num 8 ▸ num 4 ▸ num 4
 
 unfoldable pub seek_body : Grammar OperationValue
-seek_body = saying seek_fields (λ v. seek v.0 v.1.0 v.1.1.0)
+seek_body =
+    saying seek_fields (λ (handle, (offset, (whence, padding))). seek handle offset whence)
 
 unfoldable pub destroy_body : Grammar OperationValue
 destroy_body = saying nothing (λ v. destroy)

@@ -10,7 +10,7 @@ use std::alloc::AllocError;
 
 /// Bytes in front of a name in a listing (`struct fuse_dirent`).
 pub const LISTED_HEAD_BYTES: usize = 24;
-/// The most bytes of a name that the kernel takes in a listing.
+/// The most bytes of a name that every kernel takes in a listing.
 pub const LISTED_NAME_BYTES: usize = 1024;
 
 /// What a name of a directory leads to, as `readdir` tells it.

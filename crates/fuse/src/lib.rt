@@ -1,6 +1,7 @@
 //! The requests and replies of the kernel's protocol for file systems in user space (FUSE, version
 //! 7.31), as bytes. The source is `include/uapi/linux/fuse.h` of the kernel. Nothing here knows a
-//! file system or a device. All numbers are little-endian.
+//! file system or a device. All numbers are little-endian. `recorded.txt` has requests that a
+//! kernel sent, each with what it asks.
 #![tactic(auto)]
 
 mod attribute_changes;
