@@ -3,3 +3,4 @@ mod BodyLaws
 mod RequestLaws
 mod ReplyLaws
 mod DirectoryLaws
+mod ForgetLaws

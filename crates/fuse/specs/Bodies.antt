@@ -1,12 +1,13 @@
 -- What stands behind a request's head: the fields of each opcode, in their order, and what they
--- ask. A field that an operation leaves out may have any value, and a bit of flags that no operation
--- tells of may be set or not: what pads and what a lock is for, which a kernel fills as it likes, and
--- flags that tell a file system nothing. So several bodies may ask the same.
+-- ask. A field that an operation leaves out may have any value, and a bit of flags that no
+-- operation tells of may be set or not: what pads and what a lock is for, which a kernel fills as
+-- it likes, and flags that tell a file system nothing. So several bodies may ask the same.
 use Rattle.std.specs.Prelude.{ℕ, ◌*◌, List, ◌==◌}
 use Rattle.grammar.specs.Format.{Format, num, nothing, counting, ◌▸◌}
 use Rattle.grammar.specs.Grammar.{Grammar, saying, saying_first, choose}
 use Rattle.fuse.specs.AttributeChanges.{TargetsFields, TimesFields, RightsFields, targets_fields, times_fields, rights_fields, changes_of}
 use Rattle.fuse.specs.Flags.{is_set, given}
+use Rattle.fuse.specs.Forgets.{all_forgets}
 use Rattle.fuse.specs.Names.{ended}
 use Rattle.fuse.specs.Operation.{OperationValue, lookup, forget, batch_forget, get_attributes, set_attributes, read_link, symbolic_link, make_node, make_directory, unlink, remove_directory, rename, link, open_file, read, write, stat_file_system, release, sync, flush, init, open_directory, read_directory, read_directory_plus, release_directory, sync_directory, access, create, interrupt, seek, destroy, other}
 use Rattle.fuse.specs.declared.opcode.TheConstants.{LOOKUP, FORGET, GETATTR, SETATTR, READLINK, SYMLINK, MKNOD, MKDIR, UNLINK, RMDIR, RENAME, LINK, OPEN, READ, WRITE, STATFS, RELEASE, FSYNC, FLUSH, INIT, OPENDIR, READDIR, RELEASEDIR, FSYNCDIR, ACCESS, CREATE, INTERRUPT, DESTROY, BATCH_FORGET, READDIRPLUS, RENAME2, LSEEK, GETATTR_FH, FSYNC_FDATASYNC}
@@ -24,7 +25,8 @@ abbrev pub forgets_fields : Format ((ℕ × ℕ) × List ℕ)
 forgets_fields = counting (num 4 ▸ num 4) (λ v. 16 * v.0)
 
 unfoldable pub batch_forget_body : Grammar OperationValue
-batch_forget_body = saying forgets_fields (λ ((count, padding), forgets). batch_forget forgets)
+batch_forget_body =
+    saying forgets_fields (λ ((count, padding), bytes). batch_forget (all_forgets bytes))
 
 -- flags, four bytes of padding, handle
 abbrev pub get_attributes_fields : Format (ℕ × (ℕ × ℕ))
@@ -174,7 +176,8 @@ read_directory_body =
 
 unfoldable pub read_directory_plus_body : Grammar OperationValue
 read_directory_plus_body =
-    saying transfer_fields (λ (handle, (offset, (size, rest))). read_directory_plus handle offset size)
+    saying transfer_fields
+    (λ (handle, (offset, (size, rest))). read_directory_plus handle offset size)
 
 unfoldable pub release_directory_body : Grammar OperationValue
 release_directory_body = saying release_fields (λ (handle, rest). release_directory handle)

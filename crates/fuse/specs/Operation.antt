@@ -1,13 +1,15 @@
 -- What a request asks, without where its bytes lie in memory.
 use Rattle.std.specs.Prelude.{ℕ, Bool, List, Option}
 use Rattle.fuse.specs.declared.attribute_changes.AttributeChanges.{AttributeChanges}
+use Rattle.fuse.specs.Forgets.{forgets_of}
+use Rattle.fuse.specs.declared.forgets.Forget.{Forget}
 use Rattle.fuse.specs.declared.operation.Operation.{Operation}
 use Rattle.fuse.specs.declared.operation.Operation.TheVariants as asked
 
 pub data OperationValue : Type 0 where
   lookup : (name : List ℕ) → OperationValue
   forget : (lookups : ℕ) → OperationValue
-  batch_forget : (forgets : List ℕ) → OperationValue
+  batch_forget : (forgets : List Forget) → OperationValue
   get_attributes : (handle : Option ℕ) → OperationValue
   set_attributes : (changes : AttributeChanges) → OperationValue
   read_link : OperationValue
@@ -41,7 +43,7 @@ pub data OperationValue : Type 0 where
 abbrev pub operation_of : Operation → OperationValue
 operation_of (asked.Lookup name) = lookup name.now
 operation_of (asked.Forget lookups) = forget lookups
-operation_of (asked.BatchForget forgets) = batch_forget forgets.bytes.now
+operation_of (asked.BatchForget forgets) = batch_forget (forgets_of forgets)
 operation_of (asked.GetAttributes handle) = get_attributes handle
 operation_of (asked.SetAttributes changes) = set_attributes changes
 operation_of asked.ReadLink = read_link

@@ -109,8 +109,8 @@ fn has_room(listing: &[u8], size: usize, count: usize) -> bool
     count <= size && listing.len() <= size - count
 }
 
-/// Appends an entry to a listing that may have `size` bytes, and answers whether it did: false where
-/// the listing would have more. Where memory runs out nothing is appended.
+/// Appends an entry to a listing that may have `size` bytes, and answers whether it did: false
+/// where the listing would have more. Where memory runs out nothing is appended.
 pub fn list_entry(
     listing: &mut Vec<u8>,
     size: usize,

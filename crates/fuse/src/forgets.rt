@@ -1,9 +1,5 @@
 //! What the kernel forgets at once.
 
-ghost use Rattle.std.specs.Prelude.{◌≡◌};
-ghost use Rattle.std.specs.Option.{option_map};
-ghost use Rattle.fuse.specs.Forgets.{forget_fields};
-
 use grammar::u64_at;
 
 /// So many of the times that the kernel was told of a node.
@@ -13,7 +9,7 @@ pub struct Forget {
     pub lookups: u64,
 }
 
-/// Several of them, one behind the other.
+/// Several of them, one behind the other, as the request has them.
 #[derive(Clone, Copy)]
 pub struct Forgets<'a> {
     /// Sixteen for each.
@@ -21,10 +17,13 @@ pub struct Forgets<'a> {
 }
 
 impl<'a> Forgets<'a> {
+    ghost use Rattle.std.specs.Prelude.{◌≡◌, ◌∷◌, [], IfNone, IfSome};
+    ghost use Rattle.fuse.specs.Forgets.{forgets_of};
+
     /// The first, and those behind it; None where none is left.
     pub fn split_first(&self) -> Option<(Forget, Forgets<'a>)>
-        ensures { option_map (λ x. ((x.0.node, x.0.lookups), x.1.bytes.now)) result
-            ≡ forget_fields.at self.now.bytes.now }
+        ensures some { IfSome result (λ x. forgets_of self.now ≡ x.0 ∷ forgets_of x.1) }
+        ensures none { IfNone result (forgets_of self.now ≡ []) }
     {
         let (node, bytes) = u64_at(self.bytes)?;
         let (lookups, bytes) = u64_at(bytes)?;

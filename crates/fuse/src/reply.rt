@@ -23,8 +23,8 @@ fn head_bytes(length: u32, error: u32, unique: u64) -> [u8; 16]
     bytes
 }
 
-/// Writes the reply that says why a request failed behind what was written. The error is a number of
-/// `errno` as Linux has it. Where memory runs out nothing is written, here as in each `write_..`.
+/// Writes the reply that says why a request failed behind what was written. The error is a number
+/// of `errno` as Linux has it. Where memory runs out nothing is written, here as in each `write_..`.
 pub fn write_error(out: &mut Vec<u8>, unique: u64, errno: u32) -> Result<(), AllocError>
     requires least { 1 ≤ errno }
     requires most { errno ≤ MOST_ERRNO }
