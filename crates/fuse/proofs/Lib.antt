@@ -1,0 +1,6 @@
+mod NameLaws
+mod BodyLaws
+mod RequestLaws
+mod ReplyLaws
+mod DirectoryLaws
+mod ForgetLaws

@@ -1,0 +1,12 @@
+pub mod Names
+pub mod Head
+pub mod Attributes
+pub mod Flags
+pub mod Forgets
+pub mod AttributeChanges
+pub mod Operation
+pub mod Bodies
+pub mod Transfers
+pub mod Request
+pub mod Replies
+pub mod Directory

@@ -1,0 +1,6 @@
+pub mod ZeroLaws
+pub mod NumberLaws
+pub mod Formats
+pub mod Grammars
+pub mod WritingLaws
+pub mod FieldLaws
