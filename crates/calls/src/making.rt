@@ -1,6 +1,6 @@
 //! Making an object over a path.
 
-ghost use Rattle.std.specs.Prelude.{IfOk};
+ghost use Rattle.std.specs.Prelude.{◌≡◌, IfOk};
 ghost use Rattle.model.specs.Changing.{creates};
 ghost use Rattle.model.specs.Changes.{with_made};
 ghost use Rattle.model.specs.Records.{Made};
@@ -80,6 +80,7 @@ pub(crate) fn make_in<B: Blocks>(
         return Err(Failure::Refused(Errno::DIRFULL));
     };
     let prepared = prepare_new(alloc, inodes, blocks, number, parent, &name.bytes, new)?;
+    note_made(inodes, &object, number, parent, &name.bytes);
     let creation = Creation {
         number,
         parent,
@@ -90,6 +91,21 @@ pub(crate) fn make_in<B: Blocks>(
         change: OwnedChange::Create { creation },
         prepared,
     })
+}
+
+// Remembers where a directory that is made will stand, as a hint.
+fn note_made(
+    inodes: &mut InodeFile,
+    object: &OwnedObject,
+    number: InodeNumber,
+    parent: InodeNumber,
+    name: &[u8],
+)
+    ensures { inodes.new ≡ inodes.old }
+{
+    if matches!(object, OwnedObject::Directory { mode: _mode }) {
+        inodes.note_parent(number.get(), parent.get(), name);
+    }
 }
 
 // The refusal where no number is left: a full directory is told before. Any number shows whether it

@@ -205,7 +205,7 @@ fn move_name<B: Blocks>(
 
 // Whether an object, which has a name in the parent, would come below itself in the directory at
 // the end of a trail. A trail from the root passes all above that directory; one from a number
-// doesn't, and then what lies below the object is looked into.
+// doesn't, and then the object is looked for above that directory, or this one below the object.
 fn comes_below<B: Blocks>(
     alloc: Global,
     inodes: &mut InodeFile,
@@ -231,7 +231,8 @@ fn comes_below<B: Blocks>(
 }
 
 // Prepares that a name is moved to a directory outside of what has it, or tells the first obstacle
-// to its record.
+// to its record. Where a directory will stand then is remembered at once: who names it by its number
+// needn't look it up again.
 #[allow(clippy::too_many_arguments)]
 fn record_move<B: Blocks>(
     alloc: Global,
@@ -271,6 +272,7 @@ fn record_move<B: Blocks>(
         &new_name.bytes,
         target,
     )?;
+    inodes.note_move(number.get(), new_parent.get(), &new_name.bytes);
     Ok(Some(Changing {
         change: OwnedChange::Rename {
             parent,

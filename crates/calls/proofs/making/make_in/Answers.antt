@@ -76,7 +76,7 @@ returns-clause-prepares g c =
     let made = made_by c.args.object in
     let name = c.in-Some-new.name.bytes.items in
     let n = c.new-number.result in
-    grants (looks_more before c.in_ok-prepared.ensures.looks) c.in_ok-prepared.ensures.ready
+    rw c.note_made.ensures (grants (looks_more before c.in_ok-prepared.ensures.looks) c.in_ok-prepared.ensures.ready
     (λ disk settled v stands.
     let read = stands_over {G = g.B.Blocks} c.args.blocks.now c.new_object.new.blocks c.args.inodes.now c.new_object.ensures.reads.count (c.new_object.ensures.reads.same disk stands.shows) stands.volume in
     let free = ap v c.new-number.ensures ∙ c.in-Some.ensures.free _ disk settled v read.volume in
@@ -96,7 +96,7 @@ returns-clause-prepares g c =
       subst IsMade c.as_new.ensures.says c.as_new.ensures.good,
       subst (λ (x : List ℕ). TakesName v c.args.parent x) (c.deref.ensures.value ∙ c.in-Some-new.ensures.some) (c.in_ok-prepared.ensures.takes _ disk settled v (before.kept disk settled v stands)),
       subst (IsLeastFree c.args.inodes.now.geometry.inodes v) (sym c.new-number.ensures) least,
-    ))
+    )))
 
 pub returns-in_default-clause-creates : goal.returns-in_default-clause-creates
 returns-in_default-clause-creates g c =
