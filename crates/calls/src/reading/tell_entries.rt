@@ -14,7 +14,8 @@ use crate::reading::stat::stat_number;
 use buffers::Blocks;
 use dirs::NumberedName;
 use inofile::InodeFile;
-use model::{ENTRIES_TOLD, Entries, Entry, Errno, Text, volumes_tell_links};
+use layout::InodeNumber;
+use model::{ENTRIES_TOLD, Entries, Entry, Errno, FileType, Stat, Text, volumes_tell_links};
 use paths::{Parts, list_numbered, refusal_of_text};
 use records::{Failure, is_directory_at};
 use std::alloc::Global;
@@ -76,15 +77,16 @@ fn entries_along<B: Blocks>(
     }
     let names = list_numbered(alloc, inodes, blocks, number)?;
     let told = part_of(alloc, names, after.unsigned_abs(), count as usize)?;
-    let entries = tell_each(alloc, inodes, blocks, told)?;
+    let entries = tell_each(alloc, inodes, blocks, number, told)?;
     Ok(Entries::new(entries))
 }
 
-// What is told of each of these names.
+// What is told of each of these names of a directory.
 fn tell_each<B: Blocks>(
     alloc: Global,
     inodes: &mut InodeFile,
     blocks: &mut B,
+    directory: InodeNumber,
     told: Vec<ToldName>,
 ) -> Result<Vec<Entry>, Failure>
     requires { All (λ t. IsInodeNumber inodes.old.geometry.inodes t.numbered.number) told.items }
@@ -93,17 +95,19 @@ fn tell_each<B: Blocks>(
 {
     let mut entries = Vec::new(alloc);
     for name in told {
-        let entry = tell(alloc, inodes, blocks, name)?;
+        let entry = tell(alloc, inodes, blocks, directory, name)?;
         entries.push(entry)?;
     }
     Ok(entries)
 }
 
-// What is told of a name.
+// What is told of a name of a directory. Where a directory has the name, it is remembered where that
+// stands, as if it were looked up: who is told its number needn't do that.
 fn tell<B: Blocks>(
     alloc: Global,
     inodes: &mut InodeFile,
     blocks: &mut B,
+    directory: InodeNumber,
     name: ToldName,
 ) -> Result<Entry, Failure>
     requires { IsInodeNumber inodes.old.geometry.inodes name.numbered.number }
@@ -113,9 +117,19 @@ fn tell<B: Blocks>(
     let ToldName { cookie, numbered } = name;
     let NumberedName { name, number } = numbered;
     let stat = stat_number(alloc, inodes, blocks, number)?;
+    note_told(inodes, directory, &name, &stat);
     Ok(Entry {
         cookie,
         name: Text::new(name),
         stat,
     })
+}
+
+// Remembers where a directory stands of which this is told, as a hint.
+fn note_told(inodes: &mut InodeFile, parent: InodeNumber, name: &[u8], stat: &Stat)
+    ensures { inodes.new ≡ inodes.old }
+{
+    if stat.kind == FileType::Dir {
+        inodes.note_parent(stat.number, parent.get(), name);
+    }
 }

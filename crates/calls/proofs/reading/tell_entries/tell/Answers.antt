@@ -11,8 +11,8 @@ returns-in_err-stat g c =
     (λ errno disk settled v stands none there. nothing_there (v c.args.name.numbered.number) there none)
 
 pub returns : goal.returns
-returns g c = tells_all c.in_ok-stat.ensures.told.looks (λ disk settled v stands. record {
+returns g c = rw c.note_told.ensures (tells_all c.in_ok-stat.ensures.told.looks (λ disk settled v stands. record {
   named = c.new.ensures;
   marked = refl;
   told = c.in_ok-stat.ensures.told.tells disk settled v stands;
-})
+}))
