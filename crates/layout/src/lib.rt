@@ -1,6 +1,7 @@
 //! The formats (layout), of the disk and of the log: each is a grammar, read and written exactly,
 //! so that no crate above looks at a byte of one again. Nothing here knows a device. All numbers
-//! are little-endian.
+//! are little-endian. The tools of which these formats are made, numbers and fields one behind the
+//! other (`reading.rt`, `writing.rt`), are for other formats of the same kind too.
 #![tactic(auto)]
 
 mod directory;
@@ -43,6 +44,7 @@ pub use model::{FIRST_NUMBER, ROOT_NUMBER};
 pub use name::{is_link_text, is_name};
 pub use numbers::{BlockNumber, Epoch, FIRST_GENERATION, Generation, InodeNumber, LAST_GENERATION};
 pub use pointer::Pointer;
+pub use reading::{part_at, u32_at, u64_at};
 pub use record::{NewObject, Record};
 pub use root::Root;
 pub use snap_root::SnapRoot;
@@ -50,6 +52,7 @@ pub use version::{
     FIRST_SLOTS, FIRST_VERSION, SNAPSHOT_SLOTS, VERSION, greatest_size, is_version, level_of,
     snapshot_slots,
 };
+pub use writing::{put_bytes, put_u16, put_u32, put_u64, put_zeros};
 
 /// Bytes of a sector of the disk.
 pub const SECTOR_BYTES: usize = 512;

@@ -32,7 +32,7 @@ pub(crate) fn u16_at(bytes: &[u8]) -> Option<(u16, &[u8])>
 
 /// A number of 32 bits.
 #[tactic(auto, unfolding(crate::specs::Bytes::number))]
-pub(crate) fn u32_at(bytes: &[u8]) -> Option<(u32, &[u8])>
+pub fn u32_at(bytes: &[u8]) -> Option<(u32, &[u8])>
     ensures { option_map (λ x. (x.0, x.1.now)) result ≡ number_read 4 bytes.now }
 {
     if bytes.len() < 4 {
@@ -44,7 +44,7 @@ pub(crate) fn u32_at(bytes: &[u8]) -> Option<(u32, &[u8])>
 
 /// A number of 64 bits.
 #[tactic(auto, unfolding(crate::specs::Bytes::number))]
-pub(crate) fn u64_at(bytes: &[u8]) -> Option<(u64, &[u8])>
+pub fn u64_at(bytes: &[u8]) -> Option<(u64, &[u8])>
     ensures { option_map (λ x. (x.0, x.1.now)) result ≡ number_read 8 bytes.now }
 {
     if bytes.len() < 8 {
@@ -55,7 +55,7 @@ pub(crate) fn u64_at(bytes: &[u8]) -> Option<(u64, &[u8])>
 }
 
 /// So many bytes.
-pub(crate) fn part_at(bytes: &[u8], count: usize) -> Option<(&[u8], &[u8])>
+pub fn part_at(bytes: &[u8], count: usize) -> Option<(&[u8], &[u8])>
     ensures value { option_map (λ x. (x.0.now, x.1.now)) result ≡ part_at count bytes.now }
     ensures count { IfSome result (λ x. length x.0.now ≡ count) }
 {

@@ -22,7 +22,7 @@ pub(crate) fn put_u8(out: &mut [u8], at: usize, number: u8)
 }
 
 /// Writes a number of 16 bits.
-pub(crate) fn put_u16(out: &mut [u8], at: usize, number: u16)
+pub fn put_u16(out: &mut [u8], at: usize, number: u16)
     requires { at + 2 ≤ length out.old }
     ensures { Writes at (at + 2) (little 2 number) out.old out.new }
 {
@@ -30,7 +30,7 @@ pub(crate) fn put_u16(out: &mut [u8], at: usize, number: u16)
 }
 
 /// Writes a number of 32 bits.
-pub(crate) fn put_u32(out: &mut [u8], at: usize, number: u32)
+pub fn put_u32(out: &mut [u8], at: usize, number: u32)
     requires { at + 4 ≤ length out.old }
     ensures { Writes at (at + 4) (little 4 number) out.old out.new }
 {
@@ -38,7 +38,7 @@ pub(crate) fn put_u32(out: &mut [u8], at: usize, number: u32)
 }
 
 /// Writes a number of 64 bits.
-pub(crate) fn put_u64(out: &mut [u8], at: usize, number: u64)
+pub fn put_u64(out: &mut [u8], at: usize, number: u64)
     requires { at + 8 ≤ length out.old }
     ensures { Writes at (at + 8) (little 8 number) out.old out.new }
 {
@@ -46,7 +46,7 @@ pub(crate) fn put_u64(out: &mut [u8], at: usize, number: u64)
 }
 
 /// Writes these bytes.
-pub(crate) fn put_bytes(out: &mut [u8], at: usize, bytes: &[u8])
+pub fn put_bytes(out: &mut [u8], at: usize, bytes: &[u8])
     requires { at + length bytes.now ≤ length out.old }
     ensures { Writes at (at + length bytes.now) bytes.now out.old out.new }
 {
@@ -54,7 +54,7 @@ pub(crate) fn put_bytes(out: &mut [u8], at: usize, bytes: &[u8])
 }
 
 /// Writes `count` bytes that are 0.
-pub(crate) fn put_zeros(out: &mut [u8], at: usize, count: usize)
+pub fn put_zeros(out: &mut [u8], at: usize, count: usize)
     requires { at + count ≤ length out.old }
     ensures { Writes at (at + count) (zeros count) out.old out.new }
 {

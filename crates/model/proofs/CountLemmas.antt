@@ -1,5 +1,6 @@
 -- Counts: of equal properties, along a bijection, and with one thing more or less.
-use Rattle.std.proofs.Common.{◌≡◌, ◌≢◌, ◌⊎◌, inl, inr, ◌↔◌, ℕ, zero, suc, refl, sym, ap, subst, ◌∙◌}
+use Rattle.std.proofs.Common.{◌≡◌, ◌≢◌, ◌⊎◌, inl, inr, ◌↔◌, ℕ, zero, suc, refl, sym, ap, subst, ◌∙◌, arith}
+use Rattle.std.proofs.lemmas.Bool.{cases_order}
 use Rattle.model.specs.Counting.{Counts}
 
 pub same_count : {A : Type 0} (P Q : A → Type 0) (count : ℕ) → ((a : A) → P a ↔ Q a) → Counts P count → Counts Q count
@@ -34,6 +35,14 @@ one_less P a (suc count) apart here (b, there, rest) =
             subst (λ k. Counts (λ c. P c × (c ≢ a)) k) (sym less.1)
                 (b, (there, λ e. other (sym e)), same_count (λ c. (P c × (c ≢ b)) × (c ≢ a)) (λ c. (P c × (c ≢ a)) × (c ≢ b)) less.0 (λ c. ((λ is. ((is.0.0, is.1), is.0.1)), (λ is. ((is.0.0, is.1), is.0.1)))) less.2),
           )
+    ]
+
+-- numbers are told apart
+pub number_apart : (x y : ℕ) → (x ≡ y) ⊎ (x ≢ y)
+number_apart x y =
+    elim (cases_order x y) [
+      | inl e ↦ inl e
+      | inr other ↦ elim other [ inl lt ↦ inr (λ e. omega (arith, lt, e)) | inr lt ↦ inr (λ e. omega (arith, lt, e)) ]
     ]
 
 -- where things are told apart, they are counted in one way

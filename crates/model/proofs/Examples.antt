@@ -155,7 +155,7 @@ opens_and_truncates : opens false 32 32 small (codes "/f") (record plainly { tru
 opens_and_truncates = (refl, refl, refl)
 
 abbrev full : Room
-full = record { blocks = 64; free = 60; pledged = 0; is_covered = true; orphans_of = λ name. 0 }
+full = record { blocks = 64; free = 60; pledged = 0; is_covered = true; orphans_of = λ name. 0; stored = λ n k. false }
 
 -- states
 no_snapshot : WouldStep full (empty 32) (command.Within (codes "t") (call.Mkdir (codes "/x") 0o755)) (reply.Refused NOSNAP) (empty 32) nothing

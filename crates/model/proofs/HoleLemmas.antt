@@ -4,8 +4,7 @@ use Rattle.std.specs.Prelude.{not}
 use Rattle.std.proofs.lemmas.Bool.{cases_order, false≢true}
 use Rattle.model.specs.Holes.{IsFirst, FindsFirst, FindsHole, TellsExtent}
 use Rattle.model.specs.declared.reply.Extent.{Extent}
-use Rattle.model.proofs.CountLemmas.{counts_once}
-use Rattle.model.proofs.OnceLemmas.{number_apart}
+use Rattle.model.proofs.CountLemmas.{counts_once, number_apart}
 
 module _ (test : ℕ → Bool) (size offset : ℕ) where
   not_before : (p q : ℕ) → IsFirst test size offset p → IsFirst test size offset q → p < q → ⊥

@@ -80,7 +80,7 @@ past_the_greatest_file = (refl, refl, refl)
 -- room on a disk of 64 blocks: a file of 65,536 bytes, and a directory that finds none until the file is gone
 
 abbrev room_of : ℕ → ℕ → Room
-room_of free pledged = record { blocks = 64; free = free; pledged = pledged; is_covered = true; orphans_of = λ name. 0 }
+room_of free pledged = record { blocks = 64; free = free; pledged = pledged; is_covered = true; orphans_of = λ name. 0; stored = λ n k. false }
 
 first_test_is_short : IsShort (room_of 60 24) (logs (puts_bytes 0 0 65536))
 first_test_is_short = (refl, lit≤ tt)

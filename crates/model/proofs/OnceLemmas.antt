@@ -11,6 +11,9 @@ use Rattle.model.specs.declared.reply.Reply.{Reply}
 use Rattle.model.specs.declared.reply.Reply.TheVariants as reply
 use Rattle.model.specs.declared.command.Flags.{Flags}
 use Rattle.model.specs.declared.command.Settings.{Settings}
+use Rattle.model.specs.declared.reply.Extent.{Extent}
+use Rattle.model.specs.Holes.{TellsExtent}
+use Rattle.model.proofs.HoleLemmas.{extent_once}
 use Rattle.model.specs.declared.command.Whence.{Whence}
 use Rattle.model.specs.declared.command.PathCall.{PathCall}
 use Rattle.model.specs.declared.command.PathCall.TheVariants as call
@@ -25,7 +28,7 @@ use Rattle.model.specs.Changing as changing
 use Rattle.model.specs.Descriptors as descriptors
 use Rattle.model.specs.States.{ForgetsOpenFiles}
 use Rattle.model.specs.Steps.{calls}
-use Rattle.model.proofs.CountLemmas.{counts_once}
+use Rattle.model.proofs.CountLemmas.{counts_once, number_apart}
 use Rattle.model.proofs.ListingLemmas.{listing_once, members_once}
 use Rattle.model.proofs.EntryLemmas.{cookie_total}
 use Rattle.model.proofs.OptionLaws.{some_same}
@@ -59,13 +62,6 @@ option_apart apart None None = inl refl
 option_apart apart None (Some y) = inr (λ e. cc)
 option_apart apart (Some x) None = inr (λ e. cc)
 option_apart apart (Some x) (Some y) = elim (apart x y) [ inl e ↦ inl (ap (λ z. Some z) e) | inr e ↦ inr (λ same. e (cc)) ]
-
-pub number_apart : (x y : ℕ) → (x ≡ y) ⊎ (x ≢ y)
-number_apart x y =
-    elim (cases_order x y) [
-      | inl e ↦ inl e
-      | inr other ↦ elim other [ inl lt ↦ inr (λ e. omega (arith, lt, e)) | inr lt ↦ inr (λ e. omega (arith, lt, e)) ]
-    ]
 
 bytes_apart : (x y : List ℕ) → (x ≡ y) ⊎ (x ≢ y)
 bytes_apart x y =
@@ -382,6 +378,16 @@ once_store : (t : Tree) (path : List ℕ) (offset : ℤ) (given : List ℕ) → 
 once_store t path offset given =
     once_tested t (text_tests_then ((reading.is_negative offset || reading.is_too_many (length given), EINVAL) ∷ []) path) _
     (once_to t true path _ (λ p o. once_by_kind o _ _ _ (λ n. once_refuses t EISDIR) (λ n text. never_once) (λ n. once_puts t n (nat_abs offset) given (λ after. after))))
+
+once_with_extent : (t : Tree) (stored : ℕ → Bool) (n offset : ℕ) → Once (reading.with_extent t stored n offset)
+once_with_extent t stored n offset a b u v m k (extent, tells, done) (other, again, also) =
+    let same : extent ≡ other = extent_once stored (length (contents t n)) offset extent other tells again in
+    once_answers t (reply.Extent other) a b u v m k (subst (λ (e : Extent). answers t (reply.Extent e) a u m) same done) also
+
+pub once_extent : (t : Tree) (stored : ℕ → ℕ → Bool) (path : List ℕ) (offset : ℤ) → Once (reading.tells_extent t stored path offset)
+once_extent t stored path offset =
+    once_tested t (text_tests_then ((reading.is_negative offset, EINVAL) ∷ []) path) _
+    (once_to t true path _ (λ p o. once_by_kind o _ _ _ (λ n. once_refuses t EISDIR) (λ n text. never_once) (λ n. once_with_extent t (stored n) n (nat_abs offset))))
 
 pub once_close : (t : Tree) (fd : ℕ) → Once (descriptors.closes t fd)
 once_close t fd = once_described t fd _ (λ f. once_swept _ _ _)

@@ -11,12 +11,13 @@ use Rattle.model.specs.Paths.{Name, Tests, first_refusal}
 use Rattle.model.specs.Trees.{Tree, IsUsed}
 use Rattle.model.specs.Room.{Room, Need, nothing, a_snapshot, a_restore}
 use Rattle.model.specs.Outcomes.{Outcome}
+use Rattle.model.specs.Reading as reading
 use Rattle.model.specs.Descriptors as descriptors
 use Rattle.model.specs.States.{State, with_tree, with_snapshots, ForgetsOpenFiles}
 use Rattle.model.specs.Steps.{Step, says, passing, on_tree, calls, is_reading_call, frozen, take_tests, takes, deletes, has_open_below, restores, tells_usage, usage_of, views}
 use Rattle.model.specs.Laws.{HasOneOutcome}
-use Rattle.model.proofs.CountLemmas.{counts_once}
-use Rattle.model.proofs.OnceLemmas.{Once, number_apart, forgets_once, once_path, once_open, once_close, once_read, once_write, once_pread, once_pwrite, once_seek, once_ftruncate, once_fstat, once_fsync}
+use Rattle.model.proofs.CountLemmas.{counts_once, number_apart}
+use Rattle.model.proofs.OnceLemmas.{Once, forgets_once, once_path, once_open, once_close, once_read, once_write, once_pread, once_pwrite, once_seek, once_ftruncate, once_fstat, once_fsync, once_extent}
 
 -- the commands
 
@@ -99,6 +100,7 @@ has_one_outcome room s (command.Lseek fd from offset) = once_on_tree s (descript
 has_one_outcome room s (command.Ftruncate fd size) = once_on_tree s (descriptors.truncates_open s.tree fd size) (once_ftruncate s.tree fd size)
 has_one_outcome room s (command.Fstat fd) = once_on_tree s (descriptors.stats_open s.tree fd) (once_fstat s.tree fd)
 has_one_outcome room s (command.Fsync fd) = once_on_tree s (descriptors.syncs_open s.tree fd) (once_fsync s.tree fd)
+has_one_outcome room s (command.Extent path offset) = once_on_tree s (reading.tells_extent s.tree room.stored path offset) (once_extent s.tree room.stored path offset)
 has_one_outcome room s command.Sync = once_says s _
 has_one_outcome room s command.Df = once_says s _
 has_one_outcome room s command.Statfs = once_usage room s

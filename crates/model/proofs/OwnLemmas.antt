@@ -386,6 +386,11 @@ own_store t path offset given =
     (text_own ((reading.is_negative offset || reading.is_too_many (length given), EINVAL) ∷ []) path (refl, tt))
     (own_to t true path _ (λ p o. by_kind t o _ _ _ (λ n. own_refuses t EISDIR refl) (λ n text. never t) (λ n. own_puts t n (nat_abs offset) given (λ after. after))))
 
+own_extent : (t : Tree) (stored : ℕ → ℕ → Bool) (path : List ℕ) (offset : ℤ) → Own t (reading.tells_extent t stored path offset)
+own_extent t stored path offset =
+    own_tested t (text_tests_then ((reading.is_negative offset, EINVAL) ∷ []) path) _ (text_own ((reading.is_negative offset, EINVAL) ∷ []) path (refl, tt))
+    (own_to t true path _ (λ p o. by_kind t o _ _ _ (λ n. own_refuses t EISDIR refl) (λ n text. never t) (λ n answer new need (extent, tells, done). own_answers t (reply.Extent extent) tt answer new need done)))
+
 own_path : (inodes : ℕ) (t : Tree) (c : PathCall) → Own t (calls inodes t c)
 own_path inodes t (call.List path) = own_list t path
 own_path inodes t (call.Entries path after count) = own_entries t path after count
@@ -455,6 +460,7 @@ own_step room s (command.Lseek fd from offset) = own_on_tree s (descriptors.seek
 own_step room s (command.Ftruncate fd size) = own_on_tree s (descriptors.truncates_open s.tree fd size) (own_ftruncate s.tree fd size)
 own_step room s (command.Fstat fd) = own_on_tree s (descriptors.stats_open s.tree fd) (own_fstat s.tree fd)
 own_step room s (command.Fsync fd) = own_on_tree s (descriptors.syncs_open s.tree fd) (own_fsync s.tree fd)
+own_step room s (command.Extent path offset) = own_on_tree s (reading.tells_extent s.tree room.stored path offset) (own_extent s.tree room.stored path offset)
 own_step room s command.Sync = own_says s _ tt
 own_step room s command.Df = own_says s _ tt
 own_step room s command.Statfs = λ answer new need done errno is. own_says s _ tt answer new need done.2 errno is

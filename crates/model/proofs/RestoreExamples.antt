@@ -13,7 +13,7 @@ use Rattle.model.specs.Circumstances.{IsShortFor}
 
 -- a disk of 64 blocks, whose snapshots keep three orphans each
 abbrev room_of : ℕ → Room
-room_of free = record { blocks = 64; free = free; pledged = 0; is_covered = true; orphans_of = λ name. 3 }
+room_of free = record { blocks = 64; free = free; pledged = 0; is_covered = true; orphans_of = λ name. 3; stored = λ n k. false }
 
 -- `mkdir /a`, `snap take s`
 

@@ -1,5 +1,5 @@
 -- Worked rows of snapshots.
-use Rattle.std.proofs.Common.{ℕ, zero, suc, ◌+◌, List, [], ◌∷◌, ◌++◌, true, refl, replicate, None}
+use Rattle.std.proofs.Common.{ℕ, zero, suc, ◌+◌, List, [], ◌∷◌, ◌++◌, true, false, refl, replicate, None}
 use Rattle.std.specs.Prelude.{codes, pos, ◌/◌, ◌%◌, nat_lt, if◌then◌else◌}
 use Rattle.model.specs.declared.errno.Errno.TheVariants.{EROFS, NOSNAP, SNAPEXISTS, SNAPFULL}
 use Rattle.model.specs.declared.reply.Reply.TheVariants as reply
@@ -16,7 +16,7 @@ use Rattle.model.proofs.DirectoryExamples.{at_a, with_a, with_a_is}
 use Rattle.model.proofs.ToldLemmas.{Told, told_root, told_object, told_bytes, told_file, told_dropped, dropped, listing_told, swept_told, links_told, forgets_told}
 
 abbrev room : Room
-room = record { blocks = 64; free = 60; pledged = 0; is_covered = true; orphans_of = λ name. 0 }
+room = record { blocks = 64; free = 60; pledged = 0; is_covered = true; orphans_of = λ name. 0; stored = λ n k. false }
 
 -- `mkdir /a`, `snap take s1`, `rmdir /a`: the snapshot has `/a`, and the tree hasn't
 

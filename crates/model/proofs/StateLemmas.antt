@@ -26,7 +26,7 @@ use Rattle.model.specs.Laws.{IsCommand, IsPathCall, CommandsLeaveStates, Allowed
 use Rattle.model.proofs.LeadLemmas.{AllPass, all_passed}
 use Rattle.model.proofs.NewTreeLemmas.{root_is_tree, tree_is_state}
 use Rattle.model.proofs.LooseLemmas.{swept_is_tree, closed_is_loose}
-use Rattle.model.proofs.StayLemmas.{LeavesTree, stays_stat, stays_list, stays_entries, stays_store, stays_readlink, stays_get, stays_truncate, stays_chmod, stays_set, stays_close, stays_read, stays_pread, stays_write, stays_pwrite, stays_seek, stays_ftruncate, stays_fstat, stays_fsync}
+use Rattle.model.proofs.StayLemmas.{LeavesTree, stays_stat, stays_list, stays_entries, stays_store, stays_readlink, stays_get, stays_truncate, stays_chmod, stays_set, stays_close, stays_read, stays_pread, stays_write, stays_pwrite, stays_seek, stays_ftruncate, stays_fstat, stays_fsync, stays_extent}
 use Rattle.model.proofs.CallLemmas.{stays_mkdir, stays_symlink, stays_link, stays_rmdir, stays_unlink, stays_open}
 use Rattle.model.proofs.ReplaceLemmas.{stays_rename}
 use Rattle.model.proofs.OptionLaws.{none_some, some_same}
@@ -173,6 +173,7 @@ module _ (s : State) (state : IsState s) where
   leaves_step room (command.Ftruncate fd size) bound = leaves_on_tree _ (stays_ftruncate s.inodes s.tree state.tree fd size)
   leaves_step room (command.Fstat fd) bound = leaves_on_tree _ (stays_fstat s.inodes s.tree state.tree fd)
   leaves_step room (command.Fsync fd) bound = leaves_on_tree _ (stays_fsync s.inodes s.tree state.tree fd)
+  leaves_step room (command.Extent path offset) bound = leaves_on_tree _ (stays_extent s.inodes s.tree state.tree room.stored path offset)
   leaves_step room command.Sync bound = leaves_same reply.Done
   leaves_step room command.Df bound = leaves_same (reply.Space room.blocks room.free room.pledged)
   leaves_step room command.Statfs bound = λ answer new need done. leaves_same _ answer new need done.2

@@ -180,6 +180,13 @@ module _ (inodes : ℕ) (t : Tree) (tree : IsTree inodes t) where
   stays_get path offset count =
       stays_at ((reading.is_negative offset || reading.is_too_many count, EINVAL) ∷ []) true path _ (λ p o pass at_p. stays_by_kind o _ _ _ (λ n is. stays_refused EISDIR) (λ n text is. stays_never) (λ n is. stays_same _))
 
+  pub stays_extent : (stored : ℕ → ℕ → Bool) (path : List ℕ) (offset : ℤ) → LeavesTree inodes (reading.tells_extent t stored path offset)
+  stays_extent stored path offset =
+      stays_at ((reading.is_negative offset, EINVAL) ∷ []) true path _ (λ p o pass at_p. stays_by_kind o _ _ _
+      (λ n is. stays_refused EISDIR)
+      (λ n text is. stays_never)
+      (λ n is answer new need (extent, tells, done). stays_same _ answer new need done))
+
   -- bytes and modes
 
   few_bytes : (o : Option (List ℕ)) → IfSome o (λ bytes. length bytes ≤ GREATEST_FILE) → length (unwrap_or o []) ≤ GREATEST_FILE

@@ -40,7 +40,8 @@ last_of now [] = now
 last_of now (next ∷ rest) = last_of next rest
 
 -- Where an object in use has a number of this generation, and behind any commands one has the same
--- number and generation, the number was in use throughout and was given to no other object.
+-- number and generation, the number was in use at each moment between: it never came free, so it was
+-- never given anew.
 abbrev pub GenerationsTell : Type 0
 GenerationsTell =
     (first : Moment) (moments : List Moment) (n : ℕ)

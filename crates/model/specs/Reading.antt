@@ -1,12 +1,14 @@
 -- The calls that read by a path (POSIX.1-2017, stat(), readlink(), read()): the reply is a function
 -- of the tree.
-use Rattle.std.specs.Prelude.{ℕ, ℤ, pos, negsuc, nat_abs, true, false, Bool, nat_lt, ◌||◌, ◌==◌, List, [], ◌∷◌}
+use Rattle.std.specs.Prelude.{ℕ, ℤ, pos, negsuc, nat_abs, true, false, Bool, nat_lt, ◌||◌, ◌==◌, List, [], ◌∷◌, length}
 use Rattle.model.specs.declared.limits.TheConstants.{ENTRIES_TOLD, TRANSFER_BYTES}
 use Rattle.model.specs.declared.errno.Errno.TheVariants.{ENOTDIR, EISDIR, EINVAL}
 use Rattle.model.specs.declared.reply.Reply.TheVariants as reply
 use Rattle.model.specs.Paths.{text_tests, text_tests_then}
 use Rattle.model.specs.Trees.{Tree, Object, directory, symlink, file}
 use Rattle.model.specs.Edits.{contents, read_at}
+use Rattle.model.specs.Holes.{TellsExtent}
+use Rattle.model.specs.declared.reply.Extent.{Extent}
 use Rattle.model.specs.Stats.{stat_of}
 use Rattle.model.specs.Entries.{with_part}
 use Rattle.model.specs.Outcomes.{Outcome, answers, refuses, tested, goes_to, with_names, with_links}
@@ -56,6 +58,21 @@ tells_entries t path after count =
       | directory n ↦ with_names t p (λ names. with_part t p names (nat_abs after) count (λ entries. answers t (reply.Entries entries)))
       | symlink n text ↦ refuses t ENOTDIR
       | file n ↦ refuses t ENOTDIR
+    ]))
+
+-- the reply is what is told of a file with these blocks stored, from an offset on
+abbrev pub with_extent : Tree → (ℕ → Bool) → ℕ → ℕ → Outcome
+with_extent t stored n offset answer new need =
+    (extent : Extent) × TellsExtent stored (length (contents t n)) offset extent × answers t (reply.Extent extent) answer new need
+
+-- `extent`: what of the file that a path leads to is stored
+abbrev pub tells_extent : Tree → (ℕ → ℕ → Bool) → List ℕ → ℤ → Outcome
+tells_extent t stored path offset =
+    tested t (text_tests_then ((is_negative offset, EINVAL) ∷ []) path)
+    (goes_to t true path (λ p o. elim o [
+      | file n ↦ with_extent t (stored n) n (nat_abs offset)
+      | directory n ↦ refuses t EISDIR
+      | symlink n text ↦ λ _ _ _. ⊥  -- a final link is followed
     ]))
 
 -- `get`: as many bytes as asked and there, of the file that a path leads to, from an offset on

@@ -61,6 +61,11 @@ abbrev pub IsStat : Reply → Type 0
 IsStat (reply.Stat stat) = Unit {0}
 IsStat other = ⊥
 
+-- what of a file is stored
+abbrev pub IsExtent : Reply → Type 0
+IsExtent (reply.Extent extent) = Unit {0}
+IsExtent other = ⊥
+
 -- the room of the disk
 abbrev pub IsSpace : Reply → Type 0
 IsSpace (reply.Space blocks free pledged) = Unit {0}
@@ -93,6 +98,7 @@ IsAnswerTo (command.Pread fd offset count) r = IsData r
 IsAnswerTo (command.Pwrite fd offset bytes) r = IsWritten r
 IsAnswerTo (command.Lseek fd whence offset) r = IsOffset r
 IsAnswerTo (command.Fstat fd) r = IsStat r
+IsAnswerTo (command.Extent path offset) r = IsExtent r
 IsAnswerTo command.Df r = IsSpace r
 IsAnswerTo command.Statfs r = IsUsage r
 IsAnswerTo command.SnapList r = IsSnapshots r

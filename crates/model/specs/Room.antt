@@ -54,6 +54,7 @@ pub record Room : Type 0 where
   pub pledged : ℕ  -- blocks that a consistency point may store for what the settled root doesn't cover
   pub is_covered : Bool  -- the settled root has the tree as it is now, and no record stands beside it
   pub orphans_of : List ℕ → ℕ  -- orphans that the image keeps under the snapshot of a name
+  pub stored : ℕ → ℕ → Bool  -- which blocks of a file are stored, by its number and their index
 
 -- the blocks that no new data may have, of the free ones: pledged ones, those that the next
 -- consistency point stores whatever changed, and those that stay for removals

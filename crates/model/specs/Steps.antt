@@ -16,7 +16,7 @@ use Rattle.model.specs.Trees.{Tree, IsUsed}
 use Rattle.model.specs.States.{State, with_tree, with_snapshots, ForgetsOpenFiles}
 use Rattle.model.specs.Room.{Need, nothing, a_snapshot, a_restore, Room, reserved_of}
 use Rattle.model.specs.Outcomes.{Outcome}
-use Rattle.model.specs.Reading.{lists, tells_entries, stats, reads_link, gets}
+use Rattle.model.specs.Reading.{lists, tells_entries, stats, reads_link, tells_extent, gets}
 use Rattle.model.specs.Changing.{makes_directory, makes_symlink, removes_directory, unlinks, links, renames, changes_mode, truncates, sets}
 use Rattle.model.specs.Descriptors.{opens, closes, reads, reads_from, stores, writes, writes_to, seeks, truncates_open, stats_open, syncs_open}
 
@@ -129,8 +129,8 @@ usage_of room s taken = record {
 abbrev pub tells_usage : Room → State → Step
 tells_usage room s reply new need = (taken : ℕ) × Counts (IsUsed s.tree) taken × says s (tells (usage_of room s taken)) reply new need
 
--- the reply, the new state and the need of a command, where nothing comes in its way; `df` tells
--- the room at the answer
+-- the reply, the new state and the need of a command, where nothing comes in its way; `df`, `statfs`
+-- and `extent` tell the room at the answer
 abbrev pub WouldStep : Room → State → Command → Step
 WouldStep room s (command.Path c) = on_tree s (calls s.inodes s.tree c)
 WouldStep room s (command.Open path flags mode below) = on_tree s (opens false below s.inodes s.tree path flags mode)
@@ -144,6 +144,7 @@ WouldStep room s (command.Lseek fd whence offset) = on_tree s (seeks s.tree fd w
 WouldStep room s (command.Ftruncate fd size) = on_tree s (truncates_open s.tree fd size)
 WouldStep room s (command.Fstat fd) = on_tree s (stats_open s.tree fd)
 WouldStep room s (command.Fsync fd) = on_tree s (syncs_open s.tree fd)
+WouldStep room s (command.Extent path offset) = on_tree s (tells_extent s.tree room.stored path offset)
 WouldStep room s command.Sync = says s Done
 WouldStep room s command.Df = says s (Space room.blocks room.free room.pledged)
 WouldStep room s command.Statfs = tells_usage room s

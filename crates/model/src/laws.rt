@@ -168,7 +168,7 @@ pub fn parts_tell_names_once()
     ensures { PartsTellOnce }
 {}
 
-/// An object whose number and generation are the same behind any commands is the same object.
+/// A number whose generation is the same behind any commands was in use at each moment between.
 pub fn generations_tell_objects()
     ensures { GenerationsTell }
 {}
