@@ -1,8 +1,8 @@
 -- Bodies of requests are exact.
 use Rattle.std.proofs.Common.{ℕ, ◌==◌}
-use Rattle.grammar.specs.Format.{num, ◌▸◌}
-use Rattle.grammar.proofs.Formats.{IsExact, num_exact, nothing_exact, counting_exact, then_exact}
-use Rattle.grammar.proofs.Grammars.{IsExactGrammar, saying_exact, saying_first_exact, choose_exact}
+use Rattle.layout.specs.Format.{num, ◌▸◌}
+use Rattle.layout.proofs.Formats.{IsExact, num_exact, then_exact}
+use Rattle.fuse.proofs.Grammars.{nothing_exact, counting_exact, IsExactGrammar, saying_exact, saying_first_exact, choose_exact}
 use Rattle.fuse.specs.AttributeChanges.{targets_fields, times_fields, rights_fields}
 use Rattle.fuse.specs.Bodies.{forgets_fields, get_attributes_fields, set_attributes_fields, make_node_fields, make_directory_fields, rename_fields, rename_by_flags_fields, link_fields, transfer_fields, release_fields, sync_fields, init_fields, seek_fields, lookup_body, forget_body, get_attributes_body, set_attributes_body, read_link_body, symbolic_link_body, make_node_body, make_directory_body, unlink_body, remove_directory_body, rename_body, link_body, open_body, read_body, write_body, stat_file_system_body, release_body, sync_body, flush_body, init_body, open_directory_body, read_directory_body, release_directory_body, sync_directory_body, access_body, create_body, interrupt_body, destroy_body, batch_forget_body, read_directory_plus_body, rename_by_flags_body, seek_body, other_body, body}
 use Rattle.fuse.specs.Operation.{other}

@@ -1,8 +1,8 @@
 -- How long entries are in a listing.
 use Rattle.std.proofs.Common.{◌≡◌, ℕ, ◌+◌, List, ◌++◌, length, cond, is_ok, Result, Ok, Err, OnOk, OnErr, ap, ◌∙◌, append_assoc, arith}
 use Rattle.std.proofs.lemmas.List.{length-append}
-use Rattle.grammar.proofs.NumberLaws.{length-little}
-use Rattle.grammar.proofs.ZeroLaws.{length-zeros}
+use Rattle.layout.proofs.NumberLaws.{length-little}
+use Rattle.layout.proofs.ZeroLaws.{length-zeros}
 use Rattle.fuse.specs.Attributes.{attributes_text, entry_text}
 use Rattle.fuse.specs.Directory.{ListedValue, padding, listed_head_text, listed_text, listed_plus_text}
 use Rattle.fuse.specs.declared.attributes.Attributes.{Attributes}

@@ -2,9 +2,9 @@
 use Rattle.std.proofs.Common.{◌≡◌, ℕ, suc, ◌/◌, ◌<◌, ◌≤◌, Bool, true, false, cond, ltb, List, [], ◌∷◌, length, drop, Option, Some, None, refl, sym, ap, ◌∙◌, arith}
 use Rattle.std.proofs.lemmas.Bool.{ltb-true, ltb-false}
 use Rattle.std.proofs.lemmas.List.{length-drop, drop-drop}
-use Rattle.grammar.specs.Bytes.{number}
-use Rattle.grammar.specs.Reading.{number_read}
-use Rattle.grammar.proofs.Formats.{some_is, unless_then}
+use Rattle.layout.specs.Bytes.{number}
+use Rattle.layout.specs.Reading.{number_read}
+use Rattle.layout.proofs.Formats.{some_is, unless_then}
 use Rattle.fuse.specs.Forgets.{forgets_in, all_forgets}
 
 nothing_behind : {A : Type 0} (b : Bool) (x : A) → ◌≡◌ {A = Option A} None (cond b None (Some x)) → b ≡ true

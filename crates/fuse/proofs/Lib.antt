@@ -1,3 +1,5 @@
+mod Grammars
+mod Chains
 mod NameLaws
 mod BodyLaws
 mod RequestLaws

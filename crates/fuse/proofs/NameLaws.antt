@@ -4,8 +4,8 @@ use Rattle.std.proofs.lemmas.Bool.{eqb-true, eqb-false, ne_eqb}
 use Rattle.std.proofs.lemmas.List.{take_all, length-drop}
 use Rattle.std.proofs.lemmas.List.Elements.{All-nil, All-cons, All-head, All-tail}
 use Rattle.memchr.specs.Find.{IsFirstByte, is_byte}
-use Rattle.grammar.specs.Bytes.{IsBytes}
-use Rattle.grammar.proofs.Formats.{IsExact, Takes, bind_some, some_is}
+use Rattle.layout.specs.Bytes.{IsBytes}
+use Rattle.layout.proofs.Formats.{IsExact, Takes, bind_some, some_is}
 use Rattle.fuse.specs.Names.{ended_at, ended}
 
 -- where no byte is 0, no name is ended

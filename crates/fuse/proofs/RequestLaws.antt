@@ -1,7 +1,7 @@
 -- Requests: what is read is spelled so, and what is spelled so is read.
 use Rattle.std.proofs.Common.{◌≡◌, ℕ, List, length, Option, Some, sym, ap, ◌∙◌}
-use Rattle.grammar.specs.Bytes.{IsBytes}
-use Rattle.grammar.proofs.Formats.{IsExact, num_exact, then_exact, some_is}
+use Rattle.layout.specs.Bytes.{IsBytes}
+use Rattle.layout.proofs.Formats.{IsExact, num_exact, then_exact, some_is}
 use Rattle.fuse.specs.Bodies.{body}
 use Rattle.fuse.specs.Head.{head, fields_of}
 use Rattle.fuse.specs.Operation.{OperationValue}

@@ -1,7 +1,7 @@
 -- What a request asks to change of an object's attributes: three groups of fields, and what they
 -- ask.
 use Rattle.std.specs.Prelude.{ℕ, if◌then◌else◌}
-use Rattle.grammar.specs.Format.{Format, num, ◌▸◌}
+use Rattle.layout.specs.Format.{Format, num, ◌▸◌}
 use Rattle.fuse.specs.Flags.{is_set, given}
 use Rattle.fuse.specs.declared.opcode.TheConstants.{FATTR_MODE, FATTR_UID, FATTR_GID, FATTR_SIZE, FATTR_ATIME, FATTR_MTIME, FATTR_FH, FATTR_ATIME_NOW, FATTR_MTIME_NOW, FATTR_CTIME, FATTR_KILL_SUIDGID}
 use Rattle.fuse.specs.declared.time.Time.{Time}

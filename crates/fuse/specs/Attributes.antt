@@ -1,6 +1,6 @@
 -- What a reply tells of an object, in the order of its fields.
 use Rattle.std.specs.Prelude.{ℕ, List, ◌++◌}
-use Rattle.grammar.specs.Bytes.{little}
+use Rattle.layout.specs.Bytes.{little}
 use Rattle.fuse.specs.declared.attributes.Attributes.{Attributes}
 use Rattle.fuse.specs.declared.attributes.Entry.{Entry}
 

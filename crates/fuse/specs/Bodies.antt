@@ -3,8 +3,8 @@
 -- operation tells of may be set or not: what pads and what a lock is for, which a kernel fills as
 -- it likes, and flags that tell a file system nothing. So several bodies may ask the same.
 use Rattle.std.specs.Prelude.{ℕ, ◌*◌, List, ◌==◌}
-use Rattle.grammar.specs.Format.{Format, num, nothing, counting, ◌▸◌}
-use Rattle.grammar.specs.Grammar.{Grammar, saying, saying_first, choose}
+use Rattle.layout.specs.Format.{Format, num, ◌▸◌}
+use Rattle.fuse.specs.Grammar.{nothing, counting, Grammar, saying, saying_first, choose}
 use Rattle.fuse.specs.AttributeChanges.{TargetsFields, TimesFields, RightsFields, targets_fields, times_fields, rights_fields, changes_of}
 use Rattle.fuse.specs.Flags.{is_set, given}
 use Rattle.fuse.specs.Forgets.{all_forgets}

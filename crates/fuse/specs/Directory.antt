@@ -1,6 +1,6 @@
 -- Entries of a directory, as a listing has them.
 use Rattle.std.specs.Prelude.{ℕ, ◌-◌, ◌%◌, List, ◌++◌, length}
-use Rattle.grammar.specs.Bytes.{little, zeros}
+use Rattle.layout.specs.Bytes.{little, zeros}
 use Rattle.fuse.specs.Attributes.{entry_text}
 use Rattle.fuse.specs.declared.attributes.Entry.{Entry}
 use Rattle.fuse.specs.declared.directory.Listed.{Listed}

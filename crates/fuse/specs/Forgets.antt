@@ -1,6 +1,6 @@
 -- What the kernel forgets of several nodes.
 use Rattle.std.specs.Prelude.{ℕ, zero, suc, ◌/◌, List, [], ◌∷◌, length, drop}
-use Rattle.grammar.specs.Bytes.{number}
+use Rattle.layout.specs.Bytes.{number}
 use Rattle.fuse.specs.declared.forgets.Forget.{Forget}
 use Rattle.fuse.specs.declared.forgets.Forgets.{Forgets}
 

@@ -1,6 +1,6 @@
 -- The head of a request.
 use Rattle.std.specs.Prelude.{ℕ}
-use Rattle.grammar.specs.Format.{Format, num, ◌▸◌}
+use Rattle.layout.specs.Format.{Format, num, ◌▸◌}
 use Rattle.fuse.specs.declared.head.Head.{Head}
 
 -- length, opcode, the request's own number, node, user, group, process, and four bytes more

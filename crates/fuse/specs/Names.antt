@@ -1,7 +1,7 @@
 -- Names and texts, which a zero byte ends.
 use Rattle.std.specs.Prelude.{ℕ, ◌≢◌, List, [], ◌∷◌, ◌++◌, Option, Some, None, All, ◌==◌, if◌then◌else◌}
-use Rattle.grammar.specs.Format.{Format}
-use Rattle.grammar.specs.Reading.{◌>>=◌}
+use Rattle.layout.specs.Format.{Format}
+use Rattle.layout.specs.Reading.{◌>>=◌}
 
 -- the bytes up to the first that is 0, and those behind that
 abbrev pub ended_at : List ℕ → Option (List ℕ × List ℕ)

@@ -1,6 +1,6 @@
 -- Replies: a head, and what stands behind it, in the order of their fields.
 use Rattle.std.specs.Prelude.{ℕ, ◌+◌, ◌-◌, ◌^◌, List, ◌++◌, length}
-use Rattle.grammar.specs.Bytes.{little, zeros}
+use Rattle.layout.specs.Bytes.{little, zeros}
 use Rattle.fuse.specs.Attributes.{attributes_text, entry_text}
 use Rattle.fuse.specs.declared.attributes.Attributes.{Attributes}
 use Rattle.fuse.specs.declared.attributes.Entry.{Entry}

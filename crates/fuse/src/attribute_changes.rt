@@ -10,7 +10,7 @@ use crate::opcode::{
     FATTR_MTIME, FATTR_MTIME_NOW, FATTR_SIZE, FATTR_UID,
 };
 use crate::time::Time;
-use grammar::{u32_at, u64_at};
+use layout::{u32_at, u64_at};
 
 /// The time that an object is given.
 #[derive(Clone, Copy, Debug)]

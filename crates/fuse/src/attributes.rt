@@ -4,7 +4,7 @@ ghost use Rattle.std.specs.Prelude.{◌≡◌};
 ghost use Rattle.fuse.specs.Attributes.{attributes_text, entry_text};
 
 use crate::time::{Time, Timeout};
-use grammar::{put_bytes, put_u32, put_u64};
+use layout::{put_bytes, put_u32, put_u64};
 
 /// Bytes of attributes (`struct fuse_attr`).
 pub const ATTRIBUTES_BYTES: usize = 88;

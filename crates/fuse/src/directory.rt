@@ -1,11 +1,11 @@
 //! Entries of a directory, as a listing has them.
 
 ghost use Rattle.std.specs.Prelude.{◌≡◌, ◌+◌, ◌<◌, ◌≤◌, ◌++◌, ◌↔◌, IfOk, IsTrue, OnErr, OnOk, length, vec_len, vec_capacity, if◌then◌else◌};
-ghost use Rattle.grammar.specs.Bytes.{zeros};
+ghost use Rattle.layout.specs.Bytes.{zeros};
 ghost use Rattle.fuse.specs.Directory.{code_of, listed_head_text, listed_of, listed_plus_text, listed_text, padding};
 
 use crate::attributes::{ENTRY_BYTES, Entry, entry_bytes};
-use grammar::{put_u32, put_u64};
+use layout::{put_u32, put_u64};
 use std::alloc::AllocError;
 
 /// Bytes in front of a name in a listing (`struct fuse_dirent`).

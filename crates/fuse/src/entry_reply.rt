@@ -7,7 +7,7 @@ ghost use Rattle.fuse.specs.Replies.{attributes_reply_text, no_entry_text, reply
 use crate::attributes::{Attributes, Entry, attributes_bytes, entry_bytes};
 use crate::reply::write_bytes;
 use crate::time::Timeout;
-use grammar::{put_bytes, put_u32, put_u64, put_zeros};
+use layout::{put_bytes, put_u32, put_u64, put_zeros};
 use std::alloc::AllocError;
 
 /// Writes the reply that tells what a name leads to.

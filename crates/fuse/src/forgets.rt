@@ -1,6 +1,6 @@
 //! What the kernel forgets at once.
 
-use grammar::u64_at;
+use layout::u64_at;
 
 /// So many of the times that the kernel was told of a node.
 #[derive(Clone, Copy, Debug)]

@@ -4,7 +4,7 @@ ghost use Rattle.std.specs.Prelude.{◌≡◌};
 ghost use Rattle.std.specs.Option.{option_map};
 ghost use Rattle.fuse.specs.Head.{fields_of, head};
 
-use grammar::{u32_at, u64_at};
+use layout::{u32_at, u64_at};
 
 /// What stands in front of each request (`struct fuse_in_header`).
 #[derive(Clone, Copy, Debug)]

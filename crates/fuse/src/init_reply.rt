@@ -4,7 +4,7 @@ ghost use Rattle.std.specs.Prelude.{◌≡◌, ◌++◌, OnOk, OnErr};
 ghost use Rattle.fuse.specs.Replies.{init_text, reply_text};
 
 use crate::reply::write_bytes;
-use grammar::{put_u16, put_u32, put_zeros};
+use layout::{put_u16, put_u32, put_zeros};
 use std::alloc::AllocError;
 
 /// The version of the protocol that this crate speaks.

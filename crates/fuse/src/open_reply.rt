@@ -5,7 +5,7 @@ ghost use Rattle.fuse.specs.Replies.{created_text, open_text, reply_text};
 
 use crate::attributes::{Entry, entry_bytes};
 use crate::reply::write_bytes;
-use grammar::{put_bytes, put_u32, put_u64};
+use layout::{put_bytes, put_u32, put_u64};
 use std::alloc::AllocError;
 
 /// Reads and writes of this open file pass the kernel's cache.

@@ -1,10 +1,10 @@
 //! Replies: a head, and what stands behind it.
 
 ghost use Rattle.std.specs.Prelude.{◌≡◌, ◌+◌, ◌<◌, ◌≤◌, ◌^◌, ◌++◌, [], OnOk, OnErr, length};
-ghost use Rattle.grammar.specs.Bytes.{little};
+ghost use Rattle.layout.specs.Bytes.{little};
 ghost use Rattle.fuse.specs.Replies.{count_text, error_text, head_text, offset_text, reply_text};
 
-use grammar::{put_u32, put_u64};
+use layout::{put_u32, put_u64};
 use std::alloc::AllocError;
 
 /// Bytes of a reply's head (`struct fuse_out_header`).

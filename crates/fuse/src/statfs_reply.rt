@@ -4,7 +4,7 @@ ghost use Rattle.std.specs.Prelude.{◌≡◌, ◌++◌, OnOk, OnErr};
 ghost use Rattle.fuse.specs.Replies.{reply_text, statfs_text};
 
 use crate::reply::write_bytes;
-use grammar::{put_u32, put_u64, put_zeros};
+use layout::{put_u32, put_u64, put_zeros};
 use std::alloc::AllocError;
 
 /// Sizes and counts of the whole file system (`struct fuse_kstatfs`).

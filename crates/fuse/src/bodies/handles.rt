@@ -8,7 +8,7 @@ ghost use Rattle.fuse.specs.Operation.{operation_of};
 use crate::flags::is_set;
 use crate::opcode::FSYNC_FDATASYNC;
 use crate::operation::Operation;
-use grammar::{u32_at, u64_at};
+use layout::{u32_at, u64_at};
 
 #[tactic(auto, unfolding(crate::specs::Bodies::open_body))]
 pub(crate) fn read_open(bytes: &[u8]) -> Option<Operation<'_>>

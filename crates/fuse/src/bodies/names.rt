@@ -7,7 +7,7 @@ ghost use Rattle.fuse.specs.Operation.{operation_of};
 
 use crate::name::ended_at;
 use crate::operation::Operation;
-use grammar::{u32_at, u64_at};
+use layout::{u32_at, u64_at};
 
 #[tactic(auto, unfolding(crate::specs::Bodies::lookup_body))]
 pub(crate) fn read_lookup(bytes: &[u8]) -> Option<Operation<'_>>

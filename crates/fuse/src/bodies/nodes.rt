@@ -10,7 +10,7 @@ use crate::flags::given;
 use crate::forgets::Forgets;
 use crate::opcode::GETATTR_FH;
 use crate::operation::Operation;
-use grammar::{part_at, u32_at, u64_at};
+use layout::{part_at, u32_at, u64_at};
 
 #[tactic(auto, unfolding(crate::specs::Bodies::forget_body))]
 pub(crate) fn read_forget(bytes: &[u8]) -> Option<Operation<'_>>

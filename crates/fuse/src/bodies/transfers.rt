@@ -7,7 +7,7 @@ ghost use Rattle.fuse.specs.Operation.{operation_of};
 ghost use Rattle.fuse.specs.Transfers.{transfer_of};
 
 use crate::operation::Operation;
-use grammar::{part_at, u32_at, u64_at};
+use layout::{part_at, u32_at, u64_at};
 
 /// The numbers that tell of bytes to be read or written.
 #[derive(Clone, Copy)]

@@ -1,5 +1,5 @@
 use Rattle.std.proofs.Common.{List, ℕ, length, ap, arith}
-use Rattle.grammar.proofs.ZeroLaws.{length-zeros}
+use Rattle.layout.proofs.ZeroLaws.{length-zeros}
 use Rattle.std.proofs.lemmas.Result.{on_err_weaker}
 use Rattle.fuse.specs.Directory.{listed_of, listed_text, padding}
 use Rattle.fuse.proofs.DirectoryLaws.{length-listed_text, on_err, wrote_three}

@@ -1,5 +1,6 @@
 use Rattle.std.proofs.Common.{refl}
-use Rattle.grammar.proofs.WritingLaws.{wrote_all, ◌⨾◌}
+use Rattle.layout.proofs.WritingLaws.{wrote_all}
+use Rattle.fuse.proofs.Chains.{◌⨾◌}
 use Rattle.fuse.specs.Directory.{listed_head_text}
 use Rattle.fuse.proofs.directory.listed_head_bytes.Goals as goal
 

@@ -1,5 +1,5 @@
 use Rattle.std.proofs.Common.{List, ℕ, length, ap, arith}
-use Rattle.grammar.proofs.ZeroLaws.{length-zeros}
+use Rattle.layout.proofs.ZeroLaws.{length-zeros}
 use Rattle.fuse.specs.Directory.{listed_of, padding}
 use Rattle.fuse.proofs.DirectoryLaws.{length-listed_text}
 use Rattle.fuse.proofs.directory.listed_len.Goals as goal

@@ -1,6 +1,6 @@
 use Rattle.std.proofs.Common.{◌≤◌, ◌-◌, ◌%◌, arith}
 use Rattle.std.proofs.lemmas.List.{take-replicate}
-use Rattle.grammar.specs.Bytes.{zeros}
+use Rattle.layout.specs.Bytes.{zeros}
 use Rattle.fuse.specs.Directory.{padding}
 use Rattle.fuse.proofs.directory.padding.Goals as goal
 

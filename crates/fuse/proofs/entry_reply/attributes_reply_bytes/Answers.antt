@@ -1,5 +1,6 @@
 use Rattle.std.proofs.Common.{◌≡◌, ◌+◌, length, refl, arith}
-use Rattle.grammar.proofs.WritingLaws.{wrote_all, written_to, ◌⨾◌}
+use Rattle.layout.proofs.WritingLaws.{wrote_all, written_to}
+use Rattle.fuse.proofs.Chains.{◌⨾◌}
 use Rattle.fuse.specs.Replies.{attributes_reply_text}
 use Rattle.fuse.proofs.entry_reply.attributes_reply_bytes.Goals as goal
 

@@ -1,5 +1,6 @@
 use Rattle.std.proofs.Common.{refl}
-use Rattle.grammar.proofs.WritingLaws.{wrote_all, ◌⨾◌}
+use Rattle.layout.proofs.WritingLaws.{wrote_all}
+use Rattle.fuse.proofs.Chains.{◌⨾◌}
 use Rattle.fuse.specs.Replies.{head_text}
 use Rattle.fuse.proofs.reply.head_bytes.Goals as goal
 

@@ -1,5 +1,5 @@
 use Rattle.std.proofs.Common.{Some, None, sym, ap, ◌∙◌, arith}
-use Rattle.grammar.proofs.Formats.{some_is}
+use Rattle.layout.proofs.Formats.{some_is}
 use Rattle.fuse.specs.Operation.{operation_of}
 use Rattle.fuse.specs.declared.head.Head.{Head}
 use Rattle.fuse.proofs.RequestLaws.{request_found, request_head, same_head, same_request}

@@ -1,10 +1,30 @@
 -- Grammars are exact: what is read is said by the bytes, and what they say is read.
-use Rattle.std.proofs.Common.{◌≡◌, ℕ, Bool, true, false, List, Some, sym, ap, ◌∙◌}
-use Rattle.grammar.specs.Bytes.{IsBytes}
-use Rattle.grammar.specs.Format.{Format}
-use Rattle.grammar.specs.Grammar.{Grammar, saying, saying_first, choose}
-use Rattle.grammar.specs.Reading.{◌>>=◌, all_of}
-use Rattle.grammar.proofs.Formats.{IsExact, bind_some, some_is, whole_takes, made_again}
+use Rattle.std.proofs.Common.{◌≡◌, ℕ, Bool, true, false, List, [], ◌++◌, length, Some, refl, sym, ap, subst, ◌∙◌, append_assoc}
+use Rattle.layout.specs.Bytes.{IsBytes}
+use Rattle.layout.specs.Format.{Format}
+use Rattle.layout.specs.Reading.{◌>>=◌, part_at, all_of}
+use Rattle.layout.proofs.Formats.{IsExact, Takes, Takes-then, bind_some, some_is, part_exact, whole_takes, made_again}
+use Rattle.fuse.specs.Grammar.{Grammar, nothing, counting, counting_at, saying, saying_first, choose}
+
+pub nothing_exact : IsExact nothing
+nothing_exact = record {
+  takes = λ bytes x fits e. (subst (λ (y : Unit {0} × List ℕ). Takes bytes [] y.1) (some_is (tt, bytes) x e) (record { parts = refl; rest_fits = fits }), tt);
+  again = λ v rest fits. refl;
+}
+
+pub counting_exact : {A : Type 0} {f : Format A} → IsExact f → (count : A → ℕ) → IsExact (counting f count)
+counting_exact {A} {f} exact count = record {
+  takes = λ bytes x fits e.
+      let a = bind_some (f.at bytes) (λ y. part_at (count y.0) y.1 >>= λ z. Some ((y.0, z.0), z.1)) x e in
+      let b = bind_some (part_at (count a.0.0) a.0.1) (λ z. Some ((a.0.0, z.0), z.1)) x a.2 in
+      let one = exact.takes bytes a.0 fits a.1 in
+      let two = (part_exact (count a.0.0)).takes a.0.1 b.0 one.0.rest_fits b.1 in
+      let both = Takes-then bytes (f.text a.0.0) a.0.1 b.0.0 b.0.1 one.0 two.0 in
+      subst (λ (y : (A × List ℕ) × List ℕ). Takes bytes (f.text y.0.0 ++ y.0.1) y.1 × (f.Fits y.0.0 × (length y.0.1 ≡ count y.0.0))) (some_is ((a.0.0, b.0.0), b.0.1) x b.2) (both, (one.1, two.1));
+  again = λ v rest fits.
+      let regrouped : (f.text v.0 ++ v.1) ++ rest ≡ f.text v.0 ++ (v.1 ++ rest) = append_assoc (f.text v.0) v.1 rest in
+      ap (counting_at f.at count) regrouped ∙ rw (exact.again v.0 (v.1 ++ rest) fits.0, (part_exact (count v.0)).again v.1 rest fits.1) refl;
+}
 
 -- a grammar reads exactly what the bytes say
 pub record IsExactGrammar {A : Type 0} (g : Grammar A) : Type 0 where

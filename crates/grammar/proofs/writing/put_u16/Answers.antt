@@ -1,5 +1,0 @@
-use Rattle.grammar.proofs.WritingLaws.{number_written}
-use Rattle.grammar.proofs.writing.put_u16.Goals as goal
-
-pub returns : goal.returns
-returns c = number_written 2 c.args.at c.args.number c.args.out.now c.write_u16.new.buf c.requires c.write_u16.ensures

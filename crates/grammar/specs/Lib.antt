@@ -1,4 +1,0 @@
-pub mod Bytes
-pub mod Reading
-pub mod Format
-pub mod Grammar
