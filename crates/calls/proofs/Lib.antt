@@ -9,6 +9,7 @@ pub mod StatLaws
 pub mod SeeLaws
 pub mod ModeLaws
 pub mod GetLaws
+pub mod ExtentLaws
 pub mod NameLaws
 pub mod RemoveLaws
 pub mod SymlinkLaws

@@ -11,6 +11,7 @@ pub mod Making
 pub mod Unlink
 pub mod Rmdir
 pub mod Get
+pub mod Extent
 pub mod Truncate
 pub mod Store
 pub mod Rename

@@ -25,6 +25,7 @@ pub use preparing::store::{Storing, store};
 pub use preparing::symlink::symlink;
 pub use preparing::truncate::{refusal_of_size, truncate, truncate_file};
 pub use preparing::unlink::unlink;
+pub use reading::extent::extent;
 pub use reading::get::get;
 pub use reading::list::list;
 pub use reading::readlink::readlink;

@@ -3,6 +3,7 @@ pub mod NewLaws
 pub mod EnterLaws
 pub mod StandLaws
 pub mod KindLaws
+pub mod ExtentLaws
 pub mod SizeLaws
 pub mod Looking
 pub mod ObstacleLaws

@@ -31,6 +31,6 @@ pub use name_removal::prepare_remove_name;
 pub use new_objects::{is_vacant, new_object};
 pub use orphans::{commit_swept, drop_orphan, is_orphan};
 pub use prepared::{Prepared, commit, prepare, prepare_new};
-pub use reading::read_bytes;
+pub use reading::{read_bytes, read_extent};
 pub use renaming::{goes_below, is_directory_at, prepare_move};
 pub use rewriting::{set_bytes, truncate_bytes, write_bytes};

@@ -8,13 +8,13 @@ ghost use Rattle.blocktree.specs.Trees.{IsSoundAt};
 ghost use Rattle.inode.specs.Files.{bytes_of_file};
 ghost use Rattle.paths.specs.Loads.{IsAny, LooksUp};
 ghost use Rattle.paths.specs.Numbers.{IsInodeNumber};
-ghost use Rattle.records.specs.Reading.{ReadsNumber};
+ghost use Rattle.records.specs.Reading.{ReadsNumber, ShowsExtent};
 
 use buffers::{BlockError, Blocks};
 use inode::File;
 use inofile::{InodeFile, objects_stand_in_their_grammar};
 use layout::{InodeNumber, Kind};
-use model::Text;
+use model::{Extent, Text};
 use paths::load;
 use std::alloc::Global;
 
@@ -44,6 +44,33 @@ pub fn read_bytes<B: Blocks>(
     }
     let bytes = part(alloc, blocks, &object.file, offset, count)?;
     Ok(Some(Text::new(bytes)))
+}
+
+/// How many blocks of the file with a number are stored, and where its next data and its next hole
+/// are from an offset on; None where it is none. NoMemory; Device where a read failed; Damaged where
+/// a block on the way is outside its format.
+pub fn read_extent<B: Blocks>(
+    alloc: Global,
+    inodes: &mut InodeFile,
+    blocks: &mut B,
+    number: InodeNumber,
+    offset: u64,
+) -> Result<Option<Extent>, BlockError>
+    requires { IsInodeNumber inodes.old.geometry.inodes number }
+    ensures { LooksUp B.Blocks blocks.old blocks.new inodes.old inodes.new IsAny
+        (λ v. ShowsExtent B.Blocks blocks.old inodes.new v number offset) result }
+{
+    objects_stand_in_their_grammar();
+    load(alloc, inodes, blocks, number)?;
+    let Some(object) = inodes.get(number.get()) else {
+        return Ok(None);
+    };
+    match object.status.kind {
+        Kind::File => {}
+        _ => return Ok(None),
+    }
+    let extent = object.file.extent(alloc, blocks, offset)?;
+    Ok(Some(extent))
 }
 
 // As many bytes of a file as asked and there, from an offset on.
