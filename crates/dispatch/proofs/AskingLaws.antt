@@ -2,8 +2,10 @@
 use Rattle.std.proofs.Common.{◌≡◌, ℕ, ℤ, List, Result, Ok, Err, refl, sym, subst}
 use Rattle.std.specs.Result.{IsErrAnd}
 use Rattle.model.specs.Reading.{gets, tells_entries}
+use Rattle.model.specs.Outcomes.{Outcome}
 use Rattle.model.specs.Room.{nothing}
 use Rattle.model.specs.Steps.{calls}
+use Rattle.model.specs.Trees.{Tree}
 use Rattle.model.specs.Volumes.{Volume, tree_of}
 use Rattle.model.specs.declared.command.PathCall.{PathCall}
 use Rattle.model.specs.declared.errno.Errno.{Errno}
@@ -59,6 +61,35 @@ module _ {B T : Type 0} {G : Ghosts B} {a b : B} {s t : InodeFile} {reply : Resu
     own = tt;
     answers = λ disk settled v table stands volume. tt;
     damaged = never_damaged e (all 0).damaged;
+  })
+
+-- ---- a call with any outcome on a tree
+
+module _ {B T : Type 0} {G : Ghosts B} {a b : B} {s t : InodeFile} {reply : Result T Errno → Reply} {outcome : Tree → Outcome} where
+  -- it is answered
+  pub grants : {x : T} → Answers G a b s t outcome reply (Ok x) → Answers G a b s t outcome answered_reply (Ok (reply (Ok x)))
+  grants all = record {
+    looks = looks_ok all.looks;
+    own = tt;
+    answers = all.answers;
+    damaged = λ disk settled v stands bad. cc;
+  }
+
+  -- it isn't
+  pub grants_none : (f : Failure) (q : Result Reply Failure) → IsErrAnd q (λ g. g ≡ f) → ((errno : Errno) → reply (Err errno) ≡ replies.Refused errno)
+      → Answers G a b s t outcome reply (Err f) → Answers G a b s t outcome answered_reply q
+  grants_none (Refused errno) q so same all = carried (Answers G a b s t outcome answered_reply) q so (record {
+    looks = looks_ok all.looks;
+    own = all.own;
+    answers = λ disk settled v table stands volume.
+        subst (λ (r : Reply). outcome (tree_of v table) r (tree_of v table) nothing) (same errno) (all.answers disk settled v table stands volume);
+    damaged = λ disk settled v stands bad. cc;
+  })
+  grants_none (Read e) q so same all = carried (Answers G a b s t outcome answered_reply) q so (record {
+    looks = looks_err (Err e) refl all.looks;
+    own = tt;
+    answers = λ disk settled v table stands volume. tt;
+    damaged = never_damaged e all.damaged;
   })
 
 -- ---- a call on a descriptor

@@ -87,7 +87,7 @@ close_leads {S} {G} records new s fd reply inodes files now stands stores fits m
     let tree : s.tree ≡ tree_of v (table_of files) = ap (λ (u : State). u.tree) now.state ∙ ap (λ (t : ℕ → Option Description). tree_of v t) now.opened in
     record {
       after = state_with n (swept after v) after now.snapshots;
-      step = λ room. (subst (λ (t : Tree). closes t fd reply left nothing) (sym tree) told, ap (λ (u : State). record u { tree = left }) (sym now.state));
+      step = λ room stored. (subst (λ (t : Tree). closes t fd reply left nothing) (sym tree) told, ap (λ (u : State). record u { tree = left }) (sym now.state));
       serves = dropped now new.files after refl records new.inodes stands stores fits mounted;
       records = refl;
     }

@@ -144,7 +144,7 @@ module _ {S : Type 0} {G : Ghosts S} (old new : System S G) (s : State) (served 
     done = record {
       after = leads.after;
       need = logs leads.work;
-      step = leads.step;
+      step = λ any stored. leads.step any;
       room = room;
       serves = serves.0;
       logs = (change, works, serves.1);

@@ -76,7 +76,7 @@ pub table_leads : {S : Type 0} {G : Ghosts S} (new : System S G) (s : State) (ca
     → WouldLead new.root.geometry.inodes now.running (table_of files) call reply now.running after nothing → LeadsTo new s call reply now.lasts.replayed.changes
 table_leads new s call reply files now after opened fits mounted told = record {
   after = state_with new.root.geometry.inodes now.running after now.snapshots;
-  step = led_to now call reply after told;
+  step = λ room stored. led_to now call reply after told room;
   serves = moved now new.files after opened fits mounted;
   records = refl;
 }

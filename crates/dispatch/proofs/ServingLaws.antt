@@ -1,5 +1,5 @@
 -- What a call comes to on a system that serves a state.
-use Rattle.std.proofs.Common.{◌≡◌, ◌⊎◌, inl, inr, List, Result, Ok, Err, refl, ap, sym, subst}
+use Rattle.std.proofs.Common.{◌≡◌, ◌⊎◌, ℕ, ℤ, inl, inr, List, Result, Ok, Err, refl, ap, sym, subst}
 use Rattle.std.specs.Prelude.{IsErrOf, IsFalse, IsTrue, IfErr, IfOk, OnErr, OnOk, false}
 use Rattle.std.proofs.lemmas.Result.{IfOk-weaker}
 use Rattle.station.specs.Moments.{EachCut, HasGrown}
@@ -8,9 +8,10 @@ use Rattle.station.proofs.Moments.{leaves_unchanged, weaker}
 use Rattle.model.specs.Circumstances.{IsSure}
 use Rattle.model.specs.Records.{Change}
 use Rattle.model.specs.Replies.{IsReplyTo}
-use Rattle.model.specs.Room.{nothing}
+use Rattle.model.specs.Reading.{tells_extent}
+use Rattle.model.specs.Room.{Room, nothing}
 use Rattle.model.specs.States.{State}
-use Rattle.model.specs.Steps.{calls, is_reading_call}
+use Rattle.model.specs.Steps.{WouldStep, calls, is_reading_call}
 use Rattle.model.specs.Trees.{Tree}
 use Rattle.model.specs.Volumes.{tree_of}
 use Rattle.model.specs.declared.command.Command.{Command}
@@ -35,7 +36,7 @@ use Rattle.system.specs.Counting.{Counted, call_error_failed}
 use Rattle.system.specs.Errors.{call_error}
 use Rattle.system.specs.Images.{OpensTo}
 use Rattle.system.specs.Serving.{ServesState}
-use Rattle.dispatch.specs.Serving.{Answers, AnswersAtOnce, Handles, HandlesAt, IsAccepted, IsAtOnce, IsSureOn, TellsNoFault, TellsNoWant, WouldCall}
+use Rattle.dispatch.specs.Serving.{Answers, AnswersAtOnce, Handles, HandlesAt, IsAccepted, IsAtOnce, IsSureOn, TellsNoFault, TellsNoWant, WouldCall, WouldCallOn}
 use Rattle.system.specs.Systems.{meaning_of}
 use Rattle.system.specs.declared.error.CallError.{CallError}
 use Rattle.system.specs.declared.error.CallError.TheVariants as call_errors
@@ -50,6 +51,14 @@ pub told_of : {S : Type 0} {G : Ghosts S} (f : System S G) (s : State) (serves :
 told_of f s serves call reply told =
     let tree : s.tree ≡ tree_of serves.running s.tree.descriptors = ap (λ (u : State). u.tree) serves.state in
     λ room. (subst (λ (t : Tree). calls s.inodes t call reply t nothing) (sym tree) told, refl)
+
+-- the same of what of a file is stored
+pub extent_told : {S : Type 0} {G : Ghosts S} (f : System S G) (s : State) (serves : ServesState f s) (room : Room) (path : List ℕ) (offset : ℤ) (reply : Reply)
+    → tells_extent (tree_of serves.running s.tree.descriptors) room.stored path offset reply (tree_of serves.running s.tree.descriptors) nothing
+    → WouldStep room s (command.Extent path offset) reply s nothing
+extent_told f s serves room path offset reply told =
+    let tree : s.tree ≡ tree_of serves.running s.tree.descriptors = ap (λ (u : State). u.tree) serves.state in
+    (subst (λ (t : Tree). tells_extent t room.stored path offset reply t nothing) (sym tree) told, refl)
 
 -- a refusal of the call's own
 pub own_refusal : {T : Type 0} (r : Result T Errno) (errno : Errno) → r ≡ Err errno → IfErr r (λ e. IsTrue (is_path_refusal e)) → TellsNoFault (Refused errno)
@@ -91,7 +100,7 @@ done_is_accepted errno is = cc
 -- A call that logs nothing was answered so at a state, and the system serves the state that it leaves, by these records.
 pub record LeadsTo {S : Type 0} {G : Ghosts S} (new : System S G) (s : State) (call : Command) (reply : Reply) (changes : List Change) : Type 0 where
   pub after : State
-  pub step : WouldCall s call reply after nothing
+  pub step : WouldCallOn new s call reply after nothing
   pub serves : ServesState new after
   pub records : serves.lasts.replayed.changes ≡ changes
 
@@ -163,7 +172,7 @@ module _ {S : Type 0} {G : Ghosts S} (old new : System S G) (call : Command) (re
   pub answered : ServesOn old new → (reply : Reply) → SureOrNot old new call reply → (meaning_of new).failed_reads ≡ (meaning_of old).failed_reads → IsReplyTo call reply → TellsNoFault reply
       → AllOpen old → ((s : State) → ServesState old s → WouldCall s call reply s nothing) → Answers old new call (Ok reply)
   answered stays reply sure same kind own opens told =
-      answered_leading reply sure same kind own opens (λ s served. record { after = s; step = told s served; serves = (stays s served).0; records = (stays s served).1 })
+      answered_leading reply sure same kind own opens (λ s served. record { after = s; step = λ room stored. told s served room; serves = (stays s served).0; records = (stays s served).1 })
 
   -- a call wasn't answered, because a read was refused
   pub unanswered_read : ServesOn old new → NotSure old call → (error : BlockError) (e : CallError) → e ≡ call_error error
@@ -241,7 +250,7 @@ module _ {S : Type 0} {G : Ghosts S} (old new : System S G) (call : Command) (re
       → OnOk (read_outcome r) ((meaning_of new).failed_reads ≡ (meaning_of old).failed_reads)
       → IfErr (read_outcome r) (λ e. IsFault e → HasGrown (meaning_of old).failed_reads (meaning_of new).failed_reads)
       → IfOk (read_outcome r) (λ x. IfErr x (λ e. IsTrue (is_path_refusal e))) → IfOk r (IsReplyTo call) → IfOk r TellsNoFault → ServesOn old new
-      → ((s : State) → ServesState old s → IfOk (read_outcome r) (λ x. WouldCall s call (answered_reply x) s nothing))
+      → ((s : State) → ServesState old s → IfOk (read_outcome r) (λ x. WouldCallOn new s call (answered_reply x) s nothing))
       → ((s : State) → ServesState old s → IsErrOf (read_outcome r) read_errors.Damaged → ⊥) → Answers old new call q
   looked_up r q is not_sure opens counted device own kind no_fault stays steps damaged =
       came_to r q is not_sure opens counted device own kind no_fault (on_err r)

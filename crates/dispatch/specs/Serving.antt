@@ -16,11 +16,13 @@ use Rattle.model.specs.Room.{Need, Room, Work, nothing, logs}
 use Rattle.model.specs.States.{State}
 use Rattle.model.specs.Steps.{WouldStep}
 use Rattle.model.specs.Volumes.{Volume}
+use Rattle.layout.specs.Places.{blocks_of}
 use Rattle.descriptors.specs.declared.table.Descriptors.{Descriptors}
 use Rattle.files.specs.Closing.{IsLinked}
+use Rattle.records.specs.Reading as reading
 use Rattle.system.specs.Counting.{Counted, call_failed}
 use Rattle.system.specs.Room.{HasRoomForNeed, HasRoomForWork}
-use Rattle.system.specs.Systems.{IsCovered, meaning_of}
+use Rattle.system.specs.Systems.{IsCovered, disk_of, meaning_of}
 use Rattle.system.specs.declared.error.CallError.{CallError}
 use Rattle.system.specs.declared.error.CallError.TheVariants.{Damaged, LogFull, NoRoom, NotWritten}
 use Rattle.system.specs.declared.system.System.{System}
@@ -52,6 +54,14 @@ IsAtOnce files call = ⊥
 abbrev pub WouldCall : State → Command → Reply → State → Need → Type 0
 WouldCall s call reply after need = (room : Room) → WouldStep room s call reply after need
 
+-- so the room tells which blocks of files are stored: of each file in memory it is right
+abbrev pub TellsStored : {S : Type 0} {G : Ghosts S} → System S G → Room → Type 0
+TellsStored f room = reading.TellsStored (blocks_of (disk_of f)) f.inodes room.stored
+
+-- the same as WouldCall by any room that tells which blocks this system's files have stored
+abbrev pub WouldCallOn : {S : Type 0} {G : Ghosts S} → System S G → State → Command → Reply → State → Need → Type 0
+WouldCallOn f s call reply after need = (room : Room) → TellsStored f room → WouldStep room s call reply after need
+
 -- the call would change something
 pub record WouldChange (s : State) (call : Command) : Type 0 where
   pub reply : Reply
@@ -78,14 +88,14 @@ abbrev pub HasLogged : Need → Volume → List Change → List Change → Type 
 HasLogged (logs work) v before after = (change : Change) × (work ≡ work_of v change) × (after ≡ before ++ change ∷ [])
 HasLogged need v before after = after ≡ before
 
--- A call was done on a system that serves a state: it is answered so, the disk had room for what it
--- needed, the system serves the state that it leaves, and the log has what the call needed, and
--- nothing else.
+-- A call was done on a system that serves a state: it is answered so, by what is stored at its
+-- answer, the disk had room for what it needed, the system serves the state that it leaves, and the
+-- log has what the call needed, and nothing else.
 pub record IsCalled {S : Type 0} {G : Ghosts S} (old new : System S G) (s : State) (served : ServesState old s)
     (call : Command) (reply : Reply) : Type 0 where
   pub after : State
   pub need : Need
-  pub step : WouldCall s call reply after need
+  pub step : WouldCallOn new s call reply after need
   pub room : HasRoomForNeed old need
   pub serves : ServesState new after
   pub logs : HasLogged need served.running served.lasts.replayed.changes serves.lasts.replayed.changes

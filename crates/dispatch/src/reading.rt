@@ -4,6 +4,7 @@ ghost use Rattle.std.specs.Prelude.{◌≡◌, IfOk, IsTrue};
 ghost use Rattle.model.specs.Replies.{IsReplyTo};
 ghost use Rattle.model.specs.Steps.{is_reading_call};
 ghost use Rattle.model.specs.declared.command.Command.{Command};
+ghost use Rattle.calls.specs.Extent.{shows_extent};
 ghost use Rattle.calls.specs.Seeing.{Answers};
 ghost use Rattle.dispatch.specs.Answering.{asks, answered_reply};
 ghost use Rattle.dispatch.specs.Serving.{TellsNoFault};
@@ -74,4 +75,22 @@ pub(crate) fn read<B: Blocks>(
         }
         _ => unreachable!(),
     }
+}
+
+/// What is told of the stored blocks of a file. NoMemory; Device where a read failed; Damaged where
+/// a block on the way is outside its format.
+pub(crate) fn tell_extent<B: Blocks>(
+    alloc: Global,
+    inodes: &mut InodeFile,
+    blocks: &mut B,
+    path: &[u8],
+    offset: i64,
+) -> Result<Reply, Failure>
+    ensures no_fault { IfOk result TellsNoFault }
+    ensures kind { IfOk result (IsReplyTo (Command.Extent path.now offset)) }
+    ensures tells { Answers B.Blocks blocks.old blocks.new inodes.old inodes.new
+        (shows_extent B.Blocks blocks.old inodes.new path.now offset) answered_reply result }
+{
+    let extent = calls::extent(alloc, inodes, blocks, path, offset)?;
+    Ok(Reply::Extent(extent))
 }

@@ -9,9 +9,9 @@ ghost use Rattle.dispatch.specs.Fulfilling.{Fulfils};
 
 use crate::changing::change;
 use crate::open_files::{answer_at_once, close_file, look_at_open_file};
-use crate::reading::{is_reading, read};
+use crate::reading::{is_reading, read, tell_extent};
 use crate::snapshot_reading::{list_snapshots, look_within};
-use model::{Command, PathCall, Reply};
+use model::{Bytes, Command, PathCall, Reply};
 use records::Failure;
 use station::Station;
 use system::{CallError, System, call_error, served_states_open};
@@ -69,6 +69,7 @@ fn look<S: Station>(system: &mut System<S>, call: &Command<'_>) -> Result<Reply,
     match call {
         Command::Path(call) => look_at_path(system, call),
         Command::Within { name, call } => look_within(system, name, call),
+        Command::Extent { path, offset } => look_at_blocks(system, path, *offset),
         Command::SnapList => list_snapshots(system),
         Command::Lseek { .. } => Ok(answer_at_once(system, call)),
         Command::Fsync { .. } => Ok(answer_at_once(system, call)),
@@ -84,4 +85,22 @@ fn look_at_path<S: Station>(system: &mut System<S>, call: &PathCall<'_>) -> Resu
 {
     served_states_open(system);
     answer(read(system.alloc, &mut system.inodes, &mut system.blocks, call))
+}
+
+// Tells what of a file is stored.
+fn look_at_blocks<S: Station>(
+    system: &mut System<S>,
+    path: &Bytes<'_>,
+    offset: i64,
+) -> Result<Reply, CallError>
+    ensures { Answers system.old system.new (Command.Extent path.now offset) result }
+{
+    served_states_open(system);
+    answer(tell_extent(
+        system.alloc,
+        &mut system.inodes,
+        &mut system.blocks,
+        path.as_bytes(),
+        offset,
+    ))
 }

@@ -8,3 +8,6 @@ returns-in-Within g c = rw c.in-Within.is c.look_within.ensures
 
 pub returns-in-Close : goal.returns-in-Close
 returns-in-Close g c = rw c.in-Close.is c.close_file.ensures
+
+pub returns-in-Extent : goal.returns-in-Extent
+returns-in-Extent g c = rw c.in-Extent.is c.look_at_blocks.ensures

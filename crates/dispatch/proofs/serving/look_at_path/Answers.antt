@@ -14,5 +14,5 @@ returns g c =
     looked_up fs _ (command.Path c.args.call.now) (reads_on {G = g.S.Station} fs c.read.new.blocks c.read.new.inodes looks) refl c.read.result _ c.answer.ensures (λ s served x. x, λ x. x)
     (λ s served. c.served_states_open.ensures s.tree.descriptors s served) looks.reads.counted looks.reads.device seen.own c.read.ensures.kind c.read.ensures.no_fault
     (λ s served. (looked_on {G = g.S.Station} fs c.read.new.blocks c.read.new.inodes looks s served, refl))
-    (λ s served. IfOk-weaker (read_outcome c.read.result) _ _ (λ r answers. told_of {G = g.S.Station} fs s served c.args.call.now _ (answers s.inodes)) (on_trees {G = g.S.Station} fs seen.answers s served))
+    (λ s served. IfOk-weaker (read_outcome c.read.result) _ _ (λ r answers room stored. told_of {G = g.S.Station} fs s served c.args.call.now _ (answers s.inodes) room) (on_trees {G = g.S.Station} fs seen.answers s served))
     (never_damaged {G = g.S.Station} fs seen.damaged)

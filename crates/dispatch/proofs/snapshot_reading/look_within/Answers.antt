@@ -26,6 +26,6 @@ returns g c =
           (seen.shows d served.shows served.first served.snapshots served.under.holds served.view),
       refl,
     ))
-    (λ s served. IfOk-weaker (read_outcome c.read_within-outcome.result) _ _ (λ r views_so room. subst (λ (name : List ℕ). views s name call (answered_reply r) s nothing) c.as_bytes.ensures views_so)
+    (λ s served. IfOk-weaker (read_outcome c.read_within-outcome.result) _ _ (λ r views_so room stored. subst (λ (name : List ℕ). views s name call (answered_reply r) s nothing) c.as_bytes.ensures views_so)
     (seen.views d served.shows served.first served.snapshots served.under.holds served.view s (snapshots_of {G = g.S.Station} fs s served)))
     (λ s served. seen.damaged d served.shows served.first served.snapshots served.under.holds served.view)
