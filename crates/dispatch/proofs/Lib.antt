@@ -1,5 +1,6 @@
 mod LookedLaws
 mod ServingLaws
+pub mod StoredLaws
 mod AskingLaws
 mod ChangingLaws
 mod TableLaws

@@ -1,5 +1,5 @@
 -- What calls do to a system.
-use Rattle.std.specs.Prelude.{◌≡◌, ◌⊎◌, ◌+◌, ◌≢◌, ◌∷◌, ◌++◌, List, [], IsFalse, IsTrue, Result, Ok, IfOk, IfErr, IsErrOf, MatchResult}
+use Rattle.std.specs.Prelude.{ℕ, ◌≡◌, ◌⊎◌, ◌+◌, ◌≢◌, ◌∷◌, ◌++◌, List, [], Bool, IsFalse, IsTrue, Result, Ok, IfOk, IfErr, IsErrOf, MatchResult}
 use Rattle.station.specs.Images.{Unchanged}
 use Rattle.station.specs.Moments.{Goes}
 use Rattle.station.specs.declared.station.Station.{Ghosts}
@@ -57,6 +57,11 @@ WouldCall s call reply after need = (room : Room) → WouldStep room s call repl
 -- so the room tells which blocks of files are stored: of each file in memory it is right
 abbrev pub TellsStored : {S : Type 0} {G : Ghosts S} → System S G → Room → Type 0
 TellsStored f room = reading.TellsStored (blocks_of (disk_of f)) f.inodes room.stored
+
+-- which blocks of files are stored, by what a system has in memory: of a file that isn't there each
+-- block is said to be
+abbrev pub stored_of : {S : Type 0} {G : Ghosts S} → System S G → ℕ → ℕ → Bool
+stored_of f = reading.stored_in (blocks_of (disk_of f)) f.inodes
 
 -- the same as WouldCall by any room that tells which blocks this system's files have stored
 abbrev pub WouldCallOn : {S : Type 0} {G : Ghosts S} → System S G → State → Command → Reply → State → Need → Type 0

@@ -109,7 +109,7 @@ module _ (s : State) (command : Command) (new t : State) where
 
 -- no room is reckoned
 abbrev pub no_room : Room
-no_room = record { blocks = 0; free = 0; pledged = 0; is_covered = false; orphans_of = λ name. 0 }
+no_room = record { blocks = 0; free = 0; pledged = 0; is_covered = false; orphans_of = λ name. 0; stored = λ n k. true }
 
 -- what came in the way of a command, but for the history of the station
 pub record Came {S : Type 0} {G : Ghosts S} (old : Mounted S G) (command : Command) (new : Mounted S G) (c : Circumstances) : Type 0 where

@@ -28,7 +28,8 @@ use Rattle.system.specs.Images.{OpensTo}
 use Rattle.layout.specs.Places.{blocks_of}
 use Rattle.images.specs.Roots.{whole}
 use Rattle.system.specs.Serving.{ServesState, IsBrokenOff}
-use Rattle.dispatch.specs.Serving.{IsCall, WouldCall}
+use Rattle.dispatch.proofs.StoredLaws.{holes_read, stored_tells}
+use Rattle.dispatch.specs.Serving.{IsCall, WouldCall, stored_of}
 use Rattle.system.specs.CheckpointCommands.{IsRoomOf, IsCheckpointed}
 use Rattle.dispatch.specs.Fulfilling.{IsFulfilled}
 use Rattle.images.specs.Room.{free_under}
@@ -62,11 +63,12 @@ room_at f s serves covered = record {
   pledged = pledged_for serves.settled.root.geometry.inodes serves.settled.volume serves.lasts.replayed.changes;
   is_covered = covered;
   orphans_of = orphans_of f s serves;
+  stored = stored_of f;
 }
 
 pub has_room : {S : Type 0} {G : Ghosts S} (f : System S G) (s : State) (serves : ServesState f s) (covered : Bool)
     → (IsTrue covered → records.CoversAll serves.settled.volume serves.running serves.lasts.replayed.changes) → HasRoomAtPoint f s (room_at f s serves covered)
-has_room f s serves covered all = record { serves = serves; blocks = refl; free = refl; told = record { pledged = refl; covered = all }; orphans = orphans_told f s serves }
+has_room f s serves covered all = record { serves = serves; blocks = refl; free = refl; told = record { pledged = refl; covered = all }; orphans = orphans_told f s serves; stored = stored_tells f; holes = holes_read f s serves }
 
 -- a refusal isn't what is answered to what is done
 not_done : {X : Type 0} (errno : Errno) → Refused errno ≡ Done → X
@@ -146,7 +148,7 @@ module _ {S : Type 0} {G : Ghosts S} (old new : Fs S G) (s : State) where
             t,
             done old new s t c is_still still same (going_serves t (same.honest.0 serves.honest) still runs_on does.serves) serves.honest reply (came count.0 false false room)
                 (record { reads = count.1; writes = writes; room = λ _. has_room new.system t does.serves false (λ e. absurd (false≢true e)) })
-                (allowed_call s c count.0 room reply t is_still is_call sure (does.need, does.step room))
+                (allowed_call s c count.0 room reply t is_still is_call sure (does.need, does.step room (stored_tells new.system)))
                 is.leaves (opens t does.serves),
           )
 

@@ -13,7 +13,8 @@ use Rattle.model.specs.declared.reply.Reply.{Reply}
 use Rattle.model.specs.declared.reply.Reply.TheVariants.{Done, Refused}
 use Rattle.oplog.specs.LogEnd.{Bodies, all_bodies}
 use Rattle.system.specs.Serving.{ServesAsBefore, ServesState}
-use Rattle.dispatch.specs.Serving.{HasLogged, IsAccepted}
+use Rattle.dispatch.proofs.StoredLaws.{stored_tells}
+use Rattle.dispatch.specs.Serving.{HasLogged, IsAccepted, stored_of}
 use Rattle.system.specs.CheckpointCommands.{IsCheckpointed}
 use Rattle.dispatch.specs.Fulfilling.{IsFulfilled}
 use Rattle.system.specs.Systems.{AreLeft, IsCovered}
@@ -44,11 +45,12 @@ module _ {S : Type 0} {G : Ghosts S} where
       → LogsItsNeed (all_bodies served.lasts.bodies) s new call reply
   call_logs old new s served call reply is =
       let does = is.done in
+      let room : Room = record no_room { stored = stored_of new } in
       record {
-        room = no_room;
+        room = room;
         after = does.after;
         need = does.need;
-        step = does.step no_room;
+        step = does.step room (stored_tells new);
         serves = does.serves;
         running = is.served.running;
         tree = ap (λ (u : State). u.tree) is.served.state;

@@ -1,13 +1,14 @@
 -- A reply of a command's kind is a refusal or of that kind.
 use Rattle.std.proofs.Common.{◌≡◌, ◌≢◌, ℕ, List, refl, subst}
 use Rattle.station.specs.declared.station.Station.{Ghosts}
-use Rattle.model.specs.Replies.{IsData, IsDescriptor, IsDone, IsEntries, IsNames, IsOffset, IsOpened, IsReplyTo, IsSnapshots, IsSpace, IsStat, IsTextOf, IsUsage, IsWritten}
+use Rattle.model.specs.Replies.{IsData, IsDescriptor, IsDone, IsEntries, IsExtent, IsNames, IsOffset, IsOpened, IsReplyTo, IsSnapshots, IsSpace, IsStat, IsTextOf, IsUsage, IsWritten}
 use Rattle.model.specs.declared.command.Command.{Command}
 use Rattle.model.specs.declared.entries.Entry.{Entry}
 use Rattle.model.specs.declared.errno.Errno.{Errno}
 use Rattle.model.specs.declared.reply.Reply.{Reply}
 use Rattle.model.specs.declared.reply.Reply.TheVariants as replies
 use Rattle.model.specs.declared.reply.Stat.{Stat}
+use Rattle.model.specs.declared.reply.Extent.{Extent}
 use Rattle.model.specs.declared.reply.Usage.{Usage}
 use Rattle.mount.specs.Applying.{AppliesCommand, HasOnlyAnswers}
 use Rattle.mount.specs.declared.fs.Fs.{Fs}
@@ -106,6 +107,13 @@ only_usage command reply answers is not other = by_kind reply (not_other IsUsage
   where
     by_kind : (reply : Reply) → IsUsage reply → ((a : Usage) → reply ≢ replies.Usage a) → ⊥
     by_kind (replies.Usage a) kind not = not a refl
+    by_kind reply kind not = kind
+
+pub only_extent : (command : Command) (reply : Reply) → HasOnlyAnswers command IsExtent → IsReplyTo command reply → ((a : Extent) → reply ≢ replies.Extent a) → ((errno : Errno) → reply ≢ replies.Refused errno) → ⊥
+only_extent command reply answers is not other = by_kind reply (not_other IsExtent command reply answers is other) not
+  where
+    by_kind : (reply : Reply) → IsExtent reply → ((a : Extent) → reply ≢ replies.Extent a) → ⊥
+    by_kind (replies.Extent a) kind not = not a refl
     by_kind reply kind not = kind
 
 -- what is promised of a command, of one in other words

@@ -1,9 +1,10 @@
 -- What applying commands comes to.
-use Rattle.std.specs.Prelude.{[], ◌∷◌, ◌++◌, ℕ, ◌≡◌, ◌≢◌, ◌⊎◌, ◌↔◌, ◌≤◌, List, map, Bool, true, false, IsFalse, IsTrue, None, Result, Ok, Err, IfErr, IfOk, IsErrOf, MatchResult, OnOk}
+use Rattle.std.specs.Prelude.{[], ◌∷◌, ◌++◌, ℕ, ◌/◌, slice_index, ◌≡◌, ◌≢◌, ◌⊎◌, ◌↔◌, ◌≤◌, List, map, Bool, true, false, IsFalse, IsTrue, None, Result, Ok, Err, IfErr, IfOk, IsErrOf, MatchResult, OnOk}
 use Rattle.station.specs.Calls.{Uses}
 use Rattle.station.specs.Images.{Images}
 use Rattle.station.specs.Moments.{Meaning, LeftBetween, HasGrown, IsSameStation, LeavesOnly}
 use Rattle.station.specs.declared.station.Station.{Ghosts}
+use Rattle.model.specs.Edits.{contents}
 use Rattle.model.specs.declared.command.Command.{Command}
 use Rattle.model.specs.declared.command.Command.TheVariants.{Df, Statfs}
 use Rattle.model.specs.declared.errno.Errno.{Errno}
@@ -17,6 +18,7 @@ use Rattle.model.specs.Replies.{IsAnswerTo, IsReplyTo}
 use Rattle.model.specs.Room.{Need, Room}
 use Rattle.model.specs.Records.{Change, TellsRoom, count_orphans}
 use Rattle.model.specs.Steps.{WouldStep}
+use Rattle.model.specs.Trees.{Tree}
 use Rattle.model.specs.Volumes.{Volume, tree_of}
 use Rattle.model.specs.Circumstances.{Circumstances, IsSure}
 use Rattle.model.specs.Runs.{MayStand, MayRemain, Leads, LeavesOf, Spans}
@@ -32,7 +34,7 @@ use Rattle.system.specs.Images.{OpensTo}
 use Rattle.system.specs.Opening.{HasFailed}
 use Rattle.images.specs.Room.{free_under}
 use Rattle.system.specs.Serving.{HasEmptyLog, ServesState}
-use Rattle.dispatch.specs.Serving.{AnswersAtOnce, HasLogged, IsAccepted, IsAtOnce, LacksRoom, TellsNoFault}
+use Rattle.dispatch.specs.Serving.{AnswersAtOnce, HasLogged, IsAccepted, IsAtOnce, LacksRoom, TellsNoFault, TellsStored}
 use Rattle.system.specs.Systems as systems
 use Rattle.system.specs.Systems.{AreLeft, IsCovered}
 use Rattle.system.specs.declared.error.CallError.{CallError}
@@ -53,8 +55,13 @@ abbrev pub TellsOfFault : Bool → ℕ → ℕ → Type 0
 TellsOfFault true old new = HasGrown old new
 TellsOfFault false old new = new ≡ old
 
+-- each byte of a file in a block that isn't stored is 0
+abbrev pub HolesReadZeros : Tree → (ℕ → ℕ → Bool) → Type 0
+HolesReadZeros t stored = (n p : ℕ) → IsFalse (stored n (p / 4096)) → slice_index (contents t n) p ≡ 0
+
 -- The room of a system at a state that it serves: all blocks of its disk, those that are free under
--- its settled root, and those that a consistency point may store for what that root doesn't cover.
+-- its settled root, and those that a consistency point may store for what that root doesn't cover;
+-- and which blocks of files are stored, which is right of each file in memory.
 pub record HasRoomAtPoint {S : Type 0} {G : Ghosts S} (f : System S G) (s : State) (room : Room) : Type 0 where
   pub serves : ServesState f s
   pub blocks : room.blocks ≡ f.root.geometry.blocks
@@ -67,6 +74,8 @@ pub record HasRoomAtPoint {S : Type 0} {G : Ghosts S} (f : System S G) (s : Stat
       HasSnapshot f.root (whole disk f.root) k head
       → HoldsVolume f.root.geometry.inodes (tree_contents ((whole disk f.root).frozen k)) v
       → room.orphans_of head.name ≡ count_orphans f.root.geometry.inodes v
+  pub stored : TellsStored f room
+  pub holes : HolesReadZeros s.tree room.stored
 
 -- time went on, and earlier moments stay as they were
 pub record TimeGoesOn (old new : Meaning) : Type 0 where

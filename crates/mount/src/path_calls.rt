@@ -7,7 +7,7 @@ ghost use Rattle.model.specs.declared.reply.Reply.{Reply};
 ghost use Rattle.mount.specs.Applying.{AppliesCommand, done_reply, reply_of};
 
 use crate::Fs;
-use model::{Bytes, Command, Entries, Errno, Mode, Names, PathCall, Settings, Stat, Text};
+use model::{Bytes, Command, Entries, Errno, Extent, Mode, Names, PathCall, Settings, Stat, Text};
 use station::Station;
 
 impl<S: Station> Fs<S> {
@@ -80,6 +80,17 @@ impl<S: Station> Fs<S> {
             count,
         };
         self.apply_for_data(&Command::Path(call))
+    }
+
+    /// `extent`: how many blocks of a file are stored, each of 4,096 bytes, and where its next data
+    /// and its next hole are from this offset on. What isn't stored reads as zeros. EINVAL where the
+    /// offset is negative, EISDIR of a directory.
+    pub fn extent(&mut self, path: &[u8], offset: i64) -> Result<Extent, Errno>
+        ensures { AppliesCommand self.old self.new (Command.Extent path.now offset)
+            (reply_of Reply.Extent result) }
+    {
+        let path = Bytes::of(path);
+        self.apply_for_extent(&Command::Extent { path, offset })
     }
 
     /// `mkdir`: makes a directory. EEXIST where something is there.

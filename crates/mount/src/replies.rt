@@ -1,11 +1,11 @@
 //! Commands applied whose reply is a value, by the kind of it.
 
-ghost use Rattle.model.specs.Replies.{IsData, IsDescriptor, IsDone, IsEntries, IsNames, IsOffset, IsOpened, IsSnapshots, IsSpace, IsStat, IsTextOf, IsUsage, IsWritten};
+ghost use Rattle.model.specs.Replies.{IsData, IsDescriptor, IsDone, IsEntries, IsExtent, IsNames, IsOffset, IsOpened, IsSnapshots, IsSpace, IsStat, IsTextOf, IsUsage, IsWritten};
 ghost use Rattle.model.specs.declared.reply.Reply.{Reply};
 ghost use Rattle.mount.specs.Applying.{AppliesCommand, HasOnlyAnswers, done_reply, opened_reply, reply_of, space_reply};
 
 use crate::Fs;
-use model::{Command, Entries, Errno, Names, Reply, Stat, Text, Usage};
+use model::{Command, Entries, Errno, Extent, Names, Reply, Stat, Text, Usage};
 use station::Station;
 use system::Space;
 
@@ -137,6 +137,18 @@ impl<S: Station> Fs<S> {
     {
         match self.apply(command) {
             Reply::Stat(stat) => Ok(stat),
+            Reply::Refused(errno) => Err(errno),
+            _ => unreachable!(),
+        }
+    }
+
+    /// Applies a command that is answered what of a file is stored.
+    pub(crate) fn apply_for_extent(&mut self, command: &Command<'_>) -> Result<Extent, Errno>
+        requires { HasOnlyAnswers command.now IsExtent }
+        ensures { AppliesCommand self.old self.new command.now (reply_of Reply.Extent result) }
+    {
+        match self.apply(command) {
+            Reply::Extent(extent) => Ok(extent),
             Reply::Refused(errno) => Err(errno),
             _ => unreachable!(),
         }

@@ -41,7 +41,7 @@ past_end file p le = get_or_past file p 0 le
 all_bytes : (file : List ℕ) → first_bytes (slice_index file) (length file) ≡ file
 all_bytes file = sym (fill_by_all (slice_index file) file (length file) 0 refl (λ k lt. refl))
 
-byte_of : (f : ℕ → ℕ) (size k : ℕ) → ((p : ℕ) → size ≤ p → f p ≡ 0) → slice_index (first_bytes f size) k ≡ f k
+pub byte_of : (f : ℕ → ℕ) (size k : ℕ) → ((p : ℕ) → size ≤ p → f p ≡ 0) → slice_index (first_bytes f size) k ≡ f k
 byte_of f size k zero = elim (cases_lt k size) [
   | inl lt ↦ get_or-map-range_with_len f 0 size k k 0 lt (omega arith)
   | inr le ↦ past_end (first_bytes f size) k (omega (arith, le, length-first_bytes f size)) ∙ sym (zero k (omega (arith, le)))

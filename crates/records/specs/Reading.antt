@@ -1,5 +1,5 @@
 -- What reading the file with a number comes to.
-use Rattle.std.specs.Prelude.{ℕ, ◌≡◌, Bool, IsTrue, IsFalse, List, [], length, Option, Some, None, unwrap_or}
+use Rattle.std.specs.Prelude.{ℕ, ◌≡◌, Bool, true, IsTrue, IsFalse, List, [], length, Option, Some, None, unwrap_or}
 use Rattle.blocktree.specs.Trees.{is_stored}
 use Rattle.buffers.specs.declared.blocks.Blocks.{Ghosts}
 use Rattle.inode.specs.declared.object.Object.{Object}
@@ -21,6 +21,15 @@ ReadsNumber v n offset count None = IsFalse (is_file_node (v n))
 abbrev pub TellsStored : (ℕ → List ℕ) → InodeFile → (ℕ → ℕ → Bool) → Type 0
 TellsStored disk s stored =
     (n : ℕ) (o : Object) → loaded s n ≡ Some o → (k : ℕ) → stored n k ≡ is_stored disk o.file.tree k
+
+-- whether a block of an object in memory is stored; of one that isn't there each block is said to be
+abbrev pub stored_by : (ℕ → List ℕ) → Option Object → ℕ → Bool
+stored_by disk (Some o) k = is_stored disk o.file.tree k
+stored_by disk None k = true
+
+-- the same by numbers, which tells what is stored
+abbrev pub stored_in : (ℕ → List ℕ) → InodeFile → ℕ → ℕ → Bool
+stored_in disk s n k = stored_by disk (loaded s n) k
 
 -- what of the file with a number is stored, told from an offset on, or that it is none
 abbrev pub TellsNumber : Volume → (ℕ → Bool) → ℕ → ℕ → Option Extent → Type 0

@@ -39,6 +39,7 @@ impl<S: Station> System<S> {
             ≡ free_under (whole (blocks_of serves.settled.disk) root).active root.geometry.blocks }
         ensures told { (table : ℕ → Option Description) (s : State)
             → (serves : HasState self.now table s) → (orphans : Name → ℕ) → (covered : Bool)
+            → (stored : ℕ → ℕ → Bool)
             → (IsTrue covered
             → records.CoversAll serves.settled.volume serves.running serves.lasts.replayed.changes)
             → TellsRoom serves.settled.root.geometry.inodes serves.settled.volume serves.running
@@ -48,6 +49,7 @@ impl<S: Station> System<S> {
               pledged = result.pledged;
               is_covered = covered;
               orphans_of = orphans;
+              stored = stored;
             }) }
     {
         Space {

@@ -1,0 +1,26 @@
+-- What a system's memory says of the stored blocks of files.
+use Rattle.std.proofs.Common.{◌≡◌, ◌/◌, ◌∙◌, ℕ, List, Option, ap}
+use Rattle.std.specs.Prelude.{IsFalse, slice_index}
+use Rattle.station.specs.declared.station.Station.{Ghosts}
+use Rattle.layout.specs.Places.{blocks_of}
+use Rattle.model.specs.Edits.{contents}
+use Rattle.model.specs.Room.{Room}
+use Rattle.model.specs.States.{State}
+use Rattle.records.proofs.ExtentLaws.{holes_zeros, tells_stored}
+use Rattle.records.specs.Reading as reading
+use Rattle.system.specs.Serving.{ServesState}
+use Rattle.system.specs.Systems.{disk_of}
+use Rattle.system.specs.declared.system.System.{System}
+use Rattle.dispatch.specs.Serving.{TellsStored, stored_of}
+use Rattle.dispatch.proofs.LookedLaws.{disk_under, inodes_under}
+
+module _ {S : Type 0} {G : Ghosts S} (f : System S G) where
+  -- it tells what is stored
+  pub stored_tells : reading.TellsStored (blocks_of (disk_of f)) f.inodes (stored_of f)
+  stored_tells = tells_stored (blocks_of (disk_of f)) f.inodes
+
+  -- a byte of a file in a block that isn't stored is 0
+  pub holes_read : (s : State) → ServesState f s → (n p : ℕ) → IsFalse (stored_of f n (p / 4096)) → slice_index (contents s.tree n) p ≡ 0
+  holes_read s served n p hole =
+      ap (λ (u : State). slice_index (contents u.tree n) p) served.state
+      ∙ holes_zeros f.root.geometry.blocks (disk_under f) (inodes_under f) f.inodes served.running n p served.memory.stands hole
