@@ -11,5 +11,6 @@ mod CloseLaws
 mod FileChangeLaws
 mod HandlingLaws
 mod CarryingLaws
+mod BeforeLaws
 mod FulfilLaws
 mod ViewLaws

@@ -16,4 +16,5 @@ mod UsageLaws
 pub mod CoveredLaws
 pub mod ViewLaws
 mod CheckpointLaws
+mod SnapshotLaws
 mod RestoringLaws

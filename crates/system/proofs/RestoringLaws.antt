@@ -43,7 +43,7 @@ use Rattle.system.specs.Room.{HasRoomBesides}
 use Rattle.system.specs.CheckpointCommands.{IsRoomOf}
 use Rattle.system.specs.Systems.{IsServing, Parts, disk_over, state_with}
 use Rattle.system.specs.declared.system.System.{System}
-use Rattle.system.proofs.CheckpointLaws.{finds, is_frozen}
+use Rattle.system.proofs.SnapshotLaws.{finds, is_frozen}
 
 -- ---- a snapshot's tree in memory
 

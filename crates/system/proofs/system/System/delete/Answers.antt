@@ -15,7 +15,8 @@ use Rattle.system.specs.declared.error.PointError.{PointError}
 use Rattle.system.specs.declared.system.System.{System}
 use Rattle.system.proofs.CoveringLaws.{ended_slots, not_ended}
 use Rattle.system.proofs.PointLaws.{passed_on}
-use Rattle.system.proofs.CheckpointLaws.{delete_step, does_by, finished_keeps, has_named, not_covered, pointed, still_has, without}
+use Rattle.system.proofs.CheckpointLaws.{does_by, finished_keeps, not_covered, pointed}
+use Rattle.system.proofs.SnapshotLaws.{delete_step, has_named, still_has, without}
 use Rattle.system.proofs.system.System.delete.Goals as goal
 
 -- what is promised of it, where it stands in its slot

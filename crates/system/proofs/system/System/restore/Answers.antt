@@ -26,7 +26,8 @@ use Rattle.system.proofs.CountingLaws.{all_read}
 use Rattle.system.proofs.LookedLaws.{ServesOver, reads_nothing}
 use Rattle.system.proofs.PointLaws.{passed_on}
 use Rattle.system.proofs.RestoringLaws.{isnt_damaged, keeps, kept_volume, may_restore, restore_step, restored_state, room_for, short_to_restore}
-use Rattle.system.proofs.CheckpointLaws.{KeepsServing, covered_keeps, does_by, finds, has_named, no_space, not_covered, pointed, read_keeps, still_has, unread}
+use Rattle.system.proofs.CheckpointLaws.{KeepsServing, covered_keeps, does_by, no_space, not_covered, pointed, read_keeps, unread}
+use Rattle.system.proofs.SnapshotLaws.{finds, has_named, still_has}
 use Rattle.system.proofs.ViewLaws.{stays_read}
 use Rattle.system.proofs.system.System.restore.Given.{Over}
 use Rattle.system.proofs.system.System.restore.Goals as goal

@@ -17,7 +17,8 @@ use Rattle.system.specs.Systems.{disk_of}
 use Rattle.system.specs.declared.error.PointError.{PointError}
 use Rattle.system.specs.declared.system.System.{System}
 use Rattle.system.proofs.PointLaws.{passed_on}
-use Rattle.system.proofs.CheckpointLaws.{can_take, covered_keeps, does_by, forgets_running, late_order, no_order, no_space, not_covered, pointed, short_to_take, take_done, take_step}
+use Rattle.system.proofs.CheckpointLaws.{covered_keeps, does_by, no_order, no_space, not_covered, pointed}
+use Rattle.system.proofs.SnapshotLaws.{can_take, forgets_running, late_order, short_to_take, take_done, take_step}
 use Rattle.system.proofs.ViewLaws.{closed}
 use Rattle.system.proofs.system.System.take.Goals as goal
 
