@@ -54,7 +54,7 @@ use Rattle.dispatch.proofs.LookedLaws.{KeepsServing, looked_still, never_damaged
 use Rattle.dispatch.proofs.OpenFileLaws.{refused_by, told_logged}
 use Rattle.system.proofs.SystemLaws.{AllOpen}
 use Rattle.dispatch.proofs.ServingLaws.{NotSure, failed_by}
-use Rattle.dispatch.proofs.BeforeLaws.{IsBefore, IsPreparedBehind, at, before, counted, counted_beside, covered, empty, failed_first, leaves, planned_before, prepared_after, prepared_by, prepared_sliced, runs, unlogged, would_change}
+use Rattle.dispatch.proofs.BeforeLaws.{IsBefore, IsPreparedBehind, both, counted_beside, failed_first, nothing_before, planned_before, prepared_after, prepared_by, prepared_sliced, would_change}
 
 -- ---- the call
 
