@@ -7,6 +7,7 @@
 mod fs;
 mod image;
 mod mounting;
+mod numbers;
 mod open_files;
 mod path_calls;
 mod prefix;

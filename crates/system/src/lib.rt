@@ -9,6 +9,7 @@ mod laws;
 mod letting_go;
 mod logging;
 mod mount_error;
+mod numbers;
 mod opening;
 mod point;
 mod restoring;

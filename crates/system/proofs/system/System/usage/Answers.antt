@@ -13,7 +13,7 @@ returns g c = λ table s serves room blocks free told.
     let said = c.space-blocks.result in
     let space = c.space-blocks.ensures in
     let same : said.blocks ≡ room.blocks = space.blocks ∙ sym blocks in
-    let pledged : said.pledged ≡ room.pledged = (space.told table s serves (λ name. 0) false (λ e. absurd (false≢true e))).pledged ∙ sym told.pledged in
+    let pledged : said.pledged ≡ room.pledged = (space.told table s serves (λ name. 0) false (λ n k. true) (λ e. absurd (false≢true e))).pledged ∙ sym told.pledged in
     let few : said.pledged ≤ said.free = omega (arith, pledged_free {G = g.S.Station} f table s serves room.pledged told.pledged, pledged, space.free table s serves) in
     let reserved : c.saturating_add.result ≡ reserved_of room = omega (arith, c.saturating_add.ensures, c.fixed_cost.ensures, ap fixed_of same, pledged, few) in
     let inodes : c.inodes.result - 3 ≡ s.inodes - 3 =

@@ -1,0 +1,14 @@
+use Rattle.system.proofs.UsageLaws.{none_past, taken_used, used_taken}
+use Rattle.system.proofs.system.System.is_used.Goals as goal
+
+pub returns : goal.returns
+returns g c = λ table s serves.
+    let f = c.args.self.now in
+    let law = c.volumes_tell_used_numbers.ensures in
+    let told = c.is_taken.ensures.taken in (
+      λ is. taken_used {G = g.S.Station} f table s serves law c.args.number c.requires (told.0 is),
+      λ used. told.1 (used_taken {G = g.S.Station} f table s serves law c.args.number used),
+    )
+
+pub returns-then : goal.returns-then
+returns-then g c = λ table s serves. (λ is. absurd (cc), λ used. absurd (none_past {G = g.S.Station} c.args.self.now table s serves c.volumes_tell_used_numbers.ensures c.args.number c.requires (omega arith) used))
