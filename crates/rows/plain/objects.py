@@ -125,8 +125,8 @@ class File:
         last, kept = divmod(size, BLOCK)
         if kept and last in self.data:
             self.data[last] = self.data[last][:kept] + bytes(BLOCK - kept)
-            if last in self.stored:
-                self.changed.add(last)
+        if kept and last in self.stored:
+            self.changed.add(last)
 
     def told_blocks(self):
         """The blocks that `extent` tells as stored: bytes in the inode are block 0 there."""
