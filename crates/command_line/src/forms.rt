@@ -25,7 +25,7 @@ const CALLS: [&str; 17] = [
 ];
 
 /// The other commands, but `in`, which stands before a call.
-const OTHERS: [&str; 18] = [
+const OTHERS: [&str; 19] = [
     "open PATH FLAGS [MODE]",
     "openstat PATH FLAGS [MODE]",
     "close FD",
@@ -37,6 +37,7 @@ const OTHERS: [&str; 18] = [
     "ftruncate FD SIZE",
     "fstat FD",
     "fsync FD",
+    "extent PATH OFFSET",
     "sync",
     "df",
     "statfs",

@@ -55,6 +55,7 @@ pub const COMMAND_NOTES: &str = "Commands, one a line, with an example of each:
   ftruncate FD SIZE           gives an open file another size: ftruncate 0 2
   fstat FD                    what stat tells, of an open file: fstat 0
   fsync FD                    done at once, as what was answered is kept: fsync 0
+  extent PATH OFFSET          counts a file's stored blocks, finds data and a hole: extent /f 0
   sync                        makes a consistency point: sync
   df                          tells the room of the disk: df
   statfs                      tells the room of the disk, and for how many files: statfs

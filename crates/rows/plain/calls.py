@@ -122,6 +122,22 @@ def get(system, words):
     return shown_data(thing.read(offset, count))
 
 
+def extent(system, words):
+    text, offset = text_of(words[1]), int(words[2])
+    test_text(text)
+    if offset < 0:
+        refuse('EINVAL')
+    thing = system.volume[find(system, text, True).number]
+    if thing.kind == 'dir':
+        refuse('EISDIR')
+    blocks, data, hole = thing.extent(offset)
+    return b'extent blocks %d data %s hole %s' % (blocks, shown_place(data), shown_place(hole))
+
+
+def shown_place(place):
+    return b'-' if place is None else b'%d' % place
+
+
 # Calls that change by a path
 
 

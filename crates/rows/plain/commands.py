@@ -5,6 +5,7 @@ import string
 
 from calls import cookie_of, word_of
 from model import ROOT
+from objects import BLOCK
 
 NAMES = ['a', 'b', 'c', 'd', 'e']
 ODD_PATHS = ['%', 'a', '/a/', '//', '/', '/.', '/..', '/a/.', '/b/..', '/%00', '/a//b', '//a',
@@ -29,6 +30,12 @@ FULL_WEIGHTS = dict(WEIGHTS, open=12, write=40, pwrite=30, sync=8, close=2, unli
                     ftruncate=1)
 # What is asked beside these where paths begin at numbers.
 NUMBERED_WEIGHTS = {'openstat': 6, 'store': 7, 'set': 8, 'renamenew': 5, 'entries': 6, 'statfs': 3, 'lstat': 5}
+# What is asked where holes are.
+EXTENT_WEIGHTS = {
+    'extent': 40, 'store': 24, 'truncate': 14, 'set': 7, 'open': 5, 'close': 2, 'write': 3, 'pwrite': 9,
+    'ftruncate': 8, 'get': 3, 'sync': 5, 'df': 1, 'unlink': 1, 'mkdir': 1, 'symlink': 2, 'link': 1,
+    'rename': 1, 'stat': 1,
+}
 # Behind what would be a number if it were written as numbers are, or behind one that nothing has.
 ODD_STARTS = ['@', '@03', '@-1', '@3x', '@4294967296', '@4294967295', '@0', '@1', '@2', '@31', '@1000000', 'at3']
 ODD_ENDS = ['/..', '/../a', '/a/..', '/.', '/./a', '//a', '/', '/%00', '/' + 'n' * 256, '/' + 'l' * 255, '/@3', '/@4/a']
@@ -45,12 +52,13 @@ class Numbers(random.Random):
     many bytes, so that the log and the disk get full. Where there are to be snapshots, of six
     commands one is on them. Before a snapshot is restored all open files are closed; so what is
     wanted then stands in `wanted` until none is open. Where paths are to begin at numbers, two of
-    five do.
+    five do. Where there are to be holes, most commands give a file bytes or a size, write zeros too,
+    or ask what is stored.
     """
 
-    def __init__(self, seed, has_snapshots=False, has_numbers=False):
+    def __init__(self, seed, has_snapshots=False, has_numbers=False, has_holes=False):
         super().__init__(seed)
-        self.has_numbers = has_numbers
+        self.has_numbers, self.has_holes = has_numbers, has_holes
         self.has_snapshots, self.wanted = has_snapshots, None
         self.names, self.weights, self.longest_run = NAMES, WEIGHTS, 90
         self.standing_part = 0.45
@@ -62,6 +70,8 @@ class Numbers(random.Random):
             self.weights = FULL_WEIGHTS
         if has_numbers:
             self.weights = {**self.weights, **NUMBERED_WEIGHTS}
+        if has_holes:
+            self.weights = EXTENT_WEIGHTS
 
 
 def standing_paths(system):
@@ -110,7 +120,7 @@ def path_at_number(numbers, system):
 def path_of_file(numbers, system):
     """A path: mostly the number of a file."""
     files = sorted(number for number, thing in system.volume.items() if thing.kind == 'file')
-    if files and numbers.random() < 0.6:
+    if files and numbers.random() < (0.85 if numbers.has_holes else 0.6):
         return '@%d' % numbers.choice(files)
     return path(numbers, system)
 
@@ -135,8 +145,22 @@ def size(numbers):
     return max(0, numbers.choice(SIZES) + numbers.choice([0, 0, -1, 1, 5]))
 
 
+def place_in(numbers, system):
+    """An offset or a size: mostly one beside a border of a block that some file has."""
+    ends = [file.size for _, file in sorted(system.volume.items()) if file.kind == 'file']
+    chance = numbers.random()
+    if chance < 0.3 or not ends:
+        return size(numbers)
+    if chance < 0.4:
+        return numbers.choice(ends)
+    most = min(24 * BLOCK, numbers.choice(ends) + BLOCK)
+    return max(0, BLOCK * numbers.randrange(0, 1 + most // BLOCK) + numbers.choice([0, 0, 0, -1, 1, 100]))
+
+
 def data(numbers):
     """Bytes: none, a few, or many of one kind."""
+    if numbers.has_holes and numbers.random() < 0.15:
+        return '{30*%d}' % (2 * numbers.choice([1, 100, 129, 4096, 4097, 8192]))
     chance = numbers.random()
     if chance < 0.03:
         return '-'
@@ -174,6 +198,10 @@ def on_path(numbers, system, name):
     """A command that goes by a path."""
     if name in ('open', 'openstat'):
         return '%s %s %s%s' % (name, path(numbers, system), flags(numbers), mode(numbers, 0o644))
+    if name == 'extent':
+        return 'extent %s %d' % (path_of_file(numbers, system), place_in(numbers, system))
+    if numbers.has_holes and name in ('store', 'truncate'):
+        return on_holes(numbers, system, name)
     if name == 'store':
         return 'store %s %d %s' % (path_of_file(numbers, system), size(numbers), data(numbers))
     if name == 'entries':
@@ -200,6 +228,12 @@ def on_path(numbers, system, name):
     if name == 'rmdir' and numbers.random() < 0.5:
         return 'rmdir ' + numbers.choice(standing_paths(system))
     return '%s %s' % (name, path(numbers, system))
+
+
+def on_holes(numbers, system, name):
+    """Bytes or a size for a file, beside a border of blocks that are there."""
+    chosen = '%s %s %d' % (name, path_of_file(numbers, system), place_in(numbers, system))
+    return chosen + ' ' + data(numbers) if name == 'store' else chosen
 
 
 def on_descriptor(numbers, system, name):

@@ -30,15 +30,16 @@ HALF = 131072
 LENGTH = 150
 KEEPS = ['none', 'all', '10', '01', '110']
 LOSING_KEEPS = ['2', '021']
-# File, blocks, inodes, whether there are snapshots and paths that begin at numbers, what cuts keep, and the
-# seed of each list. The seeds are ones with refusals of many kinds.
+# File, blocks, inodes, whether there are snapshots, paths that begin at numbers and what asks for holes, what
+# cuts keep, and the seed of each list. The seeds are ones with refusals of many kinds.
 FILES = [
-    ('random_64.rows', 64, 32, False, False, KEEPS, [43, 47, 50, 101, 117, 128]),
-    ('random_128.rows', 128, 32, False, False, KEEPS, [17, 47, 59, 101, 122, 150]),
-    ('random_256.rows', 256, 64, False, False, KEEPS, [43, 45, 117, 122, 141, 149]),
-    ('random_snapshots.rows', 128, 32, True, False, KEEPS, [11, 14, 35, 47, 50, 56]),
-    ('random_unreadable.rows', 128, 32, True, False, LOSING_KEEPS, [3, 65, 83, 93, 116, 140]),
-    ('random_numbers.rows', 128, 32, True, True, LOSING_KEEPS, [56, 75, 119, 130, 132, 141]),
+    ('random_64.rows', 64, 32, False, False, False, KEEPS, [43, 47, 50, 101, 117, 128]),
+    ('random_128.rows', 128, 32, False, False, False, KEEPS, [17, 47, 59, 101, 122, 150]),
+    ('random_256.rows', 256, 64, False, False, False, KEEPS, [43, 45, 117, 122, 141, 149]),
+    ('random_snapshots.rows', 128, 32, True, False, False, KEEPS, [11, 14, 35, 47, 50, 56]),
+    ('random_unreadable.rows', 128, 32, True, False, False, LOSING_KEEPS, [3, 65, 83, 93, 116, 140]),
+    ('random_numbers.rows', 128, 32, True, True, False, LOSING_KEEPS, [56, 75, 119, 130, 132, 141]),
+    ('random_extents.rows', 256, 32, True, True, True, KEEPS, [16, 21, 33, 37, 47, 58]),
 ]
 # The seeds of the lists that are cut at each of their writes: in one a snapshot is restored while a point is under way, in the other a
 # snapshot is deleted then.
@@ -102,13 +103,26 @@ def shown_lines(pairs, replies):
     return ['  %s -> %s' % (shown(bytes_of(line)), shown(reply)) for (line, _), reply in zip(pairs, replies)]
 
 
-def reading(system, has_numbers=False):
-    """Commands that read all that a system has, once more by numbers where that is asked."""
+def reading(system, has_numbers=False, has_holes=False):
+    """Commands that read all that a system has, once more by numbers and with what is stored where that is asked."""
     read_tree = reading_by_numbers if has_numbers else reading_tree
     lines = read_tree(system.volume) + ['df'] + (['statfs'] if has_numbers else [])
+    lines += reading_extents(system.volume) if has_holes else []
     for kept in system.snapshots:
         lines += ['in %s %s' % (word_of(kept.name).decode(), line) for line in read_tree(kept.volume)]
     return lines + (['snap list'] if system.snapshots else [])
+
+
+def reading_extents(volume):
+    """Commands that ask for each piece of data and each hole of all files."""
+    lines = []
+    for number, thing in sorted(volume.items()):
+        offset = 0 if thing.kind == 'file' else None
+        while offset is not None:
+            lines.append('extent @%d %d' % (number, offset))
+            _, data, hole = thing.extent(offset)
+            offset = hole if data == offset else thing.size if data is None and offset < thing.size else data
+    return lines
 
 
 def reading_by_numbers(volume):
@@ -147,10 +161,10 @@ def reading_tree(volume):
     return lines
 
 
-def some_row(blocks, inodes, has_snapshots, has_numbers, keeps, seed):
+def some_row(blocks, inodes, has_snapshots, has_numbers, has_holes, keeps, seed):
     """A row of as many commands as `LENGTH` over a new image, and then what reads all that is left."""
     made = ['', 'row random %d' % seed, 'image %d %d %d' % (blocks, inodes, HALF)]
-    return going_on(System(blocks, inodes, HALF), made, Numbers(seed, has_snapshots, has_numbers), keeps)
+    return going_on(System(blocks, inodes, HALF), made, Numbers(seed, has_snapshots, has_numbers, has_holes), keeps)
 
 
 def row_of_version_1(name, seed):
@@ -172,16 +186,16 @@ def going_on(system, made, numbers, keeps):
         count += len(more) - 1
     mounted = system.copy()
     mounted.mount()
-    last = reading(mounted, numbers.has_numbers)
+    last = reading(mounted, numbers.has_numbers, numbers.has_holes)
     replies, _ = run(system, [bytes_of(line) for line in last])
     return lines + ['run'] + shown_lines([(line, None) for line in last], replies) + ['unchanged']
 
 
-def made_file(blocks, inodes, has_snapshots, has_numbers, keeps, seeds):
+def made_file(blocks, inodes, has_snapshots, has_numbers, has_holes, keeps, seeds):
     """The text of a file with a row for each seed."""
     lines = HEAD.splitlines()
     for seed in seeds:
-        lines += some_row(blocks, inodes, has_snapshots, has_numbers, keeps, seed)
+        lines += some_row(blocks, inodes, has_snapshots, has_numbers, has_holes, keeps, seed)
     return '\n'.join(lines) + '\n'
 
 

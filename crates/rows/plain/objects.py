@@ -125,8 +125,22 @@ class File:
         last, kept = divmod(size, BLOCK)
         if kept and last in self.data:
             self.data[last] = self.data[last][:kept] + bytes(BLOCK - kept)
-            if last in self.stored:
-                self.changed.add(last)
+        if kept and last in self.stored:
+            self.changed.add(last)
+
+    def told_blocks(self):
+        """The blocks that `extent` tells as stored: bytes in the inode are block 0 there."""
+        return {0} if 0 < self.size <= INLINE else self.stored
+
+    def extent(self, offset):
+        """How many blocks are stored, and the first places from the offset on in one that is and in one that isn't, or the end."""
+        told, end = self.told_blocks(), -(-self.size // BLOCK)
+        if offset >= self.size:
+            return len(told), None, None
+        first = offset // BLOCK
+        data = min((index for index in told if index >= first), default=None)
+        hole = next((index for index in range(first, end) if index not in told), end)
+        return (len(told), None if data is None else max(offset, data * BLOCK), min(max(offset, hole * BLOCK), self.size))
 
     def blocks(self):
         return blocks_of(self.stored, indirect_blocks(self.stored, level(self.size)))

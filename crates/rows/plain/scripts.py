@@ -28,6 +28,7 @@ COMMANDS = {
     b'lstat': calls.stat,
     b'readlink': calls.readlink,
     b'get': calls.get,
+    b'extent': calls.extent,
     b'mkdir': calls.mkdir,
     b'rmdir': calls.rmdir,
     b'unlink': calls.unlink,

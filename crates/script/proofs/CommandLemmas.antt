@@ -78,6 +78,7 @@ no_command verb.Lseek e vs = absurd (cc)
 no_command verb.Ftruncate e vs = absurd (cc)
 no_command verb.Fstat e vs = absurd (cc)
 no_command verb.Fsync e vs = absurd (cc)
+no_command verb.Extent e vs = absurd (cc)
 no_command verb.Sync e vs = absurd (cc)
 no_command verb.Df e vs = absurd (cc)
 no_command verb.Statfs e vs = absurd (cc)
@@ -164,16 +165,17 @@ not_file verb.Lseek a b c d e f vs = e refl
 not_file verb.Ftruncate a b c d e f vs = f refl
 not_file v a b c d e f vs = vs
 
-pub is_file : (v : Verb) → v ≢ verb.Open → v ≢ verb.OpenStat → v ≢ verb.Close → v ≢ verb.Fstat → v ≢ verb.Fsync → v ≢ verb.Sync → v ≢ verb.Df → v ≢ verb.Statfs → command_form v ≡ file_form v
-is_file verb.Open a b c d e f g h = absurd (a refl)
-is_file verb.OpenStat a b c d e f g h = absurd (b refl)
-is_file verb.Close a b c d e f g h = absurd (c refl)
-is_file verb.Fstat a b c d e f g h = absurd (d refl)
-is_file verb.Fsync a b c d e f g h = absurd (e refl)
-is_file verb.Sync a b c d e f g h = absurd (f refl)
-is_file verb.Df a b c d e f g h = absurd (g refl)
-is_file verb.Statfs a b c d e f g h = absurd (h refl)
-is_file v a b c d e f g h = refl
+pub is_file : (v : Verb) → v ≢ verb.Open → v ≢ verb.OpenStat → v ≢ verb.Close → v ≢ verb.Fstat → v ≢ verb.Fsync → v ≢ verb.Extent → v ≢ verb.Sync → v ≢ verb.Df → v ≢ verb.Statfs → command_form v ≡ file_form v
+is_file verb.Open a b c d e f g h i = absurd (a refl)
+is_file verb.OpenStat a b c d e f g h i = absurd (b refl)
+is_file verb.Close a b c d e f g h i = absurd (c refl)
+is_file verb.Fstat a b c d e f g h i = absurd (d refl)
+is_file verb.Fsync a b c d e f g h i = absurd (e refl)
+is_file verb.Extent a b c d e f g h i = absurd (f refl)
+is_file verb.Sync a b c d e f g h i = absurd (g refl)
+is_file verb.Df a b c d e f g h i = absurd (h refl)
+is_file verb.Statfs a b c d e f g h i = absurd (i refl)
+is_file v a b c d e f g h i = refl
 
 pub not_snapping : (v : Verb) → v ≢ verb.Take → v ≢ verb.Delete → v ≢ verb.Restore → v ≢ verb.List → Values (snap_form v) → ⊥
 not_snapping verb.Take a b c d vs = a refl
@@ -187,9 +189,9 @@ pub change_read : (v : Verb) (words : List (List ℕ)) (r : Result PathCall Scri
     → ReadsFields (change_form v) call_words IsPathCallInForm (verb_name v ∷ []) words r → ReadsFields (call_form v) call_words IsPathCallInForm (verb_name v ∷ []) words r
 change_read v words r a b c d e f reads = subst (λ u. ReadsFields u call_words IsPathCallInForm (verb_name v ∷ []) words r) (sym (is_change v a b c d e f)) reads
 
-pub file_read : (v : Verb) (words : List (List ℕ)) (r : Result Command ScriptError) → v ≢ verb.Open → v ≢ verb.OpenStat → v ≢ verb.Close → v ≢ verb.Fstat → v ≢ verb.Fsync → v ≢ verb.Sync → v ≢ verb.Df → v ≢ verb.Statfs
+pub file_read : (v : Verb) (words : List (List ℕ)) (r : Result Command ScriptError) → v ≢ verb.Open → v ≢ verb.OpenStat → v ≢ verb.Close → v ≢ verb.Fstat → v ≢ verb.Fsync → v ≢ verb.Extent → v ≢ verb.Sync → v ≢ verb.Df → v ≢ verb.Statfs
     → ReadsFields (file_form v) command_words IsCommandInForm (verb_name v ∷ []) words r → ReadsFields (command_form v) command_words IsCommandInForm (verb_name v ∷ []) words r
-file_read v words r a b c d e f g h reads = subst (λ u. ReadsFields u command_words IsCommandInForm (verb_name v ∷ []) words r) (sym (is_file v a b c d e f g h)) reads
+file_read v words r a b c d e f g h i reads = subst (λ u. ReadsFields u command_words IsCommandInForm (verb_name v ∷ []) words r) (sym (is_file v a b c d e f g h i)) reads
 
 -- what is read behind a verb is read as words
 pub call_read : (v : Verb) (words : List (List ℕ)) (r : Result PathCall ScriptError) → ReadsFields (call_form v) call_words IsPathCallInForm (verb_name v ∷ []) words r → ReadsWords call_words IsPathCallInForm (verb_name v ∷ words) r

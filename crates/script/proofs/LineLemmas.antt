@@ -1,5 +1,5 @@
 -- A line is its words and the spaces between them.
-use Rattle.std.proofs.Common.{◌≡◌, Result, Ok, Err, IfOk, Option, Some, None, ℕ, ℤ, zero, suc, pos, negsuc, ◌+◌, ◌/◌, ◌%◌, ◌^◌, ◌<◌, ◌≤◌, ◌==◌, Bool, true, false, List, [], ◌∷◌, ◌++◌, All, codes, cond, eqb, nat_le, get_or, arith, refl, sym, ◌∙◌, ap}
+use Rattle.std.proofs.Common.{◌≡◌, Result, Ok, Err, IfOk, Some, None, ℕ, ℤ, zero, suc, pos, negsuc, ◌+◌, ◌/◌, ◌%◌, ◌^◌, ◌<◌, ◌≤◌, ◌==◌, Bool, true, false, List, [], ◌∷◌, ◌++◌, All, codes, cond, eqb, nat_le, get_or, arith, refl, sym, ◌∙◌, ap}
 use Rattle.std.specs.Fmt.{decimal, signed_decimal}
 use Rattle.std.specs.Int.RustNames.{FitsSigned}
 use mir.Syntax.{w64}
@@ -180,6 +180,7 @@ verb_is_word verb.Lseek = letters_are_word (codes "lseek") refl
 verb_is_word verb.Ftruncate = letters_are_word (codes "ftruncate") refl
 verb_is_word verb.Fstat = letters_are_word (codes "fstat") refl
 verb_is_word verb.Fsync = letters_are_word (codes "fsync") refl
+verb_is_word verb.Extent = letters_are_word (codes "extent") refl
 verb_is_word verb.Sync = letters_are_word (codes "sync") refl
 verb_is_word verb.Df = letters_are_word (codes "df") refl
 verb_is_word verb.Statfs = letters_are_word (codes "statfs") refl

@@ -1,5 +1,5 @@
 -- A command has one spelling.
-use Rattle.std.proofs.Common.{◌≡◌, ℕ, ℤ, pos, negsuc, zero, suc, ◌<◌, ◌^◌, get_or, length, Option, Some, None, ◌+◌, ◌/◌, ◌%◌, ◌==◌, ◌||◌, Bool, true, false, cond, eqb, List, [], ◌∷◌, ◌++◌, Result, Ok, Err, ◌⊎◌, inl, inr, codes, arith, refl, sym, ◌∙◌, ap, subst}
+use Rattle.std.proofs.Common.{◌≡◌, ℕ, ℤ, pos, negsuc, zero, suc, ◌<◌, ◌^◌, get_or, length, Some, None, ◌+◌, ◌/◌, ◌%◌, ◌==◌, ◌||◌, Bool, true, false, cond, eqb, List, [], ◌∷◌, ◌++◌, Result, Ok, Err, ◌⊎◌, inl, inr, codes, arith, refl, sym, ◌∙◌, ap, subst}
 use Rattle.std.specs.List.{list_any}
 use Rattle.std.proofs.lemmas.Fmt.{decimal_digit, decimal_injective, decimal_nonempty, first_decimal, signed_decimal_injective}
 use Rattle.std.specs.Fmt.{decimal, signed_decimal}
@@ -317,6 +317,7 @@ plain_command verb.Lseek (fd, (w, (o, _))) = command.Lseek fd w o
 plain_command verb.Ftruncate (fd, (n, _)) = command.Ftruncate fd n
 plain_command verb.Fstat (fd, _) = command.Fstat fd
 plain_command verb.Fsync (fd, _) = command.Fsync fd
+plain_command verb.Extent (p, (o, _)) = command.Extent p o
 plain_command verb.Sync _ = command.Sync
 plain_command verb.Df _ = command.Df
 plain_command verb.Statfs _ = command.Statfs
@@ -349,6 +350,7 @@ command_of_spelling (command.Lseek fd w o) good = refl
 command_of_spelling (command.Ftruncate fd n) good = refl
 command_of_spelling (command.Fstat fd) good = refl
 command_of_spelling (command.Fsync fd) good = refl
+command_of_spelling (command.Extent p o) good = refl
 command_of_spelling command.Sync good = refl
 command_of_spelling command.Df good = refl
 command_of_spelling command.Statfs good = refl

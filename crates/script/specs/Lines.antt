@@ -69,6 +69,7 @@ spelling_of (command.Lseek fd whence offset) = plain verb.Lseek (fd, (whence, (o
 spelling_of (command.Ftruncate fd size) = plain verb.Ftruncate (fd, (size, tt))
 spelling_of (command.Fstat fd) = plain verb.Fstat (fd, tt)
 spelling_of (command.Fsync fd) = plain verb.Fsync (fd, tt)
+spelling_of (command.Extent path offset) = plain verb.Extent (path, (offset, tt))
 spelling_of command.Sync = plain verb.Sync tt
 spelling_of command.Df = plain verb.Df tt
 spelling_of command.Statfs = plain verb.Statfs tt

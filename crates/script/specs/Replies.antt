@@ -5,13 +5,14 @@ use Rattle.std.specs.List.{flat_map}
 use Rattle.model.specs.Errnos.{errno_name}
 use Rattle.model.specs.declared.reply.Reply.{Reply}
 use Rattle.model.specs.declared.reply.Reply.TheVariants as reply
+use Rattle.model.specs.declared.reply.Extent.{Extent}
 use Rattle.model.specs.declared.reply.FileType.{FileType}
 use Rattle.model.specs.declared.reply.FileType.TheVariants as kind
 use Rattle.model.specs.declared.reply.Stat.{Stat}
 use Rattle.model.specs.declared.reply.Usage.{Usage}
 use Rattle.model.specs.declared.entries.Entry.{Entry}
 use Rattle.script.specs.Lines.{line_of}
-use Rattle.script.specs.Words.{data_word, mode_word, text_word}
+use Rattle.script.specs.Words.{data_word, given_word, mode_word, text_word}
 
 -- a kind's word
 abbrev pub kind_word : FileType → List ℕ
@@ -38,6 +39,13 @@ figure_words s = decimal s.number ∷ kind_word s.kind ∷ mode_word s.mode ∷ 
 abbrev pub entry_words : Entry → List (List ℕ)
 entry_words e = text_word e.name ∷ decimal e.cookie ∷ figure_words e.stat
 
+-- the words of what of a file is stored: its blocks, and its next data and its next hole, with '-'
+-- where there is none
+abbrev pub extent_words : Extent → List (List ℕ)
+extent_words e =
+    codes "blocks" ∷ decimal e.blocks ∷ codes "data" ∷ given_word decimal e.data
+    ∷ codes "hole" ∷ given_word decimal e.hole ∷ []
+
 -- the words of the room of the disk and for objects
 abbrev pub usage_words : Usage → List (List ℕ)
 usage_words u =
@@ -57,6 +65,7 @@ reply_words (reply.Names names) = codes "names" ∷ map text_word names
 reply_words (reply.Entries entries) = codes "entries" ∷ flat_map entry_words entries
 reply_words (reply.Snaps names) = codes "snaps" ∷ map text_word names
 reply_words (reply.Stat stat) = codes "stat" ∷ stat_words stat
+reply_words (reply.Extent extent) = codes "extent" ∷ extent_words extent
 reply_words (reply.Space blocks free pledged) =
     codes "blocks" ∷ decimal blocks ∷ codes "free" ∷ decimal free ∷ codes "pledged" ∷ decimal pledged ∷ []
 reply_words (reply.Usage usage) = codes "usage" ∷ usage_words usage

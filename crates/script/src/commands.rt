@@ -147,6 +147,10 @@ fn read_plain(alloc: Global, verb: Verb, words: &[&[u8]]) -> Result<Command<'sta
             let Then(fd, End) = Fields::read(alloc, words)?;
             Ok(Command::Fsync { fd })
         }
+        Verb::Extent => {
+            let Then(path, Then(offset, End)) = Fields::read(alloc, words)?;
+            Ok(Command::Extent { path, offset })
+        }
         Verb::Sync => read_alone(Command::Sync, words),
         Verb::Df => read_alone(Command::Df, words),
         Verb::Statfs => read_alone(Command::Statfs, words),

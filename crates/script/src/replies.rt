@@ -4,11 +4,11 @@ ghost use Rattle.std.specs.Prelude.{◌≡◌, ◌∷◌, ◌++◌, [], OnOk, ma
 ghost use Rattle.std.specs.Fmt.{decimal};
 ghost use Rattle.std.specs.List.{flat_map};
 ghost use Rattle.script.specs.Lines.{spaced};
-ghost use Rattle.script.specs.Replies.{entry_words, figure_words, kind_word, kind_words, reply_line, size_words, stat_words, usage_words};
-ghost use Rattle.script.specs.Words.{text_word, AddsText};
+ghost use Rattle.script.specs.Replies.{entry_words, extent_words, figure_words, kind_word, kind_words, reply_line, size_words, stat_words, usage_words};
+ghost use Rattle.script.specs.Words.{given_word, text_word, AddsText};
 
-use crate::words::{mode_word, push_data, push_text};
-use model::{Entries, Entry, FileType, Names, Reply, Stat, Usage};
+use crate::words::{NOT_GIVEN, mode_word, push_data, push_text};
+use model::{Entries, Entry, Extent, FileType, Names, Reply, Stat, Usage};
 use std::alloc::{AllocError, Global};
 
 /// Adds a reply's line.
@@ -47,6 +47,10 @@ pub(crate) fn push_reply(alloc: Global, line: &mut Vec<u8>, reply: &Reply) -> Re
         Reply::Stat(stat) => {
             line.extend_from_slice(b"stat")?;
             push_stat(alloc, line, stat)
+        }
+        Reply::Extent(extent) => {
+            line.extend_from_slice(b"extent")?;
+            push_extent(alloc, line, extent)
         }
         Reply::Space {
             blocks,
@@ -130,6 +134,30 @@ fn push_figures(alloc: Global, line: &mut Vec<u8>, stat: &Stat) -> Result<(), Al
     line.extend_from_slice(&mode_word(stat.mode))?;
     push_number(alloc, line, b" ", u64::from(stat.links))?;
     push_number(alloc, line, b" ", stat.size)
+}
+
+/// Adds what of a file is stored.
+fn push_extent(alloc: Global, line: &mut Vec<u8>, extent: &Extent) -> Result<(), AllocError>
+    ensures { OnOk result (AddsText line.old line.new (spaced (extent_words extent.now))) }
+{
+    push_number(alloc, line, b" blocks ", u64::from(extent.blocks))?;
+    push_place(alloc, line, b" data ", extent.data)?;
+    push_place(alloc, line, b" hole ", extent.hole)
+}
+
+/// Adds words, and a place behind them where there is one.
+fn push_place(
+    alloc: Global,
+    line: &mut Vec<u8>,
+    words: &[u8],
+    place: Option<u64>,
+) -> Result<(), AllocError>
+    ensures { OnOk result (AddsText line.old line.new (words.now ++ given_word decimal place)) }
+{
+    match place {
+        Some(place) => push_number(alloc, line, words, place),
+        None => push_word(line, words, NOT_GIVEN),
+    }
 }
 
 /// Adds how much room there is.

@@ -34,6 +34,7 @@ pub(crate) enum Verb {
     Ftruncate,
     Fstat,
     Fsync,
+    Extent,
     Sync,
     Df,
     Statfs,
@@ -45,7 +46,7 @@ pub(crate) enum Verb {
 }
 
 impl Verb {
-    const ALL: [Verb; 36] = [
+    const ALL: [Verb; 37] = [
         Verb::List,
         Verb::Entries,
         Verb::Stat,
@@ -74,6 +75,7 @@ impl Verb {
         Verb::Ftruncate,
         Verb::Fstat,
         Verb::Fsync,
+        Verb::Extent,
         Verb::Sync,
         Verb::Df,
         Verb::Statfs,
@@ -162,6 +164,7 @@ impl Verb {
             Verb::Ftruncate => b"ftruncate",
             Verb::Fstat => b"fstat",
             Verb::Fsync => b"fsync",
+            Verb::Extent => b"extent",
             Verb::Sync => b"sync",
             Verb::Df => b"df",
             Verb::Statfs => b"statfs",

@@ -70,6 +70,9 @@ pub(crate) fn push_command(
         }
         Command::Fstat { fd } => push_fields(alloc, line, Verb::Fstat, &Then(*fd, End)),
         Command::Fsync { fd } => push_fields(alloc, line, Verb::Fsync, &Then(*fd, End)),
+        Command::Extent { path, offset } => {
+            push_fields(alloc, line, Verb::Extent, &Then(path, Then(*offset, End)))
+        }
         Command::Sync => push_fields(alloc, line, Verb::Sync, &End),
         Command::Df => push_fields(alloc, line, Verb::Df, &End),
         Command::Statfs => push_fields(alloc, line, Verb::Statfs, &End),
