@@ -3,7 +3,7 @@ use Rattle.std.proofs.Common.{◌≡◌, ℕ, ◌/◌, ◌%◌, Bool, true, fals
 use Rattle.std.specs.Prelude.{IsFalse, slice_index}
 use Rattle.std.specs.Ordering.{nat_cmp}
 use Rattle.std.specs.BTreeMap as tree
-use Rattle.std.proofs.lemmas.Bool.{both_ways}
+use Rattle.std.proofs.lemmas.Bool.{false≢true}
 use Rattle.layout.proofs.PartLaws.{length-first_bytes}
 use Rattle.layout.proofs.ZeroLaws.{zero_byte}
 use Rattle.layout.specs.FileBytes.{EndsAt, byte_in}
@@ -74,10 +74,10 @@ tells_stored disk s n o is k = ap (λ (x : Option Object). stored_by disk x k) i
 
 -- a byte of what is no file
 no_bytes : (node : Option Node) (p : ℕ) → is_file_node node ≡ false → slice_index (unwrap_or (bytes_of_node node) []) p ≡ 0
-no_bytes None p not = refl
-no_bytes (Some (directory_node attributes names)) p not = refl
-no_bytes (Some (link_node attributes text)) p not = refl
-no_bytes (Some (file_node attributes links bytes)) p not = absurd (both_ways true refl not)
+no_bytes None p other = refl
+no_bytes (Some (directory_node attributes names)) p other = refl
+no_bytes (Some (link_node attributes text)) p other = refl
+no_bytes (Some (file_node attributes links bytes)) p other = absurd (false≢true (sym other))
 
 -- a byte that is 0 among a file's blocks is so in the file
 kind_zeros : (k : Kind) (inodes : ℕ) (c : Content) (node : Option Node) (p : ℕ) → StandsAs k inodes c node → EndsAt c.size (byte_in c.block) → byte_in c.block p ≡ 0
@@ -93,14 +93,14 @@ kind_zeros kinds.BlockMap inodes c node p stands ends zero = no_bytes node p (no
 
 module _ (disk : ℕ → List ℕ) (inodes : ℕ) (settled : Inode) (node : Option Node) (p : ℕ) where
   object_zeros : (object : Option Object) → IsObjectOrNone by_bytes disk inodes settled object node → IsFalse (stored_by disk object (p / 4096)) → slice_index (unwrap_or (bytes_of_node node) []) p ≡ 0
-  object_zeros None stands hole = absurd (both_ways true refl hole)
+  object_zeros None stands hole = absurd (false≢true (sym hole))
   object_zeros (Some o) stands hole =
       let zero : byte_in (content_of_object disk o).block p ≡ 0 = ap (λ (block : List ℕ). slice_index block (p % 4096)) (hole_is_zeros disk o.file.tree (p / 4096) hole) ∙ zero_byte (p % 4096) 4096 in
       kind_zeros o.status.kind inodes (content_of_object disk o) node p stands.stands stands.ends zero
 
   slot_zeros : (slot : Option ObjectSlot) → SlotStandsFor by_bytes disk inodes settled slot node → IsFalse (stored_by disk (slot_object slot) (p / 4096)) → slice_index (unwrap_or (bytes_of_node node) []) p ≡ 0
-  slot_zeros None stands hole = absurd (both_ways true refl hole)
-  slot_zeros (Some AsSettled) stands hole = absurd (both_ways true refl hole)
+  slot_zeros None stands hole = absurd (false≢true (sym hole))
+  slot_zeros (Some AsSettled) stands hole = absurd (false≢true (sym hole))
   slot_zeros (Some (Loaded object)) stands hole = object_zeros object stands.1 hole
   slot_zeros (Some (Changed object)) stands hole = object_zeros object stands hole
 

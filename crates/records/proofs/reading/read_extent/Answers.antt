@@ -1,4 +1,5 @@
-use Rattle.std.proofs.Common.{◌≡◌, ◌∙◌, ap}
+use Rattle.std.proofs.Common.{◌≡◌, ◌∙◌, ℕ, ap, subst}
+use Rattle.blocktree.specs.Trees.{AreSound}
 use Rattle.model.specs.Volumes.{is_file_node}
 use Rattle.inofile.specs.Settled.{content_of_object}
 use Rattle.images.specs.Soundness.{by_bytes}
@@ -26,8 +27,11 @@ returns-in_err-extent g c =
     fails c.from_residual-in_err-extent.result c.from_residual-in_err-extent.ensures.1 (looks_reads c.in_ok-load.ensures.looks c.in_err-extent.ensures.reads) c.load.ensures.loads (λ disk settled v stands is.
     let now = c.in_ok-load.ensures.looks.kept disk settled v stands in
     let o = c.in-Some.ensures.stands _ _ disk settled v now.volume in
+    let tree = c.in-Some.object.now.file.tree in
+    let inodes = now.volume.inodes in
     c.in_err-extent.ensures.damaged disk now.shows is
-    (λ i low. c.objects_stand_in_their_grammar.ensures _ _ disk settled c.load.new.inodes v c.args.number i c.in-Some.object.now (v c.args.number) now.volume o tt))
+    (subst (λ (n : ℕ). AreSound n disk tree) inodes.count
+    (c.based_trees_are_sound.ensures.all by_bytes c.load.new.inodes.geometry disk (settled c.args.number) tree (inodes.sound c.args.number) o.base)))
 
 pub returns : goal.returns
 returns g c = finds (looks_reads c.in_ok-load.ensures.looks c.in_ok-extent.ensures.reads) c.load.ensures.loads tt (λ disk settled v stands over stored shows told.
