@@ -16,6 +16,7 @@ use Rattle.inofile.specs.declared.inode_file.InodeFile.{InodeFile}
 use Rattle.paths.proofs.Looks.{looks_err, looks_ok}
 use Rattle.records.specs.declared.failure.Failure.{Failure}
 use Rattle.records.specs.declared.failure.Failure.TheVariants.{Read, Refused}
+use Rattle.calls.specs.Extent.{shows_extent}
 use Rattle.calls.specs.Seeing.{Answers}
 use Rattle.calls.proofs.PrepareSteps.{carried, never_damaged}
 use Rattle.descriptors.specs.declared.table.Descriptors.{Descriptors}
@@ -64,6 +65,11 @@ module _ {B T : Type 0} {G : Ghosts B} {a b : B} {s t : InodeFile} {reply : Resu
   })
 
 -- ---- a call with any outcome on a tree
+
+-- an offset as a number
+pub extent_at : {B T : Type 0} {G : Ghosts B} {a b : B} {s t : InodeFile} {reply : Result T Errno → Reply} {r : Result T Failure} (path : List ℕ) {offset place : ℤ} → offset ≡ place
+    → Answers G a b s t (shows_extent G a t path offset) reply r → Answers G a b s t (shows_extent G a t path place) reply r
+extent_at {G = G} {a = a} {b = b} {s = s} {t = t} {reply = reply} {r = r} path is all = subst (λ (z : ℤ). Answers G a b s t (shows_extent G a t path z) reply r) is all
 
 module _ {B T : Type 0} {G : Ghosts B} {a b : B} {s t : InodeFile} {reply : Result T Errno → Reply} {outcome : Tree → Outcome} where
   -- it is answered

@@ -1,3 +1,7 @@
+use Rattle.std.proofs.Common.{rules, ℤ, subst, w64}
+use Rattle.std.proofs.lemmas.Int.{to_z-of_z}
+use Rattle.model.specs.declared.command.Command.TheVariants as command
+use Rattle.dispatch.specs.Serving.{Answers}
 use Rattle.dispatch.proofs.serving.look.Goals as goal
 
 pub returns-in-SnapList : goal.returns-in-SnapList
@@ -10,4 +14,6 @@ pub returns-in-Close : goal.returns-in-Close
 returns-in-Close g c = rw c.in-Close.is c.close_file.ensures
 
 pub returns-in-Extent : goal.returns-in-Extent
-returns-in-Extent g c = rw c.in-Extent.is c.look_at_blocks.ensures
+returns-in-Extent g c = rw c.in-Extent.is
+    (subst (λ (z : ℤ). Answers c.args.system.now c.look_at_blocks.new.system (command.Extent c.in-Extent.path z) c.look_at_blocks.result)
+    (to_z-of_z w64 c.in-Extent.offset (search rules)) c.look_at_blocks.ensures)

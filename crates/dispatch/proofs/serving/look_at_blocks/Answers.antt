@@ -1,12 +1,14 @@
-use Rattle.std.proofs.Common.{ℕ, List, refl, subst, sym}
+use Rattle.std.proofs.Common.{ℕ, List, refl, subst, sym, w64}
+use Rattle.std.proofs.lemmas.Int.{to_z-of_z}
 use Rattle.std.proofs.lemmas.Result.{IfOk-weaker}
-use Rattle.layout.specs.Places.{Blocks, blocks_of}
+use Rattle.layout.specs.Places.{blocks_of}
 use Rattle.model.specs.Room.{nothing}
 use Rattle.model.specs.Steps.{WouldStep}
 use Rattle.model.specs.declared.command.Command.TheVariants as command
 use Rattle.records.specs.Failures.{read_outcome}
 use Rattle.records.specs.Reading.{TellsStored}
 use Rattle.dispatch.specs.Answering.{answered_reply}
+use Rattle.dispatch.proofs.AskingLaws.{extent_at}
 use Rattle.dispatch.proofs.LookedLaws.{disk_under, looked_on, never_damaged, on_trees, reads_on, same_disk}
 use Rattle.dispatch.proofs.ServingLaws.{extent_told, looked_up}
 use Rattle.dispatch.proofs.serving.look_at_blocks.Goals as goal
@@ -17,7 +19,7 @@ returns g c =
     let blocks = c.tell_extent.new.blocks in
     let inodes = c.tell_extent.new.inodes in
     let path = c.args.path.now in
-    let seen = c.tell_extent.ensures.tells in
+    let seen = extent_at c.as_bytes.result.now (to_z-of_z w64 c.args.offset c.ranges.offset) c.tell_extent.ensures.tells in
     let looks = seen.looks in
     looked_up fs _ (command.Extent path c.args.offset) (reads_on {G = g.S.Station} fs blocks inodes looks) refl c.tell_extent.result _ c.answer.ensures (λ s served x. x, λ x. x)
     (λ s served. c.served_states_open.ensures s.tree.descriptors s served) looks.reads.counted looks.reads.device seen.own c.tell_extent.ensures.kind c.tell_extent.ensures.no_fault
