@@ -26,9 +26,9 @@ returns g c =
     (λ s served. (looked_on {G = g.S.Station} fs blocks inodes looks s served, refl))
     (λ s served. IfOk-weaker (read_outcome c.tell_extent.result) _ _
     (λ r answers room stored.
-        subst (λ (p : List ℕ). WouldStep room s (command.Extent p c.args.offset) (answered_reply r) s nothing) c.as_bytes.ensures
-        (extent_told {G = g.S.Station} fs s served room c.as_bytes.result.now c.args.offset (answered_reply r)
-        (answers (disk_under {G = g.S.Station} fs) room.stored served.shows
-        (subst (λ (disk : ℕ → List ℕ). TellsStored (blocks_of disk) inodes room.stored) (sym (same_disk {G = g.S.Station} fs blocks inodes looks s served)) stored))))
+    subst (λ (p : List ℕ). WouldStep room s (command.Extent p c.args.offset) (answered_reply r) s nothing) c.as_bytes.ensures
+    (extent_told {G = g.S.Station} fs s served room c.as_bytes.result.now c.args.offset (answered_reply r)
+    (answers (disk_under {G = g.S.Station} fs) room.stored served.shows
+    (subst (λ (disk : ℕ → List ℕ). TellsStored (blocks_of disk) inodes room.stored) (sym (same_disk {G = g.S.Station} fs blocks inodes looks s served)) stored))))
     (on_trees {G = g.S.Station} fs seen.answers s served))
     (never_damaged {G = g.S.Station} fs seen.damaged)
