@@ -18,6 +18,7 @@ no_checkpoint (command.Lseek fd whence offset) is checkpointing = checkpointing
 no_checkpoint (command.Ftruncate fd size) is checkpointing = checkpointing
 no_checkpoint (command.Fstat fd) is checkpointing = checkpointing
 no_checkpoint (command.Fsync fd) is checkpointing = checkpointing
+no_checkpoint (command.Extent path offset) is checkpointing = checkpointing
 no_checkpoint command.Sync is checkpointing = is
 no_checkpoint command.Df is checkpointing = checkpointing
 no_checkpoint command.Statfs is checkpointing = checkpointing

@@ -1,4 +1,4 @@
-use Rattle.std.proofs.Common.{false, refl}
+use Rattle.std.proofs.Common.{false, true, refl}
 use Rattle.std.proofs.lemmas.Bool.{false≢true}
 use Rattle.model.specs.Room.{Room}
 use Rattle.dispatch.proofs.StoredLaws.{holes_read, stored_tells}
