@@ -1,0 +1,3 @@
+pub mod ComeLemmas
+pub mod CallLemmas
+pub mod GivenLaws
