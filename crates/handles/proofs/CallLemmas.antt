@@ -1,14 +1,14 @@
 -- The numbers in use behind each call come from before, or are such as it may give.
-use Rattle.std.proofs.Common.{◌≡◌, ◌⊎◌, inl, inr, ℕ, ℤ, pos, ◌+◌, List, [], ◌∷◌, ◌++◌, length, Bool, true, false, not, ◌&&◌, ◌||◌, is_some, Option, Some, None, refl, sym, ap, subst, ◌∙◌}
+use Rattle.std.proofs.Common.{◌≡◌, inr, ℕ, ℤ, pos, ◌+◌, List, [], ◌∷◌, ◌++◌, length, Bool, true, false, not, ◌&&◌, ◌||◌, is_some, Option, Some, None, refl, sym, subst}
 use Rattle.std.specs.Prelude.{◌==◌, if◌then◌else◌, ◌+ℤ◌, nat_abs, nat_le, nat_lt, min}
 use Rattle.model.specs.declared.limits.TheConstants.{ENTRIES_TOLD, FILE_NAMES, GREATEST_FILE, GREATEST_OFFSET, OPEN_FILES}
-use Rattle.model.specs.declared.errno.Errno.TheVariants.{ENOENT, ENOTDIR, EISDIR, EEXIST, EINVAL, EPERM, EBUSY, EBADF, EMFILE, EMLINK, ENOTEMPTY, EROFS, NOSNAP, EFBIG, EIO, EOVERFLOW, FAILED}
+use Rattle.model.specs.declared.errno.Errno.TheVariants.{ENOENT, ENOTDIR, EISDIR, EEXIST, EINVAL, EPERM, EBUSY, EBADF, EMFILE, EMLINK, ENOTEMPTY, EFBIG, EOVERFLOW}
 use Rattle.model.specs.declared.reply.Reply.TheVariants as reply
 use Rattle.model.specs.declared.command.Flags.{Flags}
 use Rattle.model.specs.declared.command.Settings.{Settings}
 use Rattle.model.specs.declared.command.Whence.{Whence}
-use Rattle.model.specs.Paths.{Name, Path, Tests, first_refusal, text_tests, text_tests_then, new_text_tests, is_empty, is_root_text, path_eq}
-use Rattle.model.specs.Trees.{Tree, Object, directory, symlink, file, is_directory, Description, IsUsed, number_of_object}
+use Rattle.model.specs.Paths.{Name, Path, text_tests, text_tests_then, new_text_tests, is_empty, is_root_text, path_eq}
+use Rattle.model.specs.Trees.{Tree, Object, directory, symlink, file, is_directory, Description, number_of_object}
 use Rattle.model.specs.Edits.{contents, resized, written, read_at, with_object, without_object, with_mode, with_bytes, with_descriptor, with_directory, with_file, moved}
 use Rattle.model.specs.Resolution.{parent}
 use Rattle.model.specs.Room.{Need, nothing, logs, adds_name, puts_bytes, removes_name}

@@ -1,26 +1,21 @@
 -- Where the numbers in use behind a call come from: they were in use, or they are such as the call
 -- may give.
-use Rattle.std.proofs.Common.{◌≡◌, ◌⊎◌, inl, inr, ℕ, ℤ, pos, ◌+◌, List, [], ◌∷◌, ◌++◌, length, Bool, true, false, not, ◌&&◌, ◌||◌, is_some, Option, Some, None, refl, sym, ap, subst, ◌∙◌}
-use Rattle.std.specs.Prelude.{◌+ℤ◌, ◌==◌, if◌then◌else◌, nat_abs, nat_le, nat_lt, min}
+use Rattle.std.proofs.Common.{◌≡◌, ◌⊎◌, inl, inr, ℕ, List, [], ◌∷◌, ◌++◌, length, Bool, true, false, Option, Some, None, refl, sym, ap, subst, ◌∙◌}
+use Rattle.std.specs.Prelude.{◌==◌, nat_le}
 use Rattle.std.proofs.lemmas.Bool.{cond_both}
-use Rattle.model.specs.declared.limits.TheConstants.{DIRECTORY_NAMES, ENTRIES_TOLD, FILE_NAMES, GREATEST_FILE, GREATEST_OFFSET, OPEN_FILES}
+use Rattle.model.specs.declared.limits.TheConstants.{DIRECTORY_NAMES}
 use Rattle.model.specs.declared.errno.Errno.{Errno}
-use Rattle.model.specs.declared.errno.Errno.TheVariants.{ENOENT, ENOTDIR, EISDIR, EEXIST, EINVAL, EPERM, EBUSY, ELOOP, EBADF, EMFILE, EMLINK, ENOTEMPTY, DIRFULL, NONUMBER, EFBIG, EOVERFLOW, ESTALE}
+use Rattle.model.specs.declared.errno.Errno.TheVariants.{ENOENT, ENOTDIR, ELOOP, EBADF, DIRFULL, NONUMBER, ESTALE}
 use Rattle.model.specs.declared.reply.Reply.{Reply}
 use Rattle.model.specs.declared.reply.Reply.TheVariants as reply
-use Rattle.model.specs.declared.command.Flags.{Flags}
-use Rattle.model.specs.declared.command.Settings.{Settings}
-use Rattle.model.specs.declared.command.Whence.{Whence}
-use Rattle.model.specs.Paths.{Name, Path, Tests, first_refusal, text_tests_then, new_text_tests, text_tests, behind, is_empty, is_root_text, parts_behind, path_eq, start_number}
-use Rattle.model.specs.Trees.{Tree, Object, directory, symlink, file, is_directory, Description, IsUsed, number_of_object}
-use Rattle.model.specs.Edits.{contents, resized, written, read_at, relocate, with_object, without_object, with_mode, with_bytes, with_descriptor, with_directory, with_file, moved, IsSwept}
-use Rattle.model.specs.Resolution.{Resolution, named, missing, refused, resolve, parent}
-use Rattle.model.specs.Room.{Need, nothing, logs, adds_name, removes_name}
-use Rattle.model.specs.Outcomes.{Outcome, answers, refuses, changes, changes_swept, tested, either, leads, leads_from, goes_along, goes_to, with_number, with_names, with_place, IsFresh, at_number, with_fresh, with_links, lowest_free, described}
-use Rattle.model.specs.Reading as reading
+use Rattle.model.specs.Paths.{Name, Path, Tests, first_refusal, behind, is_empty, parts_behind, path_eq, start_number}
+use Rattle.model.specs.Trees.{Tree, Object, directory, symlink, file, Description, IsUsed, number_of_object}
+use Rattle.model.specs.Edits.{contents, resized, relocate, with_object, without_object, with_bytes, with_descriptor, moved, IsSwept}
+use Rattle.model.specs.Resolution.{Resolution, named, missing, refused, resolve}
+use Rattle.model.specs.Room.{Need}
+use Rattle.model.specs.Outcomes.{Outcome, answers, refuses, changes, changes_swept, tested, either, leads, leads_from, goes_along, goes_to, with_number, with_names, with_place, IsFresh, with_fresh, with_links, described}
 use Rattle.model.specs.Changing as changing
 use Rattle.model.specs.Descriptors as descriptors
-use Rattle.model.proofs.LeadLemmas.{AllPass, all_passed}
 use Rattle.model.proofs.OptionLaws.{none_some, some_same}
 
 -- a tree with the same objects and descriptors uses the same numbers

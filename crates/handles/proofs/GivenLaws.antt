@@ -1,6 +1,6 @@
 -- A number in use behind a command was in use, or it is the one that a new object gets.
-use Rattle.std.proofs.Common.{◌≡◌, ◌⊎◌, inl, inr, ℕ, List, [], ◌∷◌, ◌++◌, map, Bool, true, false, not, is_none, bytes_eq, Option, Some, None, refl, sym, ap, subst, ◌∙◌}
-use Rattle.std.specs.Prelude.{filter, IsFalse, IsTrue, MatchBool}
+use Rattle.std.proofs.Common.{◌≡◌, ◌⊎◌, inl, inr, ℕ, List, [], ◌∷◌, map, true, false, not, is_none, Some, None, refl, sym, ap, subst, ◌∙◌}
+use Rattle.std.specs.Prelude.{IsFalse, IsTrue, MatchBool}
 use Rattle.std.proofs.lemmas.Bool.{false≢true}
 use Rattle.model.specs.declared.limits.TheConstants.{OPEN_FILES}
 use Rattle.model.specs.declared.errno.Errno.TheVariants.{EBUSY, EIO, EROFS, FAILED, NOSNAP}
@@ -11,12 +11,10 @@ use Rattle.model.specs.declared.command.Command.TheVariants as command
 use Rattle.model.specs.declared.command.PathCall.{PathCall}
 use Rattle.model.specs.declared.command.PathCall.TheVariants as call
 use Rattle.model.specs.Circumstances.{Circumstances, IsDone, IsSure, IsExcused, CoversWhereOk, IsAnswered, Allowed}
-use Rattle.model.specs.Descriptors as descriptors
 use Rattle.model.specs.Outcomes.{Outcome, IsFresh}
 use Rattle.model.specs.Paths.{Name, Tests, first_refusal}
-use Rattle.model.specs.Reading as reading
-use Rattle.model.specs.Room.{Room, Need, nothing, a_restore}
-use Rattle.model.specs.States.{State, Mark, going, failed, with_tree, with_snapshots, as_failed, ForgetsOpenFiles}
+use Rattle.model.specs.Room.{Room, Need}
+use Rattle.model.specs.States.{State, Mark, going, failed, with_snapshots, as_failed}
 use Rattle.model.specs.Steps.{Step, says, passing, on_tree, calls, is_reading_call, frozen, take_tests, takes, deletes, has_open_below, restores, views, WouldStep}
 use Rattle.model.specs.Trees.{Tree, IsUsed}
 use Rattle.handles.specs.Given.{may_make, has_restored, GivesFresh, FreshNumbersAreGiven}
@@ -137,10 +135,10 @@ module _ (s : State) where
 
 module _ (c : Circumstances) (s : State) (asked : Command) (answer : Reply) where
   same_gives : GivesFresh s s asked answer
-  same_gives = record { inodes = refl; stays = λ e. refl; used = λ plain n used. inl used }
+  same_gives = record { inodes = refl; rests = λ e. e; stays = λ e. refl; used = λ plain n used. inl used }
 
   failed_gives : GivesFresh s (as_failed s) asked answer
-  failed_gives = record { inodes = refl; stays = λ e. refl; used = λ plain n used. inl used }
+  failed_gives = record { inodes = refl; rests = λ e. refl; stays = λ e. refl; used = λ plain n used. inl used }
 
   not_failed : {Y : Type 0} (mark : Mark) → mark ≡ going → mark ≡ failed → Y
   not_failed mark goes fails = cc
@@ -148,7 +146,7 @@ module _ (c : Circumstances) (s : State) (asked : Command) (answer : Reply) wher
   done_gives : (t : State) → s.mark ≡ going → IsDone c s asked answer t → GivesFresh s t asked answer
   done_gives t goes (need, done) =
       let keeps = keeps_step s c.room asked answer t need done in
-      record { inodes = keeps.inodes; stays = λ fails. not_failed t.mark (keeps.mark ∙ goes) fails; used = keeps.used }
+      record { inodes = keeps.inodes; rests = λ fails. not_failed s.mark goes fails; stays = λ fails. not_failed t.mark (keeps.mark ∙ goes) fails; used = keeps.used }
 
   answered_gives : (t : State) → s.mark ≡ going → IsAnswered c s asked answer t → GivesFresh s t asked answer
   answered_gives t goes =

@@ -1,3 +1,4 @@
 pub mod ComeLemmas
 pub mod CallLemmas
 pub mod GivenLaws
+pub mod KeepLemmas

@@ -2,4 +2,11 @@
 //! again is told from the one before.
 #![tactic(auto)]
 
+mod generations;
 mod given;
+mod handle;
+mod numbered;
+
+pub use given::fresh_numbers_are_given;
+pub use handle::Handle;
+pub use numbered::Numbered;
