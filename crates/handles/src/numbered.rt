@@ -36,7 +36,7 @@ impl<S: Station> Numbered<S> {
         ensures none { MatchResult result
             (λ numbered. (n : ℕ) → generations_of numbered n ≡ 0) (λ e. Unit {0}) }
     {
-        match Generations::new(alloc, fs.inodes()) {
+        match Generations::new(alloc, fs.count_inodes()) {
             Ok(generations) => Ok(Numbered { fs, generations }),
             Err(_) => Err((Errno::ENOMEM, fs)),
         }

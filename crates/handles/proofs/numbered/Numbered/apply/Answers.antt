@@ -1,9 +1,13 @@
-use Rattle.std.proofs.Common.{◌≡◌, length, subst, arith}
+use Rattle.std.proofs.Common.{◌≡◌, length, sym, subst, arith}
+use Rattle.mount.specs.Applying.{AppliesCommand}
 use Rattle.mount.specs.Systems.{mounted, Serves}
 use Rattle.handles.specs.Given.{GivesFresh}
 use Rattle.handles.proofs.GivenLaws.{fresh_are_given}
 use Rattle.handles.proofs.KeepLemmas.{going_before}
 use Rattle.handles.proofs.numbered.Numbered.apply.Goals as goal
+
+pub returns-clause-applies : goal.returns-clause-applies
+returns-clause-applies g c = subst (λ fs. AppliesCommand c.args.self.now.fs fs c.args.command.now c.apply-reply.result) (sym c.keep.ensures.fs) c.apply-reply.ensures
 
 pub returns-clause-keeps : goal.returns-clause-keeps
 returns-clause-keeps g c = λ s t names applied.

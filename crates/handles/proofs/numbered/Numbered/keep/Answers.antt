@@ -1,4 +1,4 @@
-use Rattle.std.proofs.Common.{rules, ◌≡◌, ◌<◌, ◌∙◌, inl, length, None, ap, sym, subst, arith}
+use Rattle.std.proofs.Common.{rules, ◌≡◌, ◌<◌, ◌∙◌, inl, inr, length, None, ap, sym, subst, arith}
 use Rattle.std.specs.Prelude.{IsFalse, IsTrue, MatchOption, Option, ℕ}
 use Rattle.std.proofs.lemmas.Bool.{false≢true}
 use Rattle.model.specs.Outcomes.{HasNoFresh, IsFresh}
@@ -7,8 +7,15 @@ use Rattle.model.specs.Trees.{IsUsed}
 use Rattle.mount.specs.Systems.{mark_of}
 use Rattle.handles.specs.Given.{may_make, has_restored}
 use Rattle.handles.specs.Handles.{generation_in}
-use Rattle.handles.proofs.KeepLemmas.{going_before, kept_by_full, kept_by_next, kept_by_unused}
+use Rattle.handles.proofs.KeepLemmas.{going_before, kept_by_full, kept_by_next, kept_by_same, kept_by_unused}
 use Rattle.handles.proofs.numbered.Numbered.keep.Goals as goal
+
+pub returns-then-has_failed-clause-goes : goal.returns-then-has_failed-clause-goes
+returns-then-has_failed-clause-goes g c = λ s t would wide gives serves.
+    inl (kept_by_same s t (generation_in c.args.self.now.generations) (gives.stays (serves.mark ∙ ap mark_of (sym c.has_failed.ensures ∙ c.if-has_failed.true))))
+
+pub returns-then-has_restored-clause-goes : goal.returns-then-has_restored-clause-goes
+returns-then-has_restored-clause-goes g c = λ s t would wide gives serves. inr c.give_all.ensures.next
 
 pub returns-in_default-clause-goes : goal.returns-in_default-clause-goes
 returns-in_default-clause-goes g c = λ s t would wide gives serves.

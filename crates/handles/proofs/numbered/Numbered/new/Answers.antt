@@ -5,7 +5,7 @@ pub returns-in-Ok-clause-names : goal.returns-in-Ok-clause-names
 returns-in-Ok-clause-names g c = λ s serves. record {
   serves = serves;
   wide = λ goes.
-      let told : c.inodes.result ≡ s.inodes = c.inodes.ensures s serves goes in
-      let numbers : length c.in-Ok.generations.given.items ≡ c.inodes.result = c.in-Ok.ensures.numbers in
+      let told : c.count_inodes.result ≡ s.inodes = c.count_inodes.ensures s serves goes in
+      let numbers : length c.in-Ok.generations.given.items ≡ c.count_inodes.result = c.in-Ok.ensures.numbers in
       omega (arith, told, numbers);
 }
