@@ -2,3 +2,4 @@ pub mod ComeLemmas
 pub mod CallLemmas
 pub mod GivenLaws
 pub mod KeepLemmas
+pub mod TellLemmas

@@ -1,5 +1,5 @@
 -- The generations of a mounted file system's numbers, and what a command makes of them.
-use Rattle.std.specs.Prelude.{ℕ, ◌≡◌, ◌⊎◌, ◌+◌, ◌≤◌, min, length, slice_index, IsTrue, Option, MatchOption}
+use Rattle.std.specs.Prelude.{ℕ, ◌≡◌, ◌⊎◌, ◌+◌, ◌≤◌, min, length, slice_index, IsTrue, Option, MatchOption, List, [], ◌∷◌}
 use Rattle.station.specs.declared.station.Station.{Ghosts}
 use Rattle.model.specs.declared.command.Command.{Command}
 use Rattle.model.specs.declared.limits.TheConstants.{GREATEST_GENERATION}
@@ -48,3 +48,25 @@ abbrev pub KeepsGenerations : {S : Type 0} {G : Ghosts S} → Numbered S G → N
 KeepsGenerations old new asked answer =
     (s t : State) → Names old s → IsApplied (mounted old.fs s) (mounted new.fs t) asked answer
     → Names new t × GenerationsGo s t (generations_of old) (generations_of new)
+
+-- a file system whose objects are named by handles, with the state that it shows
+pub record Stage (S : Type 0) (G : Ghosts S) : Type 0 where
+  pub numbered : Numbered S G
+  pub state : State
+
+-- a command led from one to the other
+abbrev pub Follows : {S : Type 0} {G : Ghosts S} → Stage S G → Stage S G → Type 0
+Follows now next =
+    (asked : Command) × (answer : Reply)
+    × IsApplied (mounted now.numbered.fs now.state) (mounted next.numbered.fs next.state) asked answer
+    × KeepsGenerations now.numbered next.numbered asked answer
+
+-- commands led from each to the one behind it
+abbrev pub FollowInTurn : {S : Type 0} {G : Ghosts S} → Stage S G → List (Stage S G) → Type 0
+FollowInTurn now [] = Unit {0}
+FollowInTurn now (next ∷ rest) = Follows now next × FollowInTurn next rest
+
+-- the last of these
+abbrev pub last_stage : {S : Type 0} {G : Ghosts S} → Stage S G → List (Stage S G) → Stage S G
+last_stage now [] = now
+last_stage now (next ∷ rest) = last_stage next rest

@@ -6,7 +6,9 @@ mod generations;
 mod given;
 mod handle;
 mod numbered;
+mod telling;
 
 pub use given::fresh_numbers_are_given;
 pub use handle::Handle;
 pub use numbered::Numbered;
+pub use telling::handles_tell_objects;
