@@ -1,6 +1,6 @@
 -- What is kept of the generations, by what is known of the number that a command would give.
-use Rattle.std.proofs.Common.{◌≡◌, ◌≢◌, inl, inr, ℕ, refl, sym, subst, arith}
-use Rattle.std.specs.Prelude.{IsFalse, IsTrue}
+use Rattle.std.proofs.Common.{◌≡◌, ◌≢◌, inl, inr, ℕ, None, Option, Some, refl, sym, subst, arith}
+use Rattle.std.specs.Prelude.{IsFalse, IsTrue, MatchOption}
 use Rattle.std.proofs.lemmas.Bool.{cases_lt}
 use Rattle.model.specs.declared.command.Command.{Command}
 use Rattle.model.specs.declared.reply.Reply.{Reply}
@@ -20,6 +20,11 @@ going_before s t asked answer gives goes = by s.mark refl
     by : (mark : Mark) → s.mark ≡ mark → s.mark ≡ going
     by going is = is
     by failed is = not_both t.mark goes (gives.rests is)
+
+-- what holds where no number is free holds under a premise too
+pub full_where : {A B : Type 0} {P : ℕ → Type 0} (number : Option ℕ) → MatchOption number A P → MatchOption number (B → A) P
+full_where None full = λ premise. full
+full_where (Some n) fresh = fresh
 
 -- nothing is given where the tree stays
 pub kept_by_same : (s t : State) (g : ℕ → ℕ) → t.tree ≡ s.tree → GivesNumbers s.tree t.tree g g
