@@ -22,9 +22,9 @@ going_before s t asked answer gives goes = by s.mark refl
     by failed is = not_both t.mark goes (gives.rests is)
 
 -- what holds where no number is free holds under a premise too
-pub full_where : {A B : Type 0} {P : ℕ → Type 0} (number : Option ℕ) → MatchOption number A P → MatchOption number (B → A) P
-full_where None full = λ premise. full
-full_where (Some n) fresh = fresh
+pub full_where : (A B : Type 0) (P : ℕ → Type 0) (number : Option ℕ) → MatchOption number A P → MatchOption number (B → A) P
+full_where A B P None full = λ premise. full
+full_where A B P (Some n) fresh = fresh
 
 -- nothing is given where the tree stays
 pub kept_by_same : (s t : State) (g : ℕ → ℕ) → t.tree ≡ s.tree → GivesNumbers s.tree t.tree g g
