@@ -1,0 +1,5 @@
+pub mod ComeLemmas
+pub mod CallLemmas
+pub mod GivenLaws
+pub mod KeepLemmas
+pub mod TellLemmas
