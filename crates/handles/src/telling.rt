@@ -8,9 +8,8 @@ ghost use Rattle.handles.specs.Handles.{FollowInTurn, Names, Stage, generations_
 use station::Station;
 
 /// Commands led from one file system to another. Where a number has the same generation at the
-/// last as at the first, below the greatest one, and is in use at the last, it was free at no moment
-/// from the first on: so it was not given anew, and a handle that is current names the object that
-/// it named. It does nothing.
+/// last as at the first, below the greatest one, and is in use at the last, it was free behind none
+/// of them, from the first on: so no command gave it anew. It does nothing.
 pub fn handles_tell_objects<S: Station>()
     ensures { (first : Stage S S.Station) (stages : List (Stage S S.Station)) (n : ℕ)
         → Names first.numbered first.state → FollowInTurn first stages
