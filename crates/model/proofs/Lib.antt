@@ -45,6 +45,5 @@ pub mod StayLemmas
 pub mod CallLemmas
 pub mod ReplaceLemmas
 pub mod StateLemmas
-mod GenerationLemmas
 pub mod HoleLemmas
 mod ToldLemmas

@@ -5,7 +5,6 @@ ghost use Rattle.model.specs.Laws.{IsPathCall, IsCommand, CommandsLeaveStates, A
 ghost use Rattle.model.specs.Laws.{VolumesAreTrees, RecordsChangeTrees, VolumesTellFresh, VolumesTellLinks, VolumesTellNumbers};
 ghost use Rattle.model.specs.Laws.{VolumesTellUsed};
 ghost use Rattle.model.specs.Laws.{ResolvesByNumbers, ResolvesFromNumbers, TrailsTellBelow, BelowIsByPaths};
-ghost use Rattle.model.specs.Generations.{GenerationsTell};
 ghost use Rattle.model.specs.Laws.{PartsTellOnce};
 ghost use Rattle.model.specs.Laws.{ReplayFollows, ReplayEndsSame, ReplaysCostTheSame};
 ghost use Rattle.model.specs.Laws.{ReplaysKeepVolumes, MountsFind, MountsForget};
@@ -166,9 +165,4 @@ pub fn commands_are_bounded(command: &Command)
 /// A directory told in parts tells each name that stays just once.
 pub fn parts_tell_names_once()
     ensures { PartsTellOnce }
-{}
-
-/// A number whose generation is the same behind any commands was in use at each moment between.
-pub fn generations_tell_objects()
-    ensures { GenerationsTell }
 {}

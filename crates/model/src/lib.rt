@@ -25,13 +25,13 @@ pub use entries::{Entries, Entry};
 pub use errno::Errno;
 pub use laws::{
     commands_are_bounded, commands_have_one_outcome, commands_refuse_by_their_own,
-    generations_tell_objects, mounts_find_volumes, mounts_forget_open_files,
-    numbers_tell_what_lies_below, outcomes_are_states, parts_tell_names_once,
-    path_calls_are_bounded, records_change_trees, records_keep_volumes, refusals_change_nothing,
-    replays_cost_the_same, replays_end_same, replays_follow, replays_keep_volumes,
-    resolution_is_by_numbers, resolution_is_from_numbers, sweeps_keep_volumes,
-    trails_tell_what_lies_below, volumes_are_trees, volumes_tell_fresh_numbers, volumes_tell_links,
-    volumes_tell_numbers, volumes_tell_used_numbers,
+    mounts_find_volumes, mounts_forget_open_files, numbers_tell_what_lies_below,
+    outcomes_are_states, parts_tell_names_once, path_calls_are_bounded, records_change_trees,
+    records_keep_volumes, refusals_change_nothing, replays_cost_the_same, replays_end_same,
+    replays_follow, replays_keep_volumes, resolution_is_by_numbers, resolution_is_from_numbers,
+    sweeps_keep_volumes, trails_tell_what_lies_below, volumes_are_trees,
+    volumes_tell_fresh_numbers, volumes_tell_links, volumes_tell_numbers,
+    volumes_tell_used_numbers,
 };
 pub use limits::{
     DIRECTORY_NAMES, ENTRIES_TOLD, FILE_NAMES, FIRST_NUMBER, GREATEST_FILE, GREATEST_GENERATION,
