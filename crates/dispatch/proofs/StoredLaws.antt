@@ -6,7 +6,7 @@ use Rattle.layout.specs.Places.{blocks_of}
 use Rattle.model.specs.Edits.{contents}
 use Rattle.model.specs.Room.{Room}
 use Rattle.model.specs.States.{State}
-use Rattle.records.proofs.ExtentLaws.{holes_zeros, tells_stored}
+use Rattle.records.proofs.ExtentLaws.{holes_zeros, tells_settled, tells_stored}
 use Rattle.records.specs.Reading as reading
 use Rattle.system.specs.Serving.{ServesState}
 use Rattle.system.specs.Systems.{disk_of}
@@ -17,7 +17,10 @@ use Rattle.dispatch.proofs.LookedLaws.{disk_under, inodes_under}
 module _ {S : Type 0} {G : Ghosts S} (f : System S G) where
   -- it tells what is stored
   pub stored_tells : reading.TellsStored (blocks_of (disk_of f)) f.inodes (stored_of f)
-  stored_tells = tells_stored (blocks_of (disk_of f)) f.inodes
+  stored_tells = tells_stored (disk_under f) (inodes_under f) f.inodes
+
+  pub settled_tells : reading.TellsSettled (disk_under f) (inodes_under f) f.inodes (stored_of f)
+  settled_tells = tells_settled (disk_under f) (inodes_under f) f.inodes
 
   -- a byte of a file in a block that isn't stored is 0
   pub holes_read : (s : State) → ServesState f s → (n p : ℕ) → IsFalse (stored_of f n (p / 4096)) → slice_index (contents s.tree n) p ≡ 0

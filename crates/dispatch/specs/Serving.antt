@@ -17,6 +17,8 @@ use Rattle.model.specs.States.{State}
 use Rattle.model.specs.Steps.{WouldStep}
 use Rattle.model.specs.Volumes.{Volume}
 use Rattle.layout.specs.Places.{blocks_of}
+use Rattle.images.specs.Roots.{whole}
+use Rattle.loading.specs.Images.{inodes_of}
 use Rattle.descriptors.specs.declared.table.Descriptors.{Descriptors}
 use Rattle.files.specs.Closing.{IsLinked}
 use Rattle.records.specs.Reading as reading
@@ -58,10 +60,17 @@ WouldCall s call reply after need = (room : Room) → WouldStep room s call repl
 abbrev pub TellsStored : {S : Type 0} {G : Ghosts S} → System S G → Room → Type 0
 TellsStored f room = reading.TellsStored (blocks_of (disk_of f)) f.inodes room.stored
 
--- which blocks of files are stored, by what a system has in memory: of a file that isn't there each
--- block is said to be
+-- and of each file that isn't in memory, by its inode under the root
+abbrev pub TellsSettled : {S : Type 0} {G : Ghosts S} → System S G → Room → Type 0
+TellsSettled f room =
+    let disk = blocks_of (disk_of f) in
+    reading.TellsSettled disk (inodes_of (whole disk f.root).active) f.inodes room.stored
+
+-- which blocks of files are stored, by what a system has in memory, and by its root
 abbrev pub stored_of : {S : Type 0} {G : Ghosts S} → System S G → ℕ → ℕ → Bool
-stored_of f = reading.stored_in (blocks_of (disk_of f)) f.inodes
+stored_of f =
+    let disk = blocks_of (disk_of f) in
+    reading.stored_in disk (inodes_of (whole disk f.root).active) f.inodes
 
 -- the same as WouldCall by any room that tells which blocks this system's files have stored
 abbrev pub WouldCallOn : {S : Type 0} {G : Ghosts S} → System S G → State → Command → Reply → State → Need → Type 0

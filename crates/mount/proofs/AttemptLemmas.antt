@@ -28,7 +28,7 @@ use Rattle.system.specs.Images.{OpensTo}
 use Rattle.layout.specs.Places.{blocks_of}
 use Rattle.images.specs.Roots.{whole}
 use Rattle.system.specs.Serving.{ServesState, IsBrokenOff}
-use Rattle.dispatch.proofs.StoredLaws.{holes_read, stored_tells}
+use Rattle.dispatch.proofs.StoredLaws.{holes_read, settled_tells, stored_tells}
 use Rattle.dispatch.specs.Serving.{IsCall, WouldCall, stored_of}
 use Rattle.system.specs.CheckpointCommands.{IsRoomOf, IsCheckpointed}
 use Rattle.dispatch.specs.Fulfilling.{IsFulfilled}
@@ -68,7 +68,7 @@ room_at f s serves covered = record {
 
 pub has_room : {S : Type 0} {G : Ghosts S} (f : System S G) (s : State) (serves : ServesState f s) (covered : Bool)
     → (IsTrue covered → records.CoversAll serves.settled.volume serves.running serves.lasts.replayed.changes) → HasRoomAtPoint f s (room_at f s serves covered)
-has_room f s serves covered all = record { serves = serves; blocks = refl; free = refl; told = record { pledged = refl; covered = all }; orphans = orphans_told f s serves; stored = stored_tells f; holes = holes_read f s serves }
+has_room f s serves covered all = record { serves = serves; blocks = refl; free = refl; told = record { pledged = refl; covered = all }; orphans = orphans_told f s serves; stored = stored_tells f; settled = settled_tells f; holes = holes_read f s serves }
 
 -- a refusal isn't what is answered to what is done
 not_done : {X : Type 0} (errno : Errno) → Refused errno ≡ Done → X

@@ -34,7 +34,7 @@ use Rattle.system.specs.Images.{OpensTo}
 use Rattle.system.specs.Opening.{HasFailed}
 use Rattle.images.specs.Room.{free_under}
 use Rattle.system.specs.Serving.{HasEmptyLog, ServesState}
-use Rattle.dispatch.specs.Serving.{AnswersAtOnce, HasLogged, IsAccepted, IsAtOnce, LacksRoom, TellsNoFault, TellsStored}
+use Rattle.dispatch.specs.Serving.{AnswersAtOnce, HasLogged, IsAccepted, IsAtOnce, LacksRoom, TellsNoFault, TellsSettled, TellsStored}
 use Rattle.system.specs.Systems as systems
 use Rattle.system.specs.Systems.{AreLeft, IsCovered}
 use Rattle.system.specs.declared.error.CallError.{CallError}
@@ -61,7 +61,8 @@ HolesReadZeros t stored = (n p : ℕ) → IsFalse (stored n (p / 4096)) → slic
 
 -- The room of a system at a state that it serves: all blocks of its disk, those that are free under
 -- its settled root, and those that a consistency point may store for what that root doesn't cover;
--- and which blocks of files are stored, which is right of each file in memory.
+-- and which blocks of files are stored, by what is in memory of a file, or else by its inode under
+-- the root.
 pub record HasRoomAtPoint {S : Type 0} {G : Ghosts S} (f : System S G) (s : State) (room : Room) : Type 0 where
   pub serves : ServesState f s
   pub blocks : room.blocks ≡ f.root.geometry.blocks
@@ -75,6 +76,7 @@ pub record HasRoomAtPoint {S : Type 0} {G : Ghosts S} (f : System S G) (s : Stat
       → HoldsVolume f.root.geometry.inodes (tree_contents ((whole disk f.root).frozen k)) v
       → room.orphans_of head.name ≡ count_orphans f.root.geometry.inodes v
   pub stored : TellsStored f room
+  pub settled : TellsSettled f room
   pub holes : HolesReadZeros s.tree room.stored
 
 -- time went on, and earlier moments stay as they were

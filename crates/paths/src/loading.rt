@@ -1,10 +1,10 @@
 //! An object on its way into memory, and there.
 
-ghost use Rattle.std.specs.Prelude.{◌≡◌, ℕ, List, None, IfNone, IfSome};
+ghost use Rattle.std.specs.Prelude.{◌≡◌, ℕ, List, None, Some, IfNone, IfSome};
 ghost use Rattle.layout.specs.declared.inode.Inode.{Inode};
 ghost use Rattle.model.specs.Volumes.{Volume};
 ghost use Rattle.images.specs.Soundness.{Detail};
-ghost use Rattle.inofile.specs.Inodes.{IsKnown};
+ghost use Rattle.inofile.specs.Inodes.{IsKnown, loaded};
 ghost use Rattle.inofile.specs.Objects.{IsObjectIn};
 ghost use Rattle.inofile.specs.Volumes.{IsVolumeIn};
 ghost use Rattle.paths.specs.Loads.{TakesIn};
@@ -33,6 +33,7 @@ pub fn load<B: Blocks>(
 /// The object with a number, if there is one; what is known of it is in memory.
 pub fn object(inodes: &InodeFile, number: InodeNumber) -> Option<&Object>
     requires { IsKnown inodes.now number }
+    ensures loaded { IfSome result (λ o. loaded inodes.now number ≡ Some o.now) }
     ensures stands { (detail : Detail) (count : ℕ) (disk : ℕ → List ℕ) (settled : ℕ → Inode)
         (v : Volume) → IsVolumeIn detail count disk settled inodes.now v → IfSome result (λ o.
         IsObjectIn detail disk inodes.now.geometry.inodes (settled number) o.now (v number)) }

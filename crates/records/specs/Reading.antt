@@ -1,7 +1,12 @@
 -- What reading the file with a number comes to.
-use Rattle.std.specs.Prelude.{ℕ, ◌≡◌, Bool, true, IsTrue, IsFalse, List, [], length, Option, Some, None, unwrap_or}
-use Rattle.blocktree.specs.Trees.{is_stored}
+use Rattle.std.specs.Prelude.{ℕ, zero, suc, ◌≡◌, Bool, true, false, IsTrue, IsFalse, List, [], length, Option, Some, None, unwrap_or}
+use Rattle.layout.specs.declared.inode.Body.{Body}
+use Rattle.layout.specs.declared.inode.Body.TheVariants.{Inline, Pointers}
+use Rattle.layout.specs.declared.inode.Inode.{Inode}
+use Rattle.layout.specs.declared.pointer.Pointer.{Pointer}
+use Rattle.blocktree.specs.Trees.{is_block, is_stored}
 use Rattle.buffers.specs.declared.blocks.Blocks.{Ghosts}
+use Rattle.images.specs.Nodes.{place_at_height}
 use Rattle.inode.specs.declared.object.Object.{Object}
 use Rattle.inofile.specs.Inodes.{loaded}
 use Rattle.inofile.specs.declared.inode_file.InodeFile.{InodeFile}
@@ -22,14 +27,30 @@ abbrev pub TellsStored : (ℕ → List ℕ) → InodeFile → (ℕ → ℕ → B
 TellsStored disk s stored =
     (n : ℕ) (o : Object) → loaded s n ≡ Some o → (k : ℕ) → stored n k ≡ is_stored disk o.file.tree k
 
--- whether a block of an object in memory is stored; of one that isn't there each block is said to be
-abbrev pub stored_by : (ℕ → List ℕ) → Option Object → ℕ → Bool
-stored_by disk (Some o) k = is_stored disk o.file.tree k
-stored_by disk None k = true
+-- whether block k of a file is stored, by the body of its inode and where the inode leads for it:
+-- bytes that stand in an inode are the file's block 0
+abbrev pub body_stores : Body → Pointer → ℕ → Bool
+body_stores (Inline bytes) place zero = true
+body_stores (Inline bytes) place (suc k) = false
+body_stores (Pointers pointers) place k = is_block place
+
+-- the same of a settled inode
+abbrev pub settled_stored : (ℕ → List ℕ) → Inode → ℕ → Bool
+settled_stored disk inode k = body_stores inode.body (place_at_height disk inode 0 k) k
+
+-- and of each file that isn't in memory, it is right by its settled inode
+abbrev pub TellsSettled : (ℕ → List ℕ) → (ℕ → Inode) → InodeFile → (ℕ → ℕ → Bool) → Type 0
+TellsSettled disk settled s stored =
+    (n : ℕ) → loaded s n ≡ None → (k : ℕ) → stored n k ≡ settled_stored disk (settled n) k
+
+-- whether block k is stored of an object in memory, or else of its settled inode
+abbrev pub stored_by : (ℕ → List ℕ) → Inode → Option Object → ℕ → Bool
+stored_by disk settled (Some o) k = is_stored disk o.file.tree k
+stored_by disk settled None k = settled_stored disk settled k
 
 -- the same by numbers, which tells what is stored
-abbrev pub stored_in : (ℕ → List ℕ) → InodeFile → ℕ → ℕ → Bool
-stored_in disk s n k = stored_by disk (loaded s n) k
+abbrev pub stored_in : (ℕ → List ℕ) → (ℕ → Inode) → InodeFile → ℕ → ℕ → Bool
+stored_in disk settled s n k = stored_by disk (settled n) (loaded s n) k
 
 -- what of the file with a number is stored, told from an offset on, or that it is none
 abbrev pub TellsNumber : Volume → (ℕ → Bool) → ℕ → ℕ → Option Extent → Type 0

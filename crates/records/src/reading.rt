@@ -1,23 +1,18 @@
 //! Reading the file with a number, which a descriptor or a path leads to.
 
-ghost use Rattle.std.specs.Prelude.{◌≡◌, ℕ, List, Some, None, IfOk, IfSome, IfNone, IsErrOf};
-ghost use Rattle.layout.specs.declared.inode.Inode.{Inode};
+ghost use Rattle.std.specs.Prelude.{◌≡◌, ℕ, List, IfOk, IsErrOf};
 ghost use Rattle.model.specs.Edits.{read_at};
 ghost use Rattle.model.specs.Volumes.{Volume};
-ghost use Rattle.images.specs.Soundness.{Detail};
 ghost use Rattle.buffers.specs.Reads.{ReadsBlocks};
 ghost use Rattle.buffers.specs.Errors.{IsFault};
 ghost use Rattle.blocktree.specs.Trees.{IsSoundAt};
 ghost use Rattle.inode.specs.Files.{bytes_of_file};
-ghost use Rattle.inofile.specs.Inodes.{IsKnown, loaded};
-ghost use Rattle.inofile.specs.Objects.{IsObjectIn};
-ghost use Rattle.inofile.specs.Volumes.{IsVolumeIn};
 ghost use Rattle.paths.specs.Loads.{IsAny, LooksUp};
 ghost use Rattle.paths.specs.Numbers.{IsInodeNumber};
 ghost use Rattle.records.specs.Reading.{ReadsNumber, ShowsExtent};
 
 use buffers::{BlockError, Blocks};
-use inode::{File, Object, based_trees_are_sound};
+use inode::{File, based_trees_are_sound};
 use inofile::{InodeFile, objects_stand_in_their_grammar};
 use layout::{InodeNumber, Kind};
 use model::{Extent, Text};
@@ -68,7 +63,7 @@ pub fn read_extent<B: Blocks>(
 {
     based_trees_are_sound();
     load(alloc, inodes, blocks, number)?;
-    let Some(object) = in_memory(inodes, number) else {
+    let Some(object) = paths::object(inodes, number) else {
         return Ok(None);
     };
     match object.status.kind {
@@ -77,20 +72,6 @@ pub fn read_extent<B: Blocks>(
     }
     let extent = object.file.extent(alloc, blocks, offset)?;
     Ok(Some(extent))
-}
-
-// The object with a number, as it stands in memory, if there is one; what is known of it is there.
-fn in_memory(inodes: &InodeFile, number: InodeNumber) -> Option<&Object>
-    requires { IsKnown inodes.now number }
-    ensures loaded { IfSome result (λ o. loaded inodes.now number ≡ Some o.now) }
-    ensures stands { (detail : Detail) (count : ℕ) (disk : ℕ → List ℕ) (settled : ℕ → Inode)
-        (v : Volume) → IsVolumeIn detail count disk settled inodes.now v → IfSome result (λ o.
-        IsObjectIn detail disk inodes.now.geometry.inodes (settled number) o.now (v number)) }
-    ensures stands_for_none { (detail : Detail) (count : ℕ) (disk : ℕ → List ℕ)
-        (settled : ℕ → Inode) (v : Volume) → IsVolumeIn detail count disk settled inodes.now v
-        → IfNone result (v number ≡ None) }
-{
-    inodes.get(number.get())
 }
 
 // As many bytes of a file as asked and there, from an offset on.

@@ -1,7 +1,7 @@
 use Rattle.std.proofs.Common.{false, true, refl}
 use Rattle.std.proofs.lemmas.Bool.{false≢true}
 use Rattle.model.specs.Room.{Room}
-use Rattle.dispatch.proofs.StoredLaws.{holes_read, stored_tells}
+use Rattle.dispatch.proofs.StoredLaws.{holes_read, settled_tells, stored_tells}
 use Rattle.dispatch.specs.Serving.{stored_of}
 use Rattle.mount.proofs.AttemptLemmas.{still_going, told_room}
 use Rattle.model.specs.declared.command.Command.TheVariants.{Df}
@@ -23,6 +23,7 @@ returns-clause-applied g c s serves runs =
       told = told.told s.tree.descriptors s served (orphans_of fs.system s served) false (stored_of fs.system) (λ e. absurd (false≢true e));
       orphans = orphans_told fs.system s served;
       stored = stored_tells fs.system;
+      settled = settled_tells fs.system;
       holes = holes_read fs.system s served;
     }) Df _ tt (refl, refl, refl) opens
 
