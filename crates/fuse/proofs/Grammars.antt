@@ -3,12 +3,8 @@ use Rattle.std.proofs.Common.{◌≡◌, ℕ, Bool, true, false, List, [], ◌++
 use Rattle.layout.specs.Bytes.{IsBytes}
 use Rattle.layout.specs.Format.{Format}
 use Rattle.layout.specs.Reading.{◌>>=◌, part_at, all_of}
-use Rattle.layout.proofs.Formats.{IsExact, Takes, bind_some, some_is, part_exact, whole_takes, made_again}
+use Rattle.layout.proofs.Formats.{IsExact, Takes, Takes-then, bind_some, some_is, part_exact, whole_takes, made_again}
 use Rattle.fuse.specs.Grammar.{Grammar, nothing, counting, counting_at, saying, saying_first, choose}
-
--- one text behind the other
-takes_both : (a x b y c : List ℕ) → Takes a x b → Takes b y c → Takes a (x ++ y) c
-takes_both a x b y c p q = record { parts = p.parts ∙ ap (λ (t : List ℕ). x ++ t) q.parts ∙ sym (append_assoc x y c); rest_fits = q.rest_fits }
 
 pub nothing_exact : IsExact nothing
 nothing_exact = record {
@@ -23,7 +19,7 @@ counting_exact {A} {f} exact count = record {
       let b = bind_some (part_at (count a.0.0) a.0.1) (λ z. Some ((a.0.0, z.0), z.1)) x a.2 in
       let one = exact.takes bytes a.0 fits a.1 in
       let two = (part_exact (count a.0.0)).takes a.0.1 b.0 one.0.rest_fits b.1 in
-      let both = takes_both bytes (f.text a.0.0) a.0.1 b.0.0 b.0.1 one.0 two.0 in
+      let both = Takes-then bytes (f.text a.0.0) a.0.1 b.0.0 b.0.1 one.0 two.0 in
       subst (λ (y : (A × List ℕ) × List ℕ). Takes bytes (f.text y.0.0 ++ y.0.1) y.1 × (f.Fits y.0.0 × (length y.0.1 ≡ count y.0.0))) (some_is ((a.0.0, b.0.0), b.0.1) x b.2) (both, (one.1, two.1));
   again = λ v rest fits.
       let regrouped : (f.text v.0 ++ v.1) ++ rest ≡ f.text v.0 ++ (v.1 ++ rest) = append_assoc (f.text v.0) v.1 rest in

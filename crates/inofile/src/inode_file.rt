@@ -48,7 +48,7 @@ ghost use Rattle.layout.specs.Inode.{IsInode};
 ghost use Rattle.layout.specs.Limits.{Sizes};
 ghost use Rattle.layout.specs.Version.{greatest_size};
 ghost use Rattle.layout.specs.declared.inode.Inode.{Inode};
-ghost use Rattle.model.specs.declared.limits.TheConstants.{ROOT_NUMBER};
+ghost use Rattle.model.specs.declared.limits.TheConstants.{FIRST_NUMBER, ROOT_NUMBER};
 ghost use Rattle.layout.specs.declared.version.TheConstants.{VERSION};
 ghost use Rattle.model.specs.Counting.{Counts};
 ghost use Rattle.model.specs.Volumes.{IsVolume, Node, Volume};
@@ -255,6 +255,19 @@ impl InodeFile {
             (v : Volume) → IsVolumeIn detail count disk settled self.now v → IsFalse result → v number ≡ None }
     {
         self.numbers.is_taken(number)
+    }
+
+    /// The least number from the first on that the inode map doesn't have as taken; None where it
+    /// has all.
+    pub fn next_free(&self) -> Option<u32>
+        ensures within { IfSome result (λ n. (FIRST_NUMBER ≤ n) × (n < self.now.geometry.inodes)) }
+        ensures free { IfSome result (λ n. IsTaken self.now.numbers.bytes.items n → ⊥) }
+        ensures least { IfSome result (λ n. (k : ℕ) → FIRST_NUMBER ≤ k → k < n
+            → IsTaken self.now.numbers.bytes.items k) }
+        ensures none { IfNone result ((k : ℕ) → FIRST_NUMBER ≤ k → k < self.now.geometry.inodes
+            → IsTaken self.now.numbers.bytes.items k) }
+    {
+        self.numbers.next_free()
     }
 
     /// How many numbers have an object, the root's among them.

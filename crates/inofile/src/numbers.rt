@@ -102,6 +102,19 @@ impl Numbers {
     }
 
     /// The least number from the first on that is free; None where all are taken.
+    pub fn next_free(&self) -> Option<u32>
+        ensures within { IfSome result (λ n. (FIRST_NUMBER ≤ n) × (n < self.now.inodes)) }
+        ensures free { IfSome result (λ n. IsTaken self.now.bytes.items n → ⊥) }
+        ensures least { IfSome result (λ n. (k : ℕ) → FIRST_NUMBER ≤ k → k < n →
+            IsTaken self.now.bytes.items k) }
+        ensures none { IfNone result ((k : ℕ) → FIRST_NUMBER ≤ k → k < self.now.inodes →
+            IsTaken self.now.bytes.items k) }
+    {
+        let next = first_free(&self.bytes, self.least, self.inodes);
+        if next < self.inodes { Some(next) } else { None }
+    }
+
+    /// The same, where the next search begins then.
     pub fn least_free(&mut self) -> Option<u32>
         ensures bytes { self.new.bytes.items ≡ self.old.bytes.items }
         ensures inodes { self.new.inodes ≡ self.old.inodes }
@@ -112,12 +125,9 @@ impl Numbers {
         ensures none { IfNone result ((k : ℕ) → FIRST_NUMBER ≤ k → k < self.old.inodes →
             IsTaken self.old.bytes.items k) }
     {
-        self.least = first_free(&self.bytes, self.least, self.inodes);
-        if self.least < self.inodes {
-            Some(self.least)
-        } else {
-            None
-        }
+        let next = self.next_free();
+        self.least = next.unwrap_or(self.inodes);
+        next
     }
 }
 

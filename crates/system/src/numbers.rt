@@ -1,14 +1,12 @@
 //! Numbers of objects, as the inode map in memory has them.
 
-ghost use Rattle.std.specs.Prelude.{ℕ, ◌≡◌, ◌↔◌, ◌≤◌, ◌<◌, Option, IfSome, IfNone, IsTrue, MatchOption};
-ghost use Rattle.layout.specs.Maps.{IsTaken};
+ghost use Rattle.std.specs.Prelude.{ℕ, ◌≡◌, ◌↔◌, ◌≤◌, Option, IfSome, IsTrue, MatchOption};
 ghost use Rattle.model.specs.Outcomes.{HasNoFresh, IsFresh};
 ghost use Rattle.model.specs.States.{State};
 ghost use Rattle.model.specs.Trees.{Description, IsUsed};
 ghost use Rattle.system.specs.Systems.{HasState};
 
 use crate::System;
-use inofile::InodeFile;
 use model::{FIRST_NUMBER, volumes_tell_used_numbers};
 use station::Station;
 
@@ -43,23 +41,6 @@ impl<S: Station> System<S> {
             → MatchOption result (HasNoFresh s.inodes s.tree) (IsFresh s.inodes s.tree) }
     {
         volumes_tell_used_numbers();
-        least_free(&self.inodes)
+        self.inodes.next_free()
     }
-}
-
-// The least number from the first one on that isn't taken; None where all are.
-fn least_free(inodes: &InodeFile) -> Option<u32>
-    ensures within { IfSome result (λ n. (FIRST_NUMBER ≤ n) × (n < inodes.now.geometry.inodes)) }
-    ensures free { IfSome result (λ n. IsTaken inodes.now.numbers.bytes.items n → ⊥) }
-    ensures least { IfSome result (λ n. (k : ℕ) → FIRST_NUMBER ≤ k → k < n
-        → IsTaken inodes.now.numbers.bytes.items k) }
-    ensures none { IfNone result ((k : ℕ) → FIRST_NUMBER ≤ k → k < inodes.now.geometry.inodes
-        → IsTaken inodes.now.numbers.bytes.items k) }
-{
-    for number in FIRST_NUMBER..inodes.geometry().inodes() {
-        if !inodes.is_taken(number) {
-            return Some(number);
-        }
-    }
-    None
 }

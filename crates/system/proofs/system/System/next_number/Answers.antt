@@ -3,5 +3,5 @@ use Rattle.system.proofs.system.System.next_number.Goals as goal
 
 pub returns-clause-fresh : goal.returns-clause-fresh
 returns-clause-fresh g c = λ table s serves.
-    let told = c.least_free.ensures in
-    fresh_found {G = g.S.Station} c.args.self.now table s serves c.volumes_tell_used_numbers.ensures c.least_free.result told.within told.free told.least told.none
+    let told = c.next_free.ensures in
+    fresh_found {G = g.S.Station} c.args.self.now table s serves c.volumes_tell_used_numbers.ensures c.next_free.result told.within told.free told.least told.none
