@@ -4,11 +4,10 @@
 
 mod generations;
 mod given;
-mod handle;
 mod numbered;
 mod telling;
 
+pub use file_system::Handle;
 pub use given::fresh_numbers_are_given;
-pub use handle::Handle;
 pub use numbered::Numbered;
 pub use telling::handles_tell_objects;

@@ -3,6 +3,7 @@
 use crate::Handle;
 use crate::generations::Generations;
 use crate::given::{has_restored, may_make};
+use file_system::FileSystem;
 use model::{Command, Errno, Reply};
 use mount::Fs;
 use station::Station;
@@ -123,5 +124,24 @@ impl<S: Station> Numbered<S> {
         if self.fs.is_used(number) {
             self.generations.give(number);
         }
+    }
+}
+
+/// What a command comes to is what the file system makes of it, and of its numbers' generations.
+impl<S: Station> FileSystem for Numbered<S> {
+    ghost use Rattle.mount.specs.Applying.{AppliesCommand};
+    ghost use Rattle.handles.specs.Handles.{KeepsGenerations, generations_of};
+
+    ghost applies = { λ old new command reply.
+        AppliesCommand old.fs new.fs command reply × KeepsGenerations old new command reply };
+
+    ghost generations = { generations_of };
+
+    fn apply(&mut self, command: &Command<'_>) -> Reply {
+        Numbered::apply(self, command)
+    }
+
+    fn handle_of(&self, number: u32) -> Handle {
+        Numbered::handle_of(self, number)
     }
 }

@@ -10,4 +10,3 @@ mod AnswerLemmas
 mod PointLemmas
 mod RunLemmas
 mod ReplyLemmas
-mod StartLemmas

@@ -13,14 +13,13 @@ mod path_calls;
 mod prefix;
 mod refusals;
 mod replies;
-mod starts;
 mod whole_image;
 mod within_snapshots;
 
+pub use file_system::path_from;
 pub use fs::{Fs, POINTS};
 pub use image::make;
 pub use making::MakeError;
 pub use mounting::mount;
 pub use prefix::cut_opens_to_prefix;
-pub use starts::path_from;
 pub use system::{MountError, Space};

@@ -1,9 +1,9 @@
 use Rattle.std.proofs.Common.{◌≡◌, ◌∷◌, ◌++◌, [], ℕ, List, ap, append_assoc, arith, eqb-true, sym, ◌∙◌}
 use Rattle.std.specs.Prelude.{length}
 use Rattle.std.specs.Global.{Vec}
-use Rattle.mount.proofs.StartLemmas.{Begins, begins_alone, begins_on, goes_on, name_alone, part_of, starts}
-use Rattle.mount.proofs.starts.path_from.Goals.{Joined-not-is_empty, then-not-is_empty+in_ok-push+in_ok-extend_from_slice, else-not-is_empty}
-use Rattle.mount.proofs.starts.path_from.Goals as goal
+use Rattle.file_system.proofs.StartLemmas.{Begins, begins_alone, begins_on, goes_on, name_alone, part_of, starts}
+use Rattle.file_system.proofs.starts.path_from.Goals.{Joined-not-is_empty, then-not-is_empty+in_ok-push+in_ok-extend_from_slice, else-not-is_empty}
+use Rattle.file_system.proofs.starts.path_from.Goals as goal
 
 begins : (c : Joined-not-is_empty) → Begins c.args.number c.args.names.now c.if-not-is_empty.text.items
 begins c =
