@@ -1,0 +1,70 @@
+-- How turns come about: one after the other.
+use Rattle.std.proofs.Common.{◌≡◌, ◌≢◌, ℕ, Bool, true, false, List, [], ◌∷◌, ◌++◌, Option, Some, None, Result, Ok, Err, inl, inr, refl, sym, ap, subst, ◌∙◌}
+use Rattle.model.specs.declared.command.Command.{Command}
+use Rattle.model.specs.declared.errno.Errno.{Errno}
+use Rattle.model.specs.declared.reply.Reply.{Reply}
+use Rattle.file_system.specs.declared.file_system.FileSystem.{Ghosts}
+use Rattle.file_system.specs.declared.handle.Handle.{Handle}
+use Rattle.served.specs.Turns.{Step, Turn, either, Reads, refusal_in, generations_behind, gives, asks, ◌▹◌, handle_now, LeadsFrom, along, with_path, asks_for, AreApplied, Came}
+
+module _ {S : Type 0} (G : Ghosts S) where
+  -- behind the steps the generations are those of the file system
+  behind_all : (old new : S) (steps : List Step) → AreApplied G old steps new → generations_behind (G.generations old) steps ≡ G.generations new
+  behind_all old new [] are = ap G.generations (sym are)
+  behind_all old new (step ∷ steps) (next, one, same, more) = subst (λ (g : ℕ → ℕ). generations_behind g steps ≡ G.generations new) (sym same) (behind_all next new steps more)
+
+  applied_on : (old mid new : S) (steps more : List Step) → AreApplied G old steps mid → AreApplied G mid more new → AreApplied G old (steps ++ more) new
+  applied_on old mid new [] more first then = subst (λ (s : S). AreApplied G s more new) first then
+  applied_on old mid new (step ∷ steps) more (next, one, same, rest) then = (next, one, same, applied_on next mid new steps more rest then)
+
+  pub came_gives : (s : S) {R : Type 0} (r : R) → Came G s s (gives r) r
+  came_gives s r = ([], refl, (refl, refl))
+
+  came_asked : (old new : S) {A : Type 0} (tells : A → Reply) (command : Command) (reply : Reply) (found : Result A Errno) → G.applies old new command reply → Reads tells reply found
+      → Came G old new (asks tells command) found
+  came_asked old new tells command reply found applied reads =
+      let step : Step = record { asked = command; answer = reply; generations = G.generations new } in
+      (step ∷ [], (new, applied, refl, refl), (step, refl, refl, reads))
+
+  -- a command was asked, and told something, or was refused
+  pub came_told : (old new : S) {A : Type 0} (tells : A → Reply) (command : Command) (a : A) → G.applies old new command (tells a) → Came G old new (asks tells command) (Ok a)
+  came_told old new tells command a applied = came_asked old new tells command (tells a) (Ok a) applied refl
+
+  pub came_untold : (old new : S) {A : Type 0} (tells : A → Reply) (command : Command) (reply : Reply) (errno : Errno) → G.applies old new command reply → ((a : A) → reply ≢ tells a)
+      → errno ≡ refusal_in reply → Came G old new (asks tells command) (Err errno)
+  came_untold old new tells command reply errno applied other is = came_asked old new tells command reply (Err errno) applied (other, is)
+
+  pub came_then : (old mid new : S) {A B : Type 0} (first : Turn A) (rest : A → Turn B) (a : A) (b : B) → Came G old mid first a → Came G mid new (rest a) b → Came G old new (first ▹ rest) b
+  came_then old mid new first rest a b (before, led, does) (more, led_on, does_on) =
+      (before ++ more, applied_on old mid new before more led led_on, (a, before, more, refl, does, subst (λ (g : ℕ → ℕ). rest a g more b) (sym (behind_all old mid before led)) does_on))
+
+  pub came_handle : (s : S) (n : ℕ) → Came G s s (handle_now n) (record { number = n; generation = G.generations s n })
+  came_handle s n = ([], refl, (refl, refl))
+
+  -- along a path from a number
+  pub came_along : (old new : S) {R : Type 0} (wants : R) (n : ℕ) (names text : List ℕ) (rest : List ℕ → Turn R) (r : R) → LeadsFrom n names text → Came G old new (rest text) r
+      → Came G old new (with_path wants n names rest) r
+  came_along old new {R} wants n names text rest r leads done =
+      came_then old old new (along n names) (λ found. elim found [ Some t ↦ rest t | None ↦ gives wants ]) (Some text) r ([], refl, (refl, leads)) done
+
+  pub came_nowhere : (s : S) {R : Type 0} (wants : R) (n : ℕ) (names : List ℕ) (rest : List ℕ → Turn R) → Came G s s (with_path wants n names rest) wants
+  came_nowhere s {R} wants n names rest =
+      came_then s s s (along n names) (λ found. elim found [ Some t ↦ rest t | None ↦ gives wants ]) None wants ([], refl, refl) (came_gives s wants)
+
+  -- where a command was done, and where it was refused
+  pub came_done : (old mid new : S) {A R : Type 0} (tells : A → Reply) (command : Command) (refused : Errno → Turn R) (done : A → Turn R) (a : A) (r : R)
+      → Came G old mid (asks tells command) (Ok a) → Came G mid new (done a) r → Came G old new (asks_for tells command refused done) r
+  came_done old mid new tells command refused done a r first then =
+      came_then old mid new (asks tells command) (λ found. elim found [ Ok x ↦ done x | Err errno ↦ refused errno ]) (Ok a) r first then
+
+  pub came_refused : (old mid new : S) {A R : Type 0} (tells : A → Reply) (command : Command) (refused : Errno → Turn R) (done : A → Turn R) (errno : Errno) (r : R)
+      → Came G old mid (asks tells command) (Err errno) → Came G mid new (refused errno) r → Came G old new (asks_for tells command refused done) r
+  came_refused old mid new tells command refused done errno r first then =
+      came_then old mid new (asks tells command) (λ found. elim found [ Ok x ↦ done x | Err e ↦ refused e ]) (Err errno) r first then
+
+  -- where a test holds, and where it doesn't
+  pub came_then_if : (old new : S) {R : Type 0} (test : Bool) (this other : Turn R) (r : R) → test ≡ true → Came G old new this r → Came G old new (either test this other) r
+  came_then_if old new test this other r holds done = subst (λ (b : Bool). Came G old new (either b this other) r) (sym holds) done
+
+  pub came_else : (old new : S) {R : Type 0} (test : Bool) (this other : Turn R) (r : R) → test ≡ false → Came G old new other r → Came G old new (either test this other) r
+  came_else old new test this other r not done = subst (λ (b : Bool). Came G old new (either b this other) r) (sym not) done

@@ -1,0 +1,164 @@
+//! Requests that read and write files.
+
+use crate::answer::Answer;
+use crate::asking::{ask_data, ask_done, ask_wrote};
+use crate::commands::{get_within, pwrite};
+use crate::marks::Asker;
+use crate::memory::Memory;
+use crate::numbers::MOST_PARTS;
+use file_system::{FileSystem, Handle, path_from};
+use model::{Command, Errno, TRANSFER_BYTES, Text};
+use std::alloc::Global;
+
+/// Where bytes are read.
+#[derive(Clone, Copy)]
+pub(crate) enum Place<'a> {
+    /// In an open file.
+    Open(u32),
+    /// In the file that a path leads to, in a snapshot.
+    Within { name: &'a [u8], path: &'a [u8] },
+}
+
+/// Reads one part of a file, of which so many bytes are asked.
+fn read_part<F: FileSystem>(
+    files: &mut F,
+    place: Place<'_>,
+    offset: i64,
+    count: u32,
+) -> Result<Text, Errno> {
+    match place {
+        Place::Open(fd) => ask_data(files, Command::Pread { fd, offset, count }),
+        Place::Within { name, path } => ask_data(files, get_within(name, path, offset, count)),
+    }
+}
+
+/// The offset so many bytes behind another one, where a call can have it.
+fn offset_behind(offset: u64, count: u64) -> Option<i64> {
+    let Some(at) = offset.checked_add(count) else {
+        return None;
+    };
+    match i64::try_from(at) {
+        Ok(at) => Some(at),
+        Err(_) => None,
+    }
+}
+
+/// Reads bytes in so many parts at the most, behind those that were read: as many as are asked and
+/// there.
+pub(crate) fn read<F: FileSystem>(
+    files: &mut F,
+    place: Place<'_>,
+    offset: u64,
+    count: u32,
+    parts: u32,
+    had: Vec<u8>,
+) -> Answer {
+    let left = (count as usize).saturating_sub(had.len());
+    if parts == 0 || left == 0 {
+        return Answer::Bytes(Text::new(had));
+    }
+    let Some(at) = offset_behind(offset, had.len() as u64) else {
+        return Answer::Bytes(Text::new(had));
+    };
+    let asked = left.min(TRANSFER_BYTES);
+    match read_part(files, place, at, asked as u32) {
+        Ok(text) => {
+            let part = text.as_bytes();
+            let mut had = had;
+            if had.extend_from_slice(part).is_err() {
+                return Answer::Refused(Errno::ENOMEM);
+            }
+            if part.len() < asked {
+                return Answer::Bytes(Text::new(had));
+            }
+            read(files, place, offset, count, parts - 1, had)
+        }
+        Err(errno) if had.is_empty() => Answer::Refused(errno),
+        Err(_) => Answer::Bytes(Text::new(had)),
+    }
+}
+
+/// Reads bytes of a file in a snapshot.
+pub(crate) fn read_within<F: FileSystem>(
+    alloc: Global,
+    files: &mut F,
+    name: &[u8],
+    number: u32,
+    offset: u64,
+    count: u32,
+) -> Answer {
+    match path_from(alloc, number, b"") {
+        Ok(path) => {
+            let place = Place::Within { name, path: &path };
+            read(files, place, offset, count, MOST_PARTS, Vec::new(alloc))
+        }
+        Err(_) => Answer::Refused(Errno::ENOMEM),
+    }
+}
+
+/// Writes bytes in so many parts at the most, behind so many that were written: all, or those
+/// before a part that is refused.
+fn write_parts<F: FileSystem>(
+    files: &mut F,
+    fd: u32,
+    offset: u64,
+    bytes: &[u8],
+    parts: u32,
+    done: u32,
+) -> Answer {
+    if parts == 0 || bytes.is_empty() {
+        return Answer::Wrote(done);
+    }
+    let Some(at) = offset_behind(offset, u64::from(done)) else {
+        return refused_behind(done, Errno::EFBIG);
+    };
+    let (part, rest) = bytes.split_at(bytes.len().min(TRANSFER_BYTES));
+    match ask_wrote(files, pwrite(fd, at, part)) {
+        Ok(_) => write_parts(
+            files,
+            fd,
+            offset,
+            rest,
+            parts - 1,
+            done.saturating_add(part.len() as u32),
+        ),
+        Err(errno) => refused_behind(done, errno),
+    }
+}
+
+/// A part was refused: what was written before it is told, or the refusal where nothing was.
+fn refused_behind(done: u32, errno: Errno) -> Answer {
+    if done == 0 {
+        Answer::Refused(errno)
+    } else {
+        Answer::Wrote(done)
+    }
+}
+
+/// Writes bytes to an open file.
+pub(crate) fn write<F: FileSystem>(
+    files: &mut F,
+    memory: &mut Memory,
+    asker: Asker,
+    handle: Handle,
+    fd: u32,
+    offset: u64,
+    bytes: &[u8],
+) -> Answer {
+    let answer = write_parts(files, fd, offset, bytes, MOST_PARTS, 0);
+    if matches!(answer, Answer::Wrote(_)) {
+        memory.mark(handle, memory.marks_of(handle).written(asker.now));
+    }
+    answer
+}
+
+/// Closes an open file.
+pub(crate) fn release<F: FileSystem>(files: &mut F, memory: &mut Memory, fd: u32) -> Answer {
+    match ask_done(files, Command::Close { fd }) {
+        Ok(()) => {
+            memory.note_open(fd, 0);
+            Answer::Done
+        }
+        Err(errno) => Answer::Refused(errno),
+    }
+}

@@ -1,0 +1,193 @@
+//! Requests that look at the running tree.
+
+use crate::answer::Answer;
+use crate::asking::{ask_done, ask_extent, ask_stat, ask_text, ask_usage};
+use crate::attributes::{attributes_of, entry_of, is_file, parts_of_size};
+use crate::commands::{extent, lstat, readlink};
+use crate::memory::Memory;
+use crate::node::node_of;
+use crate::numbers::{BLOCK_BYTES, PARTS_OF_BLOCK};
+use file_system::{FileSystem, Handle, path_from};
+use fuse::StatfsReply;
+use model::{Command, Errno, Extent, NAME_BYTES, Stat};
+use std::alloc::Global;
+
+/// How much of an object is stored, in parts of 512 bytes; the path leads to it.
+pub(crate) fn stored_parts<F: FileSystem>(files: &mut F, path: &[u8], stat: &Stat) -> u64 {
+    if !is_file(stat.kind) || stat.size == 0 {
+        return parts_of_size(stat.size);
+    }
+    match ask_extent(files, extent(path, 0)) {
+        Ok(extent) => u64::from(extent.blocks) * PARTS_OF_BLOCK,
+        Err(_) => parts_of_size(stat.size),
+    }
+}
+
+/// The entry of an object to which the path leads.
+pub(crate) fn tell_entry<F: FileSystem>(
+    files: &mut F,
+    memory: &Memory,
+    path: &[u8],
+    stat: &Stat,
+) -> Answer {
+    let parts = stored_parts(files, path, stat);
+    let handle = files.handle_of(stat.number);
+    let inode = u64::from(stat.number);
+    let told = attributes_of(inode, stat, parts, memory.marks_of(handle));
+    Answer::Entry(entry_of(node_of(handle), handle.generation, told))
+}
+
+/// What has a name in the directory of a number.
+pub(crate) fn look_up<F: FileSystem>(
+    alloc: Global,
+    files: &mut F,
+    memory: &Memory,
+    parent: u32,
+    name: &[u8],
+) -> Answer {
+    let Ok(path) = path_from(alloc, parent, name) else {
+        return Answer::Refused(Errno::ENOMEM);
+    };
+    match ask_stat(files, lstat(&path)) {
+        Ok(stat) => tell_number(alloc, files, memory, &stat),
+        Err(errno) => missing(errno),
+    }
+}
+
+/// What is answered where a name is looked for and the look is refused.
+pub(crate) fn missing(errno: Errno) -> Answer {
+    match errno {
+        Errno::ENOENT => Answer::NoEntry,
+        _ => Answer::Refused(errno),
+    }
+}
+
+/// Whether it says that a number leads to nothing.
+pub(crate) fn is_stale(errno: Errno) -> bool {
+    matches!(errno, Errno::ESTALE)
+}
+
+/// The entry of an object, by its number.
+fn tell_number<F: FileSystem>(
+    alloc: Global,
+    files: &mut F,
+    memory: &Memory,
+    stat: &Stat,
+) -> Answer {
+    match path_from(alloc, stat.number, b"") {
+        Ok(path) => tell_entry(files, memory, &path, stat),
+        Err(_) => Answer::Refused(Errno::ENOMEM),
+    }
+}
+
+/// The attributes of an object.
+pub(crate) fn tell_attributes<F: FileSystem>(
+    alloc: Global,
+    files: &mut F,
+    memory: &Memory,
+    node: u64,
+    handle: Handle,
+) -> Answer {
+    let Ok(path) = path_from(alloc, handle.number, b"") else {
+        return Answer::Refused(Errno::ENOMEM);
+    };
+    match ask_stat(files, lstat(&path)) {
+        Ok(stat) => {
+            let parts = stored_parts(files, &path, &stat);
+            let inode = u64::from(stat.number);
+            Answer::Attributes(attributes_of(inode, &stat, parts, memory.marks_of(handle)))
+        }
+        Err(errno) if is_stale(errno) => tell_removed(files, memory, node),
+        Err(errno) => Answer::Refused(errno),
+    }
+}
+
+/// The attributes of what has no name any more: what it was, and the size that it has where it is
+/// an open file.
+pub(crate) fn tell_removed<F: FileSystem>(files: &mut F, memory: &Memory, node: u64) -> Answer {
+    let Some(removed) = memory.removed(node) else {
+        return Answer::Refused(Errno::ESTALE);
+    };
+    let mut stat = removed.stat;
+    if let Some(fd) = memory.open_at(node) {
+        match ask_stat(files, Command::Fstat { fd }) {
+            Ok(open) => stat.size = open.size,
+            Err(errno) => return Answer::Refused(errno),
+        }
+    }
+    let inode = u64::from(stat.number);
+    let parts = parts_of_size(stat.size);
+    Answer::Attributes(attributes_of(inode, &stat, parts, removed.marks))
+}
+
+/// The text of a link.
+pub(crate) fn read_link<F: FileSystem>(alloc: Global, files: &mut F, number: u32) -> Answer {
+    let Ok(path) = path_from(alloc, number, b"") else {
+        return Answer::Refused(Errno::ENOMEM);
+    };
+    match ask_text(files, readlink(&path)) {
+        Ok(text) => Answer::Bytes(text),
+        Err(errno) => Answer::Refused(errno),
+    }
+}
+
+/// The places of `lseek` that ask for data and for a hole.
+pub(crate) const SEEK_DATA: u32 = 3;
+
+pub(crate) const SEEK_HOLE: u32 = 4;
+
+/// Where data or a hole begins in a file.
+pub(crate) fn seek<F: FileSystem>(
+    alloc: Global,
+    files: &mut F,
+    number: u32,
+    offset: u64,
+    whence: u32,
+) -> Answer {
+    let Ok(offset) = i64::try_from(offset) else {
+        return Answer::NothingBehind;
+    };
+    let Ok(path) = path_from(alloc, number, b"") else {
+        return Answer::Refused(Errno::ENOMEM);
+    };
+    match ask_extent(files, extent(&path, offset)) {
+        Ok(extent) => found(&extent, whence),
+        Err(errno) => Answer::Refused(errno),
+    }
+}
+
+/// The place that a seek asks for.
+fn found(extent: &Extent, whence: u32) -> Answer {
+    let place = match whence {
+        SEEK_DATA => extent.data,
+        SEEK_HOLE => extent.hole,
+        _ => return Answer::Refused(Errno::EINVAL),
+    };
+    match place {
+        Some(place) => Answer::Offset(place),
+        None => Answer::NothingBehind,
+    }
+}
+
+/// Sizes and counts of the whole file system. What was deleted counts as free behind a consistency
+/// point, so one is made first; where it is refused, the counts are those before it.
+pub(crate) fn tell_space<F: FileSystem>(files: &mut F) -> Answer {
+    let _ = ask_done(files, Command::Sync);
+    match ask_usage(files, Command::Statfs) {
+        Ok(usage) => {
+            let free = u64::from(usage.free);
+            let available = free.saturating_sub(usage.reserved);
+            Answer::Space(StatfsReply {
+                blocks: u64::from(usage.blocks),
+                free_blocks: available,
+                available_blocks: available,
+                files: u64::from(usage.inodes),
+                free_files: u64::from(usage.inodes.saturating_sub(usage.taken)),
+                block_size: BLOCK_BYTES as u32,
+                name_bytes: NAME_BYTES as u32,
+                fragment_size: BLOCK_BYTES as u32,
+            })
+        }
+        Err(errno) => Answer::Refused(errno),
+    }
+}
