@@ -1,6 +1,6 @@
 //! What a server needs of the kernel's side.
 
-ghost use Rattle.std.specs.Io.KnownBytes.{Appends, Consumes};
+ghost use Rattle.std.specs.Io.KnownBytes.{Appends, Consumes, Keeps};
 ghost use Rattle.std.specs.Prelude.{◌≡◌, ◌<◌, ◌≤◌, ℕ, List, Option, Ok, IfOk, length, take};
 ghost use Rattle.channel.specs.declared.channel.Sent.{Sent};
 
@@ -48,5 +48,6 @@ pub trait Channel {
     fn send(&mut self, reply: &[u8]) -> Result<Sent, Ended>
         ensures goes { result ≡ Ok Sent.Whole
             → Appends (gone self.old) (gone self.new) reply.now }
+        ensures unwanted { result ≡ Ok Sent.Unwanted → Keeps (gone self.old) (gone self.new) }
         ensures coming { coming self.new ≡ coming self.old };
 }

@@ -1,1 +1,11 @@
+pub mod FilesLaws
+pub mod ForgettingLaws
+pub mod ListingLaws
+pub mod LookingLaws
+pub mod MakingLaws
+pub mod MemoryLaws
+pub mod RemovingLaws
+pub mod RequestsLaws
+pub mod ServingLaws
+pub mod SettingLaws
 pub mod TurnLaws

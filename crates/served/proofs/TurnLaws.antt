@@ -1,11 +1,11 @@
 -- How turns come about: one after the other.
-use Rattle.std.proofs.Common.{◌≡◌, ◌≢◌, ℕ, Bool, true, false, List, [], ◌∷◌, ◌++◌, Option, Some, None, Result, Ok, Err, inl, inr, refl, sym, ap, subst, ◌∙◌}
+use Rattle.std.proofs.Common.{◌≡◌, ◌≢◌, ℕ, Bool, true, false, List, [], ◌∷◌, ◌++◌, Some, None, Result, Ok, Err, refl, sym, ap, subst}
+use Rattle.model.specs.Paths.{IsName, parts, parts_behind, start_number}
 use Rattle.model.specs.declared.command.Command.{Command}
 use Rattle.model.specs.declared.errno.Errno.{Errno}
 use Rattle.model.specs.declared.reply.Reply.{Reply}
 use Rattle.file_system.specs.declared.file_system.FileSystem.{Ghosts}
-use Rattle.file_system.specs.declared.handle.Handle.{Handle}
-use Rattle.served.specs.Turns.{Step, Turn, either, Reads, refusal_in, generations_behind, gives, asks, ◌▹◌, handle_now, LeadsFrom, along, with_path, asks_for, AreApplied, Came}
+use Rattle.served.specs.Turns.{Step, Turn, either, Reads, refusal_in, generations_behind, gives, gives_some, asks, ◌▹◌, handle_now, LeadsFrom, along, with_path, asks_for, AreApplied, Came, if_memory}
 
 module _ {S : Type 0} (G : Ghosts S) where
   -- behind the steps the generations are those of the file system
@@ -19,6 +19,9 @@ module _ {S : Type 0} (G : Ghosts S) where
 
   pub came_gives : (s : S) {R : Type 0} (r : R) → Came G s s (gives r) r
   came_gives s r = ([], refl, (refl, refl))
+
+  pub came_some : (s : S) {R : Type 0} (P : R → Type 0) (r : R) → P r → Came G s s (gives_some P) r
+  came_some s P r is = ([], refl, (refl, is))
 
   came_asked : (old new : S) {A : Type 0} (tells : A → Reply) (command : Command) (reply : Reply) (found : Result A Errno) → G.applies old new command reply → Reads tells reply found
       → Came G old new (asks tells command) found
@@ -68,3 +71,49 @@ module _ {S : Type 0} (G : Ghosts S) where
 
   pub came_else : (old new : S) {R : Type 0} (test : Bool) (this other : Turn R) (r : R) → test ≡ false → Came G old new other r → Came G old new (either test this other) r
   came_else old new test this other r not done = subst (λ (b : Bool). Came G old new (either b this other) r) (sym not) done
+
+  -- this was given, and nothing was asked
+  pub came_given : (s : S) {R : Type 0} (r given : R) → given ≡ r → Came G s s (gives r) given
+  came_given s r given same = ([], refl, (refl, same))
+
+  pub came_as : (old new : S) {R : Type 0} (turn : Turn R) (r given : R) → given ≡ r → Came G old new turn r → Came G old new turn given
+  came_as old new {R} turn r given is done = subst (λ (x : R). Came G old new turn x) (sym is) done
+
+  pub came_by : (old new : S) {A : Type 0} (tells : A → Reply) (command asked : Command) (found : Result A Errno) → asked ≡ command → Came G old new (asks tells asked) found
+      → Came G old new (asks tells command) found
+  came_by old new tells command asked found is done = subst (λ (c : Command). Came G old new (asks tells c) found) is done
+
+  pub came_path : (old new : S) {R : Type 0} (turn : List ℕ → Turn R) (path text : List ℕ) (r : R) → path ≡ text → Came G old new (turn path) r → Came G old new (turn text) r
+  came_path old new turn path text r is done = subst (λ (p : List ℕ). Came G old new (turn p) r) is done
+
+  -- a command that a path is in was done along one, or was refused
+  pub came_done_along : (old mid new : S) {A R : Type 0} (wants : R) (n : ℕ) (names text : List ℕ) (tells : A → Reply) (asked : List ℕ → Command) (command : Command)
+      (refused : Errno → Turn R) (done : List ℕ → A → Turn R) (a : A) (r : R) → LeadsFrom n names text → command ≡ asked text → Came G old mid (asks tells command) (Ok a)
+      → Came G mid new (done text a) r → Came G old new (with_path wants n names (λ path. asks_for tells (asked path) refused (done path))) r
+  came_done_along old mid new wants n names text tells asked command refused done a r leads is first then =
+      came_along old new wants n names text (λ path. asks_for tells (asked path) refused (done path)) r leads
+      (came_done old mid new tells (asked text) refused (done text) a r (subst (λ (x : Command). Came G old mid (asks tells x) (Ok a)) is first) then)
+
+  pub came_refused_along : (old mid new : S) {A R : Type 0} (wants : R) (n : ℕ) (names text : List ℕ) (tells : A → Reply) (asked : List ℕ → Command) (command : Command)
+      (refused : Errno → Turn R) (done : List ℕ → A → Turn R) (errno : Errno) (r : R) → LeadsFrom n names text → command ≡ asked text → Came G old mid (asks tells command) (Err errno)
+      → Came G mid new (refused errno) r → Came G old new (with_path wants n names (λ path. asks_for tells (asked path) refused (done path))) r
+  came_refused_along old mid new wants n names text tells asked command refused done errno r leads is first then =
+      came_along old new wants n names text (λ path. asks_for tells (asked path) refused (done path)) r leads
+      (came_refused old mid new tells (asked text) refused (done text) errno r (subst (λ (x : Command). Came G old mid (asks tells x) (Err errno)) is first) then)
+
+  -- where there is memory, and where there is none
+  pub came_kept : (old new : S) {R : Type 0} (wants : R) (done : Turn R) (r : R) → Came G old new done r → Came G old new (if_memory wants done) r
+  unfolding if_memory
+  came_kept old new wants done r came =
+      came_then old old new (gives_some (λ (is_had : Bool). Unit {0})) (λ is_had. either is_had done (gives wants)) true r (came_some old (λ (is_had : Bool). Unit {0}) true tt) came
+
+  pub came_lost : (s : S) {R : Type 0} (wants : R) (done : Turn R) → Came G s s (if_memory wants done) wants
+  unfolding if_memory
+  came_lost s wants done =
+      came_then s s s (gives_some (λ (is_had : Bool). Unit {0})) (λ is_had. either is_had done (gives wants)) false wants (came_some s (λ (is_had : Bool). Unit {0}) false tt) (came_gives s wants)
+
+-- what the text of a path was built of
+pub leads_from : (n : ℕ) (names text slice : List ℕ) → slice ≡ text → start_number text ≡ Some n → parts_behind text ≡ parts names → (IsName names → parts_behind text ≡ names ∷ [])
+    → LeadsFrom n names slice
+leads_from n names text slice same starts goes_on one_name =
+    subst (λ (x : List ℕ). LeadsFrom n names x) (sym same) (record { starts = starts; goes_on = goes_on; one_name = one_name })

@@ -1,5 +1,5 @@
 -- What is told of objects.
-use Rattle.std.specs.Prelude.{ℕ, pos, ◌+◌, ◌*◌, ◌==◌, ◌||◌, if◌then◌else◌, Bool, true, false, not, List, Result, Ok, Err}
+use Rattle.std.specs.Prelude.{ℕ, ◌+◌, ◌*◌, Bool, true, false}
 use Rattle.std.specs.Int.{div_ceil}
 use Rattle.fuse.specs.declared.attributes.Attributes.{Attributes}
 use Rattle.fuse.specs.declared.attributes.Entry.{Entry}

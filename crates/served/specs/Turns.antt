@@ -30,6 +30,10 @@ Turn R = (ℕ → ℕ) → List Step → R → Type 0
 abbrev pub gives : {R : Type 0} → R → Turn R
 gives r generations steps given = (steps ≡ []) × (given ≡ r)
 
+-- something of this kind is given, and nothing is asked
+abbrev pub gives_some : {R : Type 0} → (R → Type 0) → Turn R
+gives_some P generations steps given = (steps ≡ []) × P given
+
 -- why a command was refused; a reply that is no refusal, where a refusal is looked for, is one of
 -- a kind that never comes, and counts as a fault
 abbrev pub refusal_in : Reply → Errno
@@ -86,6 +90,10 @@ with_path wants n names rest = along n names ▹ (λ found. elim found [
 -- one turn where a test holds, else the other
 abbrev pub either : {R : Type 0} → Bool → Turn R → Turn R → Turn R
 either test this other = elim test [ true ↦ this | false ↦ other ]
+
+-- there is memory for it, and it goes on, or this is given
+unfoldable pub if_memory : {R : Type 0} → R → Turn R → Turn R
+if_memory wants done = gives_some (λ (is_had : Bool). Unit {0}) ▹ (λ is_had. either is_had done (gives wants))
 
 -- A command is applied, and it goes on by what is read of its reply, or by why it was refused.
 abbrev pub asks_for : {A R : Type 0} → (A → Reply) → Command → (Errno → Turn R) → (A → Turn R) → Turn R

@@ -1,5 +1,8 @@
 //! The first request: what kernel and server agree on.
 
+ghost use Rattle.std.specs.Prelude.{◌≡◌};
+ghost use Rattle.served.specs.Agreeing.{agree};
+
 use crate::answer::Answer;
 use crate::numbers::MOST_BYTES;
 use fuse::{
@@ -19,7 +22,9 @@ pub(crate) const OFFERED: u32 = ASYNC_READ
     | CACHE_SYMLINKS;
 
 /// Agrees with a kernel that speaks this version, or a later one.
-pub(crate) fn agree(major: u32, minor: u32, max_readahead: u32, flags: u32) -> Answer {
+pub(crate) fn agree(major: u32, minor: u32, max_readahead: u32, flags: u32) -> Answer
+    ensures { result ≡ agree major minor max_readahead flags }
+{
     if major != MAJOR_VERSION || minor < MINOR_VERSION {
         return Answer::OtherVersion;
     }

@@ -1,5 +1,12 @@
 //! Which answer a request gets.
 
+ghost use Rattle.std.specs.Prelude.{◌≡◌};
+ghost use Rattle.fuse.specs.Forgets.{forgets_of};
+ghost use Rattle.fuse.specs.Operation.{operation_of};
+ghost use Rattle.served.specs.Known.{known_of, seen_of};
+ghost use Rattle.served.specs.Requests as spec;
+ghost use Rattle.served.specs.Turns.{Came};
+
 use crate::agreeing::agree;
 use crate::answer::Answer;
 use crate::files::{Place, read, read_within, release, write};
@@ -8,7 +15,7 @@ use crate::listing::{Part, Tree, list};
 use crate::looking::{look_up, read_link, seek, tell_attributes, tell_removed, tell_space};
 use crate::making::{create, link, make_directory, make_link, make_node, open};
 use crate::marks::Asker;
-use crate::memory::Memory;
+use crate::memory::{Memory, Snapshot};
 use crate::numbers::MOST_PARTS;
 use crate::removing::{remove, rename};
 use crate::setting::{set_attributes, set_removed};
@@ -22,7 +29,9 @@ use model::{Errno, ROOT_NUMBER};
 use std::alloc::Global;
 
 /// A descriptor that a handle is; one that can't be is that of no open file.
-fn descriptor(handle: u64) -> u32 {
+fn descriptor(handle: u64) -> u32
+    ensures { result ≡ spec.descriptor handle }
+{
     match u32::try_from(handle) {
         Ok(fd) => fd,
         Err(_) => u32::MAX,
@@ -30,7 +39,10 @@ fn descriptor(handle: u64) -> u32 {
 }
 
 /// The kernel forgets several nodes.
-fn forget_all(memory: &mut Memory, forgets: Forgets<'_>) {
+fn forget_all(memory: &mut Memory, forgets: Forgets<'_>)
+    ensures { known_of memory.new
+        ≡ spec.forgetting (forgets_of forgets.entry) (known_of memory.old) }
+{
     let mut rest = forgets;
     for _ in 0..forgets.bytes.len() {
         let Some((forget, behind)) = rest.split_first() else {
@@ -42,13 +54,17 @@ fn forget_all(memory: &mut Memory, forgets: Forgets<'_>) {
 }
 
 /// Answers a request.
+#[tactic(none)]
 pub(crate) fn answer<F: FileSystem>(
     alloc: Global,
     files: &mut F,
     memory: &mut Memory,
     asker: Asker,
     request: &Request<'_>,
-) -> Answer {
+) -> Answer
+    ensures { Came F.FileSystem files.old files.new (spec.answers (known_of memory.old) asker request.now.head.node (operation_of request.now.operation))
+        (result, known_of memory.new) }
+{
     let node = request.head.node;
     match &request.operation {
         Operation::Init {
@@ -73,21 +89,42 @@ pub(crate) fn answer<F: FileSystem>(
             flags: 0,
         }),
         Operation::ReleaseDirectory { .. } => Answer::Done,
-        Operation::Sync { .. }
-        | Operation::SyncDirectory { .. }
-        | Operation::Flush { .. }
-        | Operation::Access { .. }
-        | Operation::Other { .. } => Answer::NotServed,
-        _ => match find(files, node) {
-            Found::Running(handle) => answer_running(
-                alloc, files, memory, asker, node, handle, request,
-            ),
-            Found::Snapshots => answer_snapshots(alloc, files, memory, request),
-            Found::Within { snapshot, number } => answer_within(
-                alloc, files, memory, snapshot, number, request,
-            ),
-            Found::Nothing => answer_removed(files, memory, asker, node, request),
-        },
+        Operation::Sync { .. } => Answer::NotServed,
+        Operation::SyncDirectory { .. } => Answer::NotServed,
+        Operation::Flush { .. } => Answer::NotServed,
+        Operation::Access { .. } => Answer::NotServed,
+        Operation::Other { .. } => Answer::NotServed,
+        _ => {
+            let found = find(files, node);
+            answer_found(alloc, files, memory, asker, node, found, request)
+        }
+    }
+}
+
+/// Answers a request that is asked of what a node leads to.
+#[tactic(none)]
+fn answer_found<F: FileSystem>(
+    alloc: Global,
+    files: &mut F,
+    memory: &mut Memory,
+    asker: Asker,
+    node: u64,
+    found: Found,
+    request: &Request<'_>,
+) -> Answer
+    ensures { Came F.FileSystem files.old files.new
+        (spec.of_found (known_of memory.old) asker node (operation_of request.now.operation) found)
+        (result, known_of memory.new) }
+{
+    match found {
+        Found::Running(handle) => answer_running(
+            alloc, files, memory, asker, node, handle, request,
+        ),
+        Found::Snapshots => answer_snapshots(alloc, files, memory, request),
+        Found::Within { snapshot, number } => answer_within(
+            alloc, files, memory, snapshot, number, request,
+        ),
+        Found::Nothing => answer_removed(files, memory, asker, node, request),
     }
 }
 
@@ -100,15 +137,13 @@ fn answer_running<F: FileSystem>(
     node: u64,
     handle: Handle,
     request: &Request<'_>,
-) -> Answer {
+) -> Answer
+    ensures { Came F.FileSystem files.old files.new (spec.of_running (known_of memory.old) asker node handle (operation_of request.now.operation))
+        (result, known_of memory.new) }
+{
     let number = handle.number;
     match &request.operation {
-        Operation::Lookup { name } => {
-            if number == ROOT_NUMBER && *name == SNAPSHOTS_NAME {
-                return snapshots_entry(memory);
-            }
-            look_up(alloc, files, memory, number, name)
-        }
+        Operation::Lookup { name } => { look_up_running(alloc, files, memory, number, name) }
         Operation::GetAttributes { .. } => { tell_attributes(alloc, files, memory, node, handle) }
         Operation::SetAttributes { changes } => {
             set_attributes(alloc, files, memory, asker, node, handle, changes)
@@ -193,7 +228,33 @@ fn answer_running<F: FileSystem>(
     }
 }
 
+/// Whether a name in a directory is that of the folder of snapshots.
+fn is_snapshots(parent: u32, name: &[u8]) -> bool
+    ensures { result ≡ spec.is_snapshots parent name.now }
+{
+    parent == ROOT_NUMBER && name == SNAPSHOTS_NAME
+}
+
+/// What has a name in a directory of the running tree.
+#[tactic(none)]
+fn look_up_running<F: FileSystem>(
+    alloc: Global,
+    files: &mut F,
+    memory: &Memory,
+    parent: u32,
+    name: &[u8],
+) -> Answer
+    ensures { Came F.FileSystem files.old files.new
+        (spec.look_up_running (known_of memory.now) parent name.now) result }
+{
+    if is_snapshots(parent, name) {
+        return snapshots_entry(memory);
+    }
+    look_up(alloc, files, memory, parent, name)
+}
+
 /// Moves a name into a directory of the running tree.
+#[tactic(none)]
 fn move_name<F: FileSystem>(
     alloc: Global,
     files: &mut F,
@@ -204,7 +265,10 @@ fn move_name<F: FileSystem>(
     new_parent: u64,
     new_name: &[u8],
     flags: u32,
-) -> Answer {
+) -> Answer
+    ensures { Came F.FileSystem files.old files.new (spec.renames (known_of memory.old) asker parent name.now new_parent new_name.now flags)
+        (result, known_of memory.new) }
+{
     match find(files, new_parent) {
         Found::Running(new) => rename(
             alloc, files, memory, asker, parent, name, new.number, new_name, flags,
@@ -215,6 +279,7 @@ fn move_name<F: FileSystem>(
 }
 
 /// Gives a file of the running tree one more name.
+#[tactic(none)]
 fn add_name<F: FileSystem>(
     alloc: Global,
     files: &mut F,
@@ -223,7 +288,10 @@ fn add_name<F: FileSystem>(
     file: u64,
     parent: u32,
     name: &[u8],
-) -> Answer {
+) -> Answer
+    ensures { Came F.FileSystem files.old files.new (spec.links (known_of memory.old) asker file parent name.now)
+        (result, known_of memory.new) }
+{
     match find(files, file) {
         Found::Running(handle) => link(alloc, files, memory, asker, handle, parent, name),
         Found::Nothing => Answer::Refused(Errno::ESTALE),
@@ -237,7 +305,10 @@ fn answer_snapshots<F: FileSystem>(
     files: &mut F,
     memory: &mut Memory,
     request: &Request<'_>,
-) -> Answer {
+) -> Answer
+    ensures { Came F.FileSystem files.old files.new (spec.of_snapshots (known_of memory.old) (operation_of request.now.operation))
+        (result, known_of memory.new) }
+{
     match &request.operation {
         Operation::Lookup { name } => look_up_snapshot(alloc, files, memory, name),
         Operation::GetAttributes { .. } => Answer::Attributes(snapshots_attributes(memory)),
@@ -264,6 +335,7 @@ fn answer_snapshots<F: FileSystem>(
 }
 
 /// Answers a request that is asked of an object in a snapshot.
+#[tactic(none)]
 fn answer_within<F: FileSystem>(
     alloc: Global,
     files: &mut F,
@@ -271,10 +343,28 @@ fn answer_within<F: FileSystem>(
     snapshot: u32,
     number: u32,
     request: &Request<'_>,
-) -> Answer {
-    let Some(snapshot) = memory.snapshot_by_id(snapshot) else {
-        return Answer::Refused(Errno::ESTALE);
-    };
+) -> Answer
+    ensures { Came F.FileSystem files.old files.new (spec.of_within (known_of memory.now) snapshot number (operation_of request.now.operation)) result }
+{
+    match memory.snapshot_by_id(snapshot) {
+        Some(snapshot) => answer_seen(alloc, files, memory, snapshot, number, request),
+        None => Answer::Refused(Errno::ESTALE),
+    }
+}
+
+/// The same where the snapshot is there.
+fn answer_seen<F: FileSystem>(
+    alloc: Global,
+    files: &mut F,
+    memory: &Memory,
+    snapshot: &Snapshot,
+    number: u32,
+    request: &Request<'_>,
+) -> Answer
+    ensures { Came F.FileSystem files.old files.new
+        (spec.of_seen (known_of memory.now) (seen_of snapshot.now) number (operation_of request.now.operation))
+        result }
+{
     match &request.operation {
         Operation::Lookup { name } => {
             look_up_within(alloc, files, memory, snapshot, number, name)
@@ -310,13 +400,17 @@ fn answer_within<F: FileSystem>(
 }
 
 /// Answers a request that is asked of what isn't there any more.
+#[tactic(none)]
 fn answer_removed<F: FileSystem>(
     files: &mut F,
     memory: &mut Memory,
     asker: Asker,
     node: u64,
     request: &Request<'_>,
-) -> Answer {
+) -> Answer
+    ensures { Came F.FileSystem files.old files.new (spec.of_removed (known_of memory.old) asker node (operation_of request.now.operation))
+        (result, known_of memory.new) }
+{
     match &request.operation {
         Operation::GetAttributes { .. } => { tell_removed(files, memory, node) }
         Operation::SetAttributes { changes } => { set_removed(files, memory, asker, node, changes) }

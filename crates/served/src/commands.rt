@@ -185,13 +185,13 @@ pub(crate) fn get_within<'a>(name: &'a [u8], path: &'a [u8], offset: i64, count:
 }
 
 /// Bytes for an open file.
-pub(crate) fn pwrite(fd: u32, offset: i64, data: &[u8]) -> Command<'_>
-    ensures { result ≡ command.Pwrite fd offset data.now }
+pub(crate) fn pwrite(fd: u32, offset: i64, bytes: &[u8]) -> Command<'_>
+    ensures { result ≡ command.Pwrite fd offset bytes.now }
 {
     Command::Pwrite {
         fd,
         offset,
-        data: Bytes::of(data),
+        data: Bytes::of(bytes),
     }
 }
 

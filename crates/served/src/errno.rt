@@ -1,7 +1,8 @@
 //! The numbers that Linux has for refusals (`include/uapi/asm-generic/errno.h` of the kernel).
 
-ghost use Rattle.std.specs.Prelude.{◌≤◌};
+ghost use Rattle.std.specs.Prelude.{◌≡◌, ◌≤◌};
 ghost use Rattle.fuse.specs.declared.reply.TheConstants.{MOST_ERRNO};
+ghost use Rattle.served.specs.Replying.{linux_number};
 
 use model::Errno;
 
@@ -14,6 +15,7 @@ pub(crate) const EPROTO: u32 = 71;
 
 /// The number of a refusal.
 pub(crate) fn linux_number(errno: Errno) -> u32
+    ensures value { result ≡ linux_number errno }
     ensures least { 1 ≤ result }
     ensures most { result ≤ MOST_ERRNO }
 {

@@ -1,5 +1,12 @@
 //! Requests that read and write files.
 
+ghost use Rattle.std.specs.Prelude.{◌≡◌, ◌+◌, ◌*◌, ◌≤◌};
+ghost use Rattle.model.specs.declared.limits.TheConstants.{TRANSFER_BYTES};
+ghost use Rattle.model.specs.declared.reply.Reply.{Reply};
+ghost use Rattle.served.specs.Files as spec;
+ghost use Rattle.served.specs.Known.{known_of};
+ghost use Rattle.served.specs.Turns.{Came, asks};
+
 use crate::answer::Answer;
 use crate::asking::{ask_data, ask_done, ask_wrote};
 use crate::commands::{get_within, pwrite};
@@ -25,7 +32,10 @@ fn read_part<F: FileSystem>(
     place: Place<'_>,
     offset: i64,
     count: u32,
-) -> Result<Text, Errno> {
+) -> Result<Text, Errno>
+    ensures { Came F.FileSystem files.old files.new
+        (asks Reply.Data (spec.reading_of place.entry offset count)) result }
+{
     match place {
         Place::Open(fd) => ask_data(files, Command::Pread { fd, offset, count }),
         Place::Within { name, path } => ask_data(files, get_within(name, path, offset, count)),
@@ -33,7 +43,9 @@ fn read_part<F: FileSystem>(
 }
 
 /// The offset so many bytes behind another one, where a call can have it.
-fn offset_behind(offset: u64, count: u64) -> Option<i64> {
+pub(crate) fn offset_behind(offset: u64, count: u64) -> Option<i64>
+    ensures { spec.IsOffset (offset + count) result }
+{
     let Some(at) = offset.checked_add(count) else {
         return None;
     };
@@ -52,7 +64,10 @@ pub(crate) fn read<F: FileSystem>(
     count: u32,
     parts: u32,
     had: Vec<u8>,
-) -> Answer {
+) -> Answer
+    ensures { Came F.FileSystem files.old files.new
+        (spec.reads (spec.reading_of place.entry) offset count parts had.items) result }
+{
     let left = (count as usize).saturating_sub(had.len());
     if parts == 0 || left == 0 {
         return Answer::Bytes(Text::new(had));
@@ -73,8 +88,18 @@ pub(crate) fn read<F: FileSystem>(
             }
             read(files, place, offset, count, parts - 1, had)
         }
-        Err(errno) if had.is_empty() => Answer::Refused(errno),
-        Err(_) => Answer::Bytes(Text::new(had)),
+        Err(errno) => read_before(had, errno),
+    }
+}
+
+/// A part was refused: what was read before it is told, or the refusal where nothing was.
+fn read_before(had: Vec<u8>, errno: Errno) -> Answer
+    ensures { result ≡ spec.read_before had.items errno }
+{
+    if had.is_empty() {
+        Answer::Refused(errno)
+    } else {
+        Answer::Bytes(Text::new(had))
     }
 }
 
@@ -86,7 +111,10 @@ pub(crate) fn read_within<F: FileSystem>(
     number: u32,
     offset: u64,
     count: u32,
-) -> Answer {
+) -> Answer
+    ensures { Came F.FileSystem files.old files.new
+        (spec.read_within name.now number offset count) result }
+{
     match path_from(alloc, number, b"") {
         Ok(path) => {
             let place = Place::Within { name, path: &path };
@@ -105,29 +133,28 @@ fn write_parts<F: FileSystem>(
     bytes: &[u8],
     parts: u32,
     done: u32,
-) -> Answer {
+) -> Answer
+    requires { done + parts * TRANSFER_BYTES ≤ 4294967295 }
+    ensures { Came F.FileSystem files.old files.new
+        (spec.writes fd offset bytes.now parts done) result }
+{
     if parts == 0 || bytes.is_empty() {
         return Answer::Wrote(done);
     }
     let Some(at) = offset_behind(offset, u64::from(done)) else {
         return refused_behind(done, Errno::EFBIG);
     };
-    let (part, rest) = bytes.split_at(bytes.len().min(TRANSFER_BYTES));
+    let (part, rest) = bytes.split_at(TRANSFER_BYTES.min(bytes.len()));
     match ask_wrote(files, pwrite(fd, at, part)) {
-        Ok(_) => write_parts(
-            files,
-            fd,
-            offset,
-            rest,
-            parts - 1,
-            done.saturating_add(part.len() as u32),
-        ),
+        Ok(_) => write_parts(files, fd, offset, rest, parts - 1, done + part.len() as u32),
         Err(errno) => refused_behind(done, errno),
     }
 }
 
 /// A part was refused: what was written before it is told, or the refusal where nothing was.
-fn refused_behind(done: u32, errno: Errno) -> Answer {
+fn refused_behind(done: u32, errno: Errno) -> Answer
+    ensures { result ≡ spec.wrote_before done errno }
+{
     if done == 0 {
         Answer::Refused(errno)
     } else {
@@ -144,16 +171,26 @@ pub(crate) fn write<F: FileSystem>(
     fd: u32,
     offset: u64,
     bytes: &[u8],
-) -> Answer {
-    let answer = write_parts(files, fd, offset, bytes, MOST_PARTS, 0);
-    if matches!(answer, Answer::Wrote(_)) {
-        memory.mark(handle, memory.marks_of(handle).written(asker.now));
+) -> Answer
+    ensures { Came F.FileSystem files.old files.new
+        (spec.write (known_of memory.old) asker handle fd offset bytes.now)
+        (result, known_of memory.new) }
+{
+    match write_parts(files, fd, offset, bytes, MOST_PARTS, 0) {
+        Answer::Wrote(count) => {
+            let marks = memory.marks_of(handle).written(asker.now);
+            memory.mark(handle, marks);
+            Answer::Wrote(count)
+        }
+        other => other,
     }
-    answer
 }
 
 /// Closes an open file.
-pub(crate) fn release<F: FileSystem>(files: &mut F, memory: &mut Memory, fd: u32) -> Answer {
+pub(crate) fn release<F: FileSystem>(files: &mut F, memory: &mut Memory, fd: u32) -> Answer
+    ensures { Came F.FileSystem files.old files.new
+        (spec.release (known_of memory.old) fd) (result, known_of memory.new) }
+{
     match ask_done(files, Command::Close { fd }) {
         Ok(()) => {
             memory.note_open(fd, 0);

@@ -1,7 +1,7 @@
 //! A mounted folder: what the kernel asks of it comes to commands on a file system, and to an
-//! answer. Proved is that each function is safe and ends, whatever the kernel sends and the file
-//! system replies; and by clauses how commands are made and asked, what the kernel's nodes lead to,
-//! and how most of what the server knows changes. What a request comes to isn't stated yet.
+//! answer, as the table of requests says (`specs/Requests.antt`). Proved is that each message is
+//! answered so, and that each function is safe and ends, whatever the kernel sends and the file
+//! system replies. Of the loop over messages only that is stated.
 #![tactic(auto)]
 
 mod agreeing;

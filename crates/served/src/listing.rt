@@ -1,19 +1,27 @@
 //! Listings of directories, in parts.
 
+ghost use Rattle.std.specs.Prelude.{◌≡◌, ◌≤◌, ◌++◌, IfOk, length, map, take, if◌then◌else◌};
+ghost use Rattle.fuse.specs.Directory as directory;
+ghost use Rattle.model.specs.declared.reply.Reply.{Reply};
+ghost use Rattle.served.specs.Known.{known_of, seen_of};
+ghost use Rattle.served.specs.Listing as spec;
+ghost use Rattle.served.specs.Turns.{Came, asks};
+
 use crate::answer::Answer;
 use crate::asking::ask_entries;
 use crate::attributes::{attributes_of, entry_of, parts_of_size};
 use crate::commands::{entries, entries_within};
+use crate::files::offset_behind;
 use crate::looking::stored_parts;
 use crate::marks::Marks;
 use crate::memory::{Memory, Snapshot};
 use crate::node::{node_of, node_within};
 use file_system::{FileSystem, path_from};
 use fuse::{
-    Attributes, ENTRY_BYTES, Entry as Told, LISTED_NAME_BYTES, Listed, ListedKind, Time,
-    list_entry, list_entry_plus, listed_len,
+    Attributes, Entry as Told, LISTED_NAME_BYTES, Listed, ListedKind, Time, list_entry,
+    list_entry_plus,
 };
-use model::{ENTRIES_TOLD, Entries, Entry, Errno, FileType, Text};
+use model::{ENTRIES_TOLD, Entries, Entry, Errno, FileType, ROOT_NUMBER, Stat, Text};
 use std::alloc::{AllocError, Global};
 
 /// How a part of a listing is asked for.
@@ -33,7 +41,9 @@ pub(crate) const BEHIND_SELF: u64 = 1;
 pub(crate) const BEHIND_PARENT: u64 = 2;
 
 /// A name's kind, as a listing has it.
-fn listed_kind(kind: FileType) -> ListedKind {
+fn listed_kind(kind: FileType) -> ListedKind
+    ensures { result ≡ spec.listed_kind kind }
+{
     match kind {
         FileType::File => ListedKind::File,
         FileType::Dir => ListedKind::Directory,
@@ -42,7 +52,9 @@ fn listed_kind(kind: FileType) -> ListedKind {
 }
 
 /// The entry of a name of which a listing tells nothing.
-fn untold() -> Told {
+fn untold() -> Told
+    ensures { result ≡ spec.untold }
+{
     let never = Time {
         seconds: 0,
         nanoseconds: 0,
@@ -73,7 +85,13 @@ fn append(
     part: Part,
     entry: &Told,
     listed: &Listed<'_>,
-) -> Result<bool, AllocError> {
+) -> Result<bool, AllocError>
+    ensures fits { IfOk result (λ fits.
+        fits ≡ spec.has_room part listing.old.items entry.now (directory.listed_of listed.now)) }
+    ensures ok { IfOk result (λ fits. listing.new.items ≡ (if fits
+        then listing.old.items ++ spec.spelled part entry.now (directory.listed_of listed.now)
+        else listing.old.items)) }
+{
     if listed.name.len() > LISTED_NAME_BYTES {
         return Ok(false);
     }
@@ -84,79 +102,86 @@ fn append(
     }
 }
 
-/// Appends `.` and `..`, as far as the part begins before them; false where it has no room.
-fn append_dots(listing: &mut Vec<u8>, part: Part, inode: u64) -> Result<bool, AllocError> {
-    let names: [(u64, &[u8]); 2] = [(BEHIND_SELF, b"."), (BEHIND_PARENT, b"..")];
-    for (place, name) in names {
-        if place <= part.behind {
-            continue;
-        }
-        let listed = Listed {
-            inode,
-            offset: place,
-            kind: ListedKind::Directory,
-            name,
-        };
-        if !append(listing, part, &untold(), &listed)? {
-            return Ok(false);
-        }
+/// Appends the name of a directory that stands at a place, unless the part begins behind it; false
+/// where it has no room.
+fn append_directory(
+    listing: &mut Vec<u8>,
+    part: Part,
+    inode: u64,
+    place: u64,
+    name: &[u8],
+) -> Result<bool, AllocError>
+    ensures { IfOk result (λ all. (listing.new.items, all)
+        ≡ spec.listed part (spec.directory_at part inode place name.now) listing.old.items) }
+{
+    if place <= part.behind {
+        return Ok(true);
     }
-    Ok(true)
+    let listed = Listed {
+        inode,
+        offset: place,
+        kind: ListedKind::Directory,
+        name,
+    };
+    append(listing, part, &untold(), &listed)
 }
 
-/// How many names are asked for, so that they fill the part.
-fn names_asked(part: Part) -> u32 {
-    let least = if part.plus { 160 } else { 32 };
-    (part.bytes / least).clamp(1, ENTRIES_TOLD)
+/// Appends `.` and `..`, as far as the part begins before them; false where one has no room.
+fn append_dots(listing: &mut Vec<u8>, part: Part, inode: u64) -> Result<bool, AllocError>
+    ensures { IfOk result (λ all. (listing.new.items, all)
+        ≡ spec.listed part (spec.dots part inode) listing.old.items) }
+{
+    if !append_directory(listing, part, inode, BEHIND_SELF, b".")? {
+        return Ok(false);
+    }
+    append_directory(listing, part, inode, BEHIND_PARENT, b"..")
 }
 
-/// How much room a name takes; one that is too long for a listing has none in any.
-fn room_of(part: Part, entry: &Entry) -> usize {
-    let listed = listed_of(entry);
-    if listed.name.len() > LISTED_NAME_BYTES {
-        return usize::MAX;
+/// Appends the snapshots' names; false where one has no room.
+fn append_snapshots(
+    listing: &mut Vec<u8>,
+    part: Part,
+    snapshots: &[Snapshot],
+) -> Result<bool, AllocError>
+    ensures { IfOk result (λ all. (listing.new.items, all)
+        ≡ spec.listed part (spec.snapshots_in part (map seen_of snapshots.now)) listing.old.items) }
+{
+    let Some((snapshot, behind)) = snapshots.split_first() else {
+        return Ok(true);
+    };
+    let inode = node_within(snapshot.id, ROOT_NUMBER);
+    let place = u64::from(snapshot.id) + BEHIND_PARENT + 1;
+    if !append_directory(listing, part, inode, place, &snapshot.name)? {
+        return Ok(false);
     }
-    if part.plus {
-        ENTRY_BYTES + listed_len(&listed)
-    } else {
-        listed_len(&listed)
-    }
+    append_snapshots(listing, part, behind)
 }
 
-/// A name as a listing has it.
-fn listed_of(entry: &Entry) -> Listed<'_> {
-    Listed {
-        inode: u64::from(entry.stat.number),
-        offset: entry.cookie,
-        kind: listed_kind(entry.stat.kind),
-        name: entry.name.as_bytes(),
+/// Appends `.`, `..` and the snapshots' names; false where one has no room.
+fn append_folder(
+    listing: &mut Vec<u8>,
+    part: Part,
+    inode: u64,
+    snapshots: &[Snapshot],
+) -> Result<bool, AllocError>
+    ensures { IfOk result (λ all. (listing.new.items, all) ≡ spec.listed part
+        (spec.dots part inode ++ spec.snapshots_in part (map seen_of snapshots.now))
+        listing.old.items) }
+{
+    if !append_dots(listing, part, inode)? {
+        return Ok(false);
     }
+    append_snapshots(listing, part, snapshots)
 }
 
-/// How many of the names have room, but that names of one cookie are told together.
-fn count_told(part: Part, room: usize, entries: &[Entry]) -> usize {
-    let mut left = room;
-    let mut told = 0;
-    for (at, entry) in entries.iter().enumerate() {
-        let room = room_of(part, entry);
-        if room > left {
-            break;
-        }
-        left -= room;
-        if ends_cookie(entries, at) {
-            told = at + 1;
-        }
-    }
-    told
-}
-
-/// Whether no name of the same cookie stands behind one.
-fn ends_cookie(entries: &[Entry], at: usize) -> bool {
-    let this = entries.get(at);
-    let next = entries.get(at.saturating_add(1));
-    match (this, next) {
-        (Some(this), Some(next)) => next.cookie != this.cookie,
-        _ => true,
+/// Tells a part of the snapshots' names: the place of one is its id and 3.
+pub(crate) fn list_snapshots(alloc: Global, memory: &Memory, inode: u64, part: Part) -> Answer
+    ensures { spec.TellsSnapshots (known_of memory.now) inode part result }
+{
+    let mut listing = Vec::new(alloc);
+    match append_folder(&mut listing, part, inode, &memory.snapshots) {
+        Ok(_) => Answer::Bytes(Text::new(listing)),
+        Err(_) => Answer::Refused(Errno::ENOMEM),
     }
 }
 
@@ -167,44 +192,12 @@ pub(crate) enum Tree<'a> {
     Within(&'a Snapshot, Marks),
 }
 
-/// Tells a part of the names in the directory of a number.
-pub(crate) fn list<F: FileSystem>(
-    alloc: Global,
-    files: &mut F,
-    memory: &Memory,
-    tree: Tree<'_>,
-    number: u32,
-    part: Part,
-) -> Answer {
-    let mut listing = Vec::new(alloc);
-    match append_dots(&mut listing, part, u64::from(number)) {
-        Ok(true) => {}
-        Ok(false) => return Answer::Bytes(Text::new(listing)),
-        Err(_) => return Answer::Refused(Errno::ENOMEM),
-    }
-    let Ok(after) = i64::try_from(part.behind) else {
-        return Answer::Bytes(Text::new(listing));
-    };
-    let Ok(path) = path_from(alloc, number, b"") else {
-        return Answer::Refused(Errno::ENOMEM);
-    };
-    let names = match ask_names(files, tree, &path, after, names_asked(part)) {
-        Ok(names) => names,
-        Err(errno) => return Answer::Refused(errno),
-    };
-    let names = names.as_slice();
-    let room = (part.bytes as usize).saturating_sub(listing.len());
-    let told = count_told(part, room, names);
-    if told == 0 && !names.is_empty() && listing.is_empty() {
-        return Answer::Refused(Errno::EINVAL);
-    }
-    let Some(told) = names.get(..told) else {
-        return Answer::Refused(Errno::EIO);
-    };
-    match append_names(alloc, files, memory, tree, part, told, &mut listing) {
-        Ok(()) => Answer::Bytes(Text::new(listing)),
-        Err(errno) => Answer::Refused(errno),
-    }
+/// How many names are asked for, so that they fill the part.
+fn names_asked(part: Part) -> u32
+    ensures { result ≡ spec.names_asked part }
+{
+    let least = if part.plus { 160 } else { 32 };
+    (part.bytes / least).min(ENTRIES_TOLD).max(1)
 }
 
 /// Asks for names in a directory.
@@ -214,7 +207,10 @@ fn ask_names<F: FileSystem>(
     path: &[u8],
     after: i64,
     count: u32,
-) -> Result<Entries, Errno> {
+) -> Result<Entries, Errno>
+    ensures { Came F.FileSystem files.old files.new
+        (asks Reply.Entries (spec.names_in (spec.whose_of tree.entry) path.now after count)) result }
+{
     match tree {
         Tree::Running => ask_entries(files, entries(path, after, count)),
         Tree::Within(snapshot, _) => {
@@ -223,85 +219,194 @@ fn ask_names<F: FileSystem>(
     }
 }
 
-/// Appends names.
-fn append_names<F: FileSystem>(
+/// A name as a listing has it.
+fn listed_of<'a>(tree: Tree<'_>, name: &'a Entry) -> Listed<'a>
+    ensures { directory.listed_of result ≡ spec.name_in (spec.whose_of tree.entry) name.now }
+{
+    let number = name.stat.number;
+    let inode = match tree {
+        Tree::Running => u64::from(number),
+        Tree::Within(snapshot, _) => node_within(snapshot.id, number),
+    };
+    Listed {
+        inode,
+        offset: name.cookie,
+        kind: listed_kind(name.stat.kind),
+        name: name.name.as_bytes(),
+    }
+}
+
+/// What a name in the running tree leads to.
+fn leads_to<F: FileSystem>(
+    alloc: Global,
+    files: &mut F,
+    memory: &Memory,
+    stat: &Stat,
+) -> Result<Told, Errno>
+    ensures { Came F.FileSystem files.old files.new
+        (spec.leads_to (known_of memory.now) spec.running stat.now) result }
+{
+    match path_from(alloc, stat.number, b"") {
+        Ok(path) => {
+            let parts = stored_parts(files, &path, stat);
+            let handle = files.handle_of(stat.number);
+            let marks = memory.marks_of(handle);
+            let told = attributes_of(u64::from(stat.number), stat, parts, marks);
+            Ok(entry_of(node_of(handle), handle.generation, told))
+        }
+        Err(_) => Err(Errno::ENOMEM),
+    }
+}
+
+/// What a listing tells of what a name leads to.
+fn told_of<F: FileSystem>(
     alloc: Global,
     files: &mut F,
     memory: &Memory,
     tree: Tree<'_>,
     part: Part,
-    entries: &[Entry],
-    listing: &mut Vec<u8>,
-) -> Result<(), Errno> {
-    for entry in entries {
-        let told = if part.plus {
-            tell_listed(alloc, files, memory, tree, entry)?
-        } else {
-            untold()
-        };
-        let mut listed = listed_of(entry);
-        if let Tree::Within(snapshot, _) = tree {
-            listed.inode = node_within(snapshot.id, entry.stat.number);
-        }
-        if append(listing, part, &told, &listed).is_err() {
-            return Err(Errno::ENOMEM);
-        }
+    stat: &Stat,
+) -> Result<Told, Errno>
+    ensures { Came F.FileSystem files.old files.new
+        (spec.told_of (known_of memory.now) (spec.whose_of tree.entry) part stat.now) result }
+{
+    if !part.plus {
+        return Ok(untold());
     }
-    Ok(())
+    match tree {
+        Tree::Running => leads_to(alloc, files, memory, stat),
+        Tree::Within(snapshot, marks) => Ok(entry_within(snapshot.id, marks, stat)),
+    }
 }
 
-/// What a listed name leads to.
-fn tell_listed<F: FileSystem>(
+/// What a name in the snapshot with an id leads to.
+fn entry_within(id: u32, marks: Marks, stat: &Stat) -> Told
+    requires { id ≤ 2147483647 }
+    ensures { result ≡ spec.entry_within id marks stat.now }
+{
+    let node = node_within(id, stat.number);
+    entry_of(
+        node,
+        0,
+        attributes_of(node, stat, parts_of_size(stat.size), marks),
+    )
+}
+
+/// Whether the next name has the same cookie.
+fn shares_cookie(name: &Entry, names: &[Entry]) -> bool
+    ensures { result ≡ spec.shares_cookie name.now names.now }
+{
+    match names.split_first() {
+        Some((next, _)) => next.cookie == name.cookie,
+        None => false,
+    }
+}
+
+/// How many bytes of a listing end with a cookie, behind a name and before others.
+fn whole_behind(name: &Entry, names: &[Entry], whole: usize, now: usize) -> usize
+    ensures { result ≡ (if spec.shares_cookie name.now names.now then whole else now) }
+{
+    if shares_cookie(name, names) {
+        whole
+    } else {
+        now
+    }
+}
+
+/// A part ends behind the last cookie all of whose names have room; one in which none has is too
+/// small.
+fn ends(listing: Vec<u8>, whole: usize) -> Answer
+    ensures { result ≡ spec.ends (take whole listing.items) }
+{
+    let mut listing = listing;
+    listing.truncate(whole);
+    if listing.is_empty() {
+        Answer::Refused(Errno::EINVAL)
+    } else {
+        Answer::Bytes(Text::new(listing))
+    }
+}
+
+/// Tells names behind others, of which so many bytes end with a cookie.
+fn tell_names<F: FileSystem>(
     alloc: Global,
     files: &mut F,
     memory: &Memory,
     tree: Tree<'_>,
-    entry: &Entry,
-) -> Result<Told, Errno> {
-    let number = entry.stat.number;
-    match tree {
-        Tree::Running => {
-            let Ok(path) = path_from(alloc, number, b"") else {
-                return Err(Errno::ENOMEM);
-            };
-            let parts = stored_parts(files, &path, &entry.stat);
-            let handle = files.handle_of(number);
-            let marks = memory.marks_of(handle);
-            let told = attributes_of(u64::from(number), &entry.stat, parts, marks);
-            Ok(entry_of(node_of(handle), handle.generation, told))
+    part: Part,
+    names: &[Entry],
+    whole: usize,
+    listing: Vec<u8>,
+) -> Answer
+    ensures { Came F.FileSystem files.old files.new
+        (spec.tells (known_of memory.now) (spec.whose_of tree.entry) part names.now whole
+        listing.items) result }
+{
+    let Some((name, behind)) = names.split_first() else {
+        return Answer::Bytes(Text::new(listing));
+    };
+    match told_of(alloc, files, memory, tree, part, &name.stat) {
+        Ok(told) => {
+            let mut listing = listing;
+            match append(&mut listing, part, &told, &listed_of(tree, name)) {
+                Ok(true) => {
+                    let now = whole_behind(name, behind, whole, listing.len());
+                    tell_names(alloc, files, memory, tree, part, behind, now, listing)
+                }
+                Ok(false) => ends(listing, whole),
+                Err(_) => Answer::Refused(Errno::ENOMEM),
+            }
         }
-        Tree::Within(snapshot, marks) => {
-            let node = node_within(snapshot.id, number);
-            let parts = parts_of_size(entry.stat.size);
-            Ok(entry_of(node, 0, attributes_of(node, &entry.stat, parts, marks)))
-        }
+        Err(errno) => Answer::Refused(errno),
     }
 }
 
-/// Tells a part of the snapshots' names: the place behind one is its id and 3.
-pub(crate) fn list_snapshots(alloc: Global, memory: &Memory, inode: u64, part: Part) -> Answer {
+/// Tells the names behind the part's beginning, behind `.` and `..`.
+fn list_names<F: FileSystem>(
+    alloc: Global,
+    files: &mut F,
+    memory: &Memory,
+    tree: Tree<'_>,
+    number: u32,
+    part: Part,
+    listing: Vec<u8>,
+) -> Answer
+    ensures { Came F.FileSystem files.old files.new
+        (spec.lists (known_of memory.now) (spec.whose_of tree.entry) number part listing.items)
+        result }
+{
+    let Some(after) = offset_behind(part.behind, 0) else {
+        return Answer::Bytes(Text::new(listing));
+    };
+    match path_from(alloc, number, b"") {
+        Ok(path) => match ask_names(files, tree, &path, after, names_asked(part)) {
+            Ok(names) => {
+                let whole = listing.len();
+                let names = names.as_slice();
+                tell_names(alloc, files, memory, tree, part, names, whole, listing)
+            }
+            Err(errno) => Answer::Refused(errno),
+        },
+        Err(_) => Answer::Refused(Errno::ENOMEM),
+    }
+}
+
+/// Tells a part of the names in the directory of a number.
+pub(crate) fn list<F: FileSystem>(
+    alloc: Global,
+    files: &mut F,
+    memory: &Memory,
+    tree: Tree<'_>,
+    number: u32,
+    part: Part,
+) -> Answer
+    ensures { Came F.FileSystem files.old files.new
+        (spec.list (known_of memory.now) (spec.whose_of tree.entry) number part) result }
+{
     let mut listing = Vec::new(alloc);
-    match append_dots(&mut listing, part, inode) {
-        Ok(true) => {}
-        Ok(false) => return Answer::Bytes(Text::new(listing)),
-        Err(_) => return Answer::Refused(Errno::ENOMEM),
+    match append_dots(&mut listing, part, u64::from(number)) {
+        Ok(true) => list_names(alloc, files, memory, tree, number, part, listing),
+        Ok(false) => Answer::Bytes(Text::new(listing)),
+        Err(_) => Answer::Refused(Errno::ENOMEM),
     }
-    for snapshot in memory.snapshots.iter() {
-        let place = u64::from(snapshot.id) + BEHIND_PARENT + 1;
-        if place <= part.behind {
-            continue;
-        }
-        let listed = Listed {
-            inode: node_within(snapshot.id, 3),
-            offset: place,
-            kind: ListedKind::Directory,
-            name: snapshot.name.as_slice(),
-        };
-        match append(&mut listing, part, &untold(), &listed) {
-            Ok(true) => {}
-            Ok(false) => break,
-            Err(_) => return Answer::Refused(Errno::ENOMEM),
-        }
-    }
-    Answer::Bytes(Text::new(listing))
 }

@@ -1,10 +1,15 @@
 //! Requests that look at the running tree.
 
+ghost use Rattle.std.specs.Prelude.{◌≡◌};
+ghost use Rattle.served.specs.Known.{known_of};
+ghost use Rattle.served.specs.Looking as spec;
+ghost use Rattle.served.specs.Turns.{Came};
+
 use crate::answer::Answer;
 use crate::asking::{ask_done, ask_extent, ask_stat, ask_text, ask_usage};
 use crate::attributes::{attributes_of, entry_of, is_file, parts_of_size};
 use crate::commands::{extent, lstat, readlink};
-use crate::memory::Memory;
+use crate::memory::{Memory, Removed};
 use crate::node::node_of;
 use crate::numbers::{BLOCK_BYTES, PARTS_OF_BLOCK};
 use file_system::{FileSystem, Handle, path_from};
@@ -13,7 +18,9 @@ use model::{Command, Errno, Extent, NAME_BYTES, Stat};
 use std::alloc::Global;
 
 /// How much of an object is stored, in parts of 512 bytes; the path leads to it.
-pub(crate) fn stored_parts<F: FileSystem>(files: &mut F, path: &[u8], stat: &Stat) -> u64 {
+pub(crate) fn stored_parts<F: FileSystem>(files: &mut F, path: &[u8], stat: &Stat) -> u64
+    ensures { Came F.FileSystem files.old files.new (spec.stored_parts path.now stat.now) result }
+{
     if !is_file(stat.kind) || stat.size == 0 {
         return parts_of_size(stat.size);
     }
@@ -24,12 +31,15 @@ pub(crate) fn stored_parts<F: FileSystem>(files: &mut F, path: &[u8], stat: &Sta
 }
 
 /// The entry of an object to which the path leads.
+#[tactic(none)]
 pub(crate) fn tell_entry<F: FileSystem>(
     files: &mut F,
     memory: &Memory,
     path: &[u8],
     stat: &Stat,
-) -> Answer {
+) -> Answer
+    ensures { Came F.FileSystem files.old files.new (spec.tell_entry (known_of memory.now) path.now stat.now) result }
+{
     let parts = stored_parts(files, path, stat);
     let handle = files.handle_of(stat.number);
     let inode = u64::from(stat.number);
@@ -38,13 +48,16 @@ pub(crate) fn tell_entry<F: FileSystem>(
 }
 
 /// What has a name in the directory of a number.
+#[tactic(none)]
 pub(crate) fn look_up<F: FileSystem>(
     alloc: Global,
     files: &mut F,
     memory: &Memory,
     parent: u32,
     name: &[u8],
-) -> Answer {
+) -> Answer
+    ensures { Came F.FileSystem files.old files.new (spec.look_up (known_of memory.now) parent name.now) result }
+{
     let Ok(path) = path_from(alloc, parent, name) else {
         return Answer::Refused(Errno::ENOMEM);
     };
@@ -55,7 +68,9 @@ pub(crate) fn look_up<F: FileSystem>(
 }
 
 /// What is answered where a name is looked for and the look is refused.
-pub(crate) fn missing(errno: Errno) -> Answer {
+pub(crate) fn missing(errno: Errno) -> Answer
+    ensures { result ≡ spec.missing errno }
+{
     match errno {
         Errno::ENOENT => Answer::NoEntry,
         _ => Answer::Refused(errno),
@@ -63,17 +78,17 @@ pub(crate) fn missing(errno: Errno) -> Answer {
 }
 
 /// Whether it says that a number leads to nothing.
-pub(crate) fn is_stale(errno: Errno) -> bool {
+pub(crate) fn is_stale(errno: Errno) -> bool
+    ensures { result ≡ spec.is_stale errno }
+{
     matches!(errno, Errno::ESTALE)
 }
 
 /// The entry of an object, by its number.
-fn tell_number<F: FileSystem>(
-    alloc: Global,
-    files: &mut F,
-    memory: &Memory,
-    stat: &Stat,
-) -> Answer {
+#[tactic(none)]
+fn tell_number<F: FileSystem>(alloc: Global, files: &mut F, memory: &Memory, stat: &Stat) -> Answer
+    ensures { Came F.FileSystem files.old files.new (spec.tell_number (known_of memory.now) stat.now) result }
+{
     match path_from(alloc, stat.number, b"") {
         Ok(path) => tell_entry(files, memory, &path, stat),
         Err(_) => Answer::Refused(Errno::ENOMEM),
@@ -81,13 +96,16 @@ fn tell_number<F: FileSystem>(
 }
 
 /// The attributes of an object.
+#[tactic(none)]
 pub(crate) fn tell_attributes<F: FileSystem>(
     alloc: Global,
     files: &mut F,
     memory: &Memory,
     node: u64,
     handle: Handle,
-) -> Answer {
+) -> Answer
+    ensures { Came F.FileSystem files.old files.new (spec.tell_attributes (known_of memory.now) node handle) result }
+{
     let Ok(path) = path_from(alloc, handle.number, b"") else {
         return Answer::Refused(Errno::ENOMEM);
     };
@@ -102,26 +120,50 @@ pub(crate) fn tell_attributes<F: FileSystem>(
     }
 }
 
-/// The attributes of what has no name any more: what it was, and the size that it has where it is
-/// an open file.
-pub(crate) fn tell_removed<F: FileSystem>(files: &mut F, memory: &Memory, node: u64) -> Answer {
-    let Some(removed) = memory.removed(node) else {
-        return Answer::Refused(Errno::ESTALE);
-    };
-    let mut stat = removed.stat;
-    if let Some(fd) = memory.open_at(node) {
-        match ask_stat(files, Command::Fstat { fd }) {
-            Ok(open) => stat.size = open.size,
-            Err(errno) => return Answer::Refused(errno),
-        }
+/// The attributes of what has no name any more, if the kernel still knows it: what it was, and the
+/// size that it has where it is an open file.
+#[tactic(none)]
+pub(crate) fn tell_removed<F: FileSystem>(files: &mut F, memory: &Memory, node: u64) -> Answer
+    ensures { Came F.FileSystem files.old files.new (spec.tell_removed (known_of memory.now) node) result }
+{
+    match memory.removed(node) {
+        Some(removed) => tell_open(files, &removed, memory.open_at(node)),
+        None => Answer::Refused(Errno::ESTALE),
     }
+}
+
+/// The attributes of what has no name any more, and is open by a descriptor, or isn't.
+#[tactic(none)]
+fn tell_open<F: FileSystem>(files: &mut F, removed: &Removed, fd: Option<u32>) -> Answer
+    ensures { Came F.FileSystem files.old files.new (spec.tell_open removed.now fd) result }
+{
+    match fd {
+        Some(fd) => match ask_stat(files, Command::Fstat { fd }) {
+            Ok(now) => removed_told(removed, now.size),
+            Err(errno) => Answer::Refused(errno),
+        },
+        None => removed_told(removed, removed.stat.size),
+    }
+}
+
+/// What is told of an object that has no name any more, of this size.
+fn removed_told(removed: &Removed, size: u64) -> Answer
+    ensures { result ≡ spec.removed_told removed.now size }
+{
+    let stat = Stat {
+        size,
+        ..removed.stat
+    };
     let inode = u64::from(stat.number);
-    let parts = parts_of_size(stat.size);
+    let parts = parts_of_size(size);
     Answer::Attributes(attributes_of(inode, &stat, parts, removed.marks))
 }
 
 /// The text of a link.
-pub(crate) fn read_link<F: FileSystem>(alloc: Global, files: &mut F, number: u32) -> Answer {
+#[tactic(none)]
+pub(crate) fn read_link<F: FileSystem>(alloc: Global, files: &mut F, number: u32) -> Answer
+    ensures { Came F.FileSystem files.old files.new (spec.read_link number) result }
+{
     let Ok(path) = path_from(alloc, number, b"") else {
         return Answer::Refused(Errno::ENOMEM);
     };
@@ -137,13 +179,16 @@ pub(crate) const SEEK_DATA: u32 = 3;
 pub(crate) const SEEK_HOLE: u32 = 4;
 
 /// Where data or a hole begins in a file.
+#[tactic(none)]
 pub(crate) fn seek<F: FileSystem>(
     alloc: Global,
     files: &mut F,
     number: u32,
     offset: u64,
     whence: u32,
-) -> Answer {
+) -> Answer
+    ensures { Came F.FileSystem files.old files.new (spec.seek number offset whence) result }
+{
     let Ok(offset) = i64::try_from(offset) else {
         return Answer::NothingBehind;
     };
@@ -157,7 +202,9 @@ pub(crate) fn seek<F: FileSystem>(
 }
 
 /// The place that a seek asks for.
-fn found(extent: &Extent, whence: u32) -> Answer {
+fn found(extent: &Extent, whence: u32) -> Answer
+    ensures { result ≡ spec.found extent.now whence }
+{
     let place = match whence {
         SEEK_DATA => extent.data,
         SEEK_HOLE => extent.hole,
@@ -171,7 +218,10 @@ fn found(extent: &Extent, whence: u32) -> Answer {
 
 /// Sizes and counts of the whole file system. What was deleted counts as free behind a consistency
 /// point, so one is made first; where it is refused, the counts are those before it.
-pub(crate) fn tell_space<F: FileSystem>(files: &mut F) -> Answer {
+#[tactic(none)]
+pub(crate) fn tell_space<F: FileSystem>(files: &mut F) -> Answer
+    ensures { Came F.FileSystem files.old files.new (spec.tell_space) result }
+{
     let _ = ask_done(files, Command::Sync);
     match ask_usage(files, Command::Statfs) {
         Ok(usage) => {

@@ -1,5 +1,10 @@
 //! Requests that make objects and names.
 
+ghost use Rattle.std.specs.Prelude.{◌≡◌};
+ghost use Rattle.served.specs.Known.{known_of};
+ghost use Rattle.served.specs.Making as spec;
+ghost use Rattle.served.specs.Turns.{Came};
+
 use crate::answer::Answer;
 use crate::asking::{ask_descriptor, ask_done, ask_opened, ask_stat};
 use crate::attributes::{attributes_of, entry_of, parts_of_size};
@@ -45,27 +50,68 @@ fn prepare<F: FileSystem>(
     asker: Asker,
     parent: u32,
     name: &[u8],
-) -> Result<New, Errno> {
-    let Ok(path) = path_from(alloc, parent, name) else {
-        return Err(Errno::ENOMEM);
-    };
+) -> Result<New, Errno>
+    ensures { Came F.FileSystem files.old files.new (spec.prepare (known_of memory.now) asker parent name.now) (spec.placed result) }
+{
+    match path_from(alloc, parent, name) {
+        Ok(path) => prepare_at(alloc, files, memory, asker, parent, path),
+        Err(_) => Err(Errno::ENOMEM),
+    }
+}
+
+/// The same where the path is known.
+fn prepare_at<F: FileSystem>(
+    alloc: Global,
+    files: &mut F,
+    memory: &Memory,
+    asker: Asker,
+    parent: u32,
+    path: Vec<u8>,
+) -> Result<New, Errno>
+    ensures { Came F.FileSystem files.old files.new (spec.prepare_at (known_of memory.now) asker parent path.items) (spec.placed result) }
+{
     let Ok(directory) = path_from(alloc, parent, b"") else {
         return Err(Errno::ENOMEM);
     };
-    let stat = ask_stat(files, lstat(&directory))?;
-    let parent = files.handle_of(parent);
-    let inherits = stat.mode.bits() & SET_GROUP != 0;
+    match ask_stat(files, lstat(&directory)) {
+        Ok(stat) => {
+            let parent = files.handle_of(parent);
+            Ok(place_in(memory, asker, parent, path, stat.mode))
+        }
+        Err(errno) => Err(errno),
+    }
+}
+
+/// The place for what has a path in a directory of this mode.
+fn place_in(memory: &Memory, asker: Asker, parent: Handle, path: Vec<u8>, mode: Mode) -> New
+    ensures { spec.place_of result ≡ spec.place_in (known_of memory.now) asker parent path.items mode }
+{
+    let inherits = mode.bits() & SET_GROUP != 0;
     let gid = if inherits {
         memory.marks_of(parent).gid
     } else {
         asker.gid
     };
-    Ok(New {
+    New {
         parent,
         path,
         gid,
         inherits,
-    })
+    }
+}
+
+/// The names in a directory changed now.
+pub(crate) fn touch_directory(memory: &mut Memory, asker: Asker, directory: Handle)
+    ensures { known_of memory.new ≡ spec.touched (known_of memory.old) asker directory }
+{
+    memory.mark(directory, memory.marks_of(directory).written(asker.now));
+}
+
+/// What is told of an object changed now.
+pub(crate) fn mark_changed(memory: &mut Memory, asker: Asker, handle: Handle)
+    ensures { known_of memory.new ≡ spec.marked_changed (known_of memory.old) asker handle }
+{
+    memory.mark(handle, memory.marks_of(handle).changed(asker.now));
 }
 
 /// An object was made: its entry.
@@ -75,19 +121,22 @@ fn made<F: FileSystem>(
     asker: Asker,
     new: &New,
     stat: &Stat,
-) -> Entry {
+) -> Entry
+    ensures { Came F.FileSystem files.now files.now (spec.enters (known_of memory.old) asker (spec.place_of new.now) stat.now) (result, known_of memory.new) }
+{
     let handle = files.handle_of(stat.number);
     let marks = Marks::made(asker.uid, new.gid, asker.now);
     memory.mark(handle, marks);
-    let parent = memory.marks_of(new.parent).written(asker.now);
-    memory.mark(new.parent, parent);
+    touch_directory(memory, asker, new.parent);
     let parts = parts_of_size(stat.size);
     let told = attributes_of(u64::from(stat.number), stat, parts, marks);
     entry_of(node_of(handle), handle.generation, told)
 }
 
 /// Looks at what was made.
-fn tell_made<F: FileSystem>(files: &mut F, memory: &mut Memory, asker: Asker, new: &New) -> Answer {
+fn tell_made<F: FileSystem>(files: &mut F, memory: &mut Memory, asker: Asker, new: &New) -> Answer
+    ensures { Came F.FileSystem files.old files.new (spec.tell_made (known_of memory.old) asker (spec.place_of new.now)) (result, known_of memory.new) }
+{
     match ask_stat(files, lstat(&new.path)) {
         Ok(stat) => Answer::Entry(made(files, memory, asker, new, &stat)),
         Err(errno) => Answer::Refused(errno),
@@ -103,7 +152,9 @@ pub(crate) fn make_directory<F: FileSystem>(
     parent: u32,
     name: &[u8],
     mode: u32,
-) -> Answer {
+) -> Answer
+    ensures { Came F.FileSystem files.old files.new (spec.make_directory (known_of memory.old) asker parent name.now mode) (result, known_of memory.new) }
+{
     let new = match prepare(alloc, files, memory, asker, parent, name) {
         Ok(new) => new,
         Err(errno) => return Answer::Refused(errno),
@@ -116,7 +167,9 @@ pub(crate) fn make_directory<F: FileSystem>(
 }
 
 /// The mode of a new directory.
-fn directory_mode(mode: u32, inherits: bool) -> Mode {
+fn directory_mode(mode: u32, inherits: bool) -> Mode
+    ensures { result ≡ spec.directory_mode mode inherits }
+{
     let mode = mode_of(mode);
     if !inherits {
         return mode;
@@ -136,7 +189,9 @@ pub(crate) fn make_link<F: FileSystem>(
     parent: u32,
     name: &[u8],
     text: &[u8],
-) -> Answer {
+) -> Answer
+    ensures { Came F.FileSystem files.old files.new (spec.make_link (known_of memory.old) asker parent name.now text.now) (result, known_of memory.new) }
+{
     let new = match prepare(alloc, files, memory, asker, parent, name) {
         Ok(new) => new,
         Err(errno) => return Answer::Refused(errno),
@@ -157,7 +212,9 @@ pub(crate) fn create<F: FileSystem>(
     name: &[u8],
     mode: u32,
     flags: u32,
-) -> Answer {
+) -> Answer
+    ensures { Came F.FileSystem files.old files.new (spec.create (known_of memory.old) asker parent name.now mode flags) (result, known_of memory.new) }
+{
     let new = match prepare(alloc, files, memory, asker, parent, name) {
         Ok(new) => new,
         Err(errno) => return Answer::Refused(errno),
@@ -176,7 +233,9 @@ pub(crate) fn create<F: FileSystem>(
 }
 
 /// The reply for a descriptor: what the kernel has of the file's bytes holds on.
-pub(crate) fn opened(fd: u32) -> OpenReply {
+pub(crate) fn opened(fd: u32) -> OpenReply
+    ensures { result ≡ spec.opened fd }
+{
     OpenReply {
         handle: u64::from(fd),
         flags: FOPEN_KEEP_CACHE,
@@ -192,7 +251,9 @@ pub(crate) fn make_node<F: FileSystem>(
     parent: u32,
     name: &[u8],
     mode: u32,
-) -> Answer {
+) -> Answer
+    ensures { Came F.FileSystem files.old files.new (spec.make_node (known_of memory.old) asker parent name.now mode) (result, known_of memory.new) }
+{
     if mode & KIND_BITS != FILE_KIND {
         return Answer::Refused(Errno::EPERM);
     }
@@ -221,21 +282,52 @@ pub(crate) fn link<F: FileSystem>(
     file: Handle,
     parent: u32,
     name: &[u8],
-) -> Answer {
-    let Ok(path) = path_from(alloc, parent, name) else {
-        return Answer::Refused(Errno::ENOMEM);
-    };
+) -> Answer
+    ensures { Came F.FileSystem files.old files.new (spec.link (known_of memory.old) asker file parent name.now) (result, known_of memory.new) }
+{
+    match path_from(alloc, parent, name) {
+        Ok(path) => link_at(alloc, files, memory, asker, file, parent, &path),
+        Err(_) => Answer::Refused(Errno::ENOMEM),
+    }
+}
+
+/// The same where the path is known.
+fn link_at<F: FileSystem>(
+    alloc: Global,
+    files: &mut F,
+    memory: &mut Memory,
+    asker: Asker,
+    file: Handle,
+    parent: u32,
+    path: &[u8],
+) -> Answer
+    ensures { Came F.FileSystem files.old files.new (spec.link_at (known_of memory.old) asker file parent path.now) (result, known_of memory.new) }
+{
     let Ok(old) = path_from(alloc, file.number, b"") else {
         return Answer::Refused(Errno::ENOMEM);
     };
-    if let Err(errno) = ask_done(files, commands::link(&old, &path)) {
-        return Answer::Refused(errno);
+    match ask_done(files, commands::link(&old, path)) {
+        Ok(()) => tell_linked(files, memory, asker, file, parent, &old),
+        Err(errno) => Answer::Refused(errno),
     }
-    memory.mark(file, memory.marks_of(file).changed(asker.now));
-    let parent = files.handle_of(parent);
-    memory.mark(parent, memory.marks_of(parent).written(asker.now));
-    match ask_stat(files, lstat(&old)) {
-        Ok(stat) => tell_entry(files, memory, &old, &stat),
+}
+
+/// A file got one more name: it is looked at.
+fn tell_linked<F: FileSystem>(
+    files: &mut F,
+    memory: &mut Memory,
+    asker: Asker,
+    file: Handle,
+    parent: u32,
+    old: &[u8],
+) -> Answer
+    ensures { Came F.FileSystem files.old files.new (spec.tell_linked (known_of memory.old) asker file parent old.now) (result, known_of memory.new) }
+{
+    mark_changed(memory, asker, file);
+    let directory = files.handle_of(parent);
+    touch_directory(memory, asker, directory);
+    match ask_stat(files, lstat(old)) {
+        Ok(stat) => tell_entry(files, memory, old, &stat),
         Err(errno) => Answer::Refused(errno),
     }
 }
@@ -247,7 +339,9 @@ pub(crate) fn open<F: FileSystem>(
     memory: &mut Memory,
     node: u64,
     number: u32,
-) -> Answer {
+) -> Answer
+    ensures { Came F.FileSystem files.old files.new (spec.open_file (known_of memory.old) node number) (result, known_of memory.new) }
+{
     let Ok(path) = path_from(alloc, number, b"") else {
         return Answer::Refused(Errno::ENOMEM);
     };

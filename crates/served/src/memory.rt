@@ -1,6 +1,6 @@
 //! What the server knows beside the file system, as long as the folder is mounted.
 
-ghost use Rattle.std.specs.Prelude.{◌≡◌, ◌≤◌, ℕ, IfOk, MatchOption, Option, OnErr, OnOk};
+ghost use Rattle.std.specs.Prelude.{◌≡◌, ◌≤◌, ℕ, length, IfOk, MatchOption, Option, OnErr, OnOk};
 
 use crate::marks::Marks;
 use crate::node::GREATEST_TOLD;
@@ -46,6 +46,7 @@ pub(crate) struct Memory {
     pub(crate) snapshots: Vec<Snapshot>,
     /// The id of the next snapshot.
     next_id: u32,
+    ghost few: { length open_at.items ≤ 4294967296 },
 }
 
 impl Memory {
@@ -54,7 +55,9 @@ impl Memory {
     ghost use Rattle.model.specs.declared.limits.TheConstants.{OPEN_FILES};
 
     /// Of a file system of so many numbers, of which nothing was touched.
-    pub(crate) fn new(alloc: Global, numbers: u32, first: Marks) -> Result<Memory, AllocError> {
+    pub(crate) fn new(alloc: Global, numbers: u32, first: Marks) -> Result<Memory, AllocError>
+        ensures { IfOk result (λ m. known_of m ≡ nothing_known numbers OPEN_FILES first) }
+    {
         let untouched = Marked {
             generation: 0,
             marks: first,
@@ -110,10 +113,12 @@ impl Memory {
     }
 
     /// A descriptor that is open at a node, the least one.
-    pub(crate) fn open_at(&self, node: u64) -> Option<u32> {
+    pub(crate) fn open_at(&self, node: u64) -> Option<u32>
+        ensures { IsOpenAt (known_of self.now) node result }
+    {
         for (fd, at) in self.open_at.iter().enumerate() {
             if *at == node {
-                return u32::try_from(fd).ok();
+                return Some(fd as u32);
             }
         }
         None
@@ -146,7 +151,9 @@ impl Memory {
     }
 
     /// The snapshot with an id, if there is one.
-    pub(crate) fn snapshot_by_id(&self, id: u32) -> Option<&Snapshot> {
+    pub(crate) fn snapshot_by_id(&self, id: u32) -> Option<&Snapshot>
+        ensures { FindsId (known_of self.now) id (option_map (λ s. seen_of s.now) result) }
+    {
         for snapshot in self.snapshots.iter() {
             if snapshot.id == id {
                 return Some(snapshot);
@@ -156,7 +163,9 @@ impl Memory {
     }
 
     /// The snapshot with a name, if there is one.
-    pub(crate) fn snapshot_by_name(&self, name: &[u8]) -> Option<&Snapshot> {
+    pub(crate) fn snapshot_by_name(&self, name: &[u8]) -> Option<&Snapshot>
+        ensures { FindsName (known_of self.now) name.now (option_map (λ s. seen_of s.now) result) }
+    {
         for snapshot in self.snapshots.iter() {
             if snapshot.name.as_slice() == name {
                 return Some(snapshot);
@@ -185,7 +194,9 @@ impl Memory {
     }
 
     /// There is no snapshot of this name any more.
-    pub(crate) fn drop_snapshot(&mut self, name: &[u8]) {
+    pub(crate) fn drop_snapshot(&mut self, name: &[u8])
+        ensures { known_of self.new ≡ without_snapshot name.now (known_of self.old) }
+    {
         self.snapshots
             .retain(|snapshot| snapshot.name.as_slice() != name);
     }

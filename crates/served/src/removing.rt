@@ -1,36 +1,54 @@
 //! Requests that take names away or move them.
 
+ghost use Rattle.std.specs.Prelude.{◌≡◌, OnErr, OnOk};
+ghost use Rattle.model.specs.declared.reply.Reply.{Reply};
+ghost use Rattle.served.specs.Commands.{lstat};
+ghost use Rattle.served.specs.Known.{known_of};
+ghost use Rattle.served.specs.Removing as spec;
+ghost use Rattle.served.specs.Turns.{Came, asks};
+
 use crate::answer::Answer;
 use crate::asking::{ask_done, ask_stat};
 use crate::attributes::is_file;
 use crate::commands::{lstat, moving, removing};
+use crate::making::{mark_changed, touch_directory};
 use crate::marks::Asker;
 use crate::memory::{Memory, Removed};
 use crate::node::node_of;
 use file_system::{FileSystem, Handle, path_from};
 use model::{Errno, Stat};
-use std::alloc::Global;
+use std::alloc::{AllocError, Global};
 
 /// Looks at what has a path.
-fn look_at<F: FileSystem>(files: &mut F, path: &[u8]) -> Result<Stat, Errno> {
+fn look_at<F: FileSystem>(files: &mut F, path: &[u8]) -> Result<Stat, Errno>
+    ensures { Came F.FileSystem files.old files.new (asks Reply.Stat (lstat path.now)) result }
+{
     ask_stat(files, lstat(path))
 }
 
 /// Whether an object goes with one of its names.
-fn goes_with_name(stat: &Stat) -> bool {
+fn goes_with_name(stat: &Stat) -> bool
+    ensures { result ≡ spec.goes_with_name stat.now }
+{
     !is_file(stat.kind) || stat.links <= 1
 }
 
 /// Remembers an object whose last name is about to go, since the kernel may know it for longer.
-fn remember(memory: &mut Memory, asker: Asker, handle: Handle, stat: &Stat) -> Result<(), Errno> {
+fn remember(
+    memory: &mut Memory,
+    asker: Asker,
+    handle: Handle,
+    stat: &Stat,
+) -> Result<(), AllocError>
+    ensures ok { OnOk result
+        (known_of memory.new ≡ spec.remembered (known_of memory.old) asker handle stat.now) }
+    ensures err { OnErr result (known_of memory.new ≡ known_of memory.old) }
+{
     let removed = Removed {
         stat: Stat { links: 0, ..*stat },
         marks: memory.marks_of(handle).changed(asker.now),
     };
-    match memory.note_removed(node_of(handle), removed) {
-        Ok(()) => Ok(()),
-        Err(_) => Err(Errno::ENOMEM),
-    }
+    memory.note_removed(node_of(handle), removed)
 }
 
 /// Takes a name away, of a directory or of something else.
@@ -42,38 +60,103 @@ pub(crate) fn remove<F: FileSystem>(
     parent: u32,
     name: &[u8],
     is_directory: bool,
-) -> Answer {
+) -> Answer
+    ensures { Came F.FileSystem files.old files.new (spec.remove (known_of memory.old) asker parent name.now is_directory) (result, known_of memory.new) }
+{
     let Ok(path) = path_from(alloc, parent, name) else {
         return Answer::Refused(Errno::ENOMEM);
     };
-    let stat = match look_at(files, &path) {
-        Ok(stat) => stat,
-        Err(errno) => return Answer::Refused(errno),
-    };
+    match look_at(files, &path) {
+        Ok(stat) => remove_seen(files, memory, asker, parent, &path, is_directory, &stat),
+        Err(errno) => Answer::Refused(errno),
+    }
+}
+
+/// The same of an object that was looked at.
+fn remove_seen<F: FileSystem>(
+    files: &mut F,
+    memory: &mut Memory,
+    asker: Asker,
+    parent: u32,
+    path: &[u8],
+    is_directory: bool,
+    stat: &Stat,
+) -> Answer
+    ensures { Came F.FileSystem files.old files.new (spec.remove_seen (known_of memory.old) asker parent path.now is_directory stat.now) (result, known_of memory.new) }
+{
     let handle = files.handle_of(stat.number);
-    let goes = goes_with_name(&stat);
-    if goes {
-        if let Err(errno) = remember(memory, asker, handle, &stat) {
-            return Answer::Refused(errno);
-        }
+    if goes_with_name(stat) {
+        remove_last(
+            files,
+            memory,
+            asker,
+            parent,
+            path,
+            is_directory,
+            handle,
+            stat,
+        )
+    } else {
+        remove_one(files, memory, asker, parent, path, is_directory, handle)
     }
-    if let Err(errno) = ask_done(files, removing(&path, is_directory)) {
-        if goes {
+}
+
+/// The same of an object that goes by that: it is remembered first.
+fn remove_last<F: FileSystem>(
+    files: &mut F,
+    memory: &mut Memory,
+    asker: Asker,
+    parent: u32,
+    path: &[u8],
+    is_directory: bool,
+    handle: Handle,
+    stat: &Stat,
+) -> Answer
+    ensures { Came F.FileSystem files.old files.new (spec.remove_last (known_of memory.old) asker parent path.now is_directory handle stat.now) (result, known_of memory.new) }
+{
+    let Ok(()) = remember(memory, asker, handle, stat) else {
+        return Answer::Refused(Errno::ENOMEM);
+    };
+    match ask_done(files, removing(path, is_directory)) {
+        Ok(()) => {
+            touch(files, memory, asker, parent);
+            Answer::Done
+        }
+        Err(errno) => {
             memory.forget(node_of(handle));
+            Answer::Refused(errno)
         }
-        return Answer::Refused(errno);
     }
-    if !goes {
-        memory.mark(handle, memory.marks_of(handle).changed(asker.now));
+}
+
+/// The same of an object that has other names.
+fn remove_one<F: FileSystem>(
+    files: &mut F,
+    memory: &mut Memory,
+    asker: Asker,
+    parent: u32,
+    path: &[u8],
+    is_directory: bool,
+    handle: Handle,
+) -> Answer
+    ensures { Came F.FileSystem files.old files.new (spec.remove_one (known_of memory.old) asker parent path.now is_directory handle) (result, known_of memory.new) }
+{
+    match ask_done(files, removing(path, is_directory)) {
+        Ok(()) => {
+            mark_changed(memory, asker, handle);
+            touch(files, memory, asker, parent);
+            Answer::Done
+        }
+        Err(errno) => Answer::Refused(errno),
     }
-    touch(files, memory, asker, parent);
-    Answer::Done
 }
 
 /// The names in a directory changed.
-fn touch<F: FileSystem>(files: &F, memory: &mut Memory, asker: Asker, parent: u32) {
-    let handle = files.handle_of(parent);
-    memory.mark(handle, memory.marks_of(handle).written(asker.now));
+fn touch<F: FileSystem>(files: &F, memory: &mut Memory, asker: Asker, parent: u32)
+    ensures { Came F.FileSystem files.now files.now (spec.touches (known_of memory.old) asker parent) (known_of memory.new) }
+{
+    let directory = files.handle_of(parent);
+    touch_directory(memory, asker, directory);
 }
 
 /// `renameat2` is to move only where nothing has the new name.
@@ -84,20 +167,30 @@ fn replaced<F: FileSystem>(
     files: &mut F,
     moved: &Stat,
     new_path: &[u8],
-) -> Result<Option<Stat>, Errno> {
-    let stat = match look_at(files, new_path) {
-        Ok(stat) => stat,
-        Err(errno) => return missing_or(errno),
-    };
-    if stat.number != moved.number && goes_with_name(&stat) {
-        Ok(Some(stat))
+) -> Result<Option<Stat>, Errno>
+    ensures { Came F.FileSystem files.old files.new (spec.replaced moved.now new_path.now) result }
+{
+    match look_at(files, new_path) {
+        Ok(stat) => Ok(gone_by(moved, &stat)),
+        Err(errno) => missing_or(errno),
+    }
+}
+
+/// This object, if it goes by the other one's getting its name.
+fn gone_by(moved: &Stat, stat: &Stat) -> Option<Stat>
+    ensures { result ≡ spec.gone_by moved.now stat.now }
+{
+    if stat.number != moved.number && goes_with_name(stat) {
+        Some(*stat)
     } else {
-        Ok(None)
+        None
     }
 }
 
 /// Nothing is there where a name is missing.
-fn missing_or(errno: Errno) -> Result<Option<Stat>, Errno> {
+fn missing_or(errno: Errno) -> Result<Option<Stat>, Errno>
+    ensures { result ≡ spec.missing_or errno }
+{
     match errno {
         Errno::ENOENT => Ok(None),
         _ => Err(errno),
@@ -115,39 +208,141 @@ pub(crate) fn rename<F: FileSystem>(
     new_parent: u32,
     new_name: &[u8],
     flags: u32,
-) -> Answer {
+) -> Answer
+    ensures { Came F.FileSystem files.old files.new (spec.rename (known_of memory.old) asker parent name.now new_parent new_name.now flags) (result, known_of memory.new) }
+{
     if flags > NO_REPLACE {
         return Answer::Refused(Errno::EINVAL);
     }
-    let Ok(path) = path_from(alloc, parent, name) else {
-        return Answer::Refused(Errno::ENOMEM);
-    };
+    match path_from(alloc, parent, name) {
+        Ok(path) => rename_from(
+            alloc, files, memory, asker, parent, new_parent, new_name, flags, &path,
+        ),
+        Err(_) => Answer::Refused(Errno::ENOMEM),
+    }
+}
+
+/// The same where the path is known.
+fn rename_from<F: FileSystem>(
+    alloc: Global,
+    files: &mut F,
+    memory: &mut Memory,
+    asker: Asker,
+    parent: u32,
+    new_parent: u32,
+    new_name: &[u8],
+    flags: u32,
+    path: &[u8],
+) -> Answer
+    ensures { Came F.FileSystem files.old files.new (spec.rename_from (known_of memory.old) asker parent new_parent new_name.now flags path.now) (result, known_of memory.new) }
+{
     let Ok(new_path) = path_from(alloc, new_parent, new_name) else {
         return Answer::Refused(Errno::ENOMEM);
     };
-    let moved = match look_at(files, &path) {
-        Ok(stat) => stat,
+    match look_at(files, path) {
+        Ok(moved) => rename_seen(
+            files, memory, asker, &moved, parent, new_parent, flags, path, &new_path,
+        ),
+        Err(errno) => Answer::Refused(errno),
+    }
+}
+
+/// The same of an object that was looked at.
+fn rename_seen<F: FileSystem>(
+    files: &mut F,
+    memory: &mut Memory,
+    asker: Asker,
+    moved: &Stat,
+    parent: u32,
+    new_parent: u32,
+    flags: u32,
+    path: &[u8],
+    new_path: &[u8],
+) -> Answer
+    ensures { Came F.FileSystem files.old files.new (spec.rename_seen (known_of memory.old) asker moved.now parent new_parent flags path.now new_path.now) (result, known_of memory.new) }
+{
+    let over = match replaced(files, moved, new_path) {
+        Ok(over) => over,
         Err(errno) => return Answer::Refused(errno),
     };
-    let gone = match replaced(files, &moved, &new_path) {
-        Ok(gone) => gone,
-        Err(errno) => return Answer::Refused(errno),
+    match over {
+        None => move_name(
+            files, memory, asker, moved, parent, new_parent, flags, path, new_path,
+        ),
+        Some(stat) => move_over(
+            files, memory, asker, &stat, moved, parent, new_parent, flags, path, new_path,
+        ),
+    }
+}
+
+/// Moves a name where nothing goes by that.
+fn move_name<F: FileSystem>(
+    files: &mut F,
+    memory: &mut Memory,
+    asker: Asker,
+    moved: &Stat,
+    parent: u32,
+    new_parent: u32,
+    flags: u32,
+    path: &[u8],
+    new_path: &[u8],
+) -> Answer
+    ensures { Came F.FileSystem files.old files.new (spec.moves (known_of memory.old) asker moved.now parent new_parent flags path.now new_path.now) (result, known_of memory.new) }
+{
+    match ask_done(files, moving(flags, path, new_path)) {
+        Ok(()) => {
+            mark_moved(files, memory, asker, moved, parent, new_parent);
+            Answer::Done
+        }
+        Err(errno) => Answer::Refused(errno),
+    }
+}
+
+/// Moves a name over an object that goes by that: it is remembered first.
+fn move_over<F: FileSystem>(
+    files: &mut F,
+    memory: &mut Memory,
+    asker: Asker,
+    over: &Stat,
+    moved: &Stat,
+    parent: u32,
+    new_parent: u32,
+    flags: u32,
+    path: &[u8],
+    new_path: &[u8],
+) -> Answer
+    ensures { Came F.FileSystem files.old files.new (spec.moves_over (known_of memory.old) asker over.now moved.now parent new_parent flags path.now new_path.now) (result, known_of memory.new) }
+{
+    let handle = files.handle_of(over.number);
+    let Ok(()) = remember(memory, asker, handle, over) else {
+        return Answer::Refused(Errno::ENOMEM);
     };
-    if let Some(stat) = &gone {
-        let handle = files.handle_of(stat.number);
-        if let Err(errno) = remember(memory, asker, handle, stat) {
-            return Answer::Refused(errno);
+    match ask_done(files, moving(flags, path, new_path)) {
+        Ok(()) => {
+            mark_moved(files, memory, asker, moved, parent, new_parent);
+            Answer::Done
+        }
+        Err(errno) => {
+            let still = files.handle_of(over.number);
+            memory.forget(node_of(still));
+            Answer::Refused(errno)
         }
     }
-    if let Err(errno) = ask_done(files, moving(flags, &path, &new_path)) {
-        if let Some(stat) = &gone {
-            memory.forget(node_of(files.handle_of(stat.number)));
-        }
-        return Answer::Refused(errno);
-    }
+}
+
+/// Marks what moved, and both directories.
+fn mark_moved<F: FileSystem>(
+    files: &F,
+    memory: &mut Memory,
+    asker: Asker,
+    moved: &Stat,
+    parent: u32,
+    new_parent: u32,
+)
+    ensures { Came F.FileSystem files.now files.now (spec.marks_moved (known_of memory.old) asker moved.now parent new_parent) (known_of memory.new) }
+{
     let handle = files.handle_of(moved.number);
-    memory.mark(handle, memory.marks_of(handle).changed(asker.now));
+    mark_changed(memory, asker, handle);
     touch(files, memory, asker, parent);
     touch(files, memory, asker, new_parent);
-    Answer::Done
 }

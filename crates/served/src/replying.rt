@@ -1,5 +1,8 @@
 //! An answer as the kernel reads it.
 
+ghost use Rattle.std.specs.Prelude.{◌≡◌, ◌++◌, OnErr, OnOk};
+ghost use Rattle.served.specs.Replying.{bytes_spelled, spelled};
+
 use crate::answer::Answer;
 use crate::errno::{ENOSYS, ENXIO, EPROTO, linux_number};
 use crate::numbers::FOREVER;
@@ -15,7 +18,10 @@ pub(crate) fn write_answer(
     out: &mut Vec<u8>,
     unique: u64,
     answer: &Answer,
-) -> Result<(), AllocError> {
+) -> Result<(), AllocError>
+    ensures ok { OnOk result (out.new.items ≡ out.old.items ++ spelled unique answer.now) }
+    ensures err { OnErr result (out.new.items ≡ out.old.items) }
+{
     match answer {
         Answer::Silent => Ok(()),
         Answer::Done => write_done(out, unique),
@@ -37,7 +43,10 @@ pub(crate) fn write_answer(
 }
 
 /// Writes bytes, if they fit a reply.
-fn write_text(out: &mut Vec<u8>, unique: u64, bytes: &[u8]) -> Result<(), AllocError> {
+fn write_text(out: &mut Vec<u8>, unique: u64, bytes: &[u8]) -> Result<(), AllocError>
+    ensures ok { OnOk result (out.new.items ≡ out.old.items ++ bytes_spelled unique bytes.now) }
+    ensures err { OnErr result (out.new.items ≡ out.old.items) }
+{
     if bytes.len() < MOST_REPLY {
         write_bytes(out, unique, bytes)
     } else {

@@ -1,5 +1,9 @@
 //! The loop over requests: each is answered before the next is read.
 
+ghost use Rattle.std.specs.Prelude.{◌≡◌, ◌++◌, List, ℕ, OnErr, OnOk};
+ghost use Rattle.served.specs.Known.{known_of};
+ghost use Rattle.served.specs.Serving.{IsAnswered, refused_text};
+
 use crate::answer::Answer;
 use crate::answering::answer;
 use crate::marks::{Asker, Marks};
@@ -117,6 +121,7 @@ fn answer_all<F: FileSystem, K: Channel, C: Clock>(
 
 /// Writes the reply to a request. One that is no request is refused where its head tells its
 /// number, and else has no reply.
+#[tactic(none)]
 fn answer_request<F: FileSystem>(
     alloc: Global,
     files: &mut F,
@@ -124,7 +129,12 @@ fn answer_request<F: FileSystem>(
     now: Time,
     bytes: &[u8],
     out: &mut Vec<u8>,
-) -> Result<(), AllocError> {
+) -> Result<(), AllocError>
+    ensures { (reply : List ℕ)
+        × IsAnswered F.FileSystem files.old files.new (known_of memory.old) (known_of memory.new) now bytes.now reply
+        × OnOk result (out.new.items ≡ out.old.items ++ reply)
+        × OnErr result (out.new.items ≡ out.old.items) }
+{
     match read_request(bytes) {
         Some(request) => {
             let asker = Asker {
@@ -135,11 +145,17 @@ fn answer_request<F: FileSystem>(
             let answer = answer(alloc, files, memory, asker, &request);
             write_answer(out, request.head.unique, &answer)
         }
-        None => match read_head(bytes) {
-            Some((head, _, _)) => {
-                write_answer(out, head.unique, &Answer::Refused(Errno::EINVAL))
-            }
-            None => Ok(()),
-        },
+        None => refuse(bytes, out),
+    }
+}
+
+/// Refuses what is no request.
+fn refuse(bytes: &[u8], out: &mut Vec<u8>) -> Result<(), AllocError>
+    ensures ok { OnOk result (out.new.items ≡ out.old.items ++ refused_text bytes.now) }
+    ensures err { OnErr result (out.new.items ≡ out.old.items) }
+{
+    match read_head(bytes) {
+        Some((head, _, _)) => write_answer(out, head.unique, &Answer::Refused(Errno::EINVAL)),
+        None => Ok(()),
     }
 }

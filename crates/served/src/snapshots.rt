@@ -1,5 +1,12 @@
 //! Requests of the folder of snapshots, and of what stands in them.
 
+ghost use Rattle.std.specs.Prelude.{◌≡◌, OnErr, OnOk};
+ghost use Rattle.served.specs.Known.{known_of, seen_of, with_snapshot};
+ghost use Rattle.served.specs.Listing.{TellsSnapshots, list, within};
+ghost use Rattle.served.specs.Snapshots as spec;
+ghost use Rattle.served.specs.Turns.{Came};
+ghost use Rattle.served.specs.declared.node.TheConstants.{SNAPSHOTS_NODE};
+
 use crate::answer::Answer;
 use crate::asking::{ask_done, ask_snapshots, ask_stat, ask_text};
 use crate::attributes::{attributes_of, entry_of, parts_of_size};
@@ -11,7 +18,7 @@ use crate::node::{SNAPSHOTS_NODE, node_within};
 use file_system::{FileSystem, path_from};
 use fuse::{Attributes, OpenReply};
 use model::{Command, Errno, FileType, Mode, ROOT_NUMBER, Stat};
-use std::alloc::Global;
+use std::alloc::{AllocError, Global};
 
 /// The name of the folder in the root.
 pub(crate) const SNAPSHOTS_NAME: &[u8] = b".snapshot";
@@ -24,8 +31,7 @@ pub(crate) fn learn_snapshots<F: FileSystem>(
 ) -> Result<(), Errno> {
     let names = ask_snapshots(files, Command::SnapList)?;
     for name in names.as_slice() {
-        let mut own = Vec::new(alloc);
-        if own.extend_from_slice(name).is_err() || memory.add_snapshot(own).is_err() {
+        if note(alloc, memory, name).is_err() {
             return Err(Errno::ENOMEM);
         }
     }
@@ -33,7 +39,9 @@ pub(crate) fn learn_snapshots<F: FileSystem>(
 }
 
 /// The attributes of the folder of snapshots.
-pub(crate) fn snapshots_attributes(memory: &Memory) -> Attributes {
+pub(crate) fn snapshots_attributes(memory: &Memory) -> Attributes
+    ensures { result ≡ spec.snapshots_attributes (known_of memory.now) }
+{
     let stat = Stat {
         number: 2,
         kind: FileType::Dir,
@@ -45,23 +53,30 @@ pub(crate) fn snapshots_attributes(memory: &Memory) -> Attributes {
 }
 
 /// The entry of the folder of snapshots.
-pub(crate) fn snapshots_entry(memory: &Memory) -> Answer {
+pub(crate) fn snapshots_entry(memory: &Memory) -> Answer
+    ensures { result ≡ spec.snapshots_entry (known_of memory.now) }
+{
     Answer::Entry(entry_of(SNAPSHOTS_NODE, 0, snapshots_attributes(memory)))
 }
 
 /// What is told of an object in a snapshot.
-fn attributes_within(memory: &Memory, snapshot: &Snapshot, stat: &Stat) -> Attributes {
+fn attributes_within(memory: &Memory, snapshot: &Snapshot, stat: &Stat) -> Attributes
+    ensures { result ≡ spec.attributes_within (known_of memory.now) snapshot.now.id stat.now }
+{
     let node = node_within(snapshot.id, stat.number);
     attributes_of(node, stat, parts_of_size(stat.size), memory.first())
 }
 
 /// The entry of an object in a snapshot.
-fn entry_within(memory: &Memory, snapshot: &Snapshot, stat: &Stat) -> Answer {
+fn entry_within(memory: &Memory, snapshot: &Snapshot, stat: &Stat) -> Answer
+    ensures { result ≡ spec.entry_within (known_of memory.now) snapshot.now.id stat.now }
+{
     let node = node_within(snapshot.id, stat.number);
     Answer::Entry(entry_of(node, 0, attributes_within(memory, snapshot, stat)))
 }
 
 /// What has a name in the directory of a number, in a snapshot.
+#[tactic(none)]
 pub(crate) fn look_up_within<F: FileSystem>(
     alloc: Global,
     files: &mut F,
@@ -69,7 +84,9 @@ pub(crate) fn look_up_within<F: FileSystem>(
     snapshot: &Snapshot,
     parent: u32,
     name: &[u8],
-) -> Answer {
+) -> Answer
+    ensures { Came F.FileSystem files.old files.new (spec.look_up_within (known_of memory.now) (seen_of snapshot.now) parent name.now) result }
+{
     let Ok(path) = path_from(alloc, parent, name) else {
         return Answer::Refused(Errno::ENOMEM);
     };
@@ -80,12 +97,15 @@ pub(crate) fn look_up_within<F: FileSystem>(
 }
 
 /// The snapshot of a name: its root.
+#[tactic(none)]
 pub(crate) fn look_up_snapshot<F: FileSystem>(
     alloc: Global,
     files: &mut F,
     memory: &Memory,
     name: &[u8],
-) -> Answer {
+) -> Answer
+    ensures { Came F.FileSystem files.old files.new (spec.look_up_snapshot (known_of memory.now) name.now) result }
+{
     match memory.snapshot_by_name(name) {
         Some(snapshot) => look_up_within(alloc, files, memory, snapshot, ROOT_NUMBER, b""),
         None => Answer::NoEntry,
@@ -93,13 +113,16 @@ pub(crate) fn look_up_snapshot<F: FileSystem>(
 }
 
 /// The attributes of an object in a snapshot.
+#[tactic(none)]
 pub(crate) fn tell_attributes_within<F: FileSystem>(
     alloc: Global,
     files: &mut F,
     memory: &Memory,
     snapshot: &Snapshot,
     number: u32,
-) -> Answer {
+) -> Answer
+    ensures { Came F.FileSystem files.old files.new (spec.tell_attributes_within (known_of memory.now) (seen_of snapshot.now) number) result }
+{
     let Ok(path) = path_from(alloc, number, b"") else {
         return Answer::Refused(Errno::ENOMEM);
     };
@@ -110,12 +133,15 @@ pub(crate) fn tell_attributes_within<F: FileSystem>(
 }
 
 /// The text of a link in a snapshot.
+#[tactic(none)]
 pub(crate) fn read_link_within<F: FileSystem>(
     alloc: Global,
     files: &mut F,
     snapshot: &Snapshot,
     number: u32,
-) -> Answer {
+) -> Answer
+    ensures { Came F.FileSystem files.old files.new (spec.read_link_within (seen_of snapshot.now) number) result }
+{
     let Ok(path) = path_from(alloc, number, b"") else {
         return Answer::Refused(Errno::ENOMEM);
     };
@@ -133,30 +159,63 @@ pub(crate) fn list_within<F: FileSystem>(
     snapshot: &Snapshot,
     number: u32,
     part: Part,
-) -> Answer {
+) -> Answer
+    ensures { Came F.FileSystem files.old files.new
+        (list (known_of memory.now) (within (seen_of snapshot.now) (known_of memory.now).first) number part) result }
+{
     let tree = Tree::Within(snapshot, memory.first());
     list(alloc, files, memory, tree, number, part)
 }
 
 /// Tells a part of the snapshots.
-pub(crate) fn list_all(alloc: Global, memory: &Memory, part: Part) -> Answer {
+pub(crate) fn list_all(alloc: Global, memory: &Memory, part: Part) -> Answer
+    ensures { TellsSnapshots (known_of memory.now) SNAPSHOTS_NODE part result }
+{
     list_snapshots(alloc, memory, SNAPSHOTS_NODE, part)
 }
 
 /// Takes a snapshot.
+#[tactic(none)]
 pub(crate) fn take<F: FileSystem>(
     alloc: Global,
     files: &mut F,
     memory: &mut Memory,
     name: &[u8],
-) -> Answer {
+) -> Answer
+    ensures { Came F.FileSystem files.old files.new (spec.take_snapshot (known_of memory.old) name.now)
+        (result, known_of memory.new) }
+{
     if memory.snapshot_by_name(name).is_some() {
         return Answer::Refused(Errno::EEXIST);
     }
-    let mut own = Vec::new(alloc);
-    if own.extend_from_slice(name).is_err() || memory.add_snapshot(own).is_err() {
-        return Answer::Refused(Errno::ENOMEM);
+    match note(alloc, memory, name) {
+        Ok(()) => take_noted(alloc, files, memory, name),
+        Err(_) => Answer::Refused(Errno::ENOMEM),
     }
+}
+
+/// Notes a snapshot more, of this name.
+fn note(alloc: Global, memory: &mut Memory, name: &[u8]) -> Result<(), AllocError>
+    ensures ok { OnOk result
+        (known_of memory.new ≡ with_snapshot name.now (known_of memory.old)) }
+    ensures err { OnErr result (known_of memory.new ≡ known_of memory.old) }
+{
+    let mut own = Vec::new(alloc);
+    own.extend_from_slice(name)?;
+    memory.add_snapshot(own)
+}
+
+/// Takes a snapshot that is noted already.
+#[tactic(none)]
+fn take_noted<F: FileSystem>(
+    alloc: Global,
+    files: &mut F,
+    memory: &mut Memory,
+    name: &[u8],
+) -> Answer
+    ensures { Came F.FileSystem files.old files.new (spec.take_noted (known_of memory.old) name.now)
+        (result, known_of memory.new) }
+{
     match ask_done(files, snap_take(name)) {
         Ok(()) => look_up_snapshot(alloc, files, memory, name),
         Err(errno) => {
@@ -167,7 +226,11 @@ pub(crate) fn take<F: FileSystem>(
 }
 
 /// Deletes a snapshot. A later one of its name has other nodes.
-pub(crate) fn delete<F: FileSystem>(files: &mut F, memory: &mut Memory, name: &[u8]) -> Answer {
+#[tactic(none)]
+pub(crate) fn delete<F: FileSystem>(files: &mut F, memory: &mut Memory, name: &[u8]) -> Answer
+    ensures { Came F.FileSystem files.old files.new (spec.delete (known_of memory.old) name.now)
+        (result, known_of memory.new) }
+{
     match ask_done(files, snap_delete(name)) {
         Ok(()) => {
             memory.drop_snapshot(name);
@@ -181,7 +244,9 @@ pub(crate) fn delete<F: FileSystem>(files: &mut F, memory: &mut Memory, name: &[
 const ACCESS_BITS: u32 = 3;
 
 /// Opens a file in a snapshot, for reading alone.
-pub(crate) fn open_within(flags: u32) -> Answer {
+pub(crate) fn open_within(flags: u32) -> Answer
+    ensures { result ≡ spec.open_within flags }
+{
     if flags & ACCESS_BITS != 0 {
         return Answer::Refused(Errno::EROFS);
     }
