@@ -17,13 +17,11 @@ impl<S: Station> Fs<S> {
         ensures { AppliesCommand self.old self.new (Command.Open path.now flags mode OPEN_FILES)
             (reply_of Reply.Fd result) }
     {
-        let path = Bytes::of(path);
-        let below = OPEN_FILES;
-        self.apply_for_descriptor(&Command::Open {
-            path,
+        self.apply_for_descriptor(Command::Open {
+            path: Bytes::of(path),
             flags,
             mode,
-            below,
+            below: OPEN_FILES,
         })
     }
 
@@ -32,13 +30,11 @@ impl<S: Station> Fs<S> {
         ensures { AppliesCommand self.old self.new (Command.OpenStat path.now flags mode OPEN_FILES)
             (reply_of opened_reply result) }
     {
-        let path = Bytes::of(path);
-        let below = OPEN_FILES;
-        self.apply_for_opened(&Command::OpenStat {
-            path,
+        self.apply_for_opened(Command::OpenStat {
+            path: Bytes::of(path),
             flags,
             mode,
-            below,
+            below: OPEN_FILES,
         })
     }
 
@@ -46,7 +42,7 @@ impl<S: Station> Fs<S> {
     pub fn close(&mut self, fd: u32) -> Result<(), Errno>
         ensures { AppliesCommand self.old self.new (Command.Close fd) (reply_of done_reply result) }
     {
-        self.apply_for_done(&Command::Close { fd })
+        self.apply_for_done(Command::Close { fd })
     }
 
     /// `read`: so many bytes from the offset on, as far as there are; the offset moves past them.
@@ -55,7 +51,7 @@ impl<S: Station> Fs<S> {
         ensures { AppliesCommand self.old self.new (Command.Read fd count)
             (reply_of Reply.Data result) }
     {
-        self.apply_for_data(&Command::Read { fd, count })
+        self.apply_for_data(Command::Read { fd, count })
     }
 
     /// `write`: puts bytes at the offset, or behind the last byte, and tells how many. EINVAL of
@@ -64,8 +60,10 @@ impl<S: Station> Fs<S> {
         ensures { AppliesCommand self.old self.new (Command.Write fd bytes.now)
             (reply_of Reply.Wrote result) }
     {
-        let data = Bytes::of(bytes);
-        self.apply_for_written(&Command::Write { fd, data })
+        self.apply_for_written(Command::Write {
+            fd,
+            data: Bytes::of(bytes),
+        })
     }
 
     /// `pread`: bytes from another place on; the offset stays.
@@ -73,7 +71,7 @@ impl<S: Station> Fs<S> {
         ensures { AppliesCommand self.old self.new (Command.Pread fd offset count)
             (reply_of Reply.Data result) }
     {
-        self.apply_for_data(&Command::Pread { fd, offset, count })
+        self.apply_for_data(Command::Pread { fd, offset, count })
     }
 
     /// `pwrite`: puts bytes at another place, and tells how many; the offset stays.
@@ -81,8 +79,11 @@ impl<S: Station> Fs<S> {
         ensures { AppliesCommand self.old self.new (Command.Pwrite fd offset bytes.now)
             (reply_of Reply.Wrote result) }
     {
-        let data = Bytes::of(bytes);
-        self.apply_for_written(&Command::Pwrite { fd, offset, data })
+        self.apply_for_written(Command::Pwrite {
+            fd,
+            offset,
+            data: Bytes::of(bytes),
+        })
     }
 
     /// `lseek`: moves the offset, and gives it. EINVAL below 0, EOVERFLOW above the greatest one.
@@ -90,7 +91,7 @@ impl<S: Station> Fs<S> {
         ensures { AppliesCommand self.old self.new (Command.Lseek fd whence offset)
             (reply_of Reply.At result) }
     {
-        self.apply_for_offset(&Command::Lseek { fd, whence, offset })
+        self.apply_for_offset(Command::Lseek { fd, whence, offset })
     }
 
     /// `ftruncate`: gives the file this size in bytes, as `truncate` does. EINVAL where it isn't
@@ -99,20 +100,20 @@ impl<S: Station> Fs<S> {
         ensures { AppliesCommand self.old self.new (Command.Ftruncate fd size)
             (reply_of done_reply result) }
     {
-        self.apply_for_done(&Command::Ftruncate { fd, size })
+        self.apply_for_done(Command::Ftruncate { fd, size })
     }
 
     /// `fstat`: what `stat` tells, of the file.
     pub fn fstat(&mut self, fd: u32) -> Result<Stat, Errno>
         ensures { AppliesCommand self.old self.new (Command.Fstat fd) (reply_of Reply.Stat result) }
     {
-        self.apply_for_stat(&Command::Fstat { fd })
+        self.apply_for_stat(Command::Fstat { fd })
     }
 
     /// `fsync`: is done at once, since what was answered is kept already.
     pub fn fsync(&mut self, fd: u32) -> Result<(), Errno>
         ensures { AppliesCommand self.old self.new (Command.Fsync fd) (reply_of done_reply result) }
     {
-        self.apply_for_done(&Command::Fsync { fd })
+        self.apply_for_done(Command::Fsync { fd })
     }
 }

@@ -17,9 +17,9 @@ impl<S: Station> Fs<S> {
         ensures { AppliesCommand self.old self.new (Command.Path (PathCall.List path.now))
             (reply_of Reply.Names result) }
     {
-        let path = Bytes::of(path);
-        let call = PathCall::List { path };
-        self.apply_for_names(&Command::Path(call))
+        self.apply_for_names(Command::Path(PathCall::List {
+            path: Bytes::of(path),
+        }))
     }
 
     /// `entries`: of the directory that a path leads to, the names behind a cookie, in the order of
@@ -32,9 +32,11 @@ impl<S: Station> Fs<S> {
         ensures { AppliesCommand self.old self.new
             (Command.Path (PathCall.Entries path.now after count)) (reply_of Reply.Entries result) }
     {
-        let path = Bytes::of(path);
-        let call = PathCall::Entries { path, after, count };
-        self.apply_for_entries(&Command::Path(call))
+        self.apply_for_entries(Command::Path(PathCall::Entries {
+            path: Bytes::of(path),
+            after,
+            count,
+        }))
     }
 
     /// `stat`: what a path leads to. A last link is followed.
@@ -42,9 +44,9 @@ impl<S: Station> Fs<S> {
         ensures { AppliesCommand self.old self.new (Command.Path (PathCall.Stat path.now))
             (reply_of Reply.Stat result) }
     {
-        let path = Bytes::of(path);
-        let call = PathCall::Stat { path };
-        self.apply_for_stat(&Command::Path(call))
+        self.apply_for_stat(Command::Path(PathCall::Stat {
+            path: Bytes::of(path),
+        }))
     }
 
     /// `lstat`: what has a path, a link itself.
@@ -52,9 +54,9 @@ impl<S: Station> Fs<S> {
         ensures { AppliesCommand self.old self.new (Command.Path (PathCall.Lstat path.now))
             (reply_of Reply.Stat result) }
     {
-        let path = Bytes::of(path);
-        let call = PathCall::Lstat { path };
-        self.apply_for_stat(&Command::Path(call))
+        self.apply_for_stat(Command::Path(PathCall::Lstat {
+            path: Bytes::of(path),
+        }))
     }
 
     /// `readlink`: the text of a link. EINVAL where the path leads to none.
@@ -62,9 +64,9 @@ impl<S: Station> Fs<S> {
         ensures { AppliesCommand self.old self.new (Command.Path (PathCall.Readlink path.now))
             (reply_of Reply.Text result) }
     {
-        let path = Bytes::of(path);
-        let call = PathCall::Readlink { path };
-        self.apply_for_text(&Command::Path(call))
+        self.apply_for_text(Command::Path(PathCall::Readlink {
+            path: Bytes::of(path),
+        }))
     }
 
     /// `get`: so many bytes of a file from this one on, as far as there are. EINVAL where the
@@ -73,13 +75,11 @@ impl<S: Station> Fs<S> {
         ensures { AppliesCommand self.old self.new
             (Command.Path (PathCall.Get path.now offset count)) (reply_of Reply.Data result) }
     {
-        let path = Bytes::of(path);
-        let call = PathCall::Get {
-            path,
+        self.apply_for_data(Command::Path(PathCall::Get {
+            path: Bytes::of(path),
             offset,
             count,
-        };
-        self.apply_for_data(&Command::Path(call))
+        }))
     }
 
     /// `extent`: how many blocks of a file are stored, each of 4,096 bytes, and where its next data
@@ -89,8 +89,10 @@ impl<S: Station> Fs<S> {
         ensures { AppliesCommand self.old self.new (Command.Extent path.now offset)
             (reply_of Reply.Extent result) }
     {
-        let path = Bytes::of(path);
-        self.apply_for_extent(&Command::Extent { path, offset })
+        self.apply_for_extent(Command::Extent {
+            path: Bytes::of(path),
+            offset,
+        })
     }
 
     /// `mkdir`: makes a directory. EEXIST where something is there.
@@ -98,9 +100,10 @@ impl<S: Station> Fs<S> {
         ensures { AppliesCommand self.old self.new (Command.Path (PathCall.Mkdir path.now mode))
             (reply_of done_reply result) }
     {
-        let path = Bytes::of(path);
-        let call = PathCall::Mkdir { path, mode };
-        self.apply_for_done(&Command::Path(call))
+        self.apply_for_done(Command::Path(PathCall::Mkdir {
+            path: Bytes::of(path),
+            mode,
+        }))
     }
 
     /// `rmdir`: removes an empty directory. ENOTDIR where it is none, ENOTEMPTY where it has names,
@@ -109,9 +112,9 @@ impl<S: Station> Fs<S> {
         ensures { AppliesCommand self.old self.new (Command.Path (PathCall.Rmdir path.now))
             (reply_of done_reply result) }
     {
-        let path = Bytes::of(path);
-        let call = PathCall::Rmdir { path };
-        self.apply_for_done(&Command::Path(call))
+        self.apply_for_done(Command::Path(PathCall::Rmdir {
+            path: Bytes::of(path),
+        }))
     }
 
     /// `unlink`: removes a name of a file, and with its last one the file; or a link. EPERM of a
@@ -120,9 +123,9 @@ impl<S: Station> Fs<S> {
         ensures { AppliesCommand self.old self.new (Command.Path (PathCall.Unlink path.now))
             (reply_of done_reply result) }
     {
-        let path = Bytes::of(path);
-        let call = PathCall::Unlink { path };
-        self.apply_for_done(&Command::Path(call))
+        self.apply_for_done(Command::Path(PathCall::Unlink {
+            path: Bytes::of(path),
+        }))
     }
 
     /// `link`: gives a file one more name. EPERM of a directory or a link, EEXIST where something
@@ -131,10 +134,10 @@ impl<S: Station> Fs<S> {
         ensures { AppliesCommand self.old self.new (Command.Path (PathCall.Link old.now new.now))
             (reply_of done_reply result) }
     {
-        let old = Bytes::of(old);
-        let new = Bytes::of(new);
-        let call = PathCall::Link { old, new };
-        self.apply_for_done(&Command::Path(call))
+        self.apply_for_done(Command::Path(PathCall::Link {
+            old: Bytes::of(old),
+            new: Bytes::of(new),
+        }))
     }
 
     /// `symlink`: makes a symbolic link of this text. EEXIST where something is there.
@@ -142,10 +145,10 @@ impl<S: Station> Fs<S> {
         ensures { AppliesCommand self.old self.new
             (Command.Path (PathCall.Symlink text.now path.now)) (reply_of done_reply result) }
     {
-        let text = Bytes::of(text);
-        let path = Bytes::of(path);
-        let call = PathCall::Symlink { text, path };
-        self.apply_for_done(&Command::Path(call))
+        self.apply_for_done(Command::Path(PathCall::Symlink {
+            text: Bytes::of(text),
+            path: Bytes::of(path),
+        }))
     }
 
     /// `rename`: gives an object another name, in one step; what had that name is gone.
@@ -153,10 +156,10 @@ impl<S: Station> Fs<S> {
         ensures { AppliesCommand self.old self.new (Command.Path (PathCall.Rename old.now new.now))
             (reply_of done_reply result) }
     {
-        let old = Bytes::of(old);
-        let new = Bytes::of(new);
-        let call = PathCall::Rename { old, new };
-        self.apply_for_done(&Command::Path(call))
+        self.apply_for_done(Command::Path(PathCall::Rename {
+            old: Bytes::of(old),
+            new: Bytes::of(new),
+        }))
     }
 
     /// `renamenew`: the same, but EEXIST where anything has that name, and then nothing changes.
@@ -164,10 +167,10 @@ impl<S: Station> Fs<S> {
         ensures { AppliesCommand self.old self.new
             (Command.Path (PathCall.RenameNew old.now new.now)) (reply_of done_reply result) }
     {
-        let old = Bytes::of(old);
-        let new = Bytes::of(new);
-        let call = PathCall::RenameNew { old, new };
-        self.apply_for_done(&Command::Path(call))
+        self.apply_for_done(Command::Path(PathCall::RenameNew {
+            old: Bytes::of(old),
+            new: Bytes::of(new),
+        }))
     }
 
     /// `chmod`: gives this mode to a file or a directory. A last link is followed.
@@ -175,9 +178,10 @@ impl<S: Station> Fs<S> {
         ensures { AppliesCommand self.old self.new (Command.Path (PathCall.Chmod path.now mode))
             (reply_of done_reply result) }
     {
-        let path = Bytes::of(path);
-        let call = PathCall::Chmod { path, mode };
-        self.apply_for_done(&Command::Path(call))
+        self.apply_for_done(Command::Path(PathCall::Chmod {
+            path: Bytes::of(path),
+            mode,
+        }))
     }
 
     /// `truncate`: gives a file this size in bytes: cuts off the last ones, or adds zeros. EINVAL
@@ -186,9 +190,10 @@ impl<S: Station> Fs<S> {
         ensures { AppliesCommand self.old self.new (Command.Path (PathCall.Truncate path.now size))
             (reply_of done_reply result) }
     {
-        let path = Bytes::of(path);
-        let call = PathCall::Truncate { path, size };
-        self.apply_for_done(&Command::Path(call))
+        self.apply_for_done(Command::Path(PathCall::Truncate {
+            path: Bytes::of(path),
+            size,
+        }))
     }
 
     /// `set`: gives a file or a directory this mode and this size in bytes, as far as they are given,
@@ -198,9 +203,10 @@ impl<S: Station> Fs<S> {
         ensures { AppliesCommand self.old self.new (Command.Path (PathCall.Set path.now settings))
             (reply_of done_reply result) }
     {
-        let path = Bytes::of(path);
-        let call = PathCall::Set { path, settings };
-        self.apply_for_done(&Command::Path(call))
+        self.apply_for_done(Command::Path(PathCall::Set {
+            path: Bytes::of(path),
+            settings,
+        }))
     }
 
     /// `store`: puts bytes into the file that a path leads to, as `pwrite` puts them there, and tells
@@ -210,9 +216,10 @@ impl<S: Station> Fs<S> {
         ensures { AppliesCommand self.old self.new
             (Command.Path (PathCall.Store path.now offset bytes.now)) (reply_of Reply.Wrote result) }
     {
-        let path = Bytes::of(path);
-        let data = Bytes::of(bytes);
-        let call = PathCall::Store { path, offset, data };
-        self.apply_for_written(&Command::Path(call))
+        self.apply_for_written(Command::Path(PathCall::Store {
+            path: Bytes::of(path),
+            offset,
+            data: Bytes::of(bytes),
+        }))
     }
 }

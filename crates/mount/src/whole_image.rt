@@ -14,14 +14,14 @@ impl<S: Station> Fs<S> {
     pub fn sync(&mut self) -> Result<(), Errno>
         ensures { AppliesCommand self.old self.new Command.Sync (reply_of done_reply result) }
     {
-        self.apply_for_done(&Command::Sync)
+        self.apply_for_done(Command::Sync)
     }
 
     /// `df`: the room of the disk in blocks, with no device call.
     pub fn df(&mut self) -> Result<Space, Errno>
         ensures { AppliesCommand self.old self.new Command.Df (reply_of space_reply result) }
     {
-        self.apply_for_space(&Command::Df)
+        self.apply_for_space(Command::Df)
     }
 
     /// `statfs`: the room of the disk, and how many objects there are and may be, with no device
@@ -29,7 +29,7 @@ impl<S: Station> Fs<S> {
     pub fn statfs(&mut self) -> Result<Usage, Errno>
         ensures { AppliesCommand self.old self.new Command.Statfs (reply_of Reply.Usage result) }
     {
-        self.apply_for_usage(&Command::Statfs)
+        self.apply_for_usage(Command::Statfs)
     }
 
     /// `snap take`: keeps the tree as it stands under this name. BADNAME of a name that no snapshot
@@ -38,8 +38,9 @@ impl<S: Station> Fs<S> {
         ensures { AppliesCommand self.old self.new (Command.SnapTake name.now)
             (reply_of done_reply result) }
     {
-        let name = Bytes::of(name);
-        self.apply_for_done(&Command::SnapTake { name })
+        self.apply_for_done(Command::SnapTake {
+            name: Bytes::of(name),
+        })
     }
 
     /// `snap delete`: takes the snapshot of this name away. NOSNAP where there is none.
@@ -47,8 +48,9 @@ impl<S: Station> Fs<S> {
         ensures { AppliesCommand self.old self.new (Command.SnapDelete name.now)
             (reply_of done_reply result) }
     {
-        let name = Bytes::of(name);
-        self.apply_for_done(&Command::SnapDelete { name })
+        self.apply_for_done(Command::SnapDelete {
+            name: Bytes::of(name),
+        })
     }
 
     /// `snap restore`: makes the tree what it was when this snapshot was taken. NOSNAP where there
@@ -57,14 +59,15 @@ impl<S: Station> Fs<S> {
         ensures { AppliesCommand self.old self.new (Command.SnapRestore name.now)
             (reply_of done_reply result) }
     {
-        let name = Bytes::of(name);
-        self.apply_for_done(&Command::SnapRestore { name })
+        self.apply_for_done(Command::SnapRestore {
+            name: Bytes::of(name),
+        })
     }
 
     /// `snap list`: the names of the snapshots, oldest first.
     pub fn snap_list(&mut self) -> Result<Names, Errno>
         ensures { AppliesCommand self.old self.new Command.SnapList (reply_of Reply.Snaps result) }
     {
-        self.apply_for_snapshots(&Command::SnapList)
+        self.apply_for_snapshots(Command::SnapList)
     }
 }

@@ -15,10 +15,12 @@ impl<S: Station> Fs<S> {
         ensures { AppliesCommand self.old self.new
             (Command.Within name.now (PathCall.List path.now)) (reply_of Reply.Names result) }
     {
-        let name = Bytes::of(name);
-        let path = Bytes::of(path);
-        let call = PathCall::List { path };
-        self.apply_for_names(&Command::Within { name, call })
+        self.apply_for_names(Command::Within {
+            name: Bytes::of(name),
+            call: PathCall::List {
+                path: Bytes::of(path),
+            },
+        })
     }
 
     /// A part of the names in a directory of the snapshot, as `entries` gives them.
@@ -33,10 +35,14 @@ impl<S: Station> Fs<S> {
             (Command.Within name.now (PathCall.Entries path.now after count))
             (reply_of Reply.Entries result) }
     {
-        let name = Bytes::of(name);
-        let path = Bytes::of(path);
-        let call = PathCall::Entries { path, after, count };
-        self.apply_for_entries(&Command::Within { name, call })
+        self.apply_for_entries(Command::Within {
+            name: Bytes::of(name),
+            call: PathCall::Entries {
+                path: Bytes::of(path),
+                after,
+                count,
+            },
+        })
     }
 
     /// What a path leads to in the snapshot, as `stat` tells it.
@@ -44,10 +50,12 @@ impl<S: Station> Fs<S> {
         ensures { AppliesCommand self.old self.new
             (Command.Within name.now (PathCall.Stat path.now)) (reply_of Reply.Stat result) }
     {
-        let name = Bytes::of(name);
-        let path = Bytes::of(path);
-        let call = PathCall::Stat { path };
-        self.apply_for_stat(&Command::Within { name, call })
+        self.apply_for_stat(Command::Within {
+            name: Bytes::of(name),
+            call: PathCall::Stat {
+                path: Bytes::of(path),
+            },
+        })
     }
 
     /// What has a path in the snapshot, a link itself.
@@ -55,10 +63,12 @@ impl<S: Station> Fs<S> {
         ensures { AppliesCommand self.old self.new
             (Command.Within name.now (PathCall.Lstat path.now)) (reply_of Reply.Stat result) }
     {
-        let name = Bytes::of(name);
-        let path = Bytes::of(path);
-        let call = PathCall::Lstat { path };
-        self.apply_for_stat(&Command::Within { name, call })
+        self.apply_for_stat(Command::Within {
+            name: Bytes::of(name),
+            call: PathCall::Lstat {
+                path: Bytes::of(path),
+            },
+        })
     }
 
     /// The text of a link in the snapshot.
@@ -66,10 +76,12 @@ impl<S: Station> Fs<S> {
         ensures { AppliesCommand self.old self.new
             (Command.Within name.now (PathCall.Readlink path.now)) (reply_of Reply.Text result) }
     {
-        let name = Bytes::of(name);
-        let path = Bytes::of(path);
-        let call = PathCall::Readlink { path };
-        self.apply_for_text(&Command::Within { name, call })
+        self.apply_for_text(Command::Within {
+            name: Bytes::of(name),
+            call: PathCall::Readlink {
+                path: Bytes::of(path),
+            },
+        })
     }
 
     /// Bytes of a file in the snapshot, as `get` gives them.
@@ -84,13 +96,13 @@ impl<S: Station> Fs<S> {
             (Command.Within name.now (PathCall.Get path.now offset count))
             (reply_of Reply.Data result) }
     {
-        let name = Bytes::of(name);
-        let path = Bytes::of(path);
-        let call = PathCall::Get {
-            path,
-            offset,
-            count,
-        };
-        self.apply_for_data(&Command::Within { name, call })
+        self.apply_for_data(Command::Within {
+            name: Bytes::of(name),
+            call: PathCall::Get {
+                path: Bytes::of(path),
+                offset,
+                count,
+            },
+        })
     }
 }

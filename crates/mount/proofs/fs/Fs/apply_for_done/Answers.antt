@@ -2,7 +2,7 @@ use Rattle.mount.proofs.ReplyLemmas.{only_done}
 use Rattle.mount.proofs.fs.Fs.apply_for_done.Goals as goal
 
 pub unreachable-requires : goal.unreachable-requires
-unreachable-requires g c = only_done c.args.command.now c.apply.result c.requires c.apply.ensures.answers.kind c.in_default.not-Done c.in_default.not-Refused
+unreachable-requires g c = only_done c.args.command c.apply_owned.result c.requires c.apply_owned.ensures.answers.kind c.in_default.not-Done c.in_default.not-Refused
 
 pub returns-in-Done : goal.returns-in-Done
 returns-in-Done g c = c.in-Done.ensures

@@ -2,7 +2,7 @@ use Rattle.mount.proofs.ReplyLemmas.{only_text}
 use Rattle.mount.proofs.fs.Fs.apply_for_text.Goals as goal
 
 pub unreachable-requires : goal.unreachable-requires
-unreachable-requires g c = only_text c.args.command.now c.apply.result c.requires c.apply.ensures.answers.kind c.in_default.not-Text c.in_default.not-Refused
+unreachable-requires g c = only_text c.args.command c.apply_owned.result c.requires c.apply_owned.ensures.answers.kind c.in_default.not-Text c.in_default.not-Refused
 
 pub returns-in-Text : goal.returns-in-Text
 returns-in-Text g c = c.in-Text.ensures

@@ -6,5 +6,5 @@ use Rattle.mount.proofs.ReplyLemmas.{applied_so}
 use Rattle.mount.proofs.fs.Fs.entries.Goals as goal
 
 pub returns : goal.returns
-returns g c = applied_so (ap (λ (z : ℤ). command.Path (calls.Entries c.of-path.result z c.args.count)) (to_z-of_z w64 c.args.after c.ranges.after)
-    ∙ ap (λ (x : List ℕ). command.Path (calls.Entries x c.args.after c.args.count)) c.of-path.ensures) c.apply_for_entries.ensures
+returns g c = applied_so (ap (λ (z : ℤ). command.Path (calls.Entries c.of.result z c.args.count)) (to_z-of_z w64 c.args.after c.ranges.after)
+    ∙ ap (λ (x : List ℕ). command.Path (calls.Entries x c.args.after c.args.count)) c.of.ensures) c.apply_for_entries.ensures

@@ -6,6 +6,6 @@ use Rattle.mount.proofs.ReplyLemmas.{applied_so}
 use Rattle.mount.proofs.fs.Fs.entries_in.Goals as goal
 
 pub returns : goal.returns
-returns g c = applied_so (ap (λ (z : ℤ). command.Within c.of-name.result (calls.Entries c.of-path.result z c.args.count)) (to_z-of_z w64 c.args.after c.ranges.after)
-    ∙ ap (λ (x : List ℕ). command.Within x (calls.Entries c.of-path.result c.args.after c.args.count)) c.of-name.ensures
-    ∙ ap (λ (x : List ℕ). command.Within c.args.name.now (calls.Entries x c.args.after c.args.count)) c.of-path.ensures) c.apply_for_entries.ensures
+returns g c = applied_so (ap (λ (z : ℤ). command.Within c.of.result (calls.Entries c.of-2.result z c.args.count)) (to_z-of_z w64 c.args.after c.ranges.after)
+    ∙ ap (λ (x : List ℕ). command.Within x (calls.Entries c.of-2.result c.args.after c.args.count)) c.of.ensures
+    ∙ ap (λ (x : List ℕ). command.Within c.args.name.now (calls.Entries x c.args.after c.args.count)) c.of-2.ensures) c.apply_for_entries.ensures

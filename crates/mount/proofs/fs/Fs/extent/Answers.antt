@@ -5,5 +5,5 @@ use Rattle.mount.proofs.ReplyLemmas.{applied_so}
 use Rattle.mount.proofs.fs.Fs.extent.Goals as goal
 
 pub returns : goal.returns
-returns g c = applied_so (ap (λ (z : ℤ). command.Extent c.of-path.result z) (to_z-of_z w64 c.args.offset c.ranges.offset)
-    ∙ ap (λ (x : List ℕ). command.Extent x c.args.offset) c.of-path.ensures) c.apply_for_extent.ensures
+returns g c = applied_so (ap (λ (z : ℤ). command.Extent c.of.result z) (to_z-of_z w64 c.args.offset c.ranges.offset)
+    ∙ ap (λ (x : List ℕ). command.Extent x c.args.offset) c.of.ensures) c.apply_for_extent.ensures

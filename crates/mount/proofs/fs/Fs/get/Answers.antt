@@ -6,5 +6,5 @@ use Rattle.mount.proofs.ReplyLemmas.{applied_so}
 use Rattle.mount.proofs.fs.Fs.get.Goals as goal
 
 pub returns : goal.returns
-returns g c = applied_so (ap (λ (z : ℤ). command.Path (calls.Get c.of-path.result z c.args.count)) (to_z-of_z w64 c.args.offset c.ranges.offset)
-    ∙ ap (λ (x : List ℕ). command.Path (calls.Get x c.args.offset c.args.count)) c.of-path.ensures) c.apply_for_data.ensures
+returns g c = applied_so (ap (λ (z : ℤ). command.Path (calls.Get c.of.result z c.args.count)) (to_z-of_z w64 c.args.offset c.ranges.offset)
+    ∙ ap (λ (x : List ℕ). command.Path (calls.Get x c.args.offset c.args.count)) c.of.ensures) c.apply_for_data.ensures

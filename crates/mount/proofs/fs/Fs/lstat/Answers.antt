@@ -5,4 +5,4 @@ use Rattle.mount.proofs.ReplyLemmas.{applied_so}
 use Rattle.mount.proofs.fs.Fs.lstat.Goals as goal
 
 pub returns : goal.returns
-returns g c = applied_so (ap (λ (x : List ℕ). command.Path (calls.Lstat x)) c.of-path.ensures) c.apply_for_stat.ensures
+returns g c = applied_so (ap (λ (x : List ℕ). command.Path (calls.Lstat x)) c.of.ensures) c.apply_for_stat.ensures

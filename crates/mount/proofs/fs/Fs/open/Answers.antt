@@ -5,4 +5,4 @@ use Rattle.mount.proofs.ReplyLemmas.{applied_so}
 use Rattle.mount.proofs.fs.Fs.open.Goals as goal
 
 pub returns : goal.returns
-returns g c = applied_so (ap (λ (x : List ℕ). command.Open x c.args.flags c.args.mode OPEN_FILES) c.of-path.ensures) c.apply_for_descriptor.ensures
+returns g c = applied_so (ap (λ (x : List ℕ). command.Open x c.args.flags c.args.mode OPEN_FILES) c.of.ensures) c.apply_for_descriptor.ensures

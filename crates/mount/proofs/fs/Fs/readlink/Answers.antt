@@ -5,4 +5,4 @@ use Rattle.mount.proofs.ReplyLemmas.{applied_so}
 use Rattle.mount.proofs.fs.Fs.readlink.Goals as goal
 
 pub returns : goal.returns
-returns g c = applied_so (ap (λ (x : List ℕ). command.Path (calls.Readlink x)) c.of-path.ensures) c.apply_for_text.ensures
+returns g c = applied_so (ap (λ (x : List ℕ). command.Path (calls.Readlink x)) c.of.ensures) c.apply_for_text.ensures

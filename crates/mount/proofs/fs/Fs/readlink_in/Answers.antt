@@ -5,4 +5,4 @@ use Rattle.mount.proofs.ReplyLemmas.{applied_so}
 use Rattle.mount.proofs.fs.Fs.readlink_in.Goals as goal
 
 pub returns : goal.returns
-returns g c = applied_so (ap (λ (x : List ℕ). command.Within x (calls.Readlink c.of-path.result)) c.of-name.ensures ∙ ap (λ (x : List ℕ). command.Within c.args.name.now (calls.Readlink x)) c.of-path.ensures) c.apply_for_text.ensures
+returns g c = applied_so (ap (λ (x : List ℕ). command.Within x (calls.Readlink c.of-2.result)) c.of.ensures ∙ ap (λ (x : List ℕ). command.Within c.args.name.now (calls.Readlink x)) c.of-2.ensures) c.apply_for_text.ensures

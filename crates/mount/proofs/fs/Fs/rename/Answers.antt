@@ -5,4 +5,4 @@ use Rattle.mount.proofs.ReplyLemmas.{applied_so}
 use Rattle.mount.proofs.fs.Fs.rename.Goals as goal
 
 pub returns : goal.returns
-returns g c = applied_so (ap (λ (x : List ℕ). command.Path (calls.Rename x c.of-new.result)) c.of-old.ensures ∙ ap (λ (x : List ℕ). command.Path (calls.Rename c.args.old.now x)) c.of-new.ensures) c.apply_for_done.ensures
+returns g c = applied_so (ap (λ (x : List ℕ). command.Path (calls.Rename x c.of-2.result)) c.of.ensures ∙ ap (λ (x : List ℕ). command.Path (calls.Rename c.args.old.now x)) c.of-2.ensures) c.apply_for_done.ensures

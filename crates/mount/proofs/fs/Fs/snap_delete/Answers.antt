@@ -4,4 +4,4 @@ use Rattle.mount.proofs.ReplyLemmas.{applied_so}
 use Rattle.mount.proofs.fs.Fs.snap_delete.Goals as goal
 
 pub returns : goal.returns
-returns g c = applied_so (ap (λ (x : List ℕ). command.SnapDelete x) c.of-name.ensures) c.apply_for_done.ensures
+returns g c = applied_so (ap (λ (x : List ℕ). command.SnapDelete x) c.of.ensures) c.apply_for_done.ensures

@@ -6,6 +6,6 @@ use Rattle.mount.proofs.ReplyLemmas.{applied_so}
 use Rattle.mount.proofs.fs.Fs.store.Goals as goal
 
 pub returns : goal.returns
-returns g c = applied_so (ap (λ (z : ℤ). command.Path (calls.Store c.of-path.result z c.of-data.result)) (to_z-of_z w64 c.args.offset c.ranges.offset)
-    ∙ ap (λ (x : List ℕ). command.Path (calls.Store x c.args.offset c.of-data.result)) c.of-path.ensures
-    ∙ ap (λ (x : List ℕ). command.Path (calls.Store c.args.path.now c.args.offset x)) c.of-data.ensures) c.apply_for_written.ensures
+returns g c = applied_so (ap (λ (z : ℤ). command.Path (calls.Store c.of.result z c.of-2.result)) (to_z-of_z w64 c.args.offset c.ranges.offset)
+    ∙ ap (λ (x : List ℕ). command.Path (calls.Store x c.args.offset c.of-2.result)) c.of.ensures
+    ∙ ap (λ (x : List ℕ). command.Path (calls.Store c.args.path.now c.args.offset x)) c.of-2.ensures) c.apply_for_written.ensures

@@ -5,4 +5,4 @@ use Rattle.mount.proofs.ReplyLemmas.{applied_so}
 use Rattle.mount.proofs.fs.Fs.symlink.Goals as goal
 
 pub returns : goal.returns
-returns g c = applied_so (ap (λ (x : List ℕ). command.Path (calls.Symlink x c.of-path.result)) c.of-text.ensures ∙ ap (λ (x : List ℕ). command.Path (calls.Symlink c.args.text.now x)) c.of-path.ensures) c.apply_for_done.ensures
+returns g c = applied_so (ap (λ (x : List ℕ). command.Path (calls.Symlink x c.of-2.result)) c.of.ensures ∙ ap (λ (x : List ℕ). command.Path (calls.Symlink c.args.text.now x)) c.of-2.ensures) c.apply_for_done.ensures

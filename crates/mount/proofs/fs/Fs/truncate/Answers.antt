@@ -6,5 +6,5 @@ use Rattle.mount.proofs.ReplyLemmas.{applied_so}
 use Rattle.mount.proofs.fs.Fs.truncate.Goals as goal
 
 pub returns : goal.returns
-returns g c = applied_so (ap (λ (z : ℤ). command.Path (calls.Truncate c.of-path.result z)) (to_z-of_z w64 c.args.size c.ranges.size)
-    ∙ ap (λ (x : List ℕ). command.Path (calls.Truncate x c.args.size)) c.of-path.ensures) c.apply_for_done.ensures
+returns g c = applied_so (ap (λ (z : ℤ). command.Path (calls.Truncate c.of.result z)) (to_z-of_z w64 c.args.size c.ranges.size)
+    ∙ ap (λ (x : List ℕ). command.Path (calls.Truncate x c.args.size)) c.of.ensures) c.apply_for_done.ensures

@@ -5,4 +5,4 @@ use Rattle.mount.proofs.ReplyLemmas.{applied_so}
 use Rattle.mount.proofs.fs.Fs.unlink.Goals as goal
 
 pub returns : goal.returns
-returns g c = applied_so (ap (λ (x : List ℕ). command.Path (calls.Unlink x)) c.of-path.ensures) c.apply_for_done.ensures
+returns g c = applied_so (ap (λ (x : List ℕ). command.Path (calls.Unlink x)) c.of.ensures) c.apply_for_done.ensures

@@ -4,4 +4,4 @@ use Rattle.mount.proofs.ReplyLemmas.{applied_so}
 use Rattle.mount.proofs.fs.Fs.write.Goals as goal
 
 pub returns : goal.returns
-returns g c = applied_so (ap (λ (x : List ℕ). command.Write c.args.fd x) c.of-data.ensures) c.apply_for_written.ensures
+returns g c = applied_so (ap (λ (x : List ℕ). command.Write c.args.fd x) c.of.ensures) c.apply_for_written.ensures
