@@ -95,6 +95,10 @@ abbrev pub restore_app : App
 restore_app = on_image (codes "restore") (place_rule (codes "snapshot") ∷ place_rule (codes "path")
     ∷ last_place_rule (codes "newpath") ∷ encoded ∷ explain ∷ [])
 
+abbrev pub serve_app : App
+serve_app = on_image (codes "serve") (with_default (codes "0") (number_from 0 (codes "uid"))
+    ∷ with_default (codes "0") (number_from 0 (codes "gid")) ∷ explain ∷ [])
+
 -- the program, which has a version and requires one of its commands
 abbrev pub program : App
 program = record (new_app (codes "wafl")) {
@@ -103,7 +107,7 @@ program = record (new_app (codes "wafl")) {
 
 unfoldable pub wafl_app : App
 wafl_app = fold (λ a sub. with_subcommand a sub.top) program (make_app ∷ run_app ∷ shell_app
-    ∷ do_app ∷ df_app ∷ check_app ∷ put_app ∷ get_app ∷ restore_app ∷ [])
+    ∷ do_app ∷ df_app ∷ check_app ∷ put_app ∷ get_app ∷ restore_app ∷ serve_app ∷ [])
 
 -- an argument that is given these rules, and counts for its own command alone
 abbrev pub IsArg : Rule → Arg → Type 0

@@ -48,6 +48,7 @@ pub data LineValue : Type 0 where
   put : (disk nvram file path : Text) → LineValue
   get : (disk nvram path file : Text) → (snapshot : Option Text) → LineValue
   restore : (disk nvram snapshot path : Text) → (new_path : Option Text) → LineValue
+  serve : (disk nvram : Text) → (uid gid : ℕ) → LineValue
   help : LineValue
 
 -- a line, and how it is done and told
@@ -82,6 +83,7 @@ line_value (line.Get disk nvram path file snapshot) =
     get disk.now nvram.now path.now file.now (option_map (λ s. s.now) snapshot)
 line_value (line.Restore disk nvram snapshot path new_path) =
     restore disk.now nvram.now snapshot.now path.now (option_map (λ p. p.now) new_path)
+line_value (line.Serve disk nvram uid gid) = serve disk.now nvram.now uid gid
 line_value (line.Help text) = help
 
 abbrev pub asked_value : Asked → AskedValue
@@ -151,6 +153,11 @@ restore_line rows = with_image rows (λ disk nvram. given (text_at (codes "snaps
     given (text_at (codes "path") rows) (λ path.
     Ok (restore disk nvram snapshot path (first_of (codes "newpath") rows)))))
 
+abbrev pub serve_line : List Row → Result LineValue Refusal
+serve_line rows = with_image rows (λ disk nvram.
+    given (needed (option_number (codes "uid") rows)) (λ uid.
+    given (needed (option_number (codes "gid") rows)) (λ gid. Ok (serve disk nvram uid gid))))
+
 -- the line of the command of a name
 abbrev pub named_line : Text → List Row → Result LineValue Refusal
 named_line name rows = if bytes_eq name (codes "make") then make_line rows
@@ -161,7 +168,8 @@ named_line name rows = if bytes_eq name (codes "make") then make_line rows
     else (if bytes_eq name (codes "check") then check_line rows
     else (if bytes_eq name (codes "put") then put_line rows
     else (if bytes_eq name (codes "get") then get_line rows
-    else (if bytes_eq name (codes "restore") then restore_line rows else Err not_understood))))))))
+    else (if bytes_eq name (codes "restore") then restore_line rows
+    else (if bytes_eq name (codes "serve") then serve_line rows else Err not_understood)))))))))
 
 -- ---- the words
 

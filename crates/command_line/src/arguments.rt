@@ -7,11 +7,11 @@ ghost use Rattle.command_line.specs.Arguments.{GrowsTo, IsArg, MakesCommand};
 
 use crate::help_texts::{
     CHECK_NOTES, COMMAND_NOTES, DF_NOTES, FIRST_STEPS, GET_NOTES, MAKE_NOTES, PUT_NOTES,
-    RESTORE_NOTES,
+    RESTORE_NOTES, SERVE_NOTES,
 };
 use crate::options::{
-    bytes, command_words, count, encoded, explain, flag, keep, last_place, option, place, salvage,
-    size,
+    bytes, command_words, count, encoded, explain, flag, keep, last_place, option, owner, place,
+    salvage, size,
 };
 use clap::{Arg, Command};
 use std::alloc::{AllocError, Global};
@@ -30,6 +30,7 @@ pub fn wafl_command<'a>(alloc: Global) -> Result<Command<'a>, AllocError>
         .subcommand(put_command(alloc))
         .subcommand(get_command(alloc))
         .subcommand(restore_command(alloc))
+        .subcommand(serve_command(alloc))
         .command
 }
 
@@ -313,5 +314,23 @@ fn restore_command<'a>(alloc: Global) -> Growing<'a>
         "The path that it gets, in place of PATH",
     ))
     .arg(encoded(alloc))
+    .arg(explain(alloc))
+}
+
+fn serve_command<'a>(alloc: Global) -> Growing<'a>
+    ensures { GrowsTo spec.serve_app result.command }
+{
+    on_image(
+        alloc,
+        "serve",
+        "Mount an image and answer the kernel's requests for a folder of it",
+        SERVE_NOTES,
+    )
+    .arg(owner(
+        alloc,
+        "uid",
+        "Whose the files are until that is set, as in --uid 1000",
+    ))
+    .arg(owner(alloc, "gid", "And of which group, as in --gid 1000"))
     .arg(explain(alloc))
 }

@@ -29,6 +29,7 @@ pub fn line_of_command<'a>(
         "put" => put_line(alloc, matches),
         "get" => get_line(alloc, matches),
         "restore" => restore_line(alloc, matches),
+        "serve" => serve_line(alloc, matches),
         _ => Err(not_understood(alloc, "error: no command\n")),
     }
 }
@@ -177,5 +178,16 @@ fn restore_line<'a>(alloc: Global, matches: &ArgMatches<'a>) -> Result<Line<'a>,
         snapshot: needed_text(alloc, matches, "snapshot")?,
         path: needed_text(alloc, matches, "path")?,
         new_path: text(matches, "newpath"),
+    })
+}
+
+fn serve_line<'a>(alloc: Global, matches: &ArgMatches<'a>) -> Result<Line<'a>, LineError>
+    ensures { Yields line_value (spec.serve_line (rows_in matches.now)) result }
+{
+    Ok(Line::Serve {
+        disk: needed_text(alloc, matches, "disk")?,
+        nvram: needed_text(alloc, matches, "nvram")?,
+        uid: needed_number(alloc, matches, "uid")?,
+        gid: needed_number(alloc, matches, "gid")?,
     })
 }

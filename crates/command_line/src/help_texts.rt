@@ -10,6 +10,7 @@ pub const FIRST_STEPS: &str = "What to type first:
   wafl get disk nvram /notes/monday - --in monday
   wafl restore disk nvram monday /notes/monday
   wafl shell disk nvram
+  wafl mount disk nvram folder
 
 What was answered is kept: whatever stops the program or the machine, the next run finds it.
 disk and nvram are one image: keep and copy them together, while nothing writes them.
@@ -21,6 +22,9 @@ as in a script, as in /a%20b. --wait waits for an image that another program has
 
 Where an image can't be mounted, wafl check tells the faults, and --salvage of get, df and do
 reads what can be read.
+
+wafl mount shows an image as a folder, for any program; wafl mount --help tells how. It is a word
+of the script wafl, not of the program, as ./wafl prove and ./wafl install are.
 
 The script ./wafl answers by a build without proofs until the program is proved, which goes on in the
 background; ./wafl prove waits for that. With WAFL_UNPROVED=1 in the environment it proves nothing.";
@@ -158,3 +162,16 @@ With --wait it waits while another program has the image in use, with --wait=5 f
 Examples:
   wafl restore disk nvram monday /notes
   wafl restore disk nvram monday /notes /notes.of.monday";
+
+/// What the help of `serve` says behind its options.
+pub const SERVE_NOTES: &str =
+    "It is what wafl mount starts, once it has the kernel's device: requests of the kernel's FUSE come by standard input, one by each read, and their answers go to standard output. It ends with status 0 when the folder is unmounted. What was answered is kept; when it is killed, the folder answers nothing until it is unmounted, and the next mount finds all of it.
+
+Owners and times are kept until it ends: they are N's and of the time of the mount, and what is set since. In .snapshot are the snapshots: mkdir takes one and rmdir deletes one.
+
+With --wait it waits while another program has the image in use, with --wait=5 for 5 seconds at most.
+
+Example, as root, where wafl mount isn't at hand:
+  exec 3<>/dev/fuse
+  mount -i -t fuse -o fd=3,rootmode=40000,user_id=0,group_id=0,default_permissions wafl /mnt
+  wafl serve disk nvram <&3 >&3";

@@ -121,6 +121,15 @@ pub enum Line<'a> {
         /// The path that it gets in the running tree, in place of the same one.
         new_path: Option<&'a str>,
     },
+    /// `wafl serve DISK NVRAM [--uid N] [--gid N]`: mounts the image and answers the kernel's
+    /// requests for a folder, which come by standard input and are answered on standard output.
+    Serve {
+        disk: &'a str,
+        nvram: &'a str,
+        /// Whose the files are until that is set.
+        uid: u32,
+        gid: u32,
+    },
     /// `--help`, `--version` and the like: this text is asked for.
     Help(String),
 }

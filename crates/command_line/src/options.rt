@@ -98,6 +98,13 @@ pub fn count<'a>(alloc: Global, name: &'a str, help: &'a str) -> Arg<'a>
     option(alloc, name, "N", help).value_parser(value_parser!(u32).range(1..))
 }
 
+/// A user's or a group's number: 0, root's, where the words don't say.
+pub fn owner<'a>(alloc: Global, name: &'a str, help: &'a str) -> Arg<'a>
+    ensures { IsArg (spec.with_default (codes "0") (spec.number_from 0 name.entry.now)) result }
+{
+    number(alloc, name, help).default_value("0")
+}
+
 /// How many bytes an NVRAM write keeps.
 pub fn bytes<'a>(alloc: Global) -> Arg<'a>
     ensures { IsArg (spec.with_default (codes "0") (spec.number_from 0 (codes "bytes"))) result }

@@ -1,12 +1,14 @@
--- What the program ends with: where the system refuses, of its words, and where an image was
--- checked.
+-- What the program ends with: where the system refuses, of its words, where an image was checked,
+-- and where a folder was served.
 use Rattle.checker.specs.declared.error.CheckError.TheVariants as check_error
 use Rattle.checker.specs.declared.error.CheckError.{CheckError}
 use Rattle.checker.specs.declared.report.Report.TheVariants.{Bad, Good}
 use Rattle.checker.specs.declared.report.Report.{Report}
 use Rattle.command_line.specs.declared.line.LineError.TheVariants as line_error
 use Rattle.command_line.specs.declared.line.LineError.{LineError}
-use Rattle.session.specs.declared.status.Status.TheVariants.{Done, Faulty, FileFault, NoMemory, NotMounted, NotUnderstood}
+use Rattle.served.specs.declared.serving.Ending.TheVariants as ending
+use Rattle.served.specs.declared.serving.Ending.{Ending}
+use Rattle.session.specs.declared.status.Status.TheVariants.{Done, Faulty, FileFault, NoMemory, NotMounted, NotUnderstood, Refused}
 use Rattle.session.specs.declared.status.Status.{Status}
 
 -- what the system refuses: there is no memory, or a file can't be read or written
@@ -36,3 +38,10 @@ report_status (Bad finding) = Faulty
 abbrev pub check_status : CheckError → Status
 check_status check_error.NoMemory = NoMemory
 check_status check_error.Device = FileFault
+
+-- what the program ends with where a folder was served
+abbrev pub serving_status : Ending → Status
+serving_status ending.Unmounted = Done
+serving_status ending.Failed = FileFault
+serving_status ending.NoMemory = NoMemory
+serving_status (ending.Refused errno) = Refused

@@ -20,5 +20,6 @@ pub use image_error::ImageError;
 pub use image_making::make_image;
 pub use obeying::{Terminals, obey};
 pub use statuses::{
-    status_of_check, status_of_file, status_of_line, status_of_report, status_of_transfer,
+    status_of_check, status_of_file, status_of_line, status_of_report, status_of_serving,
+    status_of_transfer,
 };

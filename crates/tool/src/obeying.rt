@@ -5,6 +5,7 @@ mod faults;
 mod new_image;
 mod reading;
 mod room;
+mod serving;
 mod sessions;
 mod shells;
 mod transfers;
@@ -21,6 +22,8 @@ use host_files::{
 use new_image::make_files;
 use reading::run_one;
 use room::show_room;
+use served::Owner;
+use serving::serve_folder;
 use session::Status;
 use sessions::run_script;
 use shells::run_shell;
@@ -113,6 +116,7 @@ fn obey_line<I: Read, O: Write, E: Write>(
         Line::Put { disk, nvram, .. } => (*disk, *nvram),
         Line::Get { disk, nvram, .. } => (*disk, *nvram),
         Line::Restore { disk, nvram, .. } => (*disk, *nvram),
+        Line::Serve { disk, nvram, .. } => (*disk, *nvram),
     };
     let Ok(bad) = list_name(rt.alloc(), disk) else {
         return tell(&FileError::NoMemory, &mut streams.err);
@@ -126,8 +130,9 @@ fn obey_line<I: Read, O: Write, E: Write>(
     if speaks_of_image(line, streams) {
         warn(rt, image, streams.patience, &mut warnings);
     }
-    if let Line::Shell { .. } = line {
-        // Whoever types lines is told before the first one.
+    if let Line::Shell { .. } | Line::Serve { .. } = line {
+        // Whoever types lines is told before the first one, and whoever mounts a folder before it
+        // is there.
         let _ = streams.err.write_all(warnings.as_slice());
         warnings.clear();
     }
@@ -194,6 +199,15 @@ fn obey_on<I: Read, O: Write, E: Write>(
             new_path,
             ..
         } => restore(rt, image, snapshot, path, *new_path, streams),
+        Line::Serve { uid, gid, .. } => serve_folder(
+            rt,
+            image,
+            Owner {
+                uid: *uid,
+                gid: *gid,
+            },
+            streams,
+        ),
     }
 }
 

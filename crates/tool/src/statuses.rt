@@ -2,12 +2,13 @@
 
 ghost use Rattle.std.specs.Prelude.{◌≡◌};
 ghost use Rattle.system.specs.declared.mount_error.MountError.{MountError};
-ghost use Rattle.tool.specs.Refusals.{IsSystemFault, IsTransferFault, check_status, line_status, report_status};
+ghost use Rattle.tool.specs.Refusals.{IsSystemFault, IsTransferFault, check_status, line_status, report_status, serving_status};
 
 use checker::{CheckError, Report};
 use command_line::LineError;
 use host_files::FileError;
 use model::Errno;
+use served::Ending;
 use session::Status;
 use transfer::TransferError;
 
@@ -68,5 +69,17 @@ pub fn status_of_check(error: CheckError) -> Status
     match error {
         CheckError::NoMemory => Status::NoMemory,
         CheckError::Device => Status::FileFault,
+    }
+}
+
+/// What the program ends with where a folder was served.
+pub fn status_of_serving(ending: Ending) -> Status
+    ensures { result ≡ serving_status ending }
+{
+    match ending {
+        Ending::Unmounted => Status::Done,
+        Ending::Failed => Status::FileFault,
+        Ending::NoMemory => Status::NoMemory,
+        Ending::Refused(_) => Status::Refused,
     }
 }
