@@ -46,7 +46,9 @@ place_all() {
     if [ -n "$unproved" ]; then place 644 /dev/null "$mark"; fi
     place 755 "$program" libexec/wafl/wafl
     if [ -z "$unproved" ]; then rm -f "$base/$mark" || refuse "$base/$mark can't be removed"; fi
-    place 644 "$root/build/interrupts.sh" libexec/wafl/interrupts.sh
+    for file in words.sh interrupts.sh mounting.sh user_mount.py help/mount.txt; do place 644 "$root/build/$file" "libexec/wafl/$file"; done
+    place 755 "$root/build/device.sh" libexec/wafl/device
+    place 755 "$root/build/mount.wafl" sbin/mount.wafl
     place 755 "$root/build/installed.sh" bin/wafl
     place 644 "$root/README.md" share/doc/wafl/README.md
     for file in "$root"/docs/*.md; do place 644 "$file" "share/doc/wafl/docs/${file##*/}"; done
@@ -79,7 +81,7 @@ see_writable() {
     until [ -e "$above" ]; do above=$(dirname "$above"); done
     [ -d "$above" ] || refuse "$above: Not a directory"
     if ! [ -w "$above" ] || ! [ -x "$above" ]; then refuse "$above: Permission denied"; fi
-    for part in bin libexec share; do
+    for part in bin libexec sbin share; do
         [ ! -e "$above/$part" ] || [ "$above" != "$1" ] || [ -w "$above/$part" ] || refuse "$above/$part: Permission denied"
     done
 }

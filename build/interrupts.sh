@@ -1,9 +1,11 @@
 # Runs the program so that an interrupted `put` or `restore` leaves nothing in the image: sourced by the script `wafl`, and by the one
 # that `wafl install` installs.
 
-# run PROGRAM WORD.. : becomes the program with these words; of the two commands that store a file's bytes, waits for it.
+# run PROGRAM WORD.. : becomes the program with these words; of the two commands that store a file's bytes, waits for it. `mount` is a word
+# of the script, which then starts the program.
 run() {
     case ${2-} in
+        mount) mount_folder "$@" ;;
         put | restore) run_storing "$@" ;;
         *) exec "$@" ;;
     esac

@@ -1,8 +1,8 @@
 # Answers help, the version and faults of words without the program: sourced by the script `wafl`. What it knows of the words it reads
-# out of the help texts in crates/rows/data/help, which are the program's own, byte for byte.
-# shellcheck disable=SC2154 # The script has set $root.
+# out of the help texts in crates/rows/data/help, which are the program's own, byte for byte. The installed script knows its own words alone.
+# shellcheck disable=SC2154 # The script has set $own_helps, and $root, where it answers for the program too.
 
-helps=$root/crates/rows/data/help
+helps=${root-}/crates/rows/data/help
 
 # answer WORD.. : ends the script where the words ask for help or the version, or aren't understood; returns where the program has to
 # be asked.
@@ -33,9 +33,9 @@ answer() {
     esac
 }
 
-# answer_own WORD.. : does the same for a word of the script `wafl` itself, whose help stands in build/help.
+# answer_own WORD.. : does the same for a word of the script itself, whose help stands in the folder $own_helps.
 answer_own() {
-    helps=$root/build/help
+    helps=$own_helps
     judged=$(judge "$@") && return 0
     case $judged in
         help) show "$1" ;;
