@@ -11,7 +11,7 @@ use served::{Ending, Owner, serve};
 use session::Status;
 use std::io::{Read, Write};
 
-/// An image, and what it is asked by and answers on.
+/// What the program ends with, and the image.
 type Ended = (Status, ImageStation);
 
 /// Answers the kernel's requests, which come by standard input, until the folder is unmounted.
