@@ -1,6 +1,6 @@
 -- How files are read and written, part by part.
 use Rattle.std.proofs.Common.{◌≡◌, ◌≢◌, ◌+◌, ◌-◌, ◌^◌, ◌<◌, ◌≤◌, ◌==◌, ◌||◌, not, nat_lt, ℕ, zero, suc, ℤ, pos, Bool, true, false, List, ◌++◌, length, take, drop, Some, Result, Ok, Err, w64, FitsSigned, to_z, of_z, refl, sym, ap, subst, ◌∙◌, arith}
-use Rattle.std.proofs.lemmas.Bool.{ltb-true}
+use Rattle.std.proofs.lemmas.Bool.{eq-eqb, le-ltb, lt-ltb, ltb-true}
 use Rattle.std.proofs.lemmas.Bool.Decides.{nat_tests}
 use Rattle.std.proofs.lemmas.Int.{fits_signed_from_abs, to_z-of_z}
 use Rattle.file_system.specs.declared.file_system.FileSystem.{Ghosts}
@@ -21,15 +21,6 @@ use Rattle.served.specs.declared.answer.Answer.TheVariants as answer
 use Rattle.served.specs.declared.marks.Asker.{Asker}
 use Rattle.served.specs.declared.numbers.TheConstants.{MOST_PARTS}
 
-lt_true : (a b : ℕ) → a < b → nat_lt a b ≡ true
-lt_true a b h = grind (arith, nat_tests)
-
-lt_false : (a b : ℕ) → b ≤ a → nat_lt a b ≡ false
-lt_false a b h = grind (arith, nat_tests)
-
-is_zero : (a : ℕ) → a ≡ 0 → (a == 0) ≡ true
-is_zero a h = grind (arith, nat_tests)
-
 not_zero : (a : ℕ) → 0 < a → (a == 0) ≡ false
 not_zero a h = grind (arith, nat_tests)
 
@@ -38,7 +29,7 @@ one_less parts = omega arith
 
 pub enough_there : (offset count : ℕ) (had : List ℕ) → count - length had ≡ 0 → is_enough offset count had ≡ true
 enough_there offset count had none =
-    subst (λ (b : Bool). (b || not (nat_lt (offset + length had) (2 ^ 63))) ≡ true) (sym (is_zero (count - length had) none)) refl
+    subst (λ (b : Bool). (b || not (nat_lt (offset + length had) (2 ^ 63))) ≡ true) (sym (eq-eqb (count - length had) 0 none)) refl
 
 pub enough_far : (offset count : ℕ) (had : List ℕ) → 0 < count - length had → nat_lt (offset + length had) (2 ^ 63) ≡ false → is_enough offset count had ≡ true
 enough_far offset count had some far =
@@ -128,7 +119,7 @@ module _ {S : Type 0} (G : Ghosts S) where
         read_part old new new parts had at asked part (answer.Bytes (had ++ part)) on done
         (behind new new asked had part (reads read offset count (parts - 1)) (answer.Bytes (had ++ part)) true
         (came_then_if G new new (nat_lt (length part) asked) (gives (answer.Bytes (had ++ part))) (reads read offset count (parts - 1) (had ++ part)) (answer.Bytes (had ++ part))
-        (lt_true (length part) asked short) (came_gives G new (answer.Bytes (had ++ part)))))
+        (lt-ltb (length part) asked short) (came_gives G new (answer.Bytes (had ++ part)))))
 
     pub read_on : (old mid new : S) (parts : ℕ) (had : List ℕ) (at : ℤ) (asked : ℕ) (part : List ℕ) (r : Answer) → Asks offset count parts had at asked → Came G old mid (asks reply.Data (read at asked)) (Ok part)
         → asked ≤ length part → Came G mid new (reads read offset count (parts - 1) (had ++ part)) r → Came G old new (reads read offset count parts had) r
@@ -136,7 +127,7 @@ module _ {S : Type 0} (G : Ghosts S) where
         read_part old mid new parts had at asked part r on done
         (behind mid new asked had part (reads read offset count (parts - 1)) r true
         (came_else G mid new (nat_lt (length part) asked) (gives (answer.Bytes (had ++ part))) (reads read offset count (parts - 1) (had ++ part)) r
-        (lt_false (length part) asked whole) then))
+        (le-ltb (length part) asked whole) then))
 
   module _ (fd offset : ℕ) where
     pub writes_end : (s : S) (bytes : List ℕ) (parts done : ℕ) → parts ≡ 0 → Came G s s (writes fd offset bytes parts done) (answer.Wrote done)

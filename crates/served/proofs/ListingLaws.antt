@@ -1,7 +1,6 @@
 -- How listings come about, name by name.
-use Rattle.std.proofs.Common.{◌≡◌, ◌+◌, ◌^◌, ◌<◌, ◌≤◌, nat_le, nat_lt, ℕ, ℤ, pos, Bool, true, false, List, [], ◌∷◌, ◌++◌, length, map, not, take, if◌then◌else◌, Result, Ok, Err, IfOk, refl, sym, ap, subst, ◌∙◌, arith}
-use Rattle.std.proofs.lemmas.Bool.{false≢true}
-use Rattle.std.proofs.lemmas.Bool.Decides.{nat_tests}
+use Rattle.std.proofs.Common.{◌≡◌, ◌+◌, ◌^◌, ◌<◌, ◌≤◌, nat_lt, ℕ, ℤ, pos, Bool, true, false, List, [], ◌∷◌, ◌++◌, length, map, take, if◌then◌else◌, Result, Ok, Err, IfOk, refl, sym, ap, subst, ◌∙◌, arith}
+use Rattle.std.proofs.lemmas.Bool.{false≢true, le-leb, lt-leb}
 use Rattle.file_system.specs.declared.file_system.FileSystem.{Ghosts}
 use Rattle.file_system.specs.declared.handle.Handle.{Handle}
 use Rattle.fuse.specs.Directory.{ListedValue}
@@ -25,20 +24,6 @@ use Rattle.served.specs.declared.listing.Part.{Part}
 use Rattle.served.specs.declared.listing.TheConstants.{BEHIND_PARENT}
 use Rattle.served.specs.declared.memory.Snapshot.{Snapshot}
 
-le_true : (a b : ℕ) → a ≤ b → nat_le a b ≡ true
-le_true a b h = grind (arith, nat_tests)
-
-le_false : (a b : ℕ) → b < a → nat_le a b ≡ false
-le_false a b h = grind (arith, nat_tests)
-
-pub not_true : (b : Bool) → not b ≡ true → b ≡ false
-not_true true is = absurd (false≢true is)
-not_true false is = refl
-
-pub not_false : (b : Bool) → not b ≡ false → b ≡ true
-not_false true is = refl
-not_false false is = absurd (false≢true (sym is))
-
 -- what is listed of no names, and of one
 abbrev Listing : Type 0
 Listing = List ℕ × Bool
@@ -58,7 +43,7 @@ listed_one part name had now false is so =
 -- a directory's name, behind whose place the part begins, or not
 pub directory_behind : (part : Part) (inode place : ℕ) (name had : List ℕ) → place ≤ part.behind → ◌≡◌ {A = Listing} (had, true) (listed part (directory_at part inode place name) had)
 directory_behind part inode place name had before =
-    subst (λ (b : Bool). ◌≡◌ {A = Listing} (had, true) (listed part (if b then [] else (record { inode = inode; offset = place; kind = listed_as.Directory; name = name }) ∷ []) had)) (sym (le_true place part.behind before))
+    subst (λ (b : Bool). ◌≡◌ {A = Listing} (had, true) (listed part (if b then [] else (record { inode = inode; offset = place; kind = listed_as.Directory; name = name }) ∷ []) had)) (sym (le-leb place part.behind before))
     (listed_none part had)
 
 pub directory_told : {E : Type 0} (r : Result Bool E) (part : Part) (inode place : ℕ) (name had now : List ℕ) (entry : Entry) → part.behind < place → entry ≡ untold
@@ -67,7 +52,7 @@ pub directory_told : {E : Type 0} (r : Result Bool E) (part : Part) (inode place
     → IfOk r (λ all. ◌≡◌ {A = Listing} (now, all) (listed part (directory_at part inode place name) had))
 directory_told (Ok fits) part inode place name had now entry behind is room so =
     let told : ListedValue = record { inode = inode; offset = place; kind = listed_as.Directory; name = name } in
-    subst (λ (b : Bool). ◌≡◌ {A = Listing} (now, fits) (listed part (if b then [] else told ∷ []) had)) (sym (le_false place part.behind behind))
+    subst (λ (b : Bool). ◌≡◌ {A = Listing} (now, fits) (listed part (if b then [] else told ∷ []) had)) (sym (lt-leb place part.behind behind))
     (listed_one part told had now fits (room ∙ ap (λ (e : Entry). has_room part had e told) is) (so ∙ ap (λ (e : Entry). if fits then had ++ spelled part e told else had) is))
 directory_told (Err e) part inode place name had now entry behind is room so = tt
 

@@ -1,6 +1,5 @@
 -- How names are taken away and moved, step by step.
-use Rattle.std.proofs.Common.{◌≡◌, ℕ, ◌<◌, nat_le, Bool, true, false, List, Option, Some, None, Result, Ok, Err, inl, inr, refl, sym, ap, subst, ◌∙◌, arith}
-use Rattle.std.proofs.lemmas.Bool.Decides.{leb_tells}
+use Rattle.std.proofs.Common.{◌≡◌, ℕ, nat_le, Bool, true, false, List, Option, Some, None, Result, Ok, Err, refl, sym, ap, subst, ◌∙◌}
 use Rattle.file_system.specs.declared.file_system.FileSystem.{Ghosts}
 use Rattle.file_system.specs.declared.handle.Handle.{Handle}
 use Rattle.model.specs.declared.command.Command.TheVariants as command
@@ -21,9 +20,6 @@ use Rattle.served.specs.declared.marks.Asker.{Asker}
 use Rattle.served.specs.declared.removing.TheConstants.{NO_REPLACE}
 use Rattle.served.proofs.TurnLaws as laws
 use Rattle.served.proofs.TurnLaws.{came_gives, came_given, came_some, came_then, came_handle, came_along, came_nowhere, came_done, came_refused, came_then_if, came_else}
-
-pub test_le_not : (a b : ℕ) → b < a → nat_le a b ≡ false
-test_le_not a b more = elim (leb_tells a b) [ inl t ↦ absurd (omega (arith, t.1, more)) | inr f ↦ f.0 ]
 
 module _ {S : Type 0} (G : Ghosts S) where
   -- what the server knows could be changed, or not

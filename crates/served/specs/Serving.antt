@@ -1,5 +1,5 @@
 -- What a server does with the messages of the kernel.
-use Rattle.std.specs.Prelude.{ℕ, ◌≡◌, Bool, List, [], ◌∷◌, ◌++◌, Some, None, if◌then◌else◌}
+use Rattle.std.specs.Prelude.{◌≡◌, ℕ, List, [], Some, None}
 use Rattle.file_system.specs.declared.file_system.FileSystem.{Ghosts}
 use Rattle.fuse.specs.Head.{head}
 use Rattle.fuse.specs.Replies.{error_text}
@@ -33,25 +33,3 @@ pub record IsAnswered {S : Type 0} (G : Ghosts S) (old new : S) (k known : Known
       × (reply ≡ spelled r.head.unique told)
   pub other : ((r : RequestValue) → IsRequest message r → ⊥) →
       (new ≡ old) × (known ≡ k) × (reply ≡ refused_text message)
-
--- a message, when it came, its reply, and whether that was sent
-pub record Exchange : Type 0 where
-  pub now : Time
-  pub message : List ℕ
-  pub reply : List ℕ
-  pub is_sent : Bool
-
--- messages were answered in order, each from where the one before it led
-abbrev pub HasAnswered : {S : Type 0} (G : Ghosts S) → S → Known → List Exchange → S → Known → Type 0
-HasAnswered G old k [] new known = (new ≡ old) × (known ≡ k)
-HasAnswered {S} G old k (e ∷ es) new known =
-    (next : S) × (behind : Known) × IsAnswered G old next k behind e.now e.message e.reply × HasAnswered G next behind es new known
-
--- all that came, and all that was sent
-abbrev pub messages_of : List Exchange → List ℕ
-messages_of [] = []
-messages_of (e ∷ es) = e.message ++ messages_of es
-
-abbrev pub replies_of : List Exchange → List ℕ
-replies_of [] = []
-replies_of (e ∷ es) = (if e.is_sent then e.reply else []) ++ replies_of es

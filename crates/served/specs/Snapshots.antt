@@ -1,5 +1,5 @@
 -- What requests come to in the folder of snapshots, and in what stands there. `k` is what the server knows.
-use Rattle.std.specs.Prelude.{ℕ, ◌==◌, bit_and, List, [], ◌∷◌, Option, Some, None, is_some, if◌then◌else◌}
+use Rattle.std.specs.Prelude.{ℕ, ◌==◌, bit_and, List, [], Option, Some, None, is_some, if◌then◌else◌}
 use Rattle.fuse.specs.declared.attributes.Attributes.{Attributes}
 use Rattle.fuse.specs.declared.open_reply.TheConstants.{FOPEN_KEEP_CACHE}
 use Rattle.model.specs.declared.command.Command.TheVariants as command
@@ -19,11 +19,6 @@ use Rattle.served.specs.declared.answer.Answer.{Answer}
 use Rattle.served.specs.declared.answer.Answer.TheVariants as answer
 use Rattle.served.specs.declared.node.TheConstants.{SNAPSHOTS_NODE}
 use Rattle.served.specs.declared.snapshots.TheConstants.{ACCESS_BITS}
-
--- the snapshots of these names are there, beside those that are known
-abbrev pub with_names : List (List ℕ) → Known → Known
-with_names [] k = k
-with_names (name ∷ names) k = with_names names (with_snapshot name k)
 
 -- the folder of snapshots is told of as a directory of mode 755, as old as the mount
 abbrev pub snapshots_attributes : Known → Attributes

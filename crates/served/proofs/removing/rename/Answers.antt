@@ -4,13 +4,13 @@ use Rattle.served.specs.Removing as spec
 use Rattle.served.specs.Setting.{Told}
 use Rattle.served.specs.declared.removing.TheConstants.{NO_REPLACE}
 use Rattle.served.proofs.TurnLaws.{came_path}
-use Rattle.std.proofs.lemmas.Bool.{le-leb}
-use Rattle.served.proofs.RemovingLaws.{test_le_not, came_rename, came_rename_nowhere, came_rename_invalid}
+use Rattle.std.proofs.lemmas.Bool.{le-leb, lt-leb}
+use Rattle.served.proofs.RemovingLaws.{came_rename, came_rename_nowhere, came_rename_invalid}
 use Rattle.served.proofs.removing.rename.Goals as goal
 
 pub returns-then-flags-gt-NO_REPLACE : goal.returns-then-flags-gt-NO_REPLACE
 returns-then-flags-gt-NO_REPLACE g c =
-    came_rename_invalid g.F.FileSystem c.args.files.now (known_of c.args.memory.now) c.args.asker c.args.parent c.args.name.now c.args.new_parent c.args.new_name.now c.args.flags (test_le_not c.args.flags NO_REPLACE c.if-flags-gt-NO_REPLACE.true)
+    came_rename_invalid g.F.FileSystem c.args.files.now (known_of c.args.memory.now) c.args.asker c.args.parent c.args.name.now c.args.new_parent c.args.new_name.now c.args.flags (lt-leb c.args.flags NO_REPLACE c.if-flags-gt-NO_REPLACE.true)
 
 pub returns-in-Ok : goal.returns-in-Ok
 returns-in-Ok g c =
