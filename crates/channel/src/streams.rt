@@ -1,5 +1,9 @@
 //! A channel over a reader and a writer: the kernel's device, open as two streams.
 
+ghost use Rattle.std.specs.Io.KnownBytes.{Appends, Consumes, Keeps};
+ghost use Rattle.std.specs.Prelude.{◌≡◌, ◌<◌, ◌≤◌, ℕ, List, MatchResult, length};
+ghost use Rattle.channel.specs.Sending.{Went};
+
 use crate::{Channel, Ended, Received, Sent};
 use std::io::{Error, Read, Write};
 
@@ -35,6 +39,14 @@ fn is_passing(error: &Error) -> bool {
 }
 
 impl<R: Read, W: Write> Channel for Streams<R, W> {
+    ghost receives = { λ s t room found. (t.output ≡ s.output) × MatchResult found
+        (λ request. (0 < length request) × (length request ≤ room)
+        × Consumes (R.remaining s.input) (R.remaining t.input) request)
+        (λ ended. Keeps (R.remaining s.input) (R.remaining t.input)) };
+
+    ghost sends = { λ s t reply result. (t.input ≡ s.input) × ((part : List ℕ)
+        × Went reply result part × Appends (W.contents s.output) (W.contents t.output) part) };
+
     ghost coming = { λ s. R.remaining s.input };
 
     ghost gone = { λ s. W.contents s.output };

@@ -10,15 +10,17 @@ use Rattle.model.specs.declared.errno.Errno.{Errno}
 use Rattle.model.specs.declared.errno.Errno.TheVariants as errno
 use Rattle.model.specs.declared.limits.TheConstants.{TRANSFER_BYTES}
 use Rattle.model.specs.declared.reply.Reply.TheVariants as reply
-use Rattle.served.proofs.TurnLaws.{came_gives, came_some, came_then, came_then_if, came_else, came_done, came_refused}
-use Rattle.served.specs.Files.{IsOffset, Reading, asked_at_once, is_enough, marked_written, read_before, read_behind, read_more, reads, write, write_more, writes, wrote_before}
-use Rattle.served.specs.Known.{Known}
+use Rattle.served.proofs.TurnLaws.{came_gives, came_given, came_some, came_then, came_then_if, came_else, came_done, came_refused}
+use Rattle.served.specs.Files.{IsOffset, Reading, asked_at_once, closes, is_enough, marked_written, read_before, read_behind, read_more, reads, release_gone, write, write_more, writes, wrote_before}
+use Rattle.served.specs.Keeping.{closed_once, is_held}
+use Rattle.served.specs.Known.{Known, with_removed}
 use Rattle.served.specs.Looking.{no_memory}
-use Rattle.served.specs.Setting.{Told}
+use Rattle.served.specs.Setting.{Told, looks}
 use Rattle.served.specs.Turns.{Came, Turn, asks, either, gives, gives_some}
 use Rattle.served.specs.declared.answer.Answer.{Answer}
 use Rattle.served.specs.declared.answer.Answer.TheVariants as answer
 use Rattle.served.specs.declared.marks.Asker.{Asker}
+use Rattle.served.specs.declared.memory.Removed.{Removed}
 use Rattle.served.specs.declared.numbers.TheConstants.{MOST_PARTS}
 
 not_zero : (a : ℕ) → 0 < a → (a == 0) ≡ false
@@ -197,12 +199,21 @@ module _ {S : Type 0} (G : Ghosts S) where
         (subst (λ (b : List ℕ). Came G mid new (writes fd offset b (parts - 1) now) r) rests then)))
 
   -- a file is written, and marked
-  pub write_so : (old new : S) (k : Known) (asker : Asker) (handle : Handle) (fd offset : ℕ) (bytes : List ℕ) (told : Answer) (known : Known) → Came G old new (writes fd offset bytes MOST_PARTS 0) told
-      → known ≡ marked_written k asker handle told → Came G old new (write k asker handle fd offset bytes) (told, known)
-  write_so old new k asker handle fd offset bytes told known did is =
-      came_then G old new new (writes fd offset bytes MOST_PARTS 0) (λ (a : Answer). gives {R = Told} (a, marked_written k asker handle a)) told (told, known) did
-      (subst (λ (m : Known). Came G new new (gives {R = Told} (told, marked_written k asker handle told)) (told, m)) (sym is) (came_gives G new {R = Told} (told, marked_written k asker handle told)))
+  pub write_so : (old new : S) (k : Known) (asker : Asker) (node : ℕ) (handle : Handle) (fd offset : ℕ) (bytes : List ℕ) (told : Answer) (known : Known) → Came G old new (writes fd offset bytes MOST_PARTS 0) told
+      → known ≡ marked_written k asker node handle told → Came G old new (write k asker node handle fd offset bytes) (told, known)
+  write_so old new k asker node handle fd offset bytes told known did is =
+      came_then G old new new (writes fd offset bytes MOST_PARTS 0) (λ (a : Answer). gives {R = Told} (a, marked_written k asker node handle a)) told (told, known) did
+      (subst (λ (m : Known). Came G new new (gives {R = Told} (told, marked_written k asker node handle told)) (told, m)) (sym is) (came_gives G new {R = Told} (told, marked_written k asker node handle told)))
 
-pub unmarked : (k : Known) (asker : Asker) (handle : Handle) (told : Answer) → ((n : ℕ) → told ≢ answer.Wrote n) → k ≡ marked_written k asker handle told
-unmarked k asker handle (answer.Wrote n) not = absurd (not n refl)
-unmarked k asker handle told not = refl
+module _ {S : Type 0} (G : Ghosts S) where
+  -- what is kept of a file stays open
+  pub kept_open : (s : S) (k known : Known) (node fd : ℕ) (removed : Removed) → is_held removed.held fd ≡ true → known ≡ with_removed node (closed_once removed) k
+      → Came G s s (release_gone k node fd (Some removed)) (answer.Done, known)
+  kept_open s k known node fd removed is same =
+      let told : Known → Told = λ known. (answer.Done, known) in
+      came_then_if G s s {R = Told} (is_held removed.held fd) (gives (told (with_removed node (closed_once removed) k))) (looks k (closes fd)) (told known) is
+      (came_given G s {R = Told} (told (with_removed node (closed_once removed) k)) (told known) (ap told same))
+
+pub unmarked : (k : Known) (asker : Asker) (node : ℕ) (handle : Handle) (told : Answer) → ((n : ℕ) → told ≢ answer.Wrote n) → k ≡ marked_written k asker node handle told
+unmarked k asker node handle (answer.Wrote n) not = absurd (not n refl)
+unmarked k asker node handle told not = refl

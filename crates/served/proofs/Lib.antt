@@ -1,5 +1,8 @@
+pub mod ChangingLaws
+pub mod CountingLaws
 pub mod FilesLaws
 pub mod ForgettingLaws
+pub mod KeepingLaws
 pub mod ListingLaws
 pub mod LookingLaws
 pub mod MakingLaws
@@ -8,4 +11,5 @@ pub mod RemovingLaws
 pub mod RequestsLaws
 pub mod ServingLaws
 pub mod SettingLaws
+pub mod SnapshotLaws
 pub mod TurnLaws

@@ -14,7 +14,7 @@ use Rattle.model.specs.declared.reply.Reply.TheVariants as reply
 use Rattle.model.specs.declared.reply.Stat.{Stat}
 use Rattle.served.proofs.TurnLaws.{came_along, came_done, came_else, came_given, came_gives, came_refused, came_some, came_then, came_then_if, came_nowhere}
 use Rattle.served.specs.Known.{Known, seen_of}
-use Rattle.served.specs.Listing.{Whose, running, directory_at, dots, ends, entry_at, has_room, leads_to, list, listed, lists, lists_along, name_in, names_asked, names_in, shares_cookie, snapshots_in, spelled, tells, tells_name, told_of, untold}
+use Rattle.served.specs.Listing.{Whose, running, directory_at, dots, ends, entry_at, has_room, inode_in, leads_to, list, listed, lists, lists_along, name_in, names_asked, names_in, shares_cookie, snapshots_in, spelled, tells, tells_name, told_of, untold}
 use Rattle.served.specs.Looking.{no_memory, stored_parts}
 use Rattle.served.specs.Nodes.{node_within}
 use Rattle.served.specs.Turns.{Came, LeadsFrom, Turn, ◌▹◌, asks, either, gives, gives_some, handle_now, with_path}
@@ -135,16 +135,6 @@ module _ {S : Type 0} (G : Ghosts S) where
       (came_then G new new new (handle_now stat.number) (λ (handle : Handle). gives {R = Result Entry Errno} (Ok (entry_at k stat parts handle))) handle (Ok given) has
       (came_given G new {R = Result Entry Errno} (Ok (entry_at k stat parts handle)) (Ok given) (ap (λ (e : Entry). let r : Result Entry Errno = Ok e in r) is))))
 
-  pub told_plain : (s : S) (k : Known) (whose : Whose) (part : Part) (stat : Stat) (given : Entry) → part.plus ≡ false → given ≡ untold → Came G s s (told_of k whose part stat) (Ok given)
-  unfolding told_of
-  told_plain s k whose part stat given plain is =
-      came_else G s s part.plus (leads_to k whose stat) (gives {R = Result Entry Errno} (Ok untold)) (Ok given) plain
-      (came_given G s {R = Result Entry Errno} (Ok untold) (Ok given) (ap (λ (e : Entry). let r : Result Entry Errno = Ok e in r) is))
-
-  pub told_plus : (old new : S) (k : Known) (whose : Whose) (part : Part) (stat : Stat) (r : Result Entry Errno) → part.plus ≡ true → Came G old new (leads_to k whose stat) r → Came G old new (told_of k whose part stat) r
-  unfolding told_of
-  told_plus old new k whose part stat r plus done = came_then_if G old new part.plus (leads_to k whose stat) (gives {R = Result Entry Errno} (Ok untold)) r plus done
-
   named : (old new : S) (part : Part) (whole : ℕ) (had : List ℕ) (name : ListedValue) (rest : List ℕ → Turn Answer) (entry : Entry) (r : Answer) (kept : Bool)
       → Came G old new (either kept (either (has_room part had entry name) (rest (had ++ spelled part entry name)) (gives (ends (take whole had)))) (gives no_memory)) r
       → Came G old new (tells_name part whole had name rest entry) r
@@ -154,47 +144,47 @@ module _ {S : Type 0} (G : Ghosts S) where
       (came_some G old (λ (b : Bool). Unit {0}) kept tt) done
 
   -- names are told
-  module _ (k : Known) (whose : Whose) (part : Part) where
+  module _ (k : Known) (whose : Whose) (number : ℕ) (part : Part) where
     abbrev behind : Named → List Named → ℕ → List ℕ → Turn Answer
-    behind x rest whole now = tells k whose part rest (if shares_cookie x rest then whole else length now) now
+    behind x rest whole now = tells k whose number part rest (if shares_cookie x rest then whole else length now) now
 
     abbrev goes : Named → List Named → ℕ → List ℕ → Result Entry Errno → Turn Answer
     goes x rest whole had (Err e) = gives (answer.Refused e)
     goes x rest whole had (Ok entry) = tells_name part whole had (name_in whose x) (behind x rest whole) entry
 
-    pub tells_none : (s : S) (names : List Named) (whole : ℕ) (had given : List ℕ) → length names ≡ 0 → given ≡ had → Came G s s (tells k whose part names whole had) (answer.Bytes given)
+    pub tells_none : (s : S) (names : List Named) (whole : ℕ) (had given : List ℕ) → length names ≡ 0 → given ≡ had → Came G s s (tells k whose number part names whole had) (answer.Bytes given)
     unfolding tells
     tells_none s [] whole had given none is = came_given G s (answer.Bytes had) (answer.Bytes given) (ap answer.Bytes is)
     tells_none s (x ∷ names) whole had given none is = absurd (omega arith)
 
-    tells_first : (old mid new : S) (x : Named) (rest : List Named) (whole : ℕ) (had : List ℕ) (found : Result Entry Errno) (r : Answer) → Came G old mid (told_of k whose part x.stat) found
-        → Came G mid new (goes x rest whole had found) r → Came G old new (tells k whose part (x ∷ rest) whole had) r
+    tells_first : (old mid new : S) (x : Named) (rest : List Named) (whole : ℕ) (had : List ℕ) (found : Result Entry Errno) (r : Answer) → Came G old mid (told_of k whose number part x) found
+        → Came G mid new (goes x rest whole had found) r → Came G old new (tells k whose number part (x ∷ rest) whole had) r
     unfolding tells
     tells_first old mid new x rest whole had found r told done =
-        came_then G old mid new (told_of k whose part x.stat)
+        came_then G old mid new (told_of k whose number part x)
         (λ (found : Result Entry Errno). elim found [
           | Err e ↦ gives (answer.Refused e)
           | Ok entry ↦ tells_name part whole had (name_in whose x) (behind x rest whole) entry
         ]) found r told done
 
     tells_from : (old mid new : S) (names : List Named) (x : Named) (rest : List Named) (whole : ℕ) (had : List ℕ) (found : Result Entry Errno) (r : Answer) → names ≡ x ∷ rest
-        → Came G old mid (told_of k whose part x.stat) found → Came G mid new (goes x rest whole had found) r → Came G old new (tells k whose part names whole had) r
+        → Came G old mid (told_of k whose number part x) found → Came G mid new (goes x rest whole had found) r → Came G old new (tells k whose number part names whole had) r
     tells_from old mid new names x rest whole had found r first told done =
-        subst (λ (l : List Named). Came G old new (tells k whose part l whole had) r) (sym first) (tells_first old mid new x rest whole had found r told done)
+        subst (λ (l : List Named). Came G old new (tells k whose number part l whole had) r) (sym first) (tells_first old mid new x rest whole had found r told done)
 
-    pub tells_refused : (old new : S) (names : List Named) (x : Named) (rest : List Named) (whole : ℕ) (had : List ℕ) (e : Errno) → names ≡ x ∷ rest → Came G old new (told_of k whose part x.stat) (Err e)
-        → Came G old new (tells k whose part names whole had) (answer.Refused e)
+    pub tells_refused : (old new : S) (names : List Named) (x : Named) (rest : List Named) (whole : ℕ) (had : List ℕ) (e : Errno) → names ≡ x ∷ rest → Came G old new (told_of k whose number part x) (Err e)
+        → Came G old new (tells k whose number part names whole had) (answer.Refused e)
     tells_refused old new names x rest whole had e first told = tells_from old new new names x rest whole had (Err e) (answer.Refused e) first told (came_gives G new (answer.Refused e))
 
-    pub tells_unkept : (old new : S) (names : List Named) (x : Named) (rest : List Named) (whole : ℕ) (had : List ℕ) (entry : Entry) → names ≡ x ∷ rest → Came G old new (told_of k whose part x.stat) (Ok entry)
-        → Came G old new (tells k whose part names whole had) no_memory
+    pub tells_unkept : (old new : S) (names : List Named) (x : Named) (rest : List Named) (whole : ℕ) (had : List ℕ) (entry : Entry) → names ≡ x ∷ rest → Came G old new (told_of k whose number part x) (Ok entry)
+        → Came G old new (tells k whose number part names whole had) no_memory
     tells_unkept old new names x rest whole had entry first told =
         tells_from old new new names x rest whole had (Ok entry) no_memory first told
         (named new new part whole had (name_in whose x) (behind x rest whole) entry no_memory false (came_gives G new no_memory))
 
     pub tells_full : (old new : S) (names : List Named) (x : Named) (rest : List Named) (whole : ℕ) (had : List ℕ) (entry : Entry) (name : ListedValue) (given : Answer) → names ≡ x ∷ rest
-        → Came G old new (told_of k whose part x.stat) (Ok entry) → name ≡ name_in whose x → has_room part had entry name ≡ false → given ≡ ends (take whole had)
-        → Came G old new (tells k whose part names whole had) given
+        → Came G old new (told_of k whose number part x) (Ok entry) → name ≡ name_in whose x → has_room part had entry name ≡ false → given ≡ ends (take whole had)
+        → Came G old new (tells k whose number part names whole had) given
     tells_full old new names x rest whole had entry name given first told is full so =
         tells_from old new new names x rest whole had (Ok entry) given first told
         (named new new part whole had (name_in whose x) (behind x rest whole) entry given true
@@ -202,31 +192,31 @@ module _ {S : Type 0} (G : Ghosts S) where
         (subst (λ (n : ListedValue). has_room part had entry n ≡ false) is full) (came_given G new (ends (take whole had)) given so)))
 
     pub tells_on : (old mid new : S) (names : List Named) (x : Named) (rest : List Named) (whole : ℕ) (had : List ℕ) (entry : Entry) (name : ListedValue) (now : List ℕ) (ended : ℕ) (r : Answer) → names ≡ x ∷ rest
-        → Came G old mid (told_of k whose part x.stat) (Ok entry) → name ≡ name_in whose x → has_room part had entry name ≡ true → now ≡ had ++ spelled part entry name
-        → ended ≡ (if shares_cookie x rest then whole else length now) → Came G mid new (tells k whose part rest ended now) r → Came G old new (tells k whose part names whole had) r
+        → Came G old mid (told_of k whose number part x) (Ok entry) → name ≡ name_in whose x → has_room part had entry name ≡ true → now ≡ had ++ spelled part entry name
+        → ended ≡ (if shares_cookie x rest then whole else length now) → Came G mid new (tells k whose number part rest ended now) r → Came G old new (tells k whose number part names whole had) r
     tells_on old mid new names x rest whole had entry name now ended r first told is fits so ends_so done =
         tells_from old mid new names x rest whole had (Ok entry) r first told
         (named mid new part whole had (name_in whose x) (behind x rest whole) entry r true
         (came_then_if G mid new (has_room part had entry (name_in whose x)) (behind x rest whole (had ++ spelled part entry (name_in whose x))) (gives (ends (take whole had))) r
         (subst (λ (n : ListedValue). has_room part had entry n ≡ true) is fits)
         (subst (λ (l : List ℕ). Came G mid new (behind x rest whole l) r) (so ∙ ap (λ (n : ListedValue). had ++ spelled part entry n) is)
-        (subst (λ (n : ℕ). Came G mid new (tells k whose part rest n now) r) ends_so done))))
+        (subst (λ (n : ℕ). Came G mid new (tells k whose number part rest n now) r) ends_so done))))
 
     -- a part behind `.` and `..`
-    pub lists_far : (s : S) (number : ℕ) (had given : List ℕ) → nat_lt part.behind (2 ^ 63) ≡ false → given ≡ had → Came G s s (lists k whose number part had) (answer.Bytes given)
+    pub lists_far : (s : S) (had given : List ℕ) → nat_lt part.behind (2 ^ 63) ≡ false → given ≡ had → Came G s s (lists k whose number part had) (answer.Bytes given)
     unfolding lists
-    lists_far s number had given far is =
-        came_else G s s (nat_lt part.behind (2 ^ 63)) (with_path no_memory number [] (lists_along k whose part had)) (gives (answer.Bytes had)) (answer.Bytes given) far
+    lists_far s had given far is =
+        came_else G s s (nat_lt part.behind (2 ^ 63)) (with_path no_memory number [] (lists_along k whose number part had)) (gives (answer.Bytes had)) (answer.Bytes given) far
         (came_given G s (answer.Bytes had) (answer.Bytes given) (ap answer.Bytes is))
 
-    lists_near : (old new : S) (number : ℕ) (had : List ℕ) (r : Answer) → nat_lt part.behind (2 ^ 63) ≡ true → Came G old new (with_path no_memory number [] (lists_along k whose part had)) r
+    lists_near : (old new : S) (had : List ℕ) (r : Answer) → nat_lt part.behind (2 ^ 63) ≡ true → Came G old new (with_path no_memory number [] (lists_along k whose number part had)) r
         → Came G old new (lists k whose number part had) r
     unfolding lists
-    lists_near old new number had r near done =
-        came_then_if G old new (nat_lt part.behind (2 ^ 63)) (with_path no_memory number [] (lists_along k whose part had)) (gives (answer.Bytes had)) r near done
+    lists_near old new had r near done =
+        came_then_if G old new (nat_lt part.behind (2 ^ 63)) (with_path no_memory number [] (lists_along k whose number part had)) (gives (answer.Bytes had)) r near done
 
-    pub lists_nowhere : (s : S) (number : ℕ) (had : List ℕ) → nat_lt part.behind (2 ^ 63) ≡ true → Came G s s (lists k whose number part had) no_memory
-    lists_nowhere s number had near = lists_near s s number had no_memory near (came_nowhere G s no_memory number [] (lists_along k whose part had))
+    pub lists_nowhere : (s : S) (had : List ℕ) → nat_lt part.behind (2 ^ 63) ≡ true → Came G s s (lists k whose number part had) no_memory
+    lists_nowhere s had near = lists_near s s had no_memory near (came_nowhere G s no_memory number [] (lists_along k whose number part had))
 
     asked_so : (old new : S) (path : List ℕ) (after : ℤ) (count : ℕ) (found : Result (List Named) Errno) → after ≡ pos part.behind → count ≡ names_asked part
         → Came G old new (asks reply.Entries (names_in whose path after count)) found → Came G old new (asks reply.Entries (names_in whose path (pos part.behind) (names_asked part))) found
@@ -234,42 +224,42 @@ module _ {S : Type 0} (G : Ghosts S) where
         subst (λ (n : ℕ). Came G old new (asks reply.Entries (names_in whose path (pos part.behind) n)) found) many
         (subst (λ (z : ℤ). Came G old new (asks reply.Entries (names_in whose path z count)) found) at done)
 
-    pub lists_refused : (old new : S) (number : ℕ) (had path : List ℕ) (after : ℤ) (count : ℕ) (e : Errno) → nat_lt part.behind (2 ^ 63) ≡ true → LeadsFrom number [] path → after ≡ pos part.behind
+    pub lists_refused : (old new : S) (had path : List ℕ) (after : ℤ) (count : ℕ) (e : Errno) → nat_lt part.behind (2 ^ 63) ≡ true → LeadsFrom number [] path → after ≡ pos part.behind
         → count ≡ names_asked part → Came G old new (asks reply.Entries (names_in whose path after count)) (Err e) → Came G old new (lists k whose number part had) (answer.Refused e)
-    lists_refused old new number had path after count e near leads at many done =
-        lists_near old new number had (answer.Refused e) near
-        (came_along G old new no_memory number [] path (lists_along k whose part had) (answer.Refused e) leads
+    lists_refused old new had path after count e near leads at many done =
+        lists_near old new had (answer.Refused e) near
+        (came_along G old new no_memory number [] path (lists_along k whose number part had) (answer.Refused e) leads
         (came_refused G old new new reply.Entries (names_in whose path (pos part.behind) (names_asked part)) (λ (e : Errno). gives (answer.Refused e))
-        (λ (names : List Named). tells k whose part names (length had) had) e (answer.Refused e) (asked_so old new path after count (Err e) at many done) (came_gives G new (answer.Refused e))))
+        (λ (names : List Named). tells k whose number part names (length had) had) e (answer.Refused e) (asked_so old new path after count (Err e) at many done) (came_gives G new (answer.Refused e))))
 
-    pub lists_on : (old mid new : S) (number : ℕ) (had path : List ℕ) (after : ℤ) (count : ℕ) (names : List Named) (whole : ℕ) (r : Answer) → nat_lt part.behind (2 ^ 63) ≡ true → LeadsFrom number [] path
+    pub lists_on : (old mid new : S) (had path : List ℕ) (after : ℤ) (count : ℕ) (names : List Named) (whole : ℕ) (r : Answer) → nat_lt part.behind (2 ^ 63) ≡ true → LeadsFrom number [] path
         → after ≡ pos part.behind → count ≡ names_asked part → Came G old mid (asks reply.Entries (names_in whose path after count)) (Ok names) → whole ≡ length had
-        → Came G mid new (tells k whose part names whole had) r → Came G old new (lists k whose number part had) r
-    lists_on old mid new number had path after count names whole r near leads at many done is later =
-        lists_near old new number had r near
-        (came_along G old new no_memory number [] path (lists_along k whose part had) r leads
+        → Came G mid new (tells k whose number part names whole had) r → Came G old new (lists k whose number part had) r
+    lists_on old mid new had path after count names whole r near leads at many done is later =
+        lists_near old new had r near
+        (came_along G old new no_memory number [] path (lists_along k whose number part had) r leads
         (came_done G old mid new reply.Entries (names_in whose path (pos part.behind) (names_asked part)) (λ (e : Errno). gives (answer.Refused e))
-        (λ (names : List Named). tells k whose part names (length had) had) names r (asked_so old mid path after count (Ok names) at many done)
-        (subst (λ (n : ℕ). Came G mid new (tells k whose part names n had) r) is later)))
+        (λ (names : List Named). tells k whose number part names (length had) had) names r (asked_so old mid path after count (Ok names) at many done)
+        (subst (λ (n : ℕ). Came G mid new (tells k whose number part names n had) r) is later)))
 
-    begins : (old new : S) (number : ℕ) (r : Answer)
-        → Came G old new (either (listed part (dots part number) []).1 (lists k whose number part (listed part (dots part number) []).0) (gives (answer.Bytes (listed part (dots part number) []).0))) r
+    begins : (old new : S) (r : Answer)
+        → Came G old new (either (listed part (dots part (inode_in whose number)) []).1 (lists k whose number part (listed part (dots part (inode_in whose number)) []).0) (gives (answer.Bytes (listed part (dots part (inode_in whose number)) []).0))) r
         → Came G old new (list k whose number part) r
-    begins old new number r done =
+    begins old new r done =
         came_then G old old new (gives_some (λ (b : Bool). Unit {0}))
-        (λ (b : Bool). either b (either (listed part (dots part number) []).1 (lists k whose number part (listed part (dots part number) []).0) (gives (answer.Bytes (listed part (dots part number) []).0))) (gives no_memory))
+        (λ (b : Bool). either b (either (listed part (dots part (inode_in whose number)) []).1 (lists k whose number part (listed part (dots part (inode_in whose number)) []).0) (gives (answer.Bytes (listed part (dots part (inode_in whose number)) []).0))) (gives no_memory))
         true r (came_some G old (λ (b : Bool). Unit {0}) true tt) done
 
-    pub list_all : (old new : S) (number : ℕ) (had : List ℕ) (r : Answer) → ◌≡◌ {A = Listing} (had, true) (listed part (dots part number) []) → Came G old new (lists k whose number part had) r
+    pub list_all : (old new : S) (had : List ℕ) (r : Answer) → ◌≡◌ {A = Listing} (had, true) (listed part (dots part (inode_in whose number)) []) → Came G old new (lists k whose number part had) r
         → Came G old new (list k whose number part) r
-    list_all old new number had r is done =
-        begins old new number r
-        (came_then_if G old new (listed part (dots part number) []).1 (lists k whose number part (listed part (dots part number) []).0) (gives (answer.Bytes (listed part (dots part number) []).0)) r
+    list_all old new had r is done =
+        begins old new r
+        (came_then_if G old new (listed part (dots part (inode_in whose number)) []).1 (lists k whose number part (listed part (dots part (inode_in whose number)) []).0) (gives (answer.Bytes (listed part (dots part (inode_in whose number)) []).0)) r
         (ap (λ (p : Listing). p.1) (sym is)) (subst (λ (l : List ℕ). Came G old new (lists k whose number part l) r) (ap (λ (p : Listing). p.0) is) done))
 
-    pub list_dots : (s : S) (number : ℕ) (had given : List ℕ) → ◌≡◌ {A = Listing} (had, false) (listed part (dots part number) []) → given ≡ had → Came G s s (list k whose number part) (answer.Bytes given)
-    list_dots s number had given is so =
-        begins s s number (answer.Bytes given)
-        (came_else G s s (listed part (dots part number) []).1 (lists k whose number part (listed part (dots part number) []).0) (gives (answer.Bytes (listed part (dots part number) []).0)) (answer.Bytes given)
+    pub list_dots : (s : S) (had given : List ℕ) → ◌≡◌ {A = Listing} (had, false) (listed part (dots part (inode_in whose number)) []) → given ≡ had → Came G s s (list k whose number part) (answer.Bytes given)
+    list_dots s had given is so =
+        begins s s (answer.Bytes given)
+        (came_else G s s (listed part (dots part (inode_in whose number)) []).1 (lists k whose number part (listed part (dots part (inode_in whose number)) []).0) (gives (answer.Bytes (listed part (dots part (inode_in whose number)) []).0)) (answer.Bytes given)
         (ap (λ (p : Listing). p.1) (sym is))
-        (came_given G s (answer.Bytes (listed part (dots part number) []).0) (answer.Bytes given) (ap answer.Bytes (so ∙ ap (λ (p : Listing). p.0) is))))
+        (came_given G s (answer.Bytes (listed part (dots part (inode_in whose number)) []).0) (answer.Bytes given) (ap answer.Bytes (so ∙ ap (λ (p : Listing). p.0) is))))

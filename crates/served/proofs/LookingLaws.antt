@@ -1,5 +1,5 @@
 -- How requests come about that look at the running tree.
-use Rattle.std.proofs.Common.{◌≡◌, ◌<◌, ℕ, pos, FitsSigned, w64, true, false, nat_lt, ◌^◌, List, arith, [], Option, Some, None, Result, Ok, Err, refl, sym, subst}
+use Rattle.std.proofs.Common.{◌≡◌, ◌<◌, ℕ, pos, FitsSigned, w64, true, false, nat_lt, ◌^◌, List, arith, [], Result, Ok, Err}
 use Rattle.std.proofs.lemmas.Bool.Decides.{nat_tests}
 use Rattle.file_system.specs.declared.file_system.FileSystem.{Ghosts}
 use Rattle.file_system.specs.declared.handle.Handle.{Handle}
@@ -7,21 +7,18 @@ use Rattle.model.specs.declared.command.Command.{Command}
 use Rattle.model.specs.declared.command.Command.TheVariants as command
 use Rattle.model.specs.declared.command.PathCall.TheVariants as call
 use Rattle.model.specs.declared.errno.Errno.{Errno}
-use Rattle.model.specs.declared.errno.Errno.TheVariants as errno
 use Rattle.model.specs.declared.reply.Extent.{Extent}
 use Rattle.model.specs.declared.reply.Reply.TheVariants as reply
 use Rattle.model.specs.declared.reply.Stat.{Stat}
 use Rattle.model.specs.declared.reply.Usage.{Usage}
 use Rattle.model.specs.declared.text.Text.{Text}
 use Rattle.served.specs.Commands.{lstat}
-use Rattle.served.specs.Known.{IsOpenAt, Known, marks_at}
-use Rattle.served.specs.Looking.{found, is_stale, look_up, missing, no_memory, read_link, removed_told, seek, space_told, stored_parts, tell_attributes, tell_entry, tell_gone, tell_number, tell_open, tell_removed, tell_space}
-use Rattle.served.specs.Nodes.{node_of}
-use Rattle.served.specs.Telling.{attributes_of, entry_of}
-use Rattle.served.specs.Turns.{Turn, ◌▹◌, asks, asks_for, either, gives, gives_some, handle_now, told_done, with_path, LeadsFrom, Came}
+use Rattle.served.specs.Known.{Known, marks_at}
+use Rattle.served.specs.Looking.{ReadsRemoved, found, is_stale, look_up, missing, no_memory, read_link, seek, seek_removed, space_told, stored_parts, tell_attributes, tell_entry, tell_number, tell_removed, tell_space}
+use Rattle.served.specs.Telling.{attributes_of}
+use Rattle.served.specs.Turns.{Turn, ◌▹◌, asks, asks_for, either, gives, gives_some, told_done, with_path, LeadsFrom, Came}
 use Rattle.served.specs.declared.answer.Answer.{Answer}
 use Rattle.served.specs.declared.answer.Answer.TheVariants as answer
-use Rattle.served.specs.declared.memory.Removed.{Removed}
 use Rattle.served.proofs.TurnLaws.{came_gives, came_given, came_some, came_then, came_along, came_nowhere, came_done, came_refused, came_then_if, came_else, came_done_along, came_refused_along}
 
 -- an offset that a call can have, and one that it can't
@@ -32,16 +29,6 @@ pub far : (n : ℕ) → (FitsSigned w64 (pos n) → ⊥) → nat_lt n (2 ^ 63) �
 far n not_fits = grind (arith, nat_tests)
 
 module _ {S : Type 0} (G : Ghosts S) where
-  -- an entry
-  pub tell_entry-told : (old new : S) (k : Known) (path : List ℕ) (stat : Stat) (parts : ℕ) (handle : Handle) (r : Answer) → Came G old new (stored_parts path stat) parts
-      → handle ≡ record { number = stat.number; generation = G.generations new stat.number }
-      → r ≡ answer.Entry (entry_of (node_of handle) handle.generation (attributes_of stat.number stat parts (marks_at k handle))) → Came G old new (tell_entry k path stat) r
-  tell_entry-told old new k path stat parts handle r first is same =
-      let gives_it : Handle → Turn Answer = λ h. gives (answer.Entry (entry_of (node_of h) h.generation (attributes_of stat.number stat parts (marks_at k h)))) in
-      let told : Came G new new (handle_now stat.number ▹ gives_it) r = came_then G new new new (handle_now stat.number) gives_it handle r ([], refl, (refl, is)) (came_given G new _ r same) in
-      came_then G old new new (stored_parts path stat)
-      (λ p. handle_now stat.number ▹ (λ h. gives (answer.Entry (entry_of (node_of h) h.generation (attributes_of stat.number stat p (marks_at k h)))))) parts r first told
-
   -- an entry by its number
   pub tell_number-nowhere : (s : S) (k : Known) (stat : Stat) → Came G s s (tell_number k stat) no_memory
   tell_number-nowhere s k stat = came_nowhere G s no_memory stat.number [] (λ path. tell_entry k path stat)
@@ -64,36 +51,6 @@ module _ {S : Type 0} (G : Ghosts S) where
   look_up-refused old new k parent name text command errno r leads is first same =
       came_refused_along G old new new no_memory parent name text reply.Stat lstat command (λ e. gives (missing e)) (λ path. tell_number k) errno r leads is first
       (came_given G new (missing errno) r same)
-
-  -- what has no name any more
-  pub tell_removed-unknown : (s : S) (k : Known) (node : ℕ) → k.removed node ≡ None → Came G s s (tell_removed k node) (answer.Refused errno.ESTALE)
-  tell_removed-unknown s k node is =
-      subst (λ (o : Option Removed). Came G s s (tell_gone k node o) (answer.Refused errno.ESTALE)) (sym is) (came_gives G s (answer.Refused errno.ESTALE))
-
-  pub tell_removed-told : (old new : S) (k : Known) (node : ℕ) (removed : Removed) (fd : Option ℕ) (r : Answer) → k.removed node ≡ Some removed → IsOpenAt k node fd
-      → Came G old new (tell_open removed fd) r → Came G old new (tell_removed k node) r
-  tell_removed-told old new k node removed fd r is least told =
-      subst (λ (o : Option Removed). Came G old new (tell_gone k node o) r) (sym is)
-      (came_then G old old new (gives_some (IsOpenAt k node)) (tell_open removed) fd r (came_some G old (IsOpenAt k node) fd least) told)
-
-  -- what is open, or isn't
-  pub tell_open-closed : (s : S) (removed : Removed) (at : Option ℕ) (r : Answer) → at ≡ None → r ≡ removed_told removed removed.stat.size → Came G s s (tell_open removed at) r
-  tell_open-closed s removed at r is same =
-      subst (λ (o : Option ℕ). Came G s s (tell_open removed o) r) (sym is) (came_given G s (removed_told removed removed.stat.size) r same)
-
-  pub tell_open-told : (old new : S) (removed : Removed) (at : Option ℕ) (fd : ℕ) (stat : Stat) (r : Answer) → at ≡ Some fd → Came G old new (asks reply.Stat (command.Fstat fd)) (Ok stat)
-      → r ≡ removed_told removed stat.size → Came G old new (tell_open removed at) r
-  tell_open-told old new removed at fd stat r is first same =
-      subst (λ (o : Option ℕ). Came G old new (tell_open removed o) r) (sym is)
-      (came_done G old new new reply.Stat (command.Fstat fd) (λ e. gives (answer.Refused e)) (λ now. gives (removed_told removed now.size)) stat r first
-      (came_given G new (removed_told removed stat.size) r same))
-
-  pub tell_open-refused : (old new : S) (removed : Removed) (at : Option ℕ) (fd : ℕ) (errno : Errno) → at ≡ Some fd → Came G old new (asks reply.Stat (command.Fstat fd)) (Err errno)
-      → Came G old new (tell_open removed at) (answer.Refused errno)
-  tell_open-refused old new removed at fd errno is first =
-      subst (λ (o : Option ℕ). Came G old new (tell_open removed o) (answer.Refused errno)) (sym is)
-      (came_refused G old new new reply.Stat (command.Fstat fd) (λ e. gives (answer.Refused e)) (λ now. gives (removed_told removed now.size)) errno (answer.Refused errno) first
-      (came_gives G new (answer.Refused errno)))
 
   -- attributes
   pub tell_attributes-nowhere : (s : S) (k : Known) (node : ℕ) (handle : Handle) → Came G s s (tell_attributes k node handle) no_memory
@@ -129,56 +86,91 @@ module _ {S : Type 0} (G : Ghosts S) where
       attributes_refused old new new k node handle text command errno (answer.Refused errno) leads is first
       (came_else G new new (is_stale errno) (tell_removed k node) (gives (answer.Refused errno)) (answer.Refused errno) other (came_gives G new (answer.Refused errno)))
 
+-- what is done where the text of a link is refused, and where the extent of a file is
+abbrev unread : Known → ℕ → Errno → Turn Answer
+unread k node e = either (is_stale e) (gives_some (ReadsRemoved k node)) (gives (answer.Refused e))
+
+abbrev unsought : Known → ℕ → ℕ → ℕ → Errno → Turn Answer
+unsought k node offset whence e = either (is_stale e) (seek_removed k node offset whence) (gives (answer.Refused e))
+
+-- the file is asked from an offset on, if a call can have it
+abbrev seeks : Known → ℕ → ℕ → ℕ → ℕ → Turn Answer
+seeks k node number offset whence = with_path no_memory number [] (λ path.
+    asks_for reply.Extent (command.Extent path (pos offset)) (unsought k node offset whence) (λ x. gives (found x whence)))
+
+module _ {S : Type 0} (G : Ghosts S) where
   -- the text of a link
-  pub read_link-nowhere : (s : S) (number : ℕ) → Came G s s (read_link number) no_memory
-  read_link-nowhere s number = came_nowhere G s no_memory number [] (λ path.
-      asks_for reply.Text (command.Path (call.Readlink path)) (λ e. gives (answer.Refused e)) (λ text. gives (answer.Bytes text)))
+  module _ (k : Known) (node number : ℕ) where
+    pub read_link-nowhere : (s : S) → Came G s s (read_link k node number) no_memory
+    read_link-nowhere s = came_nowhere G s no_memory number [] (λ path. asks_for reply.Text (command.Path (call.Readlink path)) (unread k node) (λ text. gives (answer.Bytes text)))
 
-  pub read_link-told : (old new : S) (number : ℕ) (path : List ℕ) (asked : Command) (text : Text) → LeadsFrom number [] path → asked ≡ command.Path (call.Readlink path)
-      → Came G old new (asks reply.Text asked) (Ok text) → Came G old new (read_link number) (answer.Bytes text)
-  read_link-told old new number path asked text leads is first =
-      came_done_along G old new new no_memory number [] path reply.Text (λ p. command.Path (call.Readlink p)) asked (λ e. gives (answer.Refused e)) (λ p t. gives (answer.Bytes t))
-      text (answer.Bytes text) leads is first (came_gives G new (answer.Bytes text))
+    pub read_link-told : (old new : S) (path : List ℕ) (asked : Command) (text : Text) → LeadsFrom number [] path → asked ≡ command.Path (call.Readlink path)
+        → Came G old new (asks reply.Text asked) (Ok text) → Came G old new (read_link k node number) (answer.Bytes text)
+    read_link-told old new path asked text leads is first =
+        came_done_along G old new new no_memory number [] path reply.Text (λ p. command.Path (call.Readlink p)) asked (unread k node) (λ p t. gives (answer.Bytes t))
+        text (answer.Bytes text) leads is first (came_gives G new (answer.Bytes text))
 
-  pub read_link-refused : (old new : S) (number : ℕ) (path : List ℕ) (asked : Command) (errno : Errno) → LeadsFrom number [] path → asked ≡ command.Path (call.Readlink path)
-      → Came G old new (asks reply.Text asked) (Err errno) → Came G old new (read_link number) (answer.Refused errno)
-  read_link-refused old new number path asked errno leads is first =
-      came_refused_along G old new new no_memory number [] path reply.Text (λ p. command.Path (call.Readlink p)) asked (λ e. gives (answer.Refused e)) (λ p t. gives (answer.Bytes t))
-      errno (answer.Refused errno) leads is first (came_gives G new (answer.Refused errno))
+    unread_so : (old new : S) (path : List ℕ) (asked : Command) (errno : Errno) (r : Answer) → LeadsFrom number [] path → asked ≡ command.Path (call.Readlink path)
+        → Came G old new (asks reply.Text asked) (Err errno) → Came G new new (unread k node errno) r → Came G old new (read_link k node number) r
+    unread_so old new path asked errno r leads is first then =
+        came_refused_along G old new new no_memory number [] path reply.Text (λ p. command.Path (call.Readlink p)) asked (unread k node) (λ p t. gives (answer.Bytes t))
+        errno r leads is first then
+
+    pub read_link-stale : (old new : S) (path : List ℕ) (asked : Command) (errno : Errno) (r : Answer) → LeadsFrom number [] path → asked ≡ command.Path (call.Readlink path)
+        → Came G old new (asks reply.Text asked) (Err errno) → is_stale errno ≡ true → ReadsRemoved k node r → Came G old new (read_link k node number) r
+    read_link-stale old new path asked errno r leads is first stale reads =
+        unread_so old new path asked errno r leads is first
+        (came_then_if G new new (is_stale errno) (gives_some (ReadsRemoved k node)) (gives (answer.Refused errno)) r stale (came_some G new (ReadsRemoved k node) r reads))
+
+    pub read_link-refused : (old new : S) (path : List ℕ) (asked : Command) (errno : Errno) → LeadsFrom number [] path → asked ≡ command.Path (call.Readlink path)
+        → Came G old new (asks reply.Text asked) (Err errno) → is_stale errno ≡ false → Came G old new (read_link k node number) (answer.Refused errno)
+    read_link-refused old new path asked errno leads is first other =
+        unread_so old new path asked errno (answer.Refused errno) leads is first
+        (came_else G new new (is_stale errno) (gives_some (ReadsRemoved k node)) (gives (answer.Refused errno)) (answer.Refused errno) other (came_gives G new (answer.Refused errno)))
 
   -- a place in a file
-  pub seek-far : (s : S) (number offset whence : ℕ) → nat_lt offset (2 ^ 63) ≡ false → Came G s s (seek number offset whence) answer.NothingBehind
-  seek-far s number offset whence far =
-      came_else G s s (nat_lt offset (2 ^ 63)) (with_path no_memory number [] (λ path.
-      asks_for reply.Extent (command.Extent path (pos offset)) (λ e. gives (answer.Refused e)) (λ x. gives (found x whence))))
-      (gives answer.NothingBehind) answer.NothingBehind far (came_gives G s answer.NothingBehind)
+  module _ (k : Known) (node number offset whence : ℕ) where
+    pub seek-far : (s : S) → nat_lt offset (2 ^ 63) ≡ false → Came G s s (seek k node number offset whence) answer.NothingBehind
+    seek-far s is =
+        came_else G s s (nat_lt offset (2 ^ 63)) (seeks k node number offset whence) (gives answer.NothingBehind) answer.NothingBehind is (came_gives G s answer.NothingBehind)
 
-  near_told : (old new : S) (number offset whence : ℕ) (r : Answer) → nat_lt offset (2 ^ 63) ≡ true
-      → Came G old new (with_path no_memory number [] (λ path. asks_for reply.Extent (command.Extent path (pos offset)) (λ e. gives (answer.Refused e)) (λ x. gives (found x whence)))) r
-      → Came G old new (seek number offset whence) r
-  near_told old new number offset whence r is told =
-      came_then_if G old new (nat_lt offset (2 ^ 63)) (with_path no_memory number [] (λ path.
-      asks_for reply.Extent (command.Extent path (pos offset)) (λ e. gives (answer.Refused e)) (λ x. gives (found x whence))))
-      (gives answer.NothingBehind) r is told
+    near_told : (old new : S) (r : Answer) → nat_lt offset (2 ^ 63) ≡ true → Came G old new (seeks k node number offset whence) r → Came G old new (seek k node number offset whence) r
+    near_told old new r is told = came_then_if G old new (nat_lt offset (2 ^ 63)) (seeks k node number offset whence) (gives answer.NothingBehind) r is told
 
-  pub seek-nowhere : (s : S) (number offset whence : ℕ) → nat_lt offset (2 ^ 63) ≡ true → Came G s s (seek number offset whence) no_memory
-  seek-nowhere s number offset whence is = near_told s s number offset whence no_memory is (came_nowhere G s no_memory number [] (λ path.
-      asks_for reply.Extent (command.Extent path (pos offset)) (λ e. gives (answer.Refused e)) (λ x. gives (found x whence))))
+    pub seek-nowhere : (s : S) → nat_lt offset (2 ^ 63) ≡ true → Came G s s (seek k node number offset whence) no_memory
+    seek-nowhere s is = near_told s s no_memory is (came_nowhere G s no_memory number [] (λ path.
+        asks_for reply.Extent (command.Extent path (pos offset)) (unsought k node offset whence) (λ x. gives (found x whence))))
 
-  pub seek-told : (old new : S) (number offset whence : ℕ) (path : List ℕ) (asked : Command) (extent : Extent) (r : Answer) → nat_lt offset (2 ^ 63) ≡ true → LeadsFrom number [] path
-      → asked ≡ command.Extent path (pos offset) → Came G old new (asks reply.Extent asked) (Ok extent) → r ≡ found extent whence → Came G old new (seek number offset whence) r
-  seek-told old new number offset whence path asked extent r is leads same first place =
-      near_told old new number offset whence r is
-      (came_done_along G old new new no_memory number [] path reply.Extent (λ p. command.Extent p (pos offset)) asked (λ e. gives (answer.Refused e)) (λ p x. gives (found x whence)) extent r leads
-      same first (came_given G new (found extent whence) r place))
+    pub seek-told : (old new : S) (path : List ℕ) (asked : Command) (extent : Extent) (r : Answer) → nat_lt offset (2 ^ 63) ≡ true → LeadsFrom number [] path
+        → asked ≡ command.Extent path (pos offset) → Came G old new (asks reply.Extent asked) (Ok extent) → r ≡ found extent whence → Came G old new (seek k node number offset whence) r
+    seek-told old new path asked extent r is leads same first place =
+        near_told old new r is
+        (came_done_along G old new new no_memory number [] path reply.Extent (λ p. command.Extent p (pos offset)) asked (unsought k node offset whence) (λ p x. gives (found x whence)) extent r leads
+        same first (came_given G new (found extent whence) r place))
 
-  pub seek-refused : (old new : S) (number offset whence : ℕ) (path : List ℕ) (asked : Command) (errno : Errno) → nat_lt offset (2 ^ 63) ≡ true → LeadsFrom number [] path
-      → asked ≡ command.Extent path (pos offset) → Came G old new (asks reply.Extent asked) (Err errno) → Came G old new (seek number offset whence) (answer.Refused errno)
-  seek-refused old new number offset whence path asked errno is leads same first =
-      near_told old new number offset whence (answer.Refused errno) is
-      (came_refused_along G old new new no_memory number [] path reply.Extent (λ p. command.Extent p (pos offset)) asked (λ e. gives (answer.Refused e)) (λ p x. gives (found x whence)) errno
-      (answer.Refused errno) leads same first (came_gives G new (answer.Refused errno)))
+    unsought_so : (old mid new : S) (path : List ℕ) (asked : Command) (errno : Errno) (r : Answer) → nat_lt offset (2 ^ 63) ≡ true → LeadsFrom number [] path
+        → asked ≡ command.Extent path (pos offset) → Came G old mid (asks reply.Extent asked) (Err errno) → Came G mid new (unsought k node offset whence errno) r
+        → Came G old new (seek k node number offset whence) r
+    unsought_so old mid new path asked errno r is leads same first then =
+        near_told old new r is
+        (came_refused_along G old mid new no_memory number [] path reply.Extent (λ p. command.Extent p (pos offset)) asked (unsought k node offset whence) (λ p x. gives (found x whence)) errno
+        r leads same first then)
 
+    pub seek-stale : (old mid new : S) (path : List ℕ) (asked : Command) (errno : Errno) (r : Answer) → nat_lt offset (2 ^ 63) ≡ true → LeadsFrom number [] path
+        → asked ≡ command.Extent path (pos offset) → Came G old mid (asks reply.Extent asked) (Err errno) → is_stale errno ≡ true → Came G mid new (seek_removed k node offset whence) r
+        → Came G old new (seek k node number offset whence) r
+    seek-stale old mid new path asked errno r is leads same first stale told =
+        unsought_so old mid new path asked errno r is leads same first
+        (came_then_if G mid new (is_stale errno) (seek_removed k node offset whence) (gives (answer.Refused errno)) r stale told)
+
+    pub seek-refused : (old new : S) (path : List ℕ) (asked : Command) (errno : Errno) → nat_lt offset (2 ^ 63) ≡ true → LeadsFrom number [] path
+        → asked ≡ command.Extent path (pos offset) → Came G old new (asks reply.Extent asked) (Err errno) → is_stale errno ≡ false
+        → Came G old new (seek k node number offset whence) (answer.Refused errno)
+    seek-refused old new path asked errno is leads same first other =
+        unsought_so old new new path asked errno (answer.Refused errno) is leads same first
+        (came_else G new new (is_stale errno) (seek_removed k node offset whence) (gives (answer.Refused errno)) (answer.Refused errno) other (came_gives G new (answer.Refused errno)))
+
+module _ {S : Type 0} (G : Ghosts S) where
   -- the whole file system
   pub tell_space-told : (old mid new : S) (synced : Result (Unit {0}) Errno) (usage : Usage) (r : Answer) → Came G old mid (asks told_done command.Sync) synced
       → Came G mid new (asks reply.Usage command.Statfs) (Ok usage) → r ≡ answer.Space (space_told usage) → Came G old new tell_space r

@@ -13,15 +13,15 @@ use Rattle.model.specs.declared.limits.TheConstants.{OPEN_FILES}
 use Rattle.model.specs.declared.reply.Reply.TheVariants as reply
 use Rattle.model.specs.declared.reply.Stat.{Stat}
 use Rattle.served.specs.Commands.{lstat, opening}
-use Rattle.served.specs.Known.{Known, with_marks, with_open}
-use Rattle.served.specs.Looking.{no_memory, tell_entry}
+use Rattle.served.specs.Known.{Known, with_marks}
+use Rattle.served.specs.Looking.{is_stale, no_memory, tell_entry}
 use Rattle.served.specs.Making as spec
 use Rattle.served.specs.Making.{Place}
 use Rattle.served.specs.Marks.{made}
 use Rattle.served.specs.Nodes.{node_of}
 use Rattle.served.specs.Setting.{Told, refused}
 use Rattle.served.specs.Telling.{attributes_of, entry_of, parts_of_size}
-use Rattle.served.specs.Turns.{Turn, ◌▹◌, asks, asks_for, gives, handle_now, LeadsFrom, told_done, told_open, Came}
+use Rattle.served.specs.Turns.{Turn, ◌▹◌, asks, asks_for, either, gives, handle_now, LeadsFrom, told_done, told_open, Came}
 use Rattle.served.specs.declared.answer.Answer.{Answer}
 use Rattle.served.specs.declared.answer.Answer.TheVariants as answer
 use Rattle.served.specs.declared.making.TheConstants.{EXCLUSIVE, FILE_KIND, KIND_BITS}
@@ -58,11 +58,11 @@ module _ {S : Type 0} (G : Ghosts S) where
   came_no_directory s k asker parent path = came_nowhere G s {R = Result Place Errno} (Err errno.ENOMEM) parent [] (look_at_directory k asker parent path)
 
   pub came_prepare : (old new : S) (k : Known) (asker : Asker) (parent : ℕ) (name text : List ℕ) (r : Result Place Errno)
-      → LeadsFrom parent name text → Came G old new (spec.prepare_at k asker parent text) r → Came G old new (spec.prepare k asker parent name) r
+      → LeadsFrom parent name text → Came G old new (spec.prepare_at k asker parent text) r → Came G old new (spec.prepare_named k asker parent name) r
   came_prepare old new k asker parent name text r leads done =
       came_along G old new {R = Result Place Errno} (Err errno.ENOMEM) parent name text (λ path. spec.prepare_at k asker parent path) r leads done
 
-  pub came_no_place : (s : S) (k : Known) (asker : Asker) (parent : ℕ) (name : List ℕ) → Came G s s (spec.prepare k asker parent name) (Err errno.ENOMEM)
+  pub came_no_place : (s : S) (k : Known) (asker : Asker) (parent : ℕ) (name : List ℕ) → Came G s s (spec.prepare_named k asker parent name) (Err errno.ENOMEM)
   came_no_place s k asker parent name = came_nowhere G s {R = Result Place Errno} (Err errno.ENOMEM) parent name (λ path. spec.prepare_at k asker parent path)
 
 -- the entry that is told of an object that was made
@@ -200,23 +200,22 @@ module _ {S : Type 0} (G : Ghosts S) where
 
 -- a file that was made and opened is told, or closed and told
 abbrev created : ℕ → Entry × Known → Turn Told
-created fd made = gives (answer.Created made.0 (spec.opened fd), with_open fd (made.0).node made.1)
+created fd made = gives (answer.Created made.0 (spec.opened fd), made.1)
 
 abbrev closed : ℕ → Entry × Known → Turn Told
 closed fd made = asks_for told_done (command.Close fd) (refused made.1) (λ d. gives (answer.Entry made.0, made.1))
 
 module _ {S : Type 0} (G : Ghosts S) where
   -- CREATE
-  pub came_created : (old mid new : S) (k : Known) (asker : Asker) (parent : ℕ) (name : List ℕ) (mode flags : ℕ) (place : Place) (fd : ℕ) (stat : Stat) (entry : Entry) (known after : Known) (handle : OpenReply)
+  pub came_created : (old mid new : S) (k : Known) (asker : Asker) (parent : ℕ) (name : List ℕ) (mode flags : ℕ) (place : Place) (fd : ℕ) (stat : Stat) (entry : Entry) (known : Known) (handle : OpenReply)
       → Came G old mid (spec.prepare k asker parent name) (Ok place)
       → Came G mid new (asks told_open (command.OpenStat place.path (opening true (not (bit_and flags EXCLUSIVE == 0))) (mode % 4096) OPEN_FILES)) (Ok (fd, stat))
-      → Came G new new (spec.enters k asker place stat) (entry, known) → after ≡ with_open fd entry.node known → handle ≡ spec.opened fd
-      → Came G old new (spec.create k asker parent name mode flags) (answer.Created entry handle, after)
-  came_created old mid new k asker parent name mode flags place fd stat entry known after handle first asked enters opens is =
-      let told : Told = (answer.Created entry handle, after) in
+      → Came G new new (spec.enters k asker place stat) (entry, known) → handle ≡ spec.opened fd
+      → Came G old new (spec.create k asker parent name mode flags) (answer.Created entry handle, known)
+  came_created old mid new k asker parent name mode flags place fd stat entry known handle first asked enters is =
+      let told : Told = (answer.Created entry handle, known) in
       came_file G old mid new new k asker parent name mode (not (bit_and flags EXCLUSIVE == 0)) created place (fd, stat) (entry, known) told first asked enters
-      (came_given G new {R = Told} (answer.Created entry (spec.opened fd), with_open fd entry.node known) told
-      (ap₂ (λ (handle : OpenReply) (known : Known). (let told : Told = (answer.Created entry handle, known) in told)) is opens))
+      (came_given G new {R = Told} (answer.Created entry (spec.opened fd), known) told (ap (λ (handle : OpenReply). (let told : Told = (answer.Created entry handle, known) in told)) is))
 
   pub came_uncreated : (old mid new : S) (k : Known) (asker : Asker) (parent : ℕ) (name : List ℕ) (mode flags : ℕ) (place : Place) (e : Errno)
       → Came G old mid (spec.prepare k asker parent name) (Ok place)
@@ -346,36 +345,50 @@ module _ {S : Type 0} (G : Ghosts S) where
 
   -- LINK
   pub came_link : (old new : S) (k : Known) (asker : Asker) (file : Handle) (parent : ℕ) (name text : List ℕ) (r : Told)
-      → LeadsFrom parent name text → Came G old new (spec.link_at k asker file parent text) r → Came G old new (spec.link k asker file parent name) r
+      → LeadsFrom parent name text → Came G old new (spec.link_at k asker file parent text) r → Came G old new (spec.link_named k asker file parent name) r
   came_link old new k asker file parent name text r leads done =
       came_along G old new {R = Told} (no_memory, k) parent name text (λ path. spec.link_at k asker file parent path) r leads done
 
-  pub came_link_nowhere : (s : S) (k : Known) (asker : Asker) (file : Handle) (parent : ℕ) (name : List ℕ) → Came G s s (spec.link k asker file parent name) (no_memory, k)
+  pub came_link_nowhere : (s : S) (k : Known) (asker : Asker) (file : Handle) (parent : ℕ) (name : List ℕ) → Came G s s (spec.link_named k asker file parent name) (no_memory, k)
   came_link_nowhere s k asker file parent name = came_nowhere G s {R = Told} (no_memory, k) parent name (λ path. spec.link_at k asker file parent path)
 
--- a file is opened by a path
+-- a file is opened by a path; what is done where that is refused
+abbrev unopened : Known → ℕ → Errno → Turn Told
+unopened k node e = either (is_stale e) (gives (spec.open_removed k node)) (refused k e)
+
 abbrev open_by : Known → ℕ → List ℕ → Turn Told
 open_by k node path =
-    asks_for reply.Fd (command.Open path (opening false false) 0 OPEN_FILES) (refused k) (λ fd. gives (answer.Opened (spec.opened fd), with_open fd node k))
+    asks_for reply.Fd (command.Open path (opening false false) 0 OPEN_FILES) (unopened k node) (λ fd. gives (answer.Opened (spec.opened fd), k))
 
-module _ {S : Type 0} (G : Ghosts S) where
+module _ {S : Type 0} (G : Ghosts S) (k : Known) (node number : ℕ) where
   -- OPEN
-  pub came_opened : (old new : S) (k known : Known) (node number : ℕ) (text : List ℕ) (fd : ℕ) (handle : OpenReply) → LeadsFrom number [] text
-      → Came G old new (asks reply.Fd (command.Open text (opening false false) 0 OPEN_FILES)) (Ok fd) → known ≡ with_open fd node k → handle ≡ spec.opened fd
-      → Came G old new (spec.open_file k node number) (answer.Opened handle, known)
-  came_opened old new k known node number text fd handle leads asked opens is =
-      let told : Told = (answer.Opened handle, known) in
+  pub came_opened : (old new : S) (text : List ℕ) (fd : ℕ) (handle : OpenReply) → LeadsFrom number [] text
+      → Came G old new (asks reply.Fd (command.Open text (opening false false) 0 OPEN_FILES)) (Ok fd) → handle ≡ spec.opened fd
+      → Came G old new (spec.open_file k node number) (answer.Opened handle, k)
+  came_opened old new text fd handle leads asked is =
+      let told : Told = (answer.Opened handle, k) in
       came_along G old new {R = Told} (no_memory, k) number [] text (open_by k node) told leads
-      (came_done G old new new {A = ℕ} {R = Told} reply.Fd (command.Open text (opening false false) 0 OPEN_FILES) (refused k) (λ fd. gives (answer.Opened (spec.opened fd), with_open fd node k)) fd told asked
-      (came_given G new {R = Told} (answer.Opened (spec.opened fd), with_open fd node k) told
-      (ap₂ (λ (handle : OpenReply) (known : Known). (let told : Told = (answer.Opened handle, known) in told)) is opens)))
+      (came_done G old new new {A = ℕ} {R = Told} reply.Fd (command.Open text (opening false false) 0 OPEN_FILES) (unopened k node) (λ fd. gives (answer.Opened (spec.opened fd), k)) fd told asked
+      (came_given G new {R = Told} (answer.Opened (spec.opened fd), k) told (ap (λ (handle : OpenReply). (let told : Told = (answer.Opened handle, k) in told)) is)))
 
-  pub came_unopened : (old new : S) (k : Known) (node number : ℕ) (text : List ℕ) (e : Errno) → LeadsFrom number [] text
-      → Came G old new (asks reply.Fd (command.Open text (opening false false) 0 OPEN_FILES)) (Err e) → Came G old new (spec.open_file k node number) (answer.Refused e, k)
-  came_unopened old new k node number text e leads asked =
-      came_along G old new {R = Told} (no_memory, k) number [] text (open_by k node) (answer.Refused e, k) leads
-      (came_refused G old new new {A = ℕ} {R = Told} reply.Fd (command.Open text (opening false false) 0 OPEN_FILES) (refused k) (λ fd. gives (answer.Opened (spec.opened fd), with_open fd node k)) e (answer.Refused e, k) asked
-      (came_gives G new {R = Told} (answer.Refused e, k)))
+  unopened_so : (old new : S) (text : List ℕ) (e : Errno) (r : Told) → LeadsFrom number [] text
+      → Came G old new (asks reply.Fd (command.Open text (opening false false) 0 OPEN_FILES)) (Err e) → Came G new new (unopened k node e) r → Came G old new (spec.open_file k node number) r
+  unopened_so old new text e r leads asked then =
+      came_along G old new {R = Told} (no_memory, k) number [] text (open_by k node) r leads
+      (came_refused G old new new {A = ℕ} {R = Told} reply.Fd (command.Open text (opening false false) 0 OPEN_FILES) (unopened k node) (λ fd. gives (answer.Opened (spec.opened fd), k)) e r asked then)
 
-  pub came_open_nowhere : (s : S) (k : Known) (node number : ℕ) → Came G s s (spec.open_file k node number) (no_memory, k)
-  came_open_nowhere s k node number = came_nowhere G s {R = Told} (no_memory, k) number [] (open_by k node)
+  pub came_open_stale : (old new : S) (text : List ℕ) (e : Errno) (r : Told) → LeadsFrom number [] text
+      → Came G old new (asks reply.Fd (command.Open text (opening false false) 0 OPEN_FILES)) (Err e) → is_stale e ≡ true → r ≡ spec.open_removed k node
+      → Came G old new (spec.open_file k node number) r
+  came_open_stale old new text e r leads asked stale is =
+      unopened_so old new text e r leads asked
+      (came_then_if G new new {R = Told} (is_stale e) (gives (spec.open_removed k node)) (refused k e) r stale (came_given G new {R = Told} (spec.open_removed k node) r is))
+
+  pub came_unopened : (old new : S) (text : List ℕ) (e : Errno) → LeadsFrom number [] text
+      → Came G old new (asks reply.Fd (command.Open text (opening false false) 0 OPEN_FILES)) (Err e) → is_stale e ≡ false → Came G old new (spec.open_file k node number) (answer.Refused e, k)
+  came_unopened old new text e leads asked other =
+      unopened_so old new text e (answer.Refused e, k) leads asked
+      (came_else G new new {R = Told} (is_stale e) (gives (spec.open_removed k node)) (refused k e) (answer.Refused e, k) other (came_gives G new {R = Told} (answer.Refused e, k)))
+
+  pub came_open_nowhere : (s : S) → Came G s s (spec.open_file k node number) (no_memory, k)
+  came_open_nowhere s = came_nowhere G s {R = Told} (no_memory, k) number [] (open_by k node)

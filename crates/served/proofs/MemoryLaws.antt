@@ -50,47 +50,45 @@ all_one : {X : Type 0} (n : ℕ) (x : X) (k : ℕ) → get_or (replicate n x) k 
 all_one n x k = elim (cases_lt k n) [ inl below ↦ get_or-replicate n k x x below | inr past ↦ get_or_past (replicate n x) k x (rw length-replicate past) ]
 
 -- what is known, by its parts
-abbrev by_parts : Marks → ℕ → (ℕ → Marked) → ℕ → (ℕ → ℕ) → (ℕ → Option Removed) → List Seen → Known
-by_parts first numbers marked descriptors open_at removed snapshots = record {
+abbrev by_parts : Marks → ℕ → (ℕ → Marked) → (ℕ → Option Removed) → (ℕ → Option (List ℕ)) → List Seen → Known
+by_parts first numbers marked removed texts snapshots = record {
   first = first;
   numbers = numbers;
   marked = marked;
-  descriptors = descriptors;
-  open_at = open_at;
   removed = removed;
+  texts = texts;
   snapshots = snapshots;
   next_id = 0;
 }
 
+-- nothing is found in an empty map
+nothing_in : {V : Type 0} (m : BTreeMap ℕ V) → m.entries ≡ [] → (let found : ℕ → Option V = λ node. tree.get nat_cmp m node in found) ≡ (λ node. None)
+nothing_in {V} m none = fun_ext (λ node. ap (λ (es : List (ℕ × V)). lookup (tree.is_at (nat_cmp node)) es) none)
+
 -- what a new server knows
-pub nothing-known : (first : Marks) (numbers descriptors : ℕ) (marked : List Marked) (opened : List ℕ) (removed : BTreeMap ℕ Removed) (snapshots : List Snapshot)
-    → marked ≡ replicate numbers (untouched first) → opened ≡ replicate descriptors 0 → removed.entries ≡ [] → snapshots ≡ []
+pub nothing-known : (first : Marks) (numbers : ℕ) (marked : List Marked) (removed : BTreeMap ℕ Removed) (texts : BTreeMap ℕ (List ℕ)) (snapshots : List Snapshot)
+    → marked ≡ replicate numbers (untouched first) → removed.entries ≡ [] → texts.entries ≡ [] → snapshots ≡ []
     → ◌≡◌ {A = Known} (record {
       first = first;
       numbers = length marked;
       marked = λ n. get_or marked n (untouched first);
-      descriptors = length opened;
-      open_at = λ fd. get_or opened fd 0;
       removed = λ node. tree.get nat_cmp removed node;
+      texts = λ node. tree.get nat_cmp texts node;
       snapshots = map seen_of snapshots;
       next_id = 0;
-    }) (nothing_known numbers descriptors first)
-nothing-known first numbers descriptors marked opened removed snapshots marked_is opened_is none no_snapshots =
+    }) (nothing_known numbers first)
+nothing-known first numbers marked removed texts snapshots marked_is none no_texts no_snapshots =
     let at_first : Marked = untouched first in
     let marks_of : ℕ → Marked = λ n. get_or marked n at_first in
     let no_marks : ℕ → Marked = λ n. at_first in
-    let node_of : ℕ → ℕ = λ fd. get_or opened fd 0 in
-    let no_node : ℕ → ℕ = λ fd. 0 in
     let removed_of : ℕ → Option Removed = λ node. tree.get nat_cmp removed node in
     let none_removed : ℕ → Option Removed = λ node. None in
+    let text_of : ℕ → Option (List ℕ) = λ node. tree.get nat_cmp texts node in
+    let no_text : ℕ → Option (List ℕ) = λ node. None in
     let numbers_are : length marked ≡ numbers = ap (λ (xs : List Marked). length xs) marked_is ∙ length-replicate numbers at_first in
-    let descriptors_are : length opened ≡ descriptors = ap (λ (xs : List ℕ). length xs) opened_is ∙ length-replicate descriptors 0 in
     let marks_are : marks_of ≡ no_marks = fun_ext (λ n. ap (λ (xs : List Marked). get_or xs n at_first) marked_is ∙ all_one numbers at_first n) in
-    let nodes_are : node_of ≡ no_node = fun_ext (λ fd. ap (λ (xs : List ℕ). get_or xs fd 0) opened_is ∙ all_one descriptors 0 fd) in
-    let removed_are : removed_of ≡ none_removed = fun_ext (λ node. ap (λ (es : List (ℕ × Removed)). lookup (tree.is_at (nat_cmp node)) es) none) in
-    ap (λ (n : ℕ). by_parts first n marks_of (length opened) node_of removed_of (map seen_of snapshots)) numbers_are
-    ∙ (ap (λ (f : ℕ → Marked). by_parts first numbers f (length opened) node_of removed_of (map seen_of snapshots)) marks_are
-    ∙ (ap (λ (n : ℕ). by_parts first numbers no_marks n node_of removed_of (map seen_of snapshots)) descriptors_are
-    ∙ (ap (λ (f : ℕ → ℕ). by_parts first numbers no_marks descriptors f removed_of (map seen_of snapshots)) nodes_are
-    ∙ (ap (λ (f : ℕ → Option Removed). by_parts first numbers no_marks descriptors no_node f (map seen_of snapshots)) removed_are
-    ∙ ap (λ (xs : List Snapshot). by_parts first numbers no_marks descriptors no_node none_removed (map seen_of xs)) no_snapshots))))
+    ap (λ (n : ℕ). by_parts first n marks_of removed_of text_of (map seen_of snapshots)) numbers_are
+    ∙ (ap (λ (f : ℕ → Marked). by_parts first numbers f removed_of text_of (map seen_of snapshots)) marks_are
+    ∙ (ap (λ (f : ℕ → Option Removed). by_parts first numbers no_marks f text_of (map seen_of snapshots)) (nothing_in removed none)
+    ∙ (ap (λ (f : ℕ → Option (List ℕ)). by_parts first numbers no_marks none_removed f (map seen_of snapshots)) (nothing_in texts no_texts)
+    ∙ ap (λ (xs : List Snapshot). by_parts first numbers no_marks none_removed no_text (map seen_of xs)) no_snapshots)))

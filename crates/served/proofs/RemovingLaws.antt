@@ -1,38 +1,24 @@
 -- How names are taken away and moved, step by step.
-use Rattle.std.proofs.Common.{◌≡◌, ℕ, nat_le, Bool, true, false, List, Option, Some, None, Result, Ok, Err, refl, sym, ap, subst, ◌∙◌}
+use Rattle.std.proofs.Common.{◌≡◌, ℕ, Bool, true, false, List, Option, Some, None, Result, Ok, Err, ap, subst, ◌∙◌}
 use Rattle.file_system.specs.declared.file_system.FileSystem.{Ghosts}
 use Rattle.file_system.specs.declared.handle.Handle.{Handle}
 use Rattle.model.specs.declared.command.Command.TheVariants as command
 use Rattle.model.specs.declared.errno.Errno.{Errno}
-use Rattle.model.specs.declared.errno.Errno.TheVariants as errno
 use Rattle.model.specs.declared.reply.Reply.TheVariants as reply
 use Rattle.model.specs.declared.reply.Stat.{Stat}
 use Rattle.served.specs.Commands.{lstat, moving, removing}
-use Rattle.served.specs.Known.{Known, without_removed}
+use Rattle.served.specs.Keeping.{remembers}
+use Rattle.served.specs.Known.{Known}
 use Rattle.served.specs.Looking.{no_memory}
 use Rattle.served.specs.Making.{marked_changed, touched}
-use Rattle.served.specs.Nodes.{node_of}
 use Rattle.served.specs.Removing as spec
-use Rattle.served.specs.Setting.{Told, or_no_memory, refused}
+use Rattle.served.specs.Setting.{Told, refused}
 use Rattle.served.specs.Turns.{Turn, ◌▹◌, asks, asks_for, either, gives, handle_now, LeadsFrom, told_done, with_path, Came}
 use Rattle.served.specs.declared.answer.Answer.TheVariants as answer
 use Rattle.served.specs.declared.marks.Asker.{Asker}
-use Rattle.served.specs.declared.removing.TheConstants.{NO_REPLACE}
-use Rattle.served.proofs.TurnLaws as laws
-use Rattle.served.proofs.TurnLaws.{came_gives, came_given, came_some, came_then, came_handle, came_along, came_nowhere, came_done, came_refused, came_then_if, came_else}
+use Rattle.served.proofs.TurnLaws.{came_gives, came_given, came_then, came_handle, came_along, came_nowhere, came_done, came_refused, came_then_if, came_else}
 
 module _ {S : Type 0} (G : Ghosts S) where
-  -- what the server knows could be changed, or not
-  came_kept : (old new : S) (k : Known) (done : Turn Told) (r : Told) → Came G old new done r → Came G old new (or_no_memory k done) r
-  came_kept old new k done r came = laws.came_kept G old new {R = Told} (no_memory, k) done r came
-
-  came_unkept : (s : S) (k : Known) (done : Turn Told) → Came G s s (or_no_memory k done) (answer.Refused errno.ENOMEM, k)
-  came_unkept s k done = laws.came_lost G s {R = Told} (no_memory, k) done
-
-  -- what equals what is known
-  came_known : (s : S) (e : Errno) (k known : Known) → known ≡ k → Came G s s (refused k e) (answer.Refused e, known)
-  came_known s e k known same = came_given G s {R = Told} (answer.Refused e, k) (answer.Refused e, known) (ap (λ (known : Known). (let told : Told = (answer.Refused e, known) in told)) same)
-
   pub came_touches : (s : S) (k known : Known) (asker : Asker) (parent : ℕ) (directory : Handle) → directory ≡ record { number = parent; generation = G.generations s parent }
       → known ≡ touched k asker directory → Came G s s (spec.touches k asker parent) known
   came_touches s k known asker parent directory same is =
@@ -45,64 +31,71 @@ abbrev taken : Known → Asker → ℕ → Turn Told
 taken behind asker parent = spec.touches behind asker parent ▹ (λ known. gives (answer.Done, known))
 
 module _ {S : Type 0} (G : Ghosts S) where
-  came_taken : (old new : S) (behind before known : Known) (asker : Asker) (parent : ℕ) (path : List ℕ) (is_directory : Bool)
+  came_taken : (old new : S) (behind known : Known) (refusal : Errno → Turn Told) (asker : Asker) (parent : ℕ) (path : List ℕ) (is_directory : Bool)
       → Came G old new (asks told_done (command.Path (removing path is_directory))) (Ok tt) → Came G new new (spec.touches behind asker parent) known
-      → Came G old new (spec.takes_away behind before asker parent path is_directory) (answer.Done, known)
-  came_taken old new behind before known asker parent path is_directory asked touches =
-      came_done G old new new {A = Unit {0}} {R = Told} told_done (command.Path (removing path is_directory)) (refused before) (λ d. taken behind asker parent) tt (answer.Done, known) asked
+      → Came G old new (spec.takes_away behind refusal asker parent path is_directory) (answer.Done, known)
+  came_taken old new behind known refusal asker parent path is_directory asked touches =
+      came_done G old new new {A = Unit {0}} {R = Told} told_done (command.Path (removing path is_directory)) refusal (λ d. taken behind asker parent) tt (answer.Done, known) asked
       (came_then G new new new {A = Known} {B = Told} (spec.touches behind asker parent) (λ known. gives (answer.Done, known)) known (answer.Done, known) touches
       (came_gives G new {R = Told} (answer.Done, known)))
 
-  came_untaken : (old new : S) (behind before known : Known) (asker : Asker) (parent : ℕ) (path : List ℕ) (is_directory : Bool) (e : Errno)
-      → Came G old new (asks told_done (command.Path (removing path is_directory))) (Err e) → known ≡ before
-      → Came G old new (spec.takes_away behind before asker parent path is_directory) (answer.Refused e, known)
-  came_untaken old new behind before known asker parent path is_directory e asked same =
-      came_refused G old new new {A = Unit {0}} {R = Told} told_done (command.Path (removing path is_directory)) (refused before) (λ d. taken behind asker parent) e (answer.Refused e, known) asked
-      (came_known G new e before known same)
+  came_untaken : (old mid new : S) (behind : Known) (refusal : Errno → Turn Told) (asker : Asker) (parent : ℕ) (path : List ℕ) (is_directory : Bool) (e : Errno) (r : Told)
+      → Came G old mid (asks told_done (command.Path (removing path is_directory))) (Err e) → Came G mid new (refusal e) r
+      → Came G old new (spec.takes_away behind refusal asker parent path is_directory) r
+  came_untaken old mid new behind refusal asker parent path is_directory e r asked then =
+      came_refused G old mid new {A = Unit {0}} {R = Told} told_done (command.Path (removing path is_directory)) refusal (λ d. taken behind asker parent) e r asked then
 
--- what is taken away of an object that goes by that, where this is known
-abbrev takes_last : Known → Asker → ℕ → List ℕ → Bool → Handle → Turn Told
-takes_last kept asker parent path is_directory handle = spec.takes_away kept (without_removed (node_of handle) kept) asker parent path is_directory
+-- an object was remembered, or wasn't
+abbrev goes_on : Handle → (Known → (Errno → Turn Told) → Turn Told) → Result (Option ℕ) Errno × Known → Turn Told
+goes_on handle does found = elim found.0 [
+  | Ok held ↦ does found.1 (spec.stays found.1 handle held)
+  | Err e ↦ refused found.1 e
+]
+
+module _ {S : Type 0} (G : Ghosts S) (k : Known) (asker : Asker) (handle : Handle) (path : List ℕ) (stat : Stat) (does : Known → (Errno → Turn Told) → Turn Told) where
+  came_goes : (old mid new : S) (held : Option ℕ) (known : Known) (r : Told) → Came G old mid (remembers k asker handle path stat) (Ok held, known)
+      → Came G mid new (does known (spec.stays known handle held)) r → Came G old new (spec.goes k asker handle path stat does) r
+  came_goes old mid new held known r first then =
+      came_then G old mid new {A = Result (Option ℕ) Errno × Known} {B = Told} (remembers k asker handle path stat) (goes_on handle does) (Ok held, known) r first then
+
+  came_lost : (old new : S) (known : Known) (e : Errno) → Came G old new (remembers k asker handle path stat) (Err e, known)
+      → Came G old new (spec.goes k asker handle path stat does) (answer.Refused e, known)
+  came_lost old new known e first =
+      came_then G old new new {A = Result (Option ℕ) Errno × Known} {B = Told} (remembers k asker handle path stat) (goes_on handle does) (Err e, known) (answer.Refused e, known) first
+      (came_gives G new {R = Told} (answer.Refused e, known))
 
 module _ {S : Type 0} (G : Ghosts S) where
-  came_last : (old new : S) (k kept : Known) (asker : Asker) (parent : ℕ) (path : List ℕ) (is_directory : Bool) (handle : Handle) (stat : Stat) (r : Told)
-      → kept ≡ spec.remembered k asker handle stat → Came G old new (takes_last kept asker parent path is_directory handle) r
-      → Came G old new (spec.remove_last k asker parent path is_directory handle stat) r
-  came_last old new k kept asker parent path is_directory handle stat r is came =
-      came_kept G old new k (takes_last (spec.remembered k asker handle stat) asker parent path is_directory handle) r
-      (subst (λ (kept : Known). Came G old new (takes_last kept asker parent path is_directory handle) r) is came)
+  module _ (k : Known) (asker : Asker) (parent : ℕ) (path : List ℕ) (is_directory : Bool) (handle : Handle) (stat : Stat) where
+    pub came_removed_last : (old mid new : S) (held : Option ℕ) (kept known : Known) → Came G old mid (remembers k asker handle path stat) (Ok held, kept)
+        → Came G mid new (asks told_done (command.Path (removing path is_directory))) (Ok tt) → Came G new new (spec.touches kept asker parent) known
+        → Came G old new (spec.remove_last k asker parent path is_directory handle stat) (answer.Done, known)
+    came_removed_last old mid new held kept known first asked touches =
+        came_goes G k asker handle path stat (λ known stay. spec.takes_away known stay asker parent path is_directory) old mid new held kept (answer.Done, known) first
+        (came_taken G mid new kept known (spec.stays kept handle held) asker parent path is_directory asked touches)
 
-  pub came_removed_last : (old new : S) (k kept known : Known) (asker : Asker) (parent : ℕ) (path : List ℕ) (is_directory : Bool) (handle : Handle) (stat : Stat)
-      → kept ≡ spec.remembered k asker handle stat → Came G old new (asks told_done (command.Path (removing path is_directory))) (Ok tt)
-      → Came G new new (spec.touches kept asker parent) known → Came G old new (spec.remove_last k asker parent path is_directory handle stat) (answer.Done, known)
-  came_removed_last old new k kept known asker parent path is_directory handle stat is asked touches =
-      came_last old new k kept asker parent path is_directory handle stat (answer.Done, known) is
-      (came_taken G old new kept (without_removed (node_of handle) kept) known asker parent path is_directory asked touches)
+    pub came_last_refused : (old mid behind new : S) (held : Option ℕ) (kept : Known) (e : Errno) (r : Told) → Came G old mid (remembers k asker handle path stat) (Ok held, kept)
+        → Came G mid behind (asks told_done (command.Path (removing path is_directory))) (Err e) → Came G behind new (spec.stays kept handle held e) r
+        → Came G old new (spec.remove_last k asker parent path is_directory handle stat) r
+    came_last_refused old mid behind new held kept e r first asked stays =
+        came_goes G k asker handle path stat (λ known stay. spec.takes_away known stay asker parent path is_directory) old mid new held kept r first
+        (came_untaken G mid behind new kept (spec.stays kept handle held) asker parent path is_directory e r asked stays)
 
-  pub came_last_refused : (old new : S) (k kept known : Known) (asker : Asker) (parent : ℕ) (path : List ℕ) (is_directory : Bool) (handle : Handle) (stat : Stat) (e : Errno)
-      → kept ≡ spec.remembered k asker handle stat → Came G old new (asks told_done (command.Path (removing path is_directory))) (Err e)
-      → known ≡ without_removed (node_of handle) kept → Came G old new (spec.remove_last k asker parent path is_directory handle stat) (answer.Refused e, known)
-  came_last_refused old new k kept known asker parent path is_directory handle stat e is asked same =
-      came_last old new k kept asker parent path is_directory handle stat (answer.Refused e, known) is
-      (came_untaken G old new kept (without_removed (node_of handle) kept) known asker parent path is_directory e asked same)
-
-  pub came_last_unkept : (s : S) (k known : Known) (asker : Asker) (parent : ℕ) (path : List ℕ) (is_directory : Bool) (handle : Handle) (stat : Stat) → known ≡ k
-      → Came G s s (spec.remove_last k asker parent path is_directory handle stat) (answer.Refused errno.ENOMEM, known)
-  came_last_unkept s k known asker parent path is_directory handle stat same =
-      subst (λ (known : Known). Came G s s (spec.remove_last k asker parent path is_directory handle stat) (answer.Refused errno.ENOMEM, known)) (sym same)
-      (came_unkept G s k (takes_last (spec.remembered k asker handle stat) asker parent path is_directory handle))
+    pub came_last_lost : (old new : S) (known : Known) (e : Errno) → Came G old new (remembers k asker handle path stat) (Err e, known)
+        → Came G old new (spec.remove_last k asker parent path is_directory handle stat) (answer.Refused e, known)
+    came_last_lost old new known e first =
+        came_lost G k asker handle path stat (λ known stay. spec.takes_away known stay asker parent path is_directory) old new known e first
 
   pub came_removed_one : (old new : S) (k marked known : Known) (asker : Asker) (parent : ℕ) (path : List ℕ) (is_directory : Bool) (handle : Handle)
       → Came G old new (asks told_done (command.Path (removing path is_directory))) (Ok tt) → marked ≡ marked_changed k asker handle
       → Came G new new (spec.touches marked asker parent) known → Came G old new (spec.remove_one k asker parent path is_directory handle) (answer.Done, known)
   came_removed_one old new k marked known asker parent path is_directory handle asked is touches =
-      came_taken G old new (marked_changed k asker handle) k known asker parent path is_directory asked
+      came_taken G old new (marked_changed k asker handle) known (refused k) asker parent path is_directory asked
       (subst (λ (marked : Known). Came G new new (spec.touches marked asker parent) known) is touches)
 
   pub came_one_refused : (old new : S) (k : Known) (asker : Asker) (parent : ℕ) (path : List ℕ) (is_directory : Bool) (handle : Handle) (e : Errno)
       → Came G old new (asks told_done (command.Path (removing path is_directory))) (Err e) → Came G old new (spec.remove_one k asker parent path is_directory handle) (answer.Refused e, k)
   came_one_refused old new k asker parent path is_directory handle e asked =
-      came_untaken G old new (marked_changed k asker handle) k k asker parent path is_directory e asked refl
+      came_untaken G old new new (marked_changed k asker handle) (refused k) asker parent path is_directory e (answer.Refused e, k) asked (came_gives G new {R = Told} (answer.Refused e, k))
 
 -- an object whose name is taken away, by its handle
 abbrev removes : Known → Asker → ℕ → List ℕ → Bool → Stat → Handle → Turn Told
@@ -140,35 +133,22 @@ module _ {S : Type 0} (G : Ghosts S) where
   -- UNLINK and RMDIR
   pub came_remove : (old mid new : S) (k : Known) (asker : Asker) (parent : ℕ) (name text : List ℕ) (is_directory : Bool) (stat : Stat) (r : Told) → LeadsFrom parent name text
       → Came G old mid (asks reply.Stat (lstat text)) (Ok stat) → Came G mid new (spec.remove_seen k asker parent text is_directory stat) r
-      → Came G old new (spec.remove k asker parent name is_directory) r
+      → Came G old new (spec.remove_named k asker parent name is_directory) r
   came_remove old mid new k asker parent name text is_directory stat r leads asked came =
       came_along G old new {R = Told} (no_memory, k) parent name text (removes_at k asker parent is_directory) r leads
       (came_done G old mid new {A = Stat} {R = Told} reply.Stat (lstat text) (refused k) (λ stat. spec.remove_seen k asker parent text is_directory stat) stat r asked came)
 
   pub came_remove_unseen : (old new : S) (k : Known) (asker : Asker) (parent : ℕ) (name text : List ℕ) (is_directory : Bool) (e : Errno) → LeadsFrom parent name text
-      → Came G old new (asks reply.Stat (lstat text)) (Err e) → Came G old new (spec.remove k asker parent name is_directory) (answer.Refused e, k)
+      → Came G old new (asks reply.Stat (lstat text)) (Err e) → Came G old new (spec.remove_named k asker parent name is_directory) (answer.Refused e, k)
   came_remove_unseen old new k asker parent name text is_directory e leads asked =
       came_along G old new {R = Told} (no_memory, k) parent name text (removes_at k asker parent is_directory) (answer.Refused e, k) leads
       (came_refused G old new new {A = Stat} {R = Told} reply.Stat (lstat text) (refused k) (λ stat. spec.remove_seen k asker parent text is_directory stat) e (answer.Refused e, k) asked
       (came_gives G new {R = Told} (answer.Refused e, k)))
 
-  pub came_remove_nowhere : (s : S) (k : Known) (asker : Asker) (parent : ℕ) (name : List ℕ) (is_directory : Bool) → Came G s s (spec.remove k asker parent name is_directory) (no_memory, k)
+  pub came_remove_nowhere : (s : S) (k : Known) (asker : Asker) (parent : ℕ) (name : List ℕ) (is_directory : Bool) → Came G s s (spec.remove_named k asker parent name is_directory) (no_memory, k)
   came_remove_nowhere s k asker parent name is_directory = came_nowhere G s {R = Told} (no_memory, k) parent name (removes_at k asker parent is_directory)
 
 module _ {S : Type 0} (G : Ghosts S) where
-  -- what has the new name
-  pub came_replaced : (old new : S) (moved : Stat) (path : List ℕ) (stat : Stat) (over : Option Stat) → Came G old new (asks reply.Stat (lstat path)) (Ok stat) → over ≡ spec.gone_by moved stat
-      → Came G old new (spec.replaced moved path) (Ok over)
-  came_replaced old new moved path stat over asked is =
-      came_done G old new new {A = Stat} {R = Result (Option Stat) Errno} reply.Stat (lstat path) (λ e. gives (spec.missing_or e)) (λ stat. gives (Ok (spec.gone_by moved stat))) stat (Ok over) asked
-      (came_given G new {R = Result (Option Stat) Errno} (Ok (spec.gone_by moved stat)) (Ok over) (ap (λ (over : Option Stat). (let found : Result (Option Stat) Errno = Ok over in found)) is))
-
-  pub came_unreplaced : (old new : S) (moved : Stat) (path : List ℕ) (e : Errno) (found : Result (Option Stat) Errno) → Came G old new (asks reply.Stat (lstat path)) (Err e)
-      → found ≡ spec.missing_or e → Came G old new (spec.replaced moved path) found
-  came_unreplaced old new moved path e found asked is =
-      came_refused G old new new {A = Stat} {R = Result (Option Stat) Errno} reply.Stat (lstat path) (λ e. gives (spec.missing_or e)) (λ stat. gives (Ok (spec.gone_by moved stat))) e found asked
-      (came_given G new {R = Result (Option Stat) Errno} (spec.missing_or e) found is)
-
   -- what moved is marked
   pub came_marks : (s : S) (k marked behind known : Known) (asker : Asker) (moved : Stat) (parent new_parent : ℕ) (handle : Handle)
       → handle ≡ record { number = moved.number; generation = G.generations s moved.number } → marked ≡ marked_changed k asker handle
@@ -194,11 +174,11 @@ module _ {S : Type 0} (G : Ghosts S) where
       (came_then G new new new {A = Known} {B = Told} (spec.marks_moved k asker moved parent new_parent) (λ known. gives (answer.Done, known)) known (answer.Done, known) marks
       (came_gives G new {R = Told} (answer.Done, known)))
 
-  came_no_name : (old new : S) (k : Known) (refusal : Errno → Turn Told) (asker : Asker) (moved : Stat) (parent new_parent flags : ℕ) (path new_path : List ℕ) (e : Errno) (r : Told)
-      → Came G old new (asks told_done (command.Path (moving flags path new_path))) (Err e) → Came G new new (refusal e) r
+  came_no_name : (old mid new : S) (k : Known) (refusal : Errno → Turn Told) (asker : Asker) (moved : Stat) (parent new_parent flags : ℕ) (path new_path : List ℕ) (e : Errno) (r : Told)
+      → Came G old mid (asks told_done (command.Path (moving flags path new_path))) (Err e) → Came G mid new (refusal e) r
       → Came G old new (spec.moves_name k refusal asker moved parent new_parent flags path new_path) r
-  came_no_name old new k refusal asker moved parent new_parent flags path new_path e r asked then =
-      came_refused G old new new {A = Unit {0}} {R = Told} told_done (command.Path (moving flags path new_path)) refusal (λ d. moved_told k asker moved parent new_parent) e r asked then
+  came_no_name old mid new k refusal asker moved parent new_parent flags path new_path e r asked then =
+      came_refused G old mid new {A = Unit {0}} {R = Told} told_done (command.Path (moving flags path new_path)) refusal (λ d. moved_told k asker moved parent new_parent) e r asked then
 
   pub came_moved : (old new : S) (k known : Known) (asker : Asker) (moved : Stat) (parent new_parent flags : ℕ) (path new_path : List ℕ)
       → Came G old new (asks told_done (command.Path (moving flags path new_path))) (Ok tt) → Came G new new (spec.marks_moved k asker moved parent new_parent) known
@@ -208,63 +188,45 @@ module _ {S : Type 0} (G : Ghosts S) where
   pub came_unmoved : (old new : S) (k : Known) (asker : Asker) (moved : Stat) (parent new_parent flags : ℕ) (path new_path : List ℕ) (e : Errno)
       → Came G old new (asks told_done (command.Path (moving flags path new_path))) (Err e) → Came G old new (spec.moves k asker moved parent new_parent flags path new_path) (answer.Refused e, k)
   came_unmoved old new k asker moved parent new_parent flags path new_path e asked =
-      came_no_name old new k (refused k) asker moved parent new_parent flags path new_path e (answer.Refused e, k) asked (came_gives G new {R = Told} (answer.Refused e, k))
+      came_no_name old new new k (refused k) asker moved parent new_parent flags path new_path e (answer.Refused e, k) asked (came_gives G new {R = Told} (answer.Refused e, k))
 
--- where it is refused that a name is moved over an object, what was remembered is forgotten
-abbrev forgets : Known → Stat → Errno → Turn Told
-forgets kept over e = handle_now over.number ▹ (λ still. refused (without_removed (node_of still) kept) e)
+-- a name is moved over an object, by its handle
+abbrev moves_over_by : Known → Asker → Stat → Stat → ℕ → ℕ → ℕ → List ℕ → List ℕ → Handle → Turn Told
+moves_over_by k asker over moved parent new_parent flags path new_path handle =
+    spec.goes k asker handle new_path over (λ known stay. spec.moves_name known stay asker moved parent new_parent flags path new_path)
 
-abbrev moves_kept : Known → Asker → Stat → Stat → ℕ → ℕ → ℕ → List ℕ → List ℕ → Turn Told
-moves_kept kept asker over moved parent new_parent flags path new_path = spec.moves_name kept (forgets kept over) asker moved parent new_parent flags path new_path
-
-abbrev moves_by_handle : Known → Asker → Stat → Stat → ℕ → ℕ → ℕ → List ℕ → List ℕ → Handle → Turn Told
-moves_by_handle k asker over moved parent new_parent flags path new_path handle =
-    or_no_memory k (moves_kept (spec.remembered k asker handle over) asker over moved parent new_parent flags path new_path)
-
-module _ {S : Type 0} (G : Ghosts S) where
-  came_over : (old new : S) (k : Known) (asker : Asker) (over moved : Stat) (parent new_parent flags : ℕ) (path new_path : List ℕ) (handle : Handle) (r : Told)
-      → handle ≡ record { number = over.number; generation = G.generations old over.number }
-      → Came G old new (moves_by_handle k asker over moved parent new_parent flags path new_path handle) r → Came G old new (spec.moves_over k asker over moved parent new_parent flags path new_path) r
-  came_over old new k asker over moved parent new_parent flags path new_path handle r same came =
+module _ {S : Type 0} (G : Ghosts S) (k : Known) (asker : Asker) (over moved : Stat) (parent new_parent flags : ℕ) (path new_path : List ℕ) (handle : Handle) where
+  came_over : (old new : S) (r : Told) → handle ≡ record { number = over.number; generation = G.generations old over.number }
+      → Came G old new (moves_over_by k asker over moved parent new_parent flags path new_path handle) r → Came G old new (spec.moves_over k asker over moved parent new_parent flags path new_path) r
+  came_over old new r same came =
       let now : Handle = record { number = over.number; generation = G.generations old over.number } in
-      came_then G old old new {A = Handle} {B = Told} (handle_now over.number) (moves_by_handle k asker over moved parent new_parent flags path new_path) now r (came_handle G old over.number)
-      (subst (λ (h : Handle). Came G old new (moves_by_handle k asker over moved parent new_parent flags path new_path h) r) same came)
+      came_then G old old new {A = Handle} {B = Told} (handle_now over.number) (moves_over_by k asker over moved parent new_parent flags path new_path) now r (came_handle G old over.number)
+      (subst (λ (h : Handle). Came G old new (moves_over_by k asker over moved parent new_parent flags path new_path h) r) same came)
 
-  came_over_kept : (old new : S) (k kept : Known) (asker : Asker) (over moved : Stat) (parent new_parent flags : ℕ) (path new_path : List ℕ) (handle : Handle) (r : Told)
-      → handle ≡ record { number = over.number; generation = G.generations old over.number } → kept ≡ spec.remembered k asker handle over
-      → Came G old new (moves_kept kept asker over moved parent new_parent flags path new_path) r → Came G old new (spec.moves_over k asker over moved parent new_parent flags path new_path) r
-  came_over_kept old new k kept asker over moved parent new_parent flags path new_path handle r same is came =
-      came_over old new k asker over moved parent new_parent flags path new_path handle r same
-      (came_kept G old new k (moves_kept (spec.remembered k asker handle over) asker over moved parent new_parent flags path new_path) r
-      (subst (λ (kept : Known). Came G old new (moves_kept kept asker over moved parent new_parent flags path new_path) r) is came))
-
-  pub came_moved_over : (old new : S) (k kept known : Known) (asker : Asker) (over moved : Stat) (parent new_parent flags : ℕ) (path new_path : List ℕ) (handle : Handle)
-      → handle ≡ record { number = over.number; generation = G.generations old over.number } → kept ≡ spec.remembered k asker handle over
-      → Came G old new (asks told_done (command.Path (moving flags path new_path))) (Ok tt) → Came G new new (spec.marks_moved kept asker moved parent new_parent) known
+  pub came_moved_over : (old mid new : S) (held : Option ℕ) (kept known : Known) → handle ≡ record { number = over.number; generation = G.generations old over.number }
+      → Came G old mid (remembers k asker handle new_path over) (Ok held, kept)
+      → Came G mid new (asks told_done (command.Path (moving flags path new_path))) (Ok tt) → Came G new new (spec.marks_moved kept asker moved parent new_parent) known
       → Came G old new (spec.moves_over k asker over moved parent new_parent flags path new_path) (answer.Done, known)
-  came_moved_over old new k kept known asker over moved parent new_parent flags path new_path handle same is asked marks =
-      came_over_kept old new k kept asker over moved parent new_parent flags path new_path handle (answer.Done, known) same is
-      (came_name G old new kept known (forgets kept over) asker moved parent new_parent flags path new_path asked marks)
+  came_moved_over old mid new held kept known same first asked marks =
+      came_over old new (answer.Done, known) same
+      (came_goes G k asker handle new_path over (λ known stay. spec.moves_name known stay asker moved parent new_parent flags path new_path) old mid new held kept (answer.Done, known) first
+      (came_name G mid new kept known (spec.stays kept handle held) asker moved parent new_parent flags path new_path asked marks))
 
-  pub came_over_refused : (old new : S) (k kept known : Known) (asker : Asker) (over moved : Stat) (parent new_parent flags : ℕ) (path new_path : List ℕ) (handle still : Handle) (e : Errno)
-      → handle ≡ record { number = over.number; generation = G.generations old over.number } → kept ≡ spec.remembered k asker handle over
-      → Came G old new (asks told_done (command.Path (moving flags path new_path))) (Err e) → still ≡ record { number = over.number; generation = G.generations new over.number }
-      → known ≡ without_removed (node_of still) kept
+  pub came_over_refused : (old mid behind new : S) (held : Option ℕ) (kept : Known) (e : Errno) (r : Told) → handle ≡ record { number = over.number; generation = G.generations old over.number }
+      → Came G old mid (remembers k asker handle new_path over) (Ok held, kept)
+      → Came G mid behind (asks told_done (command.Path (moving flags path new_path))) (Err e) → Came G behind new (spec.stays kept handle held e) r
+      → Came G old new (spec.moves_over k asker over moved parent new_parent flags path new_path) r
+  came_over_refused old mid behind new held kept e r same first asked stays =
+      came_over old new r same
+      (came_goes G k asker handle new_path over (λ known stay. spec.moves_name known stay asker moved parent new_parent flags path new_path) old mid new held kept r first
+      (came_no_name G mid behind new kept (spec.stays kept handle held) asker moved parent new_parent flags path new_path e r asked stays))
+
+  pub came_over_lost : (old new : S) (known : Known) (e : Errno) → handle ≡ record { number = over.number; generation = G.generations old over.number }
+      → Came G old new (remembers k asker handle new_path over) (Err e, known)
       → Came G old new (spec.moves_over k asker over moved parent new_parent flags path new_path) (answer.Refused e, known)
-  came_over_refused old new k kept known asker over moved parent new_parent flags path new_path handle still e same is asked again forgot =
-      let now : Handle = record { number = over.number; generation = G.generations new over.number } in
-      came_over_kept old new k kept asker over moved parent new_parent flags path new_path handle (answer.Refused e, known) same is
-      (came_no_name G old new kept (forgets kept over) asker moved parent new_parent flags path new_path e (answer.Refused e, known) asked
-      (came_then G new new new {A = Handle} {B = Told} (handle_now over.number) (λ still. refused (without_removed (node_of still) kept) e) now (answer.Refused e, known) (came_handle G new over.number)
-      (came_known G new e (without_removed (node_of now) kept) known (forgot ∙ ap (λ (h : Handle). without_removed (node_of h) kept) again))))
-
-  pub came_over_unkept : (s : S) (k known : Known) (asker : Asker) (over moved : Stat) (parent new_parent flags : ℕ) (path new_path : List ℕ) (handle : Handle)
-      → handle ≡ record { number = over.number; generation = G.generations s over.number } → known ≡ k
-      → Came G s s (spec.moves_over k asker over moved parent new_parent flags path new_path) (answer.Refused errno.ENOMEM, known)
-  came_over_unkept s k known asker over moved parent new_parent flags path new_path handle same is =
-      subst (λ (known : Known). Came G s s (spec.moves_over k asker over moved parent new_parent flags path new_path) (answer.Refused errno.ENOMEM, known)) (sym is)
-      (came_over s s k asker over moved parent new_parent flags path new_path handle (answer.Refused errno.ENOMEM, k) same
-      (came_unkept G s k (moves_kept (spec.remembered k asker handle over) asker over moved parent new_parent flags path new_path)))
+  came_over_lost old new known e same first =
+      came_over old new (answer.Refused e, known) same
+      (came_lost G k asker handle new_path over (λ known stay. spec.moves_name known stay asker moved parent new_parent flags path new_path) old new known e first)
 
 -- what is done by what has the new name
 abbrev renames : Known → Asker → Stat → ℕ → ℕ → ℕ → List ℕ → List ℕ → Result (Option Stat) Errno → Turn Told
@@ -322,27 +284,14 @@ module _ {S : Type 0} (G : Ghosts S) where
   came_rename_from_nowhere s k asker parent new_parent new_name flags path =
       came_nowhere G s {R = Told} (no_memory, k) new_parent new_name (renames_at k asker parent new_parent flags path)
 
-  came_allowed : (old new : S) (k : Known) (asker : Asker) (parent : ℕ) (name : List ℕ) (new_parent : ℕ) (new_name : List ℕ) (flags : ℕ) (r : Told) → nat_le flags NO_REPLACE ≡ true
-      → Came G old new (renames_path k asker parent name new_parent new_name flags) r → Came G old new (spec.rename k asker parent name new_parent new_name flags) r
-  came_allowed old new k asker parent name new_parent new_name flags r is came =
-      came_then_if G old new {R = Told} (nat_le flags NO_REPLACE) (renames_path k asker parent name new_parent new_name flags) (refused k errno.EINVAL) r is came
-
   -- RENAME and RENAME2
   pub came_rename : (old new : S) (k : Known) (asker : Asker) (parent : ℕ) (name : List ℕ) (new_parent : ℕ) (new_name : List ℕ) (flags : ℕ) (text : List ℕ) (r : Told)
-      → nat_le flags NO_REPLACE ≡ true → LeadsFrom parent name text → Came G old new (spec.rename_from k asker parent new_parent new_name flags text) r
-      → Came G old new (spec.rename k asker parent name new_parent new_name flags) r
-  came_rename old new k asker parent name new_parent new_name flags text r is leads came =
-      came_allowed old new k asker parent name new_parent new_name flags r is
-      (came_along G old new {R = Told} (no_memory, k) parent name text (λ path. spec.rename_from k asker parent new_parent new_name flags path) r leads came)
+      → LeadsFrom parent name text → Came G old new (spec.rename_from k asker parent new_parent new_name flags text) r
+      → Came G old new (spec.rename_named k asker parent name new_parent new_name flags) r
+  came_rename old new k asker parent name new_parent new_name flags text r leads came =
+      came_along G old new {R = Told} (no_memory, k) parent name text (λ path. spec.rename_from k asker parent new_parent new_name flags path) r leads came
 
-  pub came_rename_nowhere : (s : S) (k : Known) (asker : Asker) (parent : ℕ) (name : List ℕ) (new_parent : ℕ) (new_name : List ℕ) (flags : ℕ) → nat_le flags NO_REPLACE ≡ true
-      → Came G s s (spec.rename k asker parent name new_parent new_name flags) (no_memory, k)
-  came_rename_nowhere s k asker parent name new_parent new_name flags is =
-      came_allowed s s k asker parent name new_parent new_name flags (no_memory, k) is
-      (came_nowhere G s {R = Told} (no_memory, k) parent name (λ path. spec.rename_from k asker parent new_parent new_name flags path))
-
-  pub came_rename_invalid : (s : S) (k : Known) (asker : Asker) (parent : ℕ) (name : List ℕ) (new_parent : ℕ) (new_name : List ℕ) (flags : ℕ) → nat_le flags NO_REPLACE ≡ false
-      → Came G s s (spec.rename k asker parent name new_parent new_name flags) (answer.Refused errno.EINVAL, k)
-  came_rename_invalid s k asker parent name new_parent new_name flags not =
-      came_else G s s {R = Told} (nat_le flags NO_REPLACE) (renames_path k asker parent name new_parent new_name flags) (refused k errno.EINVAL) (answer.Refused errno.EINVAL, k) not
-      (came_gives G s {R = Told} (answer.Refused errno.EINVAL, k))
+  pub came_rename_nowhere : (s : S) (k : Known) (asker : Asker) (parent : ℕ) (name : List ℕ) (new_parent : ℕ) (new_name : List ℕ) (flags : ℕ)
+      → Came G s s (spec.rename_named k asker parent name new_parent new_name flags) (no_memory, k)
+  came_rename_nowhere s k asker parent name new_parent new_name flags =
+      came_nowhere G s {R = Told} (no_memory, k) parent name (λ path. spec.rename_from k asker parent new_parent new_name flags path)

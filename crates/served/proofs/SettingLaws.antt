@@ -1,5 +1,5 @@
 -- How requests come about that set attributes.
-use Rattle.std.proofs.Common.{◌≡◌, ℕ, ℤ, true, false, ◌||◌, is_some, List, [], Option, Some, None, Result, Ok, Err, sym, ap, subst}
+use Rattle.std.proofs.Common.{◌≡◌, ℕ, true, false, ◌||◌, is_some, List, [], Some, Result, Ok, Err, sym, subst}
 use Rattle.file_system.specs.declared.file_system.FileSystem.{Ghosts}
 use Rattle.file_system.specs.declared.handle.Handle.{Handle}
 use Rattle.fuse.specs.declared.attribute_changes.AttributeChanges.{AttributeChanges}
@@ -8,89 +8,39 @@ use Rattle.model.specs.declared.command.Command.TheVariants as command
 use Rattle.model.specs.declared.command.PathCall.TheVariants as call
 use Rattle.model.specs.declared.command.Settings.{Settings}
 use Rattle.model.specs.declared.errno.Errno.{Errno}
-use Rattle.model.specs.declared.errno.Errno.TheVariants as errno
-use Rattle.served.specs.Known.{IsOpenAt, Known, marks_at, with_marks, with_removed}
+use Rattle.served.specs.Known.{Known, marks_at, with_marks, with_removed}
 use Rattle.served.specs.Looking.{is_stale, no_memory, tell_attributes, tell_removed}
 use Rattle.served.specs.Marks.{marks_set}
-use Rattle.served.specs.Setting.{Told, cut_open, cut_removed, keep_removed, mark_set, or_no_memory, refused, removed_set, set_attributes, set_attributes_by, set_by_path, set_gone, set_marks, set_removed, set_removed_by, settings_of}
-use Rattle.served.specs.Turns.{Turn, ◌▹◌, asks, asks_for, either, gives, gives_some, told_done, LeadsFrom, Came}
+use Rattle.served.specs.Setting.{Told, cut_removed, keep_removed, mark_set, refused, removed_set, set_attributes, set_attributes_by, set_by_path, set_gone, set_marks, set_removed, settings_of}
+use Rattle.served.specs.Turns.{Turn, ◌▹◌, asks, asks_for, either, gives, told_done, LeadsFrom, Came}
 use Rattle.served.specs.declared.answer.Answer.{Answer}
 use Rattle.served.specs.declared.answer.Answer.TheVariants as answer
 use Rattle.served.specs.declared.marks.Asker.{Asker}
 use Rattle.served.specs.declared.memory.Removed.{Removed}
-use Rattle.served.proofs.TurnLaws.{came_gives, came_some, came_then, came_along, came_nowhere, came_done, came_refused, came_then_if, came_else, came_kept, came_lost, came_as}
+use Rattle.served.proofs.TurnLaws.{came_gives, came_then, came_along, came_nowhere, came_done, came_refused, came_then_if, came_else}
 
 module _ {S : Type 0} (G : Ghosts S) where
-  -- there was memory, or there was none
-  memory_there : (old new : S) (k : Known) (done : Turn Told) (r : Told) → Came G old new done r → Came G old new (or_no_memory k done) r
-  memory_there old new k done r came = came_kept G old new {R = Told} (no_memory, k) done r came
-
-  memory_short : (s : S) (k : Known) (done : Turn Told) (r : Told) → r ≡ (answer.Refused errno.ENOMEM, k) → Came G s s (or_no_memory k done) r
-  memory_short s k done r same = came_as G s s {R = Told} (or_no_memory k done) (no_memory, k) r same (came_lost G s {R = Told} (no_memory, k) done)
-
   -- a removed object is kept
   pub keep_removed-kept : (old new : S) (k known : Known) (node : ℕ) (removed : Removed) (r : Answer) → known ≡ with_removed node removed k → Came G old new (tell_removed known node) r
       → Came G old new (keep_removed k node removed) (r, known)
   keep_removed-kept old new k known node removed r same told =
       let tells : Known → Turn Told = λ x. tell_removed x node ▹ (λ t. gives (t, x)) in
       let came : Came G old new (tells known) (r, known) = came_then G old new new (tell_removed known node) (λ t. gives (t, known)) r (r, known) told (came_gives G new (r, known)) in
-      memory_there old new k (tells (with_removed node removed k)) (r, known) (subst (λ (x : Known). Came G old new (tells x) (r, known)) same came)
-
-  pub keep_removed-short : (s : S) (k known : Known) (node : ℕ) (removed : Removed) → known ≡ k → Came G s s (keep_removed k node removed) (answer.Refused errno.ENOMEM, known)
-  keep_removed-short s k known node removed same =
-      memory_short s k (tell_removed (with_removed node removed k) node ▹ (λ told. gives (told, with_removed node removed k))) (answer.Refused errno.ENOMEM, known)
-      (ap (λ (x : Known). (answer.Refused errno.ENOMEM, x)) same)
-
-  -- a size is set
-  pub cut_open-open : (old new : S) (at : Option ℕ) (fd : ℕ) (size : ℤ) (r : Result (Unit {0}) Errno) → at ≡ Some fd → Came G old new (asks told_done (command.Ftruncate fd size)) r
-      → Came G old new (cut_open at size) r
-  cut_open-open old new at fd size r is came = subst (λ (o : Option ℕ). Came G old new (cut_open o size) r) (sym is) came
-
-  pub cut_open-closed : (s : S) (at : Option ℕ) (size : ℤ) → at ≡ None → Came G s s (cut_open at size) (Err errno.ESTALE)
-  cut_open-closed s at size is =
-      let r : Result (Unit {0}) Errno = Err errno.ESTALE in
-      subst (λ (o : Option ℕ). Came G s s (cut_open o size) r) (sym is) (came_gives G s r)
-
-  pub cut_removed-cut : (old new : S) (k : Known) (node : ℕ) (at : Option ℤ) (size : ℤ) (fd : Option ℕ) (r : Result (Unit {0}) Errno) → at ≡ Some size → IsOpenAt k node fd
-      → Came G old new (cut_open fd size) r → Came G old new (cut_removed k node at) r
-  cut_removed-cut old new k node at size fd r is least came =
-      subst (λ (o : Option ℤ). Came G old new (cut_removed k node o) r) (sym is)
-      (came_then G old old new (gives_some (IsOpenAt k node)) (λ f. cut_open f size) fd r (came_some G old (IsOpenAt k node) fd least) came)
-
-  pub cut_removed-whole : (s : S) (k : Known) (node : ℕ) (at : Option ℤ) → at ≡ None → Came G s s (cut_removed k node at) (Ok tt)
-  cut_removed-whole s k node at is =
-      let r : Result (Unit {0}) Errno = Ok tt in
-      subst (λ (o : Option ℤ). Came G s s (cut_removed k node o) r) (sym is) (came_gives G s r)
+      subst (λ (x : Known). Came G old new (tells x) (r, known)) same came
 
   -- a removed object is set
   pub set_gone-set : (old mid new : S) (k : Known) (asker : Asker) (node : ℕ) (changes : AttributeChanges) (settings : Settings) (removed kept : Removed) (done : Unit {0}) (r : Told)
-      → Came G old mid (cut_removed k node settings.size) (Ok done) → kept ≡ removed_set removed changes settings asker → Came G mid new (keep_removed k node kept) r
+      → Came G old mid (cut_removed removed.held settings.size) (Ok done) → kept ≡ removed_set removed changes settings asker → Came G mid new (keep_removed k node kept) r
       → Came G old new (set_gone k asker node changes settings (Some removed)) r
   set_gone-set old mid new k asker node changes settings removed kept done r first same came =
-      came_then G old mid new (cut_removed k node settings.size) (λ d. elim d [ Ok x ↦ keep_removed k node (removed_set removed changes settings asker) | Err e ↦ refused k e ]) (Ok done) r first
+      came_then G old mid new (cut_removed removed.held settings.size) (λ d. elim d [ Ok x ↦ keep_removed k node (removed_set removed changes settings asker) | Err e ↦ refused k e ]) (Ok done) r first
       (subst (λ (x : Removed). Came G mid new (keep_removed k node x) r) same came)
 
   pub set_gone-refused : (old new : S) (k : Known) (asker : Asker) (node : ℕ) (changes : AttributeChanges) (settings : Settings) (removed : Removed) (errno : Errno)
-      → Came G old new (cut_removed k node settings.size) (Err errno) → Came G old new (set_gone k asker node changes settings (Some removed)) (answer.Refused errno, k)
+      → Came G old new (cut_removed removed.held settings.size) (Err errno) → Came G old new (set_gone k asker node changes settings (Some removed)) (answer.Refused errno, k)
   set_gone-refused old new k asker node changes settings removed errno first =
-      came_then G old new new (cut_removed k node settings.size) (λ d. elim d [ Ok x ↦ keep_removed k node (removed_set removed changes settings asker) | Err e ↦ refused k e ]) (Err errno)
+      came_then G old new new (cut_removed removed.held settings.size) (λ d. elim d [ Ok x ↦ keep_removed k node (removed_set removed changes settings asker) | Err e ↦ refused k e ]) (Err errno)
       (answer.Refused errno, k) first (came_gives G new (answer.Refused errno, k))
-
-  -- what has no name any more is set
-  pub set_removed-refused : (s : S) (k : Known) (asker : Asker) (node : ℕ) (changes : AttributeChanges) (errno : Errno) → settings_of changes ≡ Err errno
-      → Came G s s (set_removed k asker node changes) (answer.Refused errno, k)
-  set_removed-refused s k asker node changes errno is =
-      subst (λ (o : Result Settings Errno). Came G s s (set_removed_by k asker node changes o) (answer.Refused errno, k)) (sym is) (came_gives G s (answer.Refused errno, k))
-
-  pub set_removed-set : (old new : S) (k : Known) (asker : Asker) (node : ℕ) (changes : AttributeChanges) (settings : Settings) (known : Option Removed) (r : Told) → settings_of changes ≡ Ok settings
-      → k.removed node ≡ known → Came G old new (set_gone k asker node changes settings known) r → Came G old new (set_removed k asker node changes) r
-  set_removed-set old new k asker node changes settings known r is was came =
-      subst (λ (o : Result Settings Errno). Came G old new (set_removed_by k asker node changes o) r) (sym is)
-      (subst (λ (o : Option Removed). Came G old new (set_gone k asker node changes settings o) r) (sym was) came)
-
-  pub set_gone-unknown : (s : S) (k : Known) (asker : Asker) (node : ℕ) (changes : AttributeChanges) (settings : Settings)
-      → Came G s s (set_gone k asker node changes settings None) (answer.Refused errno.ESTALE, k)
-  set_gone-unknown s k asker node changes settings = came_gives G s (answer.Refused errno.ESTALE, k)
 
   -- marks are set
   pub mark_set-set : (old new : S) (k known : Known) (asker : Asker) (node : ℕ) (handle : Handle) (changes : AttributeChanges) (r : Answer)
@@ -101,40 +51,30 @@ module _ {S : Type 0} (G : Ghosts S) where
       let came : Came G old new (tells known) (r, known) = came_then G old new new (tell_attributes known node handle) (λ t. gives (t, known)) r (r, known) told (came_gives G new (r, known)) in
       subst (λ (x : Known). Came G old new (tells x) (r, known)) same came
 
-  pub set_marks-removed : (old new : S) (k : Known) (asker : Asker) (node : ℕ) (handle : Handle) (changes : AttributeChanges) (removed : Removed) (r : Told) → k.removed node ≡ Some removed
-      → Came G old new (set_removed k asker node changes) r → Came G old new (set_marks k asker node handle changes) r
-  set_marks-removed old new k asker node handle changes removed r is came =
-      came_then_if G old new (is_some (k.removed node)) (set_removed k asker node changes) (mark_set k asker node handle changes) r (ap (λ (o : Option Removed). is_some o) is) came
-
-  pub set_marks-set : (old new : S) (k : Known) (asker : Asker) (node : ℕ) (handle : Handle) (changes : AttributeChanges) (r : Told) → k.removed node ≡ None
-      → Came G old new (mark_set k asker node handle changes) r → Came G old new (set_marks k asker node handle changes) r
-  set_marks-set old new k asker node handle changes r is came =
-      came_else G old new (is_some (k.removed node)) (set_removed k asker node changes) (mark_set k asker node handle changes) r (ap (λ (o : Option Removed). is_some o) is) came
-
   -- by a path
   module _ (k : Known) (asker : Asker) (node : ℕ) (handle : Handle) (changes : AttributeChanges) (settings : Settings) (path : List ℕ) where
     pub set_by_path-nothing : (old new : S) (r : Told) → (is_some settings.mode || is_some settings.size) ≡ false → Came G old new (set_marks k asker node handle changes) r
         → Came G old new (set_by_path k asker node handle changes settings path) r
     set_by_path-nothing old new r not came =
         came_else G old new (is_some settings.mode || is_some settings.size)
-        (asks_for told_done (command.Path (call.Set path settings)) (λ e. either (is_stale e) (set_removed k asker node changes) (refused k e)) (λ d. set_marks k asker node handle changes))
+        (asks_for told_done (command.Path (call.Set path settings)) (λ e. either (is_stale e) (set_removed k asker node changes) (refused k e)) (λ d. mark_set k asker node handle changes))
         (set_marks k asker node handle changes) r not came
 
     asked : (old new : S) (r : Told) → (is_some settings.mode || is_some settings.size) ≡ true
         → Came G old new (asks_for told_done (command.Path (call.Set path settings)) (λ e. either (is_stale e) (set_removed k asker node changes) (refused k e))
-        (λ d. set_marks k asker node handle changes)) r
+        (λ d. mark_set k asker node handle changes)) r
         → Came G old new (set_by_path k asker node handle changes settings path) r
     asked old new r is came =
         came_then_if G old new (is_some settings.mode || is_some settings.size)
-        (asks_for told_done (command.Path (call.Set path settings)) (λ e. either (is_stale e) (set_removed k asker node changes) (refused k e)) (λ d. set_marks k asker node handle changes))
+        (asks_for told_done (command.Path (call.Set path settings)) (λ e. either (is_stale e) (set_removed k asker node changes) (refused k e)) (λ d. mark_set k asker node handle changes))
         (set_marks k asker node handle changes) r is came
 
     pub set_by_path-set : (old mid new : S) (sent : Command) (done : Unit {0}) (r : Told) → (is_some settings.mode || is_some settings.size) ≡ true → sent ≡ command.Path (call.Set path settings)
-        → Came G old mid (asks told_done sent) (Ok done) → Came G mid new (set_marks k asker node handle changes) r → Came G old new (set_by_path k asker node handle changes settings path) r
+        → Came G old mid (asks told_done sent) (Ok done) → Came G mid new (mark_set k asker node handle changes) r → Came G old new (set_by_path k asker node handle changes settings path) r
     set_by_path-set old mid new sent done r is same first came =
         asked old new r is
         (came_done G old mid new told_done (command.Path (call.Set path settings)) (λ e. either (is_stale e) (set_removed k asker node changes) (refused k e))
-        (λ d. set_marks k asker node handle changes) done r (subst (λ (x : Command). Came G old mid (asks told_done x) (Ok done)) same first) came)
+        (λ d. mark_set k asker node handle changes) done r (subst (λ (x : Command). Came G old mid (asks told_done x) (Ok done)) same first) came)
 
     other : (old mid new : S) (sent : Command) (errno : Errno) (r : Told) → (is_some settings.mode || is_some settings.size) ≡ true → sent ≡ command.Path (call.Set path settings)
         → Came G old mid (asks told_done sent) (Err errno) → Came G mid new (either (is_stale errno) (set_removed k asker node changes) (refused k errno)) r
@@ -142,7 +82,7 @@ module _ {S : Type 0} (G : Ghosts S) where
     other old mid new sent errno r is same first came =
         asked old new r is
         (came_refused G old mid new told_done (command.Path (call.Set path settings)) (λ e. either (is_stale e) (set_removed k asker node changes) (refused k e))
-        (λ d. set_marks k asker node handle changes) errno r (subst (λ (x : Command). Came G old mid (asks told_done x) (Err errno)) same first) came)
+        (λ d. mark_set k asker node handle changes) errno r (subst (λ (x : Command). Came G old mid (asks told_done x) (Err errno)) same first) came)
 
     pub set_by_path-stale : (old mid new : S) (sent : Command) (errno : Errno) (r : Told) → (is_some settings.mode || is_some settings.size) ≡ true → sent ≡ command.Path (call.Set path settings)
         → Came G old mid (asks told_done sent) (Err errno) → is_stale errno ≡ true → Came G mid new (set_removed k asker node changes) r

@@ -102,15 +102,15 @@ module _ {S : Type 0} (G : Ghosts S) where
       (came_refused old mid new tells (asked text) refused (done text) errno r (subst (λ (x : Command). Came G old mid (asks tells x) (Err errno)) is first) then)
 
   -- where there is memory, and where there is none
-  pub came_kept : (old new : S) {R : Type 0} (wants : R) (done : Turn R) (r : R) → Came G old new done r → Came G old new (if_memory wants done) r
+  pub came_kept : (old new : S) {R : Type 0} (lost done : Turn R) (r : R) → Came G old new done r → Came G old new (if_memory lost done) r
   unfolding if_memory
-  came_kept old new wants done r came =
-      came_then old old new (gives_some (λ (is_had : Bool). Unit {0})) (λ is_had. either is_had done (gives wants)) true r (came_some old (λ (is_had : Bool). Unit {0}) true tt) came
+  came_kept old new lost done r came =
+      came_then old old new (gives_some (λ (is_had : Bool). Unit {0})) (λ is_had. either is_had done lost) true r (came_some old (λ (is_had : Bool). Unit {0}) true tt) came
 
-  pub came_lost : (s : S) {R : Type 0} (wants : R) (done : Turn R) → Came G s s (if_memory wants done) wants
+  pub came_lost : (old new : S) {R : Type 0} (lost done : Turn R) (r : R) → Came G old new lost r → Came G old new (if_memory lost done) r
   unfolding if_memory
-  came_lost s wants done =
-      came_then s s s (gives_some (λ (is_had : Bool). Unit {0})) (λ is_had. either is_had done (gives wants)) false wants (came_some s (λ (is_had : Bool). Unit {0}) false tt) (came_gives s wants)
+  came_lost old new lost done r came =
+      came_then old old new (gives_some (λ (is_had : Bool). Unit {0})) (λ is_had. either is_had done lost) false r (came_some old (λ (is_had : Bool). Unit {0}) false tt) came
 
 -- what the text of a path was built of
 pub leads_from : (n : ℕ) (names text slice : List ℕ) → slice ≡ text → start_number text ≡ Some n → parts_behind text ≡ parts names → (IsName names → parts_behind text ≡ names ∷ [])

@@ -8,16 +8,19 @@ use Rattle.model.specs.declared.errno.Errno.{Errno}
 use Rattle.model.specs.declared.errno.Errno.TheVariants as errno
 use Rattle.model.specs.declared.limits.TheConstants.{TRANSFER_BYTES}
 use Rattle.model.specs.declared.reply.Reply.TheVariants as reply
-use Rattle.served.specs.Known.{Known, with_open}
+use Rattle.served.specs.Keeping.{closed_once, is_held}
+use Rattle.served.specs.Known.{Known, with_removed}
 use Rattle.served.specs.Looking.{no_memory}
 use Rattle.served.specs.Making.{touched}
-use Rattle.served.specs.Setting.{Told, refused}
+use Rattle.served.specs.Marks.{written}
+use Rattle.served.specs.Setting.{Told, looks}
 use Rattle.served.specs.Turns.{Turn, ◌▹◌, asks_for, either, gives, gives_some, told_done, with_path}
 use Rattle.served.specs.declared.answer.Answer.{Answer}
 use Rattle.served.specs.declared.answer.Answer.TheVariants as answer
 use Rattle.served.specs.declared.files.Place.{Place}
 use Rattle.served.specs.declared.files.Place.TheVariants as place
 use Rattle.served.specs.declared.marks.Asker.{Asker}
+use Rattle.served.specs.declared.memory.Removed.{Removed}
 use Rattle.served.specs.declared.numbers.TheConstants.{MOST_PARTS}
 
 -- the command that reads so many bytes of a file from an offset on: of an open one, or in a snapshot
@@ -98,15 +101,40 @@ writes fd offset bytes (suc parts) done =
     (write_more fd offset bytes done (λ behind now. writes fd offset behind parts now))
     (gives (wrote_before done errno.EFBIG)))
 
--- a file was written now, if bytes were
-abbrev pub marked_written : Known → Asker → Handle → Answer → Known
-marked_written k asker handle (answer.Wrote n) = touched k asker handle
-marked_written k asker handle told = k
+-- a file's data changed now; what has no name any more has its marks by itself
+abbrev pub written_gone : Removed → Asker → Removed
+written_gone removed asker = record {
+  stat = removed.stat;
+  marks = written asker.now removed.marks;
+  held = removed.held;
+  opens = removed.opens;
+}
 
-abbrev pub write : Known → Asker → Handle → ℕ → ℕ → List ℕ → Turn Told
-write k asker handle fd offset bytes =
-    writes fd offset bytes MOST_PARTS 0 ▹ (λ told. gives (told, marked_written k asker handle told))
+abbrev pub with_written_by : Known → Asker → ℕ → Handle → Option Removed → Known
+with_written_by k asker node handle (Some removed) = with_removed node (written_gone removed asker) k
+with_written_by k asker node handle None = touched k asker handle
 
--- RELEASE: an open file is closed
-abbrev pub release : Known → ℕ → Turn Told
-release k fd = asks_for told_done (command.Close fd) (refused k) (λ d. gives (answer.Done, with_open fd 0 k))
+abbrev pub with_written : Known → Asker → ℕ → Handle → Known
+with_written k asker node handle = with_written_by k asker node handle (k.removed node)
+
+-- the same, if bytes were written
+abbrev pub marked_written : Known → Asker → ℕ → Handle → Answer → Known
+marked_written k asker node handle (answer.Wrote n) = with_written k asker node handle
+marked_written k asker node handle told = k
+
+abbrev pub write : Known → Asker → ℕ → Handle → ℕ → ℕ → List ℕ → Turn Told
+write k asker node handle fd offset bytes =
+    writes fd offset bytes MOST_PARTS 0 ▹ (λ told. gives (told, marked_written k asker node handle told))
+
+-- a descriptor is closed
+abbrev pub closes : ℕ → Turn Answer
+closes fd = asks_for told_done (command.Close fd) (λ e. gives (answer.Refused e)) (λ d. gives answer.Done)
+
+-- RELEASE: an open file is closed; what is kept of one that has no name any more stays open
+abbrev pub release_gone : Known → ℕ → ℕ → Option Removed → Turn Told
+release_gone k node fd None = looks k (closes fd)
+release_gone k node fd (Some removed) =
+    either (is_held removed.held fd) (gives (answer.Done, with_removed node (closed_once removed) k)) (looks k (closes fd))
+
+abbrev pub release : Known → ℕ → ℕ → Turn Told
+release k node fd = release_gone k node fd (k.removed node)

@@ -1,5 +1,5 @@
 -- What the server knows beside the file system, and how it changes.
-use Rattle.std.specs.Prelude.{ℕ, nat_eq, ◌≡◌, ◌≢◌, ◌+◌, ◌<◌, ◌==◌, ◌&&◌, not, nat_lt, if◌then◌else◌, List, [], ◌∷◌, ◌++◌, filter, length, map, slice_index, slice_index_or, Option, Some, None, Contains}
+use Rattle.std.specs.Prelude.{ℕ, nat_eq, ◌≡◌, ◌≢◌, ◌+◌, ◌==◌, ◌&&◌, not, nat_lt, if◌then◌else◌, List, [], ◌∷◌, ◌++◌, filter, length, map, slice_index_or, Option, Some, None, option_map, Contains}
 use Rattle.std.specs.BTreeMap as tree
 use Rattle.std.specs.Cmp.Lexicographic.{pointwise}
 use Rattle.std.specs.Ordering.{nat_cmp}
@@ -21,11 +21,9 @@ pub record Known : Type 0 where
   -- how many numbers have marks of their own, and those, with the generation that they are of
   pub numbers : ℕ
   pub marked : ℕ → Marked
-  -- how many descriptors there may be, and the node that each is open at, 0 where it isn't
-  pub descriptors : ℕ
-  pub open_at : ℕ → ℕ
-  -- what was removed while the kernel knew it, by its node
+  -- what was removed while the kernel knew it, by its node, and the texts of the links among it
   pub removed : ℕ → Option Removed
+  pub texts : ℕ → Option (List ℕ)
   -- the snapshots, in the order of their ids, and the next id
   pub snapshots : List Seen
   pub next_id : ℕ
@@ -41,9 +39,8 @@ known_of m = record {
   first = m.first;
   numbers = length m.marked.items;
   marked = λ n. slice_index_or m.marked.items n (untouched m.first);
-  descriptors = length m.open_at.items;
-  open_at = λ fd. slice_index m.open_at.items fd;
   removed = λ node. tree.get nat_cmp m.removed node;
+  texts = λ node. tree.get nat_cmp m.texts node;
   snapshots = map seen_of m.snapshots.items;
   next_id = m.next_id;
 }
@@ -61,52 +58,38 @@ with_marks handle marks k = record {
       if n == handle.number && nat_lt n k.numbers
       then (record { generation = handle.generation; marks = marks })
       else k.marked n;
-  descriptors = k.descriptors;
-  open_at = k.open_at;
   removed = k.removed;
+  texts = k.texts;
   snapshots = k.snapshots;
   next_id = k.next_id;
 }
-
--- a descriptor is open at a node, or at none, which is 0
-abbrev pub with_open : ℕ → ℕ → Known → Known
-with_open fd node k = record {
-  first = k.first;
-  numbers = k.numbers;
-  marked = k.marked;
-  descriptors = k.descriptors;
-  open_at = λ f. if f == fd && nat_lt f k.descriptors then node else k.open_at f;
-  removed = k.removed;
-  snapshots = k.snapshots;
-  next_id = k.next_id;
-}
-
--- the least descriptor that is open at a node
-abbrev pub IsOpenAt : Known → ℕ → Option ℕ → Type 0
-IsOpenAt k node (Some fd) = (fd < k.descriptors) × (k.open_at fd ≡ node) × ((f : ℕ) → f < fd → k.open_at f ≢ node)
-IsOpenAt k node None = (f : ℕ) → f < k.descriptors → k.open_at f ≢ node
 
 -- what is known of removed nodes is this
-abbrev pub with_all_removed : (ℕ → Option Removed) → Known → Known
-with_all_removed removed k = record {
+abbrev pub with_all_removed : (ℕ → Option Removed) → (ℕ → Option (List ℕ)) → Known → Known
+with_all_removed removed texts k = record {
   first = k.first;
   numbers = k.numbers;
   marked = k.marked;
-  descriptors = k.descriptors;
-  open_at = k.open_at;
   removed = removed;
+  texts = texts;
   snapshots = k.snapshots;
   next_id = k.next_id;
 }
 
--- the object of a node is removed, and was this
+-- what is known of a removed object is now this
 abbrev pub with_removed : ℕ → Removed → Known → Known
 with_removed node removed k =
-    with_all_removed (λ n. if n == node then Some removed else k.removed n) k
+    with_all_removed (λ n. if n == node then option_map (λ before. removed) (k.removed n) else k.removed n) k.texts k
+
+-- the object of a node is removed, and was this, with its text if it is a link
+abbrev pub with_gone : ℕ → Removed → Option (List ℕ) → Known → Known
+with_gone node removed text k =
+    with_all_removed (λ n. if n == node then Some removed else k.removed n) (λ n. if n == node then text else k.texts n) k
 
 -- the kernel doesn't know a node any more
 abbrev pub without_removed : ℕ → Known → Known
-without_removed node k = with_all_removed (λ n. if n == node then None else k.removed n) k
+without_removed node k =
+    with_all_removed (λ n. if n == node then None else k.removed n) (λ n. if n == node then None else k.texts n) k
 
 -- these are the snapshots, and the next id
 abbrev pub with_snapshots : List Seen → ℕ → Known → Known
@@ -114,9 +97,8 @@ with_snapshots snapshots next_id k = record {
   first = k.first;
   numbers = k.numbers;
   marked = k.marked;
-  descriptors = k.descriptors;
-  open_at = k.open_at;
   removed = k.removed;
+  texts = k.texts;
   snapshots = snapshots;
   next_id = next_id;
 }
@@ -141,14 +123,13 @@ FindsName k name (Some s) = Contains k.snapshots s × (s.name ≡ name)
 FindsName k name None = (s : Seen) → Contains k.snapshots s → s.name ≢ name
 
 -- what a server knows at first
-abbrev pub nothing_known : ℕ → ℕ → Marks → Known
-nothing_known numbers descriptors first = record {
+abbrev pub nothing_known : ℕ → Marks → Known
+nothing_known numbers first = record {
   first = first;
   numbers = numbers;
   marked = λ n. untouched first;
-  descriptors = descriptors;
-  open_at = λ fd. 0;
   removed = λ node. None;
+  texts = λ node. None;
   snapshots = [];
   next_id = 0;
 }

@@ -1,7 +1,9 @@
 pub mod Agreeing
+pub mod Changing
 pub mod Commands
 pub mod Files
 pub mod Finding
+pub mod Keeping
 pub mod Known
 pub mod Listing
 pub mod Looking

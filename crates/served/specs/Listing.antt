@@ -1,5 +1,5 @@
 -- What requests come to that list directories, in parts. `k` is what the server knows.
-use Rattle.std.specs.Prelude.{ℕ, ℤ, pos, ◌≡◌, ◌+◌, ◌/◌, ◌^◌, ◌==◌, ◌&&◌, ◌⊎◌, max, min, nat_le, nat_lt, if◌then◌else◌, Bool, true, false, List, [], ◌∷◌, ◌++◌, length, take, Result, Ok, Err}
+use Rattle.std.specs.Prelude.{ℕ, ℤ, pos, ◌≡◌, ◌+◌, ◌/◌, ◌^◌, ◌==◌, ◌&&◌, ◌⊎◌, not, max, min, nat_le, nat_lt, if◌then◌else◌, Bool, true, false, List, [], ◌∷◌, ◌++◌, length, take, Result, Ok, Err}
 use Rattle.file_system.specs.declared.handle.Handle.{Handle}
 use Rattle.fuse.specs.Directory.{ListedValue, listed_plus_text, listed_text}
 use Rattle.fuse.specs.declared.attributes.Entry.{Entry}
@@ -19,7 +19,7 @@ use Rattle.model.specs.declared.reply.FileType.TheVariants.{Dir, File, Link}
 use Rattle.model.specs.declared.reply.Reply.TheVariants as reply
 use Rattle.model.specs.declared.reply.Stat.{Stat}
 use Rattle.served.specs.Known.{Known, Seen, marks_at, seen_of}
-use Rattle.served.specs.Looking.{no_memory, stored_parts}
+use Rattle.served.specs.Looking.{is_snapshots, no_memory, stored_parts}
 use Rattle.served.specs.Nodes.{node_of, node_within}
 use Rattle.served.specs.Telling.{attributes_of, entry_of, parts_of_size}
 use Rattle.served.specs.Turns.{Turn, ◌▹◌, asks_for, either, gives, gives_some, handle_now, with_path}
@@ -147,9 +147,15 @@ leads_to k running stat = with_path (Err errno.ENOMEM) stat.number [] (λ path.
     stored_parts path stat ▹ (λ parts. handle_now stat.number ▹ (λ handle. gives (Ok (entry_at k stat parts handle)))))
 leads_to k (within seen marks) stat = gives (Ok (entry_within seen.id marks stat))
 
--- the same where the part is to tell it
-unfoldable pub told_of : Known → Whose → Part → Stat → Turn (Result Entry Errno)
-told_of k whose part stat = either part.plus (leads_to k whose stat) (gives (Ok untold))
+-- an object of the running tree that has the name of the folder of snapshots is hidden by that
+abbrev pub is_hidden : Whose → ℕ → List ℕ → Bool
+is_hidden running number name = is_snapshots number name
+is_hidden (within seen marks) number name = false
+
+-- the same where the part is to tell it of the directory of a number
+unfoldable pub told_of : Known → Whose → ℕ → Part → Named → Turn (Result Entry Errno)
+told_of k whose number part name =
+    either (part.plus && not (is_hidden whose number name.name)) (leads_to k whose name.stat) (gives (Ok untold))
 
 -- whether the next name has the same cookie
 abbrev pub shares_cookie : Named → List Named → Bool
@@ -170,28 +176,28 @@ tells_name part whole had name rest entry = gives_some (λ (kept : Bool). Unit {
     (gives no_memory))
 
 -- names are told behind others
-unfoldable pub tells : Known → Whose → Part → List Named → ℕ → List ℕ → Turn Answer
-tells k whose part [] whole had = gives (answer.Bytes had)
-tells k whose part (name ∷ names) whole had = told_of k whose part name.stat ▹ (λ found. elim found [
+unfoldable pub tells : Known → Whose → ℕ → Part → List Named → ℕ → List ℕ → Turn Answer
+tells k whose number part [] whole had = gives (answer.Bytes had)
+tells k whose number part (name ∷ names) whole had = told_of k whose number part name ▹ (λ found. elim found [
   | Err e ↦ gives (answer.Refused e)
   | Ok entry ↦ tells_name part whole had (name_in whose name)
-      (λ now. tells k whose part names (if shares_cookie name names then whole else length now) now) entry
+      (λ now. tells k whose number part names (if shares_cookie name names then whole else length now) now) entry
 ])
 
 -- the names behind the part's beginning, in the directory to which a path leads
-abbrev pub lists_along : Known → Whose → Part → List ℕ → List ℕ → Turn Answer
-lists_along k whose part had path =
+abbrev pub lists_along : Known → Whose → ℕ → Part → List ℕ → List ℕ → Turn Answer
+lists_along k whose number part had path =
     asks_for reply.Entries (names_in whose path (pos part.behind) (names_asked part)) (λ e. gives (answer.Refused e))
-    (λ names. tells k whose part names (length had) had)
+    (λ names. tells k whose number part names (length had) had)
 
 -- the same in that of a number, behind `.` and `..`
 unfoldable pub lists : Known → Whose → ℕ → Part → List ℕ → Turn Answer
 lists k whose number part had =
-    either (nat_lt part.behind (2 ^ 63)) (with_path no_memory number [] (lists_along k whose part had)) (gives (answer.Bytes had))
+    either (nat_lt part.behind (2 ^ 63)) (with_path no_memory number [] (lists_along k whose number part had)) (gives (answer.Bytes had))
 
 -- READDIR and READDIRPLUS: a part of the names in the directory of a number
 abbrev pub list : Known → Whose → ℕ → Part → Turn Answer
 list k whose number part =
-    let begun = listed part (dots part number) [] in
+    let begun = listed part (dots part (inode_in whose number)) [] in
     gives_some (λ (kept : Bool). Unit {0}) ▹ (λ kept.
     either kept (either begun.1 (lists k whose number part begun.0) (gives (answer.Bytes begun.0))) (gives no_memory))

@@ -1,18 +1,20 @@
 -- What requests come to that look at the running tree. `k` is what the server knows.
-use Rattle.std.specs.Prelude.{ℕ, pos, ◌-◌, ◌*◌, ◌==◌, ◌||◌, ◌^◌, not, nat_lt, Bool, true, false, List, [], Option, Some, None, if◌then◌else◌}
+use Rattle.std.specs.Prelude.{ℕ, pos, ◌-◌, ◌*◌, ◌==◌, ◌&&◌, ◌||◌, ◌^◌, not, nat_lt, Bool, true, false, List, [], Option, Some, None, Ok, Err, ◌⊎◌, ◌≡◌, if◌then◌else◌}
+use Rattle.std.specs.Str.{bytes_eq}
 use Rattle.file_system.specs.declared.handle.Handle.{Handle}
 use Rattle.fuse.specs.declared.statfs_reply.StatfsReply.{StatfsReply}
 use Rattle.model.specs.declared.command.Command.TheVariants as command
 use Rattle.model.specs.declared.command.PathCall.TheVariants as call
 use Rattle.model.specs.declared.errno.Errno.{Errno}
 use Rattle.model.specs.declared.errno.Errno.TheVariants as errno
-use Rattle.model.specs.declared.limits.TheConstants.{NAME_BYTES}
+use Rattle.model.specs.declared.limits.TheConstants.{NAME_BYTES, ROOT_NUMBER}
 use Rattle.model.specs.declared.reply.Extent.{Extent}
 use Rattle.model.specs.declared.reply.Reply.TheVariants as reply
 use Rattle.model.specs.declared.reply.Stat.{Stat}
 use Rattle.model.specs.declared.reply.Usage.{Usage}
 use Rattle.served.specs.Commands.{lstat}
-use Rattle.served.specs.Known.{IsOpenAt, Known, marks_at}
+use Rattle.served.specs.Keeping.{removed_size}
+use Rattle.served.specs.Known.{Known, marks_at}
 use Rattle.served.specs.Nodes.{node_of}
 use Rattle.served.specs.Telling.{attributes_of, entry_of, is_file, parts_of_size}
 use Rattle.served.specs.Turns.{Turn, ◌▹◌, asks, asks_for, either, gives, gives_some, handle_now, told_done, with_path}
@@ -21,10 +23,15 @@ use Rattle.served.specs.declared.answer.Answer.TheVariants as answer
 use Rattle.served.specs.declared.looking.TheConstants.{SEEK_DATA, SEEK_HOLE}
 use Rattle.served.specs.declared.memory.Removed.{Removed}
 use Rattle.served.specs.declared.numbers.TheConstants.{BLOCK_BYTES, PARTS_OF_BLOCK}
+use Rattle.served.specs.declared.snapshots.TheConstants.{SNAPSHOTS_NAME}
 
 -- there is no memory for the text of a path
 abbrev pub no_memory : Answer
 no_memory = answer.Refused errno.ENOMEM
+
+-- in the root of the running tree this is the name of the folder of snapshots
+abbrev pub is_snapshots : ℕ → List ℕ → Bool
+is_snapshots parent name = (parent == ROOT_NUMBER) && bytes_eq name SNAPSHOTS_NAME.now
 
 -- how much of an object is stored, in parts of 512 bytes: of a file what `extent` tells, and by its
 -- size where that is refused, or it is no file, or has no byte
@@ -64,19 +71,20 @@ removed_told removed size =
     let stat : Stat = record removed.stat { size = size } in
     answer.Attributes (attributes_of stat.number stat (parts_of_size size) removed.marks)
 
--- the same of one that is open by a descriptor, or isn't: its size is that of the open file
-abbrev pub tell_open : Removed → Option ℕ → Turn Answer
-tell_open removed None = gives (removed_told removed removed.stat.size)
-tell_open removed (Some fd) =
-    asks_for reply.Stat (command.Fstat fd) (λ e. gives (answer.Refused e)) (λ now. gives (removed_told removed now.size))
+-- what has no name any more is told by the size that it has, if the kernel still knows it
+abbrev pub by_size : (Removed → ℕ → Answer) → Option Removed → Turn Answer
+by_size tells None = gives (answer.Refused errno.ESTALE)
+by_size tells (Some removed) = removed_size removed ▹ (λ found. elim found [
+  | Ok size ↦ gives (tells removed size)
+  | Err e ↦ gives (answer.Refused e)
+])
 
--- the attributes of what has no name any more, if the kernel still knows it
-abbrev pub tell_gone : Known → ℕ → Option Removed → Turn Answer
-tell_gone k node (Some removed) = gives_some (IsOpenAt k node) ▹ tell_open removed
-tell_gone k node None = gives (answer.Refused errno.ESTALE)
+-- its attributes
+abbrev pub tell_gone : Option Removed → Turn Answer
+tell_gone gone = by_size removed_told gone
 
 abbrev pub tell_removed : Known → ℕ → Turn Answer
-tell_removed k node = tell_gone k node (k.removed node)
+tell_removed k node = tell_gone (k.removed node)
 
 -- GETATTR: the attributes of an object
 abbrev pub tell_attributes : Known → ℕ → Handle → Turn Answer
@@ -86,10 +94,20 @@ tell_attributes k node handle = with_path no_memory handle.number [] (λ path.
     (λ stat. stored_parts path stat ▹ (λ parts.
     gives (answer.Attributes (attributes_of stat.number stat parts (marks_at k handle))))))
 
+-- the text of a link that has no name any more, if there is memory for it
+abbrev pub IsTextGone : Option (List ℕ) → Answer → Type 0
+IsTextGone None told = told ≡ answer.Refused errno.ESTALE
+IsTextGone (Some text) told = (told ≡ answer.Bytes text) ⊎ (told ≡ no_memory)
+
+abbrev pub ReadsRemoved : Known → ℕ → Answer → Type 0
+ReadsRemoved k node told = IsTextGone (k.texts node) told
+
 -- READLINK: the text of a link
-abbrev pub read_link : ℕ → Turn Answer
-read_link number = with_path no_memory number [] (λ path.
-    asks_for reply.Text (command.Path (call.Readlink path)) (λ e. gives (answer.Refused e)) (λ text. gives (answer.Bytes text)))
+abbrev pub read_link : Known → ℕ → ℕ → Turn Answer
+read_link k node number = with_path no_memory number [] (λ path.
+    asks_for reply.Text (command.Path (call.Readlink path))
+    (λ e. either (is_stale e) (gives_some (ReadsRemoved k node)) (gives (answer.Refused e)))
+    (λ text. gives (answer.Bytes text)))
 
 -- the place that a seek asks for
 abbrev pub place_of : Option ℕ → Answer
@@ -101,11 +119,25 @@ found x whence =
     if whence == SEEK_DATA then place_of x.data
     else (if whence == SEEK_HOLE then place_of x.hole else answer.Refused errno.EINVAL)
 
+-- in a file that has no name any more all up to its end counts as data
+abbrev pub all_data : ℕ → ℕ → Extent
+all_data offset size =
+    if nat_lt offset size then (record { blocks = 0; «data» = Some offset; hole = Some size })
+    else (record { blocks = 0; «data» = None; hole = None })
+
+abbrev pub seek_gone : ℕ → ℕ → Option Removed → Turn Answer
+seek_gone offset whence gone = by_size (λ removed size. found (all_data offset size) whence) gone
+
+abbrev pub seek_removed : Known → ℕ → ℕ → ℕ → Turn Answer
+seek_removed k node offset whence = seek_gone offset whence (k.removed node)
+
 -- LSEEK: where data or a hole begins in a file
-abbrev pub seek : ℕ → ℕ → ℕ → Turn Answer
-seek number offset whence =
+abbrev pub seek : Known → ℕ → ℕ → ℕ → ℕ → Turn Answer
+seek k node number offset whence =
     either (nat_lt offset (2 ^ 63)) (with_path no_memory number [] (λ path.
-    asks_for reply.Extent (command.Extent path (pos offset)) (λ e. gives (answer.Refused e)) (λ x. gives (found x whence))))
+    asks_for reply.Extent (command.Extent path (pos offset))
+    (λ e. either (is_stale e) (seek_removed k node offset whence) (gives (answer.Refused e)))
+    (λ x. gives (found x whence))))
     (gives answer.NothingBehind)
 
 -- sizes and counts of the whole file system: what is reserved isn't free

@@ -1,5 +1,5 @@
 -- What requests come to that make objects and names. `k` is what the server knows.
-use Rattle.std.specs.Prelude.{ℕ, ◌%◌, ◌==◌, not, bit_and, bit_or, Bool, true, false, List, [], Result, Ok, Err, if◌then◌else◌}
+use Rattle.std.specs.Prelude.{ℕ, ◌%◌, ◌==◌, not, bit_and, bit_or, Bool, true, false, List, [], Option, Some, None, Result, Ok, Err, if◌then◌else◌}
 use Rattle.file_system.specs.declared.handle.Handle.{Handle}
 use Rattle.fuse.specs.declared.attributes.Entry.{Entry}
 use Rattle.fuse.specs.declared.open_reply.OpenReply.{OpenReply}
@@ -12,8 +12,9 @@ use Rattle.model.specs.declared.limits.TheConstants.{OPEN_FILES}
 use Rattle.model.specs.declared.reply.Reply.TheVariants as reply
 use Rattle.model.specs.declared.reply.Stat.{Stat}
 use Rattle.served.specs.Commands.{lstat, opening}
-use Rattle.served.specs.Known.{Known, marks_at, with_marks, with_open}
-use Rattle.served.specs.Looking.{no_memory, tell_entry}
+use Rattle.served.specs.Keeping.{opened_more}
+use Rattle.served.specs.Known.{Known, marks_at, with_marks, with_removed}
+use Rattle.served.specs.Looking.{is_snapshots, is_stale, no_memory, tell_entry}
 use Rattle.served.specs.Marks.{changed, made, written}
 use Rattle.served.specs.Nodes.{node_of}
 use Rattle.served.specs.Setting.{Told, refused}
@@ -23,6 +24,7 @@ use Rattle.served.specs.declared.answer.Answer.TheVariants as answer
 use Rattle.served.specs.declared.making.New.{New}
 use Rattle.served.specs.declared.making.TheConstants.{EXCLUSIVE, FILE_KIND, KIND_BITS, SET_GROUP}
 use Rattle.served.specs.declared.marks.Asker.{Asker}
+use Rattle.served.specs.declared.memory.Removed.{Removed}
 
 -- Where something is made: its directory, its path, whose group it gets, and whether the
 -- directory's mode says so, which a new directory's mode then says too.
@@ -56,9 +58,13 @@ prepare_at k asker parent path = with_path (Err errno.ENOMEM) parent [] (λ dire
     asks_for reply.Stat (lstat directory) (λ e. gives (Err e)) (λ stat.
     handle_now parent ▹ (λ handle. gives (Ok (place_in k asker handle path stat.mode)))))
 
--- and so of what is to have a name
-abbrev pub prepare : Known → Asker → ℕ → List ℕ → Turn (Result Place Errno)
-prepare k asker parent name = with_path (Err errno.ENOMEM) parent name (λ path. prepare_at k asker parent path)
+-- and so of what is to have a name, unless the folder of snapshots has it
+abbrev pub prepare_named : Known → Asker → ℕ → List ℕ → Turn (Result Place Errno)
+prepare_named k asker parent name = with_path (Err errno.ENOMEM) parent name (λ path. prepare_at k asker parent path)
+
+unfoldable pub prepare : Known → Asker → ℕ → List ℕ → Turn (Result Place Errno)
+prepare k asker parent name =
+    either (is_snapshots parent name) (gives (Err errno.EEXIST)) (prepare_named k asker parent name)
 
 -- something is made in such a place
 abbrev pub makes : Known → Asker → ℕ → List ℕ → (Place → Turn Told) → Turn Told
@@ -118,7 +124,7 @@ opened fd = record { handle = fd; flags = FOPEN_KEEP_CACHE }
 abbrev pub create : Known → Asker → ℕ → List ℕ → ℕ → ℕ → Turn Told
 create k asker parent name mode flags =
     makes_open k asker parent name mode (not (bit_and flags EXCLUSIVE == 0)) (λ fd made.
-    gives (answer.Created made.0 (opened fd), with_open fd (made.0).node made.1))
+    gives (answer.Created made.0 (opened fd), made.1))
 
 -- MKNOD: a file alone, which is closed again
 abbrev pub make_node : Known → Asker → ℕ → List ℕ → ℕ → Turn Told
@@ -140,12 +146,28 @@ abbrev pub link_at : Known → Asker → Handle → ℕ → List ℕ → Turn To
 link_at k asker file parent path = with_path (no_memory, k) file.number [] (λ old.
     asks_for told_done (command.Path (call.Link old path)) (refused k) (λ d. tell_linked k asker file parent old))
 
--- LINK: a file gets one more name
+-- LINK: a file gets one more name, unless the folder of snapshots has it
+abbrev pub link_named : Known → Asker → Handle → ℕ → List ℕ → Turn Told
+link_named k asker file parent name = with_path (no_memory, k) parent name (λ path. link_at k asker file parent path)
+
 abbrev pub link : Known → Asker → Handle → ℕ → List ℕ → Turn Told
-link k asker file parent name = with_path (no_memory, k) parent name (λ path. link_at k asker file parent path)
+link k asker file parent name = either (is_snapshots parent name) (refused k errno.EEXIST) (link_named k asker file parent name)
+
+-- a file that has no name any more is opened by what is kept of it
+abbrev pub open_held : Known → ℕ → Removed → Option ℕ → Told
+open_held k node removed (Some fd) = (answer.Opened (opened fd), with_removed node (opened_more removed) k)
+open_held k node removed None = (answer.Refused errno.ESTALE, k)
+
+abbrev pub open_gone : Known → ℕ → Option Removed → Told
+open_gone k node (Some removed) = open_held k node removed removed.held
+open_gone k node None = (answer.Refused errno.ESTALE, k)
+
+abbrev pub open_removed : Known → ℕ → Told
+open_removed k node = open_gone k node (k.removed node)
 
 -- OPEN
 abbrev pub open_file : Known → ℕ → ℕ → Turn Told
 open_file k node number = with_path (no_memory, k) number [] (λ path.
-    asks_for reply.Fd (command.Open path (opening false false) 0 OPEN_FILES) (refused k) (λ fd.
-    gives (answer.Opened (opened fd), with_open fd node k)))
+    asks_for reply.Fd (command.Open path (opening false false) 0 OPEN_FILES)
+    (λ e. either (is_stale e) (gives (open_removed k node)) (refused k e))
+    (λ fd. gives (answer.Opened (opened fd), k)))

@@ -1,21 +1,19 @@
 -- The table of requests: which answer each gets, from what the server knows, and what it knows then.
-use Rattle.std.specs.Prelude.{ℕ, ◌==◌, ◌&&◌, ◌^◌, nat_lt, Bool, true, false, List, [], ◌∷◌, Option, Some, None, if◌then◌else◌}
-use Rattle.std.specs.Str.{bytes_eq}
+use Rattle.std.specs.Prelude.{ℕ, ◌^◌, nat_lt, Bool, true, false, List, [], Option, Some, None, if◌then◌else◌}
 use Rattle.file_system.specs.declared.handle.Handle.{Handle}
 use Rattle.fuse.specs.Operation as asked
 use Rattle.fuse.specs.Operation.{OperationValue}
-use Rattle.fuse.specs.declared.forgets.Forget.{Forget}
 use Rattle.model.specs.declared.errno.Errno.TheVariants as errno
-use Rattle.model.specs.declared.limits.TheConstants.{ROOT_NUMBER}
 use Rattle.served.specs.Agreeing.{agree}
 use Rattle.served.specs.Files.{read_open, read_within, reads, release, write}
 use Rattle.served.specs.Finding.{finds}
-use Rattle.served.specs.Known.{FindsId, Known, Seen, without_removed}
+use Rattle.served.specs.Keeping.{forgets, forgets_all}
+use Rattle.served.specs.Known.{FindsId, Known, Seen}
 use Rattle.served.specs.Listing.{list, list_snapshots, running, within}
-use Rattle.served.specs.Looking.{look_up, read_link, seek, tell_attributes, tell_removed, tell_space}
+use Rattle.served.specs.Looking.{ReadsRemoved, is_snapshots, look_up, read_link, seek, tell_attributes, tell_removed, tell_space}
 use Rattle.served.specs.Making.{create, link, make_directory, make_link, make_node, open_file}
 use Rattle.served.specs.Removing.{remove, rename}
-use Rattle.served.specs.Setting.{Told, refused, set_attributes, set_removed}
+use Rattle.served.specs.Setting.{Told, looks, refused, set_attributes, set_removed, told}
 use Rattle.served.specs.Snapshots.{delete, look_up_snapshot, look_up_within, open_within, read_link_within, snapshots_attributes, snapshots_entry, take_snapshot, tell_attributes_within}
 use Rattle.served.specs.Turns.{Turn, ◌▹◌, either, gives, gives_some}
 use Rattle.served.specs.declared.answer.Answer.{Answer}
@@ -25,14 +23,6 @@ use Rattle.served.specs.declared.finding.Found.TheVariants as found
 use Rattle.served.specs.declared.listing.Part.{Part}
 use Rattle.served.specs.declared.marks.Asker.{Asker}
 use Rattle.served.specs.declared.numbers.TheConstants.{MOST_PARTS}
-use Rattle.served.specs.declared.snapshots.TheConstants.{SNAPSHOTS_NAME}
-
--- an answer that changes nothing that the server knows
-abbrev pub told : Known → Answer → Turn Told
-told k a = gives (a, k)
-
-abbrev pub looks : Known → Turn Answer → Turn Told
-looks k turn = turn ▹ told k
 
 -- the descriptor that a handle is; one that can't be is that of no open file
 abbrev pub descriptor : ℕ → ℕ
@@ -55,9 +45,6 @@ unfoldable pub links : Known → Asker → ℕ → ℕ → List ℕ → Turn Tol
 links k by file parent name = finds file ▹ (λ of. among_running k of (λ old. link k by old parent name))
 
 -- in the root the folder of snapshots has a name too
-abbrev pub is_snapshots : ℕ → List ℕ → Bool
-is_snapshots parent name = (parent == ROOT_NUMBER) && bytes_eq name SNAPSHOTS_NAME.now
-
 unfoldable pub look_up_running : Known → ℕ → List ℕ → Turn Answer
 look_up_running k parent name =
     either (is_snapshots parent name) (gives (snapshots_entry k)) (look_up k parent name)
@@ -67,7 +54,7 @@ unfoldable pub of_running : Known → Asker → ℕ → Handle → OperationValu
 of_running k by node h (asked.lookup name) = looks k (look_up_running k h.number name)
 of_running k by node h (asked.get_attributes handle) = looks k (tell_attributes k node h)
 of_running k by node h (asked.set_attributes changes) = set_attributes k by node h changes
-of_running k by node h asked.read_link = looks k (read_link h.number)
+of_running k by node h asked.read_link = looks k (read_link k node h.number)
 of_running k by node h (asked.symbolic_link name text) = make_link k by h.number name text
 of_running k by node h (asked.make_node name mode device umask) = make_node k by h.number name mode
 of_running k by node h (asked.make_directory name mode umask) = make_directory k by h.number name mode
@@ -79,11 +66,11 @@ of_running k by node h (asked.open_file flags open_flags) = open_file k node h.n
 of_running k by node h (asked.create name mode umask flags open_flags) = create k by h.number name mode flags
 of_running k by node h (asked.read handle offset size read_flags flags) =
     looks k (reads (read_open (descriptor handle)) offset size MOST_PARTS [])
-of_running k by node h (asked.write handle offset bytes write_flags flags) = write k by h (descriptor handle) offset bytes
-of_running k by node h (asked.release handle flags release_flags) = release k (descriptor handle)
+of_running k by node h (asked.write handle offset bytes write_flags flags) = write k by node h (descriptor handle) offset bytes
+of_running k by node h (asked.release handle flags release_flags) = release k node (descriptor handle)
 of_running k by node h (asked.read_directory handle offset size) = looks k (list k running h.number (part offset size false))
 of_running k by node h (asked.read_directory_plus handle offset size) = looks k (list k running h.number (part offset size true))
-of_running k by node h (asked.seek handle offset whence) = looks k (seek h.number offset whence)
+of_running k by node h (asked.seek handle offset whence) = looks k (seek k node h.number offset whence)
 of_running k by node h _ = told k answer.NotServed
 
 -- what is asked of the folder of snapshots
@@ -121,7 +108,8 @@ of_within k id n operation = gives_some (FindsId k id) ▹ if_seen k n operation
 unfoldable pub of_removed : Known → Asker → ℕ → OperationValue → Turn Told
 of_removed k by node (asked.get_attributes handle) = looks k (tell_removed k node)
 of_removed k by node (asked.set_attributes changes) = set_removed k by node changes
-of_removed k by node (asked.release handle flags release_flags) = release k (descriptor handle)
+of_removed k by node asked.read_link = looks k (gives_some (ReadsRemoved k node))
+of_removed k by node (asked.release handle flags release_flags) = release k node (descriptor handle)
 of_removed k by node _ = refused k errno.ESTALE
 
 unfoldable pub of_found : Known → Asker → ℕ → OperationValue → Found → Turn Told
@@ -130,18 +118,13 @@ of_found k by node operation found.Snapshots = of_snapshots k operation
 of_found k by node operation (found.Within id n) = looks k (of_within k id n operation)
 of_found k by node operation found.Nothing = of_removed k by node operation
 
--- the kernel doesn't know these any more
-abbrev pub forgetting : List Forget → Known → Known
-forgetting [] k = k
-forgetting (f ∷ fs) k = forgetting fs (without_removed f.node k)
-
 -- what is asked with the number of a node: some requests are of no node, or of any
 unfoldable pub answers : Known → Asker → ℕ → OperationValue → Turn Told
 answers k by node (asked.init major minor max_readahead flags) = told k (agree major minor max_readahead flags)
 answers k by node asked.destroy = told k answer.Done
 answers k by node (asked.interrupt unique) = told k answer.Silent
-answers k by node (asked.forget lookups) = gives (answer.Silent, without_removed node k)
-answers k by node (asked.batch_forget forgets) = gives (answer.Silent, forgetting forgets k)
+answers k by node (asked.forget lookups) = forgets k node ▹ (λ known. gives (answer.Silent, known))
+answers k by node (asked.batch_forget forgets) = forgets_all k forgets ▹ (λ known. gives (answer.Silent, known))
 answers k by node asked.stat_file_system = looks k tell_space
 answers k by node (asked.open_directory flags open_flags) = told k (answer.Opened (record { handle = 0; flags = 0 }))
 answers k by node (asked.release_directory handle) = told k answer.Done

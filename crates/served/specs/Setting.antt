@@ -7,10 +7,10 @@ use Rattle.model.specs.declared.command.PathCall.TheVariants as call
 use Rattle.model.specs.declared.command.Settings.{Settings}
 use Rattle.model.specs.declared.errno.Errno.{Errno}
 use Rattle.model.specs.declared.errno.Errno.TheVariants as errno
-use Rattle.served.specs.Known.{IsOpenAt, Known, marks_at, with_marks, with_removed}
+use Rattle.served.specs.Known.{Known, marks_at, with_marks, with_removed}
 use Rattle.served.specs.Looking.{is_stale, no_memory, tell_attributes, tell_removed}
 use Rattle.served.specs.Marks.{marks_set}
-use Rattle.served.specs.Turns.{Turn, ◌▹◌, asks, asks_for, either, gives, gives_some, if_memory, told_done, with_path}
+use Rattle.served.specs.Turns.{Turn, ◌▹◌, asks, asks_for, either, gives, if_memory, told_done, with_path}
 use Rattle.served.specs.declared.answer.Answer.{Answer}
 use Rattle.served.specs.declared.answer.Answer.TheVariants as answer
 use Rattle.served.specs.declared.marks.Asker.{Asker}
@@ -19,6 +19,13 @@ use Rattle.served.specs.declared.memory.Removed.{Removed}
 -- what a request is answered, and what the server knows then
 abbrev pub Told : Type 0
 Told = Answer × Known
+
+-- an answer that changes nothing that the server knows
+abbrev pub told : Known → Answer → Turn Told
+told k a = gives (a, k)
+
+abbrev pub looks : Known → Turn Answer → Turn Told
+looks k turn = turn ▹ told k
 
 -- mode and size, as far as they are to be set; a size that no file has is none
 abbrev pub settings_of : AttributeChanges → Result Settings Errno
@@ -33,19 +40,21 @@ refused k e = gives (answer.Refused e, k)
 
 -- there is memory for a change of what the server knows, or nothing is done
 abbrev pub or_no_memory : Known → Turn Told → Turn Told
-or_no_memory k done = if_memory (no_memory, k) done
+or_no_memory k done = if_memory (gives (no_memory, k)) done
 
 -- a removed object that has this mode now, if it is set, and these marks
 abbrev pub removed_set : Removed → AttributeChanges → Settings → Asker → Removed
 removed_set removed changes settings asker = record {
   stat = record removed.stat { mode = unwrap_or settings.mode removed.stat.mode };
   marks = marks_set changes asker.now removed.marks;
+  held = removed.held;
+  opens = removed.opens;
 }
 
 -- it is kept so, and told
 abbrev pub keep_removed : Known → ℕ → Removed → Turn Told
-keep_removed k node removed = or_no_memory k
-    (tell_removed (with_removed node removed k) node ▹ (λ told. gives (told, with_removed node removed k)))
+keep_removed k node removed =
+    tell_removed (with_removed node removed k) node ▹ (λ told. gives (told, with_removed node removed k))
 
 -- a size is set by a descriptor, if one is open
 abbrev pub cut_open : Option ℕ → ℤ → Turn (Result (Unit {0}) Errno)
@@ -53,14 +62,14 @@ cut_open None size = gives (Err errno.ESTALE)
 cut_open (Some fd) size = asks told_done (command.Ftruncate fd size)
 
 -- the size of a removed object is set, where one is to be set
-abbrev pub cut_removed : Known → ℕ → Option ℤ → Turn (Result (Unit {0}) Errno)
-cut_removed k node None = gives (Ok tt)
-cut_removed k node (Some size) = gives_some (IsOpenAt k node) ▹ (λ fd. cut_open fd size)
+abbrev pub cut_removed : Option ℕ → Option ℤ → Turn (Result (Unit {0}) Errno)
+cut_removed held None = gives (Ok tt)
+cut_removed held (Some size) = cut_open held size
 
 -- a removed object is set
 abbrev pub set_gone : Known → Asker → ℕ → AttributeChanges → Settings → Option Removed → Turn Told
 set_gone k asker node changes settings None = refused k errno.ESTALE
-set_gone k asker node changes settings (Some removed) = cut_removed k node settings.size ▹ (λ done. elim done [
+set_gone k asker node changes settings (Some removed) = cut_removed removed.held settings.size ▹ (λ done. elim done [
   | Ok d ↦ keep_removed k node (removed_set removed changes settings asker)
   | Err e ↦ refused k e
 ])
@@ -90,7 +99,7 @@ set_by_path k asker node handle changes settings path =
     either (is_some settings.mode || is_some settings.size)
     (asks_for told_done (command.Path (call.Set path settings))
     (λ e. either (is_stale e) (set_removed k asker node changes) (refused k e))
-    (λ d. set_marks k asker node handle changes))
+    (λ d. mark_set k asker node handle changes))
     (set_marks k asker node handle changes)
 
 -- SETATTR

@@ -1,9 +1,10 @@
 -- What requests come to in the folder of snapshots, and in what stands there. `k` is what the server knows.
-use Rattle.std.specs.Prelude.{ℕ, ◌==◌, bit_and, List, [], Option, Some, None, is_some, if◌then◌else◌}
+use Rattle.std.specs.Prelude.{ℕ, ◌≡◌, ◌==◌, bit_and, List, [], ◌∷◌, ◌++◌, Option, Some, None, is_some, Result, Ok, Err, if◌then◌else◌}
 use Rattle.fuse.specs.declared.attributes.Attributes.{Attributes}
 use Rattle.fuse.specs.declared.open_reply.TheConstants.{FOPEN_KEEP_CACHE}
 use Rattle.model.specs.declared.command.Command.TheVariants as command
 use Rattle.model.specs.declared.command.PathCall.TheVariants as call
+use Rattle.model.specs.declared.errno.Errno.{Errno}
 use Rattle.model.specs.declared.errno.Errno.TheVariants as errno
 use Rattle.model.specs.declared.limits.TheConstants.{ROOT_NUMBER}
 use Rattle.model.specs.declared.reply.FileType.TheVariants.{Dir}
@@ -19,6 +20,25 @@ use Rattle.served.specs.declared.answer.Answer.{Answer}
 use Rattle.served.specs.declared.answer.Answer.TheVariants as answer
 use Rattle.served.specs.declared.node.TheConstants.{SNAPSHOTS_NODE}
 use Rattle.served.specs.declared.snapshots.TheConstants.{ACCESS_BITS}
+
+-- there are snapshots more of these names, in their order
+abbrev pub with_names : List (List ℕ) → Known → Known
+with_names [] k = k
+with_names (name ∷ names) k = with_names names (with_snapshot name k)
+
+-- whether the snapshots were learnt, and what is known then
+abbrev pub Learnt : Type 0
+Learnt = Result (Unit {0}) Errno × Known
+
+-- the names are known, or a beginning of them where there is no memory for all
+abbrev pub AreLearnt : Known → List (List ℕ) → Learnt → Type 0
+AreLearnt k names (Ok done, known) = known ≡ with_names names k
+AreLearnt k names (Err e, known) = (e ≡ errno.ENOMEM)
+    × ((before : List (List ℕ)) × (rest : List (List ℕ)) × (names ≡ before ++ rest) × (known ≡ with_names before k))
+
+-- the snapshots are listed, and known then
+unfoldable pub learns : Known → Turn Learnt
+learns k = asks_for reply.Snaps command.SnapList (λ e. gives (Err e, k)) (λ names. gives_some (AreLearnt k names))
 
 -- the folder of snapshots is told of as a directory of mode 755, as old as the mount
 abbrev pub snapshots_attributes : Known → Attributes

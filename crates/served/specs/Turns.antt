@@ -91,9 +91,9 @@ with_path wants n names rest = along n names ▹ (λ found. elim found [
 abbrev pub either : {R : Type 0} → Bool → Turn R → Turn R → Turn R
 either test this other = elim test [ true ↦ this | false ↦ other ]
 
--- there is memory for it, and it goes on, or this is given
-unfoldable pub if_memory : {R : Type 0} → R → Turn R → Turn R
-if_memory wants done = gives_some (λ (is_had : Bool). Unit {0}) ▹ (λ is_had. either is_had done (gives wants))
+-- there is memory for what is done, or there is none
+unfoldable pub if_memory : {R : Type 0} → Turn R → Turn R → Turn R
+if_memory lost done = gives_some (λ (is_had : Bool). Unit {0}) ▹ (λ is_had. either is_had done lost)
 
 -- A command is applied, and it goes on by what is read of its reply, or by why it was refused.
 abbrev pub asks_for : {A R : Type 0} → (A → Reply) → Command → (Errno → Turn R) → (A → Turn R) → Turn R

@@ -1,7 +1,6 @@
 //! Which answer a request gets.
 
 ghost use Rattle.std.specs.Prelude.{◌≡◌};
-ghost use Rattle.fuse.specs.Forgets.{forgets_of};
 ghost use Rattle.fuse.specs.Operation.{operation_of};
 ghost use Rattle.served.specs.Known.{known_of, seen_of};
 ghost use Rattle.served.specs.Requests as spec;
@@ -11,8 +10,11 @@ use crate::agreeing::agree;
 use crate::answer::Answer;
 use crate::files::{Place, read, read_within, release, write};
 use crate::finding::{Found, find};
+use crate::keeping::{forget, forget_all};
 use crate::listing::{Part, Tree, list};
-use crate::looking::{look_up, read_link, seek, tell_attributes, tell_removed, tell_space};
+use crate::looking::{
+    look_up, read_link, read_removed, seek, tell_attributes, tell_removed, tell_space,
+};
 use crate::making::{create, link, make_directory, make_link, make_node, open};
 use crate::marks::Asker;
 use crate::memory::{Memory, Snapshot};
@@ -20,12 +22,12 @@ use crate::numbers::MOST_PARTS;
 use crate::removing::{remove, rename};
 use crate::setting::{set_attributes, set_removed};
 use crate::snapshots::{
-    SNAPSHOTS_NAME, delete, list_all, list_within, look_up_snapshot, look_up_within, open_within,
+    delete, is_snapshots, list_all, list_within, look_up_snapshot, look_up_within, open_within,
     read_link_within, snapshots_attributes, snapshots_entry, take, tell_attributes_within,
 };
 use file_system::{FileSystem, Handle};
-use fuse::{Forgets, OpenReply, Operation, Request};
-use model::{Errno, ROOT_NUMBER};
+use fuse::{OpenReply, Operation, Request};
+use model::Errno;
 use std::alloc::Global;
 
 /// A descriptor that a handle is; one that can't be is that of no open file.
@@ -38,23 +40,8 @@ fn descriptor(handle: u64) -> u32
     }
 }
 
-/// The kernel forgets several nodes.
-fn forget_all(memory: &mut Memory, forgets: Forgets<'_>)
-    ensures { known_of memory.new
-        ≡ spec.forgetting (forgets_of forgets.entry) (known_of memory.old) }
-{
-    let mut rest = forgets;
-    for _ in 0..forgets.bytes.len() {
-        let Some((forget, behind)) = rest.split_first() else {
-            return;
-        };
-        memory.forget(forget.node);
-        rest = behind;
-    }
-}
-
 /// Answers a request.
-#[tactic(none)]
+#[tactic(auto, unfolding(crate::specs::Requests::answers))]
 pub(crate) fn answer<F: FileSystem>(
     alloc: Global,
     files: &mut F,
@@ -76,11 +63,11 @@ pub(crate) fn answer<F: FileSystem>(
         Operation::Destroy => Answer::Done,
         Operation::Interrupt { .. } => Answer::Silent,
         Operation::Forget { .. } => {
-            memory.forget(node);
+            forget(files, memory, node);
             Answer::Silent
         }
         Operation::BatchForget { forgets } => {
-            forget_all(memory, *forgets);
+            forget_all(files, memory, *forgets);
             Answer::Silent
         }
         Operation::StatFileSystem => tell_space(files),
@@ -102,7 +89,7 @@ pub(crate) fn answer<F: FileSystem>(
 }
 
 /// Answers a request that is asked of what a node leads to.
-#[tactic(none)]
+#[tactic(auto, unfolding(crate::specs::Requests::of_found))]
 fn answer_found<F: FileSystem>(
     alloc: Global,
     files: &mut F,
@@ -124,11 +111,12 @@ fn answer_found<F: FileSystem>(
         Found::Within { snapshot, number } => answer_within(
             alloc, files, memory, snapshot, number, request,
         ),
-        Found::Nothing => answer_removed(files, memory, asker, node, request),
+        Found::Nothing => answer_removed(alloc, files, memory, asker, node, request),
     }
 }
 
 /// Answers a request that is asked of an object of the running tree.
+#[tactic(auto, unfolding(crate::specs::Requests::of_running))]
 fn answer_running<F: FileSystem>(
     alloc: Global,
     files: &mut F,
@@ -148,7 +136,7 @@ fn answer_running<F: FileSystem>(
         Operation::SetAttributes { changes } => {
             set_attributes(alloc, files, memory, asker, node, handle, changes)
         }
-        Operation::ReadLink => read_link(alloc, files, number),
+        Operation::ReadLink => read_link(alloc, files, memory, node, number),
         Operation::SymbolicLink { name, text } => {
             make_link(alloc, files, memory, asker, number, name, text)
         }
@@ -204,9 +192,9 @@ fn answer_running<F: FileSystem>(
             ..
         } => {
             let fd = descriptor(*open_file);
-            write(files, memory, asker, handle, fd, *offset, bytes)
+            write(files, memory, asker, node, handle, fd, *offset, bytes)
         }
-        Operation::Release { handle, .. } => release(files, memory, descriptor(*handle)),
+        Operation::Release { handle, .. } => { release(files, memory, node, descriptor(*handle)) }
         Operation::ReadDirectory { offset, size, .. } => {
             let part = Part {
                 behind: *offset,
@@ -223,20 +211,15 @@ fn answer_running<F: FileSystem>(
             };
             list(alloc, files, memory, Tree::Running, number, part)
         }
-        Operation::Seek { offset, whence, .. } => seek(alloc, files, number, *offset, *whence),
+        Operation::Seek { offset, whence, .. } => {
+            seek(alloc, files, memory, node, number, *offset, *whence)
+        }
         _ => Answer::NotServed,
     }
 }
 
-/// Whether a name in a directory is that of the folder of snapshots.
-fn is_snapshots(parent: u32, name: &[u8]) -> bool
-    ensures { result ≡ spec.is_snapshots parent name.now }
-{
-    parent == ROOT_NUMBER && name == SNAPSHOTS_NAME
-}
-
 /// What has a name in a directory of the running tree.
-#[tactic(none)]
+#[tactic(auto, unfolding(crate::specs::Requests::look_up_running))]
 fn look_up_running<F: FileSystem>(
     alloc: Global,
     files: &mut F,
@@ -254,7 +237,7 @@ fn look_up_running<F: FileSystem>(
 }
 
 /// Moves a name into a directory of the running tree.
-#[tactic(none)]
+#[tactic(auto, unfolding(crate::specs::Requests::renames, crate::specs::Requests::among_running))]
 fn move_name<F: FileSystem>(
     alloc: Global,
     files: &mut F,
@@ -279,7 +262,7 @@ fn move_name<F: FileSystem>(
 }
 
 /// Gives a file of the running tree one more name.
-#[tactic(none)]
+#[tactic(auto, unfolding(crate::specs::Requests::links, crate::specs::Requests::among_running))]
 fn add_name<F: FileSystem>(
     alloc: Global,
     files: &mut F,
@@ -300,6 +283,7 @@ fn add_name<F: FileSystem>(
 }
 
 /// Answers a request that is asked of the folder of snapshots.
+#[tactic(auto, unfolding(crate::specs::Requests::of_snapshots))]
 fn answer_snapshots<F: FileSystem>(
     alloc: Global,
     files: &mut F,
@@ -335,7 +319,7 @@ fn answer_snapshots<F: FileSystem>(
 }
 
 /// Answers a request that is asked of an object in a snapshot.
-#[tactic(none)]
+#[tactic(auto, unfolding(crate::specs::Requests::of_within, crate::specs::Requests::if_seen))]
 fn answer_within<F: FileSystem>(
     alloc: Global,
     files: &mut F,
@@ -353,6 +337,7 @@ fn answer_within<F: FileSystem>(
 }
 
 /// The same where the snapshot is there.
+#[tactic(auto, unfolding(crate::specs::Requests::of_seen))]
 fn answer_seen<F: FileSystem>(
     alloc: Global,
     files: &mut F,
@@ -400,8 +385,9 @@ fn answer_seen<F: FileSystem>(
 }
 
 /// Answers a request that is asked of what isn't there any more.
-#[tactic(none)]
+#[tactic(auto, unfolding(crate::specs::Requests::of_removed))]
 fn answer_removed<F: FileSystem>(
+    alloc: Global,
     files: &mut F,
     memory: &mut Memory,
     asker: Asker,
@@ -414,7 +400,8 @@ fn answer_removed<F: FileSystem>(
     match &request.operation {
         Operation::GetAttributes { .. } => { tell_removed(files, memory, node) }
         Operation::SetAttributes { changes } => { set_removed(files, memory, asker, node, changes) }
-        Operation::Release { handle, .. } => release(files, memory, descriptor(*handle)),
+        Operation::ReadLink => read_removed(alloc, memory, node),
+        Operation::Release { handle, .. } => { release(files, memory, node, descriptor(*handle)) }
         _ => Answer::Refused(Errno::ESTALE),
     }
 }

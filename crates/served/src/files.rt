@@ -1,6 +1,6 @@
 //! Requests that read and write files.
 
-ghost use Rattle.std.specs.Prelude.{◌≡◌, ◌+◌, ◌*◌, ◌≤◌};
+ghost use Rattle.std.specs.Prelude.{◌≡◌, ◌+◌, ◌*◌, ◌≤◌, Some};
 ghost use Rattle.model.specs.declared.limits.TheConstants.{TRANSFER_BYTES};
 ghost use Rattle.model.specs.declared.reply.Reply.{Reply};
 ghost use Rattle.served.specs.Files as spec;
@@ -10,8 +10,10 @@ ghost use Rattle.served.specs.Turns.{Came, asks};
 use crate::answer::Answer;
 use crate::asking::{ask_data, ask_done, ask_wrote};
 use crate::commands::{get_within, pwrite};
+use crate::keeping::{closed_once, is_held};
+use crate::making::touch_directory;
 use crate::marks::Asker;
-use crate::memory::Memory;
+use crate::memory::{Memory, Removed};
 use crate::numbers::MOST_PARTS;
 use file_system::{FileSystem, Handle, path_from};
 use model::{Command, Errno, TRANSFER_BYTES, Text};
@@ -162,40 +164,92 @@ fn refused_behind(done: u32, errno: Errno) -> Answer
     }
 }
 
+/// The data of a file changed now. What has no name any more has its marks by itself.
+fn mark_written(memory: &mut Memory, asker: Asker, node: u64, handle: Handle)
+    ensures { known_of memory.new ≡ spec.with_written (known_of memory.old) asker node handle }
+{
+    match memory.removed(node) {
+        Some(removed) => memory.change_removed(node, written_gone(&removed, asker)),
+        None => touch_directory(memory, asker, handle),
+    }
+}
+
+/// A removed file whose data changed now.
+fn written_gone(removed: &Removed, asker: Asker) -> Removed
+    ensures { result ≡ spec.written_gone removed.now asker }
+{
+    Removed {
+        marks: removed.marks.written(asker.now),
+        ..*removed
+    }
+}
+
 /// Writes bytes to an open file.
 pub(crate) fn write<F: FileSystem>(
     files: &mut F,
     memory: &mut Memory,
     asker: Asker,
+    node: u64,
     handle: Handle,
     fd: u32,
     offset: u64,
     bytes: &[u8],
 ) -> Answer
     ensures { Came F.FileSystem files.old files.new
-        (spec.write (known_of memory.old) asker handle fd offset bytes.now)
+        (spec.write (known_of memory.old) asker node handle fd offset bytes.now)
         (result, known_of memory.new) }
 {
     match write_parts(files, fd, offset, bytes, MOST_PARTS, 0) {
         Answer::Wrote(count) => {
-            let marks = memory.marks_of(handle).written(asker.now);
-            memory.mark(handle, marks);
+            mark_written(memory, asker, node, handle);
             Answer::Wrote(count)
         }
         other => other,
     }
 }
 
-/// Closes an open file.
-pub(crate) fn release<F: FileSystem>(files: &mut F, memory: &mut Memory, fd: u32) -> Answer
+/// Closes an open file. What is kept of one that has no name any more stays open.
+pub(crate) fn release<F: FileSystem>(
+    files: &mut F,
+    memory: &mut Memory,
+    node: u64,
+    fd: u32,
+) -> Answer
     ensures { Came F.FileSystem files.old files.new
-        (spec.release (known_of memory.old) fd) (result, known_of memory.new) }
+        (spec.release (known_of memory.old) node fd) (result, known_of memory.new) }
+{
+    match memory.removed(node) {
+        Some(removed) => release_gone(files, memory, node, fd, &removed),
+        None => close(files, fd),
+    }
+}
+
+/// The same of a removed file.
+fn release_gone<F: FileSystem>(
+    files: &mut F,
+    memory: &mut Memory,
+    node: u64,
+    fd: u32,
+    removed: &Removed,
+) -> Answer
+    ensures { Came F.FileSystem files.old files.new
+        (spec.release_gone (known_of memory.old) node fd (Some removed.now))
+        (result, known_of memory.new) }
+{
+    if is_held(removed.held, fd) {
+        memory.change_removed(node, closed_once(removed));
+        Answer::Done
+    } else {
+        close(files, fd)
+    }
+}
+
+/// Closes a descriptor.
+fn close<F: FileSystem>(files: &mut F, fd: u32) -> Answer
+    ensures { Came F.FileSystem files.old files.new (spec.closes fd) result }
 {
     match ask_done(files, Command::Close { fd }) {
-        Ok(()) => {
-            memory.note_open(fd, 0);
-            Answer::Done
-        }
+        Ok(()) => Answer::Done,
         Err(errno) => Answer::Refused(errno),
     }
 }

@@ -1,7 +1,8 @@
 //! A mounted folder: what the kernel asks of it comes to commands on a file system, and to an
-//! answer, as the table of requests says (`specs/Requests.antt`). Proved is that each message is
-//! answered so, and that each function is safe and ends, whatever the kernel sends and the file
-//! system replies. Of the loop over messages only that is stated.
+//! answer, as the table of requests says (`specs/Requests.antt`). Proved is that each message that
+//! comes is answered so, and its reply sent before the next one is waited for
+//! (`specs/Serving.antt`), and that each function is safe and ends, whatever the kernel sends and
+//! the file system replies.
 #![tactic(auto)]
 
 mod agreeing;
@@ -9,10 +10,12 @@ mod answer;
 mod answering;
 mod asking;
 mod attributes;
+mod changing;
 mod commands;
 mod errno;
 mod files;
 mod finding;
+mod keeping;
 mod listing;
 mod looking;
 mod making;
@@ -26,4 +29,5 @@ mod serving;
 mod setting;
 mod snapshots;
 
+pub use changing::requests_change_once;
 pub use serving::{Ending, Owner, serve};

@@ -16,6 +16,7 @@ use crate::looking::stored_parts;
 use crate::marks::Marks;
 use crate::memory::{Memory, Snapshot};
 use crate::node::{node_of, node_within};
+use crate::snapshots::is_snapshots;
 use file_system::{FileSystem, path_from};
 use fuse::{
     Attributes, Entry as Told, LISTED_NAME_BYTES, Listed, ListedKind, Time, list_entry,
@@ -219,17 +220,22 @@ fn ask_names<F: FileSystem>(
     }
 }
 
+/// The number by which programs see what has a number.
+fn inode_in(tree: Tree<'_>, number: u32) -> u64
+    ensures { result ≡ spec.inode_in (spec.whose_of tree.entry) number }
+{
+    match tree {
+        Tree::Running => u64::from(number),
+        Tree::Within(snapshot, _) => node_within(snapshot.id, number),
+    }
+}
+
 /// A name as a listing has it.
 fn listed_of<'a>(tree: Tree<'_>, name: &'a Entry) -> Listed<'a>
     ensures { directory.listed_of result ≡ spec.name_in (spec.whose_of tree.entry) name.now }
 {
-    let number = name.stat.number;
-    let inode = match tree {
-        Tree::Running => u64::from(number),
-        Tree::Within(snapshot, _) => node_within(snapshot.id, number),
-    };
     Listed {
-        inode,
+        inode: inode_in(tree, name.stat.number),
         offset: name.cookie,
         kind: listed_kind(name.stat.kind),
         name: name.name.as_bytes(),
@@ -258,24 +264,36 @@ fn leads_to<F: FileSystem>(
     }
 }
 
-/// What a listing tells of what a name leads to.
+/// Whether an object with this name is hidden by the folder of snapshots.
+fn is_hidden(tree: Tree<'_>, number: u32, name: &Entry) -> bool
+    ensures { result ≡ spec.is_hidden (spec.whose_of tree.entry) number name.now.name }
+{
+    match tree {
+        Tree::Running => is_snapshots(number, name.name.as_bytes()),
+        Tree::Within(..) => false,
+    }
+}
+
+/// What a listing of the directory of a number tells of what a name leads to.
+#[tactic(auto, unfolding(crate::specs::Listing::told_of))]
 fn told_of<F: FileSystem>(
     alloc: Global,
     files: &mut F,
     memory: &Memory,
     tree: Tree<'_>,
+    number: u32,
     part: Part,
-    stat: &Stat,
+    name: &Entry,
 ) -> Result<Told, Errno>
     ensures { Came F.FileSystem files.old files.new
-        (spec.told_of (known_of memory.now) (spec.whose_of tree.entry) part stat.now) result }
+        (spec.told_of (known_of memory.now) (spec.whose_of tree.entry) number part name.now) result }
 {
-    if !part.plus {
+    if !(part.plus && !is_hidden(tree, number, name)) {
         return Ok(untold());
     }
     match tree {
-        Tree::Running => leads_to(alloc, files, memory, stat),
-        Tree::Within(snapshot, marks) => Ok(entry_within(snapshot.id, marks, stat)),
+        Tree::Running => leads_to(alloc, files, memory, &name.stat),
+        Tree::Within(snapshot, marks) => Ok(entry_within(snapshot.id, marks, &name.stat)),
     }
 }
 
@@ -333,25 +351,28 @@ fn tell_names<F: FileSystem>(
     files: &mut F,
     memory: &Memory,
     tree: Tree<'_>,
+    number: u32,
     part: Part,
     names: &[Entry],
     whole: usize,
     listing: Vec<u8>,
 ) -> Answer
     ensures { Came F.FileSystem files.old files.new
-        (spec.tells (known_of memory.now) (spec.whose_of tree.entry) part names.now whole
+        (spec.tells (known_of memory.now) (spec.whose_of tree.entry) number part names.now whole
         listing.items) result }
 {
     let Some((name, behind)) = names.split_first() else {
         return Answer::Bytes(Text::new(listing));
     };
-    match told_of(alloc, files, memory, tree, part, &name.stat) {
+    match told_of(alloc, files, memory, tree, number, part, name) {
         Ok(told) => {
             let mut listing = listing;
             match append(&mut listing, part, &told, &listed_of(tree, name)) {
                 Ok(true) => {
                     let now = whole_behind(name, behind, whole, listing.len());
-                    tell_names(alloc, files, memory, tree, part, behind, now, listing)
+                    tell_names(
+                        alloc, files, memory, tree, number, part, behind, now, listing,
+                    )
                 }
                 Ok(false) => ends(listing, whole),
                 Err(_) => Answer::Refused(Errno::ENOMEM),
@@ -383,7 +404,9 @@ fn list_names<F: FileSystem>(
             Ok(names) => {
                 let whole = listing.len();
                 let names = names.as_slice();
-                tell_names(alloc, files, memory, tree, part, names, whole, listing)
+                tell_names(
+                    alloc, files, memory, tree, number, part, names, whole, listing,
+                )
             }
             Err(errno) => Answer::Refused(errno),
         },
@@ -404,7 +427,7 @@ pub(crate) fn list<F: FileSystem>(
         (spec.list (known_of memory.now) (spec.whose_of tree.entry) number part) result }
 {
     let mut listing = Vec::new(alloc);
-    match append_dots(&mut listing, part, u64::from(number)) {
+    match append_dots(&mut listing, part, inode_in(tree, number)) {
         Ok(true) => list_names(alloc, files, memory, tree, number, part, listing),
         Ok(false) => Answer::Bytes(Text::new(listing)),
         Err(_) => Answer::Refused(Errno::ENOMEM),

@@ -1,6 +1,6 @@
 //! Requests that look at the running tree.
 
-ghost use Rattle.std.specs.Prelude.{◌≡◌};
+ghost use Rattle.std.specs.Prelude.{◌≡◌, Some};
 ghost use Rattle.served.specs.Known.{known_of};
 ghost use Rattle.served.specs.Looking as spec;
 ghost use Rattle.served.specs.Turns.{Came};
@@ -9,12 +9,13 @@ use crate::answer::Answer;
 use crate::asking::{ask_done, ask_extent, ask_stat, ask_text, ask_usage};
 use crate::attributes::{attributes_of, entry_of, is_file, parts_of_size};
 use crate::commands::{extent, lstat, readlink};
+use crate::keeping::removed_size;
 use crate::memory::{Memory, Removed};
 use crate::node::node_of;
 use crate::numbers::{BLOCK_BYTES, PARTS_OF_BLOCK};
 use file_system::{FileSystem, Handle, path_from};
 use fuse::StatfsReply;
-use model::{Command, Errno, Extent, NAME_BYTES, Stat};
+use model::{Command, Errno, Extent, NAME_BYTES, Stat, Text};
 use std::alloc::Global;
 
 /// How much of an object is stored, in parts of 512 bytes; the path leads to it.
@@ -31,7 +32,6 @@ pub(crate) fn stored_parts<F: FileSystem>(files: &mut F, path: &[u8], stat: &Sta
 }
 
 /// The entry of an object to which the path leads.
-#[tactic(none)]
 pub(crate) fn tell_entry<F: FileSystem>(
     files: &mut F,
     memory: &Memory,
@@ -121,28 +121,23 @@ pub(crate) fn tell_attributes<F: FileSystem>(
 }
 
 /// The attributes of what has no name any more, if the kernel still knows it: what it was, and the
-/// size that it has where it is an open file.
-#[tactic(none)]
+/// size that it has.
 pub(crate) fn tell_removed<F: FileSystem>(files: &mut F, memory: &Memory, node: u64) -> Answer
     ensures { Came F.FileSystem files.old files.new (spec.tell_removed (known_of memory.now) node) result }
 {
     match memory.removed(node) {
-        Some(removed) => tell_open(files, &removed, memory.open_at(node)),
+        Some(removed) => tell_gone(files, &removed),
         None => Answer::Refused(Errno::ESTALE),
     }
 }
 
-/// The attributes of what has no name any more, and is open by a descriptor, or isn't.
-#[tactic(none)]
-fn tell_open<F: FileSystem>(files: &mut F, removed: &Removed, fd: Option<u32>) -> Answer
-    ensures { Came F.FileSystem files.old files.new (spec.tell_open removed.now fd) result }
+/// The attributes of a removed object.
+fn tell_gone<F: FileSystem>(files: &mut F, removed: &Removed) -> Answer
+    ensures { Came F.FileSystem files.old files.new (spec.tell_gone (Some removed.now)) result }
 {
-    match fd {
-        Some(fd) => match ask_stat(files, Command::Fstat { fd }) {
-            Ok(now) => removed_told(removed, now.size),
-            Err(errno) => Answer::Refused(errno),
-        },
-        None => removed_told(removed, removed.stat.size),
+    match removed_size(files, removed) {
+        Ok(size) => removed_told(removed, size),
+        Err(errno) => Answer::Refused(errno),
     }
 }
 
@@ -160,16 +155,36 @@ fn removed_told(removed: &Removed, size: u64) -> Answer
 }
 
 /// The text of a link.
-#[tactic(none)]
-pub(crate) fn read_link<F: FileSystem>(alloc: Global, files: &mut F, number: u32) -> Answer
-    ensures { Came F.FileSystem files.old files.new (spec.read_link number) result }
+pub(crate) fn read_link<F: FileSystem>(
+    alloc: Global,
+    files: &mut F,
+    memory: &Memory,
+    node: u64,
+    number: u32,
+) -> Answer
+    ensures { Came F.FileSystem files.old files.new (spec.read_link (known_of memory.now) node number) result }
 {
     let Ok(path) = path_from(alloc, number, b"") else {
         return Answer::Refused(Errno::ENOMEM);
     };
     match ask_text(files, readlink(&path)) {
         Ok(text) => Answer::Bytes(text),
+        Err(errno) if is_stale(errno) => read_removed(alloc, memory, node),
         Err(errno) => Answer::Refused(errno),
+    }
+}
+
+/// The text of a link that has no name any more.
+pub(crate) fn read_removed(alloc: Global, memory: &Memory, node: u64) -> Answer
+    ensures { spec.ReadsRemoved (known_of memory.now) node result }
+{
+    let Some(text) = memory.text(node) else {
+        return Answer::Refused(Errno::ESTALE);
+    };
+    let mut bytes = Vec::new(alloc);
+    match bytes.extend_from_slice(text.as_bytes()) {
+        Ok(()) => Answer::Bytes(Text::new(bytes)),
+        Err(_) => Answer::Refused(Errno::ENOMEM),
     }
 }
 
@@ -179,25 +194,72 @@ pub(crate) const SEEK_DATA: u32 = 3;
 pub(crate) const SEEK_HOLE: u32 = 4;
 
 /// Where data or a hole begins in a file.
-#[tactic(none)]
 pub(crate) fn seek<F: FileSystem>(
     alloc: Global,
     files: &mut F,
+    memory: &Memory,
+    node: u64,
     number: u32,
     offset: u64,
     whence: u32,
 ) -> Answer
-    ensures { Came F.FileSystem files.old files.new (spec.seek number offset whence) result }
+    ensures { Came F.FileSystem files.old files.new (spec.seek (known_of memory.now) node number offset whence) result }
 {
-    let Ok(offset) = i64::try_from(offset) else {
+    let Ok(at) = i64::try_from(offset) else {
         return Answer::NothingBehind;
     };
     let Ok(path) = path_from(alloc, number, b"") else {
         return Answer::Refused(Errno::ENOMEM);
     };
-    match ask_extent(files, extent(&path, offset)) {
+    match ask_extent(files, extent(&path, at)) {
         Ok(extent) => found(&extent, whence),
+        Err(errno) if is_stale(errno) => seek_removed(files, memory, node, offset, whence),
         Err(errno) => Answer::Refused(errno),
+    }
+}
+
+/// The same in a file that has no name any more.
+fn seek_removed<F: FileSystem>(
+    files: &mut F,
+    memory: &Memory,
+    node: u64,
+    offset: u64,
+    whence: u32,
+) -> Answer
+    ensures { Came F.FileSystem files.old files.new (spec.seek_removed (known_of memory.now) node offset whence) result }
+{
+    match memory.removed(node) {
+        Some(removed) => seek_gone(files, &removed, offset, whence),
+        None => Answer::Refused(Errno::ESTALE),
+    }
+}
+
+/// The same in a removed file.
+fn seek_gone<F: FileSystem>(files: &mut F, removed: &Removed, offset: u64, whence: u32) -> Answer
+    ensures { Came F.FileSystem files.old files.new (spec.seek_gone offset whence (Some removed.now)) result }
+{
+    match removed_size(files, removed) {
+        Ok(size) => found(&all_data(offset, size), whence),
+        Err(errno) => Answer::Refused(errno),
+    }
+}
+
+/// What is told of a file of this size from an offset on, where all of it counts as data.
+fn all_data(offset: u64, size: u64) -> Extent
+    ensures { result ≡ spec.all_data offset size }
+{
+    if offset < size {
+        Extent {
+            blocks: 0,
+            data: Some(offset),
+            hole: Some(size),
+        }
+    } else {
+        Extent {
+            blocks: 0,
+            data: None,
+            hole: None,
+        }
     }
 }
 

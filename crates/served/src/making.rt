@@ -1,8 +1,9 @@
 //! Requests that make objects and names.
 
-ghost use Rattle.std.specs.Prelude.{◌≡◌};
+ghost use Rattle.std.specs.Prelude.{◌≡◌, Some};
 ghost use Rattle.served.specs.Known.{known_of};
 ghost use Rattle.served.specs.Making as spec;
+ghost use Rattle.served.specs.Setting.{Told};
 ghost use Rattle.served.specs.Turns.{Came};
 
 use crate::answer::Answer;
@@ -10,11 +11,13 @@ use crate::asking::{ask_descriptor, ask_done, ask_opened, ask_stat};
 use crate::attributes::{attributes_of, entry_of, parts_of_size};
 use crate::commands;
 use crate::commands::{lstat, mkdir, open_stat, symlink};
-use crate::looking::tell_entry;
+use crate::keeping::opened_more;
+use crate::looking::{is_stale, tell_entry};
 use crate::marks::{Asker, Marks};
-use crate::memory::Memory;
+use crate::memory::{Memory, Removed};
 use crate::node::node_of;
 use crate::numbers::mode_of;
+use crate::snapshots::is_snapshots;
 use file_system::{FileSystem, Handle, path_from};
 use fuse::{Entry, FOPEN_KEEP_CACHE, OpenReply};
 use model::{Command, Errno, Mode, Stat};
@@ -42,7 +45,9 @@ struct New {
     inherits: bool,
 }
 
-/// Looks at the directory in which something is to be made.
+/// Looks at the directory in which something is to be made, unless the folder of snapshots has the
+/// name.
+#[tactic(auto, unfolding(crate::specs::Making::prepare))]
 fn prepare<F: FileSystem>(
     alloc: Global,
     files: &mut F,
@@ -52,6 +57,23 @@ fn prepare<F: FileSystem>(
     name: &[u8],
 ) -> Result<New, Errno>
     ensures { Came F.FileSystem files.old files.new (spec.prepare (known_of memory.now) asker parent name.now) (spec.placed result) }
+{
+    if is_snapshots(parent, name) {
+        return Err(Errno::EEXIST);
+    }
+    prepare_named(alloc, files, memory, asker, parent, name)
+}
+
+/// Looks at the directory in which something is to be made.
+fn prepare_named<F: FileSystem>(
+    alloc: Global,
+    files: &mut F,
+    memory: &Memory,
+    asker: Asker,
+    parent: u32,
+    name: &[u8],
+) -> Result<New, Errno>
+    ensures { Came F.FileSystem files.old files.new (spec.prepare_named (known_of memory.now) asker parent name.now) (spec.placed result) }
 {
     match path_from(alloc, parent, name) {
         Ok(path) => prepare_at(alloc, files, memory, asker, parent, path),
@@ -225,7 +247,6 @@ pub(crate) fn create<F: FileSystem>(
     ) {
         Ok((fd, stat)) => {
             let entry = made(files, memory, asker, &new, &stat);
-            memory.note_open(fd, entry.node);
             Answer::Created(entry, opened(fd))
         }
         Err(errno) => Answer::Refused(errno),
@@ -273,7 +294,7 @@ pub(crate) fn make_node<F: FileSystem>(
     }
 }
 
-/// Gives a file one more name.
+/// Gives a file one more name, unless the folder of snapshots has it.
 pub(crate) fn link<F: FileSystem>(
     alloc: Global,
     files: &mut F,
@@ -284,6 +305,24 @@ pub(crate) fn link<F: FileSystem>(
     name: &[u8],
 ) -> Answer
     ensures { Came F.FileSystem files.old files.new (spec.link (known_of memory.old) asker file parent name.now) (result, known_of memory.new) }
+{
+    if is_snapshots(parent, name) {
+        return Answer::Refused(Errno::EEXIST);
+    }
+    link_named(alloc, files, memory, asker, file, parent, name)
+}
+
+/// Gives a file one more name.
+fn link_named<F: FileSystem>(
+    alloc: Global,
+    files: &mut F,
+    memory: &mut Memory,
+    asker: Asker,
+    file: Handle,
+    parent: u32,
+    name: &[u8],
+) -> Answer
+    ensures { Came F.FileSystem files.old files.new (spec.link_named (known_of memory.old) asker file parent name.now) (result, known_of memory.new) }
 {
     match path_from(alloc, parent, name) {
         Ok(path) => link_at(alloc, files, memory, asker, file, parent, &path),
@@ -346,10 +385,31 @@ pub(crate) fn open<F: FileSystem>(
         return Answer::Refused(Errno::ENOMEM);
     };
     match ask_descriptor(files, commands::open(&path, mode_of(0))) {
-        Ok(fd) => {
-            memory.note_open(fd, node);
+        Ok(fd) => Answer::Opened(opened(fd)),
+        Err(errno) if is_stale(errno) => open_removed(memory, node),
+        Err(errno) => Answer::Refused(errno),
+    }
+}
+
+/// Opens a file that has no name any more, by what is kept of it.
+fn open_removed(memory: &mut Memory, node: u64) -> Answer
+    ensures { (let told : Told = (result, known_of memory.new) in told) ≡ spec.open_removed (known_of memory.old) node }
+{
+    match memory.removed(node) {
+        Some(removed) => open_gone(memory, node, &removed),
+        None => Answer::Refused(Errno::ESTALE),
+    }
+}
+
+/// The same of a removed file.
+fn open_gone(memory: &mut Memory, node: u64, removed: &Removed) -> Answer
+    ensures { (let told : Told = (result, known_of memory.new) in told) ≡ spec.open_gone (known_of memory.old) node (Some removed.now) }
+{
+    match removed.held {
+        Some(fd) => {
+            memory.change_removed(node, opened_more(removed));
             Answer::Opened(opened(fd))
         }
-        Err(errno) => Answer::Refused(errno),
+        None => Answer::Refused(Errno::ESTALE),
     }
 }

@@ -1,11 +1,11 @@
 //! What the server knows beside the file system, as long as the folder is mounted.
 
-ghost use Rattle.std.specs.Prelude.{◌≡◌, ◌≤◌, ℕ, length, IfOk, MatchOption, Option, OnErr, OnOk};
+ghost use Rattle.std.specs.Prelude.{◌≡◌, ◌≤◌, IfOk, OnErr, OnOk};
 
 use crate::marks::Marks;
 use crate::node::GREATEST_TOLD;
 use file_system::Handle;
-use model::{OPEN_FILES, Stat};
+use model::{Stat, Text};
 use std::alloc::{AllocError, Global};
 use std::collections::BTreeMap;
 
@@ -21,6 +21,10 @@ struct Marked {
 pub(crate) struct Removed {
     pub(crate) stat: Stat,
     pub(crate) marks: Marks,
+    /// A file is open by this descriptor, if one was free.
+    pub(crate) held: Option<u32>,
+    /// So often the kernel has it open by that.
+    pub(crate) opens: u32,
 }
 
 /// A snapshot: no other one since the mount has its id.
@@ -38,37 +42,34 @@ pub(crate) struct Memory {
     first: Marks,
     /// By number.
     marked: Vec<Marked>,
-    /// The node that each descriptor is open at, and 0 where it isn't open.
-    open_at: Vec<u64>,
     /// By node.
     removed: BTreeMap<u64, Removed>,
+    /// The texts of removed links, by node.
+    texts: BTreeMap<u64, Text>,
     /// The snapshots that there are, in the order of their ids.
     pub(crate) snapshots: Vec<Snapshot>,
     /// The id of the next snapshot.
     next_id: u32,
-    ghost few: { length open_at.items ≤ 4294967296 },
 }
 
 impl Memory {
     ghost use Rattle.std.specs.Option.{option_map};
-    ghost use Rattle.served.specs.Known.{FindsId, FindsName, IsOpenAt, known_of, marks_at, nothing_known, seen_of, with_marks, with_open, with_removed, with_snapshot, without_removed, without_snapshot};
-    ghost use Rattle.model.specs.declared.limits.TheConstants.{OPEN_FILES};
+    ghost use Rattle.served.specs.Known.{FindsId, FindsName, known_of, marks_at, nothing_known, seen_of, with_gone, with_marks, with_removed, with_snapshot, without_removed, without_snapshot};
 
     /// Of a file system of so many numbers, of which nothing was touched.
     pub(crate) fn new(alloc: Global, numbers: u32, first: Marks) -> Result<Memory, AllocError>
-        ensures { IfOk result (λ m. known_of m ≡ nothing_known numbers OPEN_FILES first) }
+        ensures { IfOk result (λ m. known_of m ≡ nothing_known numbers first) }
     {
         let untouched = Marked {
             generation: 0,
             marks: first,
         };
         let marked = vec![in alloc; untouched; numbers as usize]?;
-        let open_at = vec![in alloc; 0u64; OPEN_FILES as usize]?;
         Ok(Memory {
             first,
             marked,
-            open_at,
             removed: BTreeMap::new(alloc),
+            texts: BTreeMap::new(alloc),
             snapshots: Vec::new(alloc),
             next_id: 0,
         })
@@ -103,27 +104,6 @@ impl Memory {
         }
     }
 
-    /// A descriptor is open at a node.
-    pub(crate) fn note_open(&mut self, fd: u32, node: u64)
-        ensures { known_of self.new ≡ with_open fd node (known_of self.old) }
-    {
-        if let Some(at) = self.open_at.get_mut(fd as usize) {
-            *at = node;
-        }
-    }
-
-    /// A descriptor that is open at a node, the least one.
-    pub(crate) fn open_at(&self, node: u64) -> Option<u32>
-        ensures { IsOpenAt (known_of self.now) node result }
-    {
-        for (fd, at) in self.open_at.iter().enumerate() {
-            if *at == node {
-                return Some(fd as u32);
-            }
-        }
-        None
-    }
-
     /// What was removed of this node.
     pub(crate) fn removed(&self, node: u64) -> Option<Removed>
         ensures { result ≡ (known_of self.now).removed node }
@@ -131,15 +111,46 @@ impl Memory {
         self.removed.get(&node).copied()
     }
 
-    /// The object of this node is removed.
-    pub(crate) fn note_removed(&mut self, node: u64, removed: Removed) -> Result<(), AllocError>
-        ensures ok { OnOk result
-            (known_of self.new ≡ with_removed node removed (known_of self.old)) }
-        ensures err { OnErr result (known_of self.new ≡ known_of self.old) }
+    /// The text of the link that was removed of this node.
+    pub(crate) fn text(&self, node: u64) -> Option<&Text>
+        ensures { option_map (λ t. t.now) result ≡ (known_of self.now).texts node }
     {
-        match self.removed.insert(node, removed) {
-            Ok(_) => Ok(()),
-            Err(_) => Err(AllocError),
+        self.texts.get(&node)
+    }
+
+    /// The object of this node is removed, and has this text if it is a link. Where there is no
+    /// memory for it, nothing is known of the node.
+    pub(crate) fn note_removed(
+        &mut self,
+        node: u64,
+        removed: Removed,
+        text: Option<Text>,
+    ) -> Result<(), AllocError>
+        ensures ok { OnOk result
+            (known_of self.new ≡ with_gone node removed text (known_of self.old)) }
+        ensures err { OnErr result (known_of self.new ≡ without_removed node (known_of self.old)) }
+    {
+        let Ok(_) = self.removed.insert(node, removed) else {
+            self.forget(node);
+            return Err(AllocError);
+        };
+        let Some(text) = text else {
+            let _ = self.texts.remove(&node);
+            return Ok(());
+        };
+        let Ok(_) = self.texts.insert(node, text) else {
+            self.forget(node);
+            return Err(AllocError);
+        };
+        Ok(())
+    }
+
+    /// What is known of a removed object is now this. Of another node nothing is.
+    pub(crate) fn change_removed(&mut self, node: u64, removed: Removed)
+        ensures { known_of self.new ≡ with_removed node removed (known_of self.old) }
+    {
+        if self.removed.contains_key(&node) {
+            let _ = self.removed.insert(node, removed);
         }
     }
 
@@ -148,6 +159,7 @@ impl Memory {
         ensures { known_of self.new ≡ without_removed node (known_of self.old) }
     {
         let _ = self.removed.remove(&node);
+        let _ = self.texts.remove(&node);
     }
 
     /// The snapshot with an id, if there is one.

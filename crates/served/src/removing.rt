@@ -1,6 +1,6 @@
 //! Requests that take names away or move them.
 
-ghost use Rattle.std.specs.Prelude.{◌≡◌, OnErr, OnOk};
+ghost use Rattle.std.specs.Prelude.{◌≡◌};
 ghost use Rattle.model.specs.declared.reply.Reply.{Reply};
 ghost use Rattle.served.specs.Commands.{lstat};
 ghost use Rattle.served.specs.Known.{known_of};
@@ -11,13 +11,14 @@ use crate::answer::Answer;
 use crate::asking::{ask_done, ask_stat};
 use crate::attributes::is_file;
 use crate::commands::{lstat, moving, removing};
+use crate::keeping::{give_up, remember};
 use crate::making::{mark_changed, touch_directory};
 use crate::marks::Asker;
-use crate::memory::{Memory, Removed};
-use crate::node::node_of;
+use crate::memory::Memory;
+use crate::snapshots::is_snapshots;
 use file_system::{FileSystem, Handle, path_from};
 use model::{Errno, Stat};
-use std::alloc::{AllocError, Global};
+use std::alloc::Global;
 
 /// Looks at what has a path.
 fn look_at<F: FileSystem>(files: &mut F, path: &[u8]) -> Result<Stat, Errno>
@@ -33,25 +34,7 @@ fn goes_with_name(stat: &Stat) -> bool
     !is_file(stat.kind) || stat.links <= 1
 }
 
-/// Remembers an object whose last name is about to go, since the kernel may know it for longer.
-fn remember(
-    memory: &mut Memory,
-    asker: Asker,
-    handle: Handle,
-    stat: &Stat,
-) -> Result<(), AllocError>
-    ensures ok { OnOk result
-        (known_of memory.new ≡ spec.remembered (known_of memory.old) asker handle stat.now) }
-    ensures err { OnErr result (known_of memory.new ≡ known_of memory.old) }
-{
-    let removed = Removed {
-        stat: Stat { links: 0, ..*stat },
-        marks: memory.marks_of(handle).changed(asker.now),
-    };
-    memory.note_removed(node_of(handle), removed)
-}
-
-/// Takes a name away, of a directory or of something else.
+/// Takes a name away, of a directory or of something else. The folder of snapshots stays.
 pub(crate) fn remove<F: FileSystem>(
     alloc: Global,
     files: &mut F,
@@ -62,6 +45,24 @@ pub(crate) fn remove<F: FileSystem>(
     is_directory: bool,
 ) -> Answer
     ensures { Came F.FileSystem files.old files.new (spec.remove (known_of memory.old) asker parent name.now is_directory) (result, known_of memory.new) }
+{
+    if is_snapshots(parent, name) {
+        return Answer::Refused(Errno::EBUSY);
+    }
+    remove_named(alloc, files, memory, asker, parent, name, is_directory)
+}
+
+/// Takes a name away.
+fn remove_named<F: FileSystem>(
+    alloc: Global,
+    files: &mut F,
+    memory: &mut Memory,
+    asker: Asker,
+    parent: u32,
+    name: &[u8],
+    is_directory: bool,
+) -> Answer
+    ensures { Came F.FileSystem files.old files.new (spec.remove_named (known_of memory.old) asker parent name.now is_directory) (result, known_of memory.new) }
 {
     let Ok(path) = path_from(alloc, parent, name) else {
         return Answer::Refused(Errno::ENOMEM);
@@ -101,6 +102,20 @@ fn remove_seen<F: FileSystem>(
     }
 }
 
+/// What was to go keeps its name, since that was refused.
+fn stay<F: FileSystem>(
+    files: &mut F,
+    memory: &mut Memory,
+    handle: Handle,
+    held: Option<u32>,
+    errno: Errno,
+) -> Answer
+    ensures { Came F.FileSystem files.old files.new (spec.stays (known_of memory.old) handle held errno) (result, known_of memory.new) }
+{
+    give_up(files, memory, handle, held);
+    Answer::Refused(errno)
+}
+
 /// The same of an object that goes by that: it is remembered first.
 fn remove_last<F: FileSystem>(
     files: &mut F,
@@ -114,18 +129,16 @@ fn remove_last<F: FileSystem>(
 ) -> Answer
     ensures { Came F.FileSystem files.old files.new (spec.remove_last (known_of memory.old) asker parent path.now is_directory handle stat.now) (result, known_of memory.new) }
 {
-    let Ok(()) = remember(memory, asker, handle, stat) else {
-        return Answer::Refused(Errno::ENOMEM);
+    let held = match remember(files, memory, asker, handle, path, stat) {
+        Ok(held) => held,
+        Err(errno) => return Answer::Refused(errno),
     };
     match ask_done(files, removing(path, is_directory)) {
         Ok(()) => {
             touch(files, memory, asker, parent);
             Answer::Done
         }
-        Err(errno) => {
-            memory.forget(node_of(handle));
-            Answer::Refused(errno)
-        }
+        Err(errno) => stay(files, memory, handle, held, errno),
     }
 }
 
@@ -197,7 +210,7 @@ fn missing_or(errno: Errno) -> Result<Option<Stat>, Errno>
     }
 }
 
-/// Moves what has a name to another one.
+/// Moves what has a name to another one. The folder of snapshots stays.
 pub(crate) fn rename<F: FileSystem>(
     alloc: Global,
     files: &mut F,
@@ -214,6 +227,28 @@ pub(crate) fn rename<F: FileSystem>(
     if flags > NO_REPLACE {
         return Answer::Refused(Errno::EINVAL);
     }
+    if is_snapshots(parent, name) || is_snapshots(new_parent, new_name) {
+        return Answer::Refused(Errno::EBUSY);
+    }
+    rename_named(
+        alloc, files, memory, asker, parent, name, new_parent, new_name, flags,
+    )
+}
+
+/// The same of other names.
+fn rename_named<F: FileSystem>(
+    alloc: Global,
+    files: &mut F,
+    memory: &mut Memory,
+    asker: Asker,
+    parent: u32,
+    name: &[u8],
+    new_parent: u32,
+    new_name: &[u8],
+    flags: u32,
+) -> Answer
+    ensures { Came F.FileSystem files.old files.new (spec.rename_named (known_of memory.old) asker parent name.now new_parent new_name.now flags) (result, known_of memory.new) }
+{
     match path_from(alloc, parent, name) {
         Ok(path) => rename_from(
             alloc, files, memory, asker, parent, new_parent, new_name, flags, &path,
@@ -314,19 +349,16 @@ fn move_over<F: FileSystem>(
     ensures { Came F.FileSystem files.old files.new (spec.moves_over (known_of memory.old) asker over.now moved.now parent new_parent flags path.now new_path.now) (result, known_of memory.new) }
 {
     let handle = files.handle_of(over.number);
-    let Ok(()) = remember(memory, asker, handle, over) else {
-        return Answer::Refused(Errno::ENOMEM);
+    let held = match remember(files, memory, asker, handle, new_path, over) {
+        Ok(held) => held,
+        Err(errno) => return Answer::Refused(errno),
     };
     match ask_done(files, moving(flags, path, new_path)) {
         Ok(()) => {
             mark_moved(files, memory, asker, moved, parent, new_parent);
             Answer::Done
         }
-        Err(errno) => {
-            let still = files.handle_of(over.number);
-            memory.forget(node_of(still));
-            Answer::Refused(errno)
-        }
+        Err(errno) => stay(files, memory, handle, held, errno),
     }
 }
 

@@ -1,8 +1,9 @@
 //! The loop over requests: each is answered before the next is read.
 
-ghost use Rattle.std.specs.Prelude.{◌≡◌, ◌++◌, List, ℕ, OnErr, OnOk};
+ghost use Rattle.std.specs.Io.KnownBytes.{Appends};
+ghost use Rattle.std.specs.Prelude.{◌≡◌, ◌++◌, List, ℕ, length, IfErr, OnErr, OnOk};
 ghost use Rattle.served.specs.Known.{known_of};
-ghost use Rattle.served.specs.Serving.{IsAnswered, refused_text};
+ghost use Rattle.served.specs.Serving.{HasEnded, HasServed, IsAnswered, IsSent, Serves, ending_of, refused_text, stage, unlearnt};
 
 use crate::answer::Answer;
 use crate::answering::answer;
@@ -49,7 +50,10 @@ pub fn serve<F: FileSystem, K: Channel, C: Clock>(
     numbers: u32,
     owner: Owner,
     channel: &mut K,
-) -> Ending {
+) -> Ending
+    ensures { Serves F.FileSystem K.Channel numbers owner
+        (files.old, channel.old) (files.new, channel.new) result }
+{
     let first = Marks::made(owner.uid, owner.gid, now(clock));
     let mut memory = match Memory::new(alloc, numbers, first) {
         Ok(memory) => memory,
@@ -57,8 +61,17 @@ pub fn serve<F: FileSystem, K: Channel, C: Clock>(
     };
     match learn_snapshots(alloc, files, &mut memory) {
         Ok(()) => answer_all(clock, alloc, files, &mut memory, channel),
-        Err(Errno::ENOMEM) => Ending::NoMemory,
-        Err(errno) => Ending::Refused(errno),
+        Err(errno) => unlearnt(errno),
+    }
+}
+
+/// How serving ends where the snapshots weren't learnt.
+fn unlearnt(errno: Errno) -> Ending
+    ensures { result ≡ unlearnt errno }
+{
+    match errno {
+        Errno::ENOMEM => Ending::NoMemory,
+        errno => Ending::Refused(errno),
     }
 }
 
@@ -87,36 +100,84 @@ fn answer_all<F: FileSystem, K: Channel, C: Clock>(
     files: &mut F,
     memory: &mut Memory,
     channel: &mut K,
-) -> Ending {
+) -> Ending
+    ensures { HasEnded F.FileSystem K.Channel
+        (stage files.old (known_of memory.old) channel.old)
+        (stage files.new (known_of memory.new) channel.new) result }
+{
     let Ok(room) = (vec![in alloc; 0u8; REQUEST_BYTES]) else {
         return Ending::NoMemory;
     };
     let mut room = room;
     let mut out = Vec::new(alloc);
     for _ in 0..u64::MAX {
-        let count = match channel.receive(room.as_mut_slice()) {
-            Ok(received) => received.count,
-            Err(Ended::Unmounted) => return Ending::Unmounted,
-            Err(Ended::Failed) => return Ending::Failed,
-        };
-        let request = match room.get(..count) {
-            Some(request) => request,
-            None => return Ending::Failed,
-        };
-        out.clear();
-        if answer_request(alloc, files, memory, now(clock), request, &mut out).is_err() {
-            return Ending::NoMemory;
-        }
-        if out.is_empty() {
-            continue;
-        }
-        match channel.send(out.as_slice()) {
-            Ok(_) => {}
-            Err(Ended::Unmounted) => return Ending::Unmounted,
-            Err(Ended::Failed) => return Ending::Failed,
+        match exchange(clock, alloc, files, memory, channel, &mut room, &mut out) {
+            Ok(()) => {}
+            Err(ending) => return ending,
         }
     }
     Ending::NoMemory
+}
+
+/// Waits for the next request, and answers it, before another one may come.
+#[tactic(none)]
+fn exchange<F: FileSystem, K: Channel, C: Clock>(
+    clock: &C,
+    alloc: Global,
+    files: &mut F,
+    memory: &mut Memory,
+    channel: &mut K,
+    room: &mut [u8],
+    out: &mut Vec<u8>,
+) -> Result<(), Ending>
+    requires { length room.old ≡ REQUEST_BYTES }
+    ensures goes_on { OnOk result (HasServed F.FileSystem K.Channel
+        (stage files.old (known_of memory.old) channel.old)
+        (stage files.new (known_of memory.new) channel.new)) }
+    ensures ended { IfErr result (λ ending. HasEnded F.FileSystem K.Channel
+        (stage files.old (known_of memory.old) channel.old)
+        (stage files.new (known_of memory.new) channel.new) ending) }
+{
+    let count = match channel.receive(room) {
+        Ok(received) => received.count,
+        Err(ended) => return Err(ending_of(ended)),
+    };
+    out.clear();
+    match answer_request(alloc, files, memory, now(clock), &room[..count], out) {
+        Ok(()) => {}
+        Err(_) => return Err(Ending::NoMemory),
+    }
+    match send_reply(channel, out.as_slice()) {
+        Ok(()) => Ok(()),
+        Err(ended) => Err(ending_of(ended)),
+    }
+}
+
+/// Sends a reply; an empty one is none.
+#[tactic(none)]
+fn send_reply<K: Channel>(channel: &mut K, reply: &[u8]) -> Result<(), Ended>
+    ensures sends { (part : List ℕ)
+        × IsSent K.Channel channel.old channel.new reply.now part result
+        × Appends (K.gone channel.old) (K.gone channel.new) part }
+    ensures coming { K.coming channel.new ≡ K.coming channel.old }
+{
+    if reply.is_empty() {
+        return Ok(());
+    }
+    match channel.send(reply) {
+        Ok(_) => Ok(()),
+        Err(ended) => Err(ended),
+    }
+}
+
+/// How serving ends where the channel did.
+fn ending_of(ended: Ended) -> Ending
+    ensures { result ≡ ending_of ended }
+{
+    match ended {
+        Ended::Unmounted => Ending::Unmounted,
+        Ended::Failed => Ending::Failed,
+    }
 }
 
 /// Writes the reply to a request. One that is no request is refused where its head tells its

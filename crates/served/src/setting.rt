@@ -87,14 +87,13 @@ fn set_by_path<F: FileSystem>(
         return set_marks(alloc, files, memory, asker, node, handle, changes);
     }
     match ask_done(files, set(path, settings)) {
-        Ok(()) => set_marks(alloc, files, memory, asker, node, handle, changes),
+        Ok(()) => mark_set(alloc, files, memory, asker, node, handle, changes),
         Err(errno) if is_stale(errno) => set_removed(files, memory, asker, node, changes),
         Err(errno) => Answer::Refused(errno),
     }
 }
 
 /// Sets the marks of an object, and tells its attributes. What has no name any more is set apart.
-#[tactic(none)]
 fn set_marks<F: FileSystem>(
     alloc: Global,
     files: &mut F,
@@ -131,7 +130,6 @@ fn mark_set<F: FileSystem>(
 }
 
 /// Sets attributes of what has no name any more.
-#[tactic(none)]
 pub(crate) fn set_removed<F: FileSystem>(
     files: &mut F,
     memory: &mut Memory,
@@ -164,7 +162,7 @@ fn set_gone<F: FileSystem>(
 ) -> Answer
     ensures { Came F.FileSystem files.old files.new (spec.set_gone (known_of memory.old) asker node changes.now settings (Some removed.now)) (result, known_of memory.new) }
 {
-    match cut_removed(files, memory, node, settings.size) {
+    match cut_removed(files, removed.held, settings.size) {
         Ok(()) => keep_removed(
             files,
             memory,
@@ -176,23 +174,20 @@ fn set_gone<F: FileSystem>(
 }
 
 /// Sets the size of a removed object, where one is to be set.
-#[tactic(none)]
 fn cut_removed<F: FileSystem>(
     files: &mut F,
-    memory: &Memory,
-    node: u64,
+    held: Option<u32>,
     size: Option<i64>,
 ) -> Result<(), Errno>
-    ensures { Came F.FileSystem files.old files.new (spec.cut_removed (known_of memory.now) node size) result }
+    ensures { Came F.FileSystem files.old files.new (spec.cut_removed held size) result }
 {
     match size {
-        Some(size) => cut_open(files, memory.open_at(node), size),
+        Some(size) => cut_open(files, held, size),
         None => Ok(()),
     }
 }
 
 /// Sets the size of a file by a descriptor, if one is open.
-#[tactic(none)]
 fn cut_open<F: FileSystem>(files: &mut F, fd: Option<u32>, size: i64) -> Result<(), Errno>
     ensures { Came F.FileSystem files.old files.new (spec.cut_open fd size) result }
 {
@@ -217,11 +212,11 @@ fn removed_set(
             ..removed.stat
         },
         marks: removed.marks.set(changes, asker.now),
+        ..*removed
     }
 }
 
 /// Keeps what a removed object is now, and tells its attributes.
-#[tactic(none)]
 fn keep_removed<F: FileSystem>(
     files: &mut F,
     memory: &mut Memory,
@@ -230,8 +225,6 @@ fn keep_removed<F: FileSystem>(
 ) -> Answer
     ensures { Came F.FileSystem files.old files.new (spec.keep_removed (known_of memory.old) node removed) (result, known_of memory.new) }
 {
-    match memory.note_removed(node, removed) {
-        Ok(()) => tell_removed(files, memory, node),
-        Err(_) => Answer::Refused(Errno::ENOMEM),
-    }
+    memory.change_removed(node, removed);
+    tell_removed(files, memory, node)
 }

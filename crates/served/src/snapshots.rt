@@ -1,8 +1,9 @@
 //! Requests of the folder of snapshots, and of what stands in them.
 
-ghost use Rattle.std.specs.Prelude.{◌≡◌, OnErr, OnOk};
+ghost use Rattle.std.specs.Prelude.{◌≡◌, map, OnErr, OnOk};
 ghost use Rattle.served.specs.Known.{known_of, seen_of, with_snapshot};
 ghost use Rattle.served.specs.Listing.{TellsSnapshots, list, within};
+ghost use Rattle.served.specs.Looking.{is_snapshots};
 ghost use Rattle.served.specs.Snapshots as spec;
 ghost use Rattle.served.specs.Turns.{Came};
 ghost use Rattle.served.specs.declared.node.TheConstants.{SNAPSHOTS_NODE};
@@ -23,16 +24,38 @@ use std::alloc::{AllocError, Global};
 /// The name of the folder in the root.
 pub(crate) const SNAPSHOTS_NAME: &[u8] = b".snapshot";
 
+/// Whether a name in a directory of the running tree is that of the folder of snapshots.
+pub(crate) fn is_snapshots(parent: u32, name: &[u8]) -> bool
+    ensures { result ≡ is_snapshots parent name.now }
+{
+    parent == ROOT_NUMBER && name == SNAPSHOTS_NAME
+}
+
 /// Learns which snapshots there are.
+#[tactic(none)]
 pub(crate) fn learn_snapshots<F: FileSystem>(
     alloc: Global,
     files: &mut F,
     memory: &mut Memory,
-) -> Result<(), Errno> {
-    let names = ask_snapshots(files, Command::SnapList)?;
-    for name in names.as_slice() {
-        if note(alloc, memory, name).is_err() {
-            return Err(Errno::ENOMEM);
+) -> Result<(), Errno>
+    ensures { Came F.FileSystem files.old files.new (spec.learns (known_of memory.old))
+        (result, known_of memory.new) }
+{
+    match ask_snapshots(files, Command::SnapList) {
+        Ok(names) => note_all(alloc, memory, names.as_slice()),
+        Err(errno) => Err(errno),
+    }
+}
+
+/// Notes snapshots more, of these names, as far as there is memory.
+fn note_all(alloc: Global, memory: &mut Memory, names: &[Vec<u8>]) -> Result<(), Errno>
+    ensures { spec.AreLearnt (known_of memory.old) (map (λ name. name.items) names.now)
+        (result, known_of memory.new) }
+{
+    for name in names {
+        match note(alloc, memory, name) {
+            Ok(()) => {}
+            Err(_) => return Err(Errno::ENOMEM),
         }
     }
     Ok(())
@@ -97,7 +120,7 @@ pub(crate) fn look_up_within<F: FileSystem>(
 }
 
 /// The snapshot of a name: its root.
-#[tactic(none)]
+#[tactic(auto, unfolding(crate::specs::Snapshots::look_up_snapshot, crate::specs::Snapshots::look_up_found))]
 pub(crate) fn look_up_snapshot<F: FileSystem>(
     alloc: Global,
     files: &mut F,
@@ -226,7 +249,7 @@ fn take_noted<F: FileSystem>(
 }
 
 /// Deletes a snapshot. A later one of its name has other nodes.
-#[tactic(none)]
+#[tactic(auto, unfolding(crate::specs::Snapshots::delete))]
 pub(crate) fn delete<F: FileSystem>(files: &mut F, memory: &mut Memory, name: &[u8]) -> Answer
     ensures { Came F.FileSystem files.old files.new (spec.delete (known_of memory.old) name.now)
         (result, known_of memory.new) }

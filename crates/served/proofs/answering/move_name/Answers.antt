@@ -7,7 +7,6 @@ use Rattle.served.specs.Setting.{Told}
 use Rattle.served.specs.Turns.{Turn}
 use Rattle.served.specs.declared.finding.Found.TheVariants as found
 use Rattle.served.proofs.TurnLaws.{came_then}
-use Rattle.served.proofs.RequestsLaws.{not_running, out_of_use}
 use Rattle.served.proofs.answering.move_name.Goals as goal
 
 pub returns-in-Running : goal.returns-in-Running
@@ -17,16 +16,3 @@ returns-in-Running g c =
     let moved : Handle → Turn Told = λ new. rename k c.args.asker c.args.parent c.args.name.now new.number c.args.new_name.now c.args.flags in
     let r : Told = (c.rename.result, known_of c.rename.new.memory) in
     came_then g.F.FileSystem c.args.files.now c.args.files.now c.rename.new.files (finds c.args.new_parent) (λ to. among_running k to moved) (found.Running c.in-Running.new) r c.in-Running.ensures c.rename.ensures
-
-pub returns-in-Nothing : goal.returns-in-Nothing
-unfolding renames
-returns-in-Nothing g c =
-    let k = known_of c.args.memory.now in
-    out_of_use g.F.FileSystem c.args.files.now k c.args.new_parent (λ new. rename k c.args.asker c.args.parent c.args.name.now new.number c.args.new_name.now c.args.flags) c.in-Nothing.ensures
-
-pub returns-in_default : goal.returns-in_default
-unfolding renames
-returns-in_default g c =
-    let k = known_of c.args.memory.now in
-    not_running g.F.FileSystem c.args.files.now k c.args.new_parent (λ new. rename k c.args.asker c.args.parent c.args.name.now new.number c.args.new_name.now c.args.flags) c.find.result
-    c.in_default.not-Running c.in_default.not-Nothing c.find.ensures

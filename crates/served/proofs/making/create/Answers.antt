@@ -20,7 +20,7 @@ returns-in-Ok-ask_opened g c =
     let asked = came_by g.F.FileSystem c.prepare.new.files c.ask_opened.new.files told_open (command.OpenStat c.in-Ok.new.path.items (opening true (not (bit_and c.args.flags EXCLUSIVE == 0))) (c.args.mode % 4096) OPEN_FILES) c.open_stat.result (Ok (c.in-Ok-ask_opened.fd, c.in-Ok-ask_opened.stat))
     (c.open_stat.ensures ∙ ap₂ (λ p m. command.OpenStat p (opening true (not (bit_and c.args.flags EXCLUSIVE == 0))) m OPEN_FILES) c.deref.ensures.value c.mode_of.ensures) c.in-Ok-ask_opened.ensures in
     came_created g.F.FileSystem c.args.files.now c.prepare.new.files c.ask_opened.new.files (known_of c.args.memory.now) c.args.asker c.args.parent c.args.name.now c.args.mode c.args.flags (spec.place_of c.in-Ok.new) c.in-Ok-ask_opened.fd c.in-Ok-ask_opened.stat c.made-entry.result
-    (known_of c.made-entry.new.memory) (known_of c.note_open.new.self) c.opened.result c.in-Ok.ensures asked c.made-entry.ensures c.note_open.ensures c.opened.ensures
+    (known_of c.made-entry.new.memory) c.opened.result c.in-Ok.ensures asked c.made-entry.ensures c.opened.ensures
 
 pub returns : goal.returns
 returns g c =

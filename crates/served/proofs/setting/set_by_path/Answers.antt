@@ -7,7 +7,7 @@ pub returns-then-not-sets : goal.returns-then-not-sets
 returns-then-not-sets g c = set_by_path-nothing g.F.FileSystem (known_of c.args.memory.now) c.args.asker c.args.node c.args.handle c.args.changes.now c.args.settings c.args.path.now c.args.files.now c.set_marks.new.files (c.set_marks.result, known_of c.set_marks.new.memory) (sym c.sets.ensures ∙ c.if-not-sets.true) c.set_marks.ensures
 
 pub returns-in-Ok : goal.returns-in-Ok
-returns-in-Ok g c = set_by_path-set g.F.FileSystem (known_of c.args.memory.now) c.args.asker c.args.node c.args.handle c.args.changes.now c.args.settings c.args.path.now c.args.files.now c.ask_done.new.files c.set_marks-in-Ok.new.files c.set.result c.in-Ok.field-0 (c.set_marks-in-Ok.result, known_of c.set_marks-in-Ok.new.memory) (sym c.sets.ensures ∙ c.if-not-sets.false) c.set.ensures c.in-Ok.ensures c.set_marks-in-Ok.ensures
+returns-in-Ok g c = set_by_path-set g.F.FileSystem (known_of c.args.memory.now) c.args.asker c.args.node c.args.handle c.args.changes.now c.args.settings c.args.path.now c.args.files.now c.ask_done.new.files c.mark_set.new.files c.set.result c.in-Ok.field-0 (c.mark_set.result, known_of c.mark_set.new.memory) (sym c.sets.ensures ∙ c.if-not-sets.false) c.set.ensures c.in-Ok.ensures c.mark_set.ensures
 
 pub returns-in-Err : goal.returns-in-Err
 returns-in-Err g c = set_by_path-stale g.F.FileSystem (known_of c.args.memory.now) c.args.asker c.args.node c.args.handle c.args.changes.now c.args.settings c.args.path.now c.args.files.now c.ask_done.new.files c.set_removed.new.files c.set.result c.in-Err.errno (c.set_removed.result, known_of c.set_removed.new.memory) (sym c.sets.ensures ∙ c.if-not-sets.false) c.set.ensures c.in-Err.ensures (sym c.is_stale.ensures ∙ c.if-is_stale.true) c.set_removed.ensures

@@ -5,7 +5,7 @@ use Rattle.served.specs.Known.{FindsName, Known, Seen, known_of, seen_of, with_s
 use Rattle.served.specs.Looking.{no_memory}
 use Rattle.served.specs.Setting.{Told, or_no_memory, refused}
 use Rattle.served.specs.Snapshots.{take_noted, take_snapshot}
-use Rattle.served.specs.Turns.{Came, Turn, either, gives_some}
+use Rattle.served.specs.Turns.{Came, Turn, either, gives, gives_some}
 use Rattle.served.specs.declared.answer.Answer.TheVariants as answer
 use Rattle.served.specs.declared.memory.Snapshot.{Snapshot}
 use Rattle.served.proofs.TurnLaws.{came_else, came_gives, came_kept, came_lost, came_some, came_then, came_then_if}
@@ -42,7 +42,7 @@ returns-in-Ok g c =
     (came_some G c.args.files.now (FindsName k name) found c.snapshot_by_name.ensures)
     (came_else G c.args.files.now c.take_noted.new.files (is_some found) (refused k errno.EEXIST) (or_no_memory k (take_noted (with_snapshot name k) name)) r
     (is_seen c.snapshot_by_name.result ∙ sym c.is_some.ensures ∙ c.if-is_some.false)
-    (came_kept G c.args.files.now c.take_noted.new.files (no_memory, k) (take_noted (with_snapshot name k) name) r
+    (came_kept G c.args.files.now c.take_noted.new.files {R = Told} (gives (no_memory, k)) (take_noted (with_snapshot name k) name) r
     (subst (λ (known : Known). Came G c.args.files.now c.take_noted.new.files (take_noted known name) r) c.in-Ok.ensures.ok c.take_noted.ensures)))
 
 pub returns-in-Err : goal.returns-in-Err
@@ -58,4 +58,4 @@ returns-in-Err g c =
     (came_some G c.args.files.now (FindsName k name) found c.snapshot_by_name.ensures)
     (came_else G c.args.files.now c.args.files.now (is_some found) (refused k errno.EEXIST) done (no_memory, k)
     (is_seen c.snapshot_by_name.result ∙ sym c.is_some.ensures ∙ c.if-is_some.false)
-    (came_lost G c.args.files.now (no_memory, k) (take_noted (with_snapshot name k) name))))
+    (came_lost G c.args.files.now c.args.files.now {R = Told} (gives (no_memory, k)) (take_noted (with_snapshot name k) name) (no_memory, k) (came_gives G c.args.files.now (no_memory, k)))))
