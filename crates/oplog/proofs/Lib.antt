@@ -5,3 +5,4 @@ mod Writes
 mod Openings
 mod Covering
 mod Reading
+mod Batches

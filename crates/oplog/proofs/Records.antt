@@ -1,6 +1,7 @@
 -- What a half holds: its records one behind the other, and what a write does to them.
-use Rattle.std.proofs.Common.{◌≡◌, inl, inr, ℕ, ◌+◌, ◌<◌, ◌^◌, List, [], ◌∷◌, ◌++◌, length, take, drop, refl, sym, ap, ◌∙◌, arith, append_assoc, length-append, take-append-drop}
+use Rattle.std.proofs.Common.{◌≡◌, inl, inr, ℕ, ◌+◌, ◌<◌, ◌^◌, List, [], ◌∷◌, ◌++◌, length, take, drop, refl, sym, ap, ◌∙◌, All, arith, append_assoc, length-append, take-append-drop}
 use Rattle.std.proofs.lemmas.List.{append-nil, take_at}
+use Rattle.std.proofs.lemmas.List.Elements.{All-cons, All-head, All-nil, All-tail}
 use Rattle.std.proofs.Math.Seq.{drop-append-add}
 use Rattle.byteorder.specs.Numbers.{length-bytes_low_first}
 use Rattle.byteorder.specs.Endian.{little_bytes}
@@ -8,6 +9,7 @@ use Rattle.station.specs.Images.{nvram_with}
 use Rattle.layout.specs.Log.{opened, record_of, records_of, HoldsBodies, IsClosed, EpochHolds}
 use Rattle.layout.proofs.LogLemmas.{closed_unopened}
 use Rattle.oplog.specs.LogEnd.{EndsBehind}
+use Rattle.oplog.specs.Batches.{AreBehind}
 use Rattle.oplog.specs.Internal.{IsBehind}
 use Rattle.oplog.specs.declared.log.End.{End}
 use Rattle.oplog.specs.declared.log.End.TheVariants.{Unopened, At}
@@ -25,26 +27,45 @@ behind_closed bytes [] rest holds = (rest, refl)
 behind_closed bytes (body ∷ bodies) rest holds =
     (records_of bodies ++ 0 ∷ rest, holds.1, append_assoc (record_of body) (records_of bodies) (0 ∷ rest), behind_closed holds.0 bodies rest holds.3)
 
--- one more record in the closed gate's place
-one_more : (bytes : List ℕ) (bodies : List (List ℕ)) (body rest : List ℕ) → length body < 2 ^ 32 → HoldsBodies bytes bodies → HoldsBodies (records_of bodies ++ (record_of body ++ 0 ∷ rest)) (bodies ++ body ∷ [])
-one_more bytes [] body rest short holds = (0 ∷ rest, short, refl, (rest, refl))
-one_more bytes (first ∷ bodies) body rest short holds =
-    (records_of bodies ++ (record_of body ++ 0 ∷ rest), holds.1, append_assoc (record_of first) (records_of bodies) (record_of body ++ 0 ∷ rest), one_more holds.0 bodies body rest short holds.3)
+-- the length of a body fits its field
+abbrev pub IsShort : List ℕ → Type 0
+IsShort body = length body < 2 ^ 32
 
-length-record_of : (body : List ℕ) → length (record_of body) ≡ 5 + length body
+-- records with a closed gate behind them
+held : (more : List (List ℕ)) (rest : List ℕ) → All IsShort more → HoldsBodies (records_of more ++ 0 ∷ rest) more
+held [] rest short = (rest, refl)
+held (body ∷ more) rest short = (records_of more ++ 0 ∷ rest, All-head IsShort body more short, append_assoc (record_of body) (records_of more) (0 ∷ rest), held more rest (All-tail IsShort body more short))
+
+-- more records in the closed gate's place
+more_held : (bytes : List ℕ) (bodies more : List (List ℕ)) (rest : List ℕ) → All IsShort more → HoldsBodies bytes bodies
+    → HoldsBodies (records_of bodies ++ (records_of more ++ 0 ∷ rest)) (bodies ++ more)
+more_held bytes [] more rest short holds = held more rest short
+more_held bytes (first ∷ bodies) more rest short holds =
+    (records_of bodies ++ (records_of more ++ 0 ∷ rest), holds.1, append_assoc (record_of first) (records_of bodies) (records_of more ++ 0 ∷ rest), more_held holds.0 bodies more rest short holds.3)
+
+pub length-record_of : (body : List ℕ) → length (record_of body) ≡ 5 + length body
 length-record_of body = omega (arith, length-append (little_bytes 4 (length body)) body, length-bytes_low_first 0 4 (length body))
 
-length-records_of : (bodies : List (List ℕ)) (body : List ℕ) → length (records_of (bodies ++ body ∷ [])) ≡ length (records_of bodies) + 5 + length body
-length-records_of [] body = omega (arith, length-append (record_of body) [], length-record_of body)
-length-records_of (first ∷ bodies) body =
-    omega (arith, length-append (record_of first) (records_of (bodies ++ body ∷ [])), length-append (record_of first) (records_of bodies), length-records_of bodies body)
+pub records_of-append : (bodies more : List (List ℕ)) → records_of (bodies ++ more) ≡ records_of bodies ++ records_of more
+records_of-append [] more = refl
+records_of-append (body ∷ bodies) more = ap (λ (l : List ℕ). record_of body ++ l) (records_of-append bodies more) ∙ sym (append_assoc (record_of body) (records_of bodies) (records_of more))
+
+-- one record
+pub length-one : (body : List ℕ) → length (records_of (body ∷ [])) ≡ 5 + length body
+length-one body = omega (arith, length-append (record_of body) [], length-record_of body)
 
 pub length-opened : (epoch : ℕ) → length (opened epoch) ≡ 9
 length-opened epoch = omega (arith, length-bytes_low_first 0 8 epoch)
 
-pub length-behind : (body behind : List ℕ) → IsBehind body behind → length behind ≡ 5 + length body
-length-behind body behind is =
-    omega (arith, ap length is.spelled, length-append (little_bytes 4 (length body) ++ body) (0 ∷ []), length-append (little_bytes 4 (length body)) body, length-bytes_low_first 0 4 (length body))
+pub length-behind : (more : List (List ℕ)) (behind : List ℕ) → AreBehind more behind → length behind ≡ length (records_of more)
+length-behind more behind are = omega (arith, ap length are.spelled, length-append (records_of more) (0 ∷ []))
+
+-- what stands behind the gate of one record
+pub one_behind : (body behind : List ℕ) → IsBehind body behind → AreBehind (body ∷ []) behind
+one_behind body behind is = record {
+  short = All-cons IsShort body [] is.short (All-nil IsShort);
+  spelled = ap (λ (l : List ℕ). 1 ∷ l) (is.spelled ∙ sym (append_assoc (little_bytes 4 (length body)) body (0 ∷ []))) ∙ ap (λ (l : List ℕ). l ++ 0 ∷ []) (sym (append-nil (record_of body)));
+}
 
 -- bytes written behind a beginning
 pub written_behind : (front tail bytes : List ℕ) (at : ℕ) → length front ≡ at → nvram_with at bytes (front ++ tail) ≡ front ++ (bytes ++ drop (length bytes) tail)
@@ -91,19 +112,19 @@ module _ (epoch next : ℕ) (bytes : List ℕ) (bodies : List (List ℕ)) (ends 
   still_ends later rest is =
       (records_of bodies ++ 0 ∷ rest, is ∙ append_assoc (opened epoch) (records_of bodies) (0 ∷ rest), behind_closed ends.0 bodies rest ends.2, ends.3)
 
-  -- the gate of a record that stands behind it is opened
-  pub gate_opened : (later body behind rest : List ℕ) → IsBehind body behind → later ≡ front epoch bodies ++ 0 ∷ (behind ++ rest)
-      → EndsBehind (At (next + 5 + length body)) epoch (nvram_with next (1 ∷ []) later) (bodies ++ body ∷ [])
-  gate_opened later body behind rest is shape =
-      let regroup : 1 ∷ (behind ++ rest) ≡ record_of body ++ 0 ∷ rest =
-      ap (λ (l : List ℕ). 1 ∷ (l ++ rest)) is.spelled ∙ append_assoc (record_of body) (0 ∷ []) rest in (
-        records_of bodies ++ (record_of body ++ 0 ∷ rest),
+  -- the gate is opened of the first of the records that stand behind it
+  pub gate_opened : (later : List ℕ) (more : List (List ℕ)) (behind rest : List ℕ) → AreBehind more behind → later ≡ front epoch bodies ++ 0 ∷ (behind ++ rest)
+      → EndsBehind (At (next + length (records_of more))) epoch (nvram_with next (1 ∷ []) later) (bodies ++ more)
+  gate_opened later more behind rest are shape =
+      let regroup : 1 ∷ (behind ++ rest) ≡ records_of more ++ 0 ∷ rest =
+      ap (λ (l : List ℕ). l ++ rest) are.spelled ∙ append_assoc (records_of more) (0 ∷ []) rest in (
+        records_of bodies ++ (records_of more ++ 0 ∷ rest),
         ap (λ (l : List ℕ). nvram_with next (1 ∷ []) l) shape
             ∙ written_behind (front epoch bodies) (0 ∷ (behind ++ rest)) (1 ∷ []) next place
             ∙ ap (λ (l : List ℕ). front epoch bodies ++ l) regroup
-            ∙ append_assoc (opened epoch) (records_of bodies) (record_of body ++ 0 ∷ rest),
-        one_more ends.0 bodies body rest is.short ends.2,
-        omega (arith, ends.3, length-records_of bodies body),
+            ∙ append_assoc (opened epoch) (records_of bodies) (records_of more ++ 0 ∷ rest),
+        more_held ends.0 bodies more rest are.short ends.2,
+        omega (arith, ends.3, ap length (records_of-append bodies more), length-append (records_of bodies) (records_of more)),
       )
 
 -- a half with a closed gate ends before its first record

@@ -5,9 +5,10 @@ use Rattle.byteorder.specs.Numbers.{length-bytes_low_first}
 use Rattle.byteorder.specs.Endian.{little_bytes}
 use Rattle.station.specs.Images.{nvram_with}
 use Rattle.station.specs.Moments.{Meaning}
-use Rattle.layout.specs.Log.{half_of, IsClosed, EpochHolds, IsUnopened, LogHolds}
-use Rattle.oplog.specs.LogEnd.{LogEnd, Bodies, all_bodies, with_body, behind_record, EndsBehind, OtherHolds, StandsAt, LogStands, WithOrWithout}
-use Rattle.oplog.specs.Internal.{start_of, IsBehind}
+use Rattle.layout.specs.Log.{half_of, records_of, IsClosed, EpochHolds, IsUnopened, LogHolds}
+use Rattle.oplog.specs.LogEnd.{LogEnd, Bodies, all_bodies, with_bodies, behind_records, EndsBehind, OtherHolds, StandsAt, LogStands, AllOrNone}
+use Rattle.oplog.specs.Batches.{AreBehind}
+use Rattle.oplog.specs.Internal.{start_of}
 use Rattle.oplog.specs.declared.log.End.{End}
 use Rattle.oplog.specs.declared.log.End.TheVariants.{Unopened, At}
 use Rattle.oplog.proofs.Halves.{same_half, other_half, size_stays}
@@ -64,17 +65,17 @@ written log g bodies nvram stands place at new end newest here fits ends =
       | inr is ↦ inr (is.0, subst (λ (l : List ℕ). EpochHolds (g + 1) l bodies.older) (sym (stays (g + 1) (omega (arith, is.0)))) is.1)
     ]
 
--- THE TWO WRITES OF A RECORD, to a half whose next gate stands at this place
+-- THE TWO WRITES OF RECORDS, to a half whose next gate stands at this place
 
-module _ (log : LogEnd) (g next gate : ℕ) (bodies : Bodies) (body bytes : List ℕ) (is : IsBehind body bytes) (fits : next + 1 + length bytes ≤ log.half) (here : gate ≡ start_of log + next) where
+module _ (log : LogEnd) (g next gate : ℕ) (bodies : Bodies) (more : List (List ℕ)) (bytes : List ℕ) (are : AreBehind more bytes) (fits : next + 1 + length bytes ≤ log.half) (here : gate ≡ start_of log + next) where
   abbrev pub Before : List ℕ → Type 0
   Before = StandsAt (record log { end = At next }) g bodies
 
   abbrev pub With : List ℕ → Type 0
-  With = StandsAt (behind_record (record log { end = At next }) body) g (with_body bodies body)
+  With = StandsAt (behind_records (record log { end = At next }) more) g (with_bodies bodies more)
 
   abbrev pub Either : List ℕ → Type 0
-  Either = WithOrWithout log.half g bodies body
+  Either = AllOrNone log.half g bodies more
 
   -- these bytes stand behind the closed gate
   pub record Staged (n : List ℕ) : Type 0 where
@@ -105,8 +106,8 @@ module _ (log : LogEnd) (g next gate : ℕ) (bodies : Bodies) (body bytes : List
   gate_written : Step Either Staged With gate (1 ∷ [])
   gate_written =
       one_byte Either Staged With gate 1 (λ n s. inl s.stands.holds) (λ n s. inr s.holds)
-      (λ n s. written (record log { end = At next }) g bodies n s.stands gate next (1 ∷ []) (At (next + 5 + length body)) (bodies.newest ++ body ∷ []) here (omega (arith, fits))
-      (gate_opened log.epoch next (half_of log.half log.epoch n) bodies.newest s.stands.ends (half_of log.half log.epoch n) body bytes s.rest is s.half_is))
+      (λ n s. written (record log { end = At next }) g bodies n s.stands gate next (1 ∷ []) (At (next + length (records_of more))) (bodies.newest ++ more) here (omega (arith, fits))
+      (gate_opened log.epoch next (half_of log.half log.epoch n) bodies.newest s.stands.ends (half_of log.half log.epoch n) more bytes s.rest are s.half_is))
 
   -- what was left before, and the two writes
   pub record RecordWrites (m : Meaning) : Type 0 where

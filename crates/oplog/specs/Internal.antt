@@ -4,7 +4,7 @@ use Rattle.byteorder.specs.Endian.{little_bytes}
 use Rattle.station.specs.Moments.{Meaning, EachCut, LeavesOnly, KeepsDisk}
 use Rattle.layout.specs.Log.{IsOpenFor, IsUnopened, LogHolds}
 use Rattle.layout.specs.declared.log.TheConstants.{FIRST_GATE}
-use Rattle.oplog.specs.LogEnd.{LogEnd, Bodies, all_bodies, with_body, behind_record, StandsAt, WithOrWithout}
+use Rattle.oplog.specs.LogEnd.{LogEnd, Bodies, all_bodies, with_bodies, behind_records, StandsAt, AllOrNone}
 use Rattle.oplog.specs.declared.log.End.TheVariants.{At}
 
 -- where the half of the log's epoch begins in the NVRAM
@@ -27,11 +27,11 @@ pub record OpensHalf {T E : Type 0} (old new : Meaning) (log : LogEnd) (g : ℕ)
   pub any_moment : LeavesOnly old new (KeepsDisk old (λ n. LogHolds log.half g n (all_bodies bodies)))
   pub opened : OnOk result (EachCut new (KeepsDisk old (StandsAt (record log { end = At FIRST_GATE }) g bodies)))
 
--- From a log's end on, a cut at any moment left the records that were there, with this one or
--- without it; once the answer is Ok, with it.
-pub record Appends {T E : Type 0} (old new : Meaning) (log : LogEnd) (g : ℕ) (bodies : Bodies) (body : List ℕ) (result : Result T E) : Type 0 where
-  pub any_moment : LeavesOnly old new (KeepsDisk old (WithOrWithout log.half g bodies body))
-  pub appended : OnOk result (EachCut new (KeepsDisk old (StandsAt (behind_record log body) g (with_body bodies body))))
+-- From a log's end on, a cut at any moment left the records that were there, with all of these or
+-- with none; once the answer is Ok, with all.
+pub record Appends {T E : Type 0} (old new : Meaning) (log : LogEnd) (g : ℕ) (bodies : Bodies) (more : List (List ℕ)) (result : Result T E) : Type 0 where
+  pub any_moment : LeavesOnly old new (KeepsDisk old (AllOrNone log.half g bodies more))
+  pub appended : OnOk result (EachCut new (KeepsDisk old (StandsAt (behind_records log more) g (with_bodies bodies more))))
 
 -- whether the half of an epoch is open for it
 pub record TellsHalf (epoch : ℕ) (bytes : List ℕ) (is_open : Bool) : Type 0 where

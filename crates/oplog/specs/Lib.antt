@@ -1,3 +1,4 @@
 pub mod LogEnd
 pub mod SavedLog
+pub mod Batches
 pub mod Internal

@@ -33,6 +33,10 @@ HasRoomInHalf log body_length = next_of log.end + RECORD_HEAD_BYTES + body_lengt
 abbrev pub behind_record : LogEnd → List ℕ → LogEnd
 behind_record log body = record log { end = At (next_of log.end + RECORD_HEAD_BYTES + length body) }
 
+-- the end behind records with these bodies
+abbrev pub behind_records : LogEnd → List (List ℕ) → LogEnd
+behind_records log more = record log { end = At (next_of log.end + length (records_of more)) }
+
 -- the body of a record
 abbrev pub logged_body : Change → List ℕ
 logged_body change = change_bytes change
@@ -48,6 +52,10 @@ no_bodies = record { older = []; newest = [] }
 -- all of them in their order
 abbrev pub all_bodies : Bodies → List (List ℕ)
 all_bodies bodies = bodies.older ++ bodies.newest
+
+-- with more behind them
+abbrev pub with_bodies : Bodies → List (List ℕ) → Bodies
+with_bodies bodies more = record bodies { newest = bodies.newest ++ more }
 
 -- with one more
 abbrev pub with_body : Bodies → List ℕ → Bodies
@@ -80,6 +88,11 @@ LogStands m log g bodies = EachCut m (λ c. StandsAt log g bodies c.nvram)
 abbrev pub WithOrWithout : ℕ → ℕ → Bodies → List ℕ → List ℕ → Type 0
 WithOrWithout half g bodies body nvram =
     LogHolds half g nvram (all_bodies bodies) ⊎ LogHolds half g nvram (all_bodies (with_body bodies body))
+
+-- the log holds these bodies, or behind them all of some more
+abbrev pub AllOrNone : ℕ → ℕ → Bodies → List (List ℕ) → List ℕ → Type 0
+AllOrNone half g bodies more nvram =
+    LogHolds half g nvram (all_bodies bodies) ⊎ LogHolds half g nvram (all_bodies (with_bodies bodies more))
 
 -- over an honest station, reads give this disk
 abbrev pub ReadsDisk : Meaning → (ℕ → Sector) → Type 0

@@ -4,6 +4,7 @@ ghost use Rattle.std.specs.Prelude.{◌≡◌, ℕ, ◌+◌, ◌<◌, ◌≤◌,
 ghost use Rattle.byteorder.specs.Endian.{little_bytes};
 ghost use Rattle.station.specs.Calls.{OnlyWrites};
 ghost use Rattle.oplog.specs.LogEnd.{LogEnd, next_of, Bodies, logged_body, LogStands, ReadsDisk};
+ghost use Rattle.oplog.specs.Batches.{AreBehind};
 ghost use Rattle.oplog.specs.Internal.{start_of, IsBehind, IsAnyFault, OpensHalf, Appends};
 ghost use Rattle.layout.specs.Record.{KeepsLimits, change_of};
 ghost use Rattle.layout.specs.declared.geometry.TheConstants.{MOST_HALF};
@@ -18,9 +19,9 @@ use std::alloc::{AllocError, Global};
 /// Bytes of an epoch and the first gate behind it.
 const EPOCH_AND_GATE_BYTES: usize = 9;
 
-/// Writes a record of which this is to stand behind its gate, in the half of this epoch, which
-/// begins at this byte. It opens the half first where that isn't open.
-pub fn write_record<S: Station>(
+/// Writes records, of which this is to stand behind the gate of the first, in the half of this
+/// epoch, which begins at this byte. It opens the half first where that isn't open.
+pub fn write_records<S: Station>(
     station: &mut S,
     start: u32,
     epoch: Epoch,
@@ -34,19 +35,19 @@ pub fn write_record<S: Station>(
     ensures writes { OnlyWrites IsAnyFault (S.meaning station.old) (S.meaning station.new) result }
     ensures disk { (disk : ℕ → List ℕ)
         → ReadsDisk (S.meaning station.old) disk → ReadsDisk (S.meaning station.new) disk }
-    ensures appends { (log : LogEnd) (g : ℕ) (bodies : Bodies) (body : List ℕ)
-        → IsBehind body behind.now → next_of end + 1 + length behind.now ≤ log.half
+    ensures appends { (log : LogEnd) (g : ℕ) (bodies : Bodies) (more : List (List ℕ))
+        → AreBehind more behind.now → next_of end + 1 + length behind.now ≤ log.half
         → FIRST_GATE + 1 ≤ log.half → start ≡ start_of log → epoch ≡ log.epoch
         → LogStands (S.meaning station.old) (record log { end = end }) g bodies
         → Appends (S.meaning station.old) (S.meaning station.new)
-        (record log { end = end }) g bodies body result }
+        (record log { end = end }) g bodies more result }
 {
     match end {
         End::Unopened => {
             open_half(station, start, epoch)?;
-            add_record(station, start + FIRST_GATE, behind)
+            add_records(station, start + FIRST_GATE, behind)
         }
-        End::At(next) => add_record(station, start + next, behind),
+        End::At(next) => add_records(station, start + next, behind),
     }
 }
 
@@ -73,23 +74,23 @@ fn open_half<S: Station>(station: &mut S, start: u32, epoch: Epoch) -> Result<()
     Ok(())
 }
 
-/// Adds a record to an open half, with its gate at this byte.
-fn add_record<S: Station>(station: &mut S, gate: u32, behind: &[u8]) -> Result<(), DeviceFault>
+/// Adds records to an open half, with the gate of the first at this byte.
+fn add_records<S: Station>(station: &mut S, gate: u32, behind: &[u8]) -> Result<(), DeviceFault>
     requires room { gate + 1 + length behind.now ≤ (S.meaning station.old).nvram_bytes }
     requires low { gate + 1 < 2 ^ 32 }
     ensures writes { OnlyWrites IsAnyFault (S.meaning station.old) (S.meaning station.new) result }
     ensures disk { (disk : ℕ → List ℕ)
         → ReadsDisk (S.meaning station.old) disk → ReadsDisk (S.meaning station.new) disk }
-    ensures appends { (log : LogEnd) (g next : ℕ) (bodies : Bodies) (body : List ℕ)
-        → IsBehind body behind.now → next + 1 + length behind.now ≤ log.half
+    ensures appends { (log : LogEnd) (g next : ℕ) (bodies : Bodies) (more : List (List ℕ))
+        → AreBehind more behind.now → next + 1 + length behind.now ≤ log.half
         → gate ≡ start_of log + next
         → LogStands (S.meaning station.old) (record log { end = End.At next }) g bodies
         → Appends (S.meaning station.old) (S.meaning station.new)
-        (record log { end = End.At next }) g bodies body result }
+        (record log { end = End.At next }) g bodies more result }
 {
-    // The gate comes last, in one byte that a cut can't tear: behind an open one the record would
-    // count before it stands whole. Behind the record the next gate is closed, or old bytes would
-    // count as records.
+    // The first gate comes last, in one byte that a cut can't tear: behind an open one the records
+    // would count before they stand whole. The gates between them are open, so all count from that
+    // byte on. Behind the last one the next gate is closed, or old bytes would count as records.
     station.nv_write(gate + 1, behind)?;
     station.nv_write(gate, &[OPEN])?;
     Ok(())

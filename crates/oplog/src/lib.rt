@@ -4,10 +4,12 @@
 #![tactic(auto)]
 
 mod append;
+mod batch;
 mod laws;
 mod log;
 mod saved;
 
+pub use batch::Batch;
 pub use laws::roots_cover_the_older_epoch;
 pub use log::{AppendError, Log};
 pub use saved::{SavedLog, SavedLogError};

@@ -1,16 +1,18 @@
 //! Appending to the log.
 
-ghost use Rattle.std.specs.Prelude.{◌≡◌, ◌⊎◌, ℕ, ◌+◌, ◌*◌, ◌<◌, ◌≤◌, ◌^◌, true, List, [], length, IsTrue, IsFalse, IsErrOf, IfOk, IsOk, OnOk, ◌↔◌};
+ghost use Rattle.std.specs.Prelude.{◌≡◌, ◌≢◌, ◌⊎◌, ℕ, ◌+◌, ◌*◌, ◌<◌, ◌≤◌, ◌^◌, true, List, [], length, IsTrue, IsFalse, IsErrOf, IfOk, IsErr, IsOk, OnErr, OnOk, ◌↔◌};
 ghost use Rattle.station.specs.Moments.{LeavesOnly, KeepsDisk, EachCut};
 ghost use Rattle.station.specs.Calls.{OnlyWrites};
 ghost use Rattle.oplog.specs.Internal.{start_of, IsBehind};
-ghost use Rattle.oplog.specs.LogEnd.{LogEnd, AreHalfBytes, next_of, HasRoomInHalf, behind_record, Bodies, no_bodies, all_bodies, with_body, logged_body, StandsAt, LogStands, ReadsDisk, WithOrWithout};
+ghost use Rattle.oplog.specs.Batches.{FitsHalf, HasRoomBehind, IsBatchOf};
+ghost use Rattle.oplog.specs.LogEnd.{AllOrNone, LogEnd, AreHalfBytes, next_of, HasRoomInHalf, behind_record, behind_records, Bodies, no_bodies, all_bodies, with_bodies, with_body, logged_body, StandsAt, LogStands, ReadsDisk, WithOrWithout};
 ghost use Rattle.layout.specs.Record.{KeepsLimits, change_of};
 ghost use Rattle.layout.specs.declared.log.TheConstants.{FIRST_GATE, RECORD_HEAD_BYTES};
 
-use crate::append::{behind_the_gate, write_record};
+use crate::Batch;
+use crate::append::{behind_the_gate, write_records};
 use layout::{Epoch, FIRST_GATE, RECORD_HEAD_BYTES, Record};
-use station::Station;
+use station::{DeviceFault, Station};
 use std::alloc::{AllocError, Global};
 use std::marker::Model;
 use thiserror::Error;
@@ -148,11 +150,74 @@ impl Log {
             (StandsAt self.new g (with_body bodies (logged_body (change_of change.now)))))) }
     {
         let behind = self.prepare(alloc, change)?;
-        let Ok(()) = write_record(station, self.start(), self.epoch, self.end, &behind) else {
+        let Ok(()) = write_records(station, self.start(), self.epoch, self.end, &behind) else {
             self.is_stopped = true;
             return Err(AppendError::Device);
         };
         self.end = End::At(self.next() + behind.len() as u32);
+        Ok(())
+    }
+
+    /// Whether a record with a body of this length fits what is left of the half behind the records
+    /// of a batch.
+    pub fn room_behind(&self, batch: &Batch, length: usize) -> bool
+        ensures { IsTrue result ↔ HasRoomBehind self.now batch.now length }
+    {
+        let left = (self.half - self.next()) as usize;
+        let head = RECORD_HEAD_BYTES + 1;
+        left >= batch.len() && left - batch.len() >= head && length <= left - batch.len() - head
+    }
+
+    /// Appends the records of a batch together, and opens their epoch first where that isn't open.
+    /// It makes the same two writes as for one record, so all of them count from the moment that
+    /// the first one's gate is written. Then the batch is empty. Of an empty batch it writes
+    /// nothing. After an error the log has stopped, and makes no more device call; what waits still
+    /// stands in the batch.
+    pub fn append_all<S: Station>(
+        &mut self,
+        station: &mut S,
+        batch: &mut Batch,
+    ) -> Result<(), DeviceFault>
+        requires size { (S.meaning station.old).nvram_bytes ≡ 2 * self.old.half }
+        requires room { FitsHalf self.old batch.old }
+        ensures writes { OnlyWrites (λ _. IsFalse self.old.is_stopped)
+            (S.meaning station.old) (S.meaning station.new) result }
+        ensures disk { (disk : ℕ → List ℕ)
+            → ReadsDisk (S.meaning station.old) disk → ReadsDisk (S.meaning station.new) disk }
+        ensures stopped { IsTrue self.old.is_stopped → IsErr result
+            × (station.new ≡ station.old) × (self.new ≡ self.old) }
+        ensures device { OnErr result ((self.new ≡ record self.old { is_stopped = true })
+            × (batch.new ≡ batch.old)) }
+        ensures idle { IsFalse self.old.is_stopped → batch.old ≡ []
+            → IsOk result × (station.new ≡ station.old) × (self.new ≡ self.old) }
+        ensures emptied { OnOk result (batch.new ≡ []) }
+        ensures moved { OnOk result (next_of self.new.end ≡ next_of self.old.end + length batch.old) }
+        ensures end { (more : List (List ℕ)) → IsBatchOf more batch.old → more ≢ []
+            → OnOk result (self.new ≡ behind_records self.old more) }
+        // A cut at any moment leaves the records that were there, with all of the batch or with
+        // none of it; at the answer, with all.
+        ensures any_moment { (g : ℕ) (bodies : Bodies) (more : List (List ℕ))
+            → IsBatchOf more batch.old → LogStands (S.meaning station.old) self.old g bodies
+            → LeavesOnly (S.meaning station.old) (S.meaning station.new)
+            (KeepsDisk (S.meaning station.old) (AllOrNone self.old.half g bodies more)) }
+        ensures appended { (g : ℕ) (bodies : Bodies) (more : List (List ℕ))
+            → IsBatchOf more batch.old → LogStands (S.meaning station.old) self.old g bodies
+            → OnOk result (EachCut (S.meaning station.new) (KeepsDisk (S.meaning station.old)
+            (StandsAt self.new g (with_bodies bodies more)))) }
+    {
+        if self.is_stopped {
+            return Err(DeviceFault);
+        }
+        if batch.is_empty() {
+            return Ok(());
+        }
+        let Ok(()) = write_records(station, self.start(), self.epoch, self.end, batch.bytes())
+        else {
+            self.is_stopped = true;
+            return Err(DeviceFault);
+        };
+        self.end = End::At(self.next() + batch.len() as u32);
+        batch.clear();
         Ok(())
     }
 
