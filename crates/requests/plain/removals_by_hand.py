@@ -1,0 +1,112 @@
+"""Rows about objects without a name, written by hand."""
+
+import os
+
+from hand import DATA, HOLE, ROOT, Hand, node
+from messages import MODE, MTIME, SIZE, UID
+
+
+def held_files():
+    row = Hand('removed_hand.requests', 'a file is held until its node is forgotten')
+    row.make(b'a')
+    row.write(node(4), 0, b'bytes')
+    row.ask('RELEASE', node(4), handle=0)
+    row.go(7)
+    row.ask('UNLINK', ROOT, name=b'a')
+    row.ask('GETATTR', node(4))
+    row.make(b'b')
+    row.ask('OPEN', node(4), flags=os.O_RDWR)
+    row.ask('OPEN', node(4), flags=os.O_RDONLY)
+    row.ask('FORGET', node(4), lookups=1)
+    row.ask('RELEASE', node(4), handle=0)
+    row.ask('BATCH_FORGET', 0, count=1, forgets=[(node(4), 1)])
+    row.ask('READ', node(4), handle=0, size=9)
+    row.write(node(4), 0, b'more', offset=5)
+    row.ask('GETATTR', node(5))
+    row.ask('RELEASE', node(4), handle=0)
+    row.ask('RELEASE', node(4), handle=0)
+    row.ask('READ', node(4), handle=0, size=9)
+    row.make(b'c')
+    row.ask('FORGET', node(4), lookups=1)
+    row.ask('READ', node(4), handle=0, size=9)
+    row.ask('OPEN', node(4))
+    row.ask('GETATTR', node(4))
+    row.make(b'd')
+    row.ask('GETATTR', node(4))
+    row.ask('GETATTR', node(4, 2))
+    row.ask('FORGET', node(4, 2), lookups=1)
+    row.ask('GETATTR', node(4, 2))
+    return row
+
+
+def set_without_name():
+    row = Hand('removed_hand.requests', 'what has no name is set')
+    row.make(b'f')
+    row.ask('MKDIR', ROOT, name=b'd', mode=0o755)
+    row.ask('SYMLINK', ROOT, name=b'l', target=b'text')
+    row.go(2)
+    row.ask('UNLINK', ROOT, name=b'f')
+    row.ask('RMDIR', ROOT, name=b'd')
+    row.ask('UNLINK', ROOT, name=b'l')
+    row.go(2)
+    row.ask('LSEEK', node(4), whence=DATA)
+    row.ask('SETATTR', node(4), valid=SIZE, size=9000)
+    for offset, whence in ((4999, DATA), (1, HOLE), (8999, HOLE), (9000, HOLE), (9000, DATA), (2 ** 63, HOLE)):
+        row.ask('LSEEK', node(4), offset=offset, whence=whence)
+    for of in (node(4), node(5), node(6)):
+        row.ask('GETATTR', of)
+        row.ask('READLINK', of)
+        row.ask('SETATTR', of, valid=SIZE, size=5000)
+        row.ask('SETATTR', of, valid=MODE | UID | MTIME, mode=0o640, uid=4, mtime=5)
+        row.ask('SETATTR', of, valid=SIZE, size=2 ** 36 + 1)
+        row.ask('SETATTR', of, valid=SIZE, size=2 ** 63)
+        row.look(of, b'x')
+        row.ask('MKDIR', of, name=b'x', mode=0o755)
+        row.ask('READDIR', of, size=1024)
+        row.ask('LINK', ROOT, file=of, name=b'back')
+        row.ask('GETATTR', of)
+    row.ask('MKDIR', ROOT, name=b'again', mode=0o755)
+    row.ask('SYMLINK', ROOT, name=b'link', target=b'other')
+    row.ask('READLINK', node(6))
+    row.ask('READLINK', node(6, 2))
+    row.ask('BATCH_FORGET', 0, count=3, forgets=[(node(4), 1), (node(5), 1), (node(6), 1)])
+    for of in (node(4), node(5), node(6), node(5, 2)):
+        row.ask('GETATTR', of)
+        row.ask('SETATTR', of, valid=SIZE, size=2 ** 63)
+        row.ask('SETATTR', of, valid=SIZE, size=2 ** 36 + 1)
+    row.ask('READLINK', node(6))
+    return row
+
+
+def refused_removals():
+    row = Hand('removed_hand.requests', 'a removal that is refused holds nothing')
+    row.make(b'f')
+    row.make(b'g')
+    row.ask('MKDIR', ROOT, name=b'd', mode=0o755)
+    row.ask('RENAME', ROOT, new_parent=ROOT, name=b'd', new_name=b'f')
+    row.ask('OPEN', node(4))
+    row.ask('RELEASE', node(4), handle=2)
+    row.ask('RENAME2', ROOT, new_parent=ROOT, flags=1, name=b'g', new_name=b'f')
+    row.ask('OPEN', node(4))
+    row.ask('RELEASE', node(4), handle=2)
+    row.ask('UNLINK', ROOT, name=b'd')
+    row.ask('RMDIR', ROOT, name=b'f')
+    row.ask('OPEN', node(4))
+    row.ask('RELEASE', node(4), handle=2)
+    row.go(3)
+    row.ask('LINK', node(6), file=node(5), name=b'second')
+    row.ask('RENAME', ROOT, new_parent=ROOT, name=b'f', new_name=b'g')
+    row.ask('OPEN', node(4))
+    row.ask('RELEASE', node(4), handle=2)
+    row.ask('RENAME', ROOT, new_parent=node(6), name=b'g', new_name=b'second')
+    row.ask('OPEN', node(4))
+    row.ask('GETATTR', node(5))
+    row.ask('UNLINK', node(6), name=b'second')
+    row.ask('OPEN', ROOT)
+    row.make(b'h')
+    row.ask('FORGET', node(5), lookups=1)
+    row.make(b'i')
+    row.again()
+    row.ask('STATFS', ROOT)
+    row.ask('READDIRPLUS', ROOT, size=4096)
+    return row
