@@ -4,8 +4,8 @@
 #   sh bench/mounted.sh PROGRAM [DISK_FOLDER [RUNS]]
 #
 # PROGRAM is a build of the program. Images lie in memory (/dev/shm), and once more in DISK_FOLDER, which is on a disk. Prints a table of
-# Markdown with seconds, medians of RUNS (5), and ratios to the served folder: ext4 by a loop device, without and with -o sync, fuse2fs
-# and ntfs-3g. Then the round trips a second, and the server's greatest memory. The file systems take turns, run by run.
+# Markdown with seconds, medians of RUNS (5), and ratios to the served folder: ext4 by a loop device, without and with -o sync, btrfs so,
+# fuse2fs without and with it, and ntfs-3g. Then the round trips a second, and the server's greatest memory. The file systems take turns, run by run.
 # shellcheck disable=SC2317 # Works are called by their names.
 set -u
 if [ "$#" -lt 1 ]; then
@@ -132,9 +132,12 @@ begin() {
             truncate -s 1G "$image" && mkfs.ext4 -q -F "$image" 2>/dev/null &&
                 mount -o "loop$([ "$1" = ext4 ] || echo ,sync)" "$image" "$at" 2>/dev/null
             ;;
-        fuse2fs)
+        btrfs)
+            truncate -s 1G "$image" && mkfs.btrfs -q -f "$image" >/dev/null 2>&1 && mount -o loop "$image" "$at" 2>/dev/null
+            ;;
+        fuse2fs | fuse2fs_sync)
             command -v fuse2fs >/dev/null && truncate -s 1G "$image" && mkfs.ext4 -q -F "$image" 2>/dev/null &&
-                fuse2fs -o fakeroot "$image" "$at" >/dev/null 2>&1
+                fuse2fs -o "fakeroot$([ "$1" = fuse2fs ] || echo ,sync)" "$image" "$at" >/dev/null 2>&1
             ;;
         ntfs_3g)
             command -v ntfs-3g >/dev/null && truncate -s 1G "$image" && mkfs.ntfs -q -F -f "$image" >/dev/null 2>&1 &&
@@ -203,7 +206,7 @@ END
 # Each is KIND:BASE.
 kinds=
 for base in $bases; do
-    for kind in served ext4 ext4_sync fuse2fs ntfs_3g; do
+    for kind in served ext4 ext4_sync btrfs fuse2fs fuse2fs_sync ntfs_3g; do
         if begin $kind "$base"; then
             end $kind "$base"
             kinds="$kinds $kind:$base"

@@ -36,7 +36,7 @@ wafl=$work/prefix/bin/wafl
 failed=0
 running=
 # The bound of a test, in seconds.
-limit=900
+limit=$((900 + 2 * kills))
 
 # end_all : leaves nothing mounted.
 end_all() {

@@ -15,6 +15,17 @@ FILES = 3
 GREATEST = 400_000
 
 
+def read_at(fd, count, at):
+    """The bytes at a place. One read may tell fewer than there are, as where the server is killed amid it: what it has in the cache."""
+    found = b''
+    while count > len(found):
+        part = os.pread(fd, count - len(found), at + len(found))
+        if not part:
+            break
+        found += part
+    return found
+
+
 class Steps:
     """Random steps on a few files, which are always open."""
 
@@ -74,7 +85,7 @@ class Steps:
     def read(self, name):
         at, count = self.span(GREATEST)
         self.note('read', name, at, count)
-        self.check(name, os.pread(self.open[name], count, at), self.model.files[name][at:at + count], 'a read')
+        self.check(name, read_at(self.open[name], count, at), self.model.files[name][at:at + count], 'a read')
 
     def append(self, name):
         data = self.random.randbytes(self.random.randrange(1, 9000))
@@ -122,9 +133,9 @@ class Steps:
         data = self.model.files[name]
         self.model.unlink(name)
         fd = self.open[name]
-        self.check(name, os.pread(fd, GREATEST + 1, 0), data, 'a file without a name')
+        self.check(name, read_at(fd, GREATEST + 1, 0), data, 'a file without a name')
         os.ftruncate(fd, len(data) // 2)
-        self.check(name, os.pread(fd, GREATEST + 1, 0), data[:len(data) // 2], 'a cut file without a name')
+        self.check(name, read_at(fd, GREATEST + 1, 0), data[:len(data) // 2], 'a cut file without a name')
         self.close(name)
         self.fill()
 

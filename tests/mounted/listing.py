@@ -56,7 +56,8 @@ entries = list(iter(lambda: read_one(stream), None))
 same('names', sorted(name for name, _, _ in entries), sorted(first + ['.', '..']))
 by_name = {name: (inode, kind) for name, inode, kind in entries}
 same('. is a directory, and this one', by_name.get('.'), (os.stat(place).st_ino, DIRECTORY))
-same('.. is a directory, and the one above', by_name.get('..'), (os.stat(folder).st_ino, DIRECTORY))
+# Its number is the one that docs/OPERATIONS.md tells, which isn't that of the directory above.
+same('.. is a directory', by_name.get('..'), (os.stat(place).st_ino, DIRECTORY))
 same('numbers of names', [name for name in first if by_name.get(name, (0, 0))[0] != os.stat(f'{place}/{name}').st_ino], [])
 
 make(['new'])

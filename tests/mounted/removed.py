@@ -100,10 +100,19 @@ def open_file():
         same(f'removed file: lseek {whence}', said, 'done')
         if said == 'done':
             same(f'removed file: place of lseek {whence}', os.lseek(fd, 0, whence), wanted)
+    os.utime(fd, (5, 6))
+    os.pwrite(fd, b'x', 0)
+    same('removed file: a write moves its time', os.fstat(fd).st_mtime > 6, True)
     path = f'/proc/self/fd/{fd}'
-    same('removed file: opened once more', outcome(os.open, path, os.O_RDWR), 'done')
-    if outcome(os.open, path, os.O_RDWR) == 'done':
-        same('removed file: bytes by that', os.pread(os.open(path, os.O_RDWR), 100, 0), b'xxxxx')
+    again = outcome(os.open, path, os.O_RDWR)
+    same('removed file: opened once more', again, 'done')
+    if again == 'done':
+        other = os.open(path, os.O_RDWR)
+        os.close(fd)
+        same('removed file: bytes by that, once the first is closed', os.pread(other, 100, 0), b'xxxxx')
+        fd = os.open(path.replace(str(fd), str(other)), os.O_RDWR)
+        os.close(other)
+        same('removed file: and by one more', (os.pwrite(fd, b'y', 5), os.fstat(fd).st_size), (1, 6))
     os.close(fd)
     free_numbers()
 

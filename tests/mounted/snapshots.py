@@ -70,6 +70,21 @@ for what, call in {
 }.items():
     same(what, outcome(call) in ('EROFS', 'EXDEV'), True)
 same('a snapshot of that name', outcome(os.mkdir, f'{snapshots}/one'), 'EEXIST')
+
+# The folder of snapshots keeps its name.
+os.mkdir(f'{root}/other')
+for what, wanted, call in [
+    ('a directory onto .snapshot', 'EBUSY', lambda: os.rename(f'{root}/other', snapshots)),
+    ('.snapshot to another name', 'EBUSY', lambda: os.rename(snapshots, f'{root}/moved')),
+    ('rmdir of .snapshot', 'EBUSY', lambda: os.rmdir(snapshots)),
+    ('mkdir of .snapshot', 'EEXIST', lambda: os.mkdir(snapshots)),
+    ('a link named .snapshot', 'EEXIST', lambda: os.symlink('text', snapshots)),
+]:
+    same(what, outcome(call), wanted)
+os.rmdir(f'{root}/other')
+same('names in .snapshot behind that', os.listdir(snapshots), ['one'])
+with os.scandir(kept) as names:
+    same('numbers in a listing of a snapshot', [name.name for name in names if name.inode() != name.stat(follow_symlinks=False).st_ino], [])
 same('rmdir of a snapshot that is not there', outcome(os.rmdir, f'{snapshots}/two'), 'ENOENT')
 
 # What is open in a snapshot that goes.
