@@ -4,6 +4,7 @@ mod PointLaws
 mod SettledLaws
 mod OpenLaws
 mod LoggedLaws
+pub mod AheadLaws
 mod UnderWayLaws
 mod PendingLaws
 pub mod LookedLaws

@@ -1,6 +1,6 @@
 -- A system whose log gets a record more.
 use Rattle.std.proofs.Common.{◌≡◌, ◌⊎◌, inl, inr, ℕ, ◌+◌, ◌*◌, ◌≤◌, List, [], ◌∷◌, ◌++◌, Option, refl, ap, sym, subst, ◌∙◌, append_assoc, arith}
-use Rattle.std.specs.Prelude.{IsFalse, map}
+use Rattle.std.specs.Prelude.{IsFalse}
 use Rattle.std.proofs.lemmas.List.{map-append}
 use Rattle.std.proofs.lemmas.List.Elements.{All-push}
 use Rattle.station.specs.Images.{Images, Sector}
@@ -124,10 +124,10 @@ module _ (laws : CutLaws) (records : RecordLaws) {m : Meaning} {k : Parts} {tabl
   abbrev pub volume_after : Volume
   volume_after = swept table (applied change serves.running)
 
-  applies : Applies serves.settled.root.geometry.inodes serves.running change
+  pub applies : Applies serves.settled.root.geometry.inodes serves.running change
   applies = subst (λ (g : Sizes). Applies g.inodes serves.running change) (sym (sizes serves)) advances.applies
 
-  volume : IsVolume k.root.geometry.inodes volume_after
+  pub volume : IsVolume k.root.geometry.inodes volume_after
   volume = records.sweeps k.root.geometry.inodes (applied change serves.running) table
       (records.volumes k.root.geometry.inodes serves.running change serves.memory.volume advances.applies)
 
@@ -159,7 +159,7 @@ module _ (laws : CutLaws) (records : RecordLaws) {m : Meaning} {k : Parts} {tabl
         ap (λ (g : Sizes). fixed_of g.blocks) (sizes serves),
       )
 
-  same_disk : (c : Images) → (d : Images) → MayLeave m d → c.disk ≡ d.disk → SameButFree serves.settled.root serves.settled.disk c.disk
+  pub same_disk : (c : Images) → (d : Images) → MayLeave m d → c.disk ≡ d.disk → SameButFree serves.settled.root serves.settled.disk c.disk
   same_disk c d left is n some = ap (λ (e : ℕ → Sector). e n) is ∙ (serves.left serves.honest d left).same n some
 
   module _ (n : ℕ) (costs_it : n ≡ cost (work_of serves.running change)) (reserved : Reserved) where
@@ -178,7 +178,7 @@ module _ (laws : CutLaws) (records : RecordLaws) {m : Meaning} {k : Parts} {tabl
         ])
 
     -- once it is there, and memory follows
-    pub logged : (now : Meaning) (now_log : LogEnd) → now_log.epoch ≡ k.log.epoch → ((disk : ℕ → Sector) → ReadsDisk m disk → ReadsDisk now disk) → IsSameStation m now
+    abbrev pub logged : (now : Meaning) (now_log : LogEnd) → now_log.epoch ≡ k.log.epoch → ((disk : ℕ → Sector) → ReadsDisk m disk → ReadsDisk now disk) → IsSameStation m now
         → EachCut now (KeepsDisk m (StandsAt now_log serves.settled.root.generation (with_body serves.lasts.bodies (change_bytes change)))) → IsFalse now_log.is_stopped
         → (now_inodes : InodeFile) (now_files : Descriptors)
         → IsVolumeOf k.root.geometry.blocks (blocks_of (disk_over k m.seen.disk)) (inodes_of (whole (blocks_of (disk_over k m.seen.disk)) k.root).active) now_inodes volume_after

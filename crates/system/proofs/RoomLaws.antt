@@ -27,7 +27,8 @@ use Rattle.replay.specs.Costs.{IsSizeBefore}
 use Rattle.station.specs.declared.station.Station.{Ghosts}
 use Rattle.system.specs.Images.{Base}
 use Rattle.system.specs.Memory.{HasEntries}
-use Rattle.system.specs.Systems.{HasState, HasStateBy, meaning_of}
+use Rattle.descriptors.specs.declared.table.Descriptors.{Descriptors}
+use Rattle.system.specs.Systems.{HasState, HasStateBy, IsServing, meaning_of, system_parts}
 use Rattle.system.specs.declared.system.System.{System}
 use Rattle.system.proofs.SystemLaws.{at_rest, sizes}
 
@@ -64,12 +65,16 @@ free_same t map has (suc b) = λ i. free_same t map has b i + (if has b i == 0 t
 abbrev pub free_of : Base → ℕ
 free_of base = free_under (whole (blocks_of base.disk) base.root).active base.root.geometry.blocks
 
--- what a system keeps of it, whatever objects memory would serve by
-pub free_by : {S : Type 0} {G : Ghosts S} (known : InodeFile) (f : System S G) (table : ℕ → Option Description) (s : State) → (serves : HasStateBy known f table s) → f.free ≡ free_of serves.settled
-free_by known f table s serves =
+-- what a system keeps of it, whatever objects and open files memory would serve by
+pub free_with : {S : Type 0} {G : Ghosts S} (known : InodeFile) (files : Descriptors) (f : System S G) (table : ℕ → Option Description) (s : State)
+    → (serves : IsServing (meaning_of f) (record (system_parts f) { inodes = known; files = files }) table s) → f.free ≡ free_of serves.settled
+free_with known files f table s serves =
     f.counted ∙ ap (free_below f.map.parts.items) f.count
     ∙ free_same (whole (blocks_of serves.settled.disk) serves.settled.root).active f.map serves.entries f.root.geometry.blocks
     ∙ ap (λ (g : Sizes). free_under (whole (blocks_of serves.settled.disk) serves.settled.root).active g.blocks) (sym (sizes serves))
+
+pub free_by : {S : Type 0} {G : Ghosts S} (known : InodeFile) (f : System S G) (table : ℕ → Option Description) (s : State) → (serves : HasStateBy known f table s) → f.free ≡ free_of serves.settled
+free_by {G = G} known f table s serves = free_with {G = G} known f.files f table s serves
 
 pub free_is : {S : Type 0} {G : Ghosts S} (f : System S G) (table : ℕ → Option Description) (s : State) → (serves : HasState f table s) → f.free ≡ free_of serves.settled
 free_is {G = G} f table s serves = free_by {G = G} f.inodes f table s serves

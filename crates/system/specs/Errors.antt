@@ -6,6 +6,8 @@ use Rattle.oplog.specs.declared.log.AppendError.{AppendError}
 use Rattle.oplog.specs.declared.log.AppendError.TheVariants as append
 use Rattle.system.specs.declared.error.CallError.{CallError}
 use Rattle.system.specs.declared.error.CallError.TheVariants as call
+use Rattle.system.specs.declared.error.WaitError.{WaitError}
+use Rattle.system.specs.declared.error.WaitError.TheVariants as wait
 use Rattle.system.specs.declared.error.PointError.{PointError}
 use Rattle.system.specs.declared.error.PointError.TheVariants.{NotPlanned, NotWritten, NoGeneration}
 
@@ -30,3 +32,9 @@ abbrev pub log_error : AppendError → CallError
 log_error append.NoMemory = call.NoMemory
 log_error append.Device = call.NotWritten
 log_error append.LogFull = call.LogFull
+
+-- a failed read, to who gave a call that may wait
+abbrev pub wait_error : BlockError → WaitError
+wait_error read.NoMemory = wait.NoMemory
+wait_error read.Device = wait.NotRead
+wait_error read.Damaged = wait.Damaged

@@ -13,6 +13,9 @@ pub mod Props
 pub mod Refusals
 pub mod Opening
 pub mod Logging
+pub mod Waits
+pub mod Ahead
+pub mod Waiting
 pub mod Serving
 pub mod Room
 pub mod CheckpointCommands

@@ -1,7 +1,7 @@
 //! Why a system refused.
 
 ghost use Rattle.std.specs.Prelude.{◌≡◌};
-ghost use Rattle.system.specs.Errors.{call_error, log_error};
+ghost use Rattle.system.specs.Errors.{call_error, log_error, wait_error};
 
 use buffers::BlockError;
 use conspoint::PlanError;
@@ -42,6 +42,39 @@ pub enum CallError {
     /// A write failed: of the log is known only what a cut may leave.
     #[error("a write failed")]
     NotWritten,
+}
+
+/// Why a call can't wait, or its record can't. Nothing changed.
+#[derive(Clone, Copy, Debug, PartialEq, Eq, Error)]
+pub enum WaitError {
+    #[error("no memory")]
+    NoMemory,
+    /// A read failed.
+    #[error("a read failed")]
+    NotRead,
+    /// A block that had to be read is outside its format.
+    #[error("a block is outside the format")]
+    Damaged,
+    /// A consistency point is to be planned first: its root would hold what waits.
+    #[error("a consistency point is due")]
+    PlanDue,
+    /// The disk has no room for the record beside what a consistency point may store.
+    #[error("no room")]
+    NoRoom,
+    /// Behind those that wait the record doesn't go into the log before a consistency point.
+    #[error("the log is full")]
+    LogFull,
+}
+
+/// A failed read, to who gave a call that may wait.
+pub fn wait_error(error: BlockError) -> WaitError
+    ensures { result ≡ wait_error error }
+{
+    match error {
+        BlockError::NoMemory => WaitError::NoMemory,
+        BlockError::Device => WaitError::NotRead,
+        BlockError::Damaged => WaitError::Damaged,
+    }
 }
 
 /// A failed read, to who gave the call.

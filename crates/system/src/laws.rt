@@ -4,10 +4,12 @@ ghost use Rattle.std.specs.Prelude.{ℕ, Option};
 ghost use Rattle.station.specs.Moments.{EachCut};
 ghost use Rattle.model.specs.States.{State};
 ghost use Rattle.model.specs.Trees.{Description};
+ghost use Rattle.system.specs.Ahead.{HasStateAhead};
 ghost use Rattle.system.specs.Images.{OpensTo};
 ghost use Rattle.system.specs.Laws.{CutLaws, RecordLaws, RootLaws};
 ghost use Rattle.system.specs.Systems.{HasState, meaning_of};
 ghost use Rattle.system.specs.UnderWay.{WayLaws};
+ghost use Rattle.system.specs.Waits.{Waits, none_waits};
 
 use crate::System;
 use conspoint::{cuts_are_those_of_images, finished_disks_are_one, written_disks_have_the_blocks};
@@ -28,6 +30,18 @@ use station::Station;
 pub fn served_states_open<S: Station>(system: &System<S>)
     ensures { (table : ℕ → Option Description) (s : State) → HasState system.now table s
         → EachCut (meaning_of system.now) (OpensTo (meaning_of system.now) s) }
+{
+    cuts_open();
+}
+
+/// A system that serves a state is ahead of it by nothing, where no record waits. Whatever a cut may
+/// leave of one that is ahead opens to the state that was kept. It does nothing.
+pub fn kept_states_open<S: Station>(system: &System<S>)
+    ensures begins { (table : ℕ → Option Description) (s : State) → HasState system.now table s
+        → HasStateAhead system.now none_waits table s s }
+    ensures opens { (waits : Waits) (table : ℕ → Option Description) (s kept : State)
+        → HasStateAhead system.now waits table s kept
+        → EachCut (meaning_of system.now) (OpensTo (meaning_of system.now) kept) }
 {
     cuts_open();
 }

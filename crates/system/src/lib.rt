@@ -19,11 +19,14 @@ mod snapshot_taking;
 mod snapshot_view;
 mod space;
 mod system;
+mod waiting;
+mod waiting_records;
 
-pub use error::{CallError, PointError, call_error};
-pub use laws::{cuts_open, records_lead_on, served_states_open};
+pub use error::{CallError, PointError, WaitError, call_error, wait_error};
+pub use laws::{cuts_open, kept_states_open, records_lead_on, served_states_open};
 pub use mount_error::MountError;
 pub use snapshot_view::{View, keep_view};
 pub use snapshots::{PreparedSnapshot, SnapshotRequest};
 pub use space::Space;
 pub use system::System;
+pub use waiting_records::WaitingRecords;

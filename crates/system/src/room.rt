@@ -6,8 +6,9 @@ ghost use Rattle.model.specs.Records.{work_of};
 ghost use Rattle.model.specs.Volumes.{Volume};
 ghost use Rattle.replay.specs.Costs.{IsSizeBefore};
 ghost use Rattle.system.specs.Room.{HasRoomBesides, HasRoomForWork, HasRoomToLog, HasRoomToTake};
+ghost use Rattle.system.specs.Waiting.{HasRoomForWorkBehind};
 
-use crate::System;
+use crate::{System, WaitingRecords};
 use layout::Record;
 use model::{ORPHAN_COST, fixed_cost};
 use replay::{cost_of, headroom_of};
@@ -25,6 +26,22 @@ impl<S: Station> System<S> {
     {
         let asked = cost_of(change, size) + headroom_of(change, size);
         asked + fixed_cost(self.map.count()) <= u64::from(self.free).saturating_sub(self.pledged)
+    }
+
+    /// The same beside what is pledged for the records that wait.
+    pub(crate) fn has_room_behind(
+        &self,
+        waiting: &WaitingRecords,
+        change: &Record<'_>,
+        size: u64,
+    ) -> bool
+        requires { KeepsLimits (change_of change.now) }
+        ensures { (v : Volume) → IsSizeBefore v (change_of change.now) size
+            → IsTrue result ↔ HasRoomForWorkBehind self.now waiting.now (work_of v (change_of change.now)) }
+    {
+        let asked = cost_of(change, size) + headroom_of(change, size);
+        let left = u64::from(self.free).saturating_sub(self.pledged);
+        asked + fixed_cost(self.map.count()) <= left.saturating_sub(waiting.pledged())
     }
 
     /// Whether it has room for a snapshot.
