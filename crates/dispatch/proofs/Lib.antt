@@ -14,3 +14,4 @@ mod CarryingLaws
 mod BeforeLaws
 mod FulfilLaws
 mod ViewLaws
+mod WaitingLaws

@@ -4,3 +4,4 @@ pub mod Answering
 pub mod OpenFiles
 pub mod Preparing
 pub mod Fulfilling
+pub mod Waiting

@@ -57,7 +57,7 @@ pub(crate) fn change<S: Station>(
 }
 
 // Prepares a call.
-fn prepare<'a, S: Station>(
+pub(crate) fn prepare<'a, S: Station>(
     system: &mut System<S>,
     call: &'a Command<'_>,
 ) -> Result<PreparedCall<'a>, Failure>

@@ -13,5 +13,7 @@ mod reading;
 mod serving;
 mod snapshot_reading;
 mod table_move;
+mod waiting;
 
 pub use serving::call;
+pub use waiting::change_waiting;
