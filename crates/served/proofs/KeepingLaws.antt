@@ -1,8 +1,9 @@
 -- How objects are kept whose last name goes.
-use Rattle.std.proofs.Common.{◌≡◌, ℕ, List, [], ◌∷◌, Option, Result, Ok, Err, refl, sym, subst}
+use Rattle.std.proofs.Common.{◌≡◌, ◌≤◌, ◌+◌, ◌/◌, ℕ, zero, suc, List, [], ◌∷◌, length, drop, Option, Result, Ok, Err, arith, refl, sym, ap, subst}
 use Rattle.std.proofs.Math.Path.{ap₂}
 use Rattle.file_system.specs.declared.file_system.FileSystem.{Ghosts}
 use Rattle.file_system.specs.declared.handle.Handle.{Handle}
+use Rattle.fuse.specs.Forgets.{all_forgets, forgets_in}
 use Rattle.fuse.specs.declared.forgets.Forget.{Forget}
 use Rattle.model.specs.declared.errno.Errno.{Errno}
 use Rattle.model.specs.declared.errno.Errno.TheVariants as errno
@@ -64,3 +65,23 @@ module _ {S : Type 0} (G : Ghosts S) where
   forgets_all-one old mid new k next known left behind f is first then =
       subst (λ (fs : List Forget). Came G old new (spec.forgets_all k fs) known) (sym is)
       (came_then G old mid new {A = Known} {B = Known} (spec.forgets k f.node) (λ known. spec.forgets_all known behind) next known first then)
+
+-- how many nodes are forgotten at once
+count_in : (n : ℕ) (bytes : List ℕ) → length (forgets_in n bytes) ≡ n
+unfolding forgets_in
+count_in zero bytes = refl
+count_in (suc n) bytes = ap suc (count_in n (drop 16 bytes))
+
+-- there are no more than bytes
+pub few_of : (bytes : List ℕ) → length (all_forgets bytes) ≤ length bytes
+few_of bytes = subst (λ (n : ℕ). n ≤ length bytes) (sym (count_in (length bytes / 16) bytes)) (omega arith)
+
+pub fewer : (left behind : List Forget) (f : Forget) (counter end : ℕ) → left ≡ f ∷ behind → counter + length left ≤ end → counter + 1 + length behind ≤ end
+fewer left behind f counter end is few =
+    let few_now : counter + length (f ∷ behind) ≤ end = subst (λ (fs : List Forget). counter + length fs ≤ end) is few in
+    omega (arith, few_now)
+
+-- none is left at the end
+pub none_left : (left : List Forget) (counter end : ℕ) → end ≤ counter → counter + length left ≤ end → left ≡ []
+none_left [] counter end past few = refl
+none_left (f ∷ fs) counter end past few = absurd (omega (arith, few, past))

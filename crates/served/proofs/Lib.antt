@@ -1,7 +1,6 @@
 pub mod ChangingLaws
 pub mod CountingLaws
 pub mod FilesLaws
-pub mod ForgettingLaws
 pub mod KeepingLaws
 pub mod ListingLaws
 pub mod LookingLaws

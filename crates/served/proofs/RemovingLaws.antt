@@ -13,7 +13,7 @@ use Rattle.served.specs.Looking.{no_memory}
 use Rattle.served.specs.Making.{marked_changed, touched}
 use Rattle.served.specs.Removing as spec
 use Rattle.served.specs.Setting.{Told, refused}
-use Rattle.served.specs.Turns.{Turn, ◌▹◌, asks, asks_for, either, gives, handle_now, LeadsFrom, told_done, with_path, Came}
+use Rattle.served.specs.Turns.{Turn, ◌▹◌, asks, asks_for, either, gives, handle_now, LeadsFrom, told_done, Came}
 use Rattle.served.specs.declared.answer.Answer.TheVariants as answer
 use Rattle.served.specs.declared.marks.Asker.{Asker}
 use Rattle.served.proofs.TurnLaws.{came_gives, came_given, came_then, came_handle, came_along, came_nowhere, came_done, came_refused, came_then_if, came_else}
@@ -241,9 +241,6 @@ renames k asker moved parent new_parent flags path new_path found = elim found [
 abbrev renames_at : Known → Asker → ℕ → ℕ → ℕ → List ℕ → List ℕ → Turn Told
 renames_at k asker parent new_parent flags path new_path =
     asks_for reply.Stat (lstat path) (refused k) (λ moved. spec.rename_seen k asker moved parent new_parent flags path new_path)
-
-abbrev renames_path : Known → Asker → ℕ → List ℕ → ℕ → List ℕ → ℕ → Turn Told
-renames_path k asker parent name new_parent new_name flags = with_path (no_memory, k) parent name (λ path. spec.rename_from k asker parent new_parent new_name flags path)
 
 module _ {S : Type 0} (G : Ghosts S) where
   came_by_found : (old mid new : S) (k : Known) (asker : Asker) (moved : Stat) (parent new_parent flags : ℕ) (path new_path : List ℕ) (found : Result (Option Stat) Errno) (r : Told)

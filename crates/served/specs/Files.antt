@@ -103,12 +103,7 @@ writes fd offset bytes (suc parts) done =
 
 -- a file's data changed now; what has no name any more has its marks by itself
 abbrev pub written_gone : Removed → Asker → Removed
-written_gone removed asker = record {
-  stat = removed.stat;
-  marks = written asker.now removed.marks;
-  held = removed.held;
-  opens = removed.opens;
-}
+written_gone removed asker = record removed { marks = written asker.now removed.marks }
 
 abbrev pub with_written_by : Known → Asker → ℕ → Handle → Option Removed → Known
 with_written_by k asker node handle (Some removed) = with_removed node (written_gone removed asker) k

@@ -82,20 +82,10 @@ forgets_all k (f ∷ fs) = forgets k f.node ▹ (λ known. forgets_all known fs)
 
 -- a removed file is opened once more by what is kept, or closed; more often than 2^32 - 1 times isn't counted
 abbrev pub opened_more : Removed → Removed
-opened_more removed = record {
-  stat = removed.stat;
-  marks = removed.marks;
-  held = removed.held;
-  opens = min (removed.opens + 1) 4294967295;
-}
+opened_more removed = record removed { opens = min (removed.opens + 1) 4294967295 }
 
 abbrev pub closed_once : Removed → Removed
-closed_once removed = record {
-  stat = removed.stat;
-  marks = removed.marks;
-  held = removed.held;
-  opens = removed.opens - 1;
-}
+closed_once removed = record removed { opens = removed.opens - 1 }
 
 -- whether a removed file is kept by this descriptor
 abbrev pub is_held : Option ℕ → ℕ → Bool

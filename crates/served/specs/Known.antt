@@ -51,30 +51,16 @@ marks_at k handle = if (k.marked handle.number).generation == handle.generation 
 
 -- an object gets these marks
 abbrev pub with_marks : Handle → Marks → Known → Known
-with_marks handle marks k = record {
-  first = k.first;
-  numbers = k.numbers;
+with_marks handle marks k = record k {
   marked = λ n.
       if n == handle.number && nat_lt n k.numbers
       then (record { generation = handle.generation; marks = marks })
       else k.marked n;
-  removed = k.removed;
-  texts = k.texts;
-  snapshots = k.snapshots;
-  next_id = k.next_id;
 }
 
 -- what is known of removed nodes is this
 abbrev pub with_all_removed : (ℕ → Option Removed) → (ℕ → Option (List ℕ)) → Known → Known
-with_all_removed removed texts k = record {
-  first = k.first;
-  numbers = k.numbers;
-  marked = k.marked;
-  removed = removed;
-  texts = texts;
-  snapshots = k.snapshots;
-  next_id = k.next_id;
-}
+with_all_removed removed texts k = record k { removed = removed; texts = texts }
 
 -- what is known of a removed object is now this
 abbrev pub with_removed : ℕ → Removed → Known → Known
@@ -93,15 +79,7 @@ without_removed node k =
 
 -- these are the snapshots, and the next id
 abbrev pub with_snapshots : List Seen → ℕ → Known → Known
-with_snapshots snapshots next_id k = record {
-  first = k.first;
-  numbers = k.numbers;
-  marked = k.marked;
-  removed = k.removed;
-  texts = k.texts;
-  snapshots = snapshots;
-  next_id = next_id;
-}
+with_snapshots snapshots next_id k = record k { snapshots = snapshots; next_id = next_id }
 
 -- there is a snapshot more
 abbrev pub with_snapshot : List ℕ → Known → Known

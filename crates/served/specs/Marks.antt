@@ -12,11 +12,11 @@ made uid gid now = record { uid = uid; gid = gid; atime = now; mtime = now; ctim
 
 -- behind a change of the object's data
 abbrev pub written : Time → Marks → Marks
-written now m = record { uid = m.uid; gid = m.gid; atime = m.atime; mtime = now; ctime = now }
+written now m = record m { mtime = now; ctime = now }
 
 -- behind a change of what is told of the object
 abbrev pub changed : Time → Marks → Marks
-changed now m = record { uid = m.uid; gid = m.gid; atime = m.atime; mtime = m.mtime; ctime = now }
+changed now m = record m { ctime = now }
 
 -- the time that is meant
 abbrev pub time_of : Time → Moment → Time

@@ -44,11 +44,9 @@ or_no_memory k done = if_memory (gives (no_memory, k)) done
 
 -- a removed object that has this mode now, if it is set, and these marks
 abbrev pub removed_set : Removed → AttributeChanges → Settings → Asker → Removed
-removed_set removed changes settings asker = record {
+removed_set removed changes settings asker = record removed {
   stat = record removed.stat { mode = unwrap_or settings.mode removed.stat.mode };
   marks = marks_set changes asker.now removed.marks;
-  held = removed.held;
-  opens = removed.opens;
 }
 
 -- it is kept so, and told

@@ -1,8 +1,7 @@
 use Rattle.std.proofs.Common.{◌≤◌, arith, length, refl}
 use Rattle.fuse.specs.Forgets.{forgets_of}
 use Rattle.served.specs.Known.{known_of}
-use Rattle.served.proofs.ForgettingLaws.{few_of, fewer, none_left}
-use Rattle.served.proofs.KeepingLaws.{forgets_all-none, forgets_all-one}
+use Rattle.served.proofs.KeepingLaws.{few_of, fewer, forgets_all-none, forgets_all-one, none_left}
 use Rattle.served.proofs.keeping.forget_all.Goals as goal
 
 pub loop-init : goal.loop-init
