@@ -1,6 +1,7 @@
 -- How much room there is, and for how many objects.
 use Rattle.std.proofs.Common.{◌≡◌, ◌↔◌, ◌-◌, ◌≤◌, ◌<◌, ◌∙◌, ℕ, inl, inr, Option, Some, None, IsSome, ap, sym, subst, arith}
 use Rattle.std.specs.Prelude.{IfNone, IfSome, MatchOption}
+use Rattle.station.specs.Moments.{Meaning}
 use Rattle.station.specs.declared.station.Station.{Ghosts}
 use Rattle.layout.specs.Limits.{Sizes}
 use Rattle.layout.specs.Maps.{IsTaken}
@@ -20,7 +21,7 @@ use Rattle.model.proofs.CountLemmas.{same_count}
 use Rattle.images.specs.Roots.{whole}
 use Rattle.inofile.specs.Volumes.{IsVolumeOf}
 use Rattle.loading.specs.Images.{inodes_of}
-use Rattle.system.specs.Systems.{HasState, disk_of}
+use Rattle.system.specs.Systems.{HasState, IsServing, Parts, disk_of}
 use Rattle.system.specs.declared.system.System.{System}
 use Rattle.system.proofs.RoomLaws.{free_of}
 
@@ -50,41 +51,41 @@ usage_is room s given blocks free reserved inodes = λ i. record { blocks = bloc
 
 -- ---- which numbers are used
 
-module _ {S : Type 0} {G : Ghosts S} (f : System S G) (table : ℕ → Option Description) (s : State) (serves : HasState f table s) (law : VolumesTellUsed) where
+module _ {m : Meaning} {k : Parts} {table : ℕ → Option Description} {s : State} (serves : IsServing m k table s) (same : k.inodes.geometry ≡ k.root.geometry) (law : VolumesTellUsed) where
   used_some : (n : ℕ) → IsUsed s.tree n ↔ IsSome (serves.running n)
   used_some n =
       subst (λ (t : Tree). IsUsed t n ↔ IsSome (serves.running n)) (sym (ap (λ (u : State). u.tree) serves.state))
-      (law f.root.geometry.inodes serves.running table n serves.memory.volume serves.mounted)
+      (law k.root.geometry.inodes serves.running table n serves.memory.volume serves.mounted)
 
   -- those that the map has as taken
-  pub taken_used : (n : ℕ) → FIRST_NUMBER ≤ n → IsTaken f.inodes.numbers.bytes.items n → IsUsed s.tree n
+  pub taken_used : (n : ℕ) → FIRST_NUMBER ≤ n → IsTaken k.inodes.numbers.bytes.items n → IsUsed s.tree n
   taken_used n low taken = elim ((serves.memory.stands.mapped n).0 taken) [
     | inl own ↦ absurd (omega (arith, low, own))
     | inr some ↦ (used_some n).1 some
   ]
 
-  pub used_taken : (n : ℕ) → IsUsed s.tree n → IsTaken f.inodes.numbers.bytes.items n
+  pub used_taken : (n : ℕ) → IsUsed s.tree n → IsTaken k.inodes.numbers.bytes.items n
   used_taken n used = (serves.memory.stands.mapped n).1 (inr ((used_some n).0 used))
 
-  pub its_inodes : f.inodes.geometry.inodes ≡ s.inodes
-  its_inodes = ap (λ (sizes : Sizes). sizes.inodes) f.sizes ∙ sym (ap (λ (u : State). u.inodes) serves.state)
+  pub its_inodes : k.inodes.geometry.inodes ≡ s.inodes
+  its_inodes = ap (λ (sizes : Sizes). sizes.inodes) same ∙ sym (ap (λ (u : State). u.inodes) serves.state)
 
   -- from the number of inodes on there is none
-  pub none_past : (n : ℕ) → FIRST_NUMBER ≤ n → f.inodes.geometry.inodes ≤ n → IsUsed s.tree n → ⊥
+  pub none_past : (n : ℕ) → FIRST_NUMBER ≤ n → k.inodes.geometry.inodes ≤ n → IsUsed s.tree n → ⊥
   none_past n low past used = elim (serves.memory.volume.limits.numbers n ((used_some n).0 used)) [
     | inl root ↦ omega (arith, low, root)
-    | inr within ↦ omega (arith, within.1, past, ap (λ (sizes : Sizes). sizes.inodes) f.sizes)
+    | inr within ↦ omega (arith, within.1, past, ap (λ (sizes : Sizes). sizes.inodes) same)
   ]
 
   -- the least one that isn't taken is that of a new object
-  pub fresh_found : (found : Option ℕ) → IfSome found (λ n. (FIRST_NUMBER ≤ n) × (n < f.inodes.geometry.inodes)) → IfSome found (λ n. IsTaken f.inodes.numbers.bytes.items n → ⊥)
-      → IfSome found (λ n. (k : ℕ) → FIRST_NUMBER ≤ k → k < n → IsTaken f.inodes.numbers.bytes.items k)
-      → IfNone found ((k : ℕ) → FIRST_NUMBER ≤ k → k < f.inodes.geometry.inodes → IsTaken f.inodes.numbers.bytes.items k)
+  pub fresh_found : (found : Option ℕ) → IfSome found (λ n. (FIRST_NUMBER ≤ n) × (n < k.inodes.geometry.inodes)) → IfSome found (λ n. IsTaken k.inodes.numbers.bytes.items n → ⊥)
+      → IfSome found (λ n. (j : ℕ) → FIRST_NUMBER ≤ j → j < n → IsTaken k.inodes.numbers.bytes.items j)
+      → IfNone found ((j : ℕ) → FIRST_NUMBER ≤ j → j < k.inodes.geometry.inodes → IsTaken k.inodes.numbers.bytes.items j)
       → MatchOption found (HasNoFresh s.inodes s.tree) (IsFresh s.inodes s.tree)
   fresh_found (Some n) within free least none = record {
     low = within.0;
     high = omega (arith, within.1, its_inodes);
     free = λ used. free (used_taken n used);
-    least = λ k low high. taken_used k low (least k low high);
+    least = λ j low high. taken_used j low (least j low high);
   }
-  fresh_found None within free least none = λ k low high. taken_used k low (none k low (omega (arith, high, its_inodes)))
+  fresh_found None within free least none = λ n low high. taken_used n low (none n low (omega (arith, high, its_inodes)))

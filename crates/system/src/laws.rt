@@ -34,11 +34,14 @@ pub fn served_states_open<S: Station>(system: &System<S>)
     cuts_open();
 }
 
-/// A system that serves a state is ahead of it by nothing, where no record waits. Whatever a cut may
-/// leave of one that is ahead opens to the state that was kept. It does nothing.
+/// A system that serves a state is ahead of it by nothing, where no record waits, and where none
+/// waits it serves the state that it shows. Whatever a cut may leave of one that is ahead opens to
+/// the state that was kept. It does nothing.
 pub fn kept_states_open<S: Station>(system: &System<S>)
     ensures begins { (table : ℕ → Option Description) (s : State) → HasState system.now table s
         → HasStateAhead system.now none_waits table s s }
+    ensures ends { (table : ℕ → Option Description) (s kept : State)
+        → HasStateAhead system.now none_waits table s kept → HasState system.now table s }
     ensures opens { (waits : Waits) (table : ℕ → Option Description) (s kept : State)
         → HasStateAhead system.now waits table s kept
         → EachCut (meaning_of system.now) (OpensTo (meaning_of system.now) kept) }

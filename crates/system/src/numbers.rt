@@ -4,7 +4,9 @@ ghost use Rattle.std.specs.Prelude.{ℕ, ◌≡◌, ◌↔◌, ◌≤◌, Option
 ghost use Rattle.model.specs.Outcomes.{HasNoFresh, IsFresh};
 ghost use Rattle.model.specs.States.{State};
 ghost use Rattle.model.specs.Trees.{Description, IsUsed};
+ghost use Rattle.system.specs.Ahead.{HasStateAhead};
 ghost use Rattle.system.specs.Systems.{HasState};
+ghost use Rattle.system.specs.Waits.{Waits};
 
 use crate::System;
 use model::{FIRST_NUMBER, volumes_tell_used_numbers};
@@ -13,8 +15,10 @@ use station::Station;
 impl<S: Station> System<S> {
     /// How many inodes the image has, with no device call.
     pub fn count_inodes(&self) -> u32
-        ensures { (table : ℕ → Option Description) (s : State) → HasState self.now table s
+        ensures served { (table : ℕ → Option Description) (s : State) → HasState self.now table s
             → result ≡ s.inodes }
+        ensures ahead { (waits : Waits) (table : ℕ → Option Description) (s kept : State)
+            → HasStateAhead self.now waits table s kept → result ≡ s.inodes }
     {
         self.inodes.geometry().inodes()
     }
@@ -23,8 +27,10 @@ impl<S: Station> System<S> {
     /// device call.
     pub fn is_used(&self, number: u32) -> bool
         requires { FIRST_NUMBER ≤ number }
-        ensures { (table : ℕ → Option Description) (s : State) → HasState self.now table s
+        ensures served { (table : ℕ → Option Description) (s : State) → HasState self.now table s
             → IsTrue result ↔ IsUsed s.tree number }
+        ensures ahead { (waits : Waits) (table : ℕ → Option Description) (s kept : State)
+            → HasStateAhead self.now waits table s kept → IsTrue result ↔ IsUsed s.tree number }
     {
         volumes_tell_used_numbers();
         if self.inodes.geometry().inodes() <= number {
@@ -38,6 +44,9 @@ impl<S: Station> System<S> {
     pub fn next_number(&self) -> Option<u32>
         ensures low { IfSome result (λ n. FIRST_NUMBER ≤ n) }
         ensures fresh { (table : ℕ → Option Description) (s : State) → HasState self.now table s
+            → MatchOption result (HasNoFresh s.inodes s.tree) (IsFresh s.inodes s.tree) }
+        ensures ahead { (waits : Waits) (table : ℕ → Option Description) (s kept : State)
+            → HasStateAhead self.now waits table s kept
             → MatchOption result (HasNoFresh s.inodes s.tree) (IsFresh s.inodes s.tree) }
     {
         volumes_tell_used_numbers();

@@ -36,6 +36,14 @@ impl<S: Station> System<S> {
             && !self.log.room_behind(&waiting.batch, least)
     }
 
+    /// Whether one more may wait, as far as the half is concerned: what waits fits it, with a head
+    /// and a closed gate behind.
+    pub fn has_room_to_wait(&self, waiting: &WaitingRecords) -> bool
+        ensures { IsTrue result → FitsHalf self.now.log waiting.now.batch }
+    {
+        self.log.room_behind(&waiting.batch, 0)
+    }
+
     /// Puts a prepared change in force in memory; its record waits behind those that do. No device
     /// is called. `PlanDue` where a point is to be planned first, whose root would hold what waits;
     /// then `NoRoom` where the disk has no room for the record, and `LogFull` where the log is in

@@ -48,7 +48,8 @@ impl WaitingRecords {
 
     /// Whether none waits.
     pub fn is_empty(&self) -> bool
-        ensures { IsTrue result ↔ (self.now.batch ≡ []) }
+        ensures empty { IsTrue result ↔ (self.now.batch ≡ []) }
+        ensures none { IsTrue result → self.now ≡ none_waits }
     {
         self.batch.is_empty()
     }

@@ -18,7 +18,7 @@ use Rattle.system.proofs.system.System.commit.Goals as goal
 
 -- some records waited
 some : (g : Over) (c : After-append_all g) → c.waiting.inside.batch ≢ []
-some g c = λ none. false≢true (sym c.if-is_empty.false ∙ c.is_empty.ensures.1 (sym (ap (λ (w : Waits). w.batch) c.waiting.view_is) ∙ none))
+some g c = λ none. false≢true (sym c.if-is_empty.false ∙ c.is_empty.ensures.empty.1 (sym (ap (λ (w : Waits). w.batch) c.waiting.view_is) ∙ none))
 
 -- they are what a state is ahead by
 waits : (g : Over) (c : After-append_all g) (table : ℕ → Option Description) (s kept : State) → (ahead : HasStateAhead {G = g.S.Station} c.args.self.now c.args.waiting.now table s kept)
@@ -43,7 +43,7 @@ returns-then-is_empty-clause-leaves g c = λ table s kept ahead. still_left ahea
 
 pub returns-then-is_empty-clause-serves : goal.returns-then-is_empty-clause-serves
 returns-then-is_empty-clause-serves g c = λ table s kept ahead.
-    let none = c.is_empty.ensures.0 c.if-is_empty.true in
+    let none = c.is_empty.ensures.empty.0 c.if-is_empty.true in
     let view = c.waiting.view_is in
     idle ahead none (omega (arith, c.waiting.invariant.few, ap (λ (w : Waits). w.pledged) view, ap (λ (w : Waits). length w.batch) view, ap length none))
 
