@@ -1,59 +1,40 @@
 -- What comes before a call is done: steps of a consistency point, and what is prepared.
-use Rattle.std.proofs.Common.{◌≡◌, ◌≢◌, ◌⊎◌, inl, inr, Bool, true, false, ℕ, ◌+◌, ◌++◌, List, [], ◌∷◌, Result, Ok, Err, Option, Some, None, refl, ap, sym, subst, ◌∙◌, append_assoc, if◌then◌else◌, arith}
-use Rattle.std.specs.Prelude.{IfErr, IfOk, IfSome, IsFalse, IsTrue, MatchResult}
-use Rattle.std.proofs.lemmas.Bool.{false≢true}
-use Rattle.std.proofs.lemmas.Result.{IfErr-weaker, IfOk-weaker}
-use Rattle.station.specs.Images.{Images, Unchanged}
-use Rattle.station.specs.Moments.{Goes, HasGrown, LeavesOnly, MayLeave, Meaning}
+use Rattle.std.proofs.Common.{◌≡◌, ◌≢◌, Bool, true, false, ℕ, ◌+◌, ◌++◌, List, [], ◌∷◌, Ok, Option, Some, None, refl, ap, sym, subst, ◌∙◌, append_assoc, if◌then◌else◌, arith}
+use Rattle.station.specs.Moments.{HasGrown, LeavesOnly, MayLeave, Meaning}
 use Rattle.station.specs.declared.station.Station.{Ghosts}
 use Rattle.station.proofs.Calls.{uses_twice}
-use Rattle.station.proofs.Moments.{goes_on_unchanged, grown_since, joined, leaves_unchanged, weaker}
-use Rattle.layout.specs.Limits.{Sizes}
+use Rattle.station.proofs.Moments.{grown_since, joined, leaves_unchanged, weaker}
 use Rattle.layout.specs.Log.{half_of}
 use Rattle.layout.specs.Places.{blocks_of}
 use Rattle.layout.specs.declared.log.TheConstants.{FIRST_GATE}
-use Rattle.layout.specs.declared.root.Root.{Root}
-use Rattle.model.specs.Circumstances.{IsSure}
 use Rattle.model.specs.Records.{work_of}
 use Rattle.model.specs.Room.{logs}
 use Rattle.model.specs.States.{State}
 use Rattle.model.specs.Volumes.{Volume}
 use Rattle.model.specs.declared.command.Command.{Command}
-use Rattle.model.specs.declared.reply.Reply.{Reply}
 use Rattle.buffers.specs.Disks.{ReadsOn}
 use Rattle.buffers.specs.Readings.{reads_none}
-use Rattle.images.specs.Roots.{whole}
-use Rattle.loading.specs.Images.{inodes_of}
-use Rattle.descriptors.specs.Tables.{table_of}
-use Rattle.descriptors.specs.declared.table.Descriptors.{Descriptors}
-use Rattle.records.specs.Prepared.{Does}
-use Rattle.records.specs.declared.failure.Failure.{Failure}
 use Rattle.oplog.specs.LogEnd.{Bodies, EndsBehind, LogEnd, all_bodies, next_of}
 use Rattle.oplog.specs.declared.log.End.{End}
 use Rattle.oplog.specs.declared.log.End.TheVariants.{At, Unopened}
-use Rattle.overlay.specs.declared.pending.PendingPoint.{PendingPoint}
-use Rattle.dispatch.specs.Answering.{answer_to}
-use Rattle.system.specs.Counting.{AgesBy, Counted, Failed, LogsNothing, a_read, a_write, beside_reads, call_failed, no_call, perhaps_any, perhaps_reads}
+use Rattle.system.specs.Counting.{Counted, Failed, LogsNothing, a_read, a_write, beside_reads, no_call, perhaps_any, perhaps_reads}
 use Rattle.system.specs.Images.{OpensTo}
-use Rattle.dispatch.specs.Preparing.{DoesBeside, DoesCall, IsPreparedAt, PreparesOn, recorded}
-use Rattle.system.specs.Serving.{HasEmptyLog, IsPlanDue, LeavesEither, ServesState}
-use Rattle.dispatch.specs.Serving.{Answers, AnswersAtOnce, Handles, HandlesAt, IsAtOnce, IsSureOn, WouldChange}
-use Rattle.system.specs.Slicing.{MayStep, StaysReady, Steps, StepsOn}
-use Rattle.dispatch.specs.Fulfilling.{Fulfils}
+use Rattle.dispatch.specs.Preparing.{IsPreparedAt, PreparesOn, recorded}
+use Rattle.system.specs.Serving.{HasEmptyLog, IsPlanDue, ServesState}
+use Rattle.dispatch.specs.Serving.{WouldChange}
+use Rattle.system.specs.Slicing.{StaysReady, Steps}
 use Rattle.system.specs.Systems.{IsCovered, Parts, ServesRest, disk_of, meaning_of, system_parts}
-use Rattle.system.specs.declared.error.CallError.{CallError}
-use Rattle.system.specs.declared.error.CallError.TheVariants.{NotWritten}
-use Rattle.system.specs.declared.error.PointError.{PointError}
 use Rattle.dispatch.specs.declared.prepared_call.PreparedCall.{PreparedCall}
 use Rattle.dispatch.specs.declared.prepared_call.PreparedChange.{PreparedChange}
 use Rattle.system.specs.declared.system.System.{System}
-use Rattle.system.proofs.CountingLaws.{logged_twice, nothing_logged, perhaps_read, same_age}
+use Rattle.system.proofs.CountingLaws.{logged_twice, nothing_logged, perhaps_read}
 use Rattle.system.proofs.SystemLaws.{opens_same}
 use Rattle.dispatch.proofs.HandlingLaws.{covered_same, same_empty}
-use Rattle.dispatch.proofs.LookedLaws.{KeepsServing, looked_still, never_damaged, on_open, on_volumes, reads_on, same_disk}
-use Rattle.dispatch.proofs.OpenFileLaws.{refused_by, told_logged}
+use Rattle.dispatch.proofs.LookedLaws.{reads_on, served_shows}
+use Rattle.dispatch.proofs.OpenFileLaws.{told_logged}
+use Rattle.dispatch.proofs.PreparedLaws.{prepared_at, prepared_serving}
+use Rattle.dispatch.proofs.ShowingLaws.{KeepsServing}
 use Rattle.system.proofs.SystemLaws.{AllOpen}
-use Rattle.dispatch.proofs.ServingLaws.{NotSure, failed_by}
 
 -- ---- counts
 
@@ -193,25 +174,13 @@ pub record IsPreparedBehind {S : Type 0} {G : Ghosts S} (old mid : System S G) (
 module _ {S : Type 0} {G : Ghosts S} {old mid : System S G} {call : Command} {p : PreparedCall} where
   pub prepared_by : AllOpen old → PreparesOn old mid call (Ok p) → IsPreparedBehind old mid call p
   prepared_by opens prepares =
-      let told = prepares.prepares in
-      let looks = told.looks in
+      let reads = reads_on prepares.prepares.looks.reads in
       let parts = prepares.parts in
-      let reads = reads_on old mid.blocks mid.inodes looks in
-      let root : mid.root ≡ old.root = ap (λ (k : Parts). k.root) parts in
-      let keeps : KeepsServing old mid = looked_still old mid looks parts in
+      let keeps : KeepsServing old mid = prepared_serving old mid call prepares in
       record {
-        before = looked_before old mid reads.below reads.pending (ap (λ (k : Parts). k.log) parts) root opens keeps;
+        before = looked_before old mid reads.below reads.pending (ap (λ (k : Parts). k.log) parts) (ap (λ (k : Parts). k.root) parts) opens keeps;
         at = λ s served.
-            let v = served.running in
-            let DoesOver = λ (d : ℕ → List ℕ) (r : Root). IfSome p.change (λ c. Does (blocks_of d) (inodes_of (whole (blocks_of d) r).active) mid.inodes v c.prepared (recorded c.record)) in
-            let Comes = λ (g : Sizes) (d : Descriptors). DoesBeside g.inodes v (table_of d) call p.reply p.table p.change in
-            let here : IsPreparedAt (system_parts mid) (blocks_of (disk_of mid)) v call p = record {
-              does = subst (λ (r : Root). DoesOver (disk_of mid) r) (sym root)
-                  (subst (λ (d : ℕ → List ℕ). DoesOver d old.root) (same_disk old mid.blocks mid.inodes looks s served) (on_volumes old told.does s served));
-              comes = subst (λ (d : Descriptors). Comes mid.root.geometry d) (sym (ap (λ (k : Parts). k.files) parts))
-                  (subst (λ (g : Sizes). Comes g old.files) (old.sizes ∙ ap (λ (r : Root). r.geometry) (sym root)) (on_open old told.answers s served));
-            } in
-            subst (λ (w : Volume). IsPreparedAt (system_parts mid) (blocks_of (disk_of mid)) w call p) (sym (keeps s served).volume) here;
+            subst (λ (w : Volume). IsPreparedAt (system_parts mid) (blocks_of (disk_of mid)) w call p) (sym (keeps s served).volume) (prepared_at old mid call p prepares (served_shows served));
       }
 
   -- it stays so behind a slice
@@ -244,7 +213,7 @@ module _ {S : Type 0} {G : Ghosts S} {old mid : System S G} {call : Command} {p 
       changes : (o : Option PreparedChange) → p.change ≡ o → WouldChange s call
       changes None none = absurd (some none)
       changes (Some c) is =
-          let logged = told_logged mid s (prepared.before.rest s served).serves call p c (recorded c.record) is refl (prepared.at s served) in
+          let logged = told_logged (served_shows (prepared.before.rest s served).serves) call p c (recorded c.record) is refl (prepared.at s served) in
           record {
             reply = p.reply;
             after = _;

@@ -1,18 +1,31 @@
--- A record of a call on descriptors that was logged, and the table of open files that moves behind it.
-use Rattle.std.proofs.Common.{◌≡◌, ℕ, List, Option, ap, sym, subst, ◌∙◌}
+-- What was prepared of a call, and the table of open files that moves by it.
+use Rattle.std.proofs.Common.{◌≡◌, ℕ, List, None, Option, ap, sym, subst, ◌∙◌}
 use Rattle.station.specs.declared.station.Station.{Ghosts}
 use Rattle.model.specs.Paths.{Name}
-use Rattle.model.specs.Records.{Change}
+use Rattle.model.specs.Records.{Change, applied, work_of}
+use Rattle.model.specs.States.{State}
 use Rattle.model.specs.Trees.{Description, Tree}
-use Rattle.model.specs.Volumes.{IsMounted, Volume}
+use Rattle.model.specs.Volumes.{IsMounted, Volume, swept}
+use Rattle.model.specs.declared.command.Command.{Command}
+use Rattle.model.specs.declared.reply.Reply.{Reply}
 use Rattle.descriptors.specs.Fits.{FitsVolume}
 use Rattle.descriptors.specs.Tables.{table_of}
 use Rattle.descriptors.specs.declared.table.Descriptors.{Descriptors}
-use Rattle.dispatch.specs.OpenFiles.{FitsMove, moved_table}
+use Rattle.system.specs.Serving.{LeavesEither, ServesState}
 use Rattle.system.specs.Systems.{IsServingWith, ServesWith, meaning_of, system_parts, state_with}
 use Rattle.system.specs.declared.system.System.{System}
+use Rattle.dispatch.specs.Answering.{IsAnswered}
+use Rattle.dispatch.specs.OpenFiles.{FitsMove, moved_table}
+use Rattle.dispatch.specs.Preparing.{DoesBeside, IsPreparedAt}
+use Rattle.dispatch.specs.Showing.{ShowsState}
+use Rattle.dispatch.specs.declared.prepared_call.PreparedCall.{PreparedCall}
+use Rattle.dispatch.specs.declared.prepared_call.PreparedChange.{PreparedChange}
 use Rattle.dispatch.specs.declared.table_move.TableMove.{TableMove}
-use Rattle.dispatch.proofs.OpenFileLaws.{moved_on}
+use Rattle.dispatch.proofs.HandlingLaws.{LeadsOn}
+use Rattle.dispatch.proofs.LookedLaws.{its_table, served_shows}
+use Rattle.dispatch.proofs.MovedLaws.{leaves_moved}
+use Rattle.dispatch.proofs.OpenFileLaws.{IsLogged, moved_on, table_leads}
+use Rattle.dispatch.proofs.ShowingLaws.{stands_same}
 
 -- what a call does to the table leads from a mounted volume to one
 pub record Moves (old new : Descriptors) (move : TableMove) : Type 0 where
@@ -31,3 +44,27 @@ logged_moves mid now_files move table n v snapshots changes behind mounted fits 
     let mounted_now : IsMounted v (table_of mid.files) = subst (λ (t : ℕ → Option Description). IsMounted v t) serves.opened mounted in
     moved_on n snapshots behind now_files (moved_table move table) opened
     (moves.fits v fits_now fits) (subst (λ (t : ℕ → Option Description). IsMounted v t) (sym opened) (moves.mounted v fits_now mounted_now fits))
+
+-- a call that changes nothing but the table
+pub unchanged_leads : {S : Type 0} {G : Ghosts S} (f new : System S G) {s : State} (shown : ShowsState f s) {disk : ℕ → List ℕ} (call : Command) (p : PreparedCall) → p.change ≡ None → IsPreparedAt (system_parts f) disk shown.running call p
+    → new.inodes ≡ f.inodes → Moves f.files new.files p.table → IsAnswered f new shown call p.reply
+unchanged_leads f new shown call p none prepared inodes moves =
+    let v = shown.running in
+    let beside = subst (λ (o : Option PreparedChange). DoesBeside f.root.geometry.inodes v (table_of f.files) call p.reply p.table o) none prepared.comes in
+    table_leads f new shown call p.reply (stands_same f shown inodes) (moved_table p.table (table_of f.files)) (sym moves.table) (moves.fits v shown.fits beside.0)
+    (subst (λ (t : ℕ → Option Description). IsMounted v t) moves.table (moves.mounted v shown.fits (its_table f shown) beside.0)) beside.1
+
+-- what its record comes to, where a cut leaves the state before it or the one that it leads to
+abbrev pub leads_on : {S : Type 0} {G : Ghosts S} (f new : System S G) (s : State) (served : ServesState f s) (call : Command) (reply : Reply) (move : TableMove) (change : Change) → IsLogged (served_shows served) call reply move change
+    → LeavesEither (meaning_of f) (meaning_of new) s (state_with f.root.geometry.inodes (swept s.tree.descriptors (applied change served.running)) s.tree.descriptors served.snapshots)
+    → LeadsOn f new s call reply
+leads_on f new s served call reply move change made leaves =
+    let table = s.tree.descriptors in
+    let n = f.root.geometry.inodes in
+    let after = swept table (applied change served.running) in
+    record {
+      after = state_with n after (moved_table move table) served.snapshots;
+      work = work_of served.running change;
+      step = made.step;
+      leaves = leaves_moved (meaning_of f) (meaning_of new) s n after table (moved_table move table) served.snapshots leaves;
+    }

@@ -1,59 +1,43 @@
 -- What a call comes to: it is prepared, a step of a consistency point may come before its record, and then it is done.
-use Rattle.std.proofs.Common.{◌≡◌, ◌≢◌, ◌⊎◌, inl, inr, Bool, true, false, ℕ, ◌+◌, ◌++◌, List, [], ◌∷◌, Result, Ok, Err, Option, Some, None, refl, ap, sym, subst, ◌∙◌, append_assoc, if◌then◌else◌, arith}
-use Rattle.std.specs.Prelude.{IfErr, IfOk, IfSome, IsFalse, IsTrue, MatchResult}
+use Rattle.std.proofs.Common.{◌≡◌, ◌≢◌, ◌⊎◌, inl, inr, Bool, true, false, ℕ, Result, Ok, Err, Option, None, refl, ap, sym, subst, ◌∙◌}
+use Rattle.std.specs.Prelude.{IfErr, IfOk, IsFalse, IsTrue, MatchResult}
 use Rattle.std.proofs.lemmas.Bool.{false≢true}
 use Rattle.std.proofs.lemmas.Result.{IfErr-weaker, IfOk-weaker}
 use Rattle.station.specs.Images.{Images, Unchanged}
-use Rattle.station.specs.Moments.{Goes, HasGrown, LeavesOnly, MayLeave, Meaning}
+use Rattle.station.specs.Moments.{Goes, MayLeave}
 use Rattle.station.specs.declared.station.Station.{Ghosts}
-use Rattle.station.proofs.Calls.{uses_twice}
-use Rattle.station.proofs.Moments.{goes_on_unchanged, grown_since, joined, leaves_unchanged, weaker}
-use Rattle.layout.specs.Limits.{Sizes}
-use Rattle.layout.specs.Log.{half_of}
+use Rattle.station.proofs.Moments.{goes_on_unchanged, joined, weaker}
 use Rattle.layout.specs.Places.{blocks_of}
-use Rattle.layout.specs.declared.log.TheConstants.{FIRST_GATE}
-use Rattle.layout.specs.declared.root.Root.{Root}
 use Rattle.model.specs.Circumstances.{IsSure}
-use Rattle.model.specs.Records.{work_of}
-use Rattle.model.specs.Room.{logs}
 use Rattle.model.specs.States.{State}
-use Rattle.model.specs.Volumes.{Volume}
 use Rattle.model.specs.declared.command.Command.{Command}
 use Rattle.model.specs.declared.reply.Reply.{Reply}
-use Rattle.buffers.specs.Disks.{ReadsOn}
-use Rattle.buffers.specs.Readings.{reads_none}
-use Rattle.images.specs.Roots.{whole}
-use Rattle.loading.specs.Images.{inodes_of}
-use Rattle.descriptors.specs.Tables.{table_of}
-use Rattle.descriptors.specs.declared.table.Descriptors.{Descriptors}
-use Rattle.records.specs.Prepared.{Does}
+use Rattle.buffers.specs.declared.error.BlockError.{BlockError}
 use Rattle.records.specs.declared.failure.Failure.{Failure}
-use Rattle.oplog.specs.LogEnd.{Bodies, EndsBehind, LogEnd, all_bodies, next_of}
+use Rattle.oplog.specs.LogEnd.{LogEnd}
 use Rattle.oplog.specs.declared.log.End.{End}
-use Rattle.oplog.specs.declared.log.End.TheVariants.{At, Unopened}
 use Rattle.overlay.specs.declared.pending.PendingPoint.{PendingPoint}
-use Rattle.dispatch.specs.Answering.{answer_to}
-use Rattle.system.specs.Counting.{AgesBy, Counted, Failed, LogsNothing, a_read, a_write, beside_reads, call_failed, no_call, perhaps_any, perhaps_reads}
+use Rattle.dispatch.specs.Answering.{Answers, called}
+use Rattle.system.specs.Counting.{AgesBy, Counted, LogsNothing, a_write, beside_reads, call_failed}
 use Rattle.system.specs.Images.{OpensTo}
-use Rattle.dispatch.specs.Preparing.{DoesBeside, DoesCall, IsPreparedAt, PreparesOn, recorded}
-use Rattle.system.specs.Serving.{HasEmptyLog, IsPlanDue, LeavesEither, ServesState}
-use Rattle.dispatch.specs.Serving.{Answers, AnswersAtOnce, Handles, HandlesAt, IsAtOnce, IsSureOn, WouldChange}
+use Rattle.dispatch.specs.Preparing.{IsPreparedAt, PreparesOn}
+use Rattle.system.specs.Serving.{IsPlanDue, LeavesEither, ServesState}
+use Rattle.dispatch.specs.Serving.{AnswersAtOnce, Handles, HandlesAt, IsAtOnce, IsSureOn, WouldChange}
 use Rattle.system.specs.Slicing.{MayStep, StaysReady, Steps, StepsOn}
 use Rattle.dispatch.specs.Fulfilling.{Fulfils}
-use Rattle.system.specs.Systems.{IsCovered, Parts, ServesRest, disk_of, meaning_of, system_parts}
+use Rattle.system.specs.Systems.{Parts, disk_of, meaning_of, system_parts}
 use Rattle.system.specs.declared.error.CallError.{CallError}
 use Rattle.system.specs.declared.error.CallError.TheVariants.{NotWritten}
 use Rattle.system.specs.declared.error.PointError.{PointError}
 use Rattle.dispatch.specs.declared.prepared_call.PreparedCall.{PreparedCall}
-use Rattle.dispatch.specs.declared.prepared_call.PreparedChange.{PreparedChange}
 use Rattle.system.specs.declared.system.System.{System}
-use Rattle.system.proofs.CountingLaws.{logged_twice, nothing_logged, perhaps_read, same_age}
+use Rattle.system.proofs.CountingLaws.{logged_twice, nothing_logged, same_age}
 use Rattle.system.proofs.SystemLaws.{opens_same}
-use Rattle.dispatch.proofs.HandlingLaws.{covered_same, same_empty}
-use Rattle.dispatch.proofs.LookedLaws.{KeepsServing, looked_still, never_damaged, on_open, on_volumes, reads_on, same_disk}
-use Rattle.dispatch.proofs.OpenFileLaws.{refused_by, told_logged}
+use Rattle.dispatch.proofs.HandlingLaws.{same_empty}
+use Rattle.dispatch.proofs.AnsweringLaws.{called_at_once, handled, handled_at, surely_called}
+use Rattle.dispatch.proofs.LookedLaws.{reads_on, served_shows}
 use Rattle.system.proofs.SystemLaws.{AllOpen}
-use Rattle.dispatch.proofs.ServingLaws.{NotSure, failed_by}
+use Rattle.dispatch.proofs.ServingLaws.{NotSure}
 use Rattle.dispatch.proofs.BeforeLaws.{IsBefore, IsPreparedBehind, both, counted_beside, failed_first, nothing_before, planned_before, prepared_after, prepared_by, prepared_sliced, would_change}
 
 -- ---- the call
@@ -157,8 +141,8 @@ module _ {S : Type 0} {G : Ghosts S} {old mid : System S G} (new : System S G) (
 
   -- the same of a call that isn't sure
   unsure : NotSure old call → (q : Result Reply CallError) (s : State) → ServesState old s → MatchResult q (λ _. IsSureOn old new s call ⊎ ¬ IsSure s call) (λ _. ¬ IsSure s call)
-  unsure not_sure (Ok reply) s served = inr (not_sure.0 s served)
-  unsure not_sure (Err e) s served = not_sure.0 s served
+  unsure not_sure (Ok reply) s served = inr (not_sure.0 s (served_shows served))
+  unsure not_sure (Err e) s served = not_sure.0 s (served_shows served)
 
   pub fulfilled_unsure : NotSure old call → (q : Result Reply CallError) → Handles mid new call q → ((s : State) (served : ServesState old s) → HandlesAt mid new s (before.rest s served).serves call q)
       → StepsOrWaits old new → Fulfils old new call q
@@ -196,7 +180,7 @@ module _ {S : Type 0} {G : Ghosts S} {old mid : System S G} (new : System S G) (
                   (weaker b n (OpensTo b s) (OpensTo m s) (stepped.leaves s.tree.descriptors s (before.rest s served).serves) (λ c here. opens_same m b s c before.counted.uses.same.sectors here)))
                   (λ c here. inl here);
             };
-        sure = not_sure.0;
+        sure = λ s served. not_sure.0 s (served_shows served);
         at_once = not_sure.1;
         full = λ s served is. cc;
         short = λ s served is. cc;
@@ -217,18 +201,7 @@ module _ {S : Type 0} {G : Ghosts S} {old mid : System S G} {call : Command} {r 
   same_log = ap (λ (k : Parts). k.log) prepares.parts
 
   same_laid : mid.blocks.pending ≡ old.blocks.pending
-  same_laid = (reads_on old mid.blocks mid.inodes prepares.prepares.looks).pending
-
--- it is refused, or a block wasn't read
-pub refused_on : {S : Type 0} {G : Ghosts S} (old mid : System S G) (call : Command) → AllOpen old → NotSure old call → (f : Failure) → PreparesOn old mid call (Err f)
-    → (q : Result Reply CallError) → q ≡ answer_to (Err f) → Answers old mid call q
-refused_on old mid call opens not_sure f prepares q is =
-    let told = prepares.prepares in
-    let looks = told.looks in
-    let keeps : KeepsServing old mid = looked_still old mid looks prepares.parts in
-    failed_by old mid call (reads_on old mid.blocks mid.inodes looks) (same_log prepares) f q is not_sure opens looks.reads.counted looks.reads.device told.own
-    (λ s served. ((keeps s served).serves, (keeps s served).changes)) (λ s served. DoesCall old.inodes.geometry.inodes served.running (table_of old.files) call) (on_open old told.answers)
-    (λ s served errno is. refused_by old s served call errno is) (never_damaged old told.damaged)
+  same_laid = (reads_on prepares.prepares.looks.reads).pending
 
 -- What was prepared was done, and this is known of that.
 pub record IsDone {S : Type 0} {G : Ghosts S} (mid new : System S G) (call : Command) (p : PreparedCall) (q : Result Reply CallError) : Type 0 where
@@ -282,12 +255,14 @@ module _ {S : Type 0} {G : Ghosts S} (old : System S G) (call : Command) (not_su
           (ages_so (ap (λ (l : LogEnd). l.epoch) (same_log prepares)) (ap (λ (l : LogEnd). l.epoch) (same_log anew)) stepped.epoch)
           (inl (steps_so (same_laid prepares) (done.frame.pending ∙ same_laid anew) stepped.pending))
 
-      pub refused_anew : (new : System S G) (q : Result Reply CallError) → Answers next new call q → Fulfils old new call q
-      refused_anew new q told =
-          fulfilled_unsure new call before (ages_so (ap (λ (l : LogEnd). l.epoch) (same_log prepares)) refl stepped.epoch) not_sure q told.handles (λ s served. told.at s (before.rest s served).serves)
-          (inl (steps_so (same_laid prepares) told.handles.pending stepped.pending))
+      pub refused_anew : (new : System S G) (r : Result Reply BlockError) → Answers next new call r → Fulfils old new call (called r)
+      refused_anew new r told =
+          fulfilled_unsure new call before (ages_so (ap (λ (l : LogEnd). l.epoch) (same_log prepares)) refl stepped.epoch) not_sure (called r) (handled r told)
+          (λ s served. handled_at opens_then r told s (before.rest s served).serves) (inl (steps_so (same_laid prepares) (handled r told).pending stepped.pending))
 
 -- a call that logs nothing was served at once
-pub answered_fulfils : {S : Type 0} {G : Ghosts S} (old new : System S G) (call : Command) → AllOpen old → (q : Result Reply CallError) → Answers old new call q → Fulfils old new call q
-answered_fulfils old new call opens q told =
-    fulfilled new call (nothing_before old opens) (same_age old.log.epoch old.log.epoch refl) q told.handles (λ s served. told.at s served) (inr (told.handles.pending, λ _. ap (λ (l : LogEnd). l.end) told.log)) told.sure told.at_once
+pub answered_fulfils : {S : Type 0} {G : Ghosts S} (old new : System S G) (call : Command) → AllOpen old → (r : Result Reply BlockError) → Answers old new call r → Fulfils old new call (called r)
+answered_fulfils old new call opens r told =
+    let handles = handled r told in
+    fulfilled new call (nothing_before old opens) (same_age old.log.epoch old.log.epoch refl) (called r) handles (handled_at opens r told)
+    (inr (handles.pending, λ _. ap (λ (k : Parts). k.log.end) told.parts)) (surely_called r told) (called_at_once r told)

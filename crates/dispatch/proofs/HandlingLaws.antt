@@ -3,9 +3,8 @@ use Rattle.std.proofs.Common.{◌≡◌, ◌≢◌, ◌⊎◌, inl, inr, ℕ, �
 use Rattle.std.specs.Prelude.{IsFalse, IsTrue}
 use Rattle.station.specs.Calls.{OnlyWrites}
 use Rattle.station.specs.Images.{Unchanged}
-use Rattle.station.specs.Moments.{Meaning, EachCut, Goes}
+use Rattle.station.specs.Moments.{Meaning, Goes}
 use Rattle.station.specs.declared.station.Station.{Ghosts}
-use Rattle.station.proofs.Moments.{joined, leaves_unchanged, weaker}
 use Rattle.layout.specs.Record.{Change}
 use Rattle.model.specs.Records.{work_of}
 use Rattle.model.specs.Replies.{IsReplyTo}
@@ -15,12 +14,10 @@ use Rattle.model.specs.declared.command.Command.{Command}
 use Rattle.model.specs.declared.errno.Errno.TheVariants.{EIO, FAILED}
 use Rattle.model.specs.declared.reply.Reply.{Reply}
 use Rattle.model.specs.declared.reply.Reply.TheVariants.{Refused}
-use Rattle.buffers.specs.Disks.{ReadsOn}
 use Rattle.buffers.specs.Readings.{reads_none}
 use Rattle.layout.specs.declared.root.Root.{Root}
 use Rattle.oplog.specs.LogEnd.{LogEnd, HasRoomInHalf, logged_body, next_of}
 use Rattle.system.specs.Counting.{Counted, Failed, call_error_failed, no_call, perhaps_reads}
-use Rattle.system.specs.Images.{OpensTo}
 use Rattle.system.specs.Room.{HasRoomForWork}
 use Rattle.system.specs.Serving.{HasEmptyLog, LeavesEither, ServesState}
 use Rattle.dispatch.specs.Serving.{Handles, HandlesAt, IsAccepted, WouldCall}
@@ -28,19 +25,8 @@ use Rattle.system.specs.Systems.{IsCovered, Parts, meaning_of, system_parts}
 use Rattle.system.specs.declared.error.CallError.{CallError}
 use Rattle.system.specs.declared.error.CallError.TheVariants as call_errors
 use Rattle.system.specs.declared.system.System.{System}
-use Rattle.system.proofs.SystemLaws.{opens_same}
 use Rattle.system.proofs.CountingLaws.{all_read, all_written, not_written_yet, perhaps_read}
-use Rattle.dispatch.proofs.LookedLaws.{KeepsServing, ServesStill, same_still}
-
--- behind reads, a cut leaves the one state or the other
-pub either_after : (m mid new : Meaning) (s t : State) → ReadsOn m mid → EachCut m (OpensTo m s) → LeavesEither mid new s t → LeavesEither m new s t
-either_after m mid new s t reads opens leaves =
-    joined m mid new (λ c. OpensTo m s c ⊎ OpensTo m t c)
-    (weaker m mid (OpensTo m s) (λ c. OpensTo m s c ⊎ OpensTo m t c) (leaves_unchanged m mid (OpensTo m s) opens reads.goes) (λ c here. inl here))
-    (weaker mid new (λ c. OpensTo mid s c ⊎ OpensTo mid t c) (λ c. OpensTo m s c ⊎ OpensTo m t c) leaves (λ c here. elim here [
-      | inl before ↦ inl (opens_same m mid s c reads.same.sectors before)
-      | inr after ↦ inr (opens_same m mid t c reads.same.sectors after)
-    ]))
+use Rattle.dispatch.proofs.ShowingLaws.{KeepsServing, ServesStill, same_still}
 
 -- a covered one that looked, or has the same, is covered still
 pub covered_same : {S : Type 0} {G : Ghosts S} {old : System S G} (new : System S G) (s : State) (covered : IsCovered old s.tree.descriptors s) → new.blocks.pending ≡ old.blocks.pending

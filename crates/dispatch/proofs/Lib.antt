@@ -1,16 +1,18 @@
 mod LookedLaws
+mod MovedLaws
+mod ShowingLaws
 mod ServingLaws
+mod AnsweringLaws
 pub mod StoredLaws
 mod AskingLaws
 mod ChangingLaws
 mod TableLaws
-mod MovedLaws
 mod OpenFileLaws
+mod PreparedLaws
 mod DoingLaws
 mod CloseLaws
-mod FileChangeLaws
 mod HandlingLaws
-mod CarryingLaws
+mod FileChangeLaws
 mod BeforeLaws
 mod FulfilLaws
 mod ViewLaws

@@ -18,10 +18,9 @@ use Rattle.descriptors.specs.Tables.{table_of}
 use Rattle.descriptors.specs.declared.table.Descriptors.{Descriptors}
 use Rattle.oplog.specs.LogEnd.{Bodies}
 use Rattle.system.specs.Images.{IsReplayed, OpensTo}
-use Rattle.system.specs.Laws.{RecordLaws}
+use Rattle.system.specs.Memory.{IsInMemory}
 use Rattle.system.specs.Serving.{LeavesEither}
 use Rattle.system.specs.Systems.{Parts, IsServing, disk_over, state_with}
-use Rattle.system.proofs.SystemLaws.{OverRoot}
 
 -- what opens to a state opens to it with other open files
 pub opens_moved : (m : Meaning) (n : ℕ) (v : Volume) (table after : ℕ → Option Description) (snapshots : List (Name × Tree)) (c : Images)
@@ -90,78 +89,28 @@ sweep_extends running replayed table extends = record {
   rest = λ n none. dropped_vacant (is_open table OPEN_FILES n) (running n) (replayed n) (extends.kept n) (extends.rest n) none;
 }
 
--- so the records that lead to it lead to what is left
-abbrev pub sweep_replayed : {inodes : ℕ} {bodies : Bodies} {first running : Volume} (table : ℕ → Option Description) → IsReplayed inodes bodies first running → IsReplayed inodes bodies first (swept table running)
-sweep_replayed {running = running} table was = record {
+-- ---- the system
+
+-- records lead to another volume where what they led to extends that too
+abbrev pub led_on : {inodes : ℕ} {bodies : Bodies} {first before running : Volume} → ((last : Volume) → Extends before last → Extends running last) → IsReplayed inodes bodies first before
+    → IsReplayed inodes bodies first running
+led_on replays was = record {
   changes = was.changes;
   are = was.are;
   spelled = was.spelled;
   last = was.last;
   replays = was.replays;
-  extends = sweep_extends running was.last table was.extends;
+  extends = replays was.last was.extends;
 }
 
--- ---- the system
-
--- with the same open files, in a table that has more room
-abbrev pub roomy : {m : Meaning} {k : Parts} {table : ℕ → Option Description} {s : State} (serves : IsServing m k table s) (now_files : Descriptors) → table_of now_files ≡ table_of k.files
-    → ((v : Volume) → FitsVolume k.files v → FitsVolume now_files v) → IsServing m (record k { files = now_files }) table s
-roomy serves now_files same fits = record {
-  honest = serves.honest;
-  shows = serves.shows;
-  first = serves.first;
-  snapshots = serves.snapshots;
-  under = serves.under;
-  running = serves.running;
-  mounted = serves.mounted;
-  memory = serves.memory;
-  view = serves.view;
-  settled = serves.settled;
-  lasts = serves.lasts;
-  left = serves.left;
-  entries = serves.entries;
-  bridge = serves.bridge;
-  goes = serves.goes;
-  stored = serves.stored;
-  opened = serves.opened ∙ sym same;
-  fits = fits serves.running serves.fits;
-  state = serves.state;
-}
-
-module _ {m : Meaning} {k : Parts} {table : ℕ → Option Description} {s : State}
-    (serves : IsServing m k table s) (now_files : Descriptors) (after : ℕ → Option Description) (opened : after ≡ table_of now_files) where
-  -- with other open files of the same volume
-  abbrev pub moved : FitsVolume now_files serves.running → IsMounted serves.running after
-      → IsServing m (record k { files = now_files }) after (state_with k.root.geometry.inodes serves.running after serves.snapshots)
-  moved fits mounted = record {
-    honest = serves.honest;
-    shows = serves.shows;
-    first = serves.first;
-    snapshots = serves.snapshots;
-    under = serves.under;
-    running = serves.running;
-    mounted = mounted;
-    memory = serves.memory;
-    view = serves.view;
-    settled = serves.settled;
-    lasts = serves.lasts;
-    left = serves.left;
-    entries = serves.entries;
-    bridge = serves.bridge;
-    goes = serves.goes;
-    stored = serves.stored;
-    opened = opened;
-    fits = fits;
-    state = refl;
-  }
-
-  -- with other open files, and without the files that then have neither name nor descriptor
-  abbrev pub dropped : (records : RecordLaws) (now_inodes : InodeFile)
-      → OverRoot (blocks_of (disk_over k m.seen.disk)) k.root now_inodes (swept after serves.running)
-      → memory_room serves.first now_inodes (swept after serves.running) ≤ memory_room serves.first k.inodes serves.running
-      → FitsVolume now_files (swept after serves.running) → IsMounted (swept after serves.running) after
-      → IsServing m (record k { inodes = now_inodes; files = now_files }) after (state_with k.root.geometry.inodes (swept after serves.running) after serves.snapshots)
-  dropped records now_inodes stands stores fits mounted =
+module _ {m : Meaning} {k : Parts} {table : ℕ → Option Description} {s : State} (serves : IsServing m k table s) where
+  -- A system serves another state, by a volume that its records lead to too, of which a point stores no more.
+  abbrev pub led : (now_inodes : InodeFile) (now_files : Descriptors) (running : Volume) (after : ℕ → Option Description) (next : State)
+      → ((last : Volume) → Extends serves.running last → Extends running last) → IsInMemory (blocks_of (disk_over k m.seen.disk)) k.root now_inodes running
+      → memory_room serves.first now_inodes running ≤ memory_room serves.first k.inodes serves.running
+      → IsMounted running after → after ≡ table_of now_files → FitsVolume now_files running → next ≡ state_with k.root.geometry.inodes running after serves.snapshots
+      → IsServing m (record k { inodes = now_inodes; files = now_files }) after next
+  led now_inodes now_files running after next replays memory stores mounted opened fits state =
       let lasts = serves.lasts in
       record {
         honest = serves.honest;
@@ -169,19 +118,16 @@ module _ {m : Meaning} {k : Parts} {table : ℕ → Option Description} {s : Sta
         first = serves.first;
         snapshots = serves.snapshots;
         under = serves.under;
-        running = swept after serves.running;
+        running = running;
         mounted = mounted;
-        memory = record {
-          stands = stands;
-          volume = records.sweeps k.root.geometry.inodes serves.running after serves.memory.volume;
-        };
+        memory = memory;
         view = serves.view;
         settled = serves.settled;
         lasts = record {
           newest = lasts.newest;
           holds = lasts.holds;
           bodies = lasts.bodies;
-          replayed = sweep_replayed after lasts.replayed;
+          replayed = led_on replays lasts.replayed;
           pledges = lasts.pledges;
           reserved = lasts.reserved;
         };
@@ -197,7 +143,7 @@ module _ {m : Meaning} {k : Parts} {table : ℕ → Option Description} {s : Sta
               planned = way.planned;
               epoch = way.epoch;
               stays = way.stays;
-              since = sweep_replayed after way.since;
+              since = led_on replays way.since;
               pledges = way.pledges;
               saves = way.saves;
             };
@@ -210,5 +156,5 @@ module _ {m : Meaning} {k : Parts} {table : ℕ → Option Description} {s : Sta
         stored = omega (arith, stores, serves.stored);
         opened = opened;
         fits = fits;
-        state = refl;
+        state = state;
       }

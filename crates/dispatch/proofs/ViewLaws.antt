@@ -1,5 +1,5 @@
 -- What a call on the tree of a snapshot comes to.
-use Rattle.std.proofs.Common.{◌≡◌, ◌∙◌, ℕ, List, [], ◌∷◌, Bool, not, Option, Some, None, Result, refl, sym, subst}
+use Rattle.std.proofs.Common.{◌≡◌, ◌∙◌, ℕ, List, [], ◌∷◌, Bool, not, Option, Some, None, Result, ap, refl, sym, subst}
 use Rattle.std.specs.Prelude.{IsTrue}
 use Rattle.model.specs.Laws.{MountsForget}
 use Rattle.model.specs.Paths.{Name}
@@ -7,14 +7,14 @@ use Rattle.model.specs.Records.{without_orphans}
 use Rattle.model.specs.Room.{nothing}
 use Rattle.model.specs.States.{State}
 use Rattle.model.specs.Steps.{Step, calls, frozen, is_reading_call, passing, says, views}
-use Rattle.model.specs.Trees.{Tree}
+use Rattle.model.specs.Trees.{Description, Tree}
 use Rattle.model.specs.Volumes.{Volume, IsVolume, tree_of}
 use Rattle.model.specs.declared.command.PathCall.{PathCall}
 use Rattle.model.specs.declared.errno.Errno.TheVariants.{EROFS, NOSNAP}
 use Rattle.model.specs.declared.reply.Reply.{Reply}
 use Rattle.model.specs.declared.reply.Reply.TheVariants.{Refused, Snaps}
 use Rattle.calls.specs.Seeing.{ReadingForgets}
-use Rattle.station.specs.declared.station.Station.{Ghosts}
+use Rattle.station.specs.Moments.{Meaning}
 use Rattle.layout.specs.Limits.{Sizes}
 use Rattle.layout.specs.Places.{Blocks}
 use Rattle.buffers.specs.declared.blocks.Blocks as blocks
@@ -24,6 +24,8 @@ use Rattle.inofile.specs.Volumes.{IsVolumeOf}
 use Rattle.inofile.specs.declared.inode_file.InodeFile.{InodeFile}
 use Rattle.paths.specs.Standing.{Looks, Stands}
 use Rattle.dispatch.specs.Serving.{TellsNoFault}
+use Rattle.dispatch.specs.Showing.{IsShowing}
+use Rattle.system.specs.Systems.{Parts}
 use Rattle.system.specs.Views.{StandsForSnapshot}
 use Rattle.system.proofs.SystemLaws.{extends_itself}
 use Rattle.system.proofs.ViewLaws.{closed}
@@ -65,3 +67,7 @@ module _ {B : Type 0} {G : blocks.Ghosts B} {disk : Blocks} {n : ℕ} {pairs : L
 
 pub snaps_no_fault : (names : List Name) → TellsNoFault (Snaps names)
 snaps_no_fault names = (λ is. cc, λ is. cc)
+
+-- the snapshots of the state that a system shows
+pub snapshots_shown : {m : Meaning} {k : Parts} {table : ℕ → Option Description} {s : State} (shown : IsShowing m k table s) → s.snapshots ≡ shown.snapshots
+snapshots_shown shown = ap (λ (u : State). u.snapshots) shown.state

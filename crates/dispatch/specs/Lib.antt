@@ -1,5 +1,6 @@
 pub mod Serving
 pub mod Changing
+pub mod Showing
 pub mod Answering
 pub mod OpenFiles
 pub mod Preparing

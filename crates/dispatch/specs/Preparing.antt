@@ -1,5 +1,5 @@
 -- Calls that are prepared: what they are to do, of which nothing is seen yet.
-use Rattle.std.specs.Prelude.{ℕ, ◌≡◌, ◌≤◌, Bool, true, false, List, length, IfSome, Option, Some, None, Result, Ok, Err}
+use Rattle.std.specs.Prelude.{ℕ, ◌≡◌, ◌≤◌, Bool, true, false, List, length, IfOk, IfSome, Option, Some, None, Result, Ok, Err}
 use Rattle.station.specs.declared.station.Station.{Ghosts}
 use Rattle.layout.specs.Record.{Change, write}
 use Rattle.model.specs.Records.{Applies, applied, work_of}
@@ -19,6 +19,7 @@ use Rattle.buffers.specs.declared.blocks.Blocks as blocks
 use Rattle.inofile.specs.declared.inode_file.InodeFile.{InodeFile}
 use Rattle.images.specs.Roots.{whole}
 use Rattle.loading.specs.Images.{inodes_of}
+use Rattle.descriptors.specs.Fits.{FitsVolume}
 use Rattle.descriptors.specs.Tables.{table_of}
 use Rattle.descriptors.specs.declared.table.Descriptors.{Descriptors}
 use Rattle.records.specs.Prepared.{Does, IsReady}
@@ -26,7 +27,7 @@ use Rattle.records.specs.declared.failure.Failure.{Failure}
 use Rattle.calls.specs.Changing.{said_by}
 use Rattle.calls.specs.declared.changed.Changing.{Changing}
 use Rattle.files.specs.Preparing.{Changes, PreparesOpen}
-use Rattle.dispatch.specs.OpenFiles.{CanMove, FitsMove, OpensNumber, WouldLead, moved_table}
+use Rattle.dispatch.specs.OpenFiles.{CanMove, FitsMove, HasRoomToMove, OpensNumber, WouldLead, moved_table}
 use Rattle.dispatch.specs.Serving.{IsAccepted}
 use Rattle.system.specs.Systems.{Parts, system_parts, blocks_with}
 use Rattle.dispatch.specs.declared.prepared_call.CallRecord.{CallRecord}
@@ -106,23 +107,28 @@ abbrev pub PreparesCall : {B : Type 0} → blocks.Ghosts B → B → B → Inode
 PreparesCall G blocks after s t files call result =
     PreparesOpen of_prepared (MayDo s.geometry.inodes files call) G blocks after s t files (λ v. DoesCall s.geometry.inodes v (table_of files) call) result
 
--- A call is prepared on a system, or refused: nothing is done but reading blocks, and bringing
--- objects into memory.
+-- what is prepared can be done to what a system has: the log takes its record, and memory has room
+-- for its change, and for what it opens
+pub record CanCarryOut (k : Parts) (p : PreparedCall) : Type 0 where
+  pub moves : CanMove (table_of k.files) p.table
+  pub numbered : OpensNumber k.inodes.geometry.inodes p.table
+  pub room : HasRoomToMove k.files p.table
+  pub limits : IfSome p.change (λ c. KeepsRecord c.record)
+  pub ready : IfSome p.change (λ c. IsReady k.inodes c.prepared)
+
+-- A call is prepared on a system, or refused: nothing is done but reading blocks, bringing objects
+-- into memory, and making room in the table of open files.
 pub record PreparesOn {S : Type 0} {G : Ghosts S} (old new : System S G) (call : Command) (result : Result PreparedCall Failure) : Type 0 where
   pub parts : system_parts new ≡ record (system_parts old) {
     kept = new.blocks.buffers.kept;
     pending = new.blocks.pending;
     inodes = new.inodes;
+    files = new.files;
   }
   pub prepares : PreparesCall (blocks_with G) old.blocks new.blocks old.inodes new.inodes old.files call result
-
--- what is prepared can be done to what a system has: the log takes its record, and memory has room
--- for its change
-pub record CanCarryOut (k : Parts) (p : PreparedCall) : Type 0 where
-  pub moves : CanMove (table_of k.files) p.table
-  pub numbered : OpensNumber k.inodes.geometry.inodes p.table
-  pub limits : IfSome p.change (λ c. KeepsRecord c.record)
-  pub ready : IfSome p.change (λ c. IsReady k.inodes c.prepared)
+  pub table : table_of new.files ≡ table_of old.files
+  pub fits : (v : Volume) → FitsVolume old.files v → FitsVolume new.files v
+  pub can : IfOk result (CanCarryOut (system_parts new))
 
 -- where memory stands for this volume over this disk, it does what the call does
 pub record IsPreparedAt (k : Parts) (disk : ℕ → List ℕ) (v : Volume) (call : Command) (p : PreparedCall) : Type 0 where

@@ -1,5 +1,5 @@
 -- What calls do to a system.
-use Rattle.std.specs.Prelude.{ℕ, ◌≡◌, ◌⊎◌, ◌+◌, ◌≢◌, ◌∷◌, ◌++◌, List, [], Bool, IsFalse, IsTrue, Result, Ok, IfOk, IfErr, IsErrOf, MatchResult}
+use Rattle.std.specs.Prelude.{ℕ, ◌≡◌, ◌+◌, ◌≢◌, ◌∷◌, ◌++◌, List, [], Bool, IsFalse, IsTrue, Result, Ok, IfOk, IfErr, IsErrOf, MatchResult}
 use Rattle.station.specs.Images.{Unchanged}
 use Rattle.station.specs.Moments.{Goes}
 use Rattle.station.specs.declared.station.Station.{Ghosts}
@@ -157,13 +157,3 @@ pub record HandlesAt {S : Type 0} {G : Ghosts S} (old new : System S G) (s : Sta
   pub short : IsErrOf result NoRoom
       → LacksRoom new s call × (IsCovered old s.tree.descriptors s → IsCovered new s.tree.descriptors s)
   pub damaged : IsErrOf result Damaged → ⊥
-
--- What a call does to a system that logs nothing. A sure one is answered, as is one that takes
--- nothing, whatever the images hold.
-pub record Answers {S : Type 0} {G : Ghosts S} (old new : System S G) (call : Command) (result : Result Reply CallError) : Type 0 where
-  pub handles : Handles old new call result
-  pub at : (s : State) (served : ServesState old s) → HandlesAt old new s served call result
-  pub log : new.log ≡ old.log
-  pub sure : (s : State) → ServesState old s → MatchResult result
-      (λ _. IsSureOn old new s call ⊎ ¬ IsSure s call) (λ _. ¬ IsSure s call)
-  pub at_once : IsAtOnce old.files call → MatchResult result (AnswersAtOnce old new) (λ _. ⊥)

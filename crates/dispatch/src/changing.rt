@@ -5,7 +5,6 @@ ghost use Rattle.layout.specs.Places.{blocks_of};
 ghost use Rattle.model.specs.declared.command.Command.{Command};
 ghost use Rattle.model.specs.Replies.{IsReplyTo};
 ghost use Rattle.model.specs.States.{State};
-ghost use Rattle.dispatch.specs.OpenFiles.{HasRoomToMove};
 ghost use Rattle.dispatch.specs.Preparing.{CanCarryOut, IsPreparedAt, PreparesOn, only_looks};
 ghost use Rattle.system.specs.Serving.{ServesState};
 ghost use Rattle.dispatch.specs.Serving.{Handles, HandlesAt, IsAccepted};
@@ -14,7 +13,8 @@ ghost use Rattle.system.specs.Systems.{disk_of, system_parts};
 
 use crate::prepared_call::{PreparedCall, PreparedChange};
 use crate::preparing::prepare_call;
-use crate::serving::answer;
+use crate::serving::{answer, called};
+use buffers::BlockError;
 use model::{Command, Reply};
 use records::Failure;
 use station::Station;
@@ -49,14 +49,14 @@ pub(crate) fn change<S: Station>(
             system.plan();
             match prepare(system, call) {
                 Ok(prepared) => carry_out(system, prepared),
-                Err(failure) => answer(Err(failure)),
+                Err(failure) => called(answer(Err(failure))),
             }
         }
-        Err(failure) => answer(Err(failure)),
+        Err(failure) => called(answer(Err(failure))),
     }
 }
 
-// Prepares a call.
+// Prepares a call, with room for what it opens.
 pub(crate) fn prepare<'a, S: Station>(
     system: &mut System<S>,
     call: &'a Command<'_>,
@@ -64,44 +64,26 @@ pub(crate) fn prepare<'a, S: Station>(
     requires { IsFalse (only_looks call.now) }
     ensures { PreparesOn system.old system.new call.now result }
 {
-    prepare_call(
+    let prepared = prepare_call(
         system.alloc,
         &mut system.inodes,
         &mut system.blocks,
         &system.files,
         call,
-    )
+    )?;
+    match prepared.table.make_room(&mut system.files) {
+        Ok(()) => Ok(prepared),
+        Err(_) => Err(Failure::Read(BlockError::NoMemory)),
+    }
 }
 
-// Does what is prepared for a call, or nothing for want of memory for what it opens.
+// Does what is prepared for a call: logs its record, if it has one, and puts it in force; and
+// then moves the table of open files.
 fn carry_out<S: Station>(
     system: &mut System<S>,
     prepared: PreparedCall<'_>,
 ) -> Result<Reply, CallError>
     requires { CanCarryOut (system_parts system.old) prepared }
-    ensures frame { (call : Command) → IsReplyTo call prepared.entry.reply
-        → IsAccepted prepared.entry.reply
-        → Handles system.old system.new call result }
-    ensures told { (call : Command) (s : State) (served : ServesState system.old s)
-        → IsPreparedAt (system_parts system.old) (blocks_of (disk_of system.old)) served.running call
-        prepared.entry → HandlesAt system.old system.new s served call result }
-    ensures quiet { prepared.entry.change ≡ None → system.new.log ≡ system.old.log }
-{
-    served_states_open(system);
-    match prepared.table.make_room(&mut system.files) {
-        Ok(()) => put_in_force(system, prepared),
-        Err(_) => Err(CallError::NoMemory),
-    }
-}
-
-// Does what is prepared for a call: logs its record, if it has one, and puts it in force; and
-// then moves the table of open files, which has room for it.
-fn put_in_force<S: Station>(
-    system: &mut System<S>,
-    prepared: PreparedCall<'_>,
-) -> Result<Reply, CallError>
-    requires can { CanCarryOut (system_parts system.old) prepared }
-    requires room { HasRoomToMove system.old.files prepared.table }
     ensures frame { (call : Command) → IsReplyTo call prepared.entry.reply
         → IsAccepted prepared.entry.reply
         → Handles system.old system.new call result }

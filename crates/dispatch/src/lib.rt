@@ -1,5 +1,5 @@
 //! Calls, served on a mounted system: each is answered from the image in memory, or prepared, logged
-//! and put in force.
+//! and put in force; or put in force while its record waits.
 #![tactic(auto)]
 
 mod changing;
@@ -15,5 +15,4 @@ mod snapshot_reading;
 mod table_move;
 mod waiting;
 
-pub use serving::call;
-pub use waiting::change_waiting;
+pub use serving::{call, call_waiting};

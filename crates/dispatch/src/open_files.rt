@@ -1,15 +1,16 @@
 //! Calls on descriptors that log nothing, served on a mounted system.
 
 ghost use Rattle.std.specs.Prelude.{IsTrue, Ok};
+ghost use Rattle.dispatch.specs.Answering.{Answers};
 ghost use Rattle.dispatch.specs.OpenFiles.{is_looking_call, is_table_call};
-ghost use Rattle.dispatch.specs.Serving.{Answers};
 
 use crate::open_file_reading::{answer_from_table, read_open_file};
 use crate::serving::answer;
+use buffers::BlockError;
 use files::{close, named_files_have_paths, prepare_close};
 use model::{Command, Reply};
 use station::Station;
-use system::{CallError, System, call_error, records_lead_on, served_states_open};
+use system::{System, records_lead_on};
 
 /// Answers a call that looks at the table of open files alone: no memory is taken, and no
 /// device is called.
@@ -17,7 +18,6 @@ pub(crate) fn answer_at_once<S: Station>(system: &mut System<S>, call: &Command<
     requires { IsTrue (is_table_call call.now) }
     ensures { Answers system.old system.new call.now (Ok result) }
 {
-    served_states_open(system);
     answer_from_table(&mut system.files, call)
 }
 
@@ -25,11 +25,10 @@ pub(crate) fn answer_at_once<S: Station>(system: &mut System<S>, call: &Command<
 pub(crate) fn look_at_open_file<S: Station>(
     system: &mut System<S>,
     call: &Command<'_>,
-) -> Result<Reply, CallError>
+) -> Result<Reply, BlockError>
     requires { IsTrue (is_looking_call call.now) }
     ensures { Answers system.old system.new call.now result }
 {
-    served_states_open(system);
     let outcome = read_open_file(
         system.alloc,
         &mut system.inodes,
@@ -42,10 +41,9 @@ pub(crate) fn look_at_open_file<S: Station>(
 
 /// Frees a descriptor. A file that it leaves with neither name nor descriptor goes from memory;
 /// the image keeps it until the next consistency point.
-pub(crate) fn close_file<S: Station>(system: &mut System<S>, fd: u32) -> Result<Reply, CallError>
+pub(crate) fn close_file<S: Station>(system: &mut System<S>, fd: u32) -> Result<Reply, BlockError>
     ensures { Answers system.old system.new (Command.Close fd) result }
 {
-    served_states_open(system);
     records_lead_on();
     named_files_have_paths();
     match prepare_close(
@@ -59,6 +57,6 @@ pub(crate) fn close_file<S: Station>(system: &mut System<S>, fd: u32) -> Result<
             Ok(()) => Ok(Reply::Done),
             Err(errno) => Ok(Reply::Refused(errno)),
         },
-        Err(error) => Err(call_error(error)),
+        Err(error) => Err(error),
     }
 }

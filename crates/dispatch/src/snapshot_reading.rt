@@ -11,8 +11,8 @@ ghost use Rattle.buffers.specs.Reads.{ReadsBlocks};
 ghost use Rattle.buffers.specs.Errors.{IsFault};
 ghost use Rattle.records.specs.Failures.{read_outcome};
 ghost use Rattle.calls.specs.Refusals.{is_path_refusal};
-ghost use Rattle.dispatch.specs.Answering.{answered_reply};
-ghost use Rattle.dispatch.specs.Serving.{Answers, TellsNoFault};
+ghost use Rattle.dispatch.specs.Answering.{Answers, answered_reply};
+ghost use Rattle.dispatch.specs.Serving.{TellsNoFault};
 ghost use Rattle.system.specs.Views.{OnShown, OnSnapshots, ShowsSnapshot};
 
 use crate::reading::{is_reading, read};
@@ -25,7 +25,7 @@ use records::Failure;
 use snapshots::{find, names};
 use station::Station;
 use std::alloc::Global;
-use system::{CallError, System, View, call_error, keep_view, served_states_open};
+use system::{System, View, keep_view};
 
 /// The refusal of a call that would change something on the tree of a snapshot: NOSNAP where no
 /// snapshot has this name, and else EROFS.
@@ -95,10 +95,9 @@ pub(crate) fn look_within<S: Station>(
     system: &mut System<S>,
     name: &Bytes<'_>,
     call: &PathCall<'_>,
-) -> Result<Reply, CallError>
+) -> Result<Reply, BlockError>
     ensures { Answers system.old system.new (Command.Within name.now call.now) result }
 {
-    served_states_open(system);
     let outcome = read_within(
         system.alloc,
         &mut system.blocks,
@@ -111,12 +110,11 @@ pub(crate) fn look_within<S: Station>(
 }
 
 /// Lists the names of the snapshots, oldest first.
-pub(crate) fn list_snapshots<S: Station>(system: &mut System<S>) -> Result<Reply, CallError>
+pub(crate) fn list_snapshots<S: Station>(system: &mut System<S>) -> Result<Reply, BlockError>
     ensures { Answers system.old system.new Command.SnapList result }
 {
-    served_states_open(system);
     match names(system.alloc, &mut system.blocks, &system.root) {
         Ok(names) => Ok(Reply::Snaps(names)),
-        Err(error) => Err(call_error(error)),
+        Err(error) => Err(error),
     }
 }

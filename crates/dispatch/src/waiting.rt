@@ -1,22 +1,21 @@
 //! Calls that change something in memory, while their records wait.
 
 ghost use Rattle.std.specs.Prelude.{IsFalse};
-ghost use Rattle.dispatch.specs.OpenFiles.{HasRoomToMove};
 ghost use Rattle.dispatch.specs.Preparing.{CanCarryOut, only_looks};
 ghost use Rattle.dispatch.specs.Waiting.{CarriesBehind, WaitsBehind};
 ghost use Rattle.system.specs.Systems.{system_parts};
 
 use crate::changing::prepare;
 use crate::prepared_call::{PreparedCall, PreparedChange};
+use crate::serving::{answer, waited};
 use model::{Command, Reply};
-use records::Failure;
 use station::Station;
-use system::{System, WaitError, WaitingRecords, wait_error};
+use system::{System, WaitError, WaitingRecords};
 
 /// Serves a call that may log a record, on a system whose records wait: answers it where nothing
 /// changes by it, or else puts it in force in memory, and its record waits behind those that do.
 /// Nothing is written. Where it can't wait, and after any other error, nothing has changed.
-pub fn change_waiting<S: Station>(
+pub(crate) fn change_waiting<S: Station>(
     system: &mut System<S>,
     waiting: &mut WaitingRecords,
     call: &Command<'_>,
@@ -26,35 +25,18 @@ pub fn change_waiting<S: Station>(
 {
     match prepare(system, call) {
         Ok(prepared) => carry_out_waiting(system, waiting, prepared),
-        Err(Failure::Refused(errno)) => Ok(Reply::Refused(errno)),
-        Err(Failure::Read(error)) => Err(wait_error(error)),
+        Err(failure) => waited(answer(Err(failure))),
     }
 }
 
-// Does what is prepared for a call, or nothing for want of memory for what it opens.
+// Does what is prepared for a call: puts its change in force, if it has one, whose record waits; and
+// then moves the table of open files.
 fn carry_out_waiting<S: Station>(
     system: &mut System<S>,
     waiting: &mut WaitingRecords,
     prepared: PreparedCall<'_>,
 ) -> Result<Reply, WaitError>
     requires { CanCarryOut (system_parts system.old) prepared }
-    ensures { CarriesBehind system.old system.new waiting.old waiting.new prepared.entry result }
-{
-    match prepared.table.make_room(&mut system.files) {
-        Ok(()) => put_in_force_waiting(system, waiting, prepared),
-        Err(_) => Err(WaitError::NoMemory),
-    }
-}
-
-// Does what is prepared for a call: puts its change in force, if it has one, whose record waits; and
-// then moves the table of open files, which has room for it.
-fn put_in_force_waiting<S: Station>(
-    system: &mut System<S>,
-    waiting: &mut WaitingRecords,
-    prepared: PreparedCall<'_>,
-) -> Result<Reply, WaitError>
-    requires can { CanCarryOut (system_parts system.old) prepared }
-    requires room { HasRoomToMove system.old.files prepared.table }
     ensures { CarriesBehind system.old system.new waiting.old waiting.new prepared.entry result }
 {
     let PreparedCall {

@@ -3,9 +3,10 @@ use Rattle.std.specs.Prelude.{is_some, not}
 use Rattle.model.specs.States.{State}
 use Rattle.system.specs.Serving.{ServesState}
 use Rattle.dispatch.specs.declared.prepared_call.PreparedChange.{PreparedChange}
-use Rattle.dispatch.proofs.FulfilLaws.{answered_fulfils, done_anew, done_never, done_now, done_sliced, refused_anew, refused_on}
+use Rattle.dispatch.proofs.FulfilLaws.{answered_fulfils, done_anew, done_never, done_now, done_sliced, refused_anew}
 use Rattle.system.proofs.GoingOnLaws.{none_pending}
 use Rattle.dispatch.proofs.OpenFileLaws.{changing_not_sure}
+use Rattle.dispatch.proofs.PreparedLaws.{refused_on}
 use Rattle.system.proofs.SystemLaws.{all_open}
 use Rattle.dispatch.proofs.changing.change.Goals as goal
 
@@ -81,14 +82,15 @@ returns-in-Ok g c =
     let next = c.plan.new.self in
     let now = c.prepare-in-Ok.new.system in
     let opens_then = λ (s : State) (served : ServesState {G = g.S.Station} next s). all_open served next.sectors next.half c.cuts_open.ensures in
-    refused_anew {G = g.S.Station} f call (changing_not_sure {G = g.S.Station} f call c.requires) (λ s served. all_open served f.sectors f.half c.cuts_open.ensures) c.in-Ok.ensures next tt
+    rw (c.called.ensures, c.answer.ensures)
+    (refused_anew {G = g.S.Station} f call (changing_not_sure {G = g.S.Station} f call c.requires) (λ s served. all_open served f.sectors f.half c.cuts_open.ensures) c.in-Ok.ensures next tt
     (c.is_plan_due.ensures.0 c.if-not-is_plan_due.false) c.plan.ensures (λ s served. g.met.S.Station.seen_may_be_left mid.blocks.buffers.station served.honest) opens_then now _
-    (refused_on {G = g.S.Station} next now call opens_then (changing_not_sure {G = g.S.Station} next call c.requires) c.in-Err-prepare.failure c.in-Err-prepare.ensures _ c.answer.ensures)
+    (refused_on {G = g.S.Station} next now call (changing_not_sure {G = g.S.Station} next call c.requires) c.in-Err-prepare.failure c.in-Err-prepare.ensures))
 
 pub returns : goal.returns
 returns g c =
     let f = c.args.system.now in
     let call = c.args.call.now in
-    let opens = λ (s : State) (served : ServesState {G = g.S.Station} f s). all_open served f.sectors f.half c.cuts_open.ensures in
-    answered_fulfils {G = g.S.Station} f c.prepare.new.system call opens _
-    (refused_on {G = g.S.Station} f c.prepare.new.system call opens (changing_not_sure {G = g.S.Station} f call c.requires) c.in-Err.failure c.in-Err.ensures _ c.answer-in-Err.ensures)
+    rw (c.called-in-Err.ensures, c.answer-in-Err.ensures)
+    (answered_fulfils {G = g.S.Station} f c.prepare.new.system call (λ s served. all_open served f.sectors f.half c.cuts_open.ensures) _
+    (refused_on {G = g.S.Station} f c.prepare.new.system call (changing_not_sure {G = g.S.Station} f call c.requires) c.in-Err.failure c.in-Err.ensures))

@@ -1,7 +1,7 @@
 use Rattle.std.proofs.Common.{rules, ℤ, subst, w64}
 use Rattle.std.proofs.lemmas.Int.{to_z-of_z}
 use Rattle.model.specs.declared.command.Command.TheVariants as command
-use Rattle.dispatch.specs.Serving.{Answers}
+use Rattle.dispatch.specs.Answering.{Answers}
 use Rattle.dispatch.proofs.serving.look.Goals as goal
 
 pub returns-in-SnapList : goal.returns-in-SnapList
