@@ -84,7 +84,7 @@ pub allowed_by : (s : State) (command : Command) (c : Circumstances) (reply : Re
 allowed_by s command c reply t is = answered_going command s.inodes s.tree s.snapshots c s.mark reply t is
 
 -- so it stands behind reads of which some may have failed
-after_reads : (a b n : ℕ) (s : State) (command : Command) (c : Circumstances) (reply : Reply) (t : State) → MayGrow a b → MayGrow b n → TellsOfFault c.read_failed b n → Allowed c s command reply t
+pub after_reads : (a b n : ℕ) (s : State) (command : Command) (c : Circumstances) (reply : Reply) (t : State) → MayGrow a b → MayGrow b n → TellsOfFault c.read_failed b n → Allowed c s command reply t
     → (read : Bool) × TellsOfFault read a n × Allowed (record c { read_failed = read }) s command reply t
 after_reads a b n s command c reply t (inl same) later told allowed = (c.read_failed, subst (λ (k : ℕ). TellsOfFault c.read_failed k n) same told, allowed)
 after_reads a b n s command c reply t (inr grown) later told allowed =

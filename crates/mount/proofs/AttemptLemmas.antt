@@ -51,7 +51,7 @@ use Rattle.mount.proofs.OrphanLemmas.{orphans_kept, orphans_of, orphans_told}
 use Rattle.mount.proofs.StationLemmas.{told}
 
 -- what came in the way
-abbrev came : Bool → Bool → Bool → Room → Circumstances
+abbrev pub came : Bool → Bool → Bool → Room → Circumstances
 came read write memory room =
     record { read_failed = read; write_failed = write; memory_refused = memory; room = room }
 
@@ -75,7 +75,7 @@ not_done : {X : Type 0} (errno : Errno) → Refused errno ≡ Done → X
 not_done errno is = cc
 
 -- a call that was done, be it sure or not
-allowed_call : (s : State) (c : Command) (read : Bool) (room : Room) (reply : Reply) (t : State) → s.mark ≡ going → IsCall c → IsSure s c ⊎ ¬ IsSure s c
+pub allowed_call : (s : State) (c : Command) (read : Bool) (room : Room) (reply : Reply) (t : State) → s.mark ≡ going → IsCall c → IsSure s c ⊎ ¬ IsSure s c
     → IsDone (came read false false room) s c reply t → Allowed (came read false false room) s c reply t
 allowed_call s c read room reply t is is_call (inl sure) done = allowed_surely s c (came read false false room) reply t is sure refl done
 allowed_call s c read room reply t is is_call (inr not_sure) done =

@@ -9,4 +9,9 @@ mod LogLemmas
 mod AnswerLemmas
 mod PointLemmas
 mod RunLemmas
+mod BatchLemmas
+mod BatchSpans
+mod WaitingLemmas
+mod WaitLemmas
+mod CommitLemmas
 mod ReplyLemmas

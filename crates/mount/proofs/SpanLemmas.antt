@@ -44,7 +44,7 @@ stands_before s command new is = elim (cases_mark new.mark) [
   | inr then ↦ (stands_failed s command new s is then).1 (inl refl)
 ]
 
-under_way_now : (s : State) (steps : List (Command × Reply)) → IsUnderWay s steps s
+pub under_way_now : (s : State) (steps : List (Command × Reply)) → IsUnderWay s steps s
 under_way_now s [] = refl
 under_way_now s (step ∷ steps) = inl refl
 
@@ -58,14 +58,14 @@ module _ {Images : Type 0} (left_at : ℕ → Images → Type 0) (Opens : Images
   pub leaves_failed : (s : State) (a b : ℕ) (P : State → Type 0) → s.mark ≡ failed → LeavesOf left_at Opens s a b P ↔ LeavesNoMore left_at Opens a b
   leaves_failed s a b P is = (λ leaves. subst (λ (m : Mark). leaves_by m a b P) is leaves, λ more. subst (λ (m : Mark). leaves_by m a b P) (sym is) more)
 
-  no_more_twice : (a m b : ℕ) → a ≤ m → LeavesNoMore left_at Opens a m → LeavesNoMore left_at Opens m b → LeavesNoMore left_at Opens a b
+  pub no_more_twice : (a m b : ℕ) → a ≤ m → LeavesNoMore left_at Opens a m → LeavesNoMore left_at Opens m b → LeavesNoMore left_at Opens a b
   no_more_twice a m b low first second t c from to left = elim (cases_lt m t) [
     | inl late ↦ first m c low (omega arith) (second t c (omega arith) to left)
     | inr early ↦ first t c from early left
   ]
 
 module _ {System : Type 0} (state_of : System → State) (Between : System → Command → System → Circumstances → Type 0) where
-  stays_failed : (f next : System) (step : Command × Reply) → Leads state_of Between f step next → (state_of f).mark ≡ failed → (state_of next).mark ≡ failed
+  pub stays_failed : (f next : System) (step : Command × Reply) → Leads state_of Between f step next → (state_of f).mark ≡ failed → (state_of next).mark ≡ failed
   stays_failed f next step leads is =
       let s = state_of f in failed_stays leads.circumstances s.inodes s.tree s.snapshots s.mark step.0 step.1 (state_of next) is leads.allowed
 
@@ -83,11 +83,11 @@ module _ {System : Type 0} (state_of : System → State) (Between : System → C
   }
 
   -- no command was answered
-  prefix_first : (f : System) (steps : List (Command × Reply)) (t : State) → (state_of f).mark ≡ going → IsUnderWay (state_of f) steps t → IsPrefix state_of Between f steps t
+  pub prefix_first : (f : System) (steps : List (Command × Reply)) (t : State) → (state_of f).mark ≡ going → IsUnderWay (state_of f) steps t → IsPrefix state_of Between f steps t
   prefix_first f steps t goes_on is = record { answered = []; rest = steps; parts = refl; now = f; ran = refl; goes_on = goes_on; leaves = is }
 
   -- what may stand while the first command is under way
-  stands_prefix : (f next : System) (step : Command × Reply) (steps : List (Command × Reply)) (t : State) → Leads state_of Between f step next → (state_of f).mark ≡ going
+  pub stands_prefix : (f next : System) (step : Command × Reply) (steps : List (Command × Reply)) (t : State) → Leads state_of Between f step next → (state_of f).mark ≡ going
       → MayStand (state_of f) step.0 (state_of next) t → IsPrefix state_of Between f (step ∷ steps) t
   stands_prefix f next step steps t leads is stands =
       let s = state_of f in
@@ -170,7 +170,7 @@ module _ {System : Type 0} (state_of : System → State) (Between : System → C
   -- the same moments as they are told later
   module _ {Images : Type 0} (moment_of : System → ℕ) (old_left new_left : ℕ → Images → Type 0) (OldOpens NewOpens : Images → State → Type 0) (now : ℕ)
       (kept : (t : ℕ) (c : Images) → t ≤ now → new_left t c ↔ old_left t c) (opens : (c : Images) (s : State) → OldOpens c s → NewOpens c s) where
-    leaves_later : (s : State) (a b : ℕ) (P : State → Type 0) → a ≤ b → b ≤ now → LeavesOf old_left OldOpens s a b P → LeavesOf new_left NewOpens s a b P
+    pub leaves_later : (s : State) (a b : ℕ) (P : State → Type 0) → a ≤ b → b ≤ now → LeavesOf old_left OldOpens s a b P → LeavesOf new_left NewOpens s a b P
     leaves_later s a b P order past leaves = elim (cases_mark s.mark) [
       | inl is ↦ (leaves_going new_left NewOpens s a b P is).1 (λ t c from to left.
           let there = (leaves_going old_left OldOpens s a b P is).0 leaves t c from to ((kept t c (omega arith)).0 left) in

@@ -1,12 +1,16 @@
 -- What the errors of a system are to who gave the command.
-use Rattle.std.specs.Prelude.{Bool, true, false}
+use Rattle.std.specs.Prelude.{Bool, true, false, Option, Some, None}
 use Rattle.conspoint.specs.declared.error.PlanError.TheVariants as plan
 use Rattle.model.specs.declared.errno.Errno.{Errno}
 use Rattle.model.specs.declared.errno.Errno.TheVariants.{DAMAGED, EIO, ENOMEM, ENOSPC, FAILED}
+use Rattle.model.specs.declared.reply.Reply.{Reply}
+use Rattle.model.specs.declared.reply.Reply.TheVariants.{Refused}
 use Rattle.system.specs.declared.error.CallError.{CallError}
 use Rattle.system.specs.declared.error.CallError.TheVariants as call
 use Rattle.system.specs.declared.error.PointError.{PointError}
 use Rattle.system.specs.declared.error.PointError.TheVariants as point
+use Rattle.system.specs.declared.error.WaitError.{WaitError}
+use Rattle.system.specs.declared.error.WaitError.TheVariants as wait
 
 -- of a call
 abbrev pub errno_of_call : CallError → Errno
@@ -16,6 +20,13 @@ errno_of_call call.Damaged = DAMAGED
 errno_of_call call.NoRoom = ENOSPC
 errno_of_call call.LogFull = DAMAGED
 errno_of_call call.NotWritten = EIO
+
+-- the reply to a call that was to wait, and wasn't done; none where it can't wait
+abbrev pub refusal_of_wait : WaitError → Option Reply
+refusal_of_wait wait.NoMemory = Some (Refused ENOMEM)
+refusal_of_wait wait.NotRead = Some (Refused EIO)
+refusal_of_wait wait.Damaged = Some (Refused DAMAGED)
+refusal_of_wait e = None
 
 -- of a consistency point
 abbrev pub errno_of_point : PointError → Errno

@@ -4,6 +4,8 @@
 //! station, and the law `cut_opens_to_prefix` joins them.
 #![tactic(auto)]
 
+mod batches;
+mod committing;
 mod fs;
 mod image;
 mod mounting;
@@ -13,9 +15,11 @@ mod path_calls;
 mod prefix;
 mod refusals;
 mod replies;
+mod waiting;
 mod whole_image;
 mod within_snapshots;
 
+pub use batches::cut_opens_to_batches;
 pub use file_system::path_from;
 pub use fs::{Fs, POINTS};
 pub use image::make;
@@ -23,3 +27,4 @@ pub use making::MakeError;
 pub use mounting::mount;
 pub use prefix::cut_opens_to_prefix;
 pub use system::{MountError, Space};
+pub use waiting::Waiting;

@@ -6,7 +6,7 @@ ghost use Rattle.model.specs.States.{State, going};
 ghost use Rattle.model.specs.Trees.{IsUsed};
 ghost use Rattle.mount.specs.Systems.{Serves, mounted};
 
-use crate::Fs;
+use crate::{Fs, Waiting};
 use model::FIRST_NUMBER;
 use station::Station;
 
@@ -44,5 +44,43 @@ impl<S: Station> Fs<S> {
             → MatchOption result (HasNoFresh s.inodes s.tree) (IsFresh s.inodes s.tree) }
     {
         self.system.next_number()
+    }
+}
+
+/// The same of a file system whose commands may wait: by the state that it shows.
+impl<S: Station> Waiting<S> {
+    ghost use Rattle.mount.specs.Batching.{Shows};
+
+    /// Whether a device write failed, after which every command answers FAILED.
+    pub fn has_failed(&self) -> bool
+        ensures { result ≡ self.now.fs.has_failed }
+    {
+        self.fs.has_failed
+    }
+
+    /// How many inodes the image has, with no device call: each number of an object is below.
+    pub fn count_inodes(&self) -> u32
+        ensures { (s kept : State) → Shows self.now s kept → result ≡ s.inodes }
+    {
+        self.fs.system.count_inodes()
+    }
+
+    /// Whether an object has a number, from the first one on that a new object may get, with no
+    /// device call.
+    pub fn is_used(&self, number: u32) -> bool
+        requires { FIRST_NUMBER ≤ number }
+        ensures { (s kept : State) → Shows self.now s kept → IsTrue result ↔ IsUsed s.tree number }
+    {
+        self.fs.system.is_used(number)
+    }
+
+    /// The number that the next new object gets, the least one that none has; None where all are
+    /// taken. No device is called.
+    pub fn next_number(&self) -> Option<u32>
+        ensures low { IfSome result (λ n. FIRST_NUMBER ≤ n) }
+        ensures fresh { (s kept : State) → Shows self.now s kept
+            → MatchOption result (HasNoFresh s.inodes s.tree) (IsFresh s.inodes s.tree) }
+    {
+        self.fs.system.next_number()
     }
 }

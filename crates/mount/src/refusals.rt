@@ -4,8 +4,8 @@ ghost use Rattle.std.specs.Prelude.{◌≡◌};
 ghost use Rattle.mount.specs.Refusals as refusals;
 
 use conspoint::PlanError;
-use model::Errno;
-use system::{CallError, PointError};
+use model::{Errno, Reply};
+use system::{CallError, PointError, WaitError};
 
 /// Of a call. Behind a consistency point the log is empty and a record fits, so `LogFull` comes
 /// then only over images that open to no state.
@@ -17,6 +17,18 @@ pub(crate) fn errno_of_call(error: CallError) -> Errno
         CallError::NotRead | CallError::NotWritten => Errno::EIO,
         CallError::NoRoom => Errno::ENOSPC,
         CallError::Damaged | CallError::LogFull => Errno::DAMAGED,
+    }
+}
+
+/// The reply to a call that was to wait, and wasn't done: None where it can't wait.
+pub(crate) fn refusal_of_wait(error: WaitError) -> Option<Reply>
+    ensures { result ≡ refusals.refusal_of_wait error }
+{
+    match error {
+        WaitError::NoMemory => Some(Reply::Refused(Errno::ENOMEM)),
+        WaitError::NotRead => Some(Reply::Refused(Errno::EIO)),
+        WaitError::Damaged => Some(Reply::Refused(Errno::DAMAGED)),
+        WaitError::PlanDue | WaitError::NoRoom | WaitError::LogFull => None,
     }
 }
 
