@@ -1,5 +1,5 @@
 -- What comes before a call is done: steps of a consistency point, and what is prepared.
-use Rattle.std.proofs.Common.{◌≡◌, ◌≢◌, Bool, true, false, ℕ, ◌+◌, ◌++◌, List, [], ◌∷◌, Ok, Option, Some, None, refl, ap, sym, subst, ◌∙◌, append_assoc, if◌then◌else◌, arith}
+use Rattle.std.proofs.Common.{◌≡◌, ◌≢◌, Bool, true, false, ℕ, ◌++◌, List, [], ◌∷◌, Ok, Option, Some, None, refl, ap, sym, subst, ◌∙◌, append_assoc, if◌then◌else◌, arith}
 use Rattle.station.specs.Moments.{HasGrown, LeavesOnly, MayLeave, Meaning}
 use Rattle.station.specs.declared.station.Station.{Ghosts}
 use Rattle.station.proofs.Calls.{uses_twice}

@@ -55,7 +55,8 @@ waited (Err e) = Err (wait_error e)
 
 -- A call that logs nothing was answered so at a state that a system shows, which then shows the
 -- next.
-pub record IsAnswered {S : Type 0} {G : Ghosts S} (old new : System S G) {s : State} (shown : ShowsState old s) (call : Command) (reply : Reply) : Type 0 where
+pub record IsAnswered {S : Type 0} {G : Ghosts S} (old new : System S G) {s : State}
+    (shown : ShowsState old s) (call : Command) (reply : Reply) : Type 0 where
   pub next : State
   pub step : WouldCallOn new s call reply next nothing
   pub shows : ShowsNext old new shown next
@@ -63,7 +64,8 @@ pub record IsAnswered {S : Type 0} {G : Ghosts S} (old new : System S G) {s : St
 -- What a call does to a system that logs nothing: blocks are read, another view of a snapshot may
 -- be kept, and memory and the open files may change. What the system shows stays where the call
 -- isn't answered. A sure one is, as is one that takes nothing, whatever the images hold.
-pub record Answers {S : Type 0} {G : Ghosts S} (old new : System S G) (call : Command) (result : Result Reply BlockError) : Type 0 where
+pub record Answers {S : Type 0} {G : Ghosts S} (old new : System S G) (call : Command)
+    (result : Result Reply BlockError) : Type 0 where
   pub parts : system_parts new ≡ record (system_parts old) {
     kept = new.blocks.buffers.kept;
     pending = new.blocks.pending;

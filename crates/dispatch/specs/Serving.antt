@@ -1,5 +1,5 @@
 -- What calls do to a system.
-use Rattle.std.specs.Prelude.{ℕ, ◌≡◌, ◌+◌, ◌≢◌, ◌∷◌, ◌++◌, List, [], Bool, IsFalse, IsTrue, Result, Ok, IfOk, IfErr, IsErrOf, MatchResult}
+use Rattle.std.specs.Prelude.{ℕ, ◌≡◌, ◌≢◌, ◌∷◌, ◌++◌, List, [], Bool, IsFalse, IsTrue, Result, Ok, IfOk, IfErr, IsErrOf, MatchResult}
 use Rattle.station.specs.Images.{Unchanged}
 use Rattle.station.specs.Moments.{Goes}
 use Rattle.station.specs.declared.station.Station.{Ghosts}

@@ -22,7 +22,8 @@ use Rattle.system.specs.declared.system.System.{System}
 -- Blocks read as the disk under its root, which has these snapshots; over it memory stands for the
 -- running volume; and the view that is kept is of a snapshot. The open files are the state's, each
 -- with its size and its links.
-pub record IsShowing (m : Meaning) (k : Parts) (table : ℕ → Option Description) (s : State) : Type 0 where
+pub record IsShowing (m : Meaning) (k : Parts) (table : ℕ → Option Description)
+    (s : State) : Type 0 where
   pub honest : m.is_honest
   pub shows : ShowsOver m k.kept k.pending (blocks_of (disk_over k m.seen.disk))
   pub first : Volume
@@ -31,7 +32,8 @@ pub record IsShowing (m : Meaning) (k : Parts) (table : ℕ → Option Descripti
   pub running : Volume
   pub mounted : IsMounted running table
   pub memory : IsInMemory (blocks_of (disk_over k m.seen.disk)) k.root k.inodes running
-  pub view : ShowsSnapshot (blocks_of (disk_over k m.seen.disk)) k.root.geometry.blocks snapshots k.view
+  pub view : ShowsSnapshot (blocks_of (disk_over k m.seen.disk)) k.root.geometry.blocks snapshots
+      k.view
   pub opened : table ≡ table_of k.files
   pub fits : FitsVolume k.files running
   pub state : s ≡ state_with k.root.geometry.inodes running table snapshots
@@ -42,12 +44,15 @@ ShowsState f s = IsShowing (meaning_of f) (system_parts f) s.tree.descriptors s
 
 -- What a system shows once a call looked: the next state, over the same disk. The same records lead
 -- to its volume, and a consistency point stores no more of that.
-pub record ShowsNext {S : Type 0} {G : Ghosts S} (old new : System S G) {s : State} (shown : ShowsState old s) (next : State) : Type 0 where
+pub record ShowsNext {S : Type 0} {G : Ghosts S} (old new : System S G) {s : State}
+    (shown : ShowsState old s) (next : State) : Type 0 where
   pub running : Volume
   pub replays : (last : Volume) → Extends shown.running last → Extends running last
   pub memory : IsInMemory (blocks_of (disk_of old)) old.root new.inodes running
-  pub stored : (first : Volume) → memory_room first new.inodes running ≤ memory_room first old.inodes shown.running
+  pub stored : (first : Volume)
+      → memory_room first new.inodes running ≤ memory_room first old.inodes shown.running
   pub mounted : IsMounted running next.tree.descriptors
   pub opened : next.tree.descriptors ≡ table_of new.files
   pub fits : FitsVolume new.files running
-  pub state : next ≡ state_with old.root.geometry.inodes running next.tree.descriptors shown.snapshots
+  pub state : next
+      ≡ state_with old.root.geometry.inodes running next.tree.descriptors shown.snapshots

@@ -38,8 +38,8 @@ IsOfReading e = (error : BlockError) × (e ≡ wait_error error)
 
 -- A call was done in memory, ahead of what a cut leaves: it is answered so, by what is stored at its
 -- answer, the disk had room for what it needed, and memory stands for the state that it leaves.
-pub record IsDoneAhead {S : Type 0} {G : Ghosts S} (old new : System S G) (before after : Waits) (s kept : State)
-    (call : Command) (reply : Reply) : Type 0 where
+pub record IsDoneAhead {S : Type 0} {G : Ghosts S} (old new : System S G) (before after : Waits)
+    (s kept : State) (call : Command) (reply : Reply) : Type 0 where
   pub next : State
   pub need : Need
   pub step : WouldCallOn new s call reply next need
@@ -56,7 +56,8 @@ DoneAheadOrNot old new before after s kept call result = MatchResult result
 -- made: so a cut leaves what it might have left before. A call that only looks leaves no record, and
 -- tells no other error than of a read; nor does a refused call leave one, or one that can't wait. A
 -- sure call is answered, as is one that takes nothing, whatever the images hold.
-pub record WaitsBehind {S : Type 0} {G : Ghosts S} (old new : System S G) (before after : Waits) (call : Command) (result : Result Reply WaitError) : Type 0 where
+pub record WaitsBehind {S : Type 0} {G : Ghosts S} (old new : System S G) (before after : Waits)
+    (call : Command) (result : Result Reply WaitError) : Type 0 where
   pub reads : ReadsOn (meaning_of old) (meaning_of new)
   pub counted : OnOk result ((meaning_of new).failed_reads ≡ (meaning_of old).failed_reads)
   pub fault : IsErrOf result NotRead → HasGrown (meaning_of old).failed_reads (meaning_of new).failed_reads
@@ -77,10 +78,11 @@ pub record WaitsBehind {S : Type 0} {G : Ghosts S} (old new : System S G) (befor
   pub half : FitsHalf old.log before.batch → FitsHalf new.log after.batch
   pub at : (s kept : State) → HasStateAhead old before s.tree.descriptors s kept
       → DoneAheadOrNot old new before after s kept call result
-  pub sure : (s kept : State) → HasStateAhead old before s.tree.descriptors s kept → MatchResult result
-      (λ _. IsSureOn old new s call ⊎ ¬ IsSure s call) (λ _. ¬ IsSure s call)
+  pub sure : (s kept : State) → HasStateAhead old before s.tree.descriptors s kept
+      → MatchResult result (λ _. IsSureOn old new s call ⊎ ¬ IsSure s call) (λ _. ¬ IsSure s call)
   pub at_once : IsAtOnce old.files call → MatchResult result (AnswersAtOnce old new) (λ _. ⊥)
-  pub damaged : (s kept : State) → HasStateAhead old before s.tree.descriptors s kept → IsErrOf result Damaged → ⊥
+  pub damaged : (s kept : State) → HasStateAhead old before s.tree.descriptors s kept
+      → IsErrOf result Damaged → ⊥
 
 -- What doing what is prepared for a call does, where its record may wait.
 pub record CarriesBehind {S : Type 0} {G : Ghosts S} (old new : System S G) (before after : Waits) (prepared : PreparedCall) (result : Result Reply WaitError) : Type 0 where
