@@ -1,5 +1,5 @@
--- What goes of a reply.
-use Rattle.std.specs.Prelude.{ℕ, ◌≡◌, ◌++◌, List, [], Result, Ok, Err}
+-- What goes of a reply, and of a question.
+use Rattle.std.specs.Prelude.{ℕ, ◌≡◌, ◌++◌, Bool, true, false, List, [], Result, Ok, Err}
 use Rattle.channel.specs.declared.channel.Ended.{Ended}
 use Rattle.channel.specs.declared.channel.Sent.{Sent}
 use Rattle.channel.specs.declared.channel.Sent.TheVariants.{Whole, Unwanted}
@@ -10,3 +10,8 @@ abbrev pub Went : List ℕ → Result Sent Ended → List ℕ → Type 0
 Went reply (Ok Whole) part = part ≡ reply
 Went reply (Ok Unwanted) part = part ≡ []
 Went reply (Err ended) part = (rest : List ℕ) × (reply ≡ part ++ rest)
+
+-- what went of a question, by whether the kernel took it: all of it, or a beginning
+abbrev pub Asked : List ℕ → Bool → List ℕ → Type 0
+Asked question true part = part ≡ question
+Asked question false part = (rest : List ℕ) × (question ≡ part ++ rest)

@@ -1,8 +1,8 @@
 //! What a server needs of the kernel's side.
 
 ghost use Rattle.std.specs.Io.KnownBytes.{Appends, Consumes, Keeps};
-ghost use Rattle.std.specs.Prelude.{◌≡◌, ◌<◌, ◌≤◌, ℕ, List, Option, Result, Ok, Err, IfOk, MatchResult, length, take};
-ghost use Rattle.channel.specs.Sending.{Went};
+ghost use Rattle.std.specs.Prelude.{◌≡◌, ◌<◌, ◌≤◌, ℕ, Bool, List, Option, Result, Ok, Err, IfOk, MatchResult, length, take};
+ghost use Rattle.channel.specs.Sending.{Asked, Went};
 ghost use Rattle.channel.specs.declared.channel.Ended.{Ended};
 ghost use Rattle.channel.specs.declared.channel.Sent.{Sent};
 
@@ -40,6 +40,10 @@ pub trait Channel {
     /// Sending a reply leads from one channel to another, and comes to this.
     ghost sends: { Self → Self → List ℕ → Result Sent Ended → Type 0 };
 
+    /// Asking the kernel by a notification leads from one channel to another, and the kernel takes
+    /// it, or doesn't.
+    ghost asks: { Self → Self → List ℕ → Bool → Type 0 };
+
     /// The bytes that are known to come.
     ghost coming: { Self → Option (List ℕ) };
 
@@ -61,6 +65,14 @@ pub trait Channel {
     fn send(&mut self, reply: &[u8]) -> Result<Sent, Ended>
         ensures sends { sends self.old self.new reply.now result }
         ensures goes { (part : List ℕ) × Went reply.now result part
+            × Appends (gone self.old) (gone self.new) part }
+        ensures coming { coming self.new ≡ coming self.old };
+
+    /// Sends a notification by which the kernel is asked for a message behind the requests that wait
+    /// already. Whether the kernel took it: else no such message comes.
+    fn ask(&mut self, question: &[u8]) -> bool
+        ensures asks { asks self.old self.new question.now result }
+        ensures goes { (part : List ℕ) × Asked question.now result part
             × Appends (gone self.old) (gone self.new) part }
         ensures coming { coming self.new ≡ coming self.old };
 }

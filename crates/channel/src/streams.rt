@@ -2,7 +2,7 @@
 
 ghost use Rattle.std.specs.Io.KnownBytes.{Appends, Consumes, Keeps};
 ghost use Rattle.std.specs.Prelude.{◌≡◌, ◌<◌, ◌≤◌, ℕ, List, MatchResult, length};
-ghost use Rattle.channel.specs.Sending.{Went};
+ghost use Rattle.channel.specs.Sending.{Asked, Went};
 
 use crate::{Channel, Ended, Received, Sent};
 use std::io::{Error, Read, Write};
@@ -47,6 +47,9 @@ impl<R: Read, W: Write> Channel for Streams<R, W> {
     ghost sends = { λ s t reply result. (t.input ≡ s.input) × ((part : List ℕ)
         × Went reply result part × Appends (W.contents s.output) (W.contents t.output) part) };
 
+    ghost asks = { λ s t question taken. (t.input ≡ s.input) × ((part : List ℕ)
+        × Asked question taken part × Appends (W.contents s.output) (W.contents t.output) part) };
+
     ghost coming = { λ s. R.remaining s.input };
 
     ghost gone = { λ s. W.contents s.output };
@@ -75,6 +78,14 @@ impl<R: Read, W: Write> Channel for Streams<R, W> {
                 Some(UNMOUNTED) => Err(Ended::Unmounted),
                 _ => Err(Ended::Failed),
             },
+        }
+    }
+
+    fn ask(&mut self, question: &[u8]) -> bool {
+        match self.output.write(question) {
+            Ok(count) if count == question.len() => true,
+            Ok(_) => false,
+            Err(_) => false,
         }
     }
 }

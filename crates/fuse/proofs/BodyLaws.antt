@@ -4,9 +4,9 @@ use Rattle.layout.specs.Format.{num, ◌▸◌}
 use Rattle.layout.proofs.Formats.{IsExact, num_exact, then_exact}
 use Rattle.fuse.proofs.Grammars.{nothing_exact, counting_exact, IsExactGrammar, saying_exact, saying_first_exact, choose_exact}
 use Rattle.fuse.specs.AttributeChanges.{targets_fields, times_fields, rights_fields}
-use Rattle.fuse.specs.Bodies.{forgets_fields, get_attributes_fields, set_attributes_fields, make_node_fields, make_directory_fields, rename_fields, rename_by_flags_fields, link_fields, transfer_fields, release_fields, sync_fields, init_fields, seek_fields, lookup_body, forget_body, get_attributes_body, set_attributes_body, read_link_body, symbolic_link_body, make_node_body, make_directory_body, unlink_body, remove_directory_body, rename_body, link_body, open_body, read_body, write_body, stat_file_system_body, release_body, sync_body, flush_body, init_body, open_directory_body, read_directory_body, release_directory_body, sync_directory_body, access_body, create_body, interrupt_body, destroy_body, batch_forget_body, read_directory_plus_body, rename_by_flags_body, seek_body, other_body, body}
+use Rattle.fuse.specs.Bodies.{forgets_fields, get_attributes_fields, set_attributes_fields, make_node_fields, make_directory_fields, rename_fields, rename_by_flags_fields, link_fields, transfer_fields, release_fields, sync_fields, init_fields, seek_fields, lookup_body, forget_body, get_attributes_body, set_attributes_body, read_link_body, symbolic_link_body, make_node_body, make_directory_body, unlink_body, remove_directory_body, rename_body, link_body, open_body, read_body, write_body, stat_file_system_body, release_body, sync_body, flush_body, init_body, open_directory_body, read_directory_body, release_directory_body, sync_directory_body, access_body, create_body, interrupt_body, destroy_body, batch_forget_body, read_directory_plus_body, rename_by_flags_body, seek_body, retrieved_body, other_body, body}
 use Rattle.fuse.specs.Operation.{other}
-use Rattle.fuse.specs.declared.opcode.TheConstants.{LOOKUP, FORGET, GETATTR, SETATTR, READLINK, SYMLINK, MKNOD, MKDIR, UNLINK, RMDIR, RENAME, LINK, OPEN, READ, WRITE, STATFS, RELEASE, FSYNC, FLUSH, INIT, OPENDIR, READDIR, RELEASEDIR, FSYNCDIR, ACCESS, CREATE, INTERRUPT, DESTROY, BATCH_FORGET, READDIRPLUS, RENAME2, LSEEK}
+use Rattle.fuse.specs.declared.opcode.TheConstants.{LOOKUP, FORGET, GETATTR, SETATTR, READLINK, SYMLINK, MKNOD, MKDIR, UNLINK, RMDIR, RENAME, LINK, OPEN, READ, WRITE, STATFS, RELEASE, FSYNC, FLUSH, INIT, OPENDIR, READDIR, RELEASEDIR, FSYNCDIR, ACCESS, CREATE, INTERRUPT, DESTROY, NOTIFY_REPLY, BATCH_FORGET, READDIRPLUS, RENAME2, LSEEK}
 use Rattle.fuse.proofs.NameLaws.{ended_exact}
 
 two : (a b : ℕ) → IsExact (num a ▸ num b)
@@ -176,6 +176,10 @@ destroy_is_exact : IsExactGrammar destroy_body
 unfolding destroy_body
 destroy_is_exact = saying_exact nothing_exact _
 
+retrieved_is_exact : IsExactGrammar retrieved_body
+unfolding retrieved_body
+retrieved_is_exact = saying_first_exact nothing_exact _
+
 batch_forget_is_exact : IsExactGrammar batch_forget_body
 unfolding batch_forget_body
 batch_forget_is_exact = saying_exact forgets_exact _
@@ -223,8 +227,9 @@ body_exact opcode =
     choose_exact (opcode == CREATE) create_is_exact (
     choose_exact (opcode == INTERRUPT) interrupt_is_exact (
     choose_exact (opcode == DESTROY) destroy_is_exact (
+    choose_exact (opcode == NOTIFY_REPLY) retrieved_is_exact (
     choose_exact (opcode == BATCH_FORGET) batch_forget_is_exact (
     choose_exact (opcode == READDIRPLUS) read_directory_plus_is_exact (
     choose_exact (opcode == RENAME2) rename_by_flags_is_exact (
     choose_exact (opcode == LSEEK) seek_is_exact (
-    other_exact opcode))))))))))))))))))))))))))))))))
+    other_exact opcode)))))))))))))))))))))))))))))))))

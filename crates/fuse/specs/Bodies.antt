@@ -9,8 +9,8 @@ use Rattle.fuse.specs.AttributeChanges.{TargetsFields, TimesFields, RightsFields
 use Rattle.fuse.specs.Flags.{is_set, given}
 use Rattle.fuse.specs.Forgets.{all_forgets}
 use Rattle.fuse.specs.Names.{ended}
-use Rattle.fuse.specs.Operation.{OperationValue, lookup, forget, batch_forget, get_attributes, set_attributes, read_link, symbolic_link, make_node, make_directory, unlink, remove_directory, rename, link, open_file, read, write, stat_file_system, release, sync, flush, init, open_directory, read_directory, read_directory_plus, release_directory, sync_directory, access, create, interrupt, seek, destroy, other}
-use Rattle.fuse.specs.declared.opcode.TheConstants.{LOOKUP, FORGET, GETATTR, SETATTR, READLINK, SYMLINK, MKNOD, MKDIR, UNLINK, RMDIR, RENAME, LINK, OPEN, READ, WRITE, STATFS, RELEASE, FSYNC, FLUSH, INIT, OPENDIR, READDIR, RELEASEDIR, FSYNCDIR, ACCESS, CREATE, INTERRUPT, DESTROY, BATCH_FORGET, READDIRPLUS, RENAME2, LSEEK, GETATTR_FH, FSYNC_FDATASYNC}
+use Rattle.fuse.specs.Operation.{OperationValue, lookup, forget, batch_forget, get_attributes, set_attributes, read_link, symbolic_link, make_node, make_directory, unlink, remove_directory, rename, link, open_file, read, write, stat_file_system, release, sync, flush, init, open_directory, read_directory, read_directory_plus, release_directory, sync_directory, access, create, interrupt, seek, destroy, retrieved, other}
+use Rattle.fuse.specs.declared.opcode.TheConstants.{LOOKUP, FORGET, GETATTR, SETATTR, READLINK, SYMLINK, MKNOD, MKDIR, UNLINK, RMDIR, RENAME, LINK, OPEN, READ, WRITE, STATFS, RELEASE, FSYNC, FLUSH, INIT, OPENDIR, READDIR, RELEASEDIR, FSYNCDIR, ACCESS, CREATE, INTERRUPT, DESTROY, NOTIFY_REPLY, BATCH_FORGET, READDIRPLUS, RENAME2, LSEEK, GETATTR_FH, FSYNC_FDATASYNC}
 
 -- name
 unfoldable pub lookup_body : Grammar OperationValue
@@ -212,6 +212,10 @@ seek_body =
 unfoldable pub destroy_body : Grammar OperationValue
 destroy_body = saying nothing (λ v. destroy)
 
+-- any bytes: what was asked for, which nobody looks at
+unfoldable pub retrieved_body : Grammar OperationValue
+retrieved_body = saying_first nothing (λ v. retrieved)
+
 -- any bytes
 unfoldable pub other_body : ℕ → Grammar OperationValue
 other_body opcode = saying_first nothing (λ v. other opcode)
@@ -247,8 +251,9 @@ body opcode =
     choose (opcode == CREATE) create_body (
     choose (opcode == INTERRUPT) interrupt_body (
     choose (opcode == DESTROY) destroy_body (
+    choose (opcode == NOTIFY_REPLY) retrieved_body (
     choose (opcode == BATCH_FORGET) batch_forget_body (
     choose (opcode == READDIRPLUS) read_directory_plus_body (
     choose (opcode == RENAME2) rename_by_flags_body (
     choose (opcode == LSEEK) seek_body (
-    other_body opcode))))))))))))))))))))))))))))))))
+    other_body opcode)))))))))))))))))))))))))))))))))

@@ -10,4 +10,5 @@ pub mod Bodies
 pub mod Transfers
 pub mod Request
 pub mod Replies
+pub mod Retrieval
 pub mod Directory

@@ -38,6 +38,7 @@ pub data OperationValue : Type 0 where
   interrupt : (unique : ℕ) → OperationValue
   seek : (handle offset whence : ℕ) → OperationValue
   destroy : OperationValue
+  retrieved : OperationValue
   other : (opcode : ℕ) → OperationValue
 
 abbrev pub operation_of : Operation → OperationValue
@@ -76,4 +77,5 @@ operation_of (asked.Create name mode umask flags open_flags) =
 operation_of (asked.Interrupt unique) = interrupt unique
 operation_of (asked.Seek handle offset whence) = seek handle offset whence
 operation_of asked.Destroy = destroy
+operation_of asked.Retrieved = retrieved
 operation_of (asked.Other opcode) = other opcode

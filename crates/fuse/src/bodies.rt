@@ -12,8 +12,9 @@ mod transfers;
 
 use crate::opcode::{
     ACCESS, BATCH_FORGET, CREATE, DESTROY, FLUSH, FORGET, FSYNC, FSYNCDIR, GETATTR, INIT,
-    INTERRUPT, LINK, LOOKUP, LSEEK, MKDIR, MKNOD, OPEN, OPENDIR, READ, READDIR, READDIRPLUS,
-    READLINK, RELEASE, RELEASEDIR, RENAME, RENAME2, RMDIR, SETATTR, STATFS, SYMLINK, UNLINK, WRITE,
+    INTERRUPT, LINK, LOOKUP, LSEEK, MKDIR, MKNOD, NOTIFY_REPLY, OPEN, OPENDIR, READ, READDIR,
+    READDIRPLUS, READLINK, RELEASE, RELEASEDIR, RENAME, RENAME2, RMDIR, SETATTR, STATFS, SYMLINK,
+    UNLINK, WRITE,
 };
 use crate::operation::Operation;
 use handles::{
@@ -26,7 +27,7 @@ use names::{
 };
 use nodes::{
     read_access, read_batch_forget, read_destroy, read_forget, read_get_attributes, read_init,
-    read_interrupt, read_read_link, read_set_attributes, read_stat_file_system,
+    read_interrupt, read_read_link, read_retrieved, read_set_attributes, read_stat_file_system,
 };
 use transfers::{read_read, read_read_directory, read_read_directory_plus, read_write};
 
@@ -64,6 +65,7 @@ pub(crate) fn read_body(opcode: u32, bytes: &[u8]) -> Option<Operation<'_>>
         CREATE => read_create(bytes),
         INTERRUPT => read_interrupt(bytes),
         DESTROY => read_destroy(bytes),
+        NOTIFY_REPLY => read_retrieved(bytes),
         BATCH_FORGET => read_batch_forget(bytes),
         READDIRPLUS => read_read_directory_plus(bytes),
         RENAME2 => read_rename_by_flags(bytes),

@@ -19,6 +19,7 @@ mod open_reply;
 mod operation;
 mod reply;
 mod request;
+mod retrieving;
 mod statfs_reply;
 mod time;
 
@@ -36,14 +37,16 @@ pub use init_reply::{
     HANDLE_KILLPRIV_V2, InitReply, MAJOR_VERSION, MAX_PAGES, MINOR_VERSION, PARALLEL_DIROPS,
     READDIRPLUS_AUTO, write_init,
 };
-pub use opcode::{OPEN_KILL_SUIDGID, WRITE_KILL_SUIDGID};
+pub use opcode::{NOTIFY_REPLY, OPEN_KILL_SUIDGID, WRITE_KILL_SUIDGID};
 pub use open_reply::{
     FOPEN_CACHE_DIR, FOPEN_DIRECT_IO, FOPEN_KEEP_CACHE, OpenReply, write_created, write_open,
 };
 pub use operation::Operation;
 pub use reply::{
-    MOST_ERRNO, REPLY_HEAD_BYTES, write_bytes, write_count, write_done, write_error, write_offset,
+    MOST_ERRNO, REPLY_HEAD_BYTES, error_bytes, write_bytes, write_count, write_done, write_error,
+    write_offset,
 };
 pub use request::{Request, read_request};
+pub use retrieving::{NOTIFY_RETRIEVE, RETRIEVAL_BYTES, retrieval};
 pub use statfs_reply::{StatfsReply, write_statfs};
 pub use time::{Time, Timeout};

@@ -56,6 +56,9 @@ pub const INTERRUPT: u32 = 36;
 
 pub const DESTROY: u32 = 38;
 
+/// What the kernel sends behind a notification, and no request.
+pub const NOTIFY_REPLY: u32 = 41;
+
 pub const BATCH_FORGET: u32 = 42;
 
 pub const READDIRPLUS: u32 = 44;

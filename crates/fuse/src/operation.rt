@@ -163,6 +163,8 @@ pub enum Operation<'a> {
     },
     /// The file system is unmounted.
     Destroy,
+    /// What a `retrieval` asked for: it comes behind all requests that waited then. It has no reply.
+    Retrieved,
     /// Anything else, by its opcode.
     Other {
         opcode: u32,

@@ -13,7 +13,7 @@ pub const REPLY_HEAD_BYTES: usize = 16;
 pub const MOST_ERRNO: u32 = 511;
 
 // The head of a reply of so many bytes, with its error as an unsigned number.
-fn head_bytes(length: u32, error: u32, unique: u64) -> [u8; 16]
+pub(crate) fn head_bytes(length: u32, error: u32, unique: u64) -> [u8; 16]
     ensures { result ≡ head_text length error unique }
 {
     let mut bytes = [0; 16];
@@ -23,16 +23,24 @@ fn head_bytes(length: u32, error: u32, unique: u64) -> [u8; 16]
     bytes
 }
 
-/// Writes the reply that says why a request failed behind what was written. The error is a number
-/// of `errno` as Linux has it. Where memory runs out nothing is written, here as in each `write_..`.
+/// The reply that says why a request failed. The error is a number of `errno` as Linux has it.
+pub fn error_bytes(unique: u64, errno: u32) -> [u8; 16]
+    requires least { 1 ≤ errno }
+    requires most { errno ≤ MOST_ERRNO }
+    ensures { result ≡ error_text unique errno }
+{
+    head_bytes(REPLY_HEAD_BYTES as u32, u32::MAX - errno + 1, unique)
+}
+
+/// Writes the same behind what was written. Where memory runs out nothing is written, here as in
+/// each `write_..`.
 pub fn write_error(out: &mut Vec<u8>, unique: u64, errno: u32) -> Result<(), AllocError>
     requires least { 1 ≤ errno }
     requires most { errno ≤ MOST_ERRNO }
     ensures ok { OnOk result (out.new.items ≡ out.old.items ++ error_text unique errno) }
     ensures err { OnErr result (out.new.items ≡ out.old.items) }
 {
-    let error = u32::MAX - errno + 1;
-    out.extend_from_slice(&head_bytes(REPLY_HEAD_BYTES as u32, error, unique))
+    out.extend_from_slice(&error_bytes(unique, errno))
 }
 
 /// Writes the reply that says that a request is done, and no more.

@@ -1,6 +1,7 @@
 //! Requests, as they are read.
 
-ghost use Rattle.std.specs.Prelude.{◌≡◌, IfSome, IsSomeAnd};
+ghost use Rattle.std.specs.Prelude.{◌≡◌, ℕ, List, Some, IfSome, IsSomeAnd};
+ghost use Rattle.fuse.specs.Head.{fields_of, head};
 ghost use Rattle.fuse.specs.Request.{IsRequest, RequestValue, request_of};
 
 use crate::bodies::read_body;
@@ -19,6 +20,8 @@ pub fn read_request(bytes: &[u8]) -> Option<Request<'_>>
     ensures found { IfSome result (λ r. IsRequest bytes.now (request_of r)) }
     ensures only { (r : RequestValue) → IsRequest bytes.now r
         → IsSomeAnd result (λ q. request_of q ≡ r) }
+    ensures head { IfSome result (λ r. (extra : ℕ) × (rest : List ℕ)
+        × (head.at bytes.now ≡ Some (fields_of r.head extra, rest))) }
 {
     let Some((head, _, body)) = read_head(bytes) else {
         return None;

@@ -6,32 +6,14 @@ use Rattle.model.specs.declared.command.Command.{Command}
 use Rattle.model.specs.declared.reply.Reply.{Reply}
 use Rattle.model.specs.Generations.{GivesNumbers, next_generation}
 use Rattle.model.specs.Outcomes.{HasNoFresh, IsFresh}
-use Rattle.model.specs.States.{State, Mark, going, failed}
+use Rattle.model.specs.States.{State}
 use Rattle.model.specs.Trees.{IsUsed}
 use Rattle.handles.specs.Given.{may_make, has_restored, GivesFresh}
-
--- a system that goes on behind a command went on before it
-pub going_before : (s t : State) (asked : Command) (answer : Reply) → GivesFresh s t asked answer → t.mark ≡ going → s.mark ≡ going
-going_before s t asked answer gives goes = by s.mark refl
-  where
-    not_both : {Y : Type 0} (mark : Mark) → mark ≡ going → mark ≡ failed → Y
-    not_both mark one other = cc
-
-    by : (mark : Mark) → s.mark ≡ mark → s.mark ≡ going
-    by going is = is
-    by failed is = not_both t.mark goes (gives.rests is)
 
 -- what holds where no number is free holds under a premise too
 pub full_where : (A B : Type 0) (P : ℕ → Type 0) (number : Option ℕ) → MatchOption number A P → MatchOption number (B → A) P
 full_where A B P None full = λ premise. full
 full_where A B P (Some n) fresh = fresh
-
--- nothing is given where the tree stays
-pub kept_by_same : (s t : State) (g : ℕ → ℕ) → t.tree ≡ s.tree → GivesNumbers s.tree t.tree g g
-kept_by_same s t g same = record {
-  given = λ n unused used. absurd (unused (subst (λ u. IsUsed u n) same used));
-  kept = λ n known. refl;
-}
 
 module _ (s t : State) (asked : Command) (answer : Reply) (gives : GivesFresh s t asked answer) (plain : IsFalse (has_restored asked answer)) where
   one_fresh : (k n : ℕ) → IsFresh s.inodes s.tree k → IsFresh s.inodes s.tree n → n ≡ k

@@ -31,8 +31,8 @@ module _ {S : Type 0} {G : Ghosts S} where
 
   all_go : (now : Stage S G) (rest : List (Stage S G)) → Names now.numbered now.state → FollowInTurn now rest → AllGo now rest
   all_go now [] names follow = tt
-  all_go now (next ∷ rest) names ((asked, answer, applied, keeps), more) =
-      let step = keeps now.state next.state names applied in
+  all_go now (next ∷ rest) names (follows, more) =
+      let step = follows.keeps now.state next.state follows.kept names follows.allowed follows.shows in
       (step.1, all_go next rest step.0 more)
 
   module _ (n : ℕ) where

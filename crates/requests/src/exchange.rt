@@ -43,6 +43,8 @@ impl<'a> Channel for Exchange<'a> {
 
     ghost sends = { λ old new reply result. Unit {0} };
 
+    ghost asks = { λ old new question taken. Unit {0} };
+
     ghost coming = { λ exchange. None };
 
     ghost gone = { λ exchange. None };
@@ -69,6 +71,11 @@ impl<'a> Channel for Exchange<'a> {
             Ok(()) => Ok(Sent::Whole),
             Err(_) => Err(Ended::Failed),
         }
+    }
+
+    /// The kernel of a row isn't asked: each batch is one message.
+    fn ask(&mut self, _question: &[u8]) -> bool {
+        false
     }
 }
 

@@ -7,9 +7,9 @@ use crate::row::Row;
 use handles::Numbered;
 use memory_station::Sim;
 use model::Reply;
-use mount::{Fs, make, mount};
+use mount::{Fs, Waiting, make, mount};
 use script::read_command;
-use served::{Ending, Owner, serve};
+use served::{Durability, Ending, Owner, serve};
 use std::alloc::Global;
 use std::cell::Cell;
 use std::time::Duration;
@@ -93,15 +93,15 @@ fn check_mounted(
     faults: &mut Vec<Fault>,
 ) -> Result<Sim, Fault> {
     let numbers = fs.count_inodes();
-    match Numbered::new(alloc, fs) {
+    match Numbered::new(alloc, Waiting::new(alloc, fs)) {
         Ok(mut files) => {
             let served = exchange(alloc, &mut files, numbers, owner, messages, faults);
-            let sim = files.into_fs().into_station();
+            let sim = files.into_files().into_fs().into_station();
             served?;
             Ok(sim)
         }
-        Err((_, fs)) => {
-            let _sim = fs.into_station();
+        Err((_, files)) => {
+            let _sim = files.into_fs().into_station();
             Err(Fault::NoMemory)
         }
     }
@@ -123,7 +123,16 @@ fn exchange(
     let time = Cell::new(begun);
     let clock = RowClock { time: &time };
     let mut exchange = Exchange::new(alloc, &time, messages);
-    let ending = serve(&clock, alloc, files, numbers, owner, &mut exchange);
+    let together = Durability::Together;
+    let ending = serve(
+        &clock,
+        alloc,
+        files,
+        numbers,
+        owner,
+        together,
+        &mut exchange,
+    );
     compare(alloc, messages, exchange.replies.as_slice(), faults)?;
     if ending != Ending::Unmounted {
         faults.push(Fault::other(alloc, "the server ended by itself"))?;

@@ -203,6 +203,7 @@ module _ {spared : Step → Bool} where
     in_answers (asked.init major minor max_readahead flags) = in_gives
     in_answers asked.destroy = in_gives
     in_answers (asked.interrupt unique) = in_gives
+    in_answers asked.retrieved = in_gives
     in_answers (asked.forget lookups) = looks_then (forgets k node (k.removed node)) (λ known. in_gives)
     in_answers (asked.batch_forget all) = looks_then (forgets_all k all) (λ known. in_gives)
     in_answers asked.stat_file_system = in_looks (looks_then (unasked refl) (λ done. looks_for refl (λ e. in_gives) (λ usage. in_gives)))

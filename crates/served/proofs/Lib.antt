@@ -1,7 +1,9 @@
 pub mod ChangingLaws
 pub mod CountingLaws
 pub mod FilesLaws
+pub mod GoingLaws
 pub mod KeepingLaws
+pub mod KeptLaws
 pub mod ListingLaws
 pub mod LookingLaws
 pub mod MakingLaws

@@ -1,9 +1,11 @@
 pub mod Agreeing
 pub mod Changing
 pub mod Commands
+pub mod Durability
 pub mod Files
 pub mod Finding
 pub mod Keeping
+pub mod Kept
 pub mod Known
 pub mod Listing
 pub mod Looking
@@ -18,3 +20,4 @@ pub mod Setting
 pub mod Snapshots
 pub mod Telling
 pub mod Turns
+pub mod UnderWay

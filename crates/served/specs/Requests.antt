@@ -123,6 +123,7 @@ unfoldable pub answers : Known → Asker → ℕ → OperationValue → Turn Tol
 answers k by node (asked.init major minor max_readahead flags) = told k (agree major minor max_readahead flags)
 answers k by node asked.destroy = told k answer.Done
 answers k by node (asked.interrupt unique) = told k answer.Silent
+answers k by node asked.retrieved = told k answer.Silent
 answers k by node (asked.forget lookups) = forgets k node ▹ (λ known. gives (answer.Silent, known))
 answers k by node (asked.batch_forget forgets) = forgets_all k forgets ▹ (λ known. gives (answer.Silent, known))
 answers k by node asked.stat_file_system = looks k tell_space

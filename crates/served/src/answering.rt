@@ -62,6 +62,7 @@ pub(crate) fn answer<F: FileSystem>(
         } => agree(*major, *minor, *max_readahead, *flags),
         Operation::Destroy => Answer::Done,
         Operation::Interrupt { .. } => Answer::Silent,
+        Operation::Retrieved => Answer::Silent,
         Operation::Forget { .. } => {
             forget(files, memory, node);
             Answer::Silent

@@ -1,22 +1,24 @@
-//! The loop over requests: each is answered before the next is read.
+//! The loop over messages: each is answered, and the replies of those that wait together go behind
+//! one commit.
 
-ghost use Rattle.std.specs.Io.KnownBytes.{Appends};
-ghost use Rattle.std.specs.Prelude.{◌≡◌, ◌++◌, List, ℕ, length, IfErr, OnErr, OnOk};
-ghost use Rattle.served.specs.Known.{known_of};
-ghost use Rattle.served.specs.Serving.{HasEnded, HasServed, IsAnswered, IsSent, Serves, ending_of, refused_text, stage, unlearnt};
+ghost use Rattle.std.specs.Prelude.{◌≡◌, None, Option, length, IfErr, OnOk};
+ghost use Rattle.fuse.specs.declared.time.Time.{Time};
+ghost use Rattle.served.specs.Known.{Known, known_of};
+ghost use Rattle.served.specs.Serving.{HasEnded, HasStopped, Serves, Stage, ending_of, stage, unlearnt};
+ghost use Rattle.served.specs.UnderWay.{HasKept, IsUnderWay};
 
-use crate::answer::Answer;
-use crate::answering::answer;
-use crate::marks::{Asker, Marks};
+use crate::batch::Batch;
+use crate::durability::Durability;
+use crate::marks::Marks;
 use crate::memory::Memory;
+use crate::message::answer_message;
 use crate::numbers::REQUEST_BYTES;
-use crate::replying::write_answer;
 use crate::snapshots::learn_snapshots;
 use channel::{Channel, Ended};
 use file_system::FileSystem;
-use fuse::{Time, read_head, read_request};
+use fuse::Time;
 use model::Errno;
-use std::alloc::{AllocError, Global};
+use std::alloc::Global;
 use std::rt::Clock;
 use std::time::{SystemTime, UNIX_EPOCH};
 
@@ -31,6 +33,9 @@ pub enum Ending {
     NoMemory,
     /// The snapshots couldn't be listed.
     Refused(Errno),
+    /// Not all that was done could be made durable. Together nothing of that was answered as done;
+    /// deferred some may have been.
+    Lost,
 }
 
 /// Whose folder it is: what wasn't touched since the mount is this user's and this group's, and of
@@ -42,16 +47,18 @@ pub struct Owner {
 }
 
 /// Answers the kernel's requests over a file system of so many numbers, until the folder is
-/// unmounted.
+/// unmounted. When what was answered is durable, the durability says; in the end all is, unless the
+/// ending is `Lost`.
 pub fn serve<F: FileSystem, K: Channel, C: Clock>(
     clock: &C,
     alloc: Global,
     files: &mut F,
     numbers: u32,
     owner: Owner,
+    durability: Durability,
     channel: &mut K,
 ) -> Ending
-    ensures { Serves F.FileSystem K.Channel numbers owner
+    ensures { Serves F.FileSystem K.Channel durability numbers owner
         (files.old, channel.old) (files.new, channel.new) result }
 {
     let first = Marks::made(owner.uid, owner.gid, now(clock));
@@ -60,7 +67,7 @@ pub fn serve<F: FileSystem, K: Channel, C: Clock>(
         Err(_) => return Ending::NoMemory,
     };
     match learn_snapshots(alloc, files, &mut memory) {
-        Ok(()) => answer_all(clock, alloc, files, &mut memory, channel),
+        Ok(()) => answer_all(clock, alloc, durability, files, &mut memory, channel),
         Err(errno) => unlearnt(errno),
     }
 }
@@ -93,80 +100,145 @@ fn now<C: Clock>(clock: &C) -> Time {
     }
 }
 
-/// Answers requests until no more come.
+/// Answers requests until no more come, and makes all durable.
+#[tactic(none)]
 fn answer_all<F: FileSystem, K: Channel, C: Clock>(
     clock: &C,
     alloc: Global,
+    durability: Durability,
     files: &mut F,
     memory: &mut Memory,
     channel: &mut K,
 ) -> Ending
-    ensures { HasEnded F.FileSystem K.Channel
-        (stage files.old (known_of memory.old) channel.old)
-        (stage files.new (known_of memory.new) channel.new) result }
+    ensures { HasEnded F.FileSystem K.Channel durability
+        (stage files.old (known_of memory.old) channel.old None)
+        (stage files.new (known_of memory.new) channel.new None) result }
+{
+    let why = answer_until(clock, alloc, durability, files, memory, channel);
+    match files.commit() {
+        Ok(()) => why,
+        Err(_) => Ending::Lost,
+    }
+}
+
+/// Answers requests until no more come: why.
+#[tactic(none)]
+fn answer_until<F: FileSystem, K: Channel, C: Clock>(
+    clock: &C,
+    alloc: Global,
+    durability: Durability,
+    files: &mut F,
+    memory: &mut Memory,
+    channel: &mut K,
+) -> Ending
+    ensures { (since : Option Time) × HasStopped F.FileSystem K.Channel durability
+        (stage files.old (known_of memory.old) channel.old None)
+        (stage files.new (known_of memory.new) channel.new since) result }
 {
     let Ok(room) = (vec![in alloc; 0u8; REQUEST_BYTES]) else {
         return Ending::NoMemory;
     };
+    let Ok(batch) = Batch::new(alloc) else {
+        return Ending::NoMemory;
+    };
     let mut room = room;
-    let mut out = Vec::new(alloc);
+    let mut batch = batch;
     for _ in 0..u64::MAX {
-        match exchange(clock, alloc, files, memory, channel, &mut room, &mut out) {
+        match exchange(
+            clock, alloc, durability, files, memory, channel, &mut room, &mut batch,
+        ) {
             Ok(()) => {}
             Err(ending) => return ending,
         }
     }
-    Ending::NoMemory
+    match batch.commit(files, channel) {
+        Ok(()) => Ending::NoMemory,
+        Err(ended) => ending_of(ended),
+    }
 }
 
-/// Waits for the next request, and answers it, before another one may come.
+/// Waits for the next message, and answers it. Its reply goes, or is kept.
 #[tactic(none)]
 fn exchange<F: FileSystem, K: Channel, C: Clock>(
     clock: &C,
     alloc: Global,
+    durability: Durability,
     files: &mut F,
     memory: &mut Memory,
     channel: &mut K,
     room: &mut [u8],
-    out: &mut Vec<u8>,
+    batch: &mut Batch,
 ) -> Result<(), Ending>
     requires { length room.old ≡ REQUEST_BYTES }
-    ensures goes_on { OnOk result (HasServed F.FileSystem K.Channel
-        (stage files.old (known_of memory.old) channel.old)
-        (stage files.new (known_of memory.new) channel.new)) }
-    ensures ended { IfErr result (λ ending. HasEnded F.FileSystem K.Channel
-        (stage files.old (known_of memory.old) channel.old)
-        (stage files.new (known_of memory.new) channel.new) ending) }
+    ensures goes_on { (begun : Stage F K) → IsUnderWay F.FileSystem K.Channel durability begun (stage files.old (known_of memory.old) channel.old batch.old.since) batch.old.kept
+        → OnOk result (IsUnderWay F.FileSystem K.Channel durability begun (stage files.new (known_of memory.new) channel.new batch.new.since) batch.new.kept) }
+    ensures ended { (begun : Stage F K) → IsUnderWay F.FileSystem K.Channel durability begun (stage files.old (known_of memory.old) channel.old batch.old.since) batch.old.kept
+        → IfErr result (λ ending. HasStopped F.FileSystem K.Channel durability begun (stage files.new (known_of memory.new) channel.new batch.new.since) ending) }
 {
     let count = match channel.receive(room) {
         Ok(received) => received.count,
         Err(ended) => return Err(ending_of(ended)),
     };
-    out.clear();
-    match answer_request(alloc, files, memory, now(clock), &room[..count], out) {
-        Ok(()) => {}
-        Err(_) => return Err(Ending::NoMemory),
-    }
-    match send_reply(channel, out.as_slice()) {
-        Ok(()) => Ok(()),
-        Err(ended) => Err(ending_of(ended)),
+    let now = now(clock);
+    let answered = answer_message(durability, alloc, files, memory, now, &room[..count]);
+    match batch.keep(&answered) {
+        Ok(()) => {
+            let settles = answered.settles;
+            let is_retrieved = answered.is_retrieved;
+            match go_on(
+                durability,
+                files,
+                now,
+                settles,
+                is_retrieved,
+                channel,
+                batch,
+            ) {
+                Ok(()) => Ok(()),
+                Err(ended) => Err(ending_of(ended)),
+            }
+        }
+        Err(_) => {
+            let _ = batch.commit(files, channel);
+            Err(Ending::NoMemory)
+        }
     }
 }
 
-/// Sends a reply; an empty one is none.
+/// Goes on behind a message whose reply is kept: the replies go, or wait for more messages.
 #[tactic(none)]
-fn send_reply<K: Channel>(channel: &mut K, reply: &[u8]) -> Result<(), Ended>
-    ensures sends { (part : List ℕ)
-        × IsSent K.Channel channel.old channel.new reply.now part result
-        × Appends (K.gone channel.old) (K.gone channel.new) part }
-    ensures coming { K.coming channel.new ≡ K.coming channel.old }
+fn go_on<F: FileSystem, K: Channel>(
+    durability: Durability,
+    files: &mut F,
+    now: Time,
+    settles: bool,
+    is_retrieved: bool,
+    channel: &mut K,
+    batch: &mut Batch,
+) -> Result<(), Ended>
+    ensures goes_on { (begun : Stage F K) (known : Known) → HasKept F.FileSystem K.Channel durability begun (stage files.old known channel.old batch.old.since) batch.old.kept now settles
+        → OnOk result (IsUnderWay F.FileSystem K.Channel durability begun (stage files.new known channel.new batch.new.since) batch.new.kept) }
+    ensures ended { (begun : Stage F K) (known : Known) → HasKept F.FileSystem K.Channel durability begun (stage files.old known channel.old batch.old.since) batch.old.kept now settles
+        → IfErr result (λ ended. HasStopped F.FileSystem K.Channel durability begun (stage files.new known channel.new batch.new.since) (ending_of ended)) }
 {
-    if reply.is_empty() {
-        return Ok(());
-    }
-    match channel.send(reply) {
-        Ok(_) => Ok(()),
-        Err(ended) => Err(ended),
+    match durability {
+        Durability::Together => {
+            if batch.is_ready(files.waiting(), is_retrieved, channel) {
+                batch.commit(files, channel)
+            } else {
+                Ok(())
+            }
+        }
+        Durability::Deferred {
+            milliseconds,
+            bytes,
+        } => {
+            if batch.may_wait(files.waiting(), settles, milliseconds, bytes, now) {
+                batch.send(Ok(()), channel)
+            } else {
+                batch.commit(files, channel)
+            }
+        }
     }
 }
 
@@ -177,46 +249,5 @@ fn ending_of(ended: Ended) -> Ending
     match ended {
         Ended::Unmounted => Ending::Unmounted,
         Ended::Failed => Ending::Failed,
-    }
-}
-
-/// Writes the reply to a request. One that is no request is refused where its head tells its
-/// number, and else has no reply.
-#[tactic(none)]
-fn answer_request<F: FileSystem>(
-    alloc: Global,
-    files: &mut F,
-    memory: &mut Memory,
-    now: Time,
-    bytes: &[u8],
-    out: &mut Vec<u8>,
-) -> Result<(), AllocError>
-    ensures { (reply : List ℕ)
-        × IsAnswered F.FileSystem files.old files.new (known_of memory.old) (known_of memory.new) now bytes.now reply
-        × OnOk result (out.new.items ≡ out.old.items ++ reply)
-        × OnErr result (out.new.items ≡ out.old.items) }
-{
-    match read_request(bytes) {
-        Some(request) => {
-            let asker = Asker {
-                uid: request.head.uid,
-                gid: request.head.gid,
-                now,
-            };
-            let answer = answer(alloc, files, memory, asker, &request);
-            write_answer(out, request.head.unique, &answer)
-        }
-        None => refuse(bytes, out),
-    }
-}
-
-/// Refuses what is no request.
-fn refuse(bytes: &[u8], out: &mut Vec<u8>) -> Result<(), AllocError>
-    ensures ok { OnOk result (out.new.items ≡ out.old.items ++ refused_text bytes.now) }
-    ensures err { OnErr result (out.new.items ≡ out.old.items) }
-{
-    match read_head(bytes) {
-        Some((head, _, _)) => write_answer(out, head.unique, &Answer::Refused(Errno::EINVAL)),
-        None => Ok(()),
     }
 }

@@ -45,3 +45,4 @@ serving_status ending.Unmounted = Done
 serving_status ending.Failed = FileFault
 serving_status ending.NoMemory = NoMemory
 serving_status (ending.Refused errno) = Refused
+serving_status ending.Lost = FileFault

@@ -78,7 +78,7 @@ pub fn status_of_serving(ending: Ending) -> Status
 {
     match ending {
         Ending::Unmounted => Status::Done,
-        Ending::Failed => Status::FileFault,
+        Ending::Failed | Ending::Lost => Status::FileFault,
         Ending::NoMemory => Status::NoMemory,
         Ending::Refused(_) => Status::Refused,
     }

@@ -2,7 +2,7 @@
 
 ghost use Rattle.std.specs.Prelude.{◌≡◌};
 ghost use Rattle.std.specs.Option.{option_map};
-ghost use Rattle.fuse.specs.Bodies.{forget_body, batch_forget_body, get_attributes_body, set_attributes_body, read_link_body, access_body, stat_file_system_body, init_body, interrupt_body, destroy_body};
+ghost use Rattle.fuse.specs.Bodies.{forget_body, batch_forget_body, get_attributes_body, set_attributes_body, read_link_body, access_body, stat_file_system_body, init_body, interrupt_body, destroy_body, retrieved_body};
 ghost use Rattle.fuse.specs.Operation.{operation_of};
 
 use crate::attribute_changes::{changes_of, rights_at, targets_at, times_at};
@@ -135,4 +135,12 @@ pub(crate) fn read_destroy(bytes: &[u8]) -> Option<Operation<'_>>
         return None;
     }
     Some(Operation::Destroy)
+}
+
+#[tactic(auto, unfolding(crate::specs::Bodies::retrieved_body))]
+pub(crate) fn read_retrieved(bytes: &[u8]) -> Option<Operation<'_>>
+    ensures { option_map operation_of result ≡ retrieved_body.read bytes.now }
+{
+    let _any = bytes;
+    Some(Operation::Retrieved)
 }

@@ -6,8 +6,8 @@ use crate::statuses::status_of_serving;
 use channel::Streams as Device;
 use handles::Numbered;
 use host_files::{Image, ImageStation, open_image};
-use mount::{Fs, mount};
-use served::{Ending, Owner, serve};
+use mount::{Fs, Waiting, mount};
+use served::{Durability, Ending, Owner, serve};
 use session::Status;
 use std::io::{Read, Write};
 
@@ -67,16 +67,27 @@ fn serve_mounted<I: Read, O: Write, E: Write>(
     streams: &mut Streams<I, O, E>,
 ) -> Ended {
     let numbers = fs.count_inodes();
-    match Numbered::new(rt.alloc(), fs) {
+    match Numbered::new(rt.alloc(), Waiting::new(rt.alloc(), fs)) {
         Ok(mut files) => {
             let mut device = Device::new(&mut streams.input, &mut streams.out);
-            let ending = serve(rt, rt.alloc(), &mut files, numbers, owner, &mut device);
+            let ending = serve(
+                rt,
+                rt.alloc(),
+                &mut files,
+                numbers,
+                owner,
+                Durability::Together,
+                &mut device,
+            );
             tell_ending(ending, &mut streams.err);
-            (status_of_serving(ending), files.into_fs().into_station())
+            (
+                status_of_serving(ending),
+                files.into_files().into_fs().into_station(),
+            )
         }
-        Err((_, fs)) => {
+        Err((_, files)) => {
             tell_ending(Ending::NoMemory, &mut streams.err);
-            (Status::NoMemory, fs.into_station())
+            (Status::NoMemory, files.into_fs().into_station())
         }
     }
 }
@@ -88,5 +99,9 @@ fn tell_ending<E: Write>(ending: Ending, err: &mut E) {
         Ending::Failed => writeln!(err, "wafl: the kernel's requests can't be read or answered"),
         Ending::NoMemory => writeln!(err, "wafl: no memory"),
         Ending::Refused(errno) => writeln!(err, "wafl: {errno}: the snapshots aren't listed"),
+        Ending::Lost => writeln!(
+            err,
+            "wafl: a write failed, and what wasn't durable yet may be lost; the next mount tells"
+        ),
     };
 }

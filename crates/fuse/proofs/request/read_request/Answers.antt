@@ -31,3 +31,6 @@ returns-clause-only c = λ r is.
     let same = same_request c.args.bytes.now c.in-Some.head c.in-Some.field-0-1 c.in-Some.body.now (Some operation) r c.in-Some.ensures c.in-Some-read_body.ensures is in
     let is = some_is operation r.operation same.1 in
     λ i. record { head = same.0 i; operation = is i }
+
+pub returns-clause-head : goal.returns-clause-head
+returns-clause-head c = (c.in-Some.field-0-1, c.in-Some.body.now, sym c.in-Some.ensures)

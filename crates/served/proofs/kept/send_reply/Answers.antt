@@ -1,6 +1,6 @@
 use Rattle.std.proofs.Common.{refl, sym, ◌∙◌}
 use Rattle.served.proofs.ServingLaws.{sent_none, sent_so, unsent_so}
-use Rattle.served.proofs.serving.send_reply.Goals as goal
+use Rattle.served.proofs.kept.send_reply.Goals as goal
 
 pub returns-then-is_empty-clause-sends : goal.returns-then-is_empty-clause-sends
 returns-then-is_empty-clause-sends g c =
