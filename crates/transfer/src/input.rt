@@ -1,11 +1,9 @@
 //! What the bytes are read from that an image stores, part by part.
 
+use crate::applying::ReadsKept;
 use crate::error::{TransferError, at};
-use crate::steps::read_kept;
 use host_files::on;
 use model::TRANSFER_BYTES;
-use mount::Fs;
-use station::Station;
 use std::alloc::Global;
 use std::fs::File;
 use std::io;
@@ -84,27 +82,27 @@ impl<'a, I: Read> Input<'a, '_, I> {
     }
 
     /// The next part: as many bytes as one call writes, fewer at the end.
-    pub fn read_part<S: Station>(
+    pub fn read_part<F: ReadsKept>(
         &mut self,
         alloc: Global,
-        fs: &mut Fs<S>,
+        files: &mut F,
     ) -> Result<Vec<u8>, TransferError<'a>> {
         match self {
             Input::Stream(stream) => Ok(on(stream.name, read_part(alloc, stream.reader))?),
             Input::File(file) => Ok(on(file.name, read_part(alloc, &mut file.file))?),
-            Input::Kept(file) => file.read_part(alloc, fs),
+            Input::Kept(file) => file.read_part(alloc, files),
         }
     }
 }
 
 impl<'a> KeptFile<'a> {
     /// The next part.
-    fn read_part<S: Station>(
+    fn read_part<F: ReadsKept>(
         &mut self,
         alloc: Global,
-        fs: &mut Fs<S>,
+        files: &mut F,
     ) -> Result<Vec<u8>, TransferError<'a>> {
-        let read = read_kept(fs, self.snapshot, self.path, self.offset);
+        let read = files.read_kept(self.snapshot, self.path, self.offset);
         let part = at(self.name, self.offset, read)?;
         let bytes = Vec::from_slice(alloc, part.as_bytes())?;
         self.offset = self.offset.saturating_add(bytes.len() as u64);

@@ -3,11 +3,13 @@
 //! calls that scripts have.
 #![tactic(auto)]
 
+mod applying;
 mod error;
 mod getting;
 mod input;
 mod looking;
 mod missing;
+mod parts;
 mod progress;
 mod putting;
 mod restoring;

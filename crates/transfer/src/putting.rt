@@ -6,7 +6,7 @@ use crate::looking::RUNNING;
 use crate::missing::found;
 use crate::progress::Progress;
 use crate::steps::NEW_FILE;
-use crate::storing::{Goal, check_blocks, check_known_size, store, take_left_away};
+use crate::storing::{Goal, check_known_size, store, take_left_away};
 use crate::target::{Target, find_target, is_unfinished};
 use crate::what::{Ended, Transfer};
 use crate::working::{end, mount_image};
@@ -118,38 +118,51 @@ fn put_from<'a, R: Files<File = File> + AllocGlobal + Clock, I: Read, E: Write>(
         // What is written would be read again.
         return Ended::before(TransferError::IsImage { file: what.file });
     }
-    let mut fs = match mount_image(rt, what.image, station) {
+    let fs = match mount_image(rt, what.image, station) {
         Ok(fs) => fs,
         Err(ended) => return ended,
     };
-    let done = put_in(rt.alloc(), &mut fs, what, new_mode(mode), input, progress);
+    let (fs, done) = put_in(rt.alloc(), fs, what, new_mode(mode), input, progress);
     end(rt, what.image, fs, done)
 }
 
-/// Stores what an input gives in a mounted image. A new file has this mode.
+/// Stores what an input gives in a mounted image, which it gives back. A new file has this mode.
 fn put_in<'a, S: Station, I: Read, E: Write>(
     alloc: Global,
-    fs: &mut Fs<S>,
+    mut fs: Fs<S>,
     what: Transfer<'a>,
     mode: Mode,
     input: &mut Input<'a, '_, I>,
     progress: &mut Progress<E>,
-) -> Result<(), TransferError<'a>> {
+) -> (Fs<S>, Result<(), TransferError<'a>>) {
+    match find_goal(alloc, &mut fs, what, mode, input.size()) {
+        Ok(goal) => store(alloc, fs, &goal, input, progress),
+        Err(error) => (fs, Err(error)),
+    }
+}
+
+/// Where bytes of this size, where it is known, are to be stored. What a cut left goes then. A new
+/// file has this mode.
+fn find_goal<'a, S: Station>(
+    alloc: Global,
+    fs: &mut Fs<S>,
+    what: Transfer<'a>,
+    mode: Mode,
+    size: Option<u64>,
+) -> Result<Goal<'a>, TransferError<'a>> {
     let Transfer { path, name, .. } = what;
-    check_known_size(name, input.size())?;
+    check_known_size(name, size)?;
     take_left_away(fs)?;
     let target = find_target(alloc, fs, path, own_name(what.file));
     let target = found(alloc, fs, RUNNING, name, path, target)?;
     check_name(alloc, fs, what, &target)?;
-    check_blocks(alloc, fs, name, input)?;
     let mode = mode_of(&target, mode);
-    let goal = Goal {
+    Ok(Goal {
         name,
         path,
         target,
         mode,
-    };
-    store(alloc, fs, &goal, input, progress)
+    })
 }
 
 /// The mode of a new file in the image: that of the host's file, or 0644.

@@ -6,7 +6,7 @@ use crate::looking::{RUNNING, Tree, link_text, lstat};
 use crate::missing::found;
 use crate::progress::Progress;
 use crate::putting::check_name;
-use crate::storing::{Goal, check_blocks, store, store_link, take_left_away};
+use crate::storing::{Goal, store, store_link, take_left_away};
 use crate::target::{find_place, split_last};
 use crate::what::{Ended, Transfer};
 use crate::working::{end, mount_image};
@@ -36,11 +36,11 @@ pub fn restore_file<'a, R: Files<File = File> + AllocGlobal + Clock, E: Write>(
         Ok(station) => station,
         Err(error) => return Ended::before(TransferError::File(error)),
     };
-    let mut fs = match mount_image(rt, what.image, station) {
+    let fs = match mount_image(rt, what.image, station) {
         Ok(fs) => fs,
         Err(ended) => return ended,
     };
-    let mut restore = Restore {
+    let restore = Restore {
         what,
         snapshot,
         tree: Tree {
@@ -52,29 +52,41 @@ pub fn restore_file<'a, R: Files<File = File> + AllocGlobal + Clock, E: Write>(
             name: new_name.unwrap_or(what.name),
             ..what
         },
-        progress,
     };
-    let done = restore.go_on(rt.alloc(), &mut fs);
+    let (fs, done) = restore.go_on(rt.alloc(), fs, progress);
     end(rt, what.image, fs, done)
 }
 
 /// Bringing back what a path names in a snapshot.
-#[derive(Drop)]
-struct Restore<'a, 'w, E> {
+#[derive(Clone, Copy)]
+struct Restore<'a> {
     what: Transfer<'a>,
     snapshot: &'a [u8],
     tree: Tree<'a>,
     /// What it becomes.
     goal: Transfer<'a>,
-    progress: &'w mut Progress<E>,
 }
 
-impl<'a, E: Write> Restore<'a, '_, E> {
-    fn go_on<S: Station>(
-        &mut self,
+impl<'a> Restore<'a> {
+    /// Brings it back, and gives the mounted image back.
+    fn go_on<S: Station, E: Write>(
+        self,
+        alloc: Global,
+        mut fs: Fs<S>,
+        progress: &mut Progress<E>,
+    ) -> (Fs<S>, Result<(), TransferError<'a>>) {
+        match self.find_old(alloc, &mut fs) {
+            Ok(old) => self.bring(alloc, fs, old, progress),
+            Err(error) => (fs, Err(error)),
+        }
+    }
+
+    /// What is to be brought back: no directory. What a cut left goes then.
+    fn find_old<S: Station>(
+        self,
         alloc: Global,
         fs: &mut Fs<S>,
-    ) -> Result<(), TransferError<'a>> {
+    ) -> Result<Stat, TransferError<'a>> {
         let Transfer { path, name, .. } = self.what;
         let old = lstat(fs, self.tree, path);
         let old = found(alloc, fs, self.tree, name, path, old)?;
@@ -82,24 +94,50 @@ impl<'a, E: Write> Restore<'a, '_, E> {
             return Err(TransferError::IsTree { path: name });
         }
         take_left_away(fs)?;
+        Ok(old)
+    }
+
+    /// Brings a symbolic link back.
+    fn bring_link<S: Station>(
+        self,
+        alloc: Global,
+        fs: &mut Fs<S>,
+        old: Stat,
+    ) -> Result<(), TransferError<'a>> {
         let goal = self.find_goal(alloc, fs, old)?;
+        let text = link_text(fs, self.tree, self.what.path);
+        let text = at(self.what.name, 0, text)?;
+        store_link(fs, &goal, text.as_bytes())
+    }
+
+    /// Brings what stood there back, and gives the mounted image back.
+    fn bring<S: Station, E: Write>(
+        self,
+        alloc: Global,
+        mut fs: Fs<S>,
+        old: Stat,
+        progress: &mut Progress<E>,
+    ) -> (Fs<S>, Result<(), TransferError<'a>>) {
         if old.kind == FileType::Link {
-            return self.bring_link(alloc, fs, &goal);
+            let brought = self.bring_link(alloc, &mut fs, old);
+            return (fs, brought);
         }
         let mut input: Input<'_, '_, File> = Input::Kept(KeptFile {
             snapshot: self.snapshot,
-            path,
-            name,
+            path: self.what.path,
+            name: self.what.name,
             size: old.size,
             offset: 0,
         });
-        check_blocks(alloc, fs, goal.name, &mut input)?;
-        store(alloc, fs, &goal, &mut input, self.progress)
+        match self.find_goal(alloc, &mut fs, old) {
+            Ok(goal) => store(alloc, fs, &goal, &mut input, progress),
+            Err(error) => (fs, Err(error)),
+        }
     }
 
     /// Where in the running tree something goes that has this mode.
     fn find_goal<S: Station>(
-        &self,
+        self,
         alloc: Global,
         fs: &mut Fs<S>,
         old: Stat,
@@ -114,17 +152,5 @@ impl<'a, E: Write> Restore<'a, '_, E> {
             target,
             mode: old.mode,
         })
-    }
-
-    /// Brings a symbolic link back.
-    fn bring_link<S: Station>(
-        &self,
-        alloc: Global,
-        fs: &mut Fs<S>,
-        goal: &Goal<'a>,
-    ) -> Result<(), TransferError<'a>> {
-        let text = link_text(fs, self.tree, self.what.path);
-        let text = at(self.what.name, 0, text)?;
-        store_link(fs, goal, text.as_bytes())
     }
 }

@@ -1,5 +1,6 @@
 //! The calls of a transfer, one by one.
 
+use crate::applying::ReadsKept;
 use crate::looking::look_at;
 use model::{Access, Errno, FileType, Flags, Mode, TRANSFER_BYTES, Text};
 use mount::Fs;
@@ -58,7 +59,7 @@ pub fn read_source<S: Station>(
 ) -> Result<Text, Errno> {
     match source {
         Source::Open(fd) => read_open(fs, fd, offset),
-        Source::Kept { snapshot, path } => read_kept(fs, snapshot, path, offset),
+        Source::Kept { snapshot, path } => fs.read_kept(snapshot, path, offset),
     }
 }
 
@@ -68,19 +69,6 @@ fn read_open<S: Station>(fs: &mut Fs<S>, fd: u32, offset: u64) -> Result<Text, E
         return Err(Errno::EINVAL);
     };
     fs.pread(fd, offset, TRANSFER_BYTES as u32)
-}
-
-/// Bytes of a file in a snapshot: as many as one call reads.
-pub fn read_kept<S: Station>(
-    fs: &mut Fs<S>,
-    snapshot: &[u8],
-    path: &[u8],
-    offset: u64,
-) -> Result<Text, Errno> {
-    let Ok(offset) = i64::try_from(offset) else {
-        return Err(Errno::EINVAL);
-    };
-    fs.get_in(snapshot, path, offset, TRANSFER_BYTES as u32)
 }
 
 /// Makes a file of this mode where nothing is, and opens it for writing.
@@ -107,30 +95,4 @@ fn give_back<S: Station>(fs: &mut Fs<S>, path: &[u8]) -> Result<(), Errno> {
         Some(there) if there.kind == FileType::File => fs.truncate(path, 0),
         _ => Ok(()),
     }
-}
-
-/// Writes bytes at this one of an open file. DAMAGED where not all were, which comes only over an
-/// image that opens to no state.
-pub fn write_at<S: Station>(
-    fs: &mut Fs<S>,
-    fd: u32,
-    offset: u64,
-    bytes: &[u8],
-) -> Result<(), Errno> {
-    let Ok(offset) = i64::try_from(offset) else {
-        return Err(Errno::EFBIG);
-    };
-    let written = fs.pwrite(fd, offset, bytes)?;
-    if written as usize != bytes.len() {
-        return Err(Errno::DAMAGED);
-    }
-    Ok(())
-}
-
-/// Gives an open file a size: what it hasn't of that yet are zeros, for which no block is stored.
-pub fn set_size<S: Station>(fs: &mut Fs<S>, fd: u32, size: u64) -> Result<(), Errno> {
-    let Ok(size) = i64::try_from(size) else {
-        return Err(Errno::EFBIG);
-    };
-    fs.ftruncate(fd, size)
 }

@@ -4,10 +4,11 @@
 use crate::error::{TransferError, at};
 use crate::input::Input;
 use crate::missing::spell;
+use crate::parts::write_all;
 use crate::progress::Progress;
-use crate::room::{NAMING, SIZING, check_room, lacks_room, storing, with_room, writing};
-use crate::runs::{count_blocks, next_run};
-use crate::steps::{make_file, remove, set_size, write_at};
+use crate::room::{NAMING, check_room, lacks_room, storing, with_room};
+use crate::runs::count_blocks;
+use crate::steps::{make_file, remove};
 use crate::target::{Target, UNFINISHED};
 use layout::INLINE_BYTES;
 use model::{Errno, GREATEST_FILE, Mode};
@@ -36,7 +37,7 @@ pub fn take_left_away<'a, S: Station>(fs: &mut Fs<S>) -> Result<(), TransferErro
 }
 
 /// Refuses a file that is larger than one may be, at its first byte that is too many.
-fn check_size<'a>(path: &'a str, size: u64) -> Result<(), TransferError<'a>> {
+pub fn check_size<'a>(path: &'a str, size: u64) -> Result<(), TransferError<'a>> {
     if size > GREATEST_FILE {
         return at(path, GREATEST_FILE, Err(Errno::EFBIG));
     }
@@ -63,7 +64,7 @@ fn blocks_of(size: u64) -> u64 {
 /// Refuses an input of known size whose blocks have no room. Its name comes behind them; what tells
 /// where they are, and the writes, may need more. Which of them are zeros alone is looked at only
 /// where there is no room for all.
-pub fn check_blocks<'a, S: Station, I: Read>(
+fn check_blocks<'a, S: Station, I: Read>(
     alloc: Global,
     fs: &mut Fs<S>,
     path: &'a str,
@@ -81,17 +82,20 @@ pub fn check_blocks<'a, S: Station, I: Read>(
 }
 
 /// Stores what an input gives in a new file, which takes the place of what is there once all is in
-/// it.
+/// it. Gives the file system back.
 pub fn store<'a, S: Station, I: Read, E: Write>(
     alloc: Global,
-    fs: &mut Fs<S>,
+    mut fs: Fs<S>,
     goal: &Goal<'a>,
     input: &mut Input<'a, '_, I>,
     progress: &mut Progress<E>,
-) -> Result<(), TransferError<'a>> {
-    let stored = store_bytes(alloc, fs, goal, input, progress);
-    give_up_where_refused(fs, &stored);
-    stored
+) -> (Fs<S>, Result<(), TransferError<'a>>) {
+    if let Err(error) = check_blocks(alloc, &mut fs, goal.name, input) {
+        return (fs, Err(error));
+    }
+    let (mut fs, stored) = store_bytes(alloc, fs, goal, input, progress);
+    give_up_where_refused(&mut fs, &stored);
+    (fs, stored)
 }
 
 /// Takes away what isn't whole. Where that is refused, the next transfer does it.
@@ -104,19 +108,36 @@ fn give_up_where_refused<S: Station>(fs: &mut Fs<S>, stored: &Result<(), Transfe
 /// Collects what an input gives in a new file, and gives that its name.
 fn store_bytes<'a, S: Station, I: Read, E: Write>(
     alloc: Global,
-    fs: &mut Fs<S>,
+    mut fs: Fs<S>,
     goal: &Goal<'a>,
     input: &mut Input<'a, '_, I>,
     progress: &mut Progress<E>,
+) -> (Fs<S>, Result<(), TransferError<'a>>) {
+    let made = make_file(&mut fs, UNFINISHED.as_bytes(), goal.mode);
+    match with_room(&mut fs, goal.name, 0, NAMING, made) {
+        Ok(fd) => {
+            let (mut fs, written) = write_all(alloc, fs, fd, goal.name, input, progress);
+            let closed = fs.close(fd);
+            let ended = end_file(alloc, &mut fs, goal, input.pipe(), written, closed);
+            (fs, ended)
+        }
+        Err(error) => (fs, Err(error)),
+    }
+}
+
+/// Gives a new file its name, where all of its bytes are in it.
+fn end_file<'a, S: Station>(
+    alloc: Global,
+    fs: &mut Fs<S>,
+    goal: &Goal<'a>,
+    pipe: Option<&'a str>,
+    written: Result<u64, TransferError<'a>>,
+    closed: Result<(), Errno>,
 ) -> Result<(), TransferError<'a>> {
-    let made = make_file(fs, UNFINISHED.as_bytes(), goal.mode);
-    let fd = with_room(fs, goal.name, 0, NAMING, made)?;
-    let written = write_all(alloc, fs, fd, goal.name, input, progress);
-    let closed = fs.close(fd);
     let bytes = written?;
     at(goal.name, bytes, closed)?;
     if bytes == 0 {
-        check_pipe(alloc, goal, input.pipe())?;
+        check_pipe(alloc, goal, pipe)?;
     }
     give_name(fs, goal, bytes)
 }
@@ -150,64 +171,6 @@ fn check_pipe<'a>(
         }),
         _ => Ok(()),
     }
-}
-
-/// Writes what an input gives, in parts as large as one call writes, and tells how many bytes these
-/// are.
-fn write_all<'a, S: Station, I: Read, E: Write>(
-    alloc: Global,
-    fs: &mut Fs<S>,
-    fd: u32,
-    path: &'a str,
-    input: &mut Input<'a, '_, I>,
-    progress: &mut Progress<E>,
-) -> Result<u64, TransferError<'a>> {
-    let mut size = 0_u64;
-    let mut stored = 0;
-    for _ in 0..u64::MAX {
-        let start = size;
-        let part = input.read_part(alloc, fs)?;
-        size = start.saturating_add(part.len() as u64);
-        check_size(path, size)?;
-        if part.is_empty() {
-            break;
-        }
-        if let Some(end) = write_runs(fs, fd, path, start, &part)? {
-            stored = end;
-        }
-        progress.note(size);
-    }
-    if stored < size {
-        // It ends in zeros.
-        let sized = set_size(fs, fd, size);
-        with_room(fs, path, size, SIZING, sized)?;
-    }
-    Ok(size)
-}
-
-/// Writes those blocks of a part that aren't zeros alone, run by run. The part begins at this byte
-/// of the file. Tells the byte behind them, where there are any.
-fn write_runs<'a, S: Station>(
-    fs: &mut Fs<S>,
-    fd: u32,
-    path: &'a str,
-    start: u64,
-    part: &[u8],
-) -> Result<Option<u64>, TransferError<'a>> {
-    let mut stored = None;
-    let mut from = 0;
-    for _ in 0..part.len() {
-        let Some(run) = next_run(part, from) else {
-            break;
-        };
-        let offset = start.saturating_add(run.start as u64);
-        let count = run.bytes.len();
-        let written = write_at(fs, fd, offset, run.bytes);
-        with_room(fs, path, offset, writing(offset, count), written)?;
-        stored = Some(offset.saturating_add(count as u64));
-        from = run.end();
-    }
-    Ok(stored)
 }
 
 /// Stores a symbolic link of this text, which takes the place of what is there.
