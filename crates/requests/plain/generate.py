@@ -16,6 +16,7 @@ sys.dont_write_bytecode = True
 
 from pathlib import Path  # noqa: E402
 
+from batches_by_hand import FILE, rows_of_batches  # noqa: E402
 from by_hand import rows_by_hand  # noqa: E402
 from chosen import Chooser  # noqa: E402
 from heads import HEADS  # noqa: E402
@@ -34,7 +35,9 @@ def rows_by_numbers(has_removals, seeds, length):
 
 def made(name):
     """The text of a file."""
-    if name in BY_HAND:
+    if name == FILE:
+        rows = rows_of_batches()
+    elif name in BY_HAND:
         rows = rows_by_hand(name)
     elif name in BY_NUMBERS:
         rows = rows_by_numbers(*BY_NUMBERS[name], 80)

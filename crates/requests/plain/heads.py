@@ -21,6 +21,20 @@ HEADS = {
 # Requests that no kernel sends, or seldom, with the replies of a plain model: see the folder `plain`. How a row is written stands in the
 # head of recorded.requests.
 ''',
+    'batches.requests': '''\
+# Requests that wait in the device together, replies that go before what they tell is durable, and power cuts, with what passes by a plain
+# model: see the folder `plain`.
+#
+# How a row is written stands in the head of recorded.requests. The lines of messages stand in the order in which they pass: a request that
+# comes before the reply to the one before it waits in the device with that. With `questions` the kernel can be asked for a message that
+# comes behind those that wait: `taken BYTES` is such a question, which the kernel takes, and `refused BYTES` one that it refuses. What it
+# sends then is an `ask`.
+#
+# Of a server, from the mount to `again` or the row's end: `deferred MILLISECONDS BYTES` is how long what it did may wait to be durable
+# behind its reply, and how many bytes of the log. `cut WRITE BYTES`: within this device write, counted from 1, the power is cut, and so
+# many of its bytes stay; so it fails, and each call behind it. `lost`: in the end not all that was done is durable, as the server tells
+# then. `writes N` is how many device writes there are.
+''',
     'random.requests': '''\
 # Requests made from fixed numbers, with the replies of a plain model: see the folder `plain`, which writes this file. How a row is written
 # stands in the head of recorded.requests. A row's name ends with its seed.

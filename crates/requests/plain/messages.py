@@ -35,6 +35,7 @@ BODIES = {
     35: ('CREATE', 'flags:4 mode:4 umask:4 open_flags:4 name:text'),
     36: ('INTERRUPT', 'unique:8'),
     38: ('DESTROY', ''),
+    41: ('NOTIFY_REPLY', '_:8 offset:8 size:4 _:4 _:8 _:8 rest'),
     42: ('BATCH_FORGET', 'count:4 _:4 forgets'),
     44: ('READDIRPLUS', TRANSFER),
     45: ('RENAME2', 'new_parent:8 flags:4 _:4 name:text new_name:text'),
@@ -44,7 +45,7 @@ BODIES = {
 OTHERS = {21: 'SETXATTR', 22: 'GETXATTR', 23: 'LISTXATTR', 24: 'REMOVEXATTR', 31: 'GETLK', 39: 'IOCTL', 43: 'FALLOCATE',
           47: 'COPY_FILE_RANGE', 50: 'SYNCFS', 51: 'TMPFILE', 52: 'STATX'}
 OPCODES = {name: opcode for opcode, (name, _) in BODIES.items()} | {name: opcode for opcode, name in OTHERS.items()}
-SILENT = ('FORGET', 'BATCH_FORGET', 'INTERRUPT')
+SILENT = ('FORGET', 'BATCH_FORGET', 'INTERRUPT', 'NOTIFY_REPLY')
 IN_OCTAL = ('mode', 'umask', 'flags', 'valid')
 HEAD = struct.Struct('<IIQQIIII')
 FOREVER = 1000000000
@@ -225,6 +226,25 @@ def agreed(max_readahead, flags):
 def usage(blocks, free, files, free_files):
     """`struct fuse_statfs_out`."""
     return struct.pack('<QQQQQIII', blocks, free, free, files, free_files, BLOCK, 255, BLOCK) + bytes(28)
+
+
+# A server's question
+
+
+def retrieval(node):
+    """The notification that asks for none of the bytes that the kernel has of a file: FUSE_NOTIFY_RETRIEVE."""
+    return struct.pack('<IiQQQQII', 48, 5, 0, 0, node, 0, 0, 0)
+
+
+def retrieved_by(message):
+    """The node of such a notification; None where it is none."""
+    is_one = struct.unpack_from('<iQ', message, 4) == (5, 0)
+    return struct.unpack_from('<Q', message, 24)[0] if is_one else None
+
+
+def retrieved(node):
+    """The message that a kernel sends then."""
+    return asked('NOTIFY_REPLY', 0, node, process=0)
 
 
 # Bytes as rows write them

@@ -87,7 +87,15 @@ class Serve:
     def answer(self, message, _now):
         self.socket.send(message)
         opcode = messages.HEAD.unpack_from(message)[1]
-        return b'' if opcode in [messages.OPCODES[name] for name in messages.SILENT] else self.socket.recv(MOST_BYTES)
+        if opcode in [messages.OPCODES[name] for name in messages.SILENT]:
+            return b''
+        told = self.socket.recv(MOST_BYTES)
+        node = messages.retrieved_by(told)
+        if node is None:
+            return told
+        # It asks for what comes behind those that wait: none does.
+        self.socket.send(messages.retrieved(node))
+        return self.socket.recv(MOST_BYTES)
 
     def end(self):
         self.socket.close()

@@ -18,13 +18,24 @@ from scripts import step  # noqa: E402
 
 HALF = 131072
 DESCRIPTORS = 65536
+# Commands that don't wait for a commit, as none does that a consistency point comes before.
+ALONE = ('sync', 'statfs', 'snap')
+
+
+class Done:
+    """A command that was done: whether it is durable by itself, its device writes where it isn't done together with others, and
+    the bytes of its record, 0 for none."""
+
+    def __init__(self, is_alone, writes, record):
+        self.is_alone, self.writes, self.record = is_alone, writes, record
 
 
 class Room:
-    """The commands that were done over an image; with `before`, those that are done before the first server."""
+    """The commands that were done over an image; with `before`, those that are done before the first server. `done` has those that nobody
+    asked for yet."""
 
     def __init__(self, blocks, inodes, before=()):
-        self.system = System(blocks, inodes, HALF)
+        self.system, self.done = System(blocks, inodes, HALF), []
         if before:
             self.mount()
         for line in before:
@@ -40,11 +51,20 @@ class Room:
     def do(self, command, *words):
         """Does a command: its reply."""
         line = b' '.join([command.encode()] + [word if isinstance(word, bytes) else str(word).encode() for word in words])
+        log_end, generation = self.system.log_end, self.system.generation
         reply = step(self.system, line)
+        is_alone = command in ALONE or self.system.generation != generation
+        record = self.system.log_end - log_end if self.system.record is not None else 0
+        self.done.append(Done(is_alone, self.system.writes, record))
         if reply == b'err ENOSPC':
             refuse(errno.ENOSPC)
         assert not reply.startswith(b'err '), (line, reply)
         return reply
+
+    def take_done(self):
+        """What was done since this was asked for last."""
+        done, self.done = self.done, []
+        return done
 
     def tree(self, first):
         """The tree as commands left it."""

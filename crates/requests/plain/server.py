@@ -56,7 +56,7 @@ class Server(Looking, Changing, OpenFiles, Within):
     def body_of(self, request):
         """What stands in a reply behind its head."""
         of_any = {'INIT': self.init, 'DESTROY': self.done, 'INTERRUPT': self.done, 'FORGET': self.forget, 'BATCH_FORGET': self.forget_all,
-                  'STATFS': self.space, 'OPENDIR': self.open_directory, 'RELEASEDIR': self.done}
+                  'NOTIFY_REPLY': self.done, 'STATFS': self.space, 'OPENDIR': self.open_directory, 'RELEASEDIR': self.done}
         if request.name in of_any:
             return of_any[request.name](request)
         if request.name in (None, 'FSYNC', 'FSYNCDIR', 'FLUSH', 'ACCESS'):

@@ -1,7 +1,8 @@
-//! The kernel's side of a row: it asks one request after the other, and keeps each reply. Its clock
-//! tells when.
+//! The kernel's side of a row: its messages come in their order, and what the server sends is compared
+//! with what is to go then. Its clock tells when.
 
-use crate::message::Message;
+use crate::fault::Fault;
+use crate::message::{Message, Way};
 use channel::{Channel, Ended, Received, Sent};
 use std::alloc::Global;
 use std::cell::Cell;
@@ -9,33 +10,103 @@ use std::io;
 use std::rt::Clock;
 use std::time::Duration;
 
-/// Requests that are asked, with the replies that came.
+/// Messages that pass, and what differed from them.
 #[derive(Drop)]
 pub struct Exchange<'a> {
     alloc: Global,
     clock: &'a Cell<Duration>,
     messages: &'a [Message<'a>],
-    /// By request; no bytes where it has no reply.
-    pub replies: Vec<Vec<u8>>,
+    /// The kernel can be asked.
+    has_questions: bool,
+    /// So many of the messages passed.
+    passed: usize,
+    pub faults: Vec<Fault>,
 }
 
 impl<'a> Exchange<'a> {
-    /// Of these messages nothing was asked; each sets the clock as it is.
+    /// Of these messages none passed; each that comes sets the clock as it is.
     pub fn new(
         alloc: Global,
         clock: &'a Cell<Duration>,
         messages: &'a [Message<'a>],
+        has_questions: bool,
     ) -> Exchange<'a> {
         Exchange {
             alloc,
             clock,
             messages,
-            replies: Vec::new(alloc),
+            has_questions,
+            passed: 0,
+            faults: Vec::new(alloc),
         }
+    }
+
+    /// The next message.
+    fn next(&self) -> Option<&'a Message<'a>> {
+        let messages: &'a [Message<'a>] = self.messages;
+        messages.get(self.passed)
+    }
+
+    /// Notes what is to go before the server waits for another message, and passes it over.
+    fn note_owed(&mut self) -> Result<(), Fault> {
+        for _ in 0..self.messages.len() {
+            let Some(message) = self.next() else {
+                return Ok(());
+            };
+            if message.way == Way::Asked {
+                return Ok(());
+            }
+            self.compare(message, b"")?;
+        }
+        Ok(())
+    }
+
+    /// Notes a reply.
+    fn note_reply(&mut self, sent: &[u8]) -> Result<(), Fault> {
+        match self.next() {
+            Some(message) if message.way == Way::Told => self.compare(message, sent),
+            _ => self.note_needless(sent),
+        }
+    }
+
+    /// Notes a question. Whether the kernel takes it.
+    fn note_question(&mut self, sent: &[u8]) -> Result<bool, Fault> {
+        match self.next() {
+            Some(message) if matches!(message.way, Way::Taken | Way::Refused) => {
+                self.compare(message, sent)?;
+                Ok(message.way == Way::Taken)
+            }
+            _ => {
+                self.note_needless(sent)?;
+                Ok(false)
+            }
+        }
+    }
+
+    /// Compares what went with the next message, which passed so.
+    fn compare(&mut self, message: &Message<'_>, sent: &[u8]) -> Result<(), Fault> {
+        self.passed = self.passed.saturating_add(1);
+        let wanted = message.bytes.as_slice();
+        if wanted != sent {
+            self.faults
+                .push(Fault::differs(self.alloc, message.about, wanted, sent))?;
+        }
+        Ok(())
+    }
+
+    /// Notes what went where nothing is to go.
+    fn note_needless(&mut self, sent: &[u8]) -> Result<(), Fault> {
+        let about = match self.next() {
+            Some(message) => message.about,
+            None => "behind all messages",
+        };
+        self.faults
+            .push(Fault::differs(self.alloc, about, b"", sent))?;
+        Ok(())
     }
 }
 
-/// What comes and goes is compared when the row has ended, so nothing is said of it here.
+/// What comes and goes is compared with the row, so nothing is said of it here.
 impl<'a> Channel for Exchange<'a> {
     ghost use Rattle.std.specs.Prelude.{None};
 
@@ -50,32 +121,38 @@ impl<'a> Channel for Exchange<'a> {
     ghost gone = { λ exchange. None };
 
     fn receive(&mut self, room: &mut [u8]) -> Result<Received, Ended> {
-        let Some(message) = self.messages.get(self.replies.len()) else {
+        if self.note_owed().is_err() {
+            return Err(Ended::Failed);
+        }
+        let Some(message) = self.next() else {
             return Err(Ended::Unmounted);
         };
-        let asked = message.asked.as_slice();
+        let asked = message.bytes.as_slice();
         let count = asked.len();
-        if count == 0 || count > room.len() || self.replies.push(Vec::new(self.alloc)).is_err() {
+        if count == 0 || count > room.len() {
             return Err(Ended::Failed);
         }
         room[..count].copy_from_slice(asked);
         self.clock.set(message.at);
+        self.passed = self.passed.saturating_add(1);
         Ok(Received { count })
     }
 
     fn send(&mut self, reply: &[u8]) -> Result<Sent, Ended> {
-        let Some(last) = self.replies.last_mut() else {
+        if self.note_reply(reply).is_err() {
             return Err(Ended::Failed);
-        };
-        match last.extend_from_slice(reply) {
-            Ok(()) => Ok(Sent::Whole),
-            Err(_) => Err(Ended::Failed),
         }
+        Ok(Sent::Whole)
     }
 
-    /// The kernel of a row isn't asked: each batch is one message.
-    fn ask(&mut self, _question: &[u8]) -> bool {
-        false
+    fn ask(&mut self, question: &[u8]) -> bool {
+        if !self.has_questions {
+            return false;
+        }
+        if !self.note_question(question).unwrap_or(false) {
+            return false;
+        }
+        true
     }
 }
 

@@ -22,7 +22,7 @@ impl Fault {
         told(format!(in alloc; "not understood: {line}"))
     }
 
-    /// A request got another reply.
+    /// Another message went.
     pub fn differs(alloc: Global, about: &str, wanted: &[u8], found: &[u8]) -> Fault {
         match (hex::encode(alloc, wanted), hex::encode(alloc, found)) {
             (Ok(wanted), Ok(found)) => {
@@ -32,7 +32,12 @@ impl Fault {
         }
     }
 
-    /// Something went wrong beside the replies.
+    /// There were so many device writes in place of so many.
+    pub fn count(alloc: Global, wanted: u32, found: u32) -> Fault {
+        told(format!(in alloc; "device writes: wanted {wanted}, found {found}"))
+    }
+
+    /// Something went wrong beside the messages.
     pub fn other(alloc: Global, what: &str) -> Fault {
         told(format!(in alloc; "{what}"))
     }

@@ -1,6 +1,6 @@
 //! The tests of a mounted folder: reads files of rows, each the requests that a kernel sends to a new
-//! image's server and the replies that are wanted, and says which replies are others. The head of
-//! `data/recorded.requests` says how rows are written.
+//! image's server and the replies that are wanted, and says what differs. The heads of
+//! `data/recorded.requests` and `data/batches.requests` say how rows are written.
 #![tactic(auto)]
 
 mod exchange;
@@ -8,6 +8,7 @@ mod fault;
 mod message;
 mod row;
 mod serving;
+mod session;
 
 use fault::Fault;
 use row::Row;

@@ -1,19 +1,31 @@
-//! A request with its reply, and bytes as rows write them.
+//! Messages between a kernel and a server, and bytes as rows write them.
 
 use crate::fault::Fault;
 use std::alloc::Global;
 use std::time::Duration;
 
-/// A request, and the reply that is wanted.
+/// Which way a message goes.
+#[derive(Clone, Copy, Debug, PartialEq, Eq)]
+pub enum Way {
+    /// The kernel asks the server.
+    Asked,
+    /// The server replies.
+    Told,
+    /// The server asks the kernel for a message, and the kernel takes that.
+    Taken,
+    /// The same, and the kernel refuses it.
+    Refused,
+}
+
+/// A message.
 #[derive(Drop)]
 pub struct Message<'a> {
-    /// What it asks, as a reader is told.
+    /// What it is, as a reader is told.
     pub about: &'a str,
-    /// The time at which it is asked, from 1970 on.
+    /// The time of it, from 1970 on.
     pub at: Duration,
-    pub asked: Vec<u8>,
-    /// No bytes where no reply is wanted.
-    pub told: Vec<u8>,
+    pub way: Way,
+    pub bytes: Vec<u8>,
 }
 
 /// The bytes of some words: two hexadecimal digits each, and `HH*N` for so many of one; `-` for none.

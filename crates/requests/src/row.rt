@@ -1,12 +1,13 @@
 //! Rows, as they are read.
 
 use crate::fault::Fault;
-use crate::message::{Message, bytes_of};
-use served::Owner;
+use crate::message::{Message, Way, bytes_of};
+use crate::session::Session;
+use served::{Durability, Owner};
 use std::alloc::{AllocError, Global};
 use std::time::Duration;
 
-/// A new image, and what is asked of its servers, one after the other.
+/// A new image, and its servers, one after the other.
 #[derive(Drop)]
 pub struct Row<'a> {
     alloc: Global,
@@ -14,10 +15,12 @@ pub struct Row<'a> {
     pub blocks: u32,
     pub inodes: u32,
     pub owner: Owner,
+    /// The kernel can be asked for messages.
+    pub has_questions: bool,
     /// The commands that are done before the first server.
     pub before: Vec<&'a str>,
-    pub sessions: Vec<Vec<Message<'a>>>,
-    /// What the next request is asked at, and about.
+    pub sessions: Vec<Session<'a>>,
+    /// When the next message passes, and what it is.
     at: Duration,
     about: &'a str,
 }
@@ -30,6 +33,7 @@ impl<'a> Row<'a> {
             blocks: 64,
             inodes: 32,
             owner: Owner { uid: 0, gid: 0 },
+            has_questions: false,
             before: Vec::new(alloc),
             sessions: Vec::new(alloc),
             at: Duration::from_secs(0),
@@ -44,17 +48,17 @@ impl<'a> Row<'a> {
         Ok(row)
     }
 
-    /// How many requests it has.
+    /// How many messages its kernel sends.
     pub fn count(&self) -> usize {
         let mut count = 0_usize;
         for session in self.sessions.iter() {
-            count = count.saturating_add(session.len());
+            count = count.saturating_add(session.count());
         }
         count
     }
 
     fn begin_session(&mut self) -> Result<(), AllocError> {
-        self.sessions.push(Vec::new(self.alloc))?;
+        self.sessions.push(Session::new(self.alloc))?;
         Ok(())
     }
 
@@ -66,25 +70,68 @@ impl<'a> Row<'a> {
                 self.about = words;
                 true
             }
-            "image" => self.set_image(words),
-            "owner" => self.set_owner(words),
+            "ask" => self.pass(Way::Asked, words)?,
+            "told" if words == "-" => true,
+            "told" => self.pass(Way::Told, words)?,
+            "taken" => self.pass(Way::Taken, words)?,
+            "refused" => self.pass(Way::Refused, words)?,
+            "at" => self.set_time(words),
             "before" => {
                 self.before.push(words)?;
                 true
             }
-            "at" => self.set_time(words),
             "again" => {
                 self.begin_session()?;
                 words.is_empty()
             }
-            "ask" => self.ask(words)?,
-            "told" => self.tell(words)?,
-            _ => false,
+            _ => self.set(verb, words),
         };
         if !is_understood {
             return Err(Fault::misread(self.alloc, line));
         }
         Ok(())
+    }
+
+    /// A message passes.
+    fn pass(&mut self, way: Way, words: &str) -> Result<bool, Fault> {
+        let message = Message {
+            about: self.about,
+            at: self.at,
+            way,
+            bytes: bytes_of(self.alloc, words)?,
+        };
+        let Some(session) = self.sessions.last_mut() else {
+            return Ok(false);
+        };
+        session.messages.push(message)?;
+        Ok(true)
+    }
+
+    /// `at SECONDS NANOSECONDS`: what the clock tells from here on, and when the next server begins.
+    fn set_time(&mut self, words: &str) -> bool {
+        let Some((seconds, nanoseconds)) = two_numbers(words) else {
+            return false;
+        };
+        self.at = Duration::from_secs(u64::from(seconds)).saturating_add(Duration::from_nanos(
+            u64::from(nanoseconds),
+        ));
+        true
+    }
+
+    /// Sets what a line tells of the row, or of the server at which it stands.
+    fn set(&mut self, verb: &str, words: &str) -> bool {
+        match verb {
+            "image" => self.set_image(words),
+            "owner" => self.set_owner(words),
+            "questions" => {
+                self.has_questions = true;
+                words.is_empty()
+            }
+            _ => match self.sessions.last_mut() {
+                Some(session) => set_session(session, verb, words),
+                None => false,
+            },
+        }
     }
 
     /// `image BLOCKS INODES`
@@ -105,45 +152,38 @@ impl<'a> Row<'a> {
         self.owner = Owner { uid, gid };
         true
     }
+}
 
-    /// `at SECONDS NANOSECONDS`: what the clock tells from here on, and when the next server begins.
-    fn set_time(&mut self, words: &str) -> bool {
-        let Some((seconds, nanoseconds)) = two_numbers(words) else {
-            return false;
-        };
-        self.at = Duration::from_secs(u64::from(seconds)).saturating_add(Duration::from_nanos(
-            u64::from(nanoseconds),
-        ));
-        true
+/// Sets what a line tells of a server.
+fn set_session(session: &mut Session<'_>, verb: &str, words: &str) -> bool {
+    match verb {
+        "deferred" => set_deferred(session, words),
+        "cut" => {
+            session.cut = two_numbers(words);
+            session.cut.is_some()
+        }
+        "lost" => {
+            session.is_lost = true;
+            words.is_empty()
+        }
+        "writes" => {
+            session.writes = words.parse().ok();
+            session.writes.is_some()
+        }
+        _ => false,
     }
+}
 
-    /// `ask BYTES`
-    fn ask(&mut self, words: &str) -> Result<bool, Fault> {
-        let message = Message {
-            about: self.about,
-            at: self.at,
-            asked: bytes_of(self.alloc, words)?,
-            told: Vec::new(self.alloc),
-        };
-        let Some(session) = self.sessions.last_mut() else {
-            return Ok(false);
-        };
-        session.push(message)?;
-        Ok(true)
-    }
-
-    /// `told BYTES`: the reply to the last request.
-    fn tell(&mut self, words: &str) -> Result<bool, Fault> {
-        let told = bytes_of(self.alloc, words)?;
-        let Some(session) = self.sessions.last_mut() else {
-            return Ok(false);
-        };
-        let Some(message) = session.last_mut() else {
-            return Ok(false);
-        };
-        message.told = told;
-        Ok(true)
-    }
+/// `deferred MILLISECONDS BYTES`
+fn set_deferred(session: &mut Session<'_>, words: &str) -> bool {
+    let Some((milliseconds, bytes)) = two_numbers(words) else {
+        return false;
+    };
+    session.durability = Durability::Deferred {
+        milliseconds,
+        bytes: bytes as usize,
+    };
+    true
 }
 
 fn two_numbers(words: &str) -> Option<(u32, u32)> {

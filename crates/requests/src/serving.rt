@@ -1,15 +1,15 @@
-//! Makes a row's image, serves what the row asks, and compares the replies.
+//! Makes a row's image, serves what the row asks, and compares what comes of it.
 
 use crate::exchange::{Exchange, RowClock};
 use crate::fault::Fault;
-use crate::message::Message;
 use crate::row::Row;
+use crate::session::Session;
 use handles::Numbered;
-use memory_station::Sim;
+use memory_station::{CutOutcome, Sim};
 use model::Reply;
 use mount::{Fs, Waiting, make, mount};
 use script::read_command;
-use served::{Durability, Ending, Owner, serve};
+use served::{Ending, serve};
 use std::alloc::Global;
 use std::cell::Cell;
 use std::time::Duration;
@@ -26,7 +26,7 @@ pub fn check_row(alloc: Global, row: &Row<'_>) -> Result<Vec<Fault>, Fault> {
         sim = prepared(alloc, sim, row.before.as_slice())?;
     }
     for session in row.sessions.iter() {
-        sim = check_session(alloc, sim, row.owner, session.as_slice(), &mut faults)?;
+        sim = check_session(alloc, sim, row, session, &mut faults)?;
     }
     Ok(faults)
 }
@@ -70,32 +70,63 @@ fn do_all(alloc: Global, fs: &mut Fs<Sim>, lines: &[&str]) -> Result<(), Fault> 
     Ok(())
 }
 
-/// Serves requests over an image, adds what differs, and gives the image as it was left.
+/// Serves a session over an image, adds what differs, and gives the image as it was left.
 fn check_session(
     alloc: Global,
     sim: Sim,
-    owner: Owner,
-    messages: &[Message<'_>],
+    row: &Row<'_>,
+    session: &Session<'_>,
     faults: &mut Vec<Fault>,
 ) -> Result<Sim, Fault> {
-    match mount(alloc, sim) {
-        Ok(fs) => check_mounted(alloc, fs, owner, messages, faults),
-        Err(_) => Err(Fault::other(alloc, "the image isn't mounted")),
+    let before = sim.device_writes();
+    let sim = match mount(alloc, with_cut(sim, session.cut)) {
+        Ok(fs) => check_mounted(alloc, fs, row, session, faults)?,
+        Err(_) => return Err(Fault::other(alloc, "the image isn't mounted")),
+    };
+    if let Some(wanted) = session.writes {
+        let found = sim.device_writes().saturating_sub(before);
+        compare_writes(alloc, wanted, found, faults)?;
+    }
+    switched_on(alloc, sim)
+}
+
+/// A station whose power is to be cut, where it is: within its next writes' one of this number, and
+/// so many bytes of that stay.
+fn with_cut(sim: Sim, cut: Option<(u32, u32)>) -> Sim {
+    let mut sim = sim;
+    if let Some((write, bytes)) = cut {
+        let number = sim.device_writes().saturating_add(write);
+        sim.cut_at(number, CutOutcome::Nothing, bytes);
+    }
+    sim
+}
+
+/// A station that has power: of one whose power was cut, another one with the images that it left.
+fn switched_on(alloc: Global, sim: Sim) -> Result<Sim, Fault> {
+    if !sim.is_cut() {
+        return Ok(sim);
+    }
+    let (disk, nvram) = sim.images();
+    let disk = Vec::from_slice(alloc, disk)?;
+    let nvram = Vec::from_slice(alloc, nvram)?;
+    match Sim::load_bad(alloc, disk, nvram, sim.bad_sectors()) {
+        Ok(sim) => Ok(sim),
+        Err(_) => Err(Fault::NoMemory),
     }
 }
 
-/// The same over an image that is mounted.
+/// Serves a session over an image that is mounted, and the same.
 fn check_mounted(
     alloc: Global,
     fs: Fs<Sim>,
-    owner: Owner,
-    messages: &[Message<'_>],
+    row: &Row<'_>,
+    session: &Session<'_>,
     faults: &mut Vec<Fault>,
 ) -> Result<Sim, Fault> {
     let numbers = fs.count_inodes();
     match Numbered::new(alloc, Waiting::new(alloc, fs)) {
         Ok(mut files) => {
-            let served = exchange(alloc, &mut files, numbers, owner, messages, faults);
+            let served = exchange(alloc, &mut files, numbers, row, session, faults);
             let sim = files.into_files().into_fs().into_station();
             served?;
             Ok(sim)
@@ -107,51 +138,63 @@ fn check_mounted(
     }
 }
 
-/// Exchanges requests for replies, and adds what differs.
+/// Has the messages of a session pass, and adds what differs.
 fn exchange(
     alloc: Global,
     files: &mut Numbered<Sim>,
     numbers: u32,
-    owner: Owner,
-    messages: &[Message<'_>],
+    row: &Row<'_>,
+    session: &Session<'_>,
     faults: &mut Vec<Fault>,
 ) -> Result<(), Fault> {
-    let begun = match messages.first() {
+    let begun = match session.messages.first() {
         Some(message) => message.at,
         None => Duration::from_secs(0),
     };
     let time = Cell::new(begun);
     let clock = RowClock { time: &time };
-    let mut exchange = Exchange::new(alloc, &time, messages);
-    let together = Durability::Together;
+    let messages = session.messages.as_slice();
+    let mut exchange = Exchange::new(alloc, &time, messages, row.has_questions);
     let ending = serve(
         &clock,
         alloc,
         files,
         numbers,
-        owner,
-        together,
+        row.owner,
+        session.durability,
         &mut exchange,
     );
-    compare(alloc, messages, exchange.replies.as_slice(), faults)?;
-    if ending != Ending::Unmounted {
-        faults.push(Fault::other(alloc, "the server ended by itself"))?;
+    faults.append(&mut exchange.faults)?;
+    compare_ending(alloc, session.is_lost, ending, faults)
+}
+
+/// Adds that a server ended otherwise than it is to.
+fn compare_ending(
+    alloc: Global,
+    is_lost: bool,
+    ending: Ending,
+    faults: &mut Vec<Fault>,
+) -> Result<(), Fault> {
+    let wanted = if is_lost {
+        Ending::Lost
+    } else {
+        Ending::Unmounted
+    };
+    if ending != wanted {
+        faults.push(Fault::other(alloc, "the server ended otherwise"))?;
     }
     Ok(())
 }
 
-/// Adds which of the replies that came are others than those that are wanted.
-fn compare(
+/// Adds that there were more or fewer device writes.
+fn compare_writes(
     alloc: Global,
-    messages: &[Message<'_>],
-    replies: &[Vec<u8>],
+    wanted: u32,
+    found: u32,
     faults: &mut Vec<Fault>,
 ) -> Result<(), Fault> {
-    for (message, reply) in messages.iter().zip(replies.iter()) {
-        let (wanted, found) = (message.told.as_slice(), reply.as_slice());
-        if wanted != found {
-            faults.push(Fault::differs(alloc, message.about, wanted, found))?;
-        }
+    if found != wanted {
+        faults.push(Fault::count(alloc, wanted, found))?;
     }
     Ok(())
 }
