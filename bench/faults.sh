@@ -2,13 +2,17 @@
 # Has the host fail the program on real files, and looks whether what was answered is there: kills at random moments, a host's file system
 # that gets full, a limit of the host's on the size of files, many programs on one image at once, and files that can't be written.
 #
-#   sh bench/faults.sh [KILLS]      1,000 kills, over ./wafl; WAFL=path takes another program
+#   sh bench/faults.sh [KILLS [MODE]]      1,000 kills, over ./wafl; WAFL=path takes another program
+#
+# MODE says when what was answered is durable: `usual`; `together`, of `shell --together`; `deferred` or `deferred=N`, of `run --deferred`. The
+# last two try what such a program makes of a limit on the size of files, and the kills.
 #
 # Needs python3; setpriv or unshare where root runs it, and unshare for the full file system. Ends with 1 where anything was lost.
 set -eu
 here=$(cd "$(dirname "$0")/.." && pwd)
 wafl=$(readlink -f "${WAFL:-$here/wafl}")
 kills=${1:-1000}
+mode=${2:-usual}
 "$wafl" --version > /dev/null
 folder=$(mktemp -d)
 trap 'rm -rf "$folder"' EXIT
@@ -34,18 +38,35 @@ is() {
 long=$(printf 'n%.0s' $(seq 200))
 directories() { seq -f "$2d%03g$long" "$1"; }
 
-# stands REPLIES NAME : whether the directories that were answered `ok` are there, and at most the next one.
+# stands REPLIES NAME : whether the directories that were answered `ok` are there, and at most the next one; together any number of the next
+# ones, and deferred the first ones of them all, however many.
 stands() {
     answered=$(grep -c '^ok$' "$1") || true
-    for done in $answered $((answered + 1)); do
+    least=$answered
+    most=$((answered + 1))
+    [ "$mode" = usual ] || most=60
+    case $mode in deferred*) least=0 ;; esac
+    found=$(is 'do' list /)
+    for done in $(seq "$least" "$most"); do
         names=$(directories "$done" '' | tr '\n' ' ')
-        if [ "$(is do list /)" = "names ${names% }" ]; then
+        shown="names ${names% }"
+        [ "$done" -gt 0 ] || shown=names
+        if [ "$found" = "$shown" ]; then
             is check > checked 2>&1 || lost "$2: $(head -n 1 checked)"
-            echo "$2: $answered commands answered, $((done - answered)) done without an answer; all are there"
+            echo "$2: $answered commands answered, $done done"
             return
         fi
     done
-    lost "$2: the tree isn't the one after $answered answered commands"
+    lost "$2: the tree isn't the one after $least to $most commands; $answered were answered"
+}
+
+# does_script : does the commands of the script, as the mode says.
+does_script() {
+    case $mode in
+        usual) exec "$wafl" run disk nvram script ;;
+        together) exec "$wafl" shell disk nvram --together < script ;;
+        deferred*) exec "$wafl" run disk nvram script "--$mode" ;;
+    esac
 }
 
 # limited HALVES SIGNAL : a run under a limit of the size of files, so many halves of a KiB, that brings an error or a signal.
@@ -57,9 +78,9 @@ limited() {
         [ "$2" = signal ] || trap '' XFSZ
         ulimit -c 0
         ulimit -f "$1"
-        exec "$wafl" run disk nvram script
+        does_script
     ) > replies 2> told || status=$?
-    if [ "$2" = error ]; then
+    if [ "$2" = error ] && [ "$mode" = usual ]; then
         [ "$status" = 0 ] || lost "a limit of $1: ends with $status: $(cat told)"
         [ "$(grep -c '^err EIO$' replies)" = 1 ] || lost "a limit of $1: not one EIO"
         sed '1,/^err EIO$/d' replies | grep -qv '^err FAILED$' && lost "a limit of $1: something was done behind EIO"
@@ -144,7 +165,11 @@ for halves in 4 10 16 128; do
     limited "$halves" error
     limited "$halves" signal
 done
-at_once
-unwritable
-sh "$here/bench/full.sh"
-python3 "$here/bench/kills.py" "$kills" 1 run
+if [ "$mode" = usual ]; then
+    at_once
+    unwritable
+    sh "$here/bench/full.sh"
+    python3 "$here/bench/kills.py" "$kills" 1 run
+else
+    python3 "$here/bench/kills.py" "$kills" 1 all "$mode"
+fi

@@ -2,11 +2,17 @@
 """Kills the program with SIGKILL at random moments amid `run`, `shell` and `put`, mounts what is left, and looks whether every answered
 command is done and no file is half there.
 
-    python3 bench/kills.py [KILLS] [SEED] [KINDS]        500 kills by the numbers from 1, over ./wafl; WAFL=path takes another program
+    python3 bench/kills.py [KILLS] [SEED] [KINDS [MODE]]     500 kills by the numbers from 1, over ./wafl; WAFL=path takes another program
 
 The kills go by turns to `run`, to `shell` with one line sent at a time, to `shell` with all lines sent at once, and to `put`; KINDS, as
-`run,put` or `shell at once`, leaves some out. Behind each the tree has to be the one after the answered commands, or one command further.
-A file that a `put` was to replace has its old bytes or the new ones, whole. A `put` that is then let run has to leave no name `.wafl-put`.
+`run,put` or `shell at once`, leaves some out, and `all` none. Behind each the tree has to be the one after the answered commands, or one
+command further. A file that a `put` was to replace has its old bytes or the new ones, whole. A `put` that is then let run has to leave no
+name `.wafl-put`.
+
+MODE says when what was answered is durable: `usual`, as above; `together`, of `shell --together`, where the tree may be any number of
+commands further; `deferred` or `deferred=N`, of `run` and `shell --deferred`, where it has to be the one after some number of commands, at
+least those up to the last `fsync` or `sync` that was answered.
+
 Prints a table, and ends with 1 where anything was lost."""
 import os
 import random
@@ -68,7 +74,7 @@ class Script:
         self.trees.append(self.tree.copy())
 
     def add(self):
-        kinds = "mkdir begin pwrite pwrite pwrite pwrite close rename unlink truncate sync take delete".split()
+        kinds = "mkdir begin pwrite pwrite pwrite pwrite close rename unlink truncate sync fsync take delete".split()
         getattr(self, self.chance.choice(kinds))()
 
     def mkdir(self):
@@ -121,6 +127,10 @@ class Script:
 
     def sync(self):
         self.says("sync")
+
+    def fsync(self):
+        if self.open:
+            self.says(f"fsync {self.chance.choice(sorted(self.open))}")
 
     def take(self):
         if len(self.tree.snapshots) < 4:
@@ -205,27 +215,38 @@ def send(to, lines):
         pass
 
 
-def of_commands(image, kind, delay, chance):
+def bounds(mode, lines, answered):
+    """The least number of commands that have to be done where so many of these were answered, and the greatest that may be."""
+    if mode == "usual":
+        return answered, min(answered + 1, COMMANDS)
+    if mode == "together":
+        return answered, COMMANDS
+    return max((at + 1 for at in range(answered) if lines[at].startswith(("sync", "fsync"))), default=0), COMMANDS
+
+
+def of_commands(kind, image, delay, chance, mode):
     """Kills a run or a shell; returns how many commands were answered, and how many more were done."""
     script = Script(chance, image.tree, COMMANDS)
+    options = [] if mode == "usual" else [f"--{mode}"]
     if kind == "run":
         with open("script", "w", encoding="ascii") as it:
             it.writelines(f"{line}\n" for line in script.lines)
-        shown, status = killed(["run", "disk", "nvram", "script"], delay)
+        shown, status = killed(["run", "disk", "nvram", "script", *options], delay)
     else:
-        shown, status = killed(["shell", "disk", "nvram"], delay, script.lines, kind == "shell")
+        shown, status = killed(["shell", "disk", "nvram", *options], delay, script.lines, kind == "shell")
     if status not in (0, -9) or (status == 0 and len(shown) < COMMANDS):
         raise Lost(f"{kind} ended with {status} after {len(shown)} replies")
     for at, (reply, wanted) in enumerate(zip(shown, script.replies)):
         if reply != wanted:
             raise Lost(f"{kind}: `{script.lines[at][:60]}` was answered `{reply}` and not `{wanted}`")
     found = image.found()
-    furthest = min(len(shown) + 1, COMMANDS)
-    for done in range(len(shown), furthest + 1):
+    # A program that ended has made all durable.
+    least, most = (COMMANDS, COMMANDS) if status == 0 else bounds(mode, script.lines, len(shown))
+    for done in sorted(range(least, most + 1), key=lambda it: abs(it - len(shown))):
         if script.trees[done].shown() == found:
             image.tree = script.trees[done]
             return len(shown), done - len(shown)
-    raise Lost(f"{kind}: after {len(shown)} answered commands the tree is neither theirs nor one further")
+    raise Lost(f"{kind}: after {len(shown)} answered commands the tree is none of those after {least} to {most}")
 
 
 def put_stands(image):
@@ -237,7 +258,7 @@ def put_stands(image):
     return subprocess.run([WAFL, "get", "disk", "nvram", "/puts/file", "-"], capture_output=True, check=True).stdout, left
 
 
-def of_put(image, delay, chance):
+def of_put(image, delay, chance, _mode):
     """Kills a put; returns whether it was answered, whether the new file stood there, and how many names it left."""
     new = chance.randbytes(chance.choice((5, 3000, 40_000, 200_000)))
     with open("file", "wb") as it:
@@ -258,11 +279,16 @@ def of_put(image, delay, chance):
     return status == 0, stands == new, len(left)
 
 
-KINDS = {"run": of_commands, "shell": of_commands, "shell at once": of_commands, "put": of_put}
+KINDS = {
+    "run": lambda *words: of_commands("run", *words),
+    "shell": lambda *words: of_commands("shell", *words),
+    "shell at once": lambda *words: of_commands("shell at once", *words),
+    "put": of_put,
+}
 
 
-def once(image, kind, delay, chance):
-    return of_put(image, delay, chance) if kind == "put" else of_commands(image, kind, delay, chance)
+# Which of them each mode goes with.
+GOES = {"usual": list(KINDS), "together": ["shell", "shell at once"], "deferred": ["run", "shell", "shell at once"]}
 
 
 def tell(kind, seconds, results):
@@ -272,25 +298,27 @@ def tell(kind, seconds, results):
     else:
         counts, further = zip(*results)
         amid = sum(0 < it < COMMANDS for it in counts)
-        print(f"{kind:<16} {len(results):>5} kills in {seconds:5.2f} s: {amid} amid the answers, {sum(counts)} commands answered, {sum(further)} done without an answer")
+        more, less = sum(max(it, 0) for it in further), sum(max(-it, 0) for it in further)
+        print(f"{kind:<16} {len(results):>5} kills in {seconds:5.2f} s: {amid} amid the answers, {sum(counts)} commands answered, {more} done without an answer"
+              + (f", {less} answered and not done" if less else ""))
 
 
-def main(kills=500, seed=1, kinds=",".join(KINDS)):
-    kinds = kinds.split(",")
+def main(kills=500, seed=1, kinds="all", mode="usual"):
+    kinds = GOES[mode.partition("=")[0]] if kinds == "all" else kinds.split(",")
     results, seconds = {it: [] for it in kinds}, {}
     folder = tempfile.mkdtemp()
     os.chdir(folder)
     try:
         image = Image()
         for kind in kinds:
-            once(image, kind, 600, random.Random(f"{seed} {kind}"))
+            KINDS[kind](image, 600, random.Random(f"{seed} {kind}"), mode)
             seconds[kind] = killed.took
         at = 0
         while sum(map(len, results.values())) < int(kills):
             if at % KILLS_ON_ONE_IMAGE == 0:
                 image = Image()
             kind, chance = kinds[at % len(kinds)], random.Random(f"{seed} {at}")
-            result = once(image, kind, chance.uniform(0, 1.2 * seconds[kind]), chance)
+            result = KINDS[kind](image, chance.uniform(0, 1.2 * seconds[kind]), chance, mode)
             if killed.hit:
                 results[kind].append(result)
             else:
@@ -301,7 +329,8 @@ def main(kills=500, seed=1, kinds=",".join(KINDS)):
         return 1
     for kind in kinds:
         tell(kind, seconds[kind], results[kind])
-    print("nothing that was answered is lost, and no file is half there")
+    last = ", but for the last that was answered" if mode.startswith("deferred") else ""
+    print(f"nothing that was answered is lost{last}, and no file is half there")
     shutil.rmtree(folder)
     return 0
 

@@ -4,8 +4,8 @@
 #   sh bench/mounted.sh PROGRAM [DISK_FOLDER [RUNS]]
 #
 # PROGRAM is a build of the program. Images lie in memory (/dev/shm), and once more in DISK_FOLDER, which is on a disk. Prints a table of
-# Markdown with seconds, medians of RUNS (5), and ratios to the served folder: ext4 by a loop device, without and with -o sync, btrfs so,
-# fuse2fs without and with it, and ntfs-3g. Then the round trips a second, and the server's greatest memory. The file systems take turns, run by run.
+# Markdown with seconds, medians of RUNS (5), and ratios to the served folder: the same served with --deferred, ext4 by a loop device, without
+# and with -o sync, btrfs so, fuse2fs without and with it, and ntfs-3g. Then the round trips a second, and the server's greatest memory. The file systems take turns, run by run.
 # shellcheck disable=SC2317 # Works are called by their names.
 set -u
 if [ "$#" -lt 1 ]; then
@@ -124,9 +124,11 @@ begin() {
     image=$at.image
     mkdir -p "$at"
     case $1 in
-        served)
+        served | deferred)
+            # One word, or none.
+            # shellcheck disable=SC2046
             "$program" make "$image" "$image.nvram" --force --blocks 1G --inodes 64k --half 8M 2>/dev/null &&
-                "$wafl" mount --background --wait=30 "$image" "$image.nvram" "$at" 2>/dev/null
+                "$wafl" mount --background --wait=30 $([ "$1" = served ] || echo --deferred) "$image" "$image.nvram" "$at" 2>/dev/null
             ;;
         ext4 | ext4_sync)
             truncate -s 1G "$image" && mkfs.ext4 -q -F "$image" 2>/dev/null &&
@@ -206,7 +208,7 @@ END
 # Each is KIND:BASE.
 kinds=
 for base in $bases; do
-    for kind in served ext4 ext4_sync btrfs fuse2fs fuse2fs_sync ntfs_3g; do
+    for kind in served deferred ext4 ext4_sync btrfs fuse2fs fuse2fs_sync ntfs_3g; do
         if begin $kind "$base"; then
             end $kind "$base"
             kinds="$kinds $kind:$base"

@@ -18,12 +18,14 @@ case $device in
 esac
 uid=0
 gid=0
+deferred=
 parted=$IFS
 IFS=,
 for option in ${4-}; do
     case $option in
         uid=*) uid=${option#*=} ;;
         gid=*) gid=${option#*=} ;;
+        deferred | deferred=*) deferred=--$option ;;
     esac
 done
 IFS=$parted
@@ -33,4 +35,17 @@ nvram=${1#*:}
 # waited for.
 "$home/wafl" df --wait=10 "$disk" "$nvram" >/dev/null || exit
 [ "$device" = 3 ] || eval "exec 3<&$device $device<&-"
-setsid "$home/wafl" serve --wait=10 --uid "$uid" --gid "$gid" -- "$disk" "$nvram" <&3 >&3 3<&- 2>/dev/null &
+connection=
+if [ -n "$deferred" ]; then
+    connection=$(sed -n 's/^fuse_connection:[^0-9]*//p' /proc/self/fdinfo/3)
+    if [ -z "$connection" ] || ! command -v python3 >/dev/null; then
+        echo 'wafl: not served: -o deferred needs python3, and a kernel that tells whose a device is, or a line of fstab of the type wafl' >&2
+        exit 2
+    fi
+    # shellcheck source=build/interrupts.sh
+    . "$home/interrupts.sh"
+fi
+# One word, or none.
+# shellcheck disable=SC2086
+setsid "$home/wafl" serve --wait=10 $deferred --uid "$uid" --gid "$gid" -- "$disk" "$nvram" <&3 >&3 3<&- 2>/dev/null &
+[ -z "$deferred" ] || setsid python3 "$home/ask_folder.py" $! "0:$connection" "$(bound_of "$deferred")" 3<&- >/dev/null 2>&1 &

@@ -46,7 +46,7 @@ place_all() {
     if [ -n "$unproved" ]; then place 644 /dev/null "$mark"; fi
     place 755 "$program" libexec/wafl/wafl
     if [ -z "$unproved" ]; then rm -f "$base/$mark" || refuse "$base/$mark can't be removed"; fi
-    for file in words.sh interrupts.sh mounting.sh user_mount.py help/mount.txt; do place 644 "$root/build/$file" "libexec/wafl/$file"; done
+    for file in words.sh interrupts.sh mounting.sh user_mount.py ask_folder.py feed_lines.py help/mount.txt; do place 644 "$root/build/$file" "libexec/wafl/$file"; done
     place 755 "$root/build/device.sh" libexec/wafl/device
     place 755 "$root/build/mount.wafl" sbin/mount.wafl
     place 755 "$root/build/installed.sh" bin/wafl

@@ -3,7 +3,7 @@
 set -u
 home=$(dirname "$(dirname "$(readlink -f "$0")")")/libexec/wafl
 own_helps=$home/help
-mounting=$home
+beside=$home
 # shellcheck source=build/words.sh
 . "$home/words.sh"
 # shellcheck source=build/interrupts.sh

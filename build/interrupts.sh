@@ -1,13 +1,47 @@
-# Runs the program so that an interrupted `put` or `restore` leaves nothing in the image: sourced by the script `wafl`, and by the one
-# that `wafl install` installs.
+# Runs the program so that an interrupted `put` or `restore` leaves nothing in the image, and so that a `shell` that answers before what it
+# did is durable sees time pass: sourced by the script `wafl`, and by the one that `wafl install` installs.
+# shellcheck disable=SC2154 # The script has set $beside, the folder of feed_lines.py.
 
-# run PROGRAM WORD.. : becomes the program with these words; of the two commands that store a file's bytes, waits for it. `mount` is a word
-# of the script, which then starts the program.
+# run PROGRAM WORD.. : becomes the program with these words; of the two commands that store a file's bytes, waits for it; of `shell`, may
+# stand before it. `mount` is a word of the script, which then starts the program.
 run() {
     case ${2-} in
         mount) mount_folder "$@" ;;
         put | restore) run_storing "$@" ;;
+        shell) run_shell "$@" ;;
         *) exec "$@" ;;
+    esac
+}
+
+# run_shell PROGRAM shell WORD.. : becomes the program; with --deferred becomes what hands it the lines, and empty ones where none come,
+# unless they stand in a file, where they come at once.
+run_shell() {
+    deferred=
+    for word; do
+        case $word in
+            --) break ;;
+            --deferred | --deferred=*) deferred=$word ;;
+        esac
+    done
+    milliseconds=$(bound_of "$deferred")
+    case $milliseconds in
+        # What the program itself judges.
+        '' | 0 | *[!0-9]*) exec "$@" ;;
+    esac
+    [ ! -f /dev/stdin ] || exec "$@"
+    command -v python3 >/dev/null || {
+        echo 'wafl: shell --deferred needs python3' >&2
+        exit 2
+    }
+    exec python3 "$beside/feed_lines.py" "$milliseconds" "$@"
+}
+
+# bound_of WORD : the number of milliseconds in --deferred or --deferred=N.
+bound_of() {
+    case $1 in
+        --deferred) echo 100 ;;
+        --deferred=+*) echo "${1#*=+}" ;;
+        --deferred=*) echo "${1#*=}" ;;
     esac
 }
 

@@ -1,5 +1,5 @@
-# The word `mount`: sourced by the script `wafl`, and by the one that `wafl install` installs.
-# shellcheck disable=SC2154 # The script has set $mounting, the folder of user_mount.py.
+# The word `mount`: sourced by the script `wafl`, and by the one that `wafl install` installs, behind interrupts.sh.
+# shellcheck disable=SC2154 # The script has set $beside, the folder of user_mount.py and ask_folder.py.
 
 # mount_folder PROGRAM mount WORD.. : serves an image as a folder, and ends the script with the program's status. The words were judged
 # already.
@@ -15,6 +15,7 @@ mount_folder() {
     # One that came just before that.
     [ -z "$signal" ] || give_up
     say_there
+    [ -z "$deferred" ] || start_asking
     [ -z "$background" ] || exit 0
     watch_server
 }
@@ -29,6 +30,7 @@ read_words() {
     options=
     background=
     waiting=
+    deferred=
     is_open=1
     while [ "$#" -gt 0 ]; do
         case $is_open$1 in
@@ -39,6 +41,7 @@ read_words() {
                 ;;
             1--background) background=1 ;;
             1--wait | 1--wait=*) waiting=$1 ;;
+            1--deferred | 1--deferred=*) deferred=$1 ;;
             *) read_place "$1" ;;
         esac
         shift
@@ -81,6 +84,7 @@ read_options() {
             uid=*) uid=${option#*=} ;;
             gid=*) gid=${option#*=} ;;
             fsname=*) source=${option#*=} ;;
+            deferred | deferred=*) deferred=--$option ;;
             *) for_kernel=$for_kernel,$option ;;
         esac
     done
@@ -153,6 +157,7 @@ see_able() {
         command -v fusermount3 >/dev/null || refuse_mount 'who is not root needs fusermount3, of the package fuse3'
         command -v python3 >/dev/null || refuse_mount 'who is not root needs python3'
     fi
+    [ -z "$deferred" ] || command -v python3 >/dev/null || refuse_mount '--deferred needs python3'
     if ! (: <>/dev/fuse) 2>/dev/null; then refuse_mount "/dev/fuse can't be opened; chmod 666 /dev/fuse, as root, lets everybody"; fi
 }
 
@@ -193,11 +198,11 @@ hear() {
 serve() {
     # Set-id bits aren't obeyed: who made a file isn't kept, so a program that somebody marked so would run as who mounts it next.
     own=default_permissions,max_read=1048576,noatime,nosuid,nodev
-    # One word, or none.
+    # One word each, or none.
     # shellcheck disable=SC2086
-    set -- "$program" serve $waiting --uid "$uid" --gid "$gid" -- "$disk" "$nvram"
+    set -- "$program" serve $waiting $deferred --uid "$uid" --gid "$gid" -- "$disk" "$nvram"
     if ! is_root; then
-        exec setsid python3 "$mounting/user_mount.py" "$folder" "$own,fsname=$source,subtype=wafl$for_kernel" "$@" </dev/null
+        exec setsid python3 "$beside/user_mount.py" "$folder" "$own,fsname=$source,subtype=wafl$for_kernel" "$@" </dev/null
     fi
     exec 3<>/dev/fuse
     # The source is a name, and no file of this folder.
@@ -209,6 +214,8 @@ serve() {
 # is_there : whether the folder came to be there; waits until that is known.
 is_there() {
     while ours=$(on_top) && [ "$ours" = "$before" ] && kill -0 "$server" 2>/dev/null; do sleep 0.05; done
+    # It may have been mounted between that look and the server's end.
+    ours=$(on_top)
     [ "$ours" != "$before" ] || return 1
     # What the kernel can't answer from its memory. In the background, so that a signal is heard meanwhile.
     stat -f -- "$folder" >/dev/null 2>&1 &
@@ -249,9 +256,19 @@ give_up() {
 
 # say_there : says that the folder is there.
 say_there() {
-    [ -z "$messages" ] || rm -f "$messages"
+    if [ -n "$messages" ]; then
+        cat "$messages" >&2
+        rm -f "$messages"
+    fi
     echo "wafl: $folder shows the image; $(way_to_unmount) ends it" >&2
     echo 'wafl: owners and times are kept until then only: what is set is forgotten, and the next mount shows its own user and time' >&2
+}
+
+# start_asking : has somebody beside the server see to it that the last call of programs that are silent then doesn't wait for long. The
+# server can't wait and listen at once.
+start_asking() {
+    device=$(awk -v id="$ours" '$1 == id { print $3 }' /proc/self/mountinfo)
+    (cd / && exec setsid python3 "$beside/ask_folder.py" "$server" "$device" "$(bound_of "$deferred")") </dev/null >/dev/null 2>&1 &
 }
 
 # watch_server : waits until the server ends, and ends the script with its status.
@@ -259,7 +276,7 @@ watch_server() {
     await "$server"
     if [ "$status" -ne 0 ]; then
         if [ "$status" -gt 128 ]; then
-            echo "wafl: the server was killed, by signal $((status - 128)); what it answered is kept" >&2
+            echo "wafl: the server was killed, by signal $((status - 128)); what it answered is kept$([ -z "$deferred" ] || echo ', but for the last of it')" >&2
         fi
         # So that no writer goes on in the bare folder below.
         ! is_mounted "$ours" ||

@@ -81,7 +81,9 @@ judge() {
                 for (i = 1; i <= count && names[i] ~ /^-/; i++) {
                     sub(/,$/, "", names[i])
                     has_value[names[i]] = names[i + 1] ~ /^</
-                    shown[names[i]] = names[i] (names[i + 1] ~ /^</ ? " " names[i + 1] : "")
+                    # Behind an equals sign, or not at all.
+                    may_have[names[i]] = names[i + 1] ~ /^\[</
+                    shown[names[i]] = names[i] (names[i + 1] ~ /^\[?</ ? " " names[i + 1] : "")
                 }
             }
         }
@@ -101,7 +103,7 @@ judge() {
                 if (is_many && found >= places - 1) { found++; is_open = 0; return at }
                 fault("unexpected argument \047" word "\047 found")
             }
-            if (equals && !has_value[name]) fault("unexpected value \047" substr(word, equals + 1) "\047 for \047" name "\047 found; no more were expected")
+            if (equals && !has_value[name] && !may_have[name]) fault("unexpected value \047" substr(word, equals + 1) "\047 for \047" name "\047 found; no more were expected")
             if (name == "--help" || name == "-h") { print "help"; exit 1 }
             if (name in given) fault("the argument \047" shown[name] "\047 cannot be used multiple times")
             given[name] = 1

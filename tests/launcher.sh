@@ -113,7 +113,10 @@ stays() {
 is_mounted() { mountpoint -q "$1" || LC_ALL=C stat -f "$1" 2>&1 | grep -q 'not connected'; }
 
 # server : the process that serves.
-server() { pgrep -P "$launcher"; }
+server() { pgrep -P "$launcher" -f "^$serving serve "; }
+
+# asker SERVER : the process beside it that asks the folder, where it is served deferred.
+asker() { pgrep -f "python3 $room/prefix/libexec/wafl/ask_folder.py $1 "; }
 
 # is_whole : the check finds no fault, once the server has ended.
 is_whole() { "$program" check --wait=10 disk nvram >"$room/out" 2>&1 || fails "check: $(cat "$room/out")"; }
@@ -425,6 +428,150 @@ options() {
     ended 0
 }
 
+# asks_while OPTION.. : with these options somebody asks beside the server, and no more once that has ended.
+asks_while() {
+    begin "$@" disk nvram folder
+    says 'deferred: a power cut or a kill may lose'
+    process=$(server)
+    until_so 10 asker "$process" || fails 'nobody asks'
+    mkdir folder/name && rmdir folder/name
+    umount folder || fails 'it is in use'
+    ended 0
+    until_so 5 not asker "$process" || fails 'who asks goes on'
+}
+
+deferred() {
+    fresh
+    asks_while --deferred=50
+    asks_while --deferred
+    asks_while -o deferred
+    asks_while -o uid=12,deferred=20
+    for bad in 0 x -1 ''; do refused 1 "'--deferred" "--deferred=$bad" disk nvram folder; done
+    refused 1 "'--deferred" -o deferred=0 disk nvram folder
+    is_whole
+    begin disk nvram folder
+    ! asker "$(server)" || fails 'somebody asks a folder that is not deferred'
+    umount folder
+    ended 0
+}
+
+# read_by SERVER : how many bytes it has read.
+read_by() { sed -n 's/^rchar: //p' "/proc/$1/io"; }
+
+deferred_and_idle() {
+    fresh
+    begin --deferred=50 disk nvram folder
+    process=$(server)
+    until_so 10 asker "$process" || fails 'nobody asks'
+    mkdir folder/name
+    sleep 0.5
+    idle=$(read_by "$process")
+    sleep 0.5
+    [ "$(read_by "$process")" = "$idle" ] || fails 'an idle folder is asked'
+    mkdir folder/other
+    sleep 0.3
+    [ $(($(read_by "$process") - idle)) -gt 150 ] || fails 'it is not asked behind a call'
+    kill -9 "$process"
+    stays 137
+    says 'what it answered is kept, but for the last of it'
+    until_so 5 not asker "$process" || fails 'who asks goes on'
+    begin disk nvram folder
+    [ -d folder/other ] || fails 'a call is lost that was made long before the kill'
+    umount folder
+    ended 0
+}
+
+deferred_never_in_use() {
+    fresh
+    for _ in $(seq 20); do
+        begin --deferred=10 disk nvram folder
+        until_so 10 asker "$(server)" || fails 'nobody asks'
+        rm -rf folder/part
+        cp -r "$here/build" folder/part
+        umount folder || fails 'it is in use'
+        ended 0
+    done
+    is_whole
+}
+
+deferred_in_use() {
+    fresh
+    begin --deferred=50 disk nvram folder
+    process=$(server)
+    mkfifo pipe
+    (cd folder && read -r _ <../pipe && mkdir late && sleep 1) &
+    user=$!
+    sleep 0.2
+    kill "$launcher"
+    until_so 10 grep -q 'is in use' "$room/told" || fails 'it did not say that the folder is in use'
+    echo >pipe
+    sleep 0.5
+    # Though the folder is seen nowhere.
+    kill -9 "$process"
+    wait "$user"
+    stays 137
+    begin disk nvram folder
+    [ -d folder/late ] || fails 'a call is lost that was made long before the kill'
+    umount folder
+    ended 0
+}
+
+deferred_background() {
+    fresh
+    timeout 20 "$wafl" mount --background --deferred disk nvram folder 2>&1 </dev/null | cat >"$room/told"
+    says 'deferred: a power cut or a kill may lose'
+    says 'shows the image'
+    process=$(pgrep -f "^$serving serve .* $place/disk")
+    until_so 10 asker "$process" || fails 'nobody asks'
+    asking=$(asker "$process")
+    [ "$(ps -o sid= -p "$asking" | tr -d ' ')" = "$asking" ] || fails 'who asks has no session of its own'
+    [ "$(readlink "/proc/$asking/cwd")" = / ] || fails 'who asks keeps the folder where it was called'
+    echo one >folder/name
+    umount folder || fails 'it is in use'
+    until_so 10 is_gone "$process" || fails 'the server goes on'
+    until_so 5 is_gone "$asking" || fails 'who asks goes on'
+    is_whole
+}
+
+shell_deferred() {
+    command -v python3 >/dev/null || skips 'no python3'
+    fresh
+    awk 'BEGIN {
+        for (i = 0; i < 60000; i++) data = data "61"
+        print "open /f rwc"
+        for (i = 0; i < 30; i++) print "pwrite 0 " i * 1000 " " data
+        printf "stat /f"
+    }' >lines
+    cp disk other.disk
+    cp nvram other.nvram
+    "$program" shell other.disk other.nvram <lines >wanted 2>&1
+    # In parts that begin and end amid lines, with pauses in which empty lines come.
+    { head -c 50000 lines; sleep 0.3; tail -c +50001 lines | head -c 1500000; sleep 0.3; tail -c +1550001 lines; } |
+        "$wafl" shell --deferred=20 disk nvram >found 2>&1 || fails "it ends with $?"
+    cmp -s wanted found || fails "other replies: $(head -c 300 found)"
+    "$wafl" shell --deferred disk nvram <lines >found 2>&1 || fails "it ends with $?, of a file"
+    "$wafl" shell --deferred disk nothing </dev/null >found 2>&1
+    [ $? -eq 2 ] || fails 'it ends otherwise without an NVRAM'
+    echo | "$wafl" shell --deferred disk nothing >found 2>&1
+    [ $? -eq 2 ] || fails 'it ends otherwise without an NVRAM, behind a pipe'
+    for bad in 0 x ''; do
+        echo | "$wafl" shell "--deferred=$bad" disk nvram >found 2>&1
+        [ $? -eq 1 ] || fails "--deferred=$bad is taken"
+    done
+    mkfifo pipe
+    "$wafl" shell --deferred=50 disk nvram <pipe >found 2>&1 &
+    launcher=$!
+    exec 7>pipe
+    printf 'mkdir /a\nmkd' >&7
+    until_so 10 grep -q ok found || fails 'no reply'
+    sleep 0.3
+    kill -9 "$(pgrep -P "$launcher")"
+    stays 137
+    exec 7>&-
+    [ "$("$program" 'do' disk nvram list /)" = 'names a f' ] || fails 'a line is lost that was answered long before the kill'
+    is_whole
+}
+
 # fstab LINE : a line more in /etc/fstab, in place of that of another case.
 fstab() {
     [ -e "$room/fstab" ] || cp /etc/fstab "$room/fstab"
@@ -443,6 +590,10 @@ fstab_mount_wafl() {
         echo one >folder/name && holds name one
         umount folder || fails "umount ends with $?"
     done
+    fstab "$place/disk:$place/nvram $place/folder wafl defaults,uid=12,nofail,deferred=50 0 0"
+    mount folder >"$room/told" 2>&1 || fails "mount ends with $?, deferred"
+    until_so 10 asker "$(pgrep -f "^$serving serve .*--deferred=50 .* $place/disk")" || fails 'nobody asks'
+    umount folder || fails 'it is in use'
     mv nvram away
     ! mount folder >"$room/told" 2>&1 || fails 'an image without its NVRAM was mounted'
     says 'No such file'
@@ -463,6 +614,17 @@ fstab_fuse3() {
         echo one >folder/name && holds name one
         umount folder || fails "umount ends with $?"
     done
+    fstab "$room/prefix/libexec/wafl/device#$place/disk:$place/nvram $place/folder fuse3 drop_privileges,subtype=wafl,allow_other,default_permissions,deferred=50 0 0"
+    mount folder >"$room/told" 2>&1 || fails "mount ends with $?, deferred"
+    process=$(pgrep -f "^$serving serve .*--deferred=50 .* $place/disk")
+    until_so 10 asker "$process" || fails 'nobody asks'
+    mkdir folder/deferred
+    sleep 0.5
+    kill -9 "$process"
+    umount folder
+    mount folder || fails "mount ends with $?, behind a kill"
+    [ -d folder/deferred ] || fails 'a call is lost that was made long before the kill'
+    umount folder || fails 'it is in use'
     mv nvram away
     ! mount folder >"$room/told" 2>&1 || fails 'an image without its NVRAM was mounted'
     says 'No such file'
@@ -532,6 +694,21 @@ user_server_killed() {
     is_whole
 }
 
+user_deferred() {
+    for_user
+    begin --deferred=50 disk nvram folder
+    process=$(server)
+    until_so 10 asker "$process" || fails 'nobody asks'
+    $as_user mkdir folder/name
+    sleep 0.5
+    kill -9 "$process"
+    stays 137
+    begin disk nvram folder
+    $as_user [ -d folder/name ] || fails 'a call is lost that was made long before the kill'
+    $as_user fusermount3 -u folder
+    ended 0
+}
+
 user_refused() {
     for_user
     refused 2 'No such file' disk nothing folder
@@ -555,8 +732,9 @@ not() { ! "$@"; }
 
 [ "$(id -u)" = 0 ] || { echo 'FAILED: only root can try it'; exit 1; }
 [ "$#" -gt 0 ] || set -- words unmounted signals in_use terminal not_images within image_in_use told_while_it_waits no_device background \
-    server_killed mounted_anew launcher_killed other_on_top names options fstab_mount_wafl fstab_fuse3 \
-    user_unmounted user_signals user_server_killed user_refused
+    server_killed mounted_anew launcher_killed other_on_top names options deferred deferred_and_idle deferred_never_in_use \
+    deferred_in_use deferred_background shell_deferred fstab_mount_wafl fstab_fuse3 user_unmounted user_signals user_server_killed \
+    user_deferred user_refused
 failed=0
 for case; do
     : >"$room/told"

@@ -5,7 +5,8 @@
 #
 # PROGRAM is a build of the program, WORK an empty folder (else a new one in memory), KILLS how often a server is killed in the longest
 # test (60). With TESTs only those whose names begin so. Prints a line for each test: ok, FAILED and why, or skipped and why; ends with 1
-# where one failed, or the image isn't whole at the end. Takes a quarter of an hour, and many times that with a build without proofs.
+# where one failed, or the image isn't whole at the end. Takes a quarter of an hour, and many times that with a build without proofs. With
+# MOUNT_OPTIONS=--deferred in the environment the folder is served so.
 # Packages of Debian: git sqlite3 rsync fio stress-ng dbench bonnie++ fsmark postmark make gcc python3.
 # shellcheck disable=SC2317 # The end is called by a trap.
 set -u
@@ -93,7 +94,9 @@ alone() {
 
 "$program" make "$work/disk" "$work/nvram" --force --blocks 1G --inodes 64k --half 8M 2>/dev/null || exit
 mkdir -p "$folder"
-"$wafl" mount --background "$work/disk" "$work/nvram" "$folder" 2>"$work/said" || { cat "$work/said"; exit 1; }
+# One word, or none.
+# shellcheck disable=SC2086
+"$wafl" mount --background ${MOUNT_OPTIONS:-} "$work/disk" "$work/nvram" "$folder" 2>"$work/said" || { cat "$work/said"; exit 1; }
 chmod 777 "$folder"
 
 for test in numbers_again removed set_id set_group holes listing space times odds; do alone $test; done
@@ -103,6 +106,8 @@ for seed in 1 2 3 4 5 6 7; do try fsx_$seed python3 own_folder "$tests/fsx.py" $
 for seed in 8 9 10; do try fsx_kills_$seed python3 python3 "$tests/fsx.py" --kills 8 "$wafl" "$work" $seed 20000; done
 try kills python3 python3 "$tests/kills.py" "$wafl" "$work" "$kills"
 try sqlite_kills python3 python3 "$tests/sqlite_kills.py" "$wafl" "$work" $((kills / 3 + 1))
+try deferred python3 python3 "$tests/deferred.py" "$wafl" "$work" "$kills"
+try sqlite_deferred python3 python3 "$tests/sqlite_kills.py" "$wafl" "$work" $((kills / 3 + 1)) --deferred=1000
 try full python3 python3 "$tests/full.py" "$wafl" "$work"
 try git git git_works
 try sqlite sqlite3 sqlite_works

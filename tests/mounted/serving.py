@@ -8,10 +8,11 @@ import time
 
 
 class Served:
-    """An image and its folder, which the program of the launcher serves by turns."""
+    """An image and its folder, which the program of the launcher serves by turns, with these options."""
 
-    def __init__(self, launcher, work, name, sizes):
+    def __init__(self, launcher, work, name, sizes, options=()):
         self.launcher = launcher
+        self.options = options
         self.disk = f'{work}/{name}.disk'
         self.nvram = f'{work}/{name}.nvram'
         self.folder = f'{work}/{name}.folder'
@@ -22,7 +23,7 @@ class Served:
 
     def start(self):
         """Mounts the folder; what a killed server left is unmounted by that."""
-        words = [self.launcher, 'mount', '--wait=20', self.disk, self.nvram, self.folder]
+        words = [self.launcher, 'mount', '--wait=20', *self.options, self.disk, self.nvram, self.folder]
         self.process = subprocess.Popen(words, stderr=subprocess.PIPE, text=True)
         said = ''
         for line in self.process.stderr:

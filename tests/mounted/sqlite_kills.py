@@ -1,5 +1,5 @@
-"""sqlite_kills.py LAUNCHER WORK KILLS: SQLite commits while the server is killed, in both journal modes by turns; a commit that was answered is
-there behind the next mount, and the database is whole."""
+"""sqlite_kills.py LAUNCHER WORK KILLS [OPTION..]: SQLite commits while the server is killed, in both journal modes by turns; a commit that was
+answered is there behind the next mount, which has these options, and the database is whole."""
 
 import random
 import sqlite3
@@ -13,7 +13,7 @@ COMMITS = '''
 import sqlite3, sys
 database = sqlite3.connect(sys.argv[1])
 database.execute('pragma journal_mode=' + sys.argv[2])
-database.execute('pragma synchronous=full')
+database.execute('pragma synchronous=' + sys.argv[3])
 database.execute('create table if not exists commits(number integer primary key, text)')
 database.commit()
 number = database.execute('select max(number) from commits').fetchone()[0] or 0
@@ -39,7 +39,9 @@ def look(path):
 
 
 launcher, work, kills = sys.argv[1], sys.argv[2], int(sys.argv[3])
-served = Served(launcher, work, 'sqlite', ['--blocks', '64M', '--inodes', '1k', '--half', '1M'])
+# Where a removed name isn't kept at once, `extra` syncs the directory behind the journal's.
+level = 'extra' if sys.argv[4:] else 'full'
+served = Served(launcher, work, 'sqlite', ['--blocks', '64M', '--inodes', '1k', '--half', '1M'], sys.argv[4:])
 times = random.Random(3)
 commits = 0
 lost = 0
@@ -48,7 +50,7 @@ for turn in range(kills):
     mode = 'wal' if turn % 2 else 'delete'
     path = f'{served.folder}/{mode}.db'
     before = look(path)[1]
-    writer = subprocess.Popen([sys.executable, '-c', COMMITS, path, mode], stdout=subprocess.PIPE, stderr=subprocess.DEVNULL, text=True)
+    writer = subprocess.Popen([sys.executable, '-c', COMMITS, path, mode, level], stdout=subprocess.PIPE, stderr=subprocess.DEVNULL, text=True)
     killer = threading.Timer(times.uniform(0.3, 1.5), served.kill)
     killer.start()
     answered = before

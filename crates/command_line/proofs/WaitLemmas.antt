@@ -4,7 +4,7 @@ use Rattle.std.proofs.Math.ListN.{get_or-map}
 use Rattle.std.proofs.lemmas.List.{length-map}
 use Rattle.std.specs.Prelude.{Option, Some}
 use Rattle.clap.specs.Words.{Text}
-use Rattle.command_line.specs.Waiting.{others_in, says_wait, stand_after, wait_in}
+use Rattle.command_line.specs.Waiting.{as_read, others_in, says_wait, stand_after, wait_in}
 use Rattle.command_line.specs.declared.waiting.Stand.{Stand}
 
 abbrev pub text_of : Bor Text → Text
@@ -24,7 +24,7 @@ module _ (s : Stand) (w : Text) (ws behind : List Text) (at : ws ≡ w ∷ behin
   unfolding others_in
   others_past front all is before =
       let next = others_in (stand_after s w) behind in
-      ap (λ l. front ++ l) (sym (ap (λ b. cond b next (w ∷ next)) is)) ∙ ap (λ l. front ++ others_in s l) (sym at) ∙ before
+      ap (λ l. front ++ l) (sym (ap (λ b. cond b next (as_read s w ∷ next)) is)) ∙ ap (λ l. front ++ others_in s l) (sym at) ∙ before
 
   pub wait_past : (last all : Option Text) → says_wait s w ≡ true → wait_in last s ws ≡ all → wait_in (Some w) (stand_after s w) behind ≡ all
   unfolding wait_in
@@ -33,11 +33,11 @@ module _ (s : Stand) (w : Text) (ws behind : List Text) (at : ws ≡ w ∷ behin
 
   -- another word
   pub others_with : (front all : List Text) → says_wait s w ≡ false → front ++ others_in s ws ≡ all
-      → (front ++ w ∷ []) ++ others_in (stand_after s w) behind ≡ all
+      → (front ++ as_read s w ∷ []) ++ others_in (stand_after s w) behind ≡ all
   unfolding others_in
   others_with front all is before =
       let next = others_in (stand_after s w) behind in
-      append_assoc front (w ∷ []) next ∙ ap (λ l. front ++ l) (sym (ap (λ b. cond b next (w ∷ next)) is))
+      append_assoc front (as_read s w ∷ []) next ∙ ap (λ l. front ++ l) (sym (ap (λ b. cond b next (as_read s w ∷ next)) is))
       ∙ ap (λ l. front ++ others_in s l) (sym at) ∙ before
 
   pub wait_before : (last all : Option Text) → says_wait s w ≡ false → wait_in last s ws ≡ all → wait_in last (stand_after s w) behind ≡ all

@@ -38,6 +38,16 @@ number_from least id = record (option_rule id) { parser = Some (Signed (pos leas
 abbrev pub with_default : Text → Rule → Rule
 with_default text rule = record rule { defaults = text ∷ [] }
 
+-- answers go behind one commit
+abbrev pub together : Rule
+together = flag_rule (codes "together")
+
+-- answers go at once: after how many milliseconds they are durable, 1 at least
+abbrev pub deferred : Rule
+deferred = record (number_from 1 (codes "deferred")) {
+  range = Some (record { start_inclusive = 0; end_inclusive = 1 });
+}
+
 -- all words that are left, one or more
 abbrev pub all_others : Text → Rule
 all_others id = record (place_rule id) {
@@ -68,10 +78,10 @@ abbrev pub run_app : App
 run_app = on_image (codes "run") (place_rule (codes "script") ∷ flag_rule (codes "stop")
     ∷ number_from 1 (codes "cut") ∷ with_default (codes "none") (option_rule (codes "keep"))
     ∷ with_default (codes "0") (number_from 0 (codes "bytes")) ∷ number_from 1 (codes "fail-sync")
-    ∷ explain ∷ [])
+    ∷ deferred ∷ explain ∷ [])
 
 abbrev pub shell_app : App
-shell_app = on_image (codes "shell") (explain ∷ [])
+shell_app = on_image (codes "shell") (together ∷ deferred ∷ explain ∷ [])
 
 abbrev pub do_app : App
 do_app = on_image (codes "do") (all_others (codes "words") ∷ encoded ∷ salvage ∷ explain ∷ [])
@@ -97,7 +107,7 @@ restore_app = on_image (codes "restore") (place_rule (codes "snapshot") ∷ plac
 
 abbrev pub serve_app : App
 serve_app = on_image (codes "serve") (with_default (codes "0") (number_from 0 (codes "uid"))
-    ∷ with_default (codes "0") (number_from 0 (codes "gid")) ∷ explain ∷ [])
+    ∷ with_default (codes "0") (number_from 0 (codes "gid")) ∷ deferred ∷ explain ∷ [])
 
 -- the program, which has a version and requires one of its commands
 abbrev pub program : App

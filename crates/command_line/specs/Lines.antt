@@ -8,6 +8,7 @@ use Rattle.clap.specs.declared.error.kind.ErrorKind.TheVariants.{DisplayHelp, Di
 use Rattle.layout.specs.declared.TheConstants.{BLOCK_BYTES}
 use Rattle.layout.specs.declared.geometry.TheConstants.{LEAST_BLOCKS, MOST_BLOCKS, LEAST_INODES, MOST_INODES, LEAST_HALF, MOST_HALF}
 use Rattle.command_line.specs.Arguments.{wafl_app}
+use Rattle.command_line.specs.Durabilities.{durability_at}
 use Rattle.command_line.specs.Values.{Refusal, amount_at, given, is_set, needed, not_understood, option_number, out_of_range, text_at}
 use Rattle.command_line.specs.declared.line.Asked.{Asked}
 use Rattle.command_line.specs.declared.line.Kept.{Kept}
@@ -173,23 +174,22 @@ named_line name rows = if bytes_eq name (codes "make") then make_line rows
 
 -- ---- the words
 
--- the flags of a command, where so long is waited
-abbrev pub options_at : List Row → Wait → Options
-options_at rows wait = record {
+-- the flags and options of a command, where so long is waited
+unfoldable pub options_at : List Row → Wait → Result Options Refusal
+options_at rows wait = given (durability_at rows) (λ durability. Ok (record {
   explains = is_set (codes "explain") rows;
   is_encoded = is_set (codes "encoded") rows;
   is_human = is_set (codes "human") rows;
   salvages = is_set (codes "salvage") rows;
   forces = is_set (codes "force") rows;
+  durability = durability;
   wait = wait;
-}
-
--- the line of a command, and its flags
-abbrev pub asked_at : Text → List Row → Wait → Result AskedValue Refusal
-asked_at name rows wait = given (named_line name rows) (λ l. Ok (record {
-  line = l;
-  options = options_at rows wait;
 }))
+
+-- the line of a command, and its flags and options
+abbrev pub asked_at : Text → List Row → Wait → Result AskedValue Refusal
+asked_at name rows wait = given (named_line name rows) (λ l. given (options_at rows wait) (λ o.
+    Ok (record { line = l; options = o })))
 
 -- what clap finds wrong with the words, or what help they ask for
 unfoldable pub faults_of : List Text → Kinds
@@ -210,7 +210,7 @@ abbrev pub asked_by : List Text → Wait → Result AskedValue Refusal
 asked_by words wait =
     unless (faults_of words) (given (needed (command_of words)) (λ sub. asked_at sub.0 sub.1 wait))
 
--- what the words ask for: clap reads those that don't say how long is waited
+-- what the words ask for: clap reads those that don't say how long is waited, `--deferred` written out
 abbrev pub asked_of : List Text → Result AskedValue Refusal
 asked_of words = given (wait_of words) (asked_by (others_of words))
 

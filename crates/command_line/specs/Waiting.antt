@@ -4,6 +4,7 @@ use Rattle.std.specs.Prelude.{Option, Some, None, Result, Ok, if◌then◌else�
 use Rattle.std.specs.List.{starts_with}
 use Rattle.std.specs.Str.{bytes_eq}
 use Rattle.clap.specs.Words.{Text}
+use Rattle.command_line.specs.Durabilities.{written_out}
 use Rattle.command_line.specs.Values.{Refusal, given, needed, spelled_number}
 use Rattle.command_line.specs.declared.waiting.Stand.{Stand}
 use Rattle.command_line.specs.declared.waiting.Stand.TheVariants as stand
@@ -25,6 +26,12 @@ says_wait stand.Start word = false
 says_wait stand.Words word = false
 says_wait _ word = is_wait word
 
+-- a word as clap reads it: an option's default value is written out
+abbrev pub as_read : Stand → Text → Text
+as_read stand.Start word = word
+as_read stand.Words word = word
+as_read _ word = written_out word
+
 -- what stands before the word behind one that is no option: the first such word behind the
 -- program's name is the command's name, and behind that of `do` come DISK, NVRAM and its own
 -- command's words
@@ -42,11 +49,11 @@ stand_after stand.Words word = stand.Words
 stand_after s word = if bytes_eq word (codes "--") then stand.Words
     else (if is_option word then s else after_place s word)
 
--- the words that don't say how long is waited
+-- the words that don't say how long is waited, as clap reads them
 unfoldable pub others_in : Stand → List Text → List Text
 others_in s [] = []
 others_in s (word ∷ words) = if says_wait s word then others_in (stand_after s word) words
-    else word ∷ others_in (stand_after s word) words
+    else as_read s word ∷ others_in (stand_after s word) words
 
 -- the last word that says it, or this one where none does
 unfoldable pub wait_in : Option Text → Stand → List Text → Option Text

@@ -10,8 +10,8 @@ use crate::help_texts::{
     RESTORE_NOTES, SERVE_NOTES,
 };
 use crate::options::{
-    bytes, command_words, count, encoded, explain, flag, keep, last_place, option, owner, place,
-    salvage, size,
+    bytes, command_words, count, deferred, encoded, explain, flag, keep, last_place, option, owner,
+    place, salvage, size, together,
 };
 use clap::{Arg, Command};
 use std::alloc::{AllocError, Global};
@@ -175,6 +175,7 @@ fn run_command<'a>(alloc: Global) -> Growing<'a>
         "fail-sync",
         "Let sync N of this run fail, from 1, which mounting makes, as in --fail-sync 2",
     ))
+    .arg(deferred(alloc))
     .arg(explain(alloc))
 }
 
@@ -187,6 +188,8 @@ fn shell_command<'a>(alloc: Global) -> Growing<'a>
         "Mount an image and answer each line of standard input at once",
         COMMAND_NOTES,
     )
+    .arg(together(alloc))
+    .arg(deferred(alloc))
     .arg(explain(alloc))
 }
 
@@ -332,5 +335,6 @@ fn serve_command<'a>(alloc: Global) -> Growing<'a>
         "Whose the files are until that is set, as in --uid 1000",
     ))
     .arg(owner(alloc, "gid", "And of which group, as in --gid 1000"))
+    .arg(deferred(alloc))
     .arg(explain(alloc))
 }

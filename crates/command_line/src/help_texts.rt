@@ -12,7 +12,8 @@ pub const FIRST_STEPS: &str = "What to type first:
   wafl shell disk nvram
   wafl mount disk nvram folder
 
-What was answered is kept: whatever stops the program or the machine, the next run finds it.
+What was answered is kept: whatever stops the program or the machine, the next run finds it. With
+--deferred, of run, shell, serve and mount, this is so after a moment: what is told there.
 disk and nvram are one image: keep and copy them together, while nothing writes them.
 
 wafl shell --help names all commands, with an example of each, and wafl put --help what put
@@ -58,7 +59,7 @@ pub const COMMAND_NOTES: &str = "Commands, one a line, with an example of each:
   lseek FD FROM OFFSET        moves the offset: lseek 0 set 1
   ftruncate FD SIZE           gives an open file another size: ftruncate 0 2
   fstat FD                    what stat tells, of an open file: fstat 0
-  fsync FD                    done at once, as what was answered is kept: fsync 0
+  fsync FD                    answered once all that was done is kept, as each command is: fsync 0
   extent PATH OFFSET          counts a file's stored blocks, finds data and a hole: extent /f 0
   sync                        makes a consistency point: sync
   df                          tells the room of the disk: df
@@ -86,6 +87,14 @@ with --encoded, before the command, its words are spelled as in a script, as in 
 Lines of shell are spelled as in a script, but for modes and carriage returns, which are taken
 as you type them; help and quit are words of shell alone.
 
+Each command is durable when its reply is printed: neither a kill nor a power cut loses it. With
+--together shell answers lines that wait in a pipe behind one commit: for programs that send many
+lines before they read, and as safe. With --deferred run and shell answer at once, and make durable
+what was done at fsync and sync, within 100 milliseconds or as many as the number says, and at the
+end. A kill or a power cut may lose the commands since, and none before them: for what can be done
+once more, as filling an image. shell then needs lines: an empty one shows that time has passed, and
+wafl, the script, sends it.
+
 With --wait they wait while another program has the image in use, with --wait=5 for 5 seconds
 at most; for do it stands before the command, as in wafl do --wait disk nvram list /.
 
@@ -93,6 +102,7 @@ Examples:
   wafl run disk nvram script
   wafl run disk nvram - --stop < script
   wafl run disk nvram - --cut 5 --bytes 1 < script
+  wafl run disk nvram script --deferred
   wafl shell disk nvram
   wafl do disk nvram stat /d/f
   wafl do disk nvram in monday list '/a b'";
@@ -165,7 +175,9 @@ Examples:
 
 /// What the help of `serve` says behind its options.
 pub const SERVE_NOTES: &str =
-    "It is what wafl mount starts, once it has the kernel's device: requests of the kernel's FUSE come by standard input, one by each read, and their answers go to standard output. It ends with status 0 when the folder is unmounted. What was answered is kept; when it is killed, the folder answers nothing until it is unmounted, and the next mount finds all of it.
+    "It is what wafl mount starts, once it has the kernel's device: requests of the kernel's FUSE come by standard input, one by each read, and their answers go to standard output. It ends with status 0 when the folder is unmounted. What was answered is kept, but with --deferred; when it is killed, the folder answers nothing until it is unmounted, and the next mount finds all of it.
+
+Calls that wait at the same time are done together, and are answered behind one commit. With --deferred each is answered at once, and is durable at the next fsync, close or statfs, at the first request behind so many milliseconds, where more than a MiB waits, and in the end; a kill or a power cut may lose those since, and none before them. The program can't wait by itself: where nobody asks for anything, somebody has to ask for the folder's free space once in so many milliseconds, as wafl mount has it done.
 
 Owners and times are kept until it ends: they are N's and of the time of the mount, and what is set since. In .snapshot are the snapshots: mkdir takes one and rmdir deletes one.
 

@@ -5,6 +5,7 @@
 
 mod arguments;
 mod commands;
+mod durability;
 mod forms;
 mod help_texts;
 mod line;
@@ -17,6 +18,7 @@ mod spelled_line;
 mod values;
 mod waiting;
 
+pub use durability::Durability;
 pub use help_texts::COMMAND_NOTES;
 pub use line::{Asked, Kept, Line, LineError, Options, RunFaults, read_line};
 pub use script_lines::explain_line;

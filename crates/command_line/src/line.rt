@@ -4,12 +4,13 @@ ghost use Rattle.std.specs.Prelude.{◌≡◌, ◌⊎◌, IfOk, IfErr, [], map};
 ghost use Rattle.clap.specs.Words.{IsAmong, kind_of, subcommand_rows_of};
 ghost use Rattle.clap.specs.declared.error.kind.ErrorKind.TheVariants as kind;
 ghost use Rattle.command_line.specs.Lines.{AskForHelp, IsMisunderstood, Refuses, ShowsHelp, asked_by, asked_of, asked_value};
-ghost use Rattle.command_line.specs.Lines.{command_of, faults_of, help, line_value, options_at};
+ghost use Rattle.command_line.specs.Lines.{command_of, faults_of, help, line_value, options_at, Yields};
 ghost use Rattle.command_line.specs.Values.{rows_in};
 ghost use Rattle.command_line.specs.declared.line.LineError.TheVariants.{NoMemory};
 
 use crate::arguments::wafl_command;
 use crate::commands::line_of_command;
+use crate::durability::{Durability, durability_of};
 use crate::values::is_set;
 use crate::waiting::{Wait, take_wait};
 use clap::ArgMatches;
@@ -25,7 +26,8 @@ pub struct Asked<'a> {
     pub options: Options,
 }
 
-/// How what a command line asks for is done and told: the flags, each of the commands that have it.
+/// How what a command line asks for is done and told: the flags and options, each of the commands
+/// that have it.
 #[derive(Clone, Copy, Debug)]
 pub struct Options {
     /// `--explain`: what is wrong with a script or an image is told in a second line, on no
@@ -39,6 +41,8 @@ pub struct Options {
     pub salvages: bool,
     /// `--force`: what is replaced isn't asked about.
     pub forces: bool,
+    /// `--together` or `--deferred`: when what is answered is durable.
+    pub durability: Durability,
     pub wait: Wait,
 }
 
@@ -58,7 +62,7 @@ pub enum Line<'a> {
         is_new: bool,
     },
     /// `wafl run DISK NVRAM SCRIPT [--stop] [--cut N] [--keep none|all|BITS] [--bytes K]
-    /// [--fail-sync N]`: mounts the image and runs a script.
+    /// [--fail-sync N] [--deferred[=MILLISECONDS]]`: mounts the image and runs a script.
     Run {
         disk: &'a str,
         nvram: &'a str,
@@ -68,7 +72,8 @@ pub enum Line<'a> {
         stops: bool,
         faults: RunFaults<'a>,
     },
-    /// `wafl shell DISK NVRAM`: mounts the image and answers each line of standard input at once.
+    /// `wafl shell DISK NVRAM [--together | --deferred[=MILLISECONDS]]`: mounts the image and answers
+    /// each line of standard input at once.
     Shell {
         disk: &'a str,
         nvram: &'a str,
@@ -121,8 +126,9 @@ pub enum Line<'a> {
         /// The path that it gets in the running tree, in place of the same one.
         new_path: Option<&'a str>,
     },
-    /// `wafl serve DISK NVRAM [--uid N] [--gid N]`: mounts the image and answers the kernel's
-    /// requests for a folder, which come by standard input and are answered on standard output.
+    /// `wafl serve DISK NVRAM [--uid N] [--gid N] [--deferred[=MILLISECONDS]]`: mounts the image and
+    /// answers the kernel's requests for a folder, which come by standard input and are answered on
+    /// standard output.
     Serve {
         disk: &'a str,
         nvram: &'a str,
@@ -214,22 +220,24 @@ fn read_others<'a>(alloc: Global, words: &'a [&'a str], wait: Wait) -> Result<As
     };
     Ok(Asked {
         line: line_of_command(alloc, name, matches)?,
-        options: options_of(matches, wait),
+        options: options_of(alloc, matches, wait)?,
     })
 }
 
-/// The flags that clap found, and how long is waited.
-fn options_of(matches: &ArgMatches<'_>, wait: Wait) -> Options
-    ensures { result ≡ options_at (rows_in matches.now) wait }
+/// The flags and options that clap found, and how long is waited.
+#[tactic(auto, unfolding(crate::specs::Lines::options_at))]
+fn options_of(alloc: Global, matches: &ArgMatches<'_>, wait: Wait) -> Result<Options, LineError>
+    ensures { Yields (λ o. o) (options_at (rows_in matches.now) wait) result }
 {
-    Options {
+    Ok(Options {
         explains: is_set(matches, "explain"),
         is_encoded: is_set(matches, "encoded"),
         is_human: is_set(matches, "human"),
         salvages: is_set(matches, "salvage"),
         forces: is_set(matches, "force"),
+        durability: durability_of(alloc, matches)?,
         wait,
-    }
+    })
 }
 
 /// What clap finds in the words.
@@ -264,6 +272,7 @@ fn answer_without_matches<'a>(
                 is_human: false,
                 salvages: false,
                 forces: false,
+                durability: Durability::Usual,
                 wait,
             },
         }),

@@ -98,6 +98,32 @@ pub fn count<'a>(alloc: Global, name: &'a str, help: &'a str) -> Arg<'a>
     option(alloc, name, "N", help).value_parser(value_parser!(u32).range(1..))
 }
 
+/// `--together`, of a command that can give its answers behind one commit.
+pub fn together<'a>(alloc: Global) -> Arg<'a>
+    ensures { IsArg spec.together result }
+{
+    flag(
+        alloc,
+        "together",
+        "Answer lines that wait in a pipe together, behind one commit: no answer is lost",
+    )
+}
+
+/// `--deferred`, of a command that can give its answers before they are durable. `--deferred` alone
+/// comes written out.
+pub fn deferred<'a>(alloc: Global) -> Arg<'a>
+    ensures { IsArg spec.deferred result }
+{
+    option(
+        alloc,
+        "deferred",
+        "MILLISECONDS",
+        "Answer at once, and make it durable within so many milliseconds, 100 with --deferred alone, as in --deferred=20; a power cut or a kill loses what was answered since",
+    )
+    .num_args(0..=1)
+    .value_parser(value_parser!(u32).range(1..))
+}
+
 /// A user's or a group's number: 0, root's, where the words don't say.
 pub fn owner<'a>(alloc: Global, name: &'a str, help: &'a str) -> Arg<'a>
     ensures { IsArg (spec.with_default (codes "0") (spec.number_from 0 name.entry.now)) result }

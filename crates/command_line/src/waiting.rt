@@ -7,6 +7,7 @@ ghost use Rattle.command_line.specs.Waiting as spec;
 ghost use Rattle.command_line.specs.Waiting.{others_of, stand_after, wait_in, wait_of};
 ghost use Rattle.command_line.specs.declared.waiting.Stand.TheVariants.{Start};
 
+use crate::durability::written_out;
 use crate::line::LineError;
 use crate::numbers::whole_number;
 use std::alloc::{AllocError, Global};
@@ -42,8 +43,8 @@ enum Stand {
     Words,
 }
 
-/// Takes the words that say how long is waited out of the program's words: the others come into
-/// `others`, and the last of them counts.
+/// Takes the words that say how long is waited out of the program's words, and the last of them
+/// counts: the others come into `others`, as clap reads them.
 pub fn take_wait<'w, S: AsStr>(
     alloc: Global,
     words: &'w [S],
@@ -69,7 +70,8 @@ fn texts_of<'w, S: AsStr>(alloc: Global, words: &'w [S]) -> Result<Vec<&'w str>,
     Ok(texts)
 }
 
-/// The last of the words that say how long is waited, and into `others` all that don't.
+/// The last of the words that say how long is waited, and into `others` all that don't, as clap
+/// reads them.
 fn split_words<'w>(
     words: &[&'w str],
     others: &mut Vec<&'w str>,
@@ -84,11 +86,12 @@ fn split_words<'w>(
     let mut stand = Stand::Start;
     for word in words {
         let is_wait = says_wait(stand, word);
+        let read = as_read(stand, word);
         stand = after(stand, word);
         if is_wait {
             last = Some(*word);
         } else {
-            others.push(*word)?;
+            others.push(read)?;
         }
     }
     Ok(last)
@@ -101,6 +104,16 @@ fn says_wait(stand: Stand, word: &str) -> bool
     match stand {
         Stand::Start | Stand::Words => false,
         _ => word == "--wait" || word.starts_with("--wait="),
+    }
+}
+
+/// A word as clap reads it: an option's default value is written out.
+fn as_read(stand: Stand, word: &str) -> &str
+    ensures { result.now ≡ spec.as_read stand word.now }
+{
+    match stand {
+        Stand::Start | Stand::Words => word,
+        _ => written_out(word),
     }
 }
 

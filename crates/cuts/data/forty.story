@@ -11,6 +11,8 @@
 #   probe COMMAND -> REPLY          a reading command, and its reply on the image before the first command
 #   start                           lines about what is shown before the first command follow
 #   again N                         of all second cuts, which come within each write of the tail behind each cut, each N-th is tried only
+#   together LINES WRITES           the commands run again with so many lines that wait at once, make so many device writes, and are cut within
+#                                   each: what is answered then, and what stands behind the cut, are whole batches
 #   failing                         each device call fails in turn
 #   quiet N                         those behind the first N commands make no device call
 #   sweep disk A..B, sweep nvram A..B    each byte from A to B becomes 00 and ff in turn: a mount, the commands and a check come to an end
@@ -30,6 +32,10 @@
 # In texts {HH} is a byte, {HH*N} so many of it, and {A..B HH*N} the numbers from A to B, each in three digits with so many of the byte
 # behind it.
 
+# Of four at once each of these makes its commits: the first four (5 writes); the fifth, which has no room, by itself behind a point (10),
+# the seventh (2) and `sync` (4); `snap take` (4) and the tenth (5); the next four (2); the seventeenth (2), `sync` (4) and the twentieth
+# (5); four (2); one (2), `snap take` (9) and one (5); `snap delete` (4); nothing; two (5); and `snap restore` (6).
+together 4 76
 image 128 32 131072
 probe lstat / -> stat number 3 kind dir mode 0755 links 1 size 0
 probe list / -> names

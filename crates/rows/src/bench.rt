@@ -10,7 +10,7 @@ use crate::image_verbs::{Images, looks_at_bad};
 use crate::obeying::Obeyed;
 use crate::run::Run;
 use crate::text::{is_one_of, random_bytes};
-use command_line::{Asked, LineError, Options, Wait, read_line};
+use command_line::{Asked, Durability, LineError, Options, Wait, read_line};
 use memory_station::Sim;
 use mount::make;
 use std::alloc::{AllocError, Global};
@@ -268,6 +268,13 @@ fn shown_asked(alloc: Global, asked: &Asked<'_>) -> Result<String, Fault> {
     for (is_set, name) in flags_of(asked.options) {
         if is_set {
             write!(text, ", {name}")?;
+        }
+    }
+    match asked.options.durability {
+        Durability::Usual => {}
+        Durability::Together => write!(text, ", together")?,
+        Durability::Deferred(milliseconds) => {
+            write!(text, ", deferred {milliseconds} milliseconds")?
         }
     }
     match asked.options.wait {

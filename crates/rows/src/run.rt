@@ -4,10 +4,15 @@
 use crate::choices::Choices;
 use crate::fault::Fault;
 use crate::image_verbs::Images;
-use crate::text::{bytes_of, is_one_of, push_text};
+use crate::text::{is_one_of, push_text};
 use memory_station::{CutOutcome, Mark, Sim};
-use session::{Sink, Source, session, shell};
+use session::{
+    Durability, Ending, Manners, Sink, Source, session, session_in_batches, shell, shell_in_batches,
+};
 use std::alloc::{AllocError, Global};
+use std::io;
+use std::rt::Clock;
+use std::time::Duration;
 
 /// What fails in a run, by the numbers that a station counts.
 #[derive(Drop)]
@@ -31,12 +36,14 @@ pub struct Run<'a> {
     is_shell: bool,
     /// The first reply that is a refusal ends it.
     stops: bool,
+    /// When what a line did is durable, where commands may wait.
+    durability: Option<Durability>,
     script: Vec<u8>,
     /// The reply to each line that brings one, in order.
     replies: Vec<&'a str>,
     /// The exit statuses that may come.
     statuses: Option<&'a str>,
-    /// What stands on standard error where the status is 4 or 5.
+    /// What stands on standard error where the status is 2, 4 or 5.
     says: &'a str,
     is_unchanged: bool,
 }
@@ -52,7 +59,7 @@ struct Outcome {
 
 impl<'a> Run<'a> {
     /// A run by the words behind `run` or `shell`: none, or some of `cut=N`, `keep=none|all|BITS`,
-    /// `bytes=K`, `fail=N`, `fail-sync=N` and `stop`.
+    /// `bytes=K`, `fail=N`, `fail-sync=N`, `stop`, `together`, `deferred` and `deferred=N`.
     pub fn new(
         alloc: Global,
         is_shell: bool,
@@ -69,6 +76,7 @@ impl<'a> Run<'a> {
             },
             is_shell,
             stops: false,
+            durability: None,
             script: Vec::new(alloc),
             replies: Vec::new(alloc),
             statuses: None,
@@ -77,17 +85,39 @@ impl<'a> Run<'a> {
         };
         for word in words.split_ascii_whitespace() {
             let is_known = match word.split_once('=') {
+                Some(("deferred", value)) => run.defer(choices.number(value)),
                 Some((name, value)) => run.plan.set(name, value, choices),
-                None => {
-                    run.stops = word == "stop";
-                    run.stops
-                }
+                None => run.set_flag(word),
             };
             if !is_known {
                 return Err(Fault::misread(alloc, words));
             }
         }
         Ok(run)
+    }
+
+    /// Has each reply shown before it is durable, where no more than so many bytes wait. False where
+    /// these are no number.
+    fn defer(&mut self, bytes: Option<u32>) -> bool {
+        let Some(bytes) = bytes else {
+            return false;
+        };
+        self.durability = Some(Durability::Deferred {
+            milliseconds: 1_000,
+            bytes: bytes as usize,
+        });
+        true
+    }
+
+    /// Sets what a word says. False where there is no such word.
+    fn set_flag(&mut self, word: &str) -> bool {
+        match word {
+            "stop" => self.stops = true,
+            "together" => self.durability = Some(Durability::Together),
+            "deferred" => return self.defer(Some(1_048_576)),
+            _ => return false,
+        }
+        true
     }
 
     /// Adds `COMMAND -> REPLY`, or behind `| ` a line that brings no reply, and behind `|- ` one
@@ -138,27 +168,7 @@ impl<'a> Run<'a> {
         let mut out = Vec::new(alloc);
         let mut err = Vec::new(alloc);
         let station = self.plan.station(alloc, images)?;
-        let (ending, sim) = if self.is_shell {
-            shell(
-                alloc,
-                station,
-                false,
-                &mut Source::new(self.script.as_slice()),
-                |sim: &Sim| sim.is_cut(),
-                &mut Sink::new(&mut out),
-                &mut Sink::new(&mut err),
-            )
-        } else {
-            session(
-                alloc,
-                station,
-                &self.script,
-                self.stops,
-                |sim: &Sim| sim.is_cut(),
-                &mut Sink::new(&mut out),
-                &mut Sink::new(&mut err),
-            )
-        };
+        let (ending, sim) = self.run_on(alloc, station, &mut out, &mut err);
         let images = Images::of(alloc, sim)?;
         Ok(Outcome {
             status: ending.status().number(),
@@ -168,12 +178,60 @@ impl<'a> Run<'a> {
         })
     }
 
+    /// Runs it on a station.
+    fn run_on(
+        &self,
+        alloc: Global,
+        station: Sim,
+        out: &mut Vec<u8>,
+        err: &mut Vec<u8>,
+    ) -> (Ending, Sim) {
+        let script = self.script.as_slice();
+        let was_cut = |sim: &Sim| sim.is_cut();
+        let mut input = Source::new(script);
+        let mut out = Sink::new(out);
+        let mut err = Sink::new(err);
+        let manners = |durability: Durability| Manners {
+            durability,
+            prompts: false,
+            stops: self.stops,
+        };
+        match (self.durability, self.is_shell) {
+            (None, true) => shell(
+                alloc, station, false, &mut input, was_cut, &mut out, &mut err,
+            ),
+            (None, false) => session(
+                alloc, station, script, self.stops, was_cut, &mut out, &mut err,
+            ),
+            (Some(durability), true) => shell_in_batches(
+                &Still,
+                alloc,
+                station,
+                manners(durability),
+                &mut input,
+                was_cut,
+                &mut out,
+                &mut err,
+            ),
+            (Some(durability), false) => session_in_batches(
+                &Still,
+                alloc,
+                station,
+                script,
+                manners(durability),
+                was_cut,
+                &mut out,
+                &mut err,
+            ),
+        }
+    }
+
     /// Compares what it gave on some images with what is expected.
     fn compare(&self, alloc: Global, outcome: &Outcome, before: &Images) -> Result<(), Fault> {
         let is_refused = outcome.status == 4 || outcome.status == 5;
         self.compare_status(alloc, outcome.status)?;
         self.compare_replies(alloc, &outcome.out, is_refused)?;
-        self.compare_fault(alloc, &outcome.err, is_refused)?;
+        self.compare_fault(alloc, &outcome.err, is_refused || outcome.status == 2)?;
         if !outcome.images.is_same(before) && (self.is_unchanged || is_refused) {
             return Err(Fault::differs(alloc, "images", b"others", "the same"));
         }
@@ -220,16 +278,34 @@ impl<'a> Run<'a> {
         Ok(())
     }
 
-    fn compare_fault(&self, alloc: Global, err: &[u8], is_refused: bool) -> Result<(), Fault> {
-        let mut expected = Vec::new(alloc);
-        if is_refused {
-            expected = bytes_of(alloc, self.says)?;
-            expected.push(b'\n')?;
-        }
-        if err != expected.as_slice() {
+    /// Where something is told, it is one line.
+    fn compare_fault(&self, alloc: Global, err: &[u8], is_told: bool) -> Result<(), Fault> {
+        let holds = if is_told {
+            match err.strip_suffix(b"\n") {
+                Some(line) => is_one_of(alloc, line, self.says)?,
+                None => false,
+            }
+        } else {
+            err.is_empty()
+        };
+        if !holds {
             return Err(Fault::differs(alloc, "standard error", err, self.says));
         }
         Ok(())
+    }
+}
+
+/// A clock that stands still.
+#[derive(Drop)]
+struct Still;
+
+impl Clock for Still {
+    fn monotonic(&self) -> io::Result<Duration> {
+        Ok(Duration::ZERO)
+    }
+
+    fn since_1970(&self) -> io::Result<Duration> {
+        Ok(Duration::ZERO)
     }
 }
 

@@ -3,3 +3,6 @@ mod AnswerLemmas
 mod ReadingLemmas
 mod RunLemmas
 mod ShellLemmas
+mod RoundLemmas
+mod TalkLemmas
+mod TalkingLemmas

@@ -25,6 +25,10 @@ use Rattle.session.proofs.ReadingLemmas.{keeps_same, loses_kept}
 flag_says : (b : Bool) (line : List ℕ) → b ≡ is_skipped line → (if b then [] else bad_line) ≡ said_of line None
 flag_says b line is = ap (λ (x : Bool). if x then [] else bad_line) is
 
+pub long_comes : (line : List ℕ) (is_comment : Bool) → LINE_BYTES < length line → is_comment ≡ is_skipped line → LineComesTo line None
+long_comes line true long is = inl (sym is)
+long_comes line false long is = inr (inr (sym is, long))
+
 module _ {S : Type 0} {G : Ghosts S} (fs : Fs S G) (line : List ℕ) (cut : Bool → Type 0) (o : Option (List ℕ)) where
   -- it is answered as no command
   unsaid : (o' : Option (List ℕ)) (b : Bool) (result : Result (Unit {0}) Status) → LineComesTo line None → (if b then [] else bad_line) ≡ said_of line None → EndsBad b o o' result → AnswersLine fs fs line cut cut o o' result
@@ -42,13 +46,9 @@ module _ {S : Type 0} {G : Ghosts S} (fs : Fs S G) (line : List ℕ) (cut : Bool
   pub bad_said : (o' : Option (List ℕ)) (result : Result (Unit {0}) Status) → IsBadLine line → EndsBad false o o' result → AnswersLine fs fs line cut cut o o' result
   bad_said o' result bad ends = unsaid o' false result (inr (inl bad)) (flag_says false line (sym bad.kept)) ends
 
-  long_comes : (is_comment : Bool) → LINE_BYTES < length line → is_comment ≡ is_skipped line → LineComesTo line None
-  long_comes true long is = inl (sym is)
-  long_comes false long is = inr (inr (sym is, long))
-
   pub long_said : (o' : Option (List ℕ)) (is_comment : Bool) (result : Result (Unit {0}) Status) → LINE_BYTES < length line → is_comment ≡ is_skipped line
       → EndsBad is_comment o o' result → AnswersLine fs fs line cut cut o o' result
-  long_said o' is_comment result long is ends = unsaid o' is_comment result (long_comes is_comment long is) (flag_says is_comment line is) ends
+  long_said o' is_comment result long is ends = unsaid o' is_comment result (long_comes line is_comment long is) (flag_says is_comment line is) ends
 
   pub not_read : AnswersLine fs fs line cut cut o o (Err NoMemory)
   not_read = ([], refl, appends_none o)
@@ -73,7 +73,7 @@ module _ {S : Type 0} {G : Ghosts S} (fs next : Fs S G) (line : List ℕ) (comma
 
 -- ---- several lines
 
-abbrev list_of : Option (Command × Reply) → List (Command × Reply)
+abbrev pub list_of : Option (Command × Reply) → List (Command × Reply)
 list_of None = []
 list_of (Some step) = step ∷ []
 
@@ -85,7 +85,7 @@ alone : (step : Option (Command × Reply)) → step_before step [] ≡ list_of s
 alone None = refl
 alone (Some s) = refl
 
-steps_more : (lines : Dialog) (line : List ℕ) (step : Option (Command × Reply)) → steps_of (lines ++ (line, step) ∷ []) ≡ steps_of lines ++ list_of step
+pub steps_more : (lines : Dialog) (line : List ℕ) (step : Option (Command × Reply)) → steps_of (lines ++ (line, step) ∷ []) ≡ steps_of lines ++ list_of step
 steps_more [] line step = alone step
 steps_more (l ∷ ls) line step = ap (λ (x : List (Command × Reply)). step_before l.1 x) (steps_more ls line step) ∙ behind l.1 (steps_of ls) (list_of step)
 
@@ -96,7 +96,7 @@ said_more lines line step =
 takes_kept : (a b c : Option (List ℕ)) (line : List ℕ) → Keeps a b → TakesLine b c line → TakesLine a c line
 takes_kept a b c line kept takes = record { plain = takes.plain; loses = loses_kept a b c line kept takes.loses }
 
-takes_more : (a b c : Option (List ℕ)) (lines : Dialog) (line : List ℕ) (step : Option (Command × Reply)) → TakesLines a b lines → TakesLine b c line → TakesLines a c (lines ++ (line, step) ∷ [])
+pub takes_more : (a b c : Option (List ℕ)) (lines : Dialog) (line : List ℕ) (step : Option (Command × Reply)) → TakesLines a b lines → TakesLine b c line → TakesLines a c (lines ++ (line, step) ∷ [])
 takes_more a b c [] line step taken takes = (c, takes_kept a b c line taken takes, keeps_same c)
 takes_more a b c (l ∷ ls) line step (mid, first, rest) takes = (mid, first, takes_more mid b c ls line step rest takes)
 

@@ -1,6 +1,9 @@
 pub mod Answers
 pub mod Reading
+pub mod Rounds
 pub mod Scripts
 pub mod Sessions
 pub mod Shells
+pub mod Talks
+pub mod UnderWay
 pub mod Statuses

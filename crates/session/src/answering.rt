@@ -53,7 +53,11 @@ pub(crate) fn show_cut<O: Write>(out: &mut Sink<O>) -> Status
 }
 
 /// Writes a reply's line.
-fn show_reply<O: Write>(alloc: Global, reply: &Reply, out: &mut Sink<O>) -> Result<(), Status>
+pub(crate) fn show_reply<O: Write>(
+    alloc: Global,
+    reply: &Reply,
+    out: &mut Sink<O>,
+) -> Result<(), Status>
     ensures shows { EndsReply reply.now (O.contents out.old.inner) (O.contents out.new.inner) result }
     ensures fault { IsErrOf result Status.FileFault → IsTrue out.new.has_failed }
 {
@@ -65,7 +69,7 @@ fn show_reply<O: Write>(alloc: Global, reply: &Reply, out: &mut Sink<O>) -> Resu
 }
 
 /// A reply's line, with its end.
-fn line_of(alloc: Global, reply: &Reply) -> Result<Vec<u8>, Status>
+pub(crate) fn line_of(alloc: Global, reply: &Reply) -> Result<Vec<u8>, Status>
     ensures line { IfOk result (λ line. line.items ≡ shown reply.now) }
     ensures memory { IfErr result (λ status. status ≡ Status.NoMemory) }
 {

@@ -4,16 +4,23 @@
 #![tactic(auto)]
 
 mod answering;
+mod durability;
 mod ending;
+mod in_batches;
+mod kept;
 mod line_by_line;
 mod lines;
 mod reading;
 mod running;
+mod settling;
 mod status;
 mod streams;
 mod telling;
+mod unsettled;
 
+pub use durability::Durability;
 pub use ending::{Ending, Fault};
+pub use in_batches::{Manners, session_in_batches, shell_in_batches};
 pub use line_by_line::shell;
 pub use reading::LINE_BYTES;
 pub use running::session;

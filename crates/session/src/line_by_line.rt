@@ -101,12 +101,13 @@ fn answer_lines<S: Station, C: Fn(&S) -> bool, R: Read, O: Write, E: Write>(
 }
 
 /// What is told before the first line, and before each, where somebody types them.
-const GREETING: &str = "wafl: one command a line, as mkdir /a or list /; end with Ctrl-D\n";
+pub(crate) const GREETING: &str =
+    "wafl: one command a line, as mkdir /a or list /; end with Ctrl-D\n";
 
-const PROMPT: &str = "wafl> ";
+pub(crate) const PROMPT: &str = "wafl> ";
 
 /// Prompts, where that is asked for. Where it can't be written the lines are answered all the same.
-fn prompt<E: Write>(prompts: bool, text: &str, err: &mut Sink<E>)
+pub(crate) fn prompt<E: Write>(prompts: bool, text: &str, err: &mut Sink<E>)
     ensures { prompts ≡ false → E.contents err.new.inner ≡ E.contents err.old.inner }
 {
     if prompts {

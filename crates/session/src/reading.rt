@@ -72,6 +72,11 @@ fn read_as(line: Vec<u8>) -> Heard
     Heard::Line(line)
 }
 
+/// Whether a whole line is pending.
+pub(crate) fn has_line(pending: &[u8]) -> bool {
+    line_end(pending).is_some()
+}
+
 /// Where the first line ends.
 fn line_end(bytes: &[u8]) -> Option<usize>
     ensures found { IfSome result (λ end. (end < length bytes.now) × IsPlain (take end bytes.now)

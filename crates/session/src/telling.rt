@@ -1,6 +1,8 @@
 //! Telling why nothing is run.
 
-ghost use Rattle.std.specs.Prelude.{◌≡◌, IfOk, IsTrue, string_bytes};
+ghost use Rattle.std.specs.Io.KnownBytes.{Appends};
+ghost use Rattle.std.specs.Prelude.{◌≡◌, ℕ, IfOk, IsTrue, string_bytes, take};
+ghost use Rattle.session.specs.Talks.{lost_text};
 ghost use Rattle.session.specs.Scripts.{line_fault};
 ghost use Rattle.session.specs.Sessions.{mount_fault, EndsTelling};
 
@@ -68,4 +70,28 @@ fn mount_text(error: MountError) -> &'static [u8]
         MountError::NoRoot => b"wafl: mount NOROOT\n",
         MountError::Damaged => b"wafl: mount DAMAGED\n",
     }
+}
+
+/// Tells how many commands are lost that were answered, and says what the program ends with.
+pub(crate) fn tell_lost<E: Write>(alloc: Global, commands: u64, err: &mut Sink<E>) -> Status
+    ensures status { result ≡ Status.FileFault }
+    ensures tells { (k : ℕ) × Appends (E.contents err.old.inner) (E.contents err.new.inner)
+        (take k (lost_text commands)) }
+{
+    let Ok(text) = lost_text(alloc, commands) else {
+        return Status::FileFault;
+    };
+    match write_whole(err, text.as_bytes()) {
+        Ok(()) => Status::FileFault,
+        Err(Closed) => Status::FileFault,
+    }
+}
+
+fn lost_text(alloc: Global, commands: u64) -> Result<String, AllocError>
+    ensures { IfOk result (λ text. string_bytes text ≡ lost_text commands) }
+{
+    if commands == 1 {
+        return String::from_str(alloc, "wafl: the last command is lost\n");
+    }
+    format!(in alloc; "wafl: the last {commands} commands are lost\n")
 }

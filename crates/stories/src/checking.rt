@@ -1,5 +1,6 @@
 //! Stories in files, and whether they hold.
 
+use crate::batching::check_together;
 use crate::cutting::Cutting;
 use crate::failing::{check_failing, check_quiet};
 use crate::fault::Fault;
@@ -59,6 +60,9 @@ fn check_story(rt: &HostRuntime, text: &str) -> Result<String, Fault> {
     let story = Story::read(alloc, text)?;
     let mut images = begin(alloc, &story)?;
     let (firsts, seconds) = count_cuts(alloc, &story, &images)?;
+    if let Some(together) = story.together {
+        check_together(alloc, &story, &images, together)?;
+    }
     let failing = count_failing(alloc, &story, &images)?;
     let (mounted, refused) = count_changed(alloc, &story, &mut images)?;
     let _ = eprintln!(rt;

@@ -4,6 +4,7 @@ use crate::fault::Fault;
 use crate::image_pair::Images;
 use crate::running::{Trouble, replies, run};
 use crate::story::{Cuts, Story};
+use crate::text::count_lines;
 use std::alloc::Global;
 
 /// What of the sectors written since the last sync stays, in second cuts by turns: `2` loses one,
@@ -167,7 +168,7 @@ impl<'a> Cutting<'a> {
         let Some(shown) = outcome.before_cut() else {
             return Err(Fault::differs(self.alloc, "reply", &outcome.out, b"cut"));
         };
-        let answered = shown.split(|byte| *byte == b'\n').count().saturating_sub(1);
+        let answered = count_lines(shown);
         let expected = tail.replies_to(answered);
         if shown != expected {
             return Err(Fault::differs(self.alloc, "reply", shown, expected));

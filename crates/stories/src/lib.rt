@@ -5,6 +5,7 @@
 //! says is compared with what comes.
 #![tactic(auto)]
 
+mod batching;
 mod checking;
 mod commands;
 mod cutting;

@@ -3,8 +3,12 @@
 use crate::fault::Fault;
 use crate::image_pair::Images;
 use memory_station::{CutOutcome, Mark, Sim};
-use session::{Sink, session};
+use session::{Durability, Ending, Manners, Sink, Source, session, shell_in_batches};
 use std::alloc::{AllocError, Global};
+use std::io;
+use std::io::Read;
+use std::rt::Clock;
+use std::time::Duration;
 
 /// What befalls the station in a run.
 #[derive(Clone, Copy, Drop)]
@@ -45,6 +49,51 @@ pub fn run(
     script: &[u8],
     trouble: Trouble<'_>,
 ) -> Result<Outcome, Fault> {
+    let sim = station(alloc, images, trouble)?;
+    let mut out = Vec::new(alloc);
+    let mut err = Vec::new(alloc);
+    let ran = session(
+        alloc,
+        sim,
+        script,
+        false,
+        |sim: &Sim| sim.is_cut(),
+        &mut Sink::new(&mut out),
+        &mut Sink::new(&mut err),
+    );
+    Ok(outcome_of(ran, out, err))
+}
+
+/// The same, with so many lines at once, which are answered together.
+pub fn run_together(
+    alloc: Global,
+    images: &Images,
+    script: &[u8],
+    at_once: usize,
+    trouble: Trouble<'_>,
+) -> Result<Outcome, Fault> {
+    let sim = station(alloc, images, trouble)?;
+    let mut out = Vec::new(alloc);
+    let mut err = Vec::new(alloc);
+    let ran = shell_in_batches(
+        &Still,
+        alloc,
+        sim,
+        Manners {
+            durability: Durability::Together,
+            prompts: false,
+            stops: false,
+        },
+        &mut Source::new(Lines { script, at_once }),
+        |sim: &Sim| sim.is_cut(),
+        &mut Sink::new(&mut out),
+        &mut Sink::new(&mut err),
+    );
+    Ok(outcome_of(ran, out, err))
+}
+
+/// A station that has these images, and this trouble before it.
+fn station(alloc: Global, images: &Images, trouble: Trouble<'_>) -> Result<Sim, Fault> {
     let mut sim = images.load(alloc)?;
     match trouble {
         Trouble::Nothing => {}
@@ -55,23 +104,64 @@ pub fn run(
         ),
         Trouble::Failing(call) => sim.fail_at(call),
     }
-    let mut out = Vec::new(alloc);
-    let mut err = Vec::new(alloc);
-    let (ending, sim) = session(
-        alloc,
-        sim,
-        script,
-        false,
-        |sim: &Sim| sim.is_cut(),
-        &mut Sink::new(&mut out),
-        &mut Sink::new(&mut err),
-    );
-    Ok(Outcome {
+    Ok(sim)
+}
+
+fn outcome_of(ran: (Ending, Sim), out: Vec<u8>, err: Vec<u8>) -> Outcome {
+    let (ending, sim) = ran;
+    Outcome {
         status: ending.status().number(),
         out,
         err,
         sim,
-    })
+    }
+}
+
+/// A clock that stands still.
+#[derive(Drop)]
+struct Still;
+
+impl Clock for Still {
+    fn monotonic(&self) -> io::Result<Duration> {
+        Ok(Duration::ZERO)
+    }
+
+    fn since_1970(&self) -> io::Result<Duration> {
+        Ok(Duration::ZERO)
+    }
+}
+
+/// The lines of a script, of which a read gives so many, as far as they have room.
+#[derive(Drop)]
+struct Lines<'a> {
+    script: &'a [u8],
+    at_once: usize,
+}
+
+impl Read for Lines<'_> {
+    fn read(&mut self, bytes: &mut [u8]) -> io::Result<usize> {
+        let count = end_of_lines(self.script, self.at_once)
+            .min(self.script.len())
+            .min(bytes.len());
+        let (lines, rest) = self.script.split_at(count);
+        bytes[..count].copy_from_slice(lines);
+        self.script = rest;
+        Ok(count)
+    }
+}
+
+/// How many bytes so many lines have.
+fn end_of_lines(script: &[u8], lines: usize) -> usize {
+    let mut left = lines;
+    for (i, byte) in script.iter().enumerate() {
+        if *byte == b'\n' {
+            left = left.saturating_sub(1);
+            if left == 0 {
+                return i.saturating_add(1);
+            }
+        }
+    }
+    script.len()
 }
 
 /// The replies to a script that is run on images without trouble.

@@ -1,6 +1,7 @@
 //! Stories: a list of commands over an image, and what is to come of them whatever befalls the
 //! station.
 
+use crate::batching::Together;
 use crate::commands::Commands;
 use crate::fault::Fault;
 use crate::image_pair::Images;
@@ -65,6 +66,8 @@ pub struct Story<'a> {
     pub quiet: Option<usize>,
     pub withouts: Vec<Without<'a>>,
     pub sweeps: Vec<Sweep>,
+    /// Its commands run in batches, too.
+    pub together: Option<Together>,
 }
 
 impl<'a> Story<'a> {
@@ -84,6 +87,7 @@ impl<'a> Story<'a> {
             quiet: None,
             withouts: Vec::new(alloc),
             sweeps: Vec::new(alloc),
+            together: None,
         };
         for line in text.lines() {
             if !line.is_empty() && !line.starts_with('#') && !story.take(line)? {
@@ -127,6 +131,7 @@ impl<'a> Story<'a> {
                 self.quiet = words.parse().ok();
                 Ok(self.quiet.is_some())
             }
+            "together" => Ok(self.set_together(words)),
             "start" => Ok(true),
             "sweep" => self.add_sweep(words),
             "disk" | "nvram" => self.add_part(verb == "disk", words),
@@ -238,6 +243,18 @@ impl<'a> Story<'a> {
             places,
         })?;
         Ok(device == "disk" || device == "nvram")
+    }
+
+    /// `LINES WRITES`: its commands run with so many lines at once, and make so many writes.
+    fn set_together(&mut self, words: &str) -> bool {
+        let Some((lines, writes)) = words.split_once(' ') else {
+            return false;
+        };
+        let (Ok(lines), Ok(writes)) = (lines.parse(), writes.parse()) else {
+            return false;
+        };
+        self.together = Some(Together { lines, writes });
+        true
     }
 
     fn set_again(&mut self, words: &str) -> bool {

@@ -101,3 +101,8 @@ pub fn push_line(alloc: Global, out: &mut Vec<u8>, text: &str) -> Result<(), Fau
     out.push(b'\n')?;
     Ok(())
 }
+
+/// How many lines end in some bytes.
+pub fn count_lines(bytes: &[u8]) -> usize {
+    bytes.split(|byte| *byte == b'\n').count().saturating_sub(1)
+}

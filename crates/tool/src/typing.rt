@@ -14,7 +14,7 @@ use std::io::{BufRead, BufReader, Read, Write};
 const LINE_FEED: u8 = b'\n';
 
 /// The lines of an input. Each read gives bytes of one line alone, so that what is told of the line
-/// before comes before it.
+/// before comes before it, or where they are to be answered together, of all that are at hand.
 #[derive(Drop)]
 pub(crate) struct TypedLines<'s, 'e, I, E> {
     alloc: Global,
@@ -22,6 +22,8 @@ pub(crate) struct TypedLines<'s, 'e, I, E> {
     talk: &'s RefCell<Talk<'e, E>>,
     /// Somebody types them, who may ask for help.
     is_terminal: bool,
+    /// All whole lines that are at hand are given together.
+    gathers: bool,
     /// The line that is given on, or a part of one that is longer than any command.
     line: Vec<u8>,
     /// So many bytes of it were given on.
@@ -37,17 +39,40 @@ impl<'s, 'e, I: Read + Drop, E: Write> TypedLines<'s, 'e, I, E> {
         input: I,
         talk: &'s RefCell<Talk<'e, E>>,
         is_terminal: bool,
+        gathers: bool,
     ) -> io::Result<TypedLines<'s, 'e, I, E>> {
         Ok(TypedLines {
             alloc,
             input: BufReader::new(alloc, input)?,
             talk,
             is_terminal,
+            gathers: gathers && !is_terminal,
             line: Vec::new(alloc),
             given: 0,
             is_long: false,
             has_quit: false,
         })
+    }
+
+    /// Takes the next line, or all that are at hand behind it where they are given together.
+    fn take_lines(&mut self) -> io::Result<()> {
+        self.take_line()?;
+        if !self.gathers {
+            return Ok(());
+        }
+        let mut lines = Vec::new(self.alloc);
+        for _ in 0..u64::MAX {
+            let is_whole = self.line.last() == Some(&LINE_FEED);
+            if !is_whole || self.has_quit || !has_line(self.input.buffer()) {
+                break;
+            }
+            lines.extend_from_slice(self.line.as_slice())?;
+            self.take_line()?;
+        }
+        lines.extend_from_slice(self.line.as_slice())?;
+        self.line = lines;
+        self.given = 0;
+        Ok(())
     }
 
     /// Takes the next line, or the next part of one that is longer than any command.
@@ -132,6 +157,11 @@ fn take_part<I: Read + Drop>(input: &mut BufReader<I>, line: &mut Vec<u8>) -> io
     Ok(count)
 }
 
+/// Whether a whole line is at hand.
+fn has_line(bytes: &[u8]) -> bool {
+    bytes.contains(&LINE_FEED)
+}
+
 /// Gives bytes of a line from this one on, and says how many these are.
 fn give(line: &[u8], from: usize, out: &mut [u8]) -> usize
     ensures { result ≤ length out.new }
@@ -156,7 +186,7 @@ impl<I: Read + Drop, E: Write> Read for TypedLines<'_, '_, I, E> {
             return Ok(0);
         }
         if self.given >= self.line.len() {
-            self.take_line()?;
+            self.take_lines()?;
             if self.has_quit {
                 return Ok(0);
             }

@@ -3,9 +3,9 @@
 use super::faults::failing_image;
 use super::{Streams, close, tell};
 use crate::explain::explain_ending;
-use command_line::RunFaults;
+use command_line::{Durability, RunFaults};
 use host_files::{FileError, Image, ImageStation, open_image, read_script};
-use session::{Ending, Sink, Status, session};
+use session::{Durability as Batching, Ending, Manners, Sink, Status, session, session_in_batches};
 use std::io::{Read, Write};
 
 /// Runs a script: on the image's files, or in memory where something is to go wrong or can't be
@@ -55,6 +55,7 @@ pub(super) fn run_bytes<I, O: Write, E: Write>(
         station,
         script,
         stops,
+        streams.options.durability,
         &mut streams.out,
         &mut streams.err,
     )
@@ -66,18 +67,52 @@ fn run_on<O: Write, E: Write>(
     station: ImageStation,
     script: &[u8],
     stops: bool,
+    durability: Durability,
     out: &mut O,
     err: &mut E,
 ) -> Ran {
-    session(
-        rt.alloc(),
-        station,
-        script,
-        stops,
-        |station: &ImageStation| station.is_cut(),
-        &mut Sink::new(out),
-        &mut Sink::new(err),
-    )
+    let mut out = Sink::new(out);
+    let mut err = Sink::new(err);
+    match batching(durability) {
+        None => session(
+            rt.alloc(),
+            station,
+            script,
+            stops,
+            |station: &ImageStation| station.is_cut(),
+            &mut out,
+            &mut err,
+        ),
+        Some(durability) => session_in_batches(
+            rt,
+            rt.alloc(),
+            station,
+            script,
+            Manners {
+                durability,
+                prompts: false,
+                stops,
+            },
+            |station: &ImageStation| station.is_cut(),
+            &mut out,
+            &mut err,
+        ),
+    }
+}
+
+/// So many bytes of the log wait at the most where answers are given before they are durable.
+const MOST_WAITING: usize = 1_048_576;
+
+/// How commands wait, where the words ask that they do.
+pub(super) fn batching(durability: Durability) -> Option<Batching> {
+    match durability {
+        Durability::Usual => None,
+        Durability::Together => Some(Batching::Together),
+        Durability::Deferred(milliseconds) => Some(Batching::Deferred {
+            milliseconds,
+            bytes: MOST_WAITING,
+        }),
+    }
 }
 
 /// Lets go of an image. One in memory is stored where it came to a run.

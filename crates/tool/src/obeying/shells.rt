@@ -1,16 +1,19 @@
 //! Lines of standard input, answered one by one.
 
-use super::sessions::{Ran, end_run};
+use super::sessions::{Ran, batching, end_run};
 use super::{Streams, tell};
 use crate::replies::Replies;
 use crate::talk::{SharedError, Talk};
 use crate::typing::TypedLines;
+use command_line::Durability;
 use host_files::{Image, ImageStation, open_image};
-use session::{Ending, Fault, Sink, Source, Status, shell};
+use session::{
+    Ending, Fault, Manners as SessionManners, Sink, Source, Status, shell, shell_in_batches,
+};
 use std::cell::RefCell;
 use std::io::{Read, Write};
 
-/// Answers each line of standard input at once.
+/// Answers each line of standard input: at once, when what it did is durable, or as the options say.
 pub(super) fn run_shell<I: Read, O: Write, E: Write>(
     rt: &HostRuntime,
     image: Image<'_>,
@@ -33,9 +36,14 @@ fn answer_lines<I: Read, O: Write, E: Write>(
     station: ImageStation,
     streams: &mut Streams<I, O, E>,
 ) -> Ran {
+    let durability = streams.options.durability;
+    let gathers = matches!(durability, Durability::Together);
     let manners = Manners {
         prompts: streams.terminals.input && streams.terminals.out,
-        explains: streams.explains,
+        // Several lines are read before the first is answered: which of them is spoken of isn't known.
+        explains: streams.explains && !gathers,
+        gathers,
+        durability,
     };
     let talk = RefCell::new(Talk {
         err: &mut streams.err,
@@ -59,6 +67,9 @@ struct Manners {
     prompts: bool,
     /// What refusals mean.
     explains: bool,
+    /// Lines that wait are read together.
+    gathers: bool,
+    durability: Durability,
 }
 
 /// Answers each line of an input.
@@ -71,7 +82,8 @@ fn converse<I: Read, O: Write, E: Write>(
     talk: &RefCell<Talk<'_, E>>,
     manners: Manners,
 ) -> Ran {
-    let Ok(lines) = TypedLines::new(rt.alloc(), input, talk, manners.prompts) else {
+    let Ok(lines) = TypedLines::new(rt.alloc(), input, talk, manners.prompts, manners.gathers)
+    else {
         return (Ending::Unrun(Fault::NoMemory, Status::NoMemory), station);
     };
     let replies = Replies {
@@ -82,13 +94,32 @@ fn converse<I: Read, O: Write, E: Write>(
         explains: manners.explains,
         head: Vec::new(rt.alloc()),
     };
-    shell(
-        rt.alloc(),
-        station,
-        manners.prompts,
-        &mut Source::new(lines),
-        |_| false,
-        &mut Sink::new(replies),
-        &mut Sink::new(SharedError { talk }),
-    )
+    let mut input = Source::new(lines);
+    let mut out = Sink::new(replies);
+    let mut err = Sink::new(SharedError { talk });
+    match batching(manners.durability) {
+        None => shell(
+            rt.alloc(),
+            station,
+            manners.prompts,
+            &mut input,
+            |_| false,
+            &mut out,
+            &mut err,
+        ),
+        Some(durability) => shell_in_batches(
+            rt,
+            rt.alloc(),
+            station,
+            SessionManners {
+                durability,
+                prompts: manners.prompts,
+                stops: false,
+            },
+            &mut input,
+            |_| false,
+            &mut out,
+            &mut err,
+        ),
+    }
 }

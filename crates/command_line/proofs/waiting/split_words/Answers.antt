@@ -19,7 +19,7 @@ loop-word-preserved c =
           let is = sym c.says_wait-is_wait.ensures ∙ w.if-is_wait.false in
           record {
             value = rw (w.last-is, c.after-stand.ensures) (wait_before at.stand _ _ _ from _ _ is at.invariant.value);
-            others = rw (w.others-is, w.in_ok-push.ensures.items, map-append text_of at.others.items, c.after-stand.ensures) (others_with at.stand _ _ _ from _ _ is at.invariant.others);
+            others = rw (w.others-is, w.in_ok-push.ensures.items, map-append text_of at.others.items, c.as_read-read.ensures, c.after-stand.ensures) (others_with at.stand _ _ _ from _ _ is at.invariant.others);
           }
     ]
 
