@@ -33,6 +33,7 @@ run_shell() {
         echo 'wafl: shell --deferred needs python3' >&2
         exit 2
     }
+    [ ! -t 2 ] || echo "wafl: deferred: a power cut or a kill may lose what was answered in the last $milliseconds milliseconds, but for what was synced" >&2
     exec python3 "$beside/feed_lines.py" "$milliseconds" "$@"
 }
 
