@@ -1,0 +1,4 @@
+pub mod DivisionLaws
+pub mod RemainderLaws
+pub mod ChunkLaws
+pub mod ChangeLaws
