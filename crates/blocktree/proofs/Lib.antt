@@ -1,3 +1,4 @@
+pub mod FanLemmas
 pub mod PlaceLaws
 pub mod PlaceMapLaws
 pub mod WalkLaws

@@ -1,15 +1,18 @@
 -- One more node is named, and the nodes above.
-use Rattle.std.proofs.Common.{◌≡◌, ◌↔◌, ◌⊎◌, inl, inr, ℕ, zero, suc, ◌+◌, ◌-◌, ◌*◌, ◌/◌, ◌<◌, List, sym, ◌∙◌, ap, subst, arith}
+use Rattle.std.proofs.Common.{◌≡◌, ◌↔◌, ◌⊎◌, inl, inr, ℕ, zero, suc, ◌+◌, ◌-◌, ◌*◌, ◌<◌, List, sym, ◌∙◌, ap, subst, arith}
 use Rattle.std.proofs.Common.{◌^◌, ◌≤◌}
 use Rattle.std.specs.Int.{div_ceil}
 use native.Mathlib.Nat.{pow-suc}
 use Rattle.std.proofs.lemmas.Bool.{cases_lt, cases_eq}
+use Rattle.layout.specs.Trees.{fan_out}
+use Rattle.layout.specs.declared.trees.Layout.{Layout}
 use Rattle.layout.specs.declared.pointer.Pointer.{Pointer}
 use Rattle.layout.specs.declared.pointer.Pointer.TheVariants.{Block}
 use Rattle.blocktree.specs.Names.{IsNodePlace, IsNamed}
 use Rattle.blocktree.specs.Places.{place, IsPath}
 use Rattle.blocktree.specs.PlaceMaps.{place_at, StandsBelow}
 use Rattle.blocktree.specs.declared.place_map.PlaceMap.{PlaceMap}
+use Rattle.layout.proofs.FanLaws.{fewer, first_of, group_low}
 use Rattle.layout.proofs.PointerLaws.{block_same, hole_block}
 use Rattle.blocktree.proofs.PlaceLaws.{path_above}
 use Rattle.blocktree.proofs.WalkLaws.{Gap}
@@ -56,67 +59,60 @@ stands_all places from count p A B le gap is = (forth, back)
     back (inr n) = late n
 
 -- the same of nodes at a depth
-pub level_named : (disk : ℕ → List ℕ) (pointers : List Pointer) (depth count p : ℕ) (places : PlaceMap) (A B : Type 0) → ((i : ℕ) → i < count → place_at places i ≡ place disk pointers depth i)
-    → B ↔ (A ⊎ StandsBelow places count p) → B ↔ (A ⊎ IsNodePlace disk pointers depth count p)
-level_named disk pointers depth count p places A B same is = (forth, back)
+pub level_named : (l : Layout) (disk : ℕ → List ℕ) (pointers : List Pointer) (depth count p : ℕ) (places : PlaceMap) (A B : Type 0) → ((i : ℕ) → i < count → place_at places i ≡ place l disk pointers depth i)
+    → B ↔ (A ⊎ StandsBelow places count p) → B ↔ (A ⊎ IsNodePlace l disk pointers depth count p)
+level_named l disk pointers depth count p places A B same is = (forth, back)
   where
-    forth : B → A ⊎ IsNodePlace disk pointers depth count p
+    forth : B → A ⊎ IsNodePlace l disk pointers depth count p
     forth b = elim (is.0 b) [ inl a ↦ inl a | inr n ↦ inr (n.0, n.1, sym (same n.0 n.1) ∙ n.2) ]
 
-    back : A ⊎ IsNodePlace disk pointers depth count p → B
+    back : A ⊎ IsNodePlace l disk pointers depth count p → B
     back (inl a) = is.1 (inl a)
     back (inr n) = is.1 (inr (n.0, n.1, same n.0 n.1 ∙ n.2))
 
-pub named_last : (disk : ℕ → List ℕ) (pointers : List Pointer) (depth count p : ℕ) (A B : Type 0) → depth ≡ 0 → B ↔ (A ⊎ IsNodePlace disk pointers depth count p) → B ↔ (A ⊎ IsNamed disk pointers depth count p)
+pub named_last : (l : Layout) (disk : ℕ → List ℕ) (pointers : List Pointer) (depth count p : ℕ) (A B : Type 0) → depth ≡ 0 → B ↔ (A ⊎ IsNodePlace l disk pointers depth count p) → B ↔ (A ⊎ IsNamed l disk pointers depth count p)
 unfolding IsNamed
-named_last disk pointers zero count p A B e first = first
-named_last disk pointers (suc depth) count p A B e first = absurd (omega arith)
+named_last l disk pointers zero count p A B e first = first
+named_last l disk pointers (suc depth) count p A B e first = absurd (omega arith)
 
-pub named_more : (disk : ℕ → List ℕ) (pointers : List Pointer) (depth count wide p : ℕ) (A B C : Type 0) → 0 < depth → wide ≡ div_ceil count 1024 → B ↔ (A ⊎ IsNodePlace disk pointers depth count p)
-    → C ↔ (B ⊎ IsNamed disk pointers (depth - 1) wide p) → C ↔ (A ⊎ IsNamed disk pointers depth count p)
+pub named_more : (l : Layout) (disk : ℕ → List ℕ) (pointers : List Pointer) (depth count wide p : ℕ) (A B C : Type 0) → 0 < depth → wide ≡ div_ceil count (fan_out l) → B ↔ (A ⊎ IsNodePlace l disk pointers depth count p)
+    → C ↔ (B ⊎ IsNamed l disk pointers (depth - 1) wide p) → C ↔ (A ⊎ IsNamed l disk pointers depth count p)
 unfolding IsNamed
-named_more disk pointers zero count wide p A B C some w first second = absurd (omega arith)
-named_more disk pointers (suc depth) count wide p A B C some w first second = (forth, back)
+named_more l disk pointers zero count wide p A B C some w first second = absurd (omega arith)
+named_more l disk pointers (suc depth) count wide p A B C some w first second = (forth, back)
   where
-    above : IsNamed disk pointers (suc depth - 1) wide p → IsNamed disk pointers depth (div_ceil count 1024) p
+    above : IsNamed l disk pointers (suc depth - 1) wide p → IsNamed l disk pointers depth (div_ceil count (fan_out l)) p
     above n = let one : suc depth - 1 ≡ depth = omega arith in
-        subst (λ (d : ℕ). IsNamed disk pointers d (div_ceil count 1024) p) one (subst (λ (c : ℕ). IsNamed disk pointers (suc depth - 1) c p) w n)
+        subst (λ (d : ℕ). IsNamed l disk pointers d (div_ceil count (fan_out l)) p) one (subst (λ (c : ℕ). IsNamed l disk pointers (suc depth - 1) c p) w n)
 
-    below : IsNamed disk pointers depth (div_ceil count 1024) p → IsNamed disk pointers (suc depth - 1) wide p
+    below : IsNamed l disk pointers depth (div_ceil count (fan_out l)) p → IsNamed l disk pointers (suc depth - 1) wide p
     below n = let one : depth ≡ suc depth - 1 = omega arith in
-        subst (λ (c : ℕ). IsNamed disk pointers (suc depth - 1) c p) (sym w) (subst (λ (d : ℕ). IsNamed disk pointers d (div_ceil count 1024) p) one n)
+        subst (λ (c : ℕ). IsNamed l disk pointers (suc depth - 1) c p) (sym w) (subst (λ (d : ℕ). IsNamed l disk pointers d (div_ceil count (fan_out l)) p) one n)
 
-    one : B → A ⊎ (IsNodePlace disk pointers (suc depth) count p ⊎ IsNamed disk pointers depth (div_ceil count 1024) p)
+    one : B → A ⊎ (IsNodePlace l disk pointers (suc depth) count p ⊎ IsNamed l disk pointers depth (div_ceil count (fan_out l)) p)
     one b = elim (first.0 b) [ inl a ↦ inl a | inr n ↦ inr (inl n) ]
 
-    forth : C → A ⊎ (IsNodePlace disk pointers (suc depth) count p ⊎ IsNamed disk pointers depth (div_ceil count 1024) p)
+    forth : C → A ⊎ (IsNodePlace l disk pointers (suc depth) count p ⊎ IsNamed l disk pointers depth (div_ceil count (fan_out l)) p)
     forth c = elim (second.0 c) [ inl b ↦ one b | inr n ↦ inr (inr (above n)) ]
 
-    back : A ⊎ (IsNodePlace disk pointers (suc depth) count p ⊎ IsNamed disk pointers depth (div_ceil count 1024) p) → C
+    back : A ⊎ (IsNodePlace l disk pointers (suc depth) count p ⊎ IsNamed l disk pointers depth (div_ceil count (fan_out l)) p) → C
     back (inl a) = second.1 (inl (first.1 (inl a)))
     back (inr (inl n)) = second.1 (inl (first.1 (inr n)))
     back (inr (inr n)) = second.1 (inr (below n))
 
 -- where each node's way is in the grammar, so is that of each node above
-pub paths_above : (blocks n wide : ℕ) (disk : ℕ → List ℕ) (pointers : List Pointer) (depth count : ℕ) → n ≡ blocks → wide ≡ div_ceil count 1024 → 0 < depth → ((i : ℕ) → i < count → IsPath blocks disk pointers depth count i)
-    → (j : ℕ) → j < wide → IsPath n disk pointers (depth - 1) wide j
-paths_above blocks n wide disk pointers depth count same w some paths j lt =
-    let first : 1024 * j < count = within j count (subst (λ (x : ℕ). j < x) w lt) in
-    let back : 1024 * j / 1024 ≡ j = omega arith in
-    subst (λ (m : ℕ). IsPath m disk pointers (depth - 1) wide j) (sym same)
-    (subst (IsPath blocks disk pointers (depth - 1) wide) back (path_above blocks wide disk pointers depth count (1024 * j) w (λ e. absurd (omega arith)) (paths (1024 * j) first)))
-  where
-    within : (j count : ℕ) → j < div_ceil count 1024 → 1024 * j < count
-    within j count lt = omega arith
+pub paths_above : (l : Layout) (blocks n wide : ℕ) (disk : ℕ → List ℕ) (pointers : List Pointer) (depth count : ℕ) → n ≡ blocks → wide ≡ div_ceil count (fan_out l) → 0 < depth
+    → ((i : ℕ) → i < count → IsPath l blocks disk pointers depth count i) → (j : ℕ) → j < wide → IsPath l n disk pointers (depth - 1) wide j
+paths_above l blocks n wide disk pointers depth count same w some paths j lt =
+    let first : fan_out l * j < count = group_low l count j (subst (λ (x : ℕ). j < x) w lt) in
+    subst (λ (m : ℕ). IsPath l m disk pointers (depth - 1) wide j) (sym same)
+    (path_above l blocks wide j disk pointers depth count (fan_out l * j) w (sym (first_of l j)) (λ e. absurd (omega arith)) (paths (fan_out l * j) first))
 
-pub wide_above : (depth count wide : ℕ) → 0 < depth → wide ≡ div_ceil count 1024 → count ≤ 16 * 1024 ^ depth → wide ≤ 16 * 1024 ^ (depth - 1)
-wide_above zero count wide some w le = absurd (omega arith)
-wide_above (suc depth) count wide some w le =
+pub wide_above : (l : Layout) (depth count wide : ℕ) → 0 < depth → wide ≡ div_ceil count (fan_out l) → count ≤ 16 * fan_out l ^ depth → wide ≤ 16 * fan_out l ^ (depth - 1)
+wide_above l zero count wide some w le = absurd (omega arith)
+wide_above l (suc depth) count wide some w le =
     let one : depth ≡ suc depth - 1 = omega arith in
-    subst (λ (d : ℕ). wide ≤ 16 * 1024 ^ d) one (subst (λ (x : ℕ). x ≤ 16 * 1024 ^ depth) (sym w) (fewer (1024 ^ depth) count (power le)))
+    subst (λ (d : ℕ). wide ≤ 16 * fan_out l ^ d) one (subst (λ (x : ℕ). x ≤ 16 * fan_out l ^ depth) (sym w) (fewer l (fan_out l ^ depth) count (power le)))
   where
-    fewer : (m count : ℕ) → count ≤ 16 * (1024 * m) → div_ceil count 1024 ≤ 16 * m
-    fewer m count le = omega arith
-
-    power : count ≤ 16 * 1024 ^ suc depth → count ≤ 16 * (1024 * 1024 ^ depth)
-    power h = let e : 1024 ^ suc depth ≡ 1024 ^ depth * 1024 = pow-suc 1024 depth in omega arith
+    power : count ≤ 16 * fan_out l ^ suc depth → count ≤ 16 * (fan_out l * fan_out l ^ depth)
+    power h = let e : fan_out l ^ suc depth ≡ fan_out l ^ depth * fan_out l = pow-suc (fan_out l) depth in omega arith

@@ -9,6 +9,7 @@ use Rattle.std.specs.Ordering.{nat_cmp}
 use Rattle.std.specs.BTreeMap.{BTreeMap, get, is_at, ContainsKey}
 use Rattle.layout.specs.Bytes.{zeros}
 use Rattle.layout.specs.declared.pointer.Pointer.{Pointer}
+use Rattle.layout.specs.declared.trees.Layout.{Layout}
 use Rattle.blocktree.specs.Places.{pointed, place}
 use Rattle.blocktree.specs.Trees.{AreTrimmed, slot_bytes, slot_stores, settled_block, IsChangedSlot}
 use Rattle.blocktree.specs.declared.slot.Slot.{Slot}
@@ -36,14 +37,14 @@ below_false : (i n : ℕ) → n ≤ i → ltb i n ≡ false
 below_false i n le = grind (arith, nat_tests)
 
 -- a settled block past those that count
-pub settled_past : (disk : ℕ → List ℕ) (pointers : List Pointer) (depth kept i : ℕ) → kept ≤ i → settled_block disk pointers depth kept i ≡ zeros 4096
+pub settled_past : (l : Layout) (disk : ℕ → List ℕ) (pointers : List Pointer) (depth kept i : ℕ) → kept ≤ i → settled_block l disk pointers depth kept i ≡ zeros 4096
 unfolding settled_block
-settled_past disk pointers depth kept i past = rw (below_false i kept past) refl
+settled_past l disk pointers depth kept i past = rw (below_false i kept past) refl
 
 -- a settled block that counts
-pub settled_within : (disk : ℕ → List ℕ) (pointers : List Pointer) (depth kept i : ℕ) (p : Pointer) → i < kept → p ≡ place disk pointers depth i → settled_block disk pointers depth kept i ≡ pointed disk p
+pub settled_within : (l : Layout) (disk : ℕ → List ℕ) (pointers : List Pointer) (depth kept i : ℕ) (p : Pointer) → i < kept → p ≡ place l disk pointers depth i → settled_block l disk pointers depth kept i ≡ pointed disk p
 unfolding settled_block
-settled_within disk pointers depth kept i p within is = rw (below_true i kept within, is) refl
+settled_within l disk pointers depth kept i p within is = rw (below_true i kept within, is) refl
 
 pub trimmed_slot : (m n : BTreeMap ℕ Slot) (count : ℕ) → n.entries ≡ filter (λ e. nat_lt e.0 count) m.entries → (j : ℕ) → get nat_cmp n j ≡ (if nat_lt j count then get nat_cmp m j else None)
 trimmed_slot m n count e j =
@@ -53,15 +54,15 @@ trimmed_slot m n count e j =
     found_key j k at = grind (arith, common_steps, nat_tests)
 
 -- the blocks below `count` stay, the others are gone
-pub trimmed_block : (disk : ℕ → List ℕ) (pointers : List Pointer) (depth kept new_kept count : ℕ) (m n : BTreeMap ℕ Slot) → AreTrimmed count m n → new_kept ≡ min kept count → (j : ℕ)
-    → slot_bytes (get nat_cmp n j) (settled_block disk pointers depth new_kept j) ≡ (if nat_lt j count then slot_bytes (get nat_cmp m j) (settled_block disk pointers depth kept j) else zeros 4096)
+pub trimmed_block : (l : Layout) (disk : ℕ → List ℕ) (pointers : List Pointer) (depth kept new_kept count : ℕ) (m n : BTreeMap ℕ Slot) → AreTrimmed count m n → new_kept ≡ min kept count → (j : ℕ)
+    → slot_bytes (get nat_cmp n j) (settled_block l disk pointers depth new_kept j) ≡ (if nat_lt j count then slot_bytes (get nat_cmp m j) (settled_block l disk pointers depth kept j) else zeros 4096)
 unfolding settled_block
-trimmed_block disk pointers depth kept new_kept count m n e k j = rw (e j, k) (each (ltb j count) refl)
+trimmed_block l disk pointers depth kept new_kept count m n e k j = rw (e j, k) (each (ltb j count) refl)
   where
     narrow : (b : Bool) → ltb j count ≡ b → ltb j (min kept count) ≡ (if b then ltb j kept else false)
     narrow b e = grind (arith, nat_tests)
 
-    each : (b : Bool) → ltb j count ≡ b → slot_bytes (if b then get nat_cmp m j else None) (if ltb j (min kept count) then pointed disk (place disk pointers depth j) else zeros 4096) ≡ (if b then slot_bytes (get nat_cmp m j) (if ltb j kept then pointed disk (place disk pointers depth j) else zeros 4096) else zeros 4096)
+    each : (b : Bool) → ltb j count ≡ b → slot_bytes (if b then get nat_cmp m j else None) (if ltb j (min kept count) then pointed disk (place l disk pointers depth j) else zeros 4096) ≡ (if b then slot_bytes (get nat_cmp m j) (if ltb j kept then pointed disk (place l disk pointers depth j) else zeros 4096) else zeros 4096)
     each true e = rw (narrow true e) refl
     each false e = rw (narrow false e) refl
 

@@ -22,9 +22,9 @@ hole_is_zeros disk t i hole = over (get nat_cmp t.slots i) hole
     below true (Block b) e = absurd (true≢false e)
     below false p e = refl
 
-    over : (s : Option Slot) → is_stored_over s (nat_lt i t.kept && is_block (place disk t.pointers t.depth i)) ≡ false → slot_bytes s (settled_block disk t.pointers t.depth t.kept i) ≡ zeros 4096
-    over None e = below (nat_lt i t.kept) (place disk t.pointers t.depth i) e
-    over (Some AsSettled) e = below (nat_lt i t.kept) (place disk t.pointers t.depth i) e
+    over : (s : Option Slot) → is_stored_over s (nat_lt i t.kept && is_block (place t.layout disk t.pointers t.depth i)) ≡ false → slot_bytes s (settled_block t.layout disk t.pointers t.depth t.kept i) ≡ zeros 4096
+    over None e = below (nat_lt i t.kept) (place t.layout disk t.pointers t.depth i) e
+    over (Some AsSettled) e = below (nat_lt i t.kept) (place t.layout disk t.pointers t.depth i) e
     over (Some (Changed block)) e = absurd (true≢false e)
 
 module _ (disk : ℕ → List ℕ) (t : BlockTree) (from to : ℕ) where

@@ -5,6 +5,7 @@ use Rattle.std.specs.BTreeMap as tree
 use Rattle.layout.specs.Bytes.{zeros}
 use Rattle.layout.specs.declared.pointer.Pointer.{Pointer}
 use Rattle.layout.specs.declared.pointer.Pointer.TheVariants.{Hole, Block}
+use Rattle.layout.specs.declared.trees.Layout.{Layout}
 use Rattle.buffers.specs.Disks.{IsWhole}
 use Rattle.blocktree.specs.Names.{AreNodes}
 use Rattle.blocktree.specs.Places.{pointed, place, IsPath}
@@ -16,9 +17,9 @@ use Rattle.blocktree.specs.declared.tree.Location.TheVariants as locations
 use Rattle.blocktree.specs.declared.tree.BlockTree.{BlockTree}
 
 -- block i as an inode with these pointers has it, of which the first `kept` count
-unfoldable pub settled_block : (ℕ → List ℕ) → List Pointer → ℕ → ℕ → ℕ → List ℕ
-settled_block disk pointers depth kept i =
-    if nat_lt i kept then pointed disk (place disk pointers depth i) else zeros 4096
+unfoldable pub settled_block : Layout → (ℕ → List ℕ) → List Pointer → ℕ → ℕ → ℕ → List ℕ
+settled_block layout disk pointers depth kept i =
+    if nat_lt i kept then pointed disk (place layout disk pointers depth i) else zeros 4096
 
 -- a block with what is in memory of it over what stands below
 abbrev pub slot_bytes : Option Slot → List ℕ → List ℕ
@@ -29,7 +30,7 @@ slot_bytes None below = below
 -- block i
 abbrev pub tree_block : (ℕ → List ℕ) → BlockTree → ℕ → List ℕ
 tree_block disk t i =
-    slot_bytes (tree.get nat_cmp t.slots i) (settled_block disk t.pointers t.depth t.kept i)
+    slot_bytes (tree.get nat_cmp t.slots i) (settled_block t.layout disk t.pointers t.depth t.kept i)
 
 -- block i has room for a change
 abbrev pub HasRoom : BlockTree → ℕ → Type 0
@@ -41,6 +42,7 @@ SameBlocks old new = (disk : ℕ → List ℕ) (i : ℕ) → tree_block disk new
 
 -- what a consistency point settled of a file is the same
 pub record SameSettled (old new : BlockTree) : Type 0 where
+  pub layout : new.layout ≡ old.layout
   pub pointers : new.pointers ≡ old.pointers
   pub depth : new.depth ≡ old.depth
   pub count : new.count ≡ old.count
@@ -79,11 +81,11 @@ pub record SameChanges (old new : BlockTree) : Type 0 where
 abbrev pub IsSoundAt : ℕ → (ℕ → List ℕ) → BlockTree → ℕ → Type 0
 IsSoundAt blocks disk t i =
     (IsChanged t i → ⊥) → i < t.kept
-    → IsPath blocks disk t.pointers t.depth t.count i × IsWhole (pointed disk (place disk t.pointers t.depth i))
+    → IsPath t.layout blocks disk t.pointers t.depth t.count i × IsWhole (pointed disk (place t.layout disk t.pointers t.depth i))
 
 -- what stands on a disk of so many blocks over the settled blocks is in the grammar
 abbrev pub AreSound : ℕ → (ℕ → List ℕ) → BlockTree → Type 0
-AreSound blocks disk t = (i : ℕ) → i < t.count → IsPath blocks disk t.pointers t.depth t.count i
+AreSound blocks disk t = (i : ℕ) → i < t.count → IsPath t.layout blocks disk t.pointers t.depth t.count i
 
 -- what was in the grammar is so still
 abbrev pub KeepsSound : BlockTree → BlockTree → Type 0
@@ -118,7 +120,7 @@ is_stored_over None below = below
 -- to a block
 abbrev pub is_stored : (ℕ → List ℕ) → BlockTree → ℕ → Bool
 is_stored disk t i =
-    is_stored_over (tree.get nat_cmp t.slots i) (nat_lt i t.kept && is_block (place disk t.pointers t.depth i))
+    is_stored_over (tree.get nat_cmp t.slots i) (nat_lt i t.kept && is_block (place t.layout disk t.pointers t.depth i))
 
 -- no block from one index on and before another is stored
 abbrev pub AreHoles : (ℕ → List ℕ) → BlockTree → ℕ → ℕ → Type 0
@@ -130,4 +132,4 @@ AreSettledHoles disk t from to = (i : ℕ) → from ≤ i → i < to → (IsChan
 
 -- these are the places of the settled blocks
 abbrev pub AreSettledPlaces : (ℕ → List ℕ) → BlockTree → PlaceMap → Type 0
-AreSettledPlaces disk t places = AreNodes disk t.pointers t.depth t.count places
+AreSettledPlaces disk t places = AreNodes t.layout disk t.pointers t.depth t.count places

@@ -2,17 +2,16 @@
 
 ghost use Rattle.std.specs.Prelude.{◌≡◌, ◌≢◌, ℕ, ◌<◌, ◌≤◌, IfOk, IfSome, IfNone, length, slice_index_or};
 ghost use Rattle.layout.specs.Maps.{indirect_pointer};
+ghost use Rattle.layout.specs.Trees.{fan_out};
 ghost use Rattle.layout.specs.declared.TheConstants.{BLOCK_POINTERS};
 ghost use Rattle.layout.specs.declared.pointer.Pointer.TheVariants.{Hole, Block};
 
-use layout::{BLOCK_BYTES, BLOCK_POINTERS, BlockNumber, Pointer, indirect_pointer};
+use layout::{BLOCK_BYTES, BLOCK_POINTERS, BlockNumber, Layout, Pointer, indirect_pointer};
 use std::alloc::{AllocError, Global};
 use std::marker::Model;
 
-/// Nodes under one indirect block.
-pub(crate) const GROUP: u32 = 1024;
-
-/// The pointers to the nodes under one indirect block.
+/// The pointers to the nodes under one indirect block. There is room for as many as it has in any
+/// layout.
 #[derive(Debug, Drop)]
 pub(crate) struct Group {
     pointers: Box<[Pointer; BLOCK_POINTERS]>,
@@ -50,26 +49,32 @@ impl Group {
         Ok(Group { pointers })
     }
 
-    /// Those that an indirect block spells.
-    pub(crate) fn spelled(alloc: Global, bytes: &[u8; BLOCK_BYTES]) -> Result<Group, AllocError>
-        ensures { IfOk result (λ g. (r : ℕ) → r < 1024
+    /// Those that an indirect block of this layout spells.
+    pub(crate) fn spelled(
+        alloc: Global,
+        layout: Layout,
+        bytes: &[u8; BLOCK_BYTES],
+    ) -> Result<Group, AllocError>
+        ensures { IfOk result (λ g. (r : ℕ) → r < fan_out layout
             → slice_index_or g r Hole ≡ indirect_pointer bytes.now r) }
     {
         let mut group = Group::holes(alloc)?;
-        for r in 0..GROUP {
+        for r in 0..layout.fan_out() {
             group.set(r, indirect_pointer(bytes, r));
         }
         Ok(group)
     }
 
-    /// A copy of the pointers.
-    pub(crate) fn copy(&self) -> [Pointer; BLOCK_POINTERS]
+    /// A copy of the first `count` pointers, and holes behind them.
+    pub(crate) fn copy(&self, count: usize) -> [Pointer; BLOCK_POINTERS]
+        requires { count ≤ BLOCK_POINTERS }
         ensures count { length result ≡ BLOCK_POINTERS }
-        ensures each { (r : ℕ) → r < BLOCK_POINTERS
+        ensures each { (r : ℕ) → r < count
             → slice_index_or result r Hole ≡ slice_index_or self.now r Hole }
+        ensures behind { (r : ℕ) → count ≤ r → slice_index_or result r Hole ≡ Hole }
     {
         let mut all = [Pointer::Hole; BLOCK_POINTERS];
-        for r in 0..BLOCK_POINTERS {
+        for r in 0..count {
             all[r] = self.pointers[r];
         }
         all
@@ -82,7 +87,7 @@ impl Group {
         ensures behind { IfOk result (λ g. (r : ℕ) → count ≤ r → slice_index_or g r Hole ≡ Hole) }
     {
         let mut first = Group::holes(alloc)?;
-        for r in 0..count.min(GROUP) {
+        for r in 0..count.min(BLOCK_POINTERS as u32) {
             first.set(r, self.at(r));
         }
         Ok(first)

@@ -9,20 +9,21 @@ ghost use Rattle.blocktree.specs.PlaceMaps.{AreBelow, EndBefore, place_at};
 ghost use Rattle.blocktree.specs.Places.{follow, place, IsStoredNode, IsPath};
 ghost use Rattle.layout.specs.Maps.{indirect_pointer, IsIndirectBlock};
 ghost use Rattle.layout.specs.Pointer.{PointsBelow};
+ghost use Rattle.layout.specs.Trees.{fan_out};
 ghost use Rattle.layout.specs.declared.pointer.Pointer.TheVariants.{Hole};
 
-use crate::group::GROUP;
 use crate::place::own_pointer;
 use crate::place_map::PlaceMap;
 use buffers::{BlockError, Blocks};
 use layout::{
-    BLOCK_BYTES, BODY_POINTERS, BlockNumber, Pointer, indirect_pointer, is_indirect_block,
+    BLOCK_BYTES, BODY_POINTERS, BlockNumber, Layout, Pointer, indirect_pointer, is_indirect_block,
 };
 use std::alloc::{AllocError, Global};
 
 /// The first `count` of an inode's pointers, on a disk of so many blocks.
 fn own_places(
     alloc: Global,
+    layout: Layout,
     pointers: &[Pointer; BODY_POINTERS],
     blocks: u32,
     count: u32,
@@ -35,8 +36,9 @@ fn own_places(
     ensures damaged { IsErrOf result BlockError.Damaged → ((i : ℕ) → i < count
         → PointsBelow blocks (slice_index_or pointers.now i Hole)) → ⊥ }
     ensures only { IfErr result (λ e. (e ≡ BlockError.Damaged) ⊎ (e ≡ BlockError.NoMemory)) }
+    ensures layout { IfOk result (λ p. p.layout ≡ layout) }
 {
-    let mut places = PlaceMap::new(alloc);
+    let mut places = PlaceMap::new(alloc, layout);
     for i in 0..count {
         let pointer = own_pointer(pointers, blocks, i)?;
         places.set(i, pointer)?;
@@ -46,14 +48,20 @@ fn own_places(
 
 /// Has the pointers of an indirect block as those to the nodes of group `j`, which are holes so
 /// far.
-fn put_group(places: &mut PlaceMap, j: u32, bytes: &[u8; BLOCK_BYTES]) -> Result<(), AllocError>
-    requires index { j < 4194304 }
-    requires holes { (i : ℕ) → 1024 * j ≤ i → place_at places.old i ≡ Hole }
-    ensures before { OnOk result ((i : ℕ) → i < 1024 * j
+fn put_group(
+    layout: Layout,
+    j: u32,
+    bytes: &[u8; BLOCK_BYTES],
+    places: &mut PlaceMap,
+) -> Result<(), AllocError>
+    requires layout { places.old.layout ≡ layout }
+    requires holes { (i : ℕ) → fan_out layout * j ≤ i → place_at places.old i ≡ Hole }
+    ensures before { OnOk result ((i : ℕ) → i < fan_out layout * j
         → place_at places.new i ≡ place_at places.old i) }
-    ensures group { OnOk result ((r : ℕ) → r < 1024
-        → place_at places.new (1024 * j + r) ≡ indirect_pointer bytes.now r) }
-    ensures behind { OnOk result (EndBefore (1024 * j + 1024) places.new) }
+    ensures group { OnOk result ((r : ℕ) → r < fan_out layout
+        → place_at places.new (fan_out layout * j + r) ≡ indirect_pointer bytes.now r) }
+    ensures behind { OnOk result (EndBefore (fan_out layout * j + fan_out layout) places.new) }
+    ensures layout { OnOk result (places.new.layout ≡ layout) }
 {
     places.put_spelled(j, bytes)?;
     Ok(())
@@ -63,35 +71,41 @@ fn put_group(places: &mut PlaceMap, j: u32, bytes: &[u8; BLOCK_BYTES]) -> Result
 /// nodes of the group, which are holes so far, as all behind it.
 fn add_group<B: Blocks>(
     blocks: &mut B,
+    layout: Layout,
     node: BlockNumber,
     j: u32,
     count: u32,
     places: &mut PlaceMap,
 ) -> Result<(), BlockError>
     requires place { PointsBelow (B.count blocks.old) (Pointer.Block node) }
-    requires index { 1024 * j < count }
+    requires layout { places.old.layout ≡ layout }
+    requires index { fan_out layout * j < count }
     requires within { AreBelow (B.count blocks.old) places.old }
-    requires end { EndBefore (1024 * j) places.old }
+    requires end { EndBefore (fan_out layout * j) places.old }
     ensures reads { ReadsBlocks B.Blocks IsFault blocks.old blocks.new result }
     ensures within { OnOk result (AreBelow (B.count blocks.old) places.new) }
-    ensures before { OnOk result ((i : ℕ) → i < 1024 * j
+    ensures before { OnOk result ((i : ℕ) → i < fan_out layout * j
         → place_at places.new i ≡ place_at places.old i) }
     ensures group { (disk : ℕ → List ℕ) → B.Shows blocks.old disk → OnOk result ((r : ℕ)
-        → r < 1024 → place_at places.new (1024 * j + r) ≡ indirect_pointer (disk node) r) }
-    ensures behind { OnOk result (EndBefore (1024 * j + 1024) places.new) }
+        → r < fan_out layout
+        → place_at places.new (fan_out layout * j + r) ≡ indirect_pointer (disk node) r) }
+    ensures behind { OnOk result (EndBefore (fan_out layout * j + fan_out layout) places.new) }
     ensures end { OnOk result (EndBefore count places.new) }
     ensures sound { (disk : ℕ → List ℕ) → B.Shows blocks.old disk → OnOk result
-        (IsIndirectBlock (B.count blocks.old) (count - 1024 * j) (disk node)) }
+        (IsIndirectBlock layout (B.count blocks.old) (count - fan_out layout * j) (disk node)) }
     ensures damaged { (disk : ℕ → List ℕ) → B.Shows blocks.old disk
         → IsErrOf result BlockError.Damaged
-        → IsIndirectBlock (B.count blocks.old) (count - 1024 * j) (disk node) → ⊥ }
+        → IsIndirectBlock layout (B.count blocks.old) (count - fan_out layout * j) (disk node)
+        → ⊥ }
+    ensures layout { OnOk result (places.new.layout ≡ layout) }
 {
     blocks.make_resident(node)?;
     let bytes = blocks.bytes(node);
-    if !is_indirect_block(bytes, blocks.count(), count - GROUP * j) {
+    let used = count - layout.fan_out() * j;
+    if !is_indirect_block(bytes, layout, blocks.count(), used) {
         return Err(BlockError::Damaged);
     }
-    put_group(places, j, bytes)?;
+    put_group(layout, j, bytes, places)?;
     Ok(())
 }
 
@@ -99,6 +113,7 @@ fn add_group<B: Blocks>(
 fn places_under<B: Blocks>(
     alloc: Global,
     blocks: &mut B,
+    layout: Layout,
     above: &PlaceMap,
     count: u32,
 ) -> Result<PlaceMap, BlockError>
@@ -108,19 +123,22 @@ fn places_under<B: Blocks>(
     ensures end { IfOk result (EndBefore count) }
     ensures nodes { (disk : ℕ → List ℕ) → B.Shows blocks.old disk
         → IfOk result (λ p. (i : ℕ) → i < count
-        → place_at p i ≡ follow disk (place_at above.now (i / 1024)) (i % 1024)) }
+        → place_at p i ≡ follow disk (place_at above.now (i / fan_out layout)) (i % fan_out layout)) }
     ensures sound { (disk : ℕ → List ℕ) → B.Shows blocks.old disk → OnOk result ((j : ℕ)
-        → j < div_ceil count 1024
-        → IsStoredNode (B.count blocks.old) disk (count - 1024 * j) (place_at above.now j)) }
+        → j < div_ceil count (fan_out layout)
+        → IsStoredNode layout (B.count blocks.old) disk (count - fan_out layout * j)
+        (place_at above.now j)) }
     ensures damaged { (disk : ℕ → List ℕ) → B.Shows blocks.old disk
-        → IsErrOf result BlockError.Damaged → ((j : ℕ) → j < div_ceil count 1024
-        → IsStoredNode (B.count blocks.old) disk (count - 1024 * j) (place_at above.now j)) → ⊥ }
+        → IsErrOf result BlockError.Damaged → ((j : ℕ) → j < div_ceil count (fan_out layout)
+        → IsStoredNode layout (B.count blocks.old) disk (count - fan_out layout * j)
+        (place_at above.now j)) → ⊥ }
+    ensures layout { IfOk result (λ p. p.layout ≡ layout) }
 {
-    let groups = count.div_ceil(GROUP);
-    let mut places = PlaceMap::new(alloc);
+    let groups = count.div_ceil(layout.fan_out());
+    let mut places = PlaceMap::new(alloc, layout);
     let mut from = 0;
     while let Some(node) = above.next(from, groups) {
-        add_group(blocks, node.place, node.index, count, &mut places)?;
+        add_group(blocks, layout, node.place, node.index, count, &mut places)?;
         from = node.index + 1;
     }
     Ok(places)
@@ -130,29 +148,32 @@ fn places_under<B: Blocks>(
 pub(crate) fn read_places<B: Blocks>(
     alloc: Global,
     blocks: &mut B,
+    layout: Layout,
     pointers: &[Pointer; BODY_POINTERS],
     depth: u32,
     count: u32,
 ) -> Result<PlaceMap, BlockError>
-    requires { count ≤ 16 * 1024 ^ depth }
+    requires { count ≤ 16 * fan_out layout ^ depth }
     ensures reads { ReadsBlocks B.Blocks IsFault blocks.old blocks.new result }
     ensures within { IfOk result (AreBelow (B.count blocks.old)) }
     ensures end { IfOk result (EndBefore count) }
     ensures nodes { (disk : ℕ → List ℕ) → B.Shows blocks.old disk
         → IfOk result (λ p. (i : ℕ) → i < count
-        → place_at p i ≡ place disk pointers.now depth i) }
+        → place_at p i ≡ place layout disk pointers.now depth i) }
     ensures sound { (disk : ℕ → List ℕ) → B.Shows blocks.old disk → OnOk result ((i : ℕ)
-        → i < count → IsPath (B.count blocks.old) disk pointers.now depth count i) }
+        → i < count → IsPath layout (B.count blocks.old) disk pointers.now depth count i) }
     ensures damaged { (disk : ℕ → List ℕ) → B.Shows blocks.old disk
         → IsErrOf result BlockError.Damaged
-        → ((i : ℕ) → i < count → IsPath (B.count blocks.old) disk pointers.now depth count i)
+        → ((i : ℕ) → i < count → IsPath layout (B.count blocks.old) disk pointers.now depth count i)
         → ⊥ }
+    ensures layout { IfOk result (λ p. p.layout ≡ layout) }
 {
     if depth == 0 {
-        let own = own_places(alloc, pointers, blocks.count(), count)?;
+        let own = own_places(alloc, layout, pointers, blocks.count(), count)?;
         return Ok(own);
     }
-    let above = read_places(alloc, blocks, pointers, depth - 1, count.div_ceil(GROUP))?;
-    let places = places_under(alloc, blocks, &above, count)?;
+    let wide = count.div_ceil(layout.fan_out());
+    let above = read_places(alloc, blocks, layout, pointers, depth - 1, wide)?;
+    let places = places_under(alloc, blocks, layout, &above, count)?;
     Ok(places)
 }

@@ -4,21 +4,23 @@ ghost use Rattle.std.specs.Prelude.{◌≡◌, ◌≢◌, ℕ, ◌+◌, ◌*◌,
 ghost use Rattle.std.specs.BTreeMap as tree;
 ghost use Rattle.std.specs.Ordering.{nat_cmp};
 ghost use Rattle.layout.specs.Maps.{indirect_pointer};
+ghost use Rattle.layout.specs.Trees.{fan_out};
 ghost use Rattle.layout.specs.declared.TheConstants.{BLOCK_POINTERS};
 ghost use Rattle.layout.specs.declared.pointer.Pointer.TheVariants.{Hole, Block};
 ghost use Rattle.blocktree.specs.PlaceMaps.{place_at};
 
-use crate::group::{GROUP, Group};
-use layout::{BLOCK_BYTES, BLOCK_POINTERS, BlockNumber, Pointer};
+use crate::group::Group;
+use layout::{BLOCK_BYTES, BLOCK_POINTERS, BlockNumber, Layout, Pointer};
 use std::alloc::{AllocError, Global};
 use std::collections::BTreeMap;
 
 /// The places of those nodes at one height of a file that are stored, by index. They are held by
-/// groups of 1,024 nodes, those under one indirect block, of which one is stored. So it is as large
-/// as what is stored, however large the file is.
+/// groups, those under one indirect block, of which one is stored. So it is as large as what is
+/// stored, however large the file is.
 #[derive(Debug, Drop)]
 pub struct PlaceMap {
     alloc: Global,
+    layout: Layout,
     groups: BTreeMap<u32, Group>,
 }
 
@@ -48,11 +50,13 @@ pub(crate) fn next_entry<V>(map: &BTreeMap<u32, V>, from: u32, to: u32) -> Optio
 impl PlaceMap {
     /// No node is stored.
     #[tactic(auto, unfolding(crate::specs::PlaceMaps::place_at))]
-    pub fn new(alloc: Global) -> PlaceMap
-        ensures { (i : ℕ) → place_at result i ≡ Hole }
+    pub fn new(alloc: Global, layout: Layout) -> PlaceMap
+        ensures holes { (i : ℕ) → place_at result i ≡ Hole }
+        ensures layout { result.layout ≡ layout }
     {
         PlaceMap {
             alloc,
+            layout,
             groups: BTreeMap::new(alloc),
         }
     }
@@ -62,9 +66,10 @@ impl PlaceMap {
     pub fn at(&self, i: u32) -> Pointer
         ensures { result ≡ place_at self.now i }
     {
-        let j = i / GROUP;
+        let fan = self.layout.fan_out();
+        let j = i / fan;
         match self.groups.get(&j) {
-            Some(group) => group.at(i % GROUP),
+            Some(group) => group.at(i % fan),
             None => Pointer::Hole,
         }
     }
@@ -74,11 +79,13 @@ impl PlaceMap {
         ensures there { OnOk result (place_at self.new i ≡ pointer) }
         ensures others { OnOk result ((j : ℕ) → j ≢ i
             → place_at self.new j ≡ place_at self.old j) }
+        ensures layout { self.new.layout ≡ self.old.layout }
     {
-        let j = i / GROUP;
+        let fan = self.layout.fan_out();
+        let j = i / fan;
         match self.groups.get_mut(&j) {
             Some(group) => {
-                group.set(i % GROUP, pointer);
+                group.set(i % fan, pointer);
                 Ok(())
             }
             None => self.add(i, pointer),
@@ -87,16 +94,18 @@ impl PlaceMap {
 
     /// The same of a node of whose group none is held.
     fn add(&mut self, i: u32, pointer: Pointer) -> Result<(), AllocError>
-        requires { tree.get nat_cmp self.old.groups (i / 1024) ≡ None }
+        requires { tree.get nat_cmp self.old.groups (i / fan_out self.old.layout) ≡ None }
         ensures there { OnOk result (place_at self.new i ≡ pointer) }
         ensures others { OnOk result ((j : ℕ) → j ≢ i
             → place_at self.new j ≡ place_at self.old j) }
+        ensures layout { self.new.layout ≡ self.old.layout }
     {
         match pointer {
             Pointer::Hole => Ok(()),
             Pointer::Block(place) => {
-                let group = Group::with(self.alloc, i % GROUP, Pointer::Block(place))?;
-                self.put(i / GROUP, group)?;
+                let fan = self.layout.fan_out();
+                let group = Group::with(self.alloc, i % fan, Pointer::Block(place))?;
+                self.put(i / fan, group)?;
                 Ok(())
             }
         }
@@ -104,8 +113,9 @@ impl PlaceMap {
 
     /// Holds these pointers as those of group `j`.
     fn put(&mut self, j: u32, group: Group) -> Result<(), AllocError>
-        ensures { OnOk result
+        ensures updates { OnOk result
             (tree.Updates nat_cmp self.old.groups self.new.groups j (Some group)) }
+        ensures layout { self.new.layout ≡ self.old.layout }
     {
         match self.groups.insert(j, group) {
             Ok(_) => Ok(()),
@@ -119,38 +129,44 @@ impl PlaceMap {
         j: u32,
         bytes: &[u8; BLOCK_BYTES],
     ) -> Result<(), AllocError>
-        ensures group { OnOk result ((r : ℕ) → r < 1024
-            → place_at self.new (1024 * j + r) ≡ indirect_pointer bytes.now r) }
-        ensures others { OnOk result ((i : ℕ) → i / 1024 ≢ j
+        ensures group { OnOk result ((r : ℕ) → r < fan_out self.old.layout
+            → place_at self.new (fan_out self.old.layout * j + r) ≡ indirect_pointer bytes.now r) }
+        ensures others { OnOk result ((i : ℕ) → i / fan_out self.old.layout ≢ j
             → place_at self.new i ≡ place_at self.old i) }
+        ensures layout { self.new.layout ≡ self.old.layout }
     {
-        let group = Group::spelled(self.alloc, bytes)?;
+        let group = Group::spelled(self.alloc, self.layout, bytes)?;
         self.put(j, group)?;
         Ok(())
     }
 
-    /// The pointers to the nodes of group `j`.
+    /// The pointers to the nodes of group `j`, and holes behind them.
     #[tactic(auto, unfolding(crate::specs::PlaceMaps::place_at))]
     pub fn group(&self, j: u32) -> [Pointer; BLOCK_POINTERS]
         ensures count { length result ≡ BLOCK_POINTERS }
-        ensures nodes { (r : ℕ) → r < BLOCK_POINTERS
-            → slice_index_or result r Hole ≡ place_at self.now (BLOCK_POINTERS * j + r) }
+        ensures nodes { (r : ℕ) → r < fan_out self.now.layout
+            → slice_index_or result r Hole ≡ place_at self.now (fan_out self.now.layout * j + r) }
+        ensures behind { (r : ℕ) → fan_out self.now.layout ≤ r
+            → slice_index_or result r Hole ≡ Hole }
     {
+        let fan = self.layout.fan_out();
         match self.groups.get(&j) {
-            Some(group) => group.copy(),
+            Some(group) => group.copy(fan as usize),
             None => [Pointer::Hole; BLOCK_POINTERS],
         }
     }
 
     /// The places of the first `count` nodes.
     pub fn first(&self, alloc: Global, count: u32) -> Result<PlaceMap, AllocError>
-        ensures { IfOk result (λ first. (i : ℕ)
+        ensures places { IfOk result (λ first. (i : ℕ)
             → place_at first i ≡ (if nat_lt i count then place_at self.now i else Hole)) }
+        ensures layout { IfOk result (λ first. first.layout ≡ self.now.layout) }
     {
-        let mut first = PlaceMap::new(alloc);
+        let fan = self.layout.fan_out();
+        let mut first = PlaceMap::new(alloc, self.layout);
         let mut from = 0;
-        while let Some((j, group)) = next_entry(&self.groups, from, count.div_ceil(GROUP)) {
-            let part = group.first(alloc, count - GROUP * j)?;
+        while let Some((j, group)) = next_entry(&self.groups, from, count.div_ceil(fan)) {
+            let part = group.first(alloc, count - fan * j)?;
             first.put(j, part)?;
             from = j + 1;
         }
@@ -166,20 +182,21 @@ impl PlaceMap {
         ensures none { IfNone result ((i : ℕ) → from ≤ i → i < to
             → place_at self.now i ≡ Hole) }
     {
+        let fan = self.layout.fan_out();
         let mut from = from;
-        while let Some((j, group)) = next_entry(&self.groups, from / GROUP, to.div_ceil(GROUP)) {
-            let first = GROUP * j;
+        while let Some((j, group)) = next_entry(&self.groups, from / fan, to.div_ceil(fan)) {
+            let first = fan * j;
             let end = to - first;
-            if let Some((r, place)) = group.next(from.saturating_sub(first), end.min(GROUP)) {
+            if let Some((r, place)) = group.next(from.saturating_sub(first), end.min(fan)) {
                 return Some(StoredNode {
                     index: first + r,
                     place,
                 });
             }
-            if end <= GROUP {
+            if end <= fan {
                 return None;
             }
-            from = first + GROUP;
+            from = first + fan;
         }
         None
     }

@@ -1,6 +1,6 @@
 //! Which blocks of a file are stored.
 
-ghost use Rattle.std.specs.Prelude.{ℕ, ◌<◌, ◌≤◌, List, OnOk, IfOk, IfSome, IfNone, IsErrOf};
+ghost use Rattle.std.specs.Prelude.{◌≡◌, ℕ, ◌<◌, ◌≤◌, List, OnOk, IfOk, IfSome, IfNone, IsErrOf};
 ghost use Rattle.buffers.specs.Reads.{ReadsBlocks};
 ghost use Rattle.buffers.specs.Errors.{IsFault};
 
@@ -29,6 +29,7 @@ impl BlockTree {
         ensures damaged { (disk : ℕ → List ℕ) → B.Shows blocks.old disk
             → IsErrOf result BlockError.Damaged
             → AreSound (B.count blocks.old) disk self.now → ⊥ }
+        ensures layout { IfOk result (λ places. places.layout ≡ self.now.layout) }
     {
         self.settled_nodes(alloc, blocks, 0)
     }

@@ -2,8 +2,7 @@
 
 ghost use Rattle.std.specs.Prelude.{◌≡◌, ◌⊎◌, ℕ, ◌+◌, ◌-◌, ◌*◌, ◌^◌, ◌<◌, ◌≤◌, List, length, slice_index, OnOk, OnErr, IfOk, IsErrOf};
 ghost use Rattle.layout.specs.Bytes.{zeros};
-ghost use Rattle.layout.specs.Version.{greatest_size};
-ghost use Rattle.layout.specs.declared.version.TheConstants.{VERSION};
+ghost use Rattle.layout.specs.Trees.{fan_out, greatest_size};
 ghost use Rattle.buffers.specs.Reads.{ReadsBlocks};
 ghost use Rattle.buffers.specs.Errors.{IsFault};
 ghost use Rattle.buffers.specs.Positions.{IsPart};
@@ -17,7 +16,7 @@ use crate::place::find_place;
 use crate::place_map::{PlaceMap, next_entry};
 use crate::slot::{Slot, truncate_slots};
 use buffers::{BlockError, Blocks, SharedBlock};
-use layout::{BLOCK_BYTES, BODY_POINTERS, BlockNumber, Pointer, level_of};
+use layout::{BLOCK_BYTES, BODY_POINTERS, BlockNumber, Layout, Pointer};
 use std::alloc::{AllocError, Global};
 use std::collections::BTreeMap;
 
@@ -35,6 +34,8 @@ pub enum Location {
 /// The blocks of a file, by index: those of its settled inode, and over them the changed ones.
 #[derive(Debug, Drop)]
 pub struct BlockTree {
+    /// The layout of the image.
+    layout: Layout,
     /// The pointers of the settled inode.
     pointers: [Pointer; BODY_POINTERS],
     /// How many indirect blocks stand between one of these and a block.
@@ -44,12 +45,12 @@ pub struct BlockTree {
     /// Blocks from here on are no more as the settled inode has them.
     kept: u32,
     slots: BTreeMap<u32, Slot>,
-    ghost fits: { (count ≤ 16 * 1024 ^ depth) × (kept ≤ count) },
+    ghost fits: { (count ≤ 16 * fan_out layout ^ depth) × (kept ≤ count) },
 }
 
 /// How many blocks hold so many bytes.
 fn block_count(size: u64) -> u32
-    requires { size ≤ greatest_size VERSION }
+    requires { size ≤ 2 ^ 43 }
     ensures { result ≡ block_count size }
 {
     size.div_ceil(4096) as u32
@@ -70,21 +71,29 @@ impl BlockTree {
     ghost use Rattle.buffers.specs.Positions.{laid, with_bytes_at};
     ghost use Rattle.blocktree.specs.Trees.{AreSound, tree_block, settled_block, HasRoom, KeepsRoom, SameBlocks, SameSettled, IsChanged, IsSoundAt, KeepsSound, IsAtLocation, OnDisk};
 
-    /// The blocks of a settled file of this size with these pointers in its inode.
-    pub fn settled(alloc: Global, pointers: [Pointer; BODY_POINTERS], size: u64) -> BlockTree
-        requires { size ≤ greatest_size VERSION }
+    /// The blocks of a settled file of this size with these pointers in its inode, in an image of
+    /// this layout.
+    pub fn settled(
+        alloc: Global,
+        layout: Layout,
+        pointers: [Pointer; BODY_POINTERS],
+        size: u64,
+    ) -> BlockTree
+        requires { size ≤ greatest_size layout }
+        ensures layout { result.layout ≡ layout }
         ensures pointers { result.pointers ≡ pointers }
-        ensures depth { result.depth ≡ depth_of size }
+        ensures depth { result.depth ≡ depth_of layout size }
         ensures count { result.count ≡ block_count size }
         ensures kept { result.kept ≡ block_count size }
         ensures blocks { (disk : ℕ → List ℕ) (i : ℕ) → tree_block disk result i
-            ≡ settled_block disk pointers (depth_of size) (block_count size) i }
+            ≡ settled_block layout disk pointers (depth_of layout size) (block_count size) i }
         ensures unchanged { (i : ℕ) → IsChanged result i → ⊥ }
     {
         let count = block_count(size);
         BlockTree {
+            layout,
             pointers,
-            depth: u32::from(level_of(size).saturating_sub(1)),
+            depth: u32::from(layout.level_of(size).saturating_sub(1)),
             count,
             kept: count,
             slots: BTreeMap::new(alloc),
@@ -92,12 +101,20 @@ impl BlockTree {
     }
 
     /// The blocks of an empty file.
-    pub fn empty(alloc: Global) -> BlockTree
+    pub fn empty(alloc: Global, layout: Layout) -> BlockTree
+        ensures layout { result.layout ≡ layout }
         ensures count { result.count ≡ 0 }
         ensures blocks { (disk : ℕ → List ℕ) (i : ℕ) → tree_block disk result i ≡ zeros 4096 }
         ensures unchanged { (i : ℕ) → IsChanged result i → ⊥ }
     {
-        BlockTree::settled(alloc, [Pointer::Hole; BODY_POINTERS], 0)
+        BlockTree::settled(alloc, layout, [Pointer::Hole; BODY_POINTERS], 0)
+    }
+
+    /// The layout of the image.
+    pub fn layout(&self) -> Layout
+        ensures { result ≡ self.now.layout }
+    {
+        self.layout
     }
 
     /// How many indirect blocks stand between one of these and a block.
@@ -110,7 +127,7 @@ impl BlockTree {
     /// How many blocks the settled file has.
     pub fn count(&self) -> u32
         ensures value { result ≡ self.now.count }
-        ensures most { result ≤ 16 * 1024 ^ self.now.depth }
+        ensures most { result ≤ 16 * fan_out self.now.layout ^ self.now.depth }
     {
         self.count
     }
@@ -124,8 +141,8 @@ impl BlockTree {
     }
 
     /// The settled places of the nodes at a height: at height 0 of the blocks, and then of the
-    /// indirect blocks, each over 1,024 nodes of those below. Each indirect block over them that is
-    /// stored is read and tested once.
+    /// indirect blocks, each over as many nodes of those below as it has pointers. Each indirect
+    /// block over them that is stored is read and tested once.
     pub fn settled_nodes<B: Blocks>(
         &self,
         alloc: Global,
@@ -135,18 +152,27 @@ impl BlockTree {
         requires { height ≤ self.now.depth }
         ensures reads { ReadsBlocks B.Blocks IsFault blocks.old blocks.new result }
         ensures within { IfOk result (AreBelow (B.count blocks.old)) }
-        ensures end { IfOk result (EndBefore (nodes_at self.now.count height)) }
+        ensures end { IfOk result (EndBefore (nodes_at self.now.layout self.now.count height)) }
         ensures nodes { (disk : ℕ → List ℕ) → B.Shows blocks.old disk → IfOk result
-            (AreNodes disk self.now.pointers (self.now.depth - height)
-            (nodes_at self.now.count height)) }
+            (AreNodes self.now.layout disk self.now.pointers (self.now.depth - height)
+            (nodes_at self.now.layout self.now.count height)) }
         ensures sound { (disk : ℕ → List ℕ) → B.Shows blocks.old disk
             → OnOk result (height ≡ 0 → AreSound (B.count blocks.old) disk self.now) }
         ensures damaged { (disk : ℕ → List ℕ) → B.Shows blocks.old disk
             → IsErrOf result BlockError.Damaged
             → AreSound (B.count blocks.old) disk self.now → ⊥ }
+        ensures layout { IfOk result (λ nodes. nodes.layout ≡ self.now.layout) }
     {
-        let count = nodes_at(self.count, height);
-        let nodes = read_places(alloc, blocks, &self.pointers, self.depth - height, count)?;
+        let layout = self.layout;
+        let count = nodes_at(layout, self.count, height);
+        let nodes = read_places(
+            alloc,
+            blocks,
+            layout,
+            &self.pointers,
+            self.depth - height,
+            count,
+        )?;
         Ok(nodes)
     }
 
@@ -157,7 +183,7 @@ impl BlockTree {
         ensures is { IfSome result (λ b. IsChanged self.now i) }
         ensures none { IfNone result ((disk : ℕ → List ℕ)
             → tree_block disk self.now i
-            ≡ settled_block disk self.now.pointers self.now.depth self.now.kept i) }
+            ≡ settled_block self.now.layout disk self.now.pointers self.now.depth self.now.kept i) }
         ensures not { IfNone result (IsChanged self.now i → ⊥) }
     {
         match self.slots.get(&i) {
@@ -206,7 +232,14 @@ impl BlockTree {
         if i >= self.kept {
             return Ok(Location::Hole);
         }
-        match find_place(blocks, &self.pointers, self.depth, self.count, i)? {
+        match find_place(
+            blocks,
+            self.layout,
+            &self.pointers,
+            self.depth,
+            self.count,
+            i,
+        )? {
             Pointer::Hole => Ok(Location::Hole),
             Pointer::Block(place) => {
                 blocks.make_resident(place)?;
@@ -271,17 +304,18 @@ impl BlockTree {
         ensures damaged { (disk : ℕ → List ℕ) → B.Shows blocks.old disk
             → IsErrOf result BlockError.Damaged
             → ((i : ℕ) → i < self.now.count
-            → IsPath (B.count blocks.old) disk self.now.pointers self.now.depth self.now.count i)
-            → ⊥ }
+            → IsPath self.now.layout (B.count blocks.old) disk self.now.pointers self.now.depth
+            self.now.count i) → ⊥ }
         ensures named { (disk : ℕ → List ℕ) → B.Shows blocks.old disk
             → IfOk result (λ names. (p : ℕ)
             → Contains names.items p
-            ↔ IsNamed disk self.now.pointers self.now.depth self.now.count p) }
+            ↔ IsNamed self.now.layout disk self.now.pointers self.now.depth self.now.count p) }
     {
         let mut names = Vec::new(alloc);
         name_nodes(
             alloc,
             blocks,
+            self.layout,
             &self.pointers,
             self.depth,
             self.count,

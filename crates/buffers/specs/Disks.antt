@@ -1,5 +1,5 @@
 -- What the disk of a station reads as, block by block, and what of it is kept in memory.
-use Rattle.std.specs.Prelude.{ℕ, ◌≡◌, ◌+◌, ◌*◌, ◌/◌, ◌≤◌, ◌==◌, List, length, if◌then◌else◌}
+use Rattle.std.specs.Prelude.{ℕ, ◌≡◌, ◌+◌, ◌-◌, ◌*◌, ◌/◌, ◌^◌, ◌≤◌, ◌==◌, min, List, length, if◌then◌else◌}
 use Rattle.station.specs.Images.{Sector, Unchanged}
 use Rattle.station.specs.Moments.{Meaning, IsSameStation, MayGrow, Goes}
 use Rattle.layout.specs.Places.{blocks_of}
@@ -12,6 +12,10 @@ use Rattle.buffers.specs.declared.block_cache.BlockCache.{BlockCache}
 -- block has where one of them can't be read
 abbrev pub IsBlock : (ℕ → Sector) → ℕ → List ℕ → Type 0
 IsBlock sectors place bytes = bytes ≡ blocks_of sectors place
+
+-- how many blocks a disk of so many sectors has, as far as 32 bits count them
+abbrev pub numbered_blocks : ℕ → ℕ
+numbered_blocks sectors = min (sectors / 8) (2 ^ 32 - 1)
 
 -- all sectors of the block can be read
 abbrev pub IsWhole : List ℕ → Type 0

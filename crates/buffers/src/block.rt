@@ -5,13 +5,14 @@ ghost use Rattle.layout.specs.Bytes.{zeros};
 ghost use Rattle.layout.specs.Maps.{IsIndirectBlock};
 ghost use Rattle.buffers.specs.Positions.{with_bytes_at, truncate};
 
-use layout::{BLOCK_BYTES, is_indirect_block};
+use layout::{BLOCK_BYTES, Layout, is_indirect_block};
 use std::alloc::{AllocError, Global};
 use std::marker::Model;
 
-/// An indirect block over so many blocks of a file, in an image of so many blocks.
+/// An indirect block over so many blocks of a file, in an image of this layout and so many blocks.
 #[derive(Clone, Copy, Debug)]
 struct Indirect {
+    layout: Layout,
     blocks: u32,
     used: u32,
 }
@@ -33,7 +34,7 @@ impl Model for Block {
     ghost view = { λ b. b.bytes.value };
 
     ghost invariant = { λ b. (length b.bytes.value ≡ 4096)
-        × IfSome b.found (λ f. IsIndirectBlock f.blocks f.used b.bytes.value) };
+        × IfSome b.found (λ f. IsIndirectBlock f.layout f.blocks f.used b.bytes.value) };
 }
 
 impl Block {
@@ -88,21 +89,26 @@ impl Block {
         self.bytes[at..].fill(0);
     }
 
-    /// Whether it is an indirect block over so many blocks of a file, in an image of so many
-    /// blocks. A block that is one is tested once.
-    pub fn is_indirect(&mut self, blocks: u32, used: u32) -> bool
+    /// Whether it is an indirect block over so many blocks of a file, in an image of this layout and
+    /// so many blocks. A block that is one is tested once.
+    pub fn is_indirect(&mut self, layout: Layout, blocks: u32, used: u32) -> bool
         ensures same { self.new ≡ self.old }
-        ensures is { IsTrue result ↔ IsIndirectBlock blocks used self.old }
+        ensures is { IsTrue result ↔ IsIndirectBlock layout blocks used self.old }
     {
         if let Some(found) = self.found
+            && found.layout == layout
             && found.blocks == blocks
             && found.used == used
         {
             return true;
         }
-        let is = is_indirect_block(&self.bytes, blocks, used);
+        let is = is_indirect_block(&self.bytes, layout, blocks, used);
         if is {
-            self.found = Some(Indirect { blocks, used });
+            self.found = Some(Indirect {
+                layout,
+                blocks,
+                used,
+            });
         }
         is
     }

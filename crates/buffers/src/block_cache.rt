@@ -8,6 +8,7 @@ ghost use Rattle.buffers.specs.Caches.{cached, capacity, count_cached};
 ghost use Rattle.buffers.specs.declared.block_cache.TheConstants.{CACHED_BLOCKS};
 
 use crate::Block;
+use layout::Layout;
 use lru::LruCache;
 use std::alloc::{AllocError, Global};
 use std::collections::BTreeMap;
@@ -56,17 +57,17 @@ impl BlockCache {
     }
 
     /// Whether the block that is in use at a place is an indirect block over so many blocks of a
-    /// file, in an image of so many blocks.
-    pub(crate) fn is_indirect(&mut self, place: u32, blocks: u32, used: u32) -> bool
+    /// file, in an image of this layout and so many blocks.
+    pub(crate) fn is_indirect(&mut self, place: u32, layout: Layout, blocks: u32, used: u32) -> bool
         requires { tree.ContainsKey nat_cmp self.old.held place }
         ensures loses { Loses self.old self.new }
         ensures stays { (p : ℕ) → tree.ContainsKey nat_cmp self.old.held p
             → tree.ContainsKey nat_cmp self.new.held p }
         ensures is { (block : Block) → tree.get nat_cmp self.old.held place ≡ Some block
-            → (IsTrue result ↔ IsIndirectBlock blocks used block) }
+            → (IsTrue result ↔ IsIndirectBlock layout blocks used block) }
     {
         match self.held.get_mut(&place) {
-            Some(block) => block.is_indirect(blocks, used),
+            Some(block) => block.is_indirect(layout, blocks, used),
             None => unreachable!(),
         }
     }

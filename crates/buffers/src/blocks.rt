@@ -6,7 +6,7 @@ ghost use Rattle.buffers.specs.Disks.{IsWhole};
 ghost use Rattle.buffers.specs.Failures.{HasGrown};
 
 use crate::BlockError;
-use layout::{BLOCK_BYTES, BlockNumber};
+use layout::{BLOCK_BYTES, BlockNumber, Layout};
 
 /// The blocks of a disk. A place reads as the disk does, whatever of it is kept in memory.
 pub trait Blocks {
@@ -22,10 +22,10 @@ pub trait Blocks {
     /// How many reads of the device failed so far.
     ghost failed: { Self → ℕ };
 
-    /// How many blocks the disk has.
+    /// How many blocks the disk has, as far as 32 bits count them.
     ghost count: { Self → ℕ };
 
-    /// How many blocks the disk has.
+    /// How many blocks the disk has; `u32::MAX` where there are more.
     fn count(&self) -> u32
         ensures { result ≡ count self.now };
 
@@ -53,14 +53,14 @@ pub trait Blocks {
         requires { IsResident self.now place }
         ensures { (disk : ℕ → List ℕ) → Shows self.now disk → result.now ≡ disk place };
 
-    /// Whether a resident block is an indirect block over so many blocks of a file. It may be
-    /// remembered of it.
-    fn is_indirect(&mut self, place: BlockNumber, used: u32) -> bool
+    /// Whether a resident block is an indirect block of this layout over so many blocks of a file.
+    /// It may be remembered of it.
+    fn is_indirect(&mut self, place: BlockNumber, layout: Layout, used: u32) -> bool
         requires { IsResident self.old place }
         ensures count { count self.new ≡ count self.old }
         ensures counted { failed self.new ≡ failed self.old }
         ensures is { (disk : ℕ → List ℕ) → Shows self.old disk
-            → (IsTrue result ↔ IsIndirectBlock (count self.old) used (disk place)) }
+            → (IsTrue result ↔ IsIndirectBlock layout (count self.old) used (disk place)) }
         ensures reads { (start : Self) → ReadsOn start self.old → ReadsOn start self.new }
         ensures same { (disk : ℕ → List ℕ) → Shows self.old disk → Shows self.new disk }
         ensures stays { (p : ℕ) → IsResident self.old p → IsResident self.new p };

@@ -9,11 +9,11 @@ ghost use Rattle.station.specs.Calls.{WriteCall};
 ghost use Rattle.layout.specs.Places.{blocks_of};
 ghost use Rattle.buffers.specs.Caches.{count_cached};
 ghost use Rattle.buffers.specs.declared.block_cache.TheConstants.{CACHED_BLOCKS};
-ghost use Rattle.buffers.specs.Disks.{IsBlock, IsDisk, IsWhole, ShowsDisk, ReadsOn, disk_with_block, disk_with_sector};
+ghost use Rattle.buffers.specs.Disks.{IsBlock, IsDisk, IsWhole, ShowsDisk, ReadsOn, disk_with_block, disk_with_sector, numbered_blocks};
 
 use crate::block_cache::BlockCache;
 use crate::{Block, BlockError, Blocks};
-use layout::{BLOCK_BYTES, BlockNumber, SECTOR_BYTES};
+use layout::{BLOCK_BYTES, BlockNumber, Layout, SECTOR_BYTES};
 use station::Station;
 use std::alloc::Global;
 
@@ -36,7 +36,6 @@ pub fn read_sectors<S: Station>(
     block: &mut Block,
 ) -> Result<(), BlockError>
     requires within { 8 * place + 8 ≤ (S.meaning station.old).sectors }
-    requires fits { 8 * place + 8 < 2 ^ 32 }
     ensures reads { ReadsOn (S.meaning station.old) (S.meaning station.new) }
     ensures counted { OnOk result
         ((S.meaning station.new).failed_reads ≡ (S.meaning station.old).failed_reads) }
@@ -50,8 +49,8 @@ pub fn read_sectors<S: Station>(
 {
     block.is_whole();
     let mut sector = [0u8; SECTOR_BYTES];
-    for i in 0..8u32 {
-        let Ok(is_readable) = station.read_sector(8 * place + i, &mut sector) else {
+    for i in 0..8u64 {
+        let Ok(is_readable) = station.read_sector(8 * u64::from(place) + i, &mut sector) else {
             return Err(BlockError::Device);
         };
         if !is_readable {
@@ -65,7 +64,6 @@ pub fn read_sectors<S: Station>(
 /// Reads a block. `Damaged` where a sector of it can't be read.
 fn read_block<S: Station>(alloc: Global, station: &mut S, place: u32) -> Result<Block, BlockError>
     requires within { 8 * place + 8 ≤ (S.meaning station.old).sectors }
-    requires fits { 8 * place + 8 < 2 ^ 32 }
     ensures reads { ReadsOn (S.meaning station.old) (S.meaning station.new) }
     ensures counted { OnOk result
         ((S.meaning station.new).failed_reads ≡ (S.meaning station.old).failed_reads) }
@@ -92,10 +90,10 @@ impl<S: Station> Blocks for Buffers<S> {
 
     ghost failed = { λ b. (S.meaning b.station).failed_reads };
 
-    ghost count = { λ b. (S.meaning b.station).sectors / 8 };
+    ghost count = { λ b. numbered_blocks (S.meaning b.station).sectors };
 
     fn count(&self) -> u32 {
-        self.station.sectors() / 8
+        (self.station.sectors() / 8).min(u64::from(u32::MAX)) as u32
     }
 
     fn make_resident(&mut self, place: BlockNumber) -> Result<(), BlockError> {
@@ -104,7 +102,6 @@ impl<S: Station> Blocks for Buffers<S> {
             block.is_whole();
             return Ok(());
         }
-        let _ = self.station.sectors();
         let block = self.fetch(place)?;
         block.is_whole();
         self.kept.hold(place, block)?;
@@ -118,9 +115,9 @@ impl<S: Station> Blocks for Buffers<S> {
         }
     }
 
-    fn is_indirect(&mut self, place: BlockNumber, used: u32) -> bool {
+    fn is_indirect(&mut self, place: BlockNumber, layout: Layout, used: u32) -> bool {
         let blocks = self.count();
-        self.kept.is_indirect(place.get(), blocks, used)
+        self.kept.is_indirect(place.get(), layout, blocks, used)
     }
 
     ghost reads_nothing = { λ s. reads_none (S.meaning s.station) };
@@ -167,7 +164,6 @@ impl<S: Station> Buffers<S> {
     /// The block at a place that isn't held: that of the cache, or else it is read.
     fn fetch(&mut self, place: u32) -> Result<Block, BlockError>
         requires within { 8 * place + 8 ≤ (S.meaning self.old.station).sectors }
-        requires fits { 8 * place + 8 < 2 ^ 32 }
         ensures reads { ReadsOn (S.meaning self.old.station) (S.meaning self.new.station) }
         ensures counted { OnOk result ((S.meaning self.new.station).failed_reads
             ≡ (S.meaning self.old.station).failed_reads) }
@@ -214,10 +210,11 @@ impl<S: Station> Buffers<S> {
     /// it fails, the sector may read either way, or can't be read.
     pub fn store_sector(
         &mut self,
-        sector: u32,
+        sector: u64,
         bytes: &[u8; SECTOR_BYTES],
     ) -> Result<(), BlockError>
-        requires { sector < (S.meaning self.old.station).sectors }
+        requires within { sector < (S.meaning self.old.station).sectors }
+        requires numbered { sector / 8 < 2 ^ 32 }
         ensures call { WriteCall (SomeSectorsWritten sector bytes.now)
             (S.meaning self.old.station) (S.meaning self.new.station) result }
         ensures written { OnOk result (SeenGoes (SectorsWritten sector bytes.now)
@@ -229,7 +226,7 @@ impl<S: Station> Buffers<S> {
             (ShowsDisk (S.meaning self.new.station) self.new.kept
             (disk_with_sector (S.meaning self.new.station).seen.disk sector disk)) }
     {
-        self.kept.forget(sector / 8);
+        self.kept.forget((sector / 8) as u32);
         match self.station.write_sector(sector, bytes) {
             Ok(()) => Ok(()),
             Err(_) => Err(BlockError::Device),

@@ -7,6 +7,7 @@ use Rattle.layout.specs.FileBytes.{byte_in}
 use Rattle.layout.specs.Inode.{FitsKind}
 use Rattle.layout.specs.Limits.{Sizes}
 use Rattle.layout.specs.declared.geometry.TheConstants.{LEAST_BLOCKS, LEAST_HALF, LEAST_INODES}
+use Rattle.layout.specs.declared.trees.Layout.TheVariants.{Plain}
 use Rattle.layout.specs.declared.inode.Inode.{Inode}
 use Rattle.layout.specs.declared.kind.Kind.{Kind as LayoutKind}
 use Rattle.layout.specs.declared.kind.Kind.TheVariants as kinds
@@ -164,7 +165,7 @@ module _ (disk : ℕ → List ℕ) (inodes : ℕ) (settled : Inode) (o : MemoryO
   pub stat_link : (size : ℕ) → size ≡ o.file.size → o.status.kind ≡ kinds.Link
       → IsStatOf n node (record { number = n; kind = Link; mode = o.status.attributes.mode; links = 1; size = size })
   stat_link size same is =
-      let some : Sizes = record { blocks = LEAST_BLOCKS; inodes = LEAST_INODES; half = LEAST_HALF } in
+      let some : Sizes = record { layout = Plain; blocks = LEAST_BLOCKS; inodes = LEAST_INODES; half = LEAST_HALF } in
       let fits = subst (λ (k : LayoutKind). FitsKind k some o.status.attributes o.status.links o.file.size) is (is_object.fits some) in (
         link_node o.status.attributes (content_bytes (content_of_object disk o)),
         stands kinds.Link is,

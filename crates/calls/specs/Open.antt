@@ -12,7 +12,7 @@ use Rattle.model.specs.Volumes.{IsMounted, Volume, file_node, swept, tree_of}
 use Rattle.model.specs.declared.command.Flags.{Flags}
 use Rattle.model.specs.declared.errno.Errno.{Errno}
 use Rattle.model.specs.declared.errno.Errno.TheVariants.{ENOENT}
-use Rattle.model.specs.declared.limits.TheConstants.{GREATEST_FILE}
+use Rattle.model.specs.declared.limits.TheConstants.{GREATEST_OFFSET}
 use Rattle.model.specs.declared.reply.FileType.TheVariants.{File}
 use Rattle.model.specs.declared.reply.Reply.{Reply}
 use Rattle.model.specs.declared.reply.Reply.TheVariants as replies
@@ -38,9 +38,9 @@ IsOpened v o =
     × (v o.number ≡ Some (file_node attributes o.links bytes))
     × (o.mode ≡ attributes.mode) × (o.size ≡ length bytes)
 
--- a number and a size that are told keep to the limits
+-- a number and a size that are told keep to their bounds
 abbrev pub KeepsOpenedBounds : ℕ → Opened → Type 0
-KeepsOpenedBounds inodes o = IsInodeNumber inodes o.number × (o.size ≤ GREATEST_FILE)
+KeepsOpenedBounds inodes o = IsInodeNumber inodes o.number × (o.size ≤ GREATEST_OFFSET)
 
 -- what `fstat` tells of a file that is just opened
 abbrev pub opened_stat : Opened → Stat

@@ -67,7 +67,8 @@ pub(crate) fn make_in<B: Blocks>(
     ensures prepares { Prepares B.Blocks blocks.old blocks.new inodes.old inodes.new
         (λ inodes v table. MakesIn inodes v parent name.items (made_by object)) result }
 {
-    let new = new_object(alloc, blocks, &object.as_new())?;
+    let layout = inodes.geometry().layout();
+    let new = new_object(alloc, layout, blocks, &object.as_new())?;
     let Some(free) = inodes.least_free() else {
         return refuse_in(alloc, inodes, blocks, parent, name.as_slice(), new);
     };

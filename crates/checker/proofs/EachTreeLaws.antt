@@ -8,7 +8,7 @@ use Rattle.std.proofs.lemmas.Bool.Decides.{nat_tests}
 use Rattle.layout.specs.Bytes.{zeros}
 use Rattle.layout.specs.Limits.{Sizes}
 use Rattle.layout.specs.Places.{Blocks, place, pointed}
-use Rattle.layout.specs.Version.{level_of}
+use Rattle.layout.specs.Trees.{level_of}
 use Rattle.layout.specs.declared.inode.Body.TheVariants.{Inline, Pointers}
 use Rattle.layout.specs.declared.inode.Inode.{Inode}
 use Rattle.layout.specs.declared.pointer.Pointer.{Pointer}
@@ -74,7 +74,7 @@ pub record TreeLaws : Type 0 where
   pub spells : SpellTrees
   pub ends : EndTrees
   pub led : (detail : Detail) (s : Sizes) (d : Blocks) (f : Inode) (pointers : List Pointer) (i : ℕ) → IsHeldFile detail s (held d f) → f.body ≡ Pointers pointers
-      → file_block (held d f) i ≡ (if nat_lt i (div_ceil f.size 4096) then pointed d (place d pointers (level_of f.size - 1) i) else zeros 4096)
+      → file_block (held d f) i ≡ (if nat_lt i (div_ceil f.size 4096) then pointed d (place f.layout d pointers (level_of f.layout f.size - 1) i) else zeros 4096)
   pub inline : (d : Blocks) (f : Inode) (bytes : List ℕ) (i : ℕ) → f.body ≡ Inline bytes → 1 ≤ i → file_block (held d f) i ≡ zeros 4096
 
 module _ (laws : TreeLaws) (disk : Blocks) (r : Root) {s : Sizes} {blocks : ℕ} (over : IsRootOf r s blocks) {marks : List ℕ} {shared : List (Option Shared)} {t : Tree}

@@ -12,7 +12,6 @@ use Rattle.layout.specs.declared.pointer.Pointer.{Pointer}
 use Rattle.layout.specs.declared.pointer.Pointer.TheVariants.{Block, Hole}
 use Rattle.layout.specs.declared.inode.Inode.{Inode}
 use Rattle.layout.specs.declared.root.Root.{Root}
-use Rattle.layout.specs.declared.version.TheConstants.{VERSION}
 use Rattle.layout.proofs.SizeLaws.{map_size}
 use Rattle.layout.proofs.ZeroLaws.{word_zero}
 use Rattle.buffers.specs.Disks.{IsWhole}
@@ -142,7 +141,7 @@ pub record IsMapRead (s : Sizes) (disk : Blocks) (r : Root) (i : Inode) (places 
   pub place : (j : ℕ) → place_at places j ≡ (held disk i).place 0 j
 
 pub map_read : (reads : ReadAsHeld) (spells : SpellTrees) (all : AreAllSound) (s : Sizes) (disk : Blocks) (r : Root) (t : Tree) (i : Inode) (file : File) (places : PlaceMap) (blocks : ℕ)
-    → IsTreeAt disk r s blocks t → t.plane ≡ 0 → IsInode VERSION s i → inode_bytes_at (memory.file_block disk t.file) 2 ≡ inode_bytes i → IsFileOfInode i file
+    → IsTreeAt disk r s blocks t → t.plane ≡ 0 → IsInode s i → inode_bytes_at (memory.file_block disk t.file) 2 ≡ inode_bytes i → IsFileOfInode i file
     → (AreSound blocks disk file.tree → ArePlaces disk file.tree places) → IsMapRead s disk r i places
 unfolding held
 map_read reads spells all s disk r t i file places blocks at plane fits spelled of are =
@@ -174,7 +173,7 @@ module _ (s : Sizes) (disk : Blocks) (r : Root) (i : Inode) (places : PlaceMap) 
   -- each is stored
   pub map_stored : (j : ℕ) → 1024 * j < s.blocks → place_at places j ≡ Hole → ⊥
   unfolding held nodes_of_size
-  map_stored j low hole = map.stored j (omega (arith, some_level i.size map.large)) (omega (arith, map.size, low)) (sym (map.place j) ∙ hole)
+  map_stored j low hole = map.stored j (omega (arith, some_level i.layout i.size map.large)) (omega (arith, map.size, low)) (sym (map.place j) ∙ hole)
 
   -- all of them can be read
   pub map_readable : (n : ℕ) → s.blocks ≤ 1024 * n → ((j : ℕ) → j < n → IsWhole (pointed disk (place_at places j))) → IsReadable ((whole disk r).active 2)

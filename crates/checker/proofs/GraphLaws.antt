@@ -324,13 +324,13 @@ module _ (r : Root) (t : HeldTree) (known : IsKnown r.geometry t) (table : List 
         }
 
 -- past the last number all is free
-frozen_ends : (d : Blocks) (inodes n : ℕ) (p : Pointer) → 1 ≤ inodes → inodes ≤ n → (frozen_at d inodes p n).inode.kind ≡ kinds.Free
+frozen_ends : (d : Blocks) (s : Sizes) (n : ℕ) (p : Pointer) → 1 ≤ s.inodes → s.inodes ≤ n → (frozen_at d s p n).inode.kind ≡ kinds.Free
 unfolding held
-frozen_ends d inodes n Hole some past = refl
-frozen_ends d inodes n (Block b) some past =
-    ap (λ (h : Held). h.inode.kind) (read_past d inodes (frozen_inode_file (d b)) n (omega (arith, some, past)) past)
+frozen_ends d s n Hole some past = refl
+frozen_ends d s n (Block b) some past =
+    ap (λ (h : Held). h.inode.kind) (read_past d s.inodes (frozen_inode_file s.layout (d b)) n (omega (arith, some, past)) past)
 
 pub tree_ends : (d : Blocks) (r : Root) (k n : ℕ) → 1 ≤ r.geometry.inodes → r.geometry.inodes ≤ n → (tree_in (whole d r) k n).inode.kind ≡ kinds.Free
 unfolding held whole
 tree_ends d r zero n some past = ap (λ (h : Held). h.inode.kind) (read_past d r.geometry.inodes r.inode_file n (omega (arith, some, past)) past)
-tree_ends d r (suc k) n some past = frozen_ends d r.geometry.inodes n (slot r (suc k)) some past
+tree_ends d r (suc k) n some past = frozen_ends d r.geometry n (slot r (suc k)) some past

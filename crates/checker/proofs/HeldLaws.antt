@@ -3,12 +3,14 @@ use Rattle.std.proofs.Common.{◌≡◌, ℕ, zero, suc, ◌+◌, ◌-◌, ◌/�
 use Rattle.layout.specs.Inode.{IsInode, inode_bytes}
 use Rattle.layout.specs.Limits.{AreSizes, Sizes}
 use Rattle.layout.specs.Places.{Blocks, place}
-use Rattle.layout.specs.Version.{level_of}
+use Rattle.layout.specs.Trees.{greatest_size, level_of}
+use Rattle.layout.specs.Version.{greatest_under}
 use Rattle.layout.specs.declared.inode.Body.TheVariants.{Pointers}
 use Rattle.layout.specs.declared.inode.Inode.{Inode}
 use Rattle.layout.specs.declared.kind.Kind.{Kind}
 use Rattle.layout.specs.declared.pointer.Pointer.{Pointer}
 use Rattle.layout.specs.declared.root.Root.{Root}
+use Rattle.layout.specs.declared.trees.Layout.{Layout}
 use Rattle.layout.specs.declared.version.TheConstants.{VERSION}
 use Rattle.blocktree.specs.Names.{AreNodes, nodes_at}
 use Rattle.blocktree.specs.PlaceMaps.{place_at}
@@ -21,6 +23,7 @@ use Rattle.inode.specs.Files as memory
 use Rattle.inode.specs.declared.file.File.{File}
 use Rattle.inode.proofs.HeldLaws.{some_level, starts_based}
 use Rattle.images.proofs.ReadableLaws.{inodes_readable}
+use Rattle.images.proofs.WithinLaws.{root_plain}
 use Rattle.images.specs.Faults.{IsTreeGrammar}
 use Rattle.images.specs.Nodes.{Held, file_block, held}
 use Rattle.images.specs.Roots.{HeldTree, frozen_at, frozen_inode_file, inode_bytes_at, inode_part, inode_under, slot, tree, whole}
@@ -40,7 +43,7 @@ under_top : (disk : Blocks) (r : Root) (k : ℕ) (top : Inode) → HasTree r k �
 unfolding whole tree inode_under held
 under_top disk r zero top has is = ap (tree disk r.geometry.inodes) is
 under_top disk r (suc k) top has is =
-    let at : frozen_at disk r.geometry.inodes (slot r (suc k)) ≡ tree disk r.geometry.inodes (frozen_inode_file (disk has.0)) = ap (frozen_at disk r.geometry.inodes) has.1 in
+    let at : frozen_at disk r.geometry (slot r (suc k)) ≡ tree disk r.geometry.inodes (frozen_inode_file r.geometry.layout (disk has.0)) = ap (frozen_at disk r.geometry) has.1 in
     at ∙ ap (tree disk r.geometry.inodes) (sym (ap (λ (t : HeldTree). (t 0).inode) at) ∙ is)
 
 -- it is that under the inode of its inode file
@@ -110,6 +113,11 @@ sizes_over over = subst AreSizes over.geometry over.root.head.sizes
 pub blocks_over : {r : Root} {s : Sizes} {blocks : ℕ} → IsRootOf r s blocks → blocks ≡ s.blocks
 blocks_over over = over.count ∙ ap (λ (x : Sizes). x.blocks) over.geometry
 
+-- and an inode of it is no larger than the newest version allows
+pub newest_size : {r : Root} {s : Sizes} {blocks : ℕ} {i : Inode} → IsRootOf r s blocks → IsInode s i → i.size ≤ greatest_under VERSION
+newest_size {r = r} {i = i} over fits =
+    subst (λ (l : Layout). i.size ≤ greatest_size l) (fits.layout ∙ ap (λ (x : Sizes). x.layout) (sym over.geometry) ∙ root_plain r over.root) fits.size
+
 pub over_later : {r : Root} {s : Sizes} {blocks more : ℕ} → more ≡ blocks → IsRootOf r s blocks → IsRootOf r s more
 over_later same over = record { root = over.root; geometry = over.geometry; count = same ∙ over.count }
 
@@ -118,16 +126,16 @@ tree_later same at = record { over = over_later same at.over; tree = at.tree; gr
 
 -- a number whose inode was read
 pub own_is : (reads : ReadAsHeld) (spells : SpellTrees) (s : Sizes) (disk : Blocks) (r : Root) (t : Tree) (n : ℕ) (i : Inode) → r.geometry ≡ s → AreSizes s → IsTreeOf disk r t
-    → IsFileGrammar s (held disk t.top) → 1 ≤ n → n < s.inodes → IsInode VERSION s i → inode_bytes_at (memory.file_block disk t.file) n ≡ inode_bytes i
+    → IsFileGrammar s (held disk t.top) → 1 ≤ n → n < s.inodes → IsInode s i → inode_bytes_at (memory.file_block disk t.file) n ≡ inode_bytes i
     → tree_in (whole disk r) t.plane n ≡ held disk i
 own_is reads spells s disk r t n i same are is grammar some lt fits spelled =
     ap (λ (h : HeldTree). h n) (tree_is disk r s t same is)
-    ∙ spells s disk t.top i n are some lt fits (sym (ap (λ (h : Held). inode_bytes_at (file_block h) n) (top_is disk r t is)) ∙ sym (bytes_at reads s disk r t n is grammar) ∙ spelled)
+    ∙ spells s disk t.top i n are (is.fits.layout ∙ ap (λ (x : Sizes). x.layout) same) some lt fits (sym (ap (λ (h : Held). inode_bytes_at (file_block h) n) (top_is disk r t is)) ∙ sym (bytes_at reads s disk r t n is grammar) ∙ spelled)
 
 -- it is there, where the tree is in its grammar
 pub own_there : (reads : ReadAsHeld) (at : AreSoundAt) (s : Sizes) (disk : Blocks) (r : Root) (t : Tree) (n blocks : ℕ) (kind : Kind) → IsTreeOf disk r t
     → IsTreeGrammar s (tree_in (whole disk r) t.plane) → blocks ≡ s.blocks → 1 ≤ n → n < s.inodes → (tree_in (whole disk r) t.plane n).inode.kind ≡ kind
-    → (IsSoundAt blocks disk t.file.tree 0 → (i : Inode) → IsInode VERSION s i → i.kind ≡ kind → inode_bytes_at (memory.file_block disk t.file) n ≡ inode_bytes i → ⊥) → ⊥
+    → (IsSoundAt blocks disk t.file.tree 0 → (i : Inode) → IsInode s i → i.kind ≡ kind → inode_bytes_at (memory.file_block disk t.file) n ≡ inode_bytes i → ⊥) → ⊥
 own_there reads at s disk r t n blocks kind is grammar count some lt of_kind none =
     let top = top_grammar disk r s t is grammar in
     none (reached at s disk t.top t.file blocks 0 top (top_readable disk r s t is grammar) is.file count) (tree_in (whole disk r) t.plane n).inode (grammar.files n).inode of_kind
@@ -138,15 +146,16 @@ own_there reads at s disk r t n blocks kind is grammar count some lt of_kind non
 -- where nodes stand, by the law of inode
 abbrev pub StandWhereLed : Type 0
 StandWhereLed = (disk : Blocks) (f : Inode) (pointers : List Pointer) (depth height i : ℕ) → f.body ≡ Pointers pointers
-    → level_of f.size ≡ suc (depth + height) → (held disk f).place height i ≡ place disk pointers depth i
+    → level_of f.layout f.size ≡ suc (depth + height) → (held disk f).place height i ≡ place f.layout disk pointers depth i
 
 level_over : (level full depth height : ℕ) → level ≡ suc (full + 0) → depth ≡ full → height ≤ depth → level ≡ suc (depth - height + height)
 level_over level full depth height is same le = omega arith
 
 -- a node of a file of memory with pointers is that of the image
 pub pointer_node : (led : StandWhereLed) (disk : Blocks) (f : Inode) (pointers : List Pointer) (t : BlockTree) (nodes : PlaceMap) (height i : ℕ) → f.body ≡ Pointers pointers
-    → 128 < f.size → HasPointers pointers f.size t → height ≤ t.depth → AreNodes disk t.pointers (t.depth - height) (nodes_at t.count height) nodes
-    → i < nodes_at t.count height → (held disk f).place height i ≡ place_at nodes i
+    → 128 < f.size → HasPointers f.layout pointers f.size t → height ≤ t.depth → AreNodes t.layout disk t.pointers (t.depth - height) (nodes_at t.layout t.count height) nodes
+    → i < nodes_at t.layout t.count height → (held disk f).place height i ≡ place_at nodes i
 pointer_node led disk f pointers t nodes height i is large has le are low =
-    led disk f pointers (t.depth - height) height i is (level_over (level_of f.size) (depth_of f.size) t.depth height (some_level f.size large) has.depth le)
-    ∙ sym (ap (λ (ps : List Pointer). place disk ps (t.depth - height) i) has.pointers_are) ∙ sym (are i low)
+    led disk f pointers (t.depth - height) height i is (level_over (level_of f.layout f.size) (depth_of f.layout f.size) t.depth height (some_level f.layout f.size large) has.depth le)
+    ∙ sym (ap (λ (ps : List Pointer). place f.layout disk ps (t.depth - height) i) has.pointers_are)
+    ∙ sym (ap (λ (l : Layout). place l disk t.pointers (t.depth - height) i) has.layout_is) ∙ sym (are i low)

@@ -5,10 +5,9 @@ use Rattle.layout.specs.Inode.{IsInode, inode_bytes}
 use Rattle.layout.specs.Limits.{AreSizes}
 use Rattle.layout.specs.Maps.{IsTaken}
 use Rattle.layout.specs.Places.{Blocks}
-use Rattle.layout.specs.Version.{greatest_size}
+use Rattle.layout.specs.Version.{greatest_under}
 use Rattle.layout.specs.declared.inode.Inode.{Inode}
 use Rattle.layout.specs.declared.root.Root.{Root}
-use Rattle.layout.specs.declared.version.TheConstants.{VERSION}
 use Rattle.images.specs.BlockMap.{HasBit}
 use Rattle.images.specs.Faults.{IsTreeGrammar}
 use Rattle.images.specs.Soundness.{IsFileGrammar, IsWithin}
@@ -61,7 +60,7 @@ module _ (disk : Blocks) (r : Root) (i n bits : ℕ) (bytes marks new : List ℕ
       subst (IsSeenTo disk r i (n + 1) new after) (sym (again t q (Some (first_fault t.fault (faults.Tree found))) (kept.same l t q was is) ((adds l t q was is).0 bit)))
       (seen_added disk r i n i (n + 1) marks new shared after t known found (broken t known.tree same))
 
-  module _ (spells : SpellTrees) (ends : EndTrees) (are : AreSizes r.geometry) (inode : Inode) (fits : IsInode VERSION r.geometry inode) (spelled : bytes ≡ inode_bytes inode) (kind : HasKindOfPlace r.geometry.inodes n inode.kind) where
+  module _ (spells : SpellTrees) (ends : EndTrees) (are : AreSizes r.geometry) (inode : Inode) (fits : IsInode r.geometry inode) (spelled : bytes ≡ inode_bytes inode) (kind : HasKindOfPlace r.geometry.inodes n inode.kind) where
     own : (t : Tree) → IsTreeOf disk r t → bytes ≡ inode_bytes_at (file_block (tree_in (whole disk r) t.plane 0)) n → IsNumbers disk (tree_in (whole disk r) t.plane) n inode
     own t tree same = numbers_of spells ends disk r t n inode are tree fits kind (sym same ∙ spelled)
 
@@ -77,12 +76,12 @@ module _ (disk : Blocks) (r : Root) (i n bits : ℕ) (bytes marks new : List ℕ
         × (IsTrue taken ↔ IsTaken t.numbers.items n) × (q.fault ≡ Some (first_fault t.fault (faults.InodeMap n taken)))))
 
     -- it is, and what hangs from it is marked
-    pub sees_marked : inode.size ≤ greatest_size r.version → MarksFor (held disk inode) IsAny n bits marks new shared after → KeepsMarks bits marks new shared after → IsFileGrammar r.geometry (held disk inode)
+    pub sees_marked : inode.size ≤ greatest_under r.version → MarksFor (held disk inode) IsAny n bits marks new shared after → KeepsMarks bits marks new shared after → IsFileGrammar r.geometry (held disk inode)
         → ((l : ℕ) (t q : Tree) → slice_get old l ≡ Some t → slice_get next l ≡ Some q → HasBit t.plane bits → (IsOut t.fault → ⊥) → IsSeenTo disk r i n marks shared t → IsTold t q)
         → SeesInode disk r bits bytes n (IsSeenTo disk r i n marks shared) (IsSeenTo disk r i (n + 1) new after) old next
     sees_marked small looks keeps grammar told = λ l t q was is bit inside same known.
         let is_own = own t known.tree same in
-        let at : IsInodeAt VERSION r.geometry n (inode_bytes_at (file_block (tree_in (whole disk r) t.plane 0)) n) = record { inode = inode; is = fits; spelled = sym same ∙ spelled; kind = kind } in
+        let at : IsInodeAt r.version r.geometry n (inode_bytes_at (file_block (tree_in (whole disk r) t.plane 0)) n) = record { inode = inode; is = fits; within = small; spelled = sym same ∙ spelled; kind = kind } in
         elim (told l t q was is bit inside known) [
           | inl right ↦
               subst (IsSeenTo disk r i (n + 1) new after) (sym right.0)
@@ -117,6 +116,6 @@ module _ (disk : Blocks) (r : Root) (i n bits : ℕ) (bytes marks new : List ℕ
 
 -- the bytes aren't an inode of their place
 pub not_spelled : (disk : Blocks) (r : Root) (n : ℕ) (bytes : List ℕ) → AreSizes r.geometry
-    → ((i : Inode) → IsInode r.version r.geometry i → bytes ≡ inode_bytes i → HasKindOfPlace r.geometry.inodes n i.kind → ⊥)
+    → ((i : Inode) → IsInode r.geometry i → i.size ≤ greatest_under r.version → bytes ≡ inode_bytes i → HasKindOfPlace r.geometry.inodes n i.kind → ⊥)
     → (t : Tree) → IsTreeOf disk r t → bytes ≡ inode_bytes_at (file_block (tree_in (whole disk r) t.plane 0)) n → IsTreeGrammar r.geometry (tree_in (whole disk r) t.plane) → IsWithin r.version (tree_in (whole disk r) t.plane) → ⊥
 not_spelled disk r n bytes are none t tree same grammar within = spelled_in r.version r.geometry (tree_in (whole disk r) t.plane) n bytes (omega (arith, are.least_inodes)) grammar within same none

@@ -7,6 +7,7 @@ mod HeldLaws
 mod SystemLaws
 mod SeenLaws
 mod EachLaws
+mod FanLemmas
 mod EntryLaws
 mod InodeLaws
 mod MarkLaws

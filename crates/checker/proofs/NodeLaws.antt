@@ -2,9 +2,11 @@
 use Rattle.std.proofs.Common.{◌≡◌, ◌≢◌, ◌⊎◌, inl, inr, ℕ, zero, suc, ◌+◌, ◌-◌, ◌*◌, ◌/◌, ◌%◌, ◌^◌, ◌<◌, ◌≤◌, List, refl, sym, ap, subst, ◌∙◌, arith}
 use Rattle.std.specs.Prelude.{slice_index_or, Option, Some, None}
 use Rattle.std.proofs.lemmas.Bool.{cases_eq}
-use Rattle.std.proofs.Math.Nat.{div-div-eq-div-mul, div-one, pow-suc, pow-zero}
+use Rattle.std.proofs.Math.Nat.{div-div-eq-div-mul, div-one, pow-suc, pow-succ', pow-zero}
 use Rattle.layout.specs.Places.{Blocks, follow}
+use Rattle.layout.specs.Trees.{fan_out}
 use Rattle.layout.specs.declared.pointer.Pointer.TheVariants.{Block, Hole}
+use Rattle.layout.specs.declared.trees.Layout.{Layout}
 use Rattle.images.specs.BlockMap.{HasBit}
 use Rattle.images.specs.Nodes.{Held}
 use Rattle.checker.specs.Nodes.{AreIndirect, HasNodes, KeepsMarks, KeepsShared, LooksUnder, MarksFor, MarksNodes, SharesNone}
@@ -169,11 +171,11 @@ module _ (h : Held) (S1 S2 S : ℕ → ℕ → Type 0)
     ];
   }
 
-  pub these_more : (blocks number count bits : ℕ) (disk : Blocks) (old mid new : List ℕ) (before middle after : List (Option Shared)) → KeepsShared middle after
-      → MarksFor h S1 number bits old mid before middle × AreIndirect blocks disk h count S1
-      → MarksFor h S2 number bits mid new middle after × AreIndirect blocks disk h count S2
-      → MarksFor h S number bits old new before after × AreIndirect blocks disk h count S
-  these_more blocks number count bits disk old mid new before middle after kept one two = (
+  pub these_more : (layout : Layout) (blocks number count bits : ℕ) (disk : Blocks) (old mid new : List ℕ) (before middle after : List (Option Shared)) → KeepsShared middle after
+      → MarksFor h S1 number bits old mid before middle × AreIndirect layout blocks disk h count S1
+      → MarksFor h S2 number bits mid new middle after × AreIndirect layout blocks disk h count S2
+      → MarksFor h S number bits old new before after × AreIndirect layout blocks disk h count S
+  these_more layout blocks number count bits disk old mid new before middle after kept one two = (
     (λ k bit. looks_more kept (one.0 k bit) (two.0 k bit)),
     (λ m i b here is. elim (split (suc m) i b here is) [
       | inl a ↦ one.1 m i b a is
@@ -184,25 +186,26 @@ module _ (h : Held) (S1 S2 S : ℕ → ℕ → Type 0)
 -- NODES UNDER NODES
 
 -- the node over one, at the next height
-pub one_up : (height m i : ℕ) → m ≤ height → i / 1024 ^ (suc height - m) ≡ i / 1024 ^ (height - m) / 1024
-one_up height m i le =
+pub one_up : (layout : Layout) (height m i : ℕ) → m ≤ height → i / fan_out layout ^ (suc height - m) ≡ i / fan_out layout ^ (height - m) / fan_out layout
+one_up layout height m i le =
     let more : suc height - m ≡ suc (height - m) = omega arith in
-    ap (λ n. i / 1024 ^ n) more ∙ ap (λ n. i / n) (pow-suc 1024 (height - m)) ∙ sym (div-div-eq-div-mul i (1024 ^ (height - m)) 1024)
+    ap (λ n. i / fan_out layout ^ n) more ∙ ap (λ n. i / n) (pow-suc (fan_out layout) (height - m)) ∙ sym (div-div-eq-div-mul i (fan_out layout ^ (height - m)) (fan_out layout))
 
 -- a node is under itself alone, of its height
-pub itself : (height i : ℕ) → i / 1024 ^ (height - height) ≡ i
-itself height i =
+pub itself : (layout : Layout) (height i : ℕ) → i / fan_out layout ^ (height - height) ≡ i
+itself layout height i =
     let none : height - height ≡ 0 = omega arith in
-    ap (λ n. i / 1024 ^ n) none ∙ ap (λ n. i / n) (pow-zero 1024) ∙ div-one i
+    ap (λ n. i / fan_out layout ^ n) none ∙ ap (λ n. i / n) (pow-zero (fan_out layout)) ∙ div-one i
 
 -- under a hole all is a hole
-pub hole_under : (disk : Blocks) (h : Held) (height : ℕ) → HasNodes disk h height → (n m i : ℕ) → n + m ≡ height → h.place height (i / 1024 ^ n) ≡ Hole → h.place m i ≡ Hole
-hole_under disk h height nodes zero m i at hole =
+pub hole_under : (layout : Layout) (disk : Blocks) (h : Held) (height : ℕ) → HasNodes layout disk h height → (n m i : ℕ) → n + m ≡ height → h.place height (i / fan_out layout ^ n) ≡ Hole → h.place m i ≡ Hole
+hole_under layout disk h height nodes zero m i at hole =
     let same : m ≡ height = omega (arith, at) in
-    let none : i / 1024 ^ 0 ≡ i = ap (λ n. i / n) (pow-zero 1024) ∙ div-one i in
+    let none : i / fan_out layout ^ 0 ≡ i = ap (λ n. i / n) (pow-zero (fan_out layout)) ∙ div-one i in
     ap (λ n. h.place n i) same ∙ ap (h.place height) (sym none) ∙ hole
-hole_under disk h height nodes (suc n) m i at hole =
+hole_under layout disk h height nodes (suc n) m i at hole =
     let here : n + suc m ≡ height = omega (arith, at) in
-    let power : 1024 * 1024 ^ n ≡ 1024 ^ suc n = omega (arith, pow-suc 1024 n) in
-    let over : i / 1024 / 1024 ^ n ≡ i / 1024 ^ suc n = div-div-eq-div-mul i 1024 (1024 ^ n) ∙ ap (λ p. i / p) power in
-    nodes m i (omega (arith, at)) ∙ ap (λ p. follow disk p (i % 1024)) (hole_under disk h height nodes n (suc m) (i / 1024) here (ap (h.place height) over ∙ hole))
+    let power : fan_out layout * fan_out layout ^ n ≡ fan_out layout ^ suc n = sym (pow-succ' (fan_out layout) n) in
+    let over : i / fan_out layout / fan_out layout ^ n ≡ i / fan_out layout ^ suc n = div-div-eq-div-mul i (fan_out layout) (fan_out layout ^ n) ∙ ap (λ p. i / p) power in
+    nodes m i (omega (arith, at))
+    ∙ ap (λ p. follow disk p (i % fan_out layout)) (hole_under layout disk h height nodes n (suc m) (i / fan_out layout) here (ap (h.place height) over ∙ hole))

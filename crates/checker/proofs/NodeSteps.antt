@@ -7,8 +7,11 @@ use Rattle.std.proofs.lemmas.Bool.{cases_eq, cases_lt}
 use Rattle.layout.specs.Maps.{IsIndirectBlock, indirect_pointer}
 use Rattle.layout.specs.Places.{Blocks, follow}
 use Rattle.layout.specs.Pointer.{PointsBelow}
+use Rattle.layout.specs.Trees.{fan_out}
 use Rattle.layout.specs.declared.pointer.Pointer.{Pointer}
 use Rattle.layout.specs.declared.pointer.Pointer.TheVariants.{Block, Hole}
+use Rattle.layout.specs.declared.trees.Layout.{Layout}
+use Rattle.layout.proofs.FanLaws.{pointer_back, up_back}
 use Rattle.layout.proofs.PointerLaws.{block_same, no_block}
 use Rattle.blocktree.specs.Names.{nodes_at}
 use Rattle.images.specs.BlockMap.{HasBit}
@@ -19,6 +22,7 @@ use Rattle.checker.specs.declared.error.CheckEnd.TheVariants as halts
 use Rattle.checker.specs.declared.fault.FileNode.{FileNode}
 use Rattle.checker.specs.declared.nodes.Shared.{Shared}
 use Rattle.checker.specs.declared.nodes.TheConstants.{PLANES}
+use Rattle.checker.proofs.FanLemmas.{fan_low, group_from, group_to, group_up}
 use Rattle.checker.proofs.NodeLaws.{hole_under, itself, looks_more, looks_none, none_before, one_up, some_none, some_same, these_more}
 
 -- A block was marked, and where it was marked before, that is told.
@@ -90,30 +94,30 @@ module _ (old new : List ℕ) (before after : List (Option Shared)) (place bits 
       at_place m i b at node = block_same b place (sym node ∙ (ap (λ (n : ℕ). h.place n i) at.0 ∙ ap (h.place s.second.height) at.1 ∙ is))
 
 -- the nodes at a height up to one, and those under them, and then that one with those under it
-pub among_more : (blocks now number count bits : ℕ) (disk : Blocks) (h : Held) (height low high index next : ℕ) (old mid new : List ℕ) (before middle after : List (Option Shared))
+pub among_more : (layout : Layout) (blocks now number count bits : ℕ) (disk : Blocks) (h : Held) (height low high index next : ℕ) (old mid new : List ℕ) (before middle after : List (Option Shared))
     → now ≡ blocks → low ≤ high → index ≡ high → next ≡ high + 1 → KeepsShared middle after
-    → MarksFor h (IsAmong height low high) number bits old mid before middle × AreIndirect blocks disk h count (IsAmong height low high)
-    → MarksFor h (IsUnder height index) number bits mid new middle after × AreIndirect now disk h count (IsUnder height index)
-    → MarksFor h (IsAmong height low next) number bits old new before after × AreIndirect blocks disk h count (IsAmong height low next)
-among_more blocks now number count bits disk h height low high index next old mid new before middle after same le here more kept one two =
-    these_more h (IsAmong height low high) (IsUnder height index) (IsAmong height low next)
-    (λ m i b among is. elim (cases_lt (i / 1024 ^ (height - m)) high) [
+    → MarksFor h (IsAmong layout height low high) number bits old mid before middle × AreIndirect layout blocks disk h count (IsAmong layout height low high)
+    → MarksFor h (IsUnder layout height index) number bits mid new middle after × AreIndirect layout now disk h count (IsUnder layout height index)
+    → MarksFor h (IsAmong layout height low next) number bits old new before after × AreIndirect layout blocks disk h count (IsAmong layout height low next)
+among_more layout blocks now number count bits disk h height low high index next old mid new before middle after same le here more kept one two =
+    these_more h (IsAmong layout height low high) (IsUnder layout height index) (IsAmong layout height low next)
+    (λ m i b among is. elim (cases_lt (i / fan_out layout ^ (height - m)) high) [
       | inl lt ↦ inl (among.0, among.1, lt)
       | inr ge ↦ inr (among.0, omega (arith, ge, among.2, here, more))
     ])
     (λ m i among. (among.0, among.1, omega (arith, among.2, more)))
     (λ m i under. (under.0, omega (arith, under.1, le, here), omega (arith, under.1, here, more)))
     (λ m i n j among under same.
-    let there : i / 1024 ^ (height - m) ≡ j / 1024 ^ (height - n) = ap (λ (x : ℕ). i / 1024 ^ (height - x)) same.0 ∙ ap (λ (x : ℕ). x / 1024 ^ (height - n)) same.1 in
+    let there : i / fan_out layout ^ (height - m) ≡ j / fan_out layout ^ (height - n) = ap (λ (x : ℕ). i / fan_out layout ^ (height - x)) same.0 ∙ ap (λ (x : ℕ). x / fan_out layout ^ (height - n)) same.1 in
     omega (arith, there, among.2, under.1, here))
-    blocks number count bits disk old mid new before middle after kept one
-    (two.0, λ m i b under is. subst (λ (n : ℕ). IsIndirectBlock n (nodes_at count m - 1024 * i) (disk b)) same (two.1 m i b under is))
+    layout blocks number count bits disk old mid new before middle after kept one
+    (two.0, λ m i b under is. subst (λ (n : ℕ). IsIndirectBlock layout n (nodes_at layout count m - fan_out layout * i) (disk b)) same (two.1 m i b under is))
 
 -- the blocks of a file up to one, and then that one
-pub leaf_more : (number bits low high next : ℕ) (h : Held) (old mid new : List ℕ) (before middle after : List (Option Shared)) → low ≤ high → next ≡ high + 1 → KeepsShared middle after
-    → MarksFor h (IsAmong 0 low high) number bits old mid before middle → MarksFor h (IsUnder 0 high) number bits mid new middle after → MarksFor h (IsAmong 0 low next) number bits old new before after
-leaf_more number bits low high next h old mid new before middle after le more kept one two =
-    (among_more 0 0 number 0 bits (λ _. []) h 0 low high high next old mid new before middle after refl le refl more kept
+pub leaf_more : (layout : Layout) (number bits low high next : ℕ) (h : Held) (old mid new : List ℕ) (before middle after : List (Option Shared)) → low ≤ high → next ≡ high + 1 → KeepsShared middle after
+    → MarksFor h (IsAmong layout 0 low high) number bits old mid before middle → MarksFor h (IsUnder layout 0 high) number bits mid new middle after → MarksFor h (IsAmong layout 0 low next) number bits old new before after
+leaf_more layout number bits low high next h old mid new before middle after le more kept one two =
+    (among_more layout 0 0 number 0 bits (λ _. []) h 0 low high high next old mid new before middle after refl le refl more kept
     (one, λ m i b among is. absurd (omega (arith, among.0))) (two, λ m i b under is. absurd (omega (arith, under.0)))).0
 
 -- the same was done for all nodes of a set, where those that it has more are holes
@@ -125,178 +129,180 @@ looks_same h S1 S k number old new before after split left one =
     (λ j s is. is) one (looks_none h (λ m i. ⊥) k number new after (λ m i b never is. never))
 
 -- a node that stands as high as the one over it is that one
-pub at_top : (node : FileNode) (m i : ℕ) → IsUnder node.height node.index m i → node.height ≤ m → IsAt node m i
-at_top node m i under ge =
+pub at_top : (layout : Layout) (node : FileNode) (m i : ℕ) → IsUnder layout node.height node.index m i → node.height ≤ m → IsAt node m i
+at_top layout node m i under ge =
     let top : m ≡ node.height = omega (arith, under.0, ge) in
-    (top, sym (itself node.height i) ∙ (ap (λ (n : ℕ). i / 1024 ^ (node.height - n)) (sym top) ∙ under.1))
+    (top, sym (itself layout node.height i) ∙ (ap (λ (n : ℕ). i / fan_out layout ^ (node.height - n)) (sym top) ∙ under.1))
 
-pub under_top : (node : FileNode) (m i : ℕ) → IsAt node m i → IsUnder node.height node.index m i
-under_top node m i at =
-    (omega (arith, at.0), ap (λ (n : ℕ). i / 1024 ^ (node.height - n)) at.0 ∙ (itself node.height i ∙ at.1))
+pub under_top : (layout : Layout) (node : FileNode) (m i : ℕ) → IsAt node m i → IsUnder layout node.height node.index m i
+under_top layout node m i at =
+    (omega (arith, at.0), ap (λ (n : ℕ). i / fan_out layout ^ (node.height - n)) at.0 ∙ (itself layout node.height i ∙ at.1))
 
 -- a node that is a hole
-pub hole_marked : (blocks : ℕ) (disk : Blocks) (h : Held) (node : FileNode) (count bits : ℕ) (marks : List ℕ) (shared : List (Option Shared)) → HasNodes disk h node.height → h.place node.height node.index ≡ Hole
-    → MarksFor h (IsUnder node.height node.index) node.number bits marks marks shared shared × AreIndirect blocks disk h count (IsUnder node.height node.index)
-hole_marked blocks disk h node count bits marks shared nodes hole =
-    ((λ k bit. looks_none h (IsUnder node.height node.index) k node.number marks shared none), λ m i b under there. absurd (none (suc m) i b under there))
+pub hole_marked : (layout : Layout) (blocks : ℕ) (disk : Blocks) (h : Held) (node : FileNode) (count bits : ℕ) (marks : List ℕ) (shared : List (Option Shared)) → HasNodes layout disk h node.height → h.place node.height node.index ≡ Hole
+    → MarksFor h (IsUnder layout node.height node.index) node.number bits marks marks shared shared × AreIndirect layout blocks disk h count (IsUnder layout node.height node.index)
+hole_marked layout blocks disk h node count bits marks shared nodes hole =
+    ((λ k bit. looks_none h (IsUnder layout node.height node.index) k node.number marks shared none), λ m i b under there. absurd (none (suc m) i b under there))
   where
-    none : (m i b : ℕ) → IsUnder node.height node.index m i → h.place m i ≡ Block b → ⊥
+    none : (m i b : ℕ) → IsUnder layout node.height node.index m i → h.place m i ≡ Block b → ⊥
     none m i b under there =
-        no_block (h.place m i) b (hole_under disk h node.height nodes (node.height - m) m i (omega (arith, under.0)) (ap (h.place node.height) under.1 ∙ hole)) there
+        no_block (h.place m i) b (hole_under layout disk h node.height nodes (node.height - m) m i (omega (arith, under.0)) (ap (h.place node.height) under.1 ∙ hole)) there
 
 -- a block of the file
-pub leaf_marked : (blocks : ℕ) (disk : Blocks) (h : Held) (node : FileNode) (count bits : ℕ) (old new : List ℕ) (before after : List (Option Shared)) → node.height ≡ 0
+pub leaf_marked : (layout : Layout) (blocks : ℕ) (disk : Blocks) (h : Held) (node : FileNode) (count bits : ℕ) (old new : List ℕ) (before after : List (Option Shared)) → node.height ≡ 0
     → MarksFor h (IsAt node) node.number bits old new before after
-    → MarksFor h (IsUnder node.height node.index) node.number bits old new before after × AreIndirect blocks disk h count (IsUnder node.height node.index)
-leaf_marked blocks disk h node count bits old new before after leaf one = (
-  (λ k bit. looks_same h (IsAt node) (IsUnder node.height node.index) k node.number old new before after
-      (λ m i b under is. at_top node m i under (omega (arith, leaf))) (under_top node) (one k bit)),
+    → MarksFor h (IsUnder layout node.height node.index) node.number bits old new before after × AreIndirect layout blocks disk h count (IsUnder layout node.height node.index)
+leaf_marked layout blocks disk h node count bits old new before after leaf one = (
+  (λ k bit. looks_same h (IsAt node) (IsUnder layout node.height node.index) k node.number old new before after
+      (λ m i b under is. at_top layout node m i under (omega (arith, leaf))) (under_top layout node) (one k bit)),
   (λ m i b under there. absurd (omega (arith, under.0, leaf))),
 )
 
--- Under a node stand those under the 1,024 nodes of the next height.
-module _ (blocks : ℕ) (disk : Blocks) (h : Held) (node : FileNode) (height used place count : ℕ)
+-- Under a node stand those under the nodes of the next height that its block's pointers lead to.
+module _ (layout : Layout) (blocks : ℕ) (disk : Blocks) (h : Held) (node : FileNode) (height used place count : ℕ)
     (some : node.height ≢ 0) (next : height ≡ node.height - 1)
     (is : h.place node.height node.index ≡ Block place)
-    (nodes : HasNodes disk h node.height)
-    (used_is : used ≡ nodes_at count height - 1024 * node.index) where
+    (nodes : HasNodes layout disk h node.height)
+    (used_is : used ≡ nodes_at layout count height - fan_out layout * node.index) where
   up : suc height ≡ node.height
   up = omega (arith, some, next)
 
-  pub among_under : (m i : ℕ) → IsAmong height (1024 * node.index) (1024 * node.index + 1024) m i → IsUnder node.height node.index m i
+  pub among_under : (m i : ℕ) → IsAmong layout height (fan_out layout * node.index) (fan_out layout * node.index + fan_out layout) m i → IsUnder layout node.height node.index m i
   among_under m i among =
-      let one : i / 1024 ^ (node.height - m) ≡ i / 1024 ^ (height - m) / 1024 = ap (λ (n : ℕ). i / 1024 ^ (n - m)) (sym up) ∙ one_up height m i among.0 in
-      (omega (arith, among.0, up), omega (arith, one, among.1, among.2))
+      let one : i / fan_out layout ^ (node.height - m) ≡ i / fan_out layout ^ (height - m) / fan_out layout = ap (λ (n : ℕ). i / fan_out layout ^ (n - m)) (sym up) ∙ one_up layout height m i among.0 in
+      (omega (arith, among.0, up), one ∙ group_up layout (i / fan_out layout ^ (height - m)) node.index among.1 among.2)
 
-  pub under_among : (m i : ℕ) → IsUnder node.height node.index m i → m < node.height → IsAmong height (1024 * node.index) (1024 * node.index + 1024) m i
+  pub under_among : (m i : ℕ) → IsUnder layout node.height node.index m i → m < node.height → IsAmong layout height (fan_out layout * node.index) (fan_out layout * node.index + fan_out layout) m i
   under_among m i under lt =
       let le : m ≤ height = omega (arith, lt, up) in
-      let one : i / 1024 ^ (node.height - m) ≡ i / 1024 ^ (height - m) / 1024 = ap (λ (n : ℕ). i / 1024 ^ (n - m)) (sym up) ∙ one_up height m i le in
-      (le, omega (arith, one, under.1), omega (arith, one, under.1))
+      let one : i / fan_out layout ^ (node.height - m) ≡ i / fan_out layout ^ (height - m) / fan_out layout = ap (λ (n : ℕ). i / fan_out layout ^ (n - m)) (sym up) ∙ one_up layout height m i le in
+      let at : i / fan_out layout ^ (height - m) / fan_out layout ≡ node.index = sym one ∙ under.1 in
+      (le, group_from layout (i / fan_out layout ^ (height - m)) node.index at, group_to layout (i / fan_out layout ^ (height - m)) node.index at)
 
-  pub place_below : (r : ℕ) → r < 1024 → h.place height (1024 * node.index + r) ≡ indirect_pointer (disk place) r
+  pub place_below : (r : ℕ) → r < fan_out layout → h.place height (fan_out layout * node.index + r) ≡ indirect_pointer (disk place) r
   place_below r lt =
-      let over : (1024 * node.index + r) / 1024 ≡ node.index = omega (arith, lt) in
-      let rest : (1024 * node.index + r) % 1024 ≡ r = omega (arith, lt) in
-      nodes height (1024 * node.index + r) (omega (arith, up))
-      ∙ (ap (λ (n : ℕ). follow disk (h.place n ((1024 * node.index + r) / 1024)) ((1024 * node.index + r) % 1024)) up
-      ∙ (ap (λ (n : ℕ). follow disk (h.place node.height n) ((1024 * node.index + r) % 1024)) over
+      let over : (fan_out layout * node.index + r) / fan_out layout ≡ node.index = up_back layout node.index r lt in
+      let rest : (fan_out layout * node.index + r) % fan_out layout ≡ r = pointer_back layout node.index r lt in
+      nodes height (fan_out layout * node.index + r) (omega (arith, up))
+      ∙ (ap (λ (n : ℕ). follow disk (h.place n ((fan_out layout * node.index + r) / fan_out layout)) ((fan_out layout * node.index + r) % fan_out layout)) up
+      ∙ (ap (λ (n : ℕ). follow disk (h.place node.height n) ((fan_out layout * node.index + r) % fan_out layout)) over
       ∙ (ap (λ (n : ℕ). follow disk (h.place node.height node.index) n) rest
       ∙ ap (λ (p : Pointer). follow disk p r) is)))
 
   -- the node's own block
-  pub own_indirect : IsIndirectBlock blocks used (disk place) → AreIndirect blocks disk h count (IsAt node)
+  pub own_indirect : IsIndirectBlock layout blocks used (disk place) → AreIndirect layout blocks disk h count (IsAt node)
   own_indirect good m i b at there =
       let low : height ≡ m = omega (arith, at.0, up) in
       let same : place ≡ b = block_same place b (sym is ∙ (ap (λ (n : ℕ). h.place n node.index) (sym at.0) ∙ (ap (h.place (suc m)) (sym at.1) ∙ there))) in
-      let few : used ≡ nodes_at count m - 1024 * i = used_is ∙ (ap (λ (n : ℕ). nodes_at count n - 1024 * node.index) low ∙ ap (λ (n : ℕ). nodes_at count m - 1024 * n) (sym at.1)) in
-      subst (λ (n : ℕ). IsIndirectBlock blocks n (disk b)) few (subst (λ (n : ℕ). IsIndirectBlock blocks used (disk n)) same good)
+      let few : used ≡ nodes_at layout count m - fan_out layout * i = used_is ∙ (ap (λ (n : ℕ). nodes_at layout count n - fan_out layout * node.index) low ∙ ap (λ (n : ℕ). nodes_at layout count m - fan_out layout * n) (sym at.1)) in
+      subst (λ (n : ℕ). IsIndirectBlock layout blocks n (disk b)) few (subst (λ (n : ℕ). IsIndirectBlock layout blocks used (disk n)) same good)
 
-  pub own_bad : (IsIndirectBlock blocks used (disk place) → ⊥) → AreIndirect blocks disk h count (IsUnder node.height node.index) → ⊥
+  pub own_bad : (IsIndirectBlock layout blocks used (disk place) → ⊥) → AreIndirect layout blocks disk h count (IsUnder layout node.height node.index) → ⊥
   own_bad bad are =
-      bad (subst (λ (n : ℕ). IsIndirectBlock blocks n (disk place)) (sym used_is)
-      (are height node.index place (under_top node (suc height) node.index (up, refl)) (ap (λ (n : ℕ). h.place n node.index) up ∙ is)))
+      bad (subst (λ (n : ℕ). IsIndirectBlock layout blocks n (disk place)) (sym used_is)
+      (are height node.index place (under_top layout node (suc height) node.index (up, refl)) (ap (λ (n : ℕ). h.place n node.index) up ∙ is)))
 
   -- all of the trees had marked the block, and under it stand blocks of the file alone
-  pub again_marked : (bits : ℕ) (old new : List ℕ) (before after : List (Option Shared)) → height ≡ 0 → IsIndirectBlock blocks used (disk place)
+  pub again_marked : (bits : ℕ) (old new : List ℕ) (before after : List (Option Shared)) → height ≡ 0 → IsIndirectBlock layout blocks used (disk place)
       → ((k : ℕ) → HasBit k bits → SharesNone after k → ⊥) → MarksFor h (IsAt node) node.number bits old new before after
-      → MarksFor h (IsUnder node.height node.index) node.number bits old new before after × AreIndirect blocks disk h count (IsUnder node.height node.index)
+      → MarksFor h (IsUnder layout node.height node.index) node.number bits old new before after × AreIndirect layout blocks disk h count (IsUnder layout node.height node.index)
   again_marked bits old new before after low good again one = (
     (λ k bit. record {
       marked = λ none. absurd (again k bit none);
       shared = λ none s told.
           let all = (one k bit).shared none s told in (
             all.0,
-            under_top node s.second.height s.second.index all.1,
+            under_top layout node s.second.height s.second.index all.1,
             all.2,
             elim all.3 [
               | inl mark ↦ inl mark
-              | inr other ↦ inr (other.0, other.1, under_top node other.0 other.1 other.2, other.3, other.4)
+              | inr other ↦ inr (other.0, other.1, under_top layout node other.0 other.1 other.2, other.3, other.4)
             ],
           );
     }),
-    (λ m i b under there. own_indirect good m i b (at_top node (suc m) i under (omega (arith, up, low))) there),
+    (λ m i b under there. own_indirect good m i b (at_top layout node (suc m) i under (omega (arith, up, low))) there),
   )
 
   -- the pointers of the node's block lead to the nodes under it
-  pub child_place : (first r index : ℕ) (bytes : List ℕ) (below : Pointer) → first ≡ 1024 * node.index → r < 1024 → index ≡ first + r
+  pub child_place : (first r index : ℕ) (bytes : List ℕ) (below : Pointer) → first ≡ fan_out layout * node.index → r < fan_out layout → index ≡ first + r
       → below ≡ indirect_pointer bytes r → bytes ≡ disk place → h.place height index ≡ below
   child_place first r index bytes below first_is low index_is below_is read =
-      let at : index ≡ 1024 * node.index + r = omega (arith, first_is, index_is) in
+      let at : index ≡ fan_out layout * node.index + r = omega (arith, first_is, index_is) in
       ap (h.place height) at ∙ (place_below r low ∙ sym (below_is ∙ ap (λ (x : List ℕ). indirect_pointer x r) read))
 
-  pub child_under : (first r index : ℕ) → first ≡ 1024 * node.index → r < 1024 → index ≡ first + r → (m i : ℕ) → IsUnder height index m i → IsUnder node.height node.index m i
+  pub child_under : (first r index : ℕ) → first ≡ fan_out layout * node.index → r < fan_out layout → index ≡ first + r → (m i : ℕ) → IsUnder layout height index m i → IsUnder layout node.height node.index m i
   child_under first r index first_is low index_is m i under =
       among_under m i (under.0, omega (arith, under.1, first_is, index_is), omega (arith, under.1, first_is, index_is, low))
 
   -- those behind the file's end are holes
-  module _ (within : IsIndirectBlock blocks used (disk place)) (n : ℕ) (most : n ≤ 1024) (enough : n < 1024 → used ≤ n) where
-    hole_after : (a : ℕ) → 1024 * node.index + n ≤ a → a < 1024 * node.index + 1024 → h.place height a ≡ Hole
+  module _ (within : IsIndirectBlock layout blocks used (disk place)) (n : ℕ) (most : n ≤ fan_out layout) (enough : n < fan_out layout → used ≤ n) where
+    hole_after : (a : ℕ) → fan_out layout * node.index + n ≤ a → a < fan_out layout * node.index + fan_out layout → h.place height a ≡ Hole
     hole_after a ge lt =
-        let at : 1024 * node.index + (a - 1024 * node.index) ≡ a = omega (arith, ge) in
-        let low : a - 1024 * node.index < 1024 = omega (arith, ge, lt) in
-        let past : used ≤ a - 1024 * node.index = omega (arith, enough (omega (arith, ge, lt)), ge) in
-        ap (h.place height) (sym at) ∙ (place_below (a - 1024 * node.index) low ∙ (within.within (a - 1024 * node.index) low).1 past)
+        let at : fan_out layout * node.index + (a - fan_out layout * node.index) ≡ a = omega (arith, ge) in
+        let low : a - fan_out layout * node.index < fan_out layout = omega (arith, ge, lt) in
+        let past : used ≤ a - fan_out layout * node.index = omega (arith, enough (omega (arith, ge, lt)), ge) in
+        let within_block : a - fan_out layout * node.index < 1024 = omega (arith, low, fan_low layout) in
+        ap (h.place height) (sym at) ∙ (place_below (a - fan_out layout * node.index) low ∙ (within.within (a - fan_out layout * node.index) within_block).1 (omega (arith, past)))
 
-    split : (m i b : ℕ) → IsUnder node.height node.index m i → h.place m i ≡ Block b → IsAt node m i ⊎ IsAmong height (1024 * node.index) (1024 * node.index + n) m i
+    split : (m i b : ℕ) → IsUnder layout node.height node.index m i → h.place m i ≡ Block b → IsAt node m i ⊎ IsAmong layout height (fan_out layout * node.index) (fan_out layout * node.index + n) m i
     split m i b under there = elim (cases_lt m node.height) [
-      | inr ge ↦ inl (at_top node m i under ge)
+      | inr ge ↦ inl (at_top layout node m i under ge)
       | inl lt ↦
           let among = under_among m i under lt in
-          elim (cases_lt (i / 1024 ^ (height - m)) (1024 * node.index + n)) [
+          elim (cases_lt (i / fan_out layout ^ (height - m)) (fan_out layout * node.index + n)) [
             | inl before ↦ inr (among.0, among.1, before)
             | inr past ↦ absurd (no_block (h.place m i) b
-                (hole_under disk h height (λ l j low. nodes l j (omega (arith, low, up))) (height - m) m i (omega (arith, among.0)) (hole_after (i / 1024 ^ (height - m)) past among.2)) there)
+                (hole_under layout disk h height (λ l j low. nodes l j (omega (arith, low, up))) (height - m) m i (omega (arith, among.0)) (hole_after (i / fan_out layout ^ (height - m)) past among.2)) there)
           ]
     ]
 
-    pub under_marked : (now first number bits : ℕ) (old mid new : List ℕ) (before middle after : List (Option Shared)) → now ≡ blocks → first ≡ 1024 * node.index → KeepsShared middle after
+    pub under_marked : (now first number bits : ℕ) (old mid new : List ℕ) (before middle after : List (Option Shared)) → now ≡ blocks → first ≡ fan_out layout * node.index → KeepsShared middle after
         → MarksFor h (IsAt node) number bits old mid before middle
-        → MarksFor h (IsAmong height first (first + n)) number bits mid new middle after × AreIndirect now disk h count (IsAmong height first (first + n))
-        → MarksFor h (IsUnder node.height node.index) number bits old new before after × AreIndirect blocks disk h count (IsUnder node.height node.index)
+        → MarksFor h (IsAmong layout height first (first + n)) number bits mid new middle after × AreIndirect layout now disk h count (IsAmong layout height first (first + n))
+        → MarksFor h (IsUnder layout node.height node.index) number bits old new before after × AreIndirect layout blocks disk h count (IsUnder layout node.height node.index)
     under_marked now first number bits old mid new before middle after same first_is kept one two =
-        these_more h (IsAt node) (IsAmong height first (first + n)) (IsUnder node.height node.index)
+        these_more h (IsAt node) (IsAmong layout height first (first + n)) (IsUnder layout node.height node.index)
         (λ m i b under there. elim (split m i b under there) [
           | inl at ↦ inl at
           | inr among ↦ inr (among.0, omega (arith, among.1, first_is), omega (arith, among.2, first_is))
         ])
-        (under_top node) (λ m i among. among_under m i (among.0, omega (arith, among.1, first_is), omega (arith, among.2, most, first_is)))
+        (under_top layout node) (λ m i among. among_under m i (among.0, omega (arith, among.1, first_is), omega (arith, among.2, most, first_is)))
         (λ m i k j at among same. omega (arith, at.0, same.0, among.0, up))
-        blocks number count bits disk old mid new before middle after kept (one, own_indirect within)
-        (two.0, λ m i b among there. subst (λ (x : ℕ). IsIndirectBlock x (nodes_at count m - 1024 * i) (disk b)) same (two.1 m i b among there))
+        layout blocks number count bits disk old mid new before middle after kept (one, own_indirect within)
+        (two.0, λ m i b among there. subst (λ (x : ℕ). IsIndirectBlock layout x (nodes_at layout count m - fan_out layout * i) (disk b)) same (two.1 m i b among there))
 
 -- NUMBERS
 
 -- an indirect block in its grammar stands before the file's end
-pub first_exact : (blocks used first i : ℕ) (bytes : List ℕ) → IsIndirectBlock blocks used bytes → first ≡ min (1024 * i) (2 ^ 32 - 1) → (1 ≤ used → 1024 * i + used < 2 ^ 32) → first ≡ 1024 * i
-first_exact blocks used first i bytes good is low = elim (cases_lt good.some.0 used) [
+pub first_exact : (layout : Layout) (blocks used first i : ℕ) (bytes : List ℕ) → IsIndirectBlock layout blocks used bytes → first ≡ min (fan_out layout * i) (2 ^ 32 - 1) → (1 ≤ used → fan_out layout * i + used < 2 ^ 32) → first ≡ fan_out layout * i
+first_exact layout blocks used first i bytes good is low = elim (cases_lt good.some.0 used) [
   | inl lt ↦ omega (arith, is, low (omega (arith, lt)))
-  | inr ge ↦ absurd (good.some.2 ((good.within good.some.0 good.some.1).1 ge))
+  | inr ge ↦ absurd (good.some.2 ((good.within good.some.0 good.some.1).1 (omega (arith, ge))))
 ]
 
-pub first_fits : (used first i end : ℕ) → first ≡ 1024 * i → (1 ≤ used → 1024 * i + used < 2 ^ 32) → end ≡ min 1024 used → first ≡ min (1024 * i) (2 ^ 32 - 1) → first + end < 2 ^ 32
-first_fits used first i end is low few most = elim (cases_lt 0 used) [
+pub first_fits : (layout : Layout) (used first i end : ℕ) → first ≡ fan_out layout * i → (1 ≤ used → fan_out layout * i + used < 2 ^ 32) → end ≡ min (fan_out layout) used → first ≡ min (fan_out layout * i) (2 ^ 32 - 1) → first + end < 2 ^ 32
+first_fits layout used first i end is low few most = elim (cases_lt 0 used) [
   | inl some ↦ omega (arith, is, few, low (omega (arith, some)))
   | inr none ↦ omega (arith, few, none, most)
 ]
 
-pub pointer_below : (a b used r : ℕ) (bytes : List ℕ) (p : Pointer) → IsIndirectBlock a used bytes → r < 1024 → a ≡ b → p ≡ indirect_pointer bytes r → PointsBelow b p
-pointer_below a b used r bytes p good low same is =
+pub pointer_below : (layout : Layout) (a b used r : ℕ) (bytes : List ℕ) (p : Pointer) → IsIndirectBlock layout a used bytes → r < 1024 → a ≡ b → p ≡ indirect_pointer bytes r → PointsBelow b p
+pointer_below layout a b used r bytes p good low same is =
     subst (PointsBelow b) (sym is) (subst (λ (n : ℕ). PointsBelow n (indirect_pointer bytes r)) same (good.within r low).0)
 
 -- an error is passed on
-these_err : (blocks : ℕ) (disk : Blocks) (h : Held) (S1 S : ℕ → ℕ → Type 0) (number count bits : ℕ) (o n p q : List ℕ) (b a c d : List (Option Shared)) (e : CheckEnd) → ((m i : ℕ) → S1 m i → S m i)
-    → MarksThese blocks disk h S1 number count bits o n b a (Err e) → MarksThese blocks disk h S number count bits p q c d (Err e)
-these_err blocks disk h S1 S number count bits o n p q b a c d halts.NoMemory sub marked = tt
-these_err blocks disk h S1 S number count bits o n p q b a c d halts.Device sub marked = tt
-these_err blocks disk h S1 S number count bits o n p q b a c d (halts.Fault fault) sub marked =
+these_err : (layout : Layout) (blocks : ℕ) (disk : Blocks) (h : Held) (S1 S : ℕ → ℕ → Type 0) (number count bits : ℕ) (o n p q : List ℕ) (b a c d : List (Option Shared)) (e : CheckEnd) → ((m i : ℕ) → S1 m i → S m i)
+    → MarksThese layout blocks disk h S1 number count bits o n b a (Err e) → MarksThese layout blocks disk h S number count bits p q c d (Err e)
+these_err layout blocks disk h S1 S number count bits o n p q b a c d halts.NoMemory sub marked = tt
+these_err layout blocks disk h S1 S number count bits o n p q b a c d halts.Device sub marked = tt
+these_err layout blocks disk h S1 S number count bits o n p q b a c d (halts.Fault fault) sub marked =
     ((λ are. marked.0 (λ m i x under there. are m i x (sub (suc m) i under) there)), marked.1, marked.2)
 
-pub err_marked : (blocks now : ℕ) (disk : Blocks) (h : Held) (S1 S : ℕ → ℕ → Type 0) (number count bits : ℕ) (o n p q : List ℕ) (b a c d : List (Option Shared)) (result : Result (Unit {0}) CheckEnd) (e : CheckEnd)
+pub err_marked : (layout : Layout) (blocks now : ℕ) (disk : Blocks) (h : Held) (S1 S : ℕ → ℕ → Type 0) (number count bits : ℕ) (o n p q : List ℕ) (b a c d : List (Option Shared)) (result : Result (Unit {0}) CheckEnd) (e : CheckEnd)
     → now ≡ blocks → IsErrAnd result (λ f. f ≡ e) → ((m i : ℕ) → S1 m i → S m i)
-    → MarksThese now disk h S1 number count bits o n b a (Err e) → MarksThese blocks disk h S number count bits p q c d result
-err_marked blocks now disk h S1 S number count bits o n p q b a c d (Ok done) e same is sub marked = absurd is
-err_marked blocks now disk h S1 S number count bits o n p q b a c d (Err f) e same is sub marked =
-    these_err blocks disk h S1 S number count bits o n p q b a c d f sub
-    (subst (λ (x : CheckEnd). MarksThese blocks disk h S1 number count bits o n b a (Err x)) (sym is)
-    (subst (λ (x : ℕ). MarksThese x disk h S1 number count bits o n b a (Err e)) same marked))
+    → MarksThese layout now disk h S1 number count bits o n b a (Err e) → MarksThese layout blocks disk h S number count bits p q c d result
+err_marked layout blocks now disk h S1 S number count bits o n p q b a c d (Ok done) e same is sub marked = absurd is
+err_marked layout blocks now disk h S1 S number count bits o n p q b a c d (Err f) e same is sub marked =
+    these_err layout blocks disk h S1 S number count bits o n p q b a c d f sub
+    (subst (λ (x : CheckEnd). MarksThese layout blocks disk h S1 number count bits o n b a (Err x)) (sym is)
+    (subst (λ (x : ℕ). MarksThese layout x disk h S1 number count bits o n b a (Err e)) same marked))

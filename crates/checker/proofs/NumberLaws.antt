@@ -1,5 +1,5 @@
 -- A number of a tree that is looked at.
-use Rattle.std.proofs.Common.{◌≡◌, ◌∙◌, ℕ, zero, suc, ◌+◌, ◌-◌, ◌<◌, ◌≤◌, List, Bool, true, false, refl, ap, arith, sym, subst, inl, inr}
+use Rattle.std.proofs.Common.{◌≡◌, ◌∙◌, ℕ, zero, suc, ◌+◌, ◌<◌, ◌≤◌, List, Bool, true, false, refl, ap, arith, sym, subst, inl, inr}
 use Rattle.std.specs.Prelude.{◌⊎◌, ◌↔◌, IsTrue, Option, Some, None, slice_index, slice_index_or}
 use Rattle.std.proofs.Math.Nat.{eq-or-lt_of_le}
 use Rattle.std.proofs.lemmas.Bool.{cases_lt}
@@ -7,12 +7,12 @@ use Rattle.layout.specs.Inode.{IsInode, inode_bytes}
 use Rattle.layout.specs.Limits.{AreSizes, Sizes}
 use Rattle.layout.specs.Maps.{IsTaken}
 use Rattle.layout.specs.Places.{Blocks}
-use Rattle.layout.specs.Version.{greatest_size}
+use Rattle.layout.specs.Version.{greatest_under}
 use Rattle.layout.specs.declared.inode.Inode.{Inode}
 use Rattle.layout.specs.declared.kind.Kind.{Kind}
 use Rattle.layout.specs.declared.kind.Kind.TheVariants.{Free}
 use Rattle.layout.specs.declared.root.Root.{Root}
-use Rattle.layout.specs.declared.version.TheConstants.{VERSION}
+use Rattle.layout.specs.declared.trees.Layout.{Layout}
 use Rattle.images.specs.BlockMap.{HasBit}
 use Rattle.images.specs.Contents.{content_bytes, content_of}
 use Rattle.images.specs.Faults.{IsTreeGrammar, MapsWithin}
@@ -22,7 +22,6 @@ use Rattle.images.specs.Roots.{HeldTree, free_inode, inode_bytes_at, whole}
 use Rattle.images.proofs.EmptyLaws.{free_bytes, free_fits, free_named, held_inode}
 use Rattle.loading.specs.InodeBlocks.{HasKindOfPlace, IsInodeAt}
 use Rattle.loading.specs.Laws.{EndTrees, SpellTrees}
-use Rattle.inofile.proofs.VersionLaws.{in_version}
 use Rattle.inofile.proofs.ObjectLaws.{free_is}
 use Rattle.model.proofs.OptionLaws.{some_same}
 use Rattle.checker.specs.Findings.{IsTreeFinding, StandsIn, tree_in}
@@ -46,15 +45,15 @@ free_kind inodes n many (inr past) = record { number = λ some lt. absurd (omega
 
 -- bytes that an inode file in its grammar has at a number are an inode of that place
 pub spelled_in : (version : ℕ) (s : Sizes) (t : HeldTree) (n : ℕ) (bytes : List ℕ) → 3 < s.inodes → IsTreeGrammar s t → IsWithin version t → bytes ≡ inode_bytes_at (file_block (t 0)) n
-    → ((i : Inode) → IsInode version s i → bytes ≡ inode_bytes i → HasKindOfPlace s.inodes n i.kind → ⊥) → ⊥
+    → ((i : Inode) → IsInode s i → i.size ≤ greatest_under version → bytes ≡ inode_bytes i → HasKindOfPlace s.inodes n i.kind → ⊥) → ⊥
 spelled_in version s t zero bytes many grammar within is none =
-    none free_inode (in_version version s free_inode (free_fits s) (omega arith)) (is ∙ grammar.inodes.first ∙ sym free_bytes) (free_kind s.inodes zero many (inl refl))
+    none (free_inode s.layout) (free_fits s) (omega arith) (is ∙ grammar.inodes.first ∙ sym (free_bytes s.layout)) (free_kind s.inodes zero many (inl refl))
 spelled_in version s t (suc n) bytes many grammar within is none = elim (cases_lt (suc n) s.inodes) [
   | inl lt ↦
-      none (t (suc n)).inode (in_version version s (t (suc n)).inode (grammar.files (suc n)).inode (within (suc n))) (is ∙ grammar.inodes.each (suc n) (omega arith) lt)
+      none (t (suc n)).inode (grammar.files (suc n)).inode (within (suc n)) (is ∙ grammar.inodes.each (suc n) (omega arith) lt)
       (kind_of_place s t (suc n) grammar (omega arith) lt)
   | inr past ↦
-      none free_inode (in_version version s free_inode (free_fits s) (omega arith)) (is ∙ grammar.inodes.past (suc n) past ∙ sym free_bytes) (free_kind s.inodes (suc n) many (inr past))
+      none (free_inode s.layout) (free_fits s) (omega arith) (is ∙ grammar.inodes.past (suc n) past ∙ sym (free_bytes s.layout)) (free_kind s.inodes (suc n) many (inr past))
 ]
 
 -- what hangs from an inode at a number: it is the number's own, or the number is 0 and nothing hangs from it
@@ -62,31 +61,31 @@ abbrev pub IsNumbers : Blocks → HeldTree → ℕ → Inode → Type 0
 IsNumbers disk t n i = ((1 ≤ n) × (t n ≡ held disk i)) ⊎ ((n ≡ 0) × ((b : ℕ) → Names (held disk i) b → ⊥))
 
 pub numbers_of : (spells : SpellTrees) (ends : EndTrees) (disk : Blocks) (r : Root) (t : Tree) (n : ℕ) (i : Inode) → AreSizes r.geometry → IsTreeOf disk r t
-    → IsInode VERSION r.geometry i → HasKindOfPlace r.geometry.inodes n i.kind → inode_bytes_at (file_block (tree_in (whole disk r) t.plane 0)) n ≡ inode_bytes i
+    → IsInode r.geometry i → HasKindOfPlace r.geometry.inodes n i.kind → inode_bytes_at (file_block (tree_in (whole disk r) t.plane 0)) n ≡ inode_bytes i
     → IsNumbers disk (tree_in (whole disk r) t.plane) n i
 numbers_of spells ends disk r t zero i are is fits kind spelled =
-    let free : i ≡ free_inode = free_is r.geometry i fits (kind.none refl) in
-    inr (refl, λ b names. free_named disk b (subst (λ (f : Inode). Names (held disk f) b) free names))
+    let free : i ≡ free_inode r.geometry.layout = free_is r.geometry i fits (kind.none refl) in
+    inr (refl, λ b names. free_named r.geometry.layout disk b (subst (λ (f : Inode). Names (held disk f) b) free names))
 numbers_of spells ends disk r t (suc n) i are is fits kind spelled = elim (cases_lt (suc n) r.geometry.inodes) [
   | inl lt ↦ inl (
     omega arith,
     ap (λ (h : HeldTree). h (suc n)) (tree_is disk r r.geometry t refl is)
-        ∙ spells r.geometry disk t.top i (suc n) are (omega arith) lt fits (sym (ap (λ (h : Held). inode_bytes_at (file_block h) (suc n)) (top_is disk r t is)) ∙ spelled),
+        ∙ spells r.geometry disk t.top i (suc n) are is.fits.layout (omega arith) lt fits (sym (ap (λ (h : Held). inode_bytes_at (file_block h) (suc n)) (top_is disk r t is)) ∙ spelled),
   )
   | inr past ↦
-      let free : i ≡ free_inode = free_is r.geometry i fits (kind.past past) in
+      let free : i ≡ free_inode r.geometry.layout = free_is r.geometry i fits (kind.past past) in
       inl (
         omega arith,
         ap (λ (h : HeldTree). h (suc n)) (tree_is disk r r.geometry t refl is) ∙ ends disk r.geometry.inodes t.top (suc n) (omega arith) past
-            ∙ ap (held disk) (sym free),
+            ∙ ap (λ (l : Layout). held disk (free_inode l)) is.fits.layout ∙ ap (held disk) (sym free),
       )
 ]
 
 -- what hangs from it is in its grammar, where the tree is
-pub number_grammar : (disk : Blocks) (s : Sizes) (t : HeldTree) (n : ℕ) (i : Inode) → IsNumbers disk t n i → IsInode VERSION s i → IsTreeGrammar s t → IsFileGrammar s (held disk i)
+pub number_grammar : (disk : Blocks) (s : Sizes) (t : HeldTree) (n : ℕ) (i : Inode) → IsNumbers disk t n i → IsInode s i → IsTreeGrammar s t → IsFileGrammar s (held disk i)
 number_grammar disk s t n i (inl own) fits grammar = subst (IsFileGrammar s) own.1 (grammar.files n)
 number_grammar disk s t n i (inr none) fits grammar = record {
-  inode = subst (IsInode VERSION s) (sym (held_inode disk i)) fits;
+  inode = subst (IsInode s) (sym (held_inode disk i)) fits;
   indirect = λ m k b there. absurd (none.1 b (record { height = suc m; index = k; is = there }));
   bytes = tt;
 }
@@ -284,7 +283,7 @@ module _ (disk : Blocks) (r : Root) (i n : ℕ) (old new : List ℕ) (before aft
     | inr one ↦ absurd (no_some (sym (kept t.plane one.0 one.1) ∙ none))
   ]
 
-  pub seen_more : (f : Option Fault) → IsInodeAt VERSION r.geometry n (inode_bytes_at (file_block (tree_in (whole disk r) t.plane 0)) n) → inode.size ≤ greatest_size r.version
+  pub seen_more : (f : Option Fault) → IsInodeAt r.version r.geometry n (inode_bytes_at (file_block (tree_in (whole disk r) t.plane 0)) n) → inode.size ≤ greatest_under r.version
       → IsFileGrammar r.geometry (held disk inode) → ((fault : Fault) → f ≡ Some fault → IsTreeFinding r (tree_in (whole disk r) t.plane) fault) → (f ≡ None → (t.fault ≡ None) × IsMappedAs n inode.kind t.numbers.items)
       → IsSeenTo disk r i (n + 1) new after (record t { fault = f })
   seen_more f spelled small grammar finds mapped =
@@ -300,11 +299,11 @@ module _ (disk : Blocks) (r : Root) (i n : ℕ) (old new : List ℕ) (before aft
           ];
           within = λ m low. elim (split n m low) [
             | inl less ↦ inodes.within m less
-            | inr here ↦ subst (λ (h : Held). h.inode.size ≤ greatest_size r.version) (sym (at disk (tree_in (whole disk r) t.plane) n t.plane inode is m here))
-                (subst (λ (i : Inode). i.size ≤ greatest_size r.version) (sym (held_inode disk inode)) small)
+            | inr here ↦ subst (λ (h : Held). h.inode.size ≤ greatest_under r.version) (sym (at disk (tree_in (whole disk r) t.plane) n t.plane inode is m here))
+                (subst (λ (i : Inode). i.size ≤ greatest_under r.version) (sym (held_inode disk inode)) small)
           ];
           spelled = λ m lt. let most : m ≤ n = omega (arith, lt) in elim (eq-or-lt_of_le most) [
-            | inl same ↦ subst (λ (l : ℕ). IsInodeAt VERSION r.geometry l (inode_bytes_at (file_block (tree_in (whole disk r) t.plane 0)) l)) (sym same) spelled
+            | inl same ↦ subst (λ (l : ℕ). IsInodeAt r.version r.geometry l (inode_bytes_at (file_block (tree_in (whole disk r) t.plane 0)) l)) (sym same) spelled
             | inr less ↦ inodes.spelled m less
           ];
           behind = inodes.behind;

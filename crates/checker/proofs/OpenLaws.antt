@@ -10,7 +10,8 @@ use Rattle.layout.specs.Inode.{FitsBody, FitsKind, IsInode}
 use Rattle.layout.specs.Limits.{AreSizes, Sizes}
 use Rattle.layout.specs.Maps.{IsInodeMap, IsTaken}
 use Rattle.layout.specs.Places.{Blocks}
-use Rattle.layout.specs.Version.{greatest_size}
+use Rattle.layout.specs.Version.{greatest_under, layout_of}
+use Rattle.layout.specs.Trees.{greatest_size}
 use Rattle.layout.proofs.SizeLaws.{level_none}
 use Rattle.layout.specs.declared.inode.Body.{Body}
 use Rattle.layout.specs.declared.inode.Body.TheVariants.{Inline, Pointers}
@@ -18,7 +19,8 @@ use Rattle.layout.specs.declared.inode.Inode.{Inode}
 use Rattle.layout.specs.declared.kind.Kind.{Kind}
 use Rattle.layout.specs.declared.kind.Kind.TheVariants.{InodeFile}
 use Rattle.layout.specs.declared.root.Root.{Root}
-use Rattle.layout.specs.declared.version.TheConstants.{VERSION}
+use Rattle.layout.specs.declared.trees.Layout.{Layout}
+use Rattle.layout.specs.declared.trees.Layout.TheVariants.{Plain, Summed}
 use Rattle.images.specs.BlockMap.{HasBit}
 use Rattle.images.specs.Contents.{content_bytes, content_of}
 use Rattle.images.specs.Faults.{IsMapGrammar, IsTreeGrammar, MapsWithin}
@@ -91,25 +93,29 @@ module _ (t : HeldTree) (h : Held) (k : ℕ) (old new : List ℕ) (before after 
         }
       ]
 
-least_of : (first : Bool) → 67108864 ≤ (if first then 67108864 else 68719476736)
-least_of true = omega arith
-least_of false = omega arith
+of_layout : (l : Layout) → 67108864 ≤ greatest_size l
+of_layout Plain = omega arith
+of_layout Summed = omega arith
+
+least_of : (first : Bool) (l : Layout) → 67108864 ≤ (if first then 67108864 else greatest_size l)
+least_of true l = omega arith
+least_of false l = of_layout l
 
 -- what each version allows at the least
-least : (version : ℕ) → 67108864 ≤ greatest_size version
-least version = least_of (version == 1)
+least : (version : ℕ) → 67108864 ≤ greatest_under version
+least version = least_of (version == 1) (layout_of version)
 
 -- an inode file is small in each version
-pub top_small : (version : ℕ) (s : Sizes) (d : Blocks) (top : Inode) → AreSizes s → IsInode VERSION s top → top.kind ≡ InodeFile → (held d top).inode.size ≤ greatest_size version
+pub top_small : (version : ℕ) (s : Sizes) (d : Blocks) (top : Inode) → AreSizes s → IsInode s top → top.kind ≡ InodeFile → (held d top).inode.size ≤ greatest_under version
 unfolding held
 top_small version s d top are fits kind =
     let size : top.size ≡ 4096 * div_ceil s.inodes 21 = (subst (λ (k : Kind). FitsKind k s top.attributes top.links top.size) kind fits.kind).2 in
     omega (arith, size, are.most_inodes, least version)
 
-pub top_inodes : (version : ℕ) (s : Sizes) (t : HeldTree) (h : Held) → t 0 ≡ h → IsFileGrammar s h → h.inode.size ≤ greatest_size version → HasInodes version s t 0 0
+pub top_inodes : (version : ℕ) (s : Sizes) (t : HeldTree) (h : Held) → t 0 ≡ h → IsFileGrammar s h → h.inode.size ≤ greatest_under version → HasInodes version s t 0 0
 top_inodes version s t h is grammar small = record {
   files = λ m first. subst (IsFileGrammar s) (sym (ap t (first_alone m first) ∙ is)) grammar;
-  within = λ m first. subst (λ (x : Held). x.inode.size ≤ greatest_size version) (sym (ap t (first_alone m first) ∙ is)) small;
+  within = λ m first. subst (λ (x : Held). x.inode.size ≤ greatest_under version) (sym (ap t (first_alone m first) ∙ is)) small;
   spelled = λ m lt. absurd (omega (arith, lt));
   behind = λ i lt. absurd (omega (arith, lt));
 }
@@ -117,11 +123,11 @@ top_inodes version s t h is grammar small = record {
 -- ---- the files of the maps
 
 -- a map's file that was read is in its grammar, where its indirect blocks are
-stored_all : (led : StandWhereLed) (s : Sizes) (disk : Blocks) (f : Inode) (body : Body) → f.body ≡ body → FitsBody body s.blocks f.size → IsStored disk body f.size → HasNoHole (held disk f)
+stored_all : (led : StandWhereLed) (s : Sizes) (disk : Blocks) (f : Inode) (body : Body) → f.body ≡ body → FitsBody f.layout body s.blocks f.size → IsStored f.layout disk body f.size → HasNoHole (held disk f)
 unfolding held nodes_of_size
-stored_all led s disk f (Inline bytes) is fits stored i level lt hole = absurd (omega (arith, level, level_none f.size fits.0))
+stored_all led s disk f (Inline bytes) is fits stored i level lt hole = absurd (omega (arith, level, level_none f.layout f.size fits.0))
 stored_all led s disk f (Pointers pointers) is fits stored i level lt hole =
-    stored i lt (sym (led disk f pointers (depth_of f.size) 0 i is (some_level f.size fits.0)) ∙ hole)
+    stored i lt (sym (led disk f pointers (depth_of f.layout f.size) 0 i is (some_level f.layout f.size fits.0)) ∙ hole)
 
 pub map_grammar : (led : StandWhereLed) (reads : ReadAsHeld) (s : Sizes) (disk : Blocks) (f : Inode) (h : Held) → h ≡ held disk f → IsMapFile disk f → IsFileGrammar s h → IsMapGrammar h
 unfolding held
@@ -141,20 +147,20 @@ map_bytes reads s disk f h is grammar =
 -- ---- and in a tree in its grammar they read so
 
 pub map_paths : (paths : HaveSoundPaths) (s : Sizes) (disk : Blocks) (f : Inode) (h : Held) (blocks i : ℕ) → h ≡ held disk f → IsFileGrammar s h → blocks ≡ s.blocks
-    → IsBodyPath blocks disk f.body f.size i
+    → IsBodyPath f.layout blocks disk f.body f.size i
 map_paths paths s disk f h blocks i is grammar count =
-    subst (λ (n : ℕ). IsBodyPath n disk f.body f.size i) (sym count) (paths by_sizes s disk f i (subst (IsFileGrammar s) is grammar))
+    subst (λ (n : ℕ). IsBodyPath f.layout n disk f.body f.size i) (sym count) (paths by_sizes s disk f i (subst (IsFileGrammar s) is grammar))
 
 pub map_reads : (stored : AreMapFiles) (s : Sizes) (disk : Blocks) (f : Inode) (h : Held) → h ≡ held disk f → IsFileGrammar s h → IsMapGrammar h → IsMapFile disk f
 map_reads stored s disk f h is grammar map =
     stored by_sizes s disk f (subst (IsFileGrammar s) is grammar) (subst IsMapGrammar is map)
 
 -- a map that can be read
-pub map_readable : (s : Sizes) (disk : Blocks) (f : Inode) (h : Held) → h ≡ held disk f → IsWholeBody disk f.body f.size → IsFileGrammar s h → IsReadable h
+pub map_readable : (s : Sizes) (disk : Blocks) (f : Inode) (h : Held) → h ≡ held disk f → IsWholeBody f.layout disk f.body f.size → IsFileGrammar s h → IsReadable h
 map_readable s disk f h is whole grammar =
     subst IsReadable (sym is) (λ i b there. block_readable s disk f i b (subst (IsFileGrammar s) is grammar) (whole i) there)
 
-pub map_whole : (whole : HaveWholeBodies) (s : Sizes) (disk : Blocks) (f : Inode) (h : Held) → h ≡ held disk f → IsFileGrammar s h → IsReadable h → IsWholeBody disk f.body f.size
+pub map_whole : (whole : HaveWholeBodies) (s : Sizes) (disk : Blocks) (f : Inode) (h : Held) → h ≡ held disk f → IsFileGrammar s h → IsReadable h → IsWholeBody f.layout disk f.body f.size
 map_whole whole s disk f h is grammar readable = (whole by_sizes s disk f (subst (IsFileGrammar s) is grammar)).0 (subst IsReadable is readable)
 
 pub is_inode_map : (inodes : ℕ) (bytes : List ℕ) → MapsWithin inodes bytes → IsInodeMap 0 inodes bytes

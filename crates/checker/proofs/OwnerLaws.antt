@@ -5,13 +5,14 @@ use Rattle.std.proofs.lemmas.Bool.{cases_lt}
 use Rattle.layout.specs.Inode.{FitsBody, IsInode}
 use Rattle.layout.specs.Limits.{Sizes}
 use Rattle.layout.specs.Places.{Blocks}
-use Rattle.layout.specs.Version.{level_of}
+use Rattle.layout.specs.Trees.{fan_out, level_of}
 use Rattle.layout.proofs.SizeLaws.{level_none}
 use Rattle.layout.specs.declared.inode.Body.{Body}
 use Rattle.layout.specs.declared.inode.Body.TheVariants.{Inline, Pointers}
 use Rattle.layout.specs.declared.inode.Inode.{Inode}
 use Rattle.layout.specs.declared.pointer.Pointer.TheVariants.{Block, Hole}
-use Rattle.layout.specs.declared.version.TheConstants.{VERSION}
+use Rattle.layout.specs.declared.trees.Layout.{Layout}
+use Rattle.layout.specs.declared.trees.Layout.TheVariants.{Plain, Summed}
 use Rattle.blocktree.specs.Names.{AreNodes, nodes_at}
 use Rattle.blocktree.specs.PlaceMaps.{EndBefore, place_at}
 use Rattle.blocktree.specs.Places.{block_count}
@@ -33,43 +34,44 @@ use Rattle.checker.proofs.HeldLaws.{StandWhereLed, pointer_node}
 
 -- by the laws of inode: past as many nodes as a size has, and from the file's level on, all are holes
 abbrev pub EndBySize : Type 0
-EndBySize = (detail : Detail) (s : Sizes) (disk : Blocks) (f : Inode) (height i : ℕ) → IsHeldFile detail s (held disk f) → nodes_of_size f.size height ≤ i → (held disk f).place height i ≡ Hole
+EndBySize = (detail : Detail) (s : Sizes) (disk : Blocks) (f : Inode) (height i : ℕ) → IsHeldFile detail s (held disk f) → nodes_of_size f.layout f.size height ≤ i → (held disk f).place height i ≡ Hole
 
 abbrev pub EndByLevel : Type 0
-EndByLevel = (disk : Blocks) (f : Inode) (height i : ℕ) → level_of f.size ≤ height → (held disk f).place height i ≡ Hole
+EndByLevel = (disk : Blocks) (f : Inode) (height i : ℕ) → level_of f.layout f.size ≤ height → (held disk f).place height i ≡ Hole
 
 -- and what stands over the blocks is in its grammar
 abbrev pub AreAllSound : Type 0
 AreAllSound = (detail : Detail) (s : Sizes) (disk : Blocks) (i : Inode) (t : BlockTree) → IsHeldFile detail s (held disk i) → IsBased i t → AreSound s.blocks disk t
 
-same_nodes : (size count height : ℕ) → count ≡ block_count size → nodes_at count height ≡ nodes_of_size size height
+same_nodes : (layout : Layout) (size count height : ℕ) → count ≡ block_count size → nodes_at layout count height ≡ nodes_of_size layout size height
 unfolding nodes_at nodes_of_size
-same_nodes size count zero is = is
-same_nodes size count (suc height) is = ap (λ (n : ℕ). div_ceil n 1024) (same_nodes size count height is)
+same_nodes layout size count zero is = is
+same_nodes layout size count (suc height) is = ap (λ (n : ℕ). div_ceil n (fan_out layout)) (same_nodes layout size count height is)
 
-few_nodes : (count height : ℕ) → nodes_at count height ≤ count
+few_nodes : (layout : Layout) (count height : ℕ) → nodes_at layout count height ≤ count
 unfolding nodes_at
-few_nodes count zero = omega arith
-few_nodes count (suc height) = omega (arith, few_nodes count height)
+few_nodes layout count zero = omega arith
+few_nodes Plain count (suc height) = omega (arith, few_nodes Plain count height)
+few_nodes Summed count (suc height) = omega (arith, few_nodes Summed count height)
 
 -- no node of a file that has its bytes itself
 inline_none : (above : EndByLevel) (disk : Blocks) (f : Inode) (m i b : ℕ) → f.size ≤ 128 → (held disk f).place m i ≡ Block b → ⊥
 inline_none above disk f m i b small there =
-    let hole = above disk f m i (omega (arith, level_none f.size small)) in cc
+    let hole = above disk f m i (omega (arith, level_none f.layout f.size small)) in cc
 
 -- ---- what was found
 
-stands_at : (led : StandWhereLed) (s : Sizes) (disk : Blocks) (f : Inode) (body : Body) (t : BlockTree) (nodes : PlaceMap) (height i b : ℕ) → f.body ≡ body → FitsBody body s.blocks f.size
-    → StartsFrom body f.size t → height ≤ t.depth → AreNodes disk t.pointers (t.depth - height) (nodes_at t.count height) nodes → EndBefore (nodes_at t.count height) nodes
+stands_at : (led : StandWhereLed) (s : Sizes) (disk : Blocks) (f : Inode) (body : Body) (t : BlockTree) (nodes : PlaceMap) (height i b : ℕ) → f.body ≡ body → FitsBody f.layout body s.blocks f.size
+    → StartsFrom f.layout body f.size t → height ≤ t.depth → AreNodes t.layout disk t.pointers (t.depth - height) (nodes_at t.layout t.count height) nodes → EndBefore (nodes_at t.layout t.count height) nodes
     → i < t.count → place_at nodes i ≡ Block b → (held disk f).place height i ≡ Block b
-stands_at led s disk f (Inline bytes) t nodes height i b is fits starts le are end lt there = absurd (omega (arith, starts, lt))
-stands_at led s disk f (Pointers pointers) t nodes height i b is fits starts le are end lt there = elim (cases_lt i (nodes_at t.count height)) [
+stands_at led s disk f (Inline bytes) t nodes height i b is fits starts le are end lt there = absurd (omega (arith, starts.1, lt))
+stands_at led s disk f (Pointers pointers) t nodes height i b is fits starts le are end lt there = elim (cases_lt i (nodes_at t.layout t.count height)) [
   | inl low ↦ pointer_node led disk f pointers t nodes height i is fits.0 starts.0 le are low ∙ there
   | inr high ↦ (let hole = end i high in cc)
 ]
 
-pub owner_at : (led : StandWhereLed) (s : Sizes) (disk : Blocks) (f : Inode) (t : BlockTree) (nodes : PlaceMap) (shared : Shared) (number height : ℕ) (node : FileNode) → IsInode VERSION s f
-    → StartsFrom f.body f.size t → height ≤ t.depth → AreNodes disk t.pointers (t.depth - height) (nodes_at t.count height) nodes → EndBefore (nodes_at t.count height) nodes
+pub owner_at : (led : StandWhereLed) (s : Sizes) (disk : Blocks) (f : Inode) (t : BlockTree) (nodes : PlaceMap) (shared : Shared) (number height : ℕ) (node : FileNode) → IsInode s f
+    → StartsFrom f.layout f.body f.size t → height ≤ t.depth → AreNodes t.layout disk t.pointers (t.depth - height) (nodes_at t.layout t.count height) nodes → EndBefore (nodes_at t.layout t.count height) nodes
     → (node.number ≡ number) × (node.height ≡ height) × (node.index < t.count) × (place_at nodes node.index ≡ Block shared.block) × (node ≢ shared.second)
     → IsOwner shared number (held disk f) node
 owner_at led s disk f t nodes shared number height node fits starts le are end found = (
@@ -120,32 +122,34 @@ file_sound all s disk f file blocks grammar is same =
     subst (λ (n : ℕ). AreSound n disk file.tree) (sym same) (all by_sizes s disk f file.tree grammar (starts_based f file.tree is.starts))
 
 alone_at : (led : StandWhereLed) (past : EndBySize) (above : EndByLevel) (s : Sizes) (disk : Blocks) (f : Inode) (body : Body) (t : BlockTree) (nodes : PlaceMap) (shared : Shared) (number height : ℕ)
-    → f.body ≡ body → FitsBody body s.blocks f.size → IsFileGrammar s (held disk f) → StartsFrom body f.size t → height ≤ t.depth
-    → AreNodes disk t.pointers (t.depth - height) (nodes_at t.count height) nodes
+    → f.body ≡ body → FitsBody f.layout body s.blocks f.size → IsFileGrammar s (held disk f) → StartsFrom f.layout body f.size t → height ≤ t.depth
+    → AreNodes t.layout disk t.pointers (t.depth - height) (nodes_at t.layout t.count height) nodes
     → ((i : ℕ) → i < t.count → place_at nodes i ≡ Block shared.block → IsNode shared.second number height i) → IsAloneAt shared number (held disk f) height
 alone_at led past above s disk f (Inline bytes) t nodes shared number height is fits grammar starts le are none i there =
     absurd (inline_none above disk f height i shared.block fits.0 there)
-alone_at led past above s disk f (Pointers pointers) t nodes shared number height is fits grammar starts le are none i there = elim (cases_lt i (nodes_at t.count height)) [
-  | inl low ↦ none i (omega (arith, low, few_nodes t.count height)) (sym (pointer_node led disk f pointers t nodes height i is fits.0 starts.0 le are low) ∙ there)
+alone_at led past above s disk f (Pointers pointers) t nodes shared number height is fits grammar starts le are none i there = elim (cases_lt i (nodes_at t.layout t.count height)) [
+  | inl low ↦ none i (omega (arith, low, few_nodes t.layout t.count height)) (sym (pointer_node led disk f pointers t nodes height i is fits.0 starts.0 le are low) ∙ there)
   | inr high ↦
-      let hole = past by_sizes s disk f height i grammar (omega (arith, high, same_nodes f.size t.count height starts.0.count)) in cc
+      let nodes_are : nodes_at t.layout t.count height ≡ nodes_of_size f.layout f.size height =
+      ap (λ (l : Layout). nodes_at l t.count height) starts.0.layout_is ∙ same_nodes f.layout f.size t.count height starts.0.count in
+      let hole = past by_sizes s disk f height i grammar (omega (arith, high, nodes_are)) in cc
 ]
 
 pub height_alone : (led : StandWhereLed) (past : EndBySize) (above : EndByLevel) (s : Sizes) (disk : Blocks) (f : Inode) (t : BlockTree) (nodes : PlaceMap) (shared : Shared) (number height : ℕ)
-    → IsFileGrammar s (held disk f) → StartsFrom f.body f.size t → height ≤ t.depth → AreNodes disk t.pointers (t.depth - height) (nodes_at t.count height) nodes
+    → IsFileGrammar s (held disk f) → StartsFrom f.layout f.body f.size t → height ≤ t.depth → AreNodes t.layout disk t.pointers (t.depth - height) (nodes_at t.layout t.count height) nodes
     → ((i : ℕ) → i < t.count → place_at nodes i ≡ Block shared.block → IsNode shared.second number height i) → IsAloneAt shared number (held disk f) height
 unfolding held
 height_alone led past above s disk f t nodes shared number height grammar starts le are none =
     alone_at led past above s disk f f.body t nodes shared number height refl grammar.inode.body grammar starts le are none
 
-beyond : (above : EndByLevel) (s : Sizes) (disk : Blocks) (f : Inode) (body : Body) (t : BlockTree) (shared : Shared) (number m : ℕ) → FitsBody body s.blocks f.size
-    → StartsFrom body f.size t → t.depth < m → IsAloneAt shared number (held disk f) m
+beyond : (above : EndByLevel) (s : Sizes) (disk : Blocks) (f : Inode) (body : Body) (t : BlockTree) (shared : Shared) (number m : ℕ) → FitsBody f.layout body s.blocks f.size
+    → StartsFrom f.layout body f.size t → t.depth < m → IsAloneAt shared number (held disk f) m
 beyond above s disk f (Inline bytes) t shared number m fits starts lt i there = absurd (inline_none above disk f m i shared.block fits.0 there)
 beyond above s disk f (Pointers pointers) t shared number m fits starts lt i there =
-    let hole = above disk f m i (omega (arith, lt, starts.0.depth, some_level f.size fits.0)) in cc
+    let hole = above disk f m i (omega (arith, lt, starts.0.depth, some_level f.layout f.size fits.0)) in cc
 
 pub above_alone : (above : EndByLevel) (s : Sizes) (disk : Blocks) (f : Inode) (t : BlockTree) (shared : Shared) (number m : ℕ) → IsFileGrammar s (held disk f)
-    → StartsFrom f.body f.size t → t.depth < m → IsAloneAt shared number (held disk f) m
+    → StartsFrom f.layout f.body f.size t → t.depth < m → IsAloneAt shared number (held disk f) m
 unfolding held
 above_alone above s disk f t shared number m grammar starts lt = beyond above s disk f f.body t shared number m grammar.inode.body starts lt
 
@@ -158,14 +162,14 @@ one_height_more shared number height h before here m lt = elim (cases_lt m heigh
 ]
 
 pub all_heights : (above : EndByLevel) (s : Sizes) (disk : Blocks) (f : Inode) (t : BlockTree) (shared : Shared) (number height : ℕ) → IsFileGrammar s (held disk f)
-    → StartsFrom f.body f.size t → t.depth < height → ((m : ℕ) → m < height → IsAloneAt shared number (held disk f) m) → (m : ℕ) → IsAloneAt shared number (held disk f) m
+    → StartsFrom f.layout f.body f.size t → t.depth < height → ((m : ℕ) → m < height → IsAloneAt shared number (held disk f) m) → (m : ℕ) → IsAloneAt shared number (held disk f) m
 all_heights above s disk f t shared number height grammar starts deep before m = elim (cases_lt m height) [
   | inl low ↦ before m low
   | inr high ↦ above_alone above s disk f t shared number m grammar starts (omega (arith, deep, high))
 ]
 
-pub free_alone : (above : EndByLevel) (disk : Blocks) (shared : Shared) (number m : ℕ) → IsAloneAt shared number (held disk free_inode) m
-free_alone above disk shared number m i there = absurd (inline_none above disk free_inode m i shared.block (omega arith) there)
+pub free_alone : (above : EndByLevel) (layout : Layout) (disk : Blocks) (shared : Shared) (number m : ℕ) → IsAloneAt shared number (held disk (free_inode layout)) m
+free_alone above layout disk shared number m i there = absurd (inline_none above disk (free_inode layout) m i shared.block (omega arith) there)
 
 -- one is always found
 pub one_found : (t : HeldTree) (shared : Shared) → SharesBlock t shared → ((n m : ℕ) → IsAloneAt shared n (t n) m) → ⊥

@@ -13,6 +13,7 @@ use Rattle.layout.specs.declared.kind.Kind.{Kind}
 use Rattle.layout.specs.declared.pointer.Pointer.{Pointer}
 use Rattle.layout.specs.declared.pointer.Pointer.TheVariants.{Block, Hole}
 use Rattle.layout.specs.declared.root.Root.{Root}
+use Rattle.layout.specs.declared.trees.Layout.{Layout}
 use Rattle.layout.proofs.ZeroLaws.{length-zeros}
 use Rattle.buffers.specs.Disks.{IsWhole}
 use Rattle.blocktree.specs.Names.{AreNodes, nodes_at}
@@ -36,24 +37,25 @@ top_large disk r t is some =
     omega (arith, size, some)
 
 -- where its blocks are
-places_by : (s : Sizes) (disk : Blocks) (f : Inode) (body : Body) (t : BlockTree) (places : PlaceMap) (i : ℕ) → f.body ≡ body → FitsBody body s.blocks f.size → 128 < f.size
-    → IsFileGrammar s (held disk f) → StartsFrom body f.size t → ArePlaces disk t places → place_at places i ≡ (held disk f).place 0 i
+places_by : (s : Sizes) (disk : Blocks) (f : Inode) (body : Body) (t : BlockTree) (places : PlaceMap) (i : ℕ) → f.body ≡ body → FitsBody f.layout body s.blocks f.size → 128 < f.size
+    → IsFileGrammar s (held disk f) → StartsFrom f.layout body f.size t → ArePlaces disk t places → place_at places i ≡ (held disk f).place 0 i
 unfolding nodes_of_size
 places_by s disk f (Inline bytes) t places i is fits large grammar starts are = absurd (omega (arith, large, fits.0))
 places_by s disk f (Pointers ps) t places i is fits large grammar starts are = elim (cases_lt i t.count) [
   | inl low ↦
-      are.0 i low ∙ ap (λ (qs : List Pointer). place disk qs t.depth i) starts.0.pointers_are ∙ ap (λ (d : ℕ). place disk ps d i) starts.0.depth
-      ∙ sym (node_place disk f ps (depth_of f.size) 0 i is (some_level f.size large))
+      are.0 i low ∙ ap (λ (l : Layout). place l disk t.pointers t.depth i) starts.0.layout_is
+      ∙ ap (λ (qs : List Pointer). place f.layout disk qs t.depth i) starts.0.pointers_are ∙ ap (λ (d : ℕ). place f.layout disk ps d i) starts.0.depth
+      ∙ sym (node_place disk f ps (depth_of f.layout f.size) 0 i is (some_level f.layout f.size large))
   | inr high ↦ are.1 i high ∙ sym (node_past s disk f 0 i grammar (omega (arith, high, starts.0.count)))
 ]
 
-pub places_are : (s : Sizes) (disk : Blocks) (f : Inode) (t : BlockTree) (places : PlaceMap) (i : ℕ) → 128 < f.size → IsFileGrammar s (held disk f) → StartsFrom f.body f.size t
+pub places_are : (s : Sizes) (disk : Blocks) (f : Inode) (t : BlockTree) (places : PlaceMap) (i : ℕ) → 128 < f.size → IsFileGrammar s (held disk f) → StartsFrom f.layout f.body f.size t
     → ArePlaces disk t places → place_at places i ≡ (held disk f).place 0 i
 unfolding held
 places_are s disk f t places i large grammar starts are = places_by s disk f f.body t places i refl grammar.inode.body large grammar starts are
 
 -- what they hold
-stored_by : (s : Sizes) (disk : Blocks) (f : Inode) (body : Body) (i : ℕ) → f.body ≡ body → FitsBody body s.blocks f.size → 128 < f.size
+stored_by : (s : Sizes) (disk : Blocks) (f : Inode) (body : Body) (i : ℕ) → f.body ≡ body → FitsBody f.layout body s.blocks f.size → 128 < f.size
     → body_block body ((held disk f).bytes 0 i) i ≡ pointed disk ((held disk f).place 0 i)
 unfolding held
 stored_by s disk f (Inline bytes) i is fits large = absurd (omega (arith, large, fits.0))
@@ -69,11 +71,11 @@ unfolding held
 whole_at disk f i Hole readable is = length-zeros 4096
 whole_at disk f i (Block b) readable is = ap (λ (p : Pointer). length (pointed disk p)) (sym is) ∙ readable i b is
 
-pub all_places : (disk : Blocks) (t : BlockTree) (places : PlaceMap) → AreNodes disk t.pointers (t.depth - 0) (nodes_at t.count 0) places → EndBefore (nodes_at t.count 0) places → ArePlaces disk t places
+pub all_places : (disk : Blocks) (t : BlockTree) (places : PlaceMap) → AreNodes t.layout disk t.pointers (t.depth - 0) (nodes_at t.layout t.count 0) places → EndBefore (nodes_at t.layout t.count 0) places → ArePlaces disk t places
 unfolding nodes_at
 all_places disk t places are end =
     let same : t.depth - 0 ≡ t.depth = omega arith in
-    (λ i low. are i low ∙ ap (λ (d : ℕ). place disk t.pointers d i) same, end)
+    (λ i low. are i low ∙ ap (λ (d : ℕ). place t.layout disk t.pointers d i) same, end)
 
 -- nothing is below a number of blocks
 pub none_below : (blocks : ℕ) (p : Pointer) → p ≡ Hole → PointsBelow blocks p

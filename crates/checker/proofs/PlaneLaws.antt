@@ -13,7 +13,7 @@ use Rattle.layout.specs.declared.kind.Kind.TheVariants.{InodeFile}
 use Rattle.layout.specs.declared.pointer.Pointer.{Pointer}
 use Rattle.layout.specs.declared.pointer.Pointer.TheVariants.{Block, Hole}
 use Rattle.layout.specs.declared.root.Root.{Root}
-use Rattle.layout.specs.declared.version.TheConstants.{VERSION}
+use Rattle.layout.specs.declared.trees.Layout.{Layout}
 use Rattle.images.specs.Nodes.{held}
 use Rattle.images.specs.Roots.{frozen_at, frozen_inode_file, inode_file_or_free, inode_under, slot, tree, whole}
 use Rattle.images.specs.Snapshots.{AreSnapshots, HasSnapshot}
@@ -133,55 +133,55 @@ active_top disk r = refl
 
 -- ---- what snapshots' root blocks tell
 
-frozen_is : (disk : Blocks) (r : Root) (k b : ℕ) → slot r (suc k) ≡ Block b → (tree_in (whole disk r) (suc k) 0).inode ≡ frozen_inode_file (disk b)
+frozen_is : (disk : Blocks) (r : Root) (k b : ℕ) → slot r (suc k) ≡ Block b → (tree_in (whole disk r) (suc k) 0).inode ≡ frozen_inode_file r.geometry.layout (disk b)
 unfolding whole tree inode_under held frozen_inode_file
-frozen_is disk r k b is = ap (λ (p : Pointer). (frozen_at disk r.geometry.inodes p 0).inode) is
+frozen_is disk r k b is = ap (λ (p : Pointer). (frozen_at disk r.geometry p 0).inode) is
 
 module _ (disk : Blocks) (r : Root) (are : AreSnapshots r (whole disk r)) where
   -- this name and inode of an inode file are those of the snapshot in slot k
   pub record IsOfSnapshot (k : ℕ) (f : SnapshotName × Inode) : Type 0 where
-    pub fits : IsInode VERSION r.geometry f.1
+    pub fits : IsInode r.geometry f.1
     pub top : (tree_in (whole disk r) k 0).inode ≡ f.1
     pub kind : f.1.kind ≡ InodeFile
     pub snapshot : Snapshot
     pub has : HasSnapshot r (whole disk r) k snapshot
     pub named : snapshot.name ≡ name_bytes f.0
 
-  told_none : (k : ℕ) (p : Pointer) → slot r (suc k) ≡ p → TellsSnapshot disk p None → HasTree r (suc k) → ⊥
+  told_none : (k : ℕ) (p : Pointer) → slot r (suc k) ≡ p → TellsSnapshot r.geometry.layout disk p None → HasTree r (suc k) → ⊥
   unfolding whole
   told_none k Hole is told has = (let there = has.1 in cc)
   told_none k (Block b) is told has =
       let one = are.each (suc k) b is in
-      told one.0 one.2.is (sym (ap (pointed disk) is) ∙ one.2.spelled)
+      told one.0 (record { is = one.2.is; layout_is = one.2.inode_file.layout; spelled = sym (ap (pointed disk) is) ∙ one.2.spelled })
 
-  pub no_tree : (k : ℕ) (p : Pointer) → slice_index_or r.snapshots k Hole ≡ p → TellsSnapshot disk p None → HasTree r (k + 1) → ⊥
+  pub no_tree : (k : ℕ) (p : Pointer) → slice_index_or r.snapshots k Hole ≡ p → TellsSnapshot r.geometry.layout disk p None → HasTree r (k + 1) → ⊥
   no_tree k p is told has = let next : k + 1 ≡ suc k = omega arith in told_none k p is told (subst (HasTree r) next has)
 
   told_some : (k : ℕ) (p : Pointer) (f : SnapshotName × Inode) → slot r (suc k) ≡ p
-      → TellsSnapshot disk p (Some f) → IsOfSnapshot (suc k) f
+      → TellsSnapshot r.geometry.layout disk p (Some f) → IsOfSnapshot (suc k) f
   unfolding whole frozen_inode_file
   told_some k Hole f is told = absurd (let same : Some f ≡ None = told in cc)
   told_some k (Block b) f is told =
       let one = are.each (suc k) b is in
-      let read : snapshot_in (disk b) ≡ Some one.0 =
-      ap (λ (p : Pointer). snapshot_in (pointed disk p)) (sym is) ∙ one.1.read in
-      let inode : frozen_inode_file (disk b) ≡ f.1 =
-      ap inode_file_or_free told.1 ∙ told.3 in
-      let at : frozen_inode_file (disk b) ≡ one.0.inode_file = ap inode_file_or_free read in record {
-        fits = subst (IsInode VERSION r.geometry) (sym at ∙ inode) one.2.inode_file;
+      let read : snapshot_in r.geometry.layout (disk b) ≡ Some one.0 =
+      ap (λ (p : Pointer). snapshot_in r.geometry.layout (pointed disk p)) (sym is) ∙ one.1.read in
+      let inode : frozen_inode_file r.geometry.layout (disk b) ≡ f.1 =
+      ap (inode_file_or_free r.geometry.layout) told.1 ∙ told.3 in
+      let at : frozen_inode_file r.geometry.layout (disk b) ≡ one.0.inode_file = ap (inode_file_or_free r.geometry.layout) read in record {
+        fits = subst (IsInode r.geometry) (sym at ∙ inode) one.2.inode_file;
         top = frozen_is disk r k b is ∙ inode;
         kind = ap (λ (x : Inode). x.kind) (sym inode ∙ at) ∙ one.2.is.kind;
         snapshot = told.0;
         has = record {
           block = b;
           there = is;
-          read = ap (λ (p : Pointer). snapshot_in (pointed disk p)) is ∙ told.1;
+          read = ap (λ (p : Pointer). snapshot_in r.geometry.layout (pointed disk p)) is ∙ told.1;
         };
         named = told.2;
       }
 
   pub snapshot_tree : (k : ℕ) (p : Pointer) (f : SnapshotName × Inode)
-      → slice_index_or r.snapshots k Hole ≡ p → TellsSnapshot disk p (Some f)
+      → slice_index_or r.snapshots k Hole ≡ p → TellsSnapshot r.geometry.layout disk p (Some f)
       → IsOfSnapshot (k + 1) f
   snapshot_tree k p f is told =
       let next : suc k ≡ k + 1 = omega arith in
@@ -193,6 +193,6 @@ module _ (disk : Blocks) (r : Root) (are : AreSnapshots r (whole disk r)) where
   tree_named k f of = (refl, of.snapshot, of.has, of.named)
 
 -- what was read of a slot
-pub told_of : (disk : Blocks) (p : Pointer) (o x : Option (SnapshotName × Inode)) → o ≡ x
-    → TellsSnapshot disk p o → TellsSnapshot disk p x
-told_of disk p o x is told = subst (TellsSnapshot disk p) is told
+pub told_of : (layout : Layout) (disk : Blocks) (p : Pointer) (o x : Option (SnapshotName × Inode)) → o ≡ x
+    → TellsSnapshot layout disk p o → TellsSnapshot layout disk p x
+told_of layout disk p o x is told = subst (TellsSnapshot layout disk p) is told

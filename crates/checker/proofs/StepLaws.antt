@@ -165,7 +165,7 @@ module _ (disk : Blocks) (r : Root) (tree : Tree) (n blocks : ℕ) (inode : Inod
 
   -- where its blocks were read, it can be read
   pub directory_readable : IsTreeOf disk r tree → IsTreeGrammar r.geometry t → inode ≡ (t n).inode → (t n).inode.kind ≡ kinds.Directory → file.size ≡ inode.size
-      → StartsFrom inode.body inode.size file.tree → StartsUnchanged inode.body file.tree → ((i : ℕ) → i < file.size / 4096 → IsSoundAt blocks disk file.tree i) → IsReadable (t n)
+      → StartsFrom inode.layout inode.body inode.size file.tree → StartsUnchanged inode.body file.tree → ((i : ℕ) → i < file.size / 4096 → IsSoundAt blocks disk file.tree i) → IsReadable (t n)
   unfolding held
   directory_readable is grammar same kind size starts unchanged sound =
       let here : t n ≡ held disk inode = number_is disk r tree n is ∙ ap (held disk) (sym same) in

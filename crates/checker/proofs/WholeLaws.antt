@@ -9,7 +9,8 @@ use Rattle.layout.specs.Limits.{AreSizes, Sizes}
 use Rattle.layout.specs.Maps.{IsTaken}
 use Rattle.layout.specs.Places.{Blocks, place, pointed}
 use Rattle.layout.specs.Root.{IsRoot}
-use Rattle.layout.specs.Version.{greatest_size, level_of}
+use Rattle.layout.specs.Trees.{level_of}
+use Rattle.layout.specs.Version.{greatest_under}
 use Rattle.layout.specs.declared.inode.Body.{Body}
 use Rattle.layout.specs.declared.inode.Body.TheVariants.{Inline, Pointers}
 use Rattle.layout.specs.declared.inode.Inode.{Inode}
@@ -18,7 +19,7 @@ use Rattle.layout.specs.declared.kind.Kind.TheVariants.{Free, InodeFile}
 use Rattle.layout.specs.declared.pointer.Pointer.{Pointer}
 use Rattle.layout.specs.declared.pointer.Pointer.TheVariants.{Block}
 use Rattle.layout.specs.declared.root.Root.{Root}
-use Rattle.layout.specs.declared.version.TheConstants.{VERSION}
+use Rattle.layout.specs.declared.trees.Layout.{Layout}
 use Rattle.images.specs.BlockMap.{HasBit, NamesOnce}
 use Rattle.images.specs.Faults.{IsTreeGrammar, MapsWithin}
 use Rattle.images.specs.Nodes.{Held, Names, file_block, held}
@@ -40,10 +41,10 @@ use Rattle.checker.specs.declared.tree.Tree.{Tree}
 pub tree_under : (disk : Blocks) (r : Root) (k : ℕ) → HasTree r k → (top : Inode) × (tree_in (whole disk r) k ≡ tree disk r.geometry.inodes top)
 unfolding whole
 tree_under disk r zero has = (r.inode_file, refl)
-tree_under disk r (suc k) has = (frozen_inode_file (disk has.0), ap (frozen_at disk r.geometry.inodes) has.1)
+tree_under disk r (suc k) has = (frozen_inode_file r.geometry.layout (disk has.0), ap (frozen_at disk r.geometry) has.1)
 
-free_names : (disk : Blocks) (m i b : ℕ) → (held disk free_inode).place m i ≡ Block b → ⊥
-free_names disk m i b is = free_named disk b (record { height = m; index = i; is = is })
+free_names : (layout : Layout) (disk : Blocks) (m i b : ℕ) → (held disk (free_inode layout)).place m i ≡ Block b → ⊥
+free_names layout disk m i b is = free_named layout disk b (record { height = m; index = i; is = is })
 
 free_kind : (n : ℕ) → 3 ≤ n → FitsNumber n Free
 free_kind zero le = absurd (omega (arith, le))
@@ -54,26 +55,26 @@ free_kind (suc (suc (suc n))) le = tt
 -- zeros behind the end of a file
 zeros_with : (s : Sizes) (d : Blocks) (f : Inode) (body : Body) (i : ℕ) → f.body ≡ body
     → ((detail : Detail) (s : Sizes) (d : Blocks) (f : Inode) (pointers : List Pointer) (i : ℕ) → IsHeldFile detail s (held d f) → f.body ≡ Pointers pointers
-    → file_block (held d f) i ≡ (if nat_lt i (div_ceil f.size 4096) then pointed d (place d pointers (level_of f.size - 1) i) else zeros 4096))
+    → file_block (held d f) i ≡ (if nat_lt i (div_ceil f.size 4096) then pointed d (place f.layout d pointers (level_of f.layout f.size - 1) i) else zeros 4096))
     → ((d : Blocks) (f : Inode) (bytes : List ℕ) (i : ℕ) → f.body ≡ Inline bytes → 1 ≤ i → file_block (held d f) i ≡ zeros 4096)
     → IsFileGrammar s (held d f) → 1 ≤ i → div_ceil f.size 4096 ≤ i → file_block (held d f) i ≡ zeros 4096
 zeros_with s d f (Inline bytes) i here led inline grammar some past = inline d f bytes i here some
 zeros_with s d f (Pointers pointers) i here led inline grammar some past =
     led by_sizes s d f pointers i grammar here
-    ∙ ap (λ (b : Bool). if b then pointed d (place d pointers (level_of f.size - 1) i) else zeros 4096) (le-ltb i (div_ceil f.size 4096) past)
+    ∙ ap (λ (b : Bool). if b then pointed d (place f.layout d pointers (level_of f.layout f.size - 1) i) else zeros 4096) (le-ltb i (div_ceil f.size 4096) past)
 
 zeros_behind : (s : Sizes) (d : Blocks) (f : Inode) (i : ℕ)
     → ((detail : Detail) (s : Sizes) (d : Blocks) (f : Inode) (pointers : List Pointer) (i : ℕ) → IsHeldFile detail s (held d f) → f.body ≡ Pointers pointers
-    → file_block (held d f) i ≡ (if nat_lt i (div_ceil f.size 4096) then pointed d (place d pointers (level_of f.size - 1) i) else zeros 4096))
+    → file_block (held d f) i ≡ (if nat_lt i (div_ceil f.size 4096) then pointed d (place f.layout d pointers (level_of f.layout f.size - 1) i) else zeros 4096))
     → ((d : Blocks) (f : Inode) (bytes : List ℕ) (i : ℕ) → f.body ≡ Inline bytes → 1 ≤ i → file_block (held d f) i ≡ zeros 4096)
     → IsFileGrammar s (held d f) → 1 ≤ i → div_ceil f.size 4096 ≤ i → file_block (held d f) i ≡ zeros 4096
 zeros_behind s d f i led inline grammar some past = zeros_with s d f f.body i refl led inline grammar some past
 
 module _ (disk : Blocks) (s : Sizes) (are : AreSizes s) (top : Inode) (t : HeldTree) (is : t ≡ tree disk s.inodes top) (spells : SpellTrees) (ends : EndTrees)
     (led : (detail : Detail) (s : Sizes) (d : Blocks) (f : Inode) (pointers : List Pointer) (i : ℕ) → IsHeldFile detail s (held d f) → f.body ≡ Pointers pointers
-    → file_block (held d f) i ≡ (if nat_lt i (div_ceil f.size 4096) then pointed d (place d pointers (level_of f.size - 1) i) else zeros 4096))
+    → file_block (held d f) i ≡ (if nat_lt i (div_ceil f.size 4096) then pointed d (place f.layout d pointers (level_of f.layout f.size - 1) i) else zeros 4096))
     (inline : (d : Blocks) (f : Inode) (bytes : List ℕ) (i : ℕ) → f.body ≡ Inline bytes → 1 ≤ i → file_block (held d f) i ≡ zeros 4096)
-    (fits : IsInode VERSION s top) (kind : top.kind ≡ InodeFile) where
+    (fits : IsInode s top) (kind : top.kind ≡ InodeFile) where
   first : t 0 ≡ held disk top
   unfolding tree inode_under held
   first = ap (λ (x : HeldTree). x 0) is
@@ -82,13 +83,15 @@ module _ (disk : Blocks) (s : Sizes) (are : AreSizes s) (top : Inode) (t : HeldT
   unfolding held
   inode_is i = refl
 
-  past : (n : ℕ) → s.inodes ≤ n → t n ≡ held disk free_inode
-  past n le = ap (λ (x : HeldTree). x n) is ∙ ends disk s.inodes top n (omega (arith, are.least_inodes)) le
+  past : (n : ℕ) → s.inodes ≤ n → t n ≡ held disk (free_inode s.layout)
+  past n le =
+      ap (λ (x : HeldTree). x n) is ∙ ends disk s.inodes top n (omega (arith, are.least_inodes)) le
+      ∙ ap (λ (l : Layout). held disk (free_inode l)) fits.layout
 
   names_below : (n b : ℕ) → Names (t n) b → n < s.inodes
   names_below n b names = elim (cases_lt n s.inodes) [
     | inl low ↦ low
-    | inr le ↦ absurd (free_named disk b (subst (λ (h : Held). Names h b) (past n le) names))
+    | inr le ↦ absurd (free_named s.layout disk b (subst (λ (h : Held). Names h b) (past n le) names))
   ]
 
   before : (n places : ℕ) → s.inodes ≤ places → n < s.inodes → IsBefore places n
@@ -102,7 +105,7 @@ module _ (disk : Blocks) (s : Sizes) (are : AreSizes s) (top : Inode) (t : HeldT
       apart = λ n m b one other. marked.apart n m b (before n places most (names_below n b one)) (before m places most (names_below m b other)) one other;
       each = λ n. elim (cases_lt n s.inodes) [
         | inl low ↦ marked.each n (before n places most low)
-        | inr le ↦ λ m i l j b one other. absurd (free_names disk m i b (ap (λ (h : Held). h.place m i) (sym (past n le)) ∙ one))
+        | inr le ↦ λ m i l j b one other. absurd (free_names s.layout disk m i b (ap (λ (h : Held). h.place m i) (sym (past n le)) ∙ one))
       ];
     }
 
@@ -114,10 +117,10 @@ module _ (disk : Blocks) (s : Sizes) (are : AreSizes s) (top : Inode) (t : HeldT
 
   -- ---- the grammar
 
-  free_grammar : IsFileGrammar s (held disk free_inode)
+  free_grammar : IsFileGrammar s (held disk (free_inode s.layout))
   free_grammar = record {
-    inode = subst (IsInode VERSION s) (sym (inode_is free_inode)) (free_fits s);
-    indirect = λ m i b here. absurd (free_names disk (suc m) i b here);
+    inode = subst (IsInode s) (sym (inode_is (free_inode s.layout))) (free_fits s);
+    indirect = λ m i b here. absurd (free_names s.layout disk (suc m) i b here);
     bytes = tt;
   }
 
@@ -131,17 +134,17 @@ module _ (disk : Blocks) (s : Sizes) (are : AreSizes s) (top : Inode) (t : HeldT
       | inr le ↦ subst (IsFileGrammar s) (sym (past n le)) free_grammar
     ]
 
-    at : (n : ℕ) → n < s.inodes → IsInodeAt VERSION s n (inode_bytes_at (file_block (t 0)) n)
+    at : (n : ℕ) → n < s.inodes → IsInodeAt version s n (inode_bytes_at (file_block (t 0)) n)
     at n low = inodes.spelled n (omega (arith, most, low))
 
     own : (n : ℕ) (some : 1 ≤ n) (low : n < s.inodes) → (t n).inode ≡ (at n low).inode
     own n some low =
         let spelled = ap (λ (h : Held). inode_bytes_at (file_block h) n) (sym first) ∙ (at n low).spelled in
-        ap (λ (h : Held). h.inode) (ap (λ (x : HeldTree). x n) is ∙ spells s disk top (at n low).inode n are some low (at n low).is spelled) ∙ inode_is (at n low).inode
+        ap (λ (h : Held). h.inode) (ap (λ (x : HeldTree). x n) is ∙ spells s disk top (at n low).inode n are fits.layout some low (at n low).is spelled) ∙ inode_is (at n low).inode
 
     kinds_all : (n : ℕ) → FitsNumber n (t n).inode.kind
     kinds_all n = elim (cases_lt n s.inodes) [
-      | inr le ↦ subst (λ (i : Inode). FitsNumber n i.kind) (sym (ap (λ (h : Held). h.inode) (past n le) ∙ inode_is free_inode)) (free_kind n (omega (arith, le, are.least_inodes)))
+      | inr le ↦ subst (λ (i : Inode). FitsNumber n i.kind) (sym (ap (λ (h : Held). h.inode) (past n le) ∙ inode_is (free_inode s.layout))) (free_kind n (omega (arith, le, are.least_inodes)))
       | inl low ↦ elim (cases_lt 0 n) [
         | inl some ↦ subst (λ (i : Inode). FitsNumber n i.kind) (sym (own n some low)) ((at n low).kind.number some low)
         | inr none ↦
@@ -151,7 +154,7 @@ module _ (disk : Blocks) (s : Sizes) (are : AreSizes s) (top : Inode) (t : HeldT
     ]
 
     free_at : (n : ℕ) (low : n < 21 * div_ceil s.inodes 21) → (inodes.spelled n low).inode.kind ≡ Free → inode_bytes_at (file_block (t 0)) n ≡ zeros 192
-    free_at n low free = (inodes.spelled n low).spelled ∙ ap inode_bytes (free_is s (inodes.spelled n low).inode (inodes.spelled n low).is free) ∙ free_bytes
+    free_at n low free = (inodes.spelled n low).spelled ∙ ap inode_bytes (free_is s (inodes.spelled n low).inode (inodes.spelled n low).is free) ∙ free_bytes s.layout
 
     -- behind the last block of the inode file there are zeros
     behind_all : (i : ℕ) → div_ceil s.inodes 21 ≤ i → file_block (t 0) i ≡ zeros 4096
@@ -186,7 +189,7 @@ module _ (disk : Blocks) (s : Sizes) (are : AreSizes s) (top : Inode) (t : HeldT
     pub within_all : IsWithin version t
     within_all n = elim (cases_lt n s.inodes) [
       | inl low ↦ inodes.within n (before n (21 * div_ceil s.inodes 21) most low)
-      | inr le ↦ subst (λ (i : Inode). i.size ≤ greatest_size version) (sym (ap (λ (h : Held). h.inode) (past n le) ∙ inode_is free_inode)) (omega arith)
+      | inr le ↦ subst (λ (i : Inode). i.size ≤ greatest_under version) (sym (ap (λ (h : Held). h.inode) (past n le) ∙ inode_is (free_inode s.layout))) (omega arith)
     ]
 
     pub mapped_all : AreMapped t numbers (21 * div_ceil s.inodes 21) → MapsNumbers t
@@ -195,7 +198,7 @@ module _ (disk : Blocks) (s : Sizes) (are : AreSizes s) (top : Inode) (t : HeldT
         subst (λ (xs : List ℕ). IsTaken xs n ↔ ((n < 4) ⊎ ((t n).inode.kind ≢ Free))) bytes (elim (cases_lt n s.inodes) [
           | inl low ↦ mapped n (omega (arith, most, low))
           | inr le ↦
-              let free : (t n).inode.kind ≡ Free = ap (λ (h : Held). h.inode.kind) (past n le) ∙ ap (λ (i : Inode). i.kind) (inode_is free_inode) in (
+              let free : (t n).inode.kind ≡ Free = ap (λ (h : Held). h.inode.kind) (past n le) ∙ ap (λ (i : Inode). i.kind) (inode_is (free_inode s.layout)) in (
                 λ taken. absurd (maps.within.past n le taken),
                 λ either. elim either [ inl low ↦ absurd (omega (arith, low, le, are.least_inodes)) | inr used ↦ absurd (used free) ],
               )
@@ -228,7 +231,7 @@ out_number (Some (faults.Log found)) out lt = out
 
 module _ (disk : Blocks) (r : Root) (is_root : IsRoot r) (spells : SpellTrees) (ends : EndTrees)
     (led : (detail : Detail) (s : Sizes) (d : Blocks) (f : Inode) (pointers : List Pointer) (i : ℕ) → IsHeldFile detail s (held d f) → f.body ≡ Pointers pointers
-    → file_block (held d f) i ≡ (if nat_lt i (div_ceil f.size 4096) then pointed d (place d pointers (level_of f.size - 1) i) else zeros 4096))
+    → file_block (held d f) i ≡ (if nat_lt i (div_ceil f.size 4096) then pointed d (place f.layout d pointers (level_of f.layout f.size - 1) i) else zeros 4096))
     (inline : (d : Blocks) (f : Inode) (bytes : List ℕ) (i : ℕ) → f.body ≡ Inline bytes → 1 ≤ i → file_block (held d f) i ≡ zeros 4096)
     (marks : List ℕ) (shared : List (Option Shared)) (t : Tree)
     (seen : IsSeenTo disk r (div_ceil r.geometry.inodes 21) (21 * div_ceil r.geometry.inodes 21) marks shared t) where
@@ -248,12 +251,12 @@ module _ (disk : Blocks) (r : Root) (is_root : IsRoot r) (spells : SpellTrees) (
 
   pub grammar_seen : (IsOut t.fault → ⊥) → IsTreeGrammar r.geometry (tree_in (whole disk r) t.plane)
   grammar_seen whole_tree =
-      grammar_all disk r.geometry is_root.head.sizes top_of (tree_in (whole disk r) t.plane) is_under spells ends led inline (subst (IsInode VERSION r.geometry) top_is seen.tree.fits)
+      grammar_all disk r.geometry is_root.head.sizes top_of (tree_in (whole disk r) t.plane) is_under spells ends led inline (subst (IsInode r.geometry) top_is seen.tree.fits)
       (ap (λ (i : Inode). i.kind) (sym top_is) ∙ seen.tree.kind) r.version t.numbers.items (seen.maps whole_tree) (seen.inodes whole_tree)
 
   pub within_seen : (IsOut t.fault → ⊥) → IsWithin r.version (tree_in (whole disk r) t.plane)
   within_seen whole_tree =
-      within_all disk r.geometry is_root.head.sizes top_of (tree_in (whole disk r) t.plane) is_under spells ends led inline (subst (IsInode VERSION r.geometry) top_is seen.tree.fits)
+      within_all disk r.geometry is_root.head.sizes top_of (tree_in (whole disk r) t.plane) is_under spells ends led inline (subst (IsInode r.geometry) top_is seen.tree.fits)
       (ap (λ (i : Inode). i.kind) (sym top_is) ∙ seen.tree.kind) r.version t.numbers.items (seen.maps whole_tree) (seen.inodes whole_tree)
 
   -- it is seen, with this fault
@@ -263,7 +266,7 @@ module _ (disk : Blocks) (r : Root) (is_root : IsRoot r) (spells : SpellTrees) (
       let marked = λ (is : IsApart f). seen.marked (out (λ is_out. out_number f is_out is)) (apart is) in
       let sizes = is_root.head.sizes in
       let under = tree_in (whole disk r) t.plane in
-      let fits = subst (IsInode VERSION r.geometry) top_is seen.tree.fits in
+      let fits = subst (IsInode r.geometry) top_is seen.tree.fits in
       let kind = ap (λ (i : Inode). i.kind) (sym top_is) ∙ seen.tree.kind in
       record {
         tree = record { has = seen.tree.has; named = seen.tree.named; top = seen.tree.top; fits = seen.tree.fits; kind = seen.tree.kind; file = seen.tree.file };

@@ -3,8 +3,10 @@ use Rattle.std.specs.Prelude.{ℕ, suc, ◌≡◌, ◌↔◌, ◌⊎◌, ◌-◌
 use Rattle.layout.specs.Maps.{IsIndirectBlock}
 use Rattle.layout.specs.Places.{Blocks, follow}
 use Rattle.layout.specs.Limits.{Sizes}
+use Rattle.layout.specs.Trees.{fan_out}
 use Rattle.layout.specs.declared.inode.Inode.{Inode}
 use Rattle.layout.specs.declared.pointer.Pointer.TheVariants.{Block}
+use Rattle.layout.specs.declared.trees.Layout.{Layout}
 use Rattle.blocktree.specs.Names.{nodes_at}
 use Rattle.images.specs.BlockMap.{HasBit}
 use Rattle.images.specs.Soundness.{IsFileGrammar}
@@ -17,12 +19,13 @@ use Rattle.checker.specs.declared.fault.TreeFault.{TreeFault}
 use Rattle.checker.specs.declared.nodes.Shared.{Shared}
 
 -- node i at height m is the one at this height and index, or stands under it
-abbrev pub IsUnder : ℕ → ℕ → ℕ → ℕ → Type 0
-IsUnder height index m i = (m ≤ height) × (i / 1024 ^ (height - m) ≡ index)
+abbrev pub IsUnder : Layout → ℕ → ℕ → ℕ → ℕ → Type 0
+IsUnder layout height index m i = (m ≤ height) × (i / fan_out layout ^ (height - m) ≡ index)
 
 -- node i at height m is one of those at a height from one to another, or stands under them
-abbrev pub IsAmong : ℕ → ℕ → ℕ → ℕ → ℕ → Type 0
-IsAmong height low high m i = (m ≤ height) × (low ≤ i / 1024 ^ (height - m)) × (i / 1024 ^ (height - m) < high)
+abbrev pub IsAmong : Layout → ℕ → ℕ → ℕ → ℕ → ℕ → Type 0
+IsAmong layout height low high m i =
+    (m ≤ height) × (low ≤ i / fan_out layout ^ (height - m)) × (i / fan_out layout ^ (height - m) < high)
 
 -- it is this node
 abbrev pub IsAt : FileNode → ℕ → ℕ → Type 0
@@ -89,21 +92,22 @@ MarksFile disk s inode number bits old new before after (Err (halts.Fault fault)
     (IsFileGrammar s (held disk inode) → ⊥) × (found : TreeFault) × (fault ≡ faults.Tree found)
 
 -- each node of a file below a height stands where the one over it leads to
-abbrev pub HasNodes : Blocks → Held → ℕ → Type 0
-HasNodes disk h height =
-    (m i : ℕ) → m < height → h.place m i ≡ follow disk (h.place (suc m) (i / 1024)) (i % 1024)
+abbrev pub HasNodes : Layout → Blocks → Held → ℕ → Type 0
+HasNodes layout disk h height =
+    (m i : ℕ) → m < height
+    → h.place m i ≡ follow disk (h.place (suc m) (i / fan_out layout)) (i % fan_out layout)
 
 -- the indirect blocks of a file of so many blocks that are nodes told by S are in their grammar
-abbrev pub AreIndirect : ℕ → Blocks → Held → ℕ → (ℕ → ℕ → Type 0) → Type 0
-AreIndirect blocks disk h count S =
+abbrev pub AreIndirect : Layout → ℕ → Blocks → Held → ℕ → (ℕ → ℕ → Type 0) → Type 0
+AreIndirect layout blocks disk h count S =
     (m i b : ℕ) → S (suc m) i → h.place (suc m) i ≡ Block b
-    → IsIndirectBlock blocks (nodes_at count m - 1024 * i) (disk b)
+    → IsIndirectBlock layout blocks (nodes_at layout count m - fan_out layout * i) (disk b)
 
 -- the nodes of a file of so many blocks that are told by S were looked at
-abbrev pub MarksThese : ℕ → Blocks → Held → (ℕ → ℕ → Type 0) → ℕ → ℕ → ℕ → List ℕ → List ℕ → List (Option Shared) → List (Option Shared) → Result (Unit {0}) CheckEnd → Type 0
-MarksThese blocks disk h S number count bits old new before after (Ok done) =
-    MarksFor h S number bits old new before after × AreIndirect blocks disk h count S
-MarksThese blocks disk h S number count bits old new before after (Err halts.NoMemory) = Unit {0}
-MarksThese blocks disk h S number count bits old new before after (Err halts.Device) = Unit {0}
-MarksThese blocks disk h S number count bits old new before after (Err (halts.Fault fault)) =
-    (AreIndirect blocks disk h count S → ⊥) × (found : TreeFault) × (fault ≡ faults.Tree found)
+abbrev pub MarksThese : Layout → ℕ → Blocks → Held → (ℕ → ℕ → Type 0) → ℕ → ℕ → ℕ → List ℕ → List ℕ → List (Option Shared) → List (Option Shared) → Result (Unit {0}) CheckEnd → Type 0
+MarksThese layout blocks disk h S number count bits old new before after (Ok done) =
+    MarksFor h S number bits old new before after × AreIndirect layout blocks disk h count S
+MarksThese layout blocks disk h S number count bits old new before after (Err halts.NoMemory) = Unit {0}
+MarksThese layout blocks disk h S number count bits old new before after (Err halts.Device) = Unit {0}
+MarksThese layout blocks disk h S number count bits old new before after (Err (halts.Fault fault)) =
+    (AreIndirect layout blocks disk h count S → ⊥) × (found : TreeFault) × (fault ≡ faults.Tree found)

@@ -5,7 +5,6 @@ use Rattle.layout.specs.Limits.{Sizes}
 use Rattle.layout.specs.Places.{Blocks, pointed}
 use Rattle.layout.specs.declared.TheConstants.{INODES_PER_BLOCK}
 use Rattle.layout.specs.declared.inode.Inode.{Inode}
-use Rattle.layout.specs.declared.version.TheConstants.{VERSION}
 use Rattle.buffers.specs.Disks.{IsWhole}
 use Rattle.blocktree.specs.Names.{AreNodes}
 use Rattle.blocktree.specs.PlaceMaps.{EndBefore, place_at}
@@ -18,7 +17,7 @@ use Rattle.checker.specs.declared.table.NumberTable.{NumberTable}
 -- where an inode of a number stands at these places, a row has what it has, and no name yet
 pub record IsRowAt (disk : Blocks) (places : PlaceMap) (n : ℕ) (row : NumberRow) : Type 0 where
   pub unnamed : row.names ≡ 0
-  pub inode : (s : Sizes) (i : Inode) → IsInode VERSION s i → IsWhole (pointed disk (place_at places (n / INODES_PER_BLOCK)))
+  pub inode : (s : Sizes) (i : Inode) → IsInode s i → IsWhole (pointed disk (place_at places (n / INODES_PER_BLOCK)))
       → inode_part (pointed disk (place_at places (n / INODES_PER_BLOCK))) (n % INODES_PER_BLOCK) ≡ inode_bytes i
       → (row.kind ≡ i.kind) × (row.links ≡ i.links)
 
@@ -33,4 +32,4 @@ IsKnown disk (Some known) = AreRowsAt disk known.places known.rows.items
 
 -- these are the places of all settled blocks of a tree
 abbrev pub ArePlaces : (ℕ → List ℕ) → BlockTree → PlaceMap → Type 0
-ArePlaces disk t places = AreNodes disk t.pointers t.depth t.count places × EndBefore t.count places
+ArePlaces disk t places = AreNodes t.layout disk t.pointers t.depth t.count places × EndBefore t.count places

@@ -6,15 +6,15 @@ use Rattle.layout.specs.Maps.{IsTaken}
 use Rattle.layout.specs.Root.{IsRoot}
 use Rattle.layout.specs.Places.{Blocks}
 use Rattle.layout.specs.Limits.{Sizes}
-use Rattle.layout.specs.Version.{greatest_size}
+use Rattle.layout.specs.Version.{greatest_under}
 use Rattle.layout.specs.declared.TheConstants.{BLOCK_BYTES, INODE_BYTES, INODES_PER_BLOCK}
 use Rattle.layout.specs.declared.kind.Kind.TheVariants.{Free, InodeFile}
-use Rattle.layout.specs.SnapRoot.{IsSnapshot, Snapshot, snapshot_bytes, snapshot_in}
+use Rattle.layout.specs.SnapRoot.{Snapshot, snapshot_in}
 use Rattle.layout.specs.declared.inode.Inode.{Inode}
 use Rattle.layout.specs.declared.pointer.Pointer.{Pointer}
 use Rattle.layout.specs.declared.pointer.Pointer.TheVariants.{Block, Hole}
 use Rattle.layout.specs.declared.root.Root.{Root}
-use Rattle.layout.specs.declared.version.TheConstants.{VERSION}
+use Rattle.layout.specs.declared.trees.Layout.{Layout}
 use Rattle.model.specs.declared.limits.TheConstants.{FIRST_NUMBER}
 use Rattle.images.specs.BlockMap.{HasBit, NamesOnce}
 use Rattle.images.specs.Contents.{content_bytes, content_of}
@@ -25,6 +25,7 @@ use Rattle.images.specs.Soundness.{IsFileGrammar, IsReadable, IsWithin, MapsNumb
 use Rattle.loading.specs.Images.{IsFileOfInode}
 use Rattle.loading.specs.InodeBlocks.{IsInodeAt}
 use Rattle.loading.specs.Snapshots.{AreApartAt, IsSnapshotAt}
+use Rattle.loading.specs.Snapshots as stored
 use Rattle.checker.specs.Findings.{HasTree, IsFindingUnder, IsNamedTree, IsTreeFinding, StandsIn, name_bytes, tree_in}
 use Rattle.checker.specs.Nodes.{SharesNone}
 use Rattle.checker.specs.declared.nodes.Shared.{Shared}
@@ -41,7 +42,7 @@ pub record IsTreeOf (disk : Blocks) (r : Root) (t : Tree) : Type 0 where
   pub has : HasTree r t.plane
   pub named : IsNamedTree r (whole disk r) t.name t.plane
   pub top : (tree_in (whole disk r) t.plane 0).inode ≡ t.top
-  pub fits : IsInode VERSION r.geometry t.top
+  pub fits : IsInode r.geometry t.top
   pub kind : t.top.kind ≡ InodeFile
   pub file : IsFileOfInode t.top t.file
 
@@ -105,8 +106,8 @@ IsBefore places m = (m ≡ 0) ⊎ (m < places)
 -- so many of its blocks zeros stand
 pub record HasInodes (version : ℕ) (s : Sizes) (t : HeldTree) (blocks places : ℕ) : Type 0 where
   pub files : (m : ℕ) → IsBefore places m → IsFileGrammar s (t m)
-  pub within : (m : ℕ) → IsBefore places m → (t m).inode.size ≤ greatest_size version
-  pub spelled : (m : ℕ) → m < places → IsInodeAt VERSION s m (inode_bytes_at (file_block (t 0)) m)
+  pub within : (m : ℕ) → IsBefore places m → (t m).inode.size ≤ greatest_under version
+  pub spelled : (m : ℕ) → m < places → IsInodeAt version s m (inode_bytes_at (file_block (t 0)) m)
   pub behind : (i : ℕ) → i < blocks
       → drop (INODE_BYTES * INODES_PER_BLOCK) (file_block (t 0) i)
       ≡ zeros (BLOCK_BYTES - INODE_BYTES * INODES_PER_BLOCK)
@@ -173,15 +174,18 @@ HasEnded disk r marks t = IsSeen disk r marks t × (t.fault ≡ None → IsFault
 abbrev pub TellsSlot : Blocks → Root → ℕ → Option Fault → Type 0
 TellsSlot disk r k None =
     IsSnapshotAt r.geometry r.generation disk (slice_index_or r.snapshots k Hole)
-    × ((l : ℕ) → l < k → AreApartAt disk (slice_index_or r.snapshots l Hole) (slice_index_or r.snapshots k Hole))
+    × ((l : ℕ) → l < k
+    → AreApartAt r.geometry.layout disk (slice_index_or r.snapshots l Hole)
+    (slice_index_or r.snapshots k Hole))
 TellsSlot disk r k (Some fault) = (nvram : List ℕ) → IsFindingUnder r (whole disk r) nvram Image fault
 
--- the name of a snapshot and the inode of its inode file, where one stands at a pointer
-abbrev pub TellsSnapshot : Blocks → Pointer → Option (SnapshotName × Inode) → Type 0
-TellsSnapshot disk Hole found = found ≡ None
-TellsSnapshot disk (Block b) None = (s : Snapshot) → IsSnapshot s → disk b ≡ snapshot_bytes s → ⊥
-TellsSnapshot disk (Block b) (Some found) =
-    (s : Snapshot) × (snapshot_in (disk b) ≡ Some s)
+-- the name of a snapshot and the inode of its inode file, where one stands at a pointer in an image
+-- of this layout
+abbrev pub TellsSnapshot : Layout → Blocks → Pointer → Option (SnapshotName × Inode) → Type 0
+TellsSnapshot layout disk Hole found = found ≡ None
+TellsSnapshot layout disk (Block b) None = (s : Snapshot) → stored.IsRootOf layout s (disk b) → ⊥
+TellsSnapshot layout disk (Block b) (Some found) =
+    (s : Snapshot) × (snapshot_in layout (disk b) ≡ Some s)
     × (s.name ≡ name_bytes found.0) × (s.inode_file ≡ found.1)
 
 -- a tree's inode file and maps were read

@@ -1,8 +1,8 @@
 //! The directories of a tree: what they name, what is reached, and how many names each file has.
 
 ghost use Rattle.std.specs.Prelude.{◌≡◌, ◌↔◌, ◌<◌, ◌≤◌, ◌^◌, ℕ, List, Err, IfOk, IsTrue, None, vec_len};
-ghost use Rattle.layout.specs.Version.{greatest_size};
-ghost use Rattle.layout.specs.declared.version.TheConstants.{VERSION};
+ghost use Rattle.layout.specs.Trees.{greatest_size};
+ghost use Rattle.layout.specs.declared.trees.Layout.TheVariants.{Summed};
 ghost use Rattle.layout.specs.declared.root.Root.{Root};
 ghost use Rattle.images.specs.Faults.{HoldsGraph, HoldsNames};
 ghost use Rattle.images.specs.Roots.{whole};
@@ -136,7 +136,7 @@ fn look_into<B: UncachedReads>(
     requires table { vec_len table.old ≡ geometry.inodes }
     ensures reads { ReadsForFaults B.Blocks IsCheckEndFault blocks.old blocks.new result }
     ensures goes { GoesOn table.old.items found.old.items table.new.items found.new.items }
-    ensures size { IfOk result (λ size. size ≤ greatest_size VERSION) }
+    ensures size { IfOk result (λ size. size ≤ greatest_size Summed) }
     ensures looked { (disk : ℕ → List ℕ) (r : Root) (e : Entries) (count : ℕ)
         → B.Shows blocks.old disk → IsTreeAt disk r geometry (B.count blocks.old) tree.now
         → LooksInto r.geometry (tree_in (whole disk r) tree.now.plane) e count found.old.items table.old.items

@@ -1,13 +1,13 @@
 //! The nodes of a file: each is marked, and each indirect block tested.
 
-ghost use Rattle.std.specs.Prelude.{◌≡◌, IfOk, IsFalse, IsTrue, ◌+◌, ◌-◌, ◌*◌, ◌^◌, ◌<◌, ◌≤◌, ℕ, List, None, Some, length, slice_index_or};
+ghost use Rattle.std.specs.Prelude.{◌≡◌, IfOk, IsFalse, IsTrue, ◌+◌, ◌-◌, ◌*◌, ◌^◌, ◌<◌, ◌≤◌, ℕ, List, None, Some, length, min, slice_index_or};
 ghost use Rattle.std.specs.Int.{div_ceil};
 ghost use Rattle.layout.specs.Inode.{IsInode};
 ghost use Rattle.layout.specs.Limits.{Sizes};
 ghost use Rattle.layout.specs.Maps.{IsIndirectBlock, indirect_pointer};
 ghost use Rattle.layout.specs.Pointer.{PointsBelow};
-ghost use Rattle.layout.specs.Version.{greatest_size, level_of};
-ghost use Rattle.layout.specs.declared.version.TheConstants.{VERSION};
+ghost use Rattle.layout.specs.Trees.{fan_out, greatest_size, level_of};
+ghost use Rattle.layout.specs.declared.trees.Layout.{Layout};
 ghost use Rattle.blocktree.specs.Names.{nodes_at};
 ghost use Rattle.checker.specs.Errors.{IsFault, IsCheckEndFault, ReadsForFaults};
 ghost use Rattle.images.specs.BlockMap.{HasBit};
@@ -20,8 +20,8 @@ use crate::uncached_reads::read_into;
 use crate::{CheckError, Fault, FileNode, TreeFault, UncachedReads};
 use buffers::Block;
 use layout::{
-    BLOCK_BYTES, BLOCK_POINTERS, BODY_POINTERS, BlockNumber, Body, Inode, Pointer, SNAPSHOT_SLOTS,
-    indirect_pointer, is_indirect_block, level_of,
+    BLOCK_BYTES, BODY_POINTERS, BlockNumber, Body, Inode, Layout, Pointer, SNAPSHOT_SLOTS,
+    indirect_pointer, is_indirect_block,
 };
 use std::alloc::{AllocError, Global};
 
@@ -29,14 +29,18 @@ use std::alloc::{AllocError, Global};
 /// of snapshots.
 pub(crate) const PLANES: usize = SNAPSHOT_SLOTS + 1;
 
-/// Nodes under one indirect block.
-const GROUP: u32 = BLOCK_POINTERS as u32;
-
 /// A block that a tree names twice, and the node that it stood for the second time.
 #[derive(Clone, Copy, Debug)]
 pub(crate) struct Shared {
     pub(crate) block: u32,
     pub(crate) second: FileNode,
+}
+
+/// What says how many nodes a file has: the layout of its tree, and how many blocks it has.
+#[derive(Clone, Copy, Debug)]
+struct Shape {
+    layout: Layout,
+    count: u32,
 }
 
 /// What the trees name twice, each its first such block; and memory for a block that is looked
@@ -90,52 +94,54 @@ pub(crate) fn mark_file<B: UncachedReads>(
     marks: &mut Marks,
     shared: &mut SharedBlocks,
 ) -> Result<(), CheckEnd>
-    requires fits { (s : Sizes) × (s.blocks ≡ B.count blocks.old) × IsInode VERSION s inode.now }
+    requires fits { (s : Sizes) × (s.blocks ≡ B.count blocks.old) × IsInode s inode.now }
     requires table { length marks.old ≡ B.count blocks.old }
     requires planes { (k : ℕ) → HasBit k bits → k < PLANES }
     ensures reads { ReadsForFaults B.Blocks IsCheckEndFault blocks.old blocks.new result }
     ensures keeps { KeepsMarks bits marks.old marks.new shared.old.of shared.new.of }
     ensures marked { (disk : ℕ → List ℕ) (s : Sizes) → B.Shows blocks.old disk
-        → s.blocks ≡ B.count blocks.old → IsInode VERSION s inode.now
+        → s.blocks ≡ B.count blocks.old → IsInode s inode.now
         → MarksFile disk s inode.now number bits marks.old marks.new shared.old.of shared.new.of result }
 {
     let Body::Pointers(pointers) = &inode.body else {
         return Ok(());
     };
-    let count = block_count(inode.size);
-    let height = top_height(inode.size);
+    let count = block_count(inode);
+    let layout = inode.layout;
+    let shape = Shape { layout, count };
+    let height = top_height(inode);
     for i in 0..BODY_POINTERS {
         let node = FileNode {
             number,
             height,
             index: i as u32,
         };
-        mark_top(blocks, pointers[i], node, count, bits, marks, shared)?;
+        mark_top(blocks, pointers[i], node, shape, bits, marks, shared)?;
     }
     Ok(())
 }
 
-/// How many blocks a file of so many bytes has.
-fn block_count(size: u64) -> u32
-    requires { size ≤ greatest_size VERSION }
-    ensures { result ≡ div_ceil size 4096 }
+/// How many blocks the file of an inode has.
+fn block_count(inode: &Inode) -> u32
+    requires { inode.now.size ≤ greatest_size inode.now.layout }
+    ensures { result ≡ div_ceil inode.now.size 4096 }
 {
-    size.div_ceil(4096) as u32
+    inode.size.div_ceil(4096) as u32
 }
 
 /// The height of the nodes that the inode's pointers lead to.
-fn top_height(size: u64) -> u32
-    ensures { result ≡ level_of size - 1 }
+fn top_height(inode: &Inode) -> u32
+    ensures { result ≡ level_of inode.now.layout inode.now.size - 1 }
 {
-    u32::from(level_of(size).saturating_sub(1))
+    u32::from(inode.layout.level_of(inode.size).saturating_sub(1))
 }
 
-/// Marks the node at a pointer of an inode, of a file of so many blocks, and those below it.
+/// Marks the node at a pointer of an inode, of a file of this shape, and those below it.
 fn mark_top<B: UncachedReads>(
     blocks: &mut B,
     pointer: Pointer,
     node: FileNode,
-    count: u32,
+    shape: Shape,
     bits: u32,
     marks: &mut Marks,
     shared: &mut SharedBlocks,
@@ -146,9 +152,9 @@ fn mark_top<B: UncachedReads>(
     ensures reads { ReadsForFaults B.Blocks IsCheckEndFault blocks.old blocks.new result }
     ensures keeps { KeepsMarks bits marks.old marks.new shared.old.of shared.new.of }
     ensures marked { (disk : ℕ → List ℕ) (h : Held) → B.Shows blocks.old disk
-        → h.place node.height node.index ≡ pointer → HasNodes disk h node.height
-        → MarksThese (B.count blocks.old) disk h (IsUnder node.height node.index) node.number count bits
-        marks.old marks.new shared.old.of shared.new.of result }
+        → h.place node.height node.index ≡ pointer → HasNodes shape.layout disk h node.height
+        → MarksThese shape.layout (B.count blocks.old) disk h
+        (IsUnder shape.layout node.height node.index) node.number shape.count bits marks.old marks.new shared.old.of shared.new.of result }
 {
     let Pointer::Block(place) = pointer else {
         return Ok(());
@@ -158,17 +164,17 @@ fn mark_top<B: UncachedReads>(
         return Ok(());
     }
     let pointer = Pointer::Block(place);
-    mark_node(blocks, pointer, node, count, bits, marks, shared)
+    mark_node(blocks, pointer, node, shape, bits, marks, shared)
 }
 
-/// Marks the node at a pointer, of a file of so many blocks, and those below it. The file's blocks
+/// Marks the node at a pointer, of a file of this shape, and those below it. The file's blocks
 /// below an indirect one that all of these trees named before aren't marked again, so that none is
 /// looked through twice for one tree.
 fn mark_node<B: UncachedReads>(
     blocks: &mut B,
     pointer: Pointer,
     node: FileNode,
-    count: u32,
+    shape: Shape,
     bits: u32,
     marks: &mut Marks,
     shared: &mut SharedBlocks,
@@ -179,9 +185,9 @@ fn mark_node<B: UncachedReads>(
     ensures reads { ReadsForFaults B.Blocks IsCheckEndFault blocks.old blocks.new result }
     ensures keeps { KeepsMarks bits marks.old marks.new shared.old.of shared.new.of }
     ensures marked { (disk : ℕ → List ℕ) (h : Held) → B.Shows blocks.old disk
-        → h.place node.height node.index ≡ pointer → HasNodes disk h node.height
-        → MarksThese (B.count blocks.old) disk h (IsUnder node.height node.index) node.number count bits
-        marks.old marks.new shared.old.of shared.new.of result }
+        → h.place node.height node.index ≡ pointer → HasNodes shape.layout disk h node.height
+        → MarksThese shape.layout (B.count blocks.old) disk h
+        (IsUnder shape.layout node.height node.index) node.number shape.count bits marks.old marks.new shared.old.of shared.new.of result }
 {
     let Pointer::Block(place) = pointer else {
         return Ok(());
@@ -191,15 +197,15 @@ fn mark_node<B: UncachedReads>(
         return Ok(());
     }
     let height = node.height - 1;
-    let first = GROUP.saturating_mul(node.index);
-    let used = used_below(count, height, node.index);
-    if !read_indirect(blocks, place, used, &mut shared.block)? {
+    let first = first_below(shape.layout, node.index);
+    let used = used_below(shape, height, node.index);
+    if !read_indirect(blocks, place, shape.layout, used, &mut shared.block)? {
         return Err(CheckEnd::Fault(Fault::Tree(TreeFault::Indirect {
             number: node.number,
             block: place.get(),
         })));
     }
-    let end = GROUP.min(used);
+    let end = shape.layout.fan_out().min(used);
     if height == 0 && before == bits {
         return Ok(());
     }
@@ -216,32 +222,33 @@ fn mark_node<B: UncachedReads>(
             height,
             index: first + r,
         };
-        mark_node(blocks, below, node, count, bits, marks, shared)?;
+        mark_node(blocks, below, node, shape, bits, marks, shared)?;
     }
     Ok(())
 }
 
-/// Reads the block at a place into this one, and tells whether it is an indirect block over so many
-/// nodes.
+/// Reads the block at a place into this one, and tells whether it is an indirect block of this
+/// layout over so many nodes.
 fn read_indirect<B: UncachedReads>(
     blocks: &mut B,
     place: BlockNumber,
+    layout: Layout,
     used: u32,
     block: &mut Block,
 ) -> Result<bool, CheckError>
     requires { PointsBelow (B.count blocks.old) (Pointer.Block place) }
     ensures reads { ReadsForFaults B.Blocks IsFault blocks.old blocks.new result }
     ensures good { IfOk result (λ good. IsTrue good
-        → IsIndirectBlock (B.count blocks.old) used block.new) }
+        → IsIndirectBlock layout (B.count blocks.old) used block.new) }
     ensures block { (disk : ℕ → List ℕ) → B.Shows blocks.old disk
         → IfOk result (λ good. IsTrue good → block.new ≡ disk place) }
     ensures bad { (disk : ℕ → List ℕ) → B.Shows blocks.old disk → IfOk result (λ good. IsFalse good
-        → IsIndirectBlock (B.count blocks.old) used (disk place) → ⊥) }
+        → IsIndirectBlock layout (B.count blocks.old) used (disk place) → ⊥) }
 {
     if !read_into(blocks, place, block)? {
         return Ok(false);
     }
-    Ok(is_indirect_block(block.bytes(), blocks.count(), used))
+    Ok(is_indirect_block(block.bytes(), layout, blocks.count(), used))
 }
 
 /// Marks the file's blocks from one on, to which the first so many pointers of an indirect block
@@ -261,9 +268,9 @@ fn mark_leaves(
         → PointsBelow (length marks.old) (indirect_pointer bytes.now r) }
     requires planes { (k : ℕ) → HasBit k bits → k < PLANES }
     ensures keeps { KeepsMarks bits marks.old marks.new of.old of.new }
-    ensures marked { (h : Held)
+    ensures marked { (layout : Layout) (h : Held)
         → ((r : ℕ) → r < end → h.place 0 (first + r) ≡ indirect_pointer bytes.now r)
-        → MarksFor h (IsAmong 0 first (first + end)) number bits marks.old marks.new of.old of.new }
+        → MarksFor h (IsAmong layout 0 first (first + end)) number bits marks.old marks.new of.old of.new }
 {
     for r in 0..end {
         let Pointer::Block(place) = indirect_pointer(bytes, r) else {
@@ -300,22 +307,29 @@ fn mark_block(
     before
 }
 
-/// How many nodes stand at a height over so many blocks, from those under node `index` of the
-/// height above on.
-fn used_below(count: u32, height: u32, index: u32) -> u32
-    ensures used { result ≡ nodes_at count height - 1024 * index }
-    ensures low { 1 ≤ result → 1024 * index + result < 2 ^ 32 }
+/// The first node under node `index` of the height above, or the last number where it is past that.
+fn first_below(layout: Layout, index: u32) -> u32
+    ensures { result ≡ min (fan_out layout * index) (2 ^ 32 - 1) }
 {
-    let first = GROUP.saturating_mul(index);
-    nodes_at(count, height).saturating_sub(first)
+    layout.fan_out().saturating_mul(index)
 }
 
-/// How many nodes stand at a height over so many blocks.
-fn nodes_at(count: u32, height: u32) -> u32
-    ensures { result ≡ nodes_at count height }
+/// How many nodes a file of this shape has at a height, from those under node `index` of the height
+/// above on.
+fn used_below(shape: Shape, height: u32, index: u32) -> u32
+    ensures used { result ≡ nodes_at shape.layout shape.count height - fan_out shape.layout * index }
+    ensures low { 1 ≤ result → fan_out shape.layout * index + result < 2 ^ 32 }
+{
+    let first = first_below(shape.layout, index);
+    nodes_at(shape, height).saturating_sub(first)
+}
+
+/// How many nodes a file of this shape has at a height.
+fn nodes_at(shape: Shape, height: u32) -> u32
+    ensures { result ≡ nodes_at shape.layout shape.count height }
 {
     if height == 0 {
-        return count;
+        return shape.count;
     }
-    nodes_at(count, height - 1).div_ceil(GROUP)
+    nodes_at(shape, height - 1).div_ceil(shape.layout.fan_out())
 }

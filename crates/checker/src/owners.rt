@@ -4,6 +4,7 @@ ghost use Rattle.std.specs.Prelude.{◌≡◌, ◌≢◌, ◌<◌, ◌≤◌, �
 ghost use Rattle.layout.specs.Inode.{IsInode, inode_bytes};
 ghost use Rattle.layout.specs.Limits.{Sizes};
 ghost use Rattle.layout.specs.Pointer.{PointsBelow};
+ghost use Rattle.layout.specs.Version.{greatest_under};
 ghost use Rattle.layout.specs.declared.TheConstants.{INODES_PER_BLOCK};
 ghost use Rattle.layout.specs.declared.inode.Inode.{Inode};
 ghost use Rattle.layout.specs.declared.pointer.Pointer.TheVariants as pointers;
@@ -85,7 +86,7 @@ pub(crate) fn read_inode<B: UncachedReads>(
     requires high { number < geometry.inodes }
     requires below { PointsBelow (B.count blocks.old) place }
     ensures reads { ReadsForFaults B.Blocks IsFault blocks.old blocks.new result }
-    ensures fits { IfOk result (λ found. IfSome found (IsInode VERSION geometry)) }
+    ensures fits { IfOk result (λ found. IfSome found (IsInode geometry)) }
     ensures is { (disk : ℕ → List ℕ) (r : Root) (tree : Tree) → B.Shows blocks.old disk
         → IsTreeAt disk r geometry (B.count blocks.old) tree
         → LeadsToRow disk r (number / INODES_PER_BLOCK) tree place
@@ -105,8 +106,8 @@ pub(crate) fn read_inode<B: UncachedReads>(
 fn inode_in(bytes: &[u8; BLOCK_BYTES], number: u32, geometry: Geometry) -> Option<Inode>
     requires low { 1 ≤ number }
     requires high { number < geometry.inodes }
-    ensures fits { IfSome result (IsInode VERSION geometry) }
-    ensures only { (i : Inode) → IsInode VERSION geometry i
+    ensures fits { IfSome result (IsInode geometry) }
+    ensures only { (i : Inode) → IsInode geometry i → i.size ≤ greatest_under VERSION
         → inode_part bytes.now (number % INODES_PER_BLOCK) ≡ inode_bytes i
         → HasKindOfPlace geometry.inodes number i.kind → result ≡ Some i }
 {
@@ -125,7 +126,7 @@ fn node_in<B: UncachedReads>(
 ) -> Result<Option<FileNode>, CheckError>
     ensures reads { ReadsForFaults B.Blocks IsFault blocks.old blocks.new result }
     ensures stands { (disk : ℕ → List ℕ) (s : Sizes) (inode : Inode) → B.Shows blocks.old disk
-        → IsInode VERSION s inode → IsFileOfInode inode file.now
+        → IsInode s inode → IsFileOfInode inode file.now
         → IfOk result (λ found. IfSome found (IsOwner shared.now number (held disk inode))) }
     ensures alone { (disk : ℕ → List ℕ) (s : Sizes) (inode : Inode) → B.Shows blocks.old disk
         → s.blocks ≡ B.count blocks.old → IsFileGrammar s (held disk inode) → IsFileOfInode inode file.now

@@ -14,7 +14,7 @@ use crate::uncached_reads::read_block;
 use crate::{CheckError, Fault, SnapshotFault, SnapshotName, UncachedReads};
 use buffers::BlockError;
 use images::snapshots_are_what_their_bytes_spell;
-use layout::{BlockNumber, Inode, Pointer, Root, SnapRoot};
+use layout::{BlockNumber, Geometry, Inode, Pointer, Root, SnapRoot};
 use loading::{are_apart, check_snapshot};
 
 /// The first fault of the root block in a slot of a root: that it is no snapshot's, or of the name
@@ -45,23 +45,28 @@ pub(crate) fn fault_in_slot<B: UncachedReads>(
         Err(BlockError::Device) => return Err(CheckError::Device),
     }
     for l in 0..k {
-        if !differ(blocks, root.snapshots[l], root.snapshots[k])? {
+        if !differ(blocks, root.geometry, root.snapshots[l], root.snapshots[k])? {
             return Ok(Some(slot_fault(k, block, SnapshotFault::SameAs(l as u32 + 1))));
         }
     }
     Ok(None)
 }
 
-/// Whether the snapshots at two pointers, if there are two that can be read, differ in name and in
-/// order.
-fn differ<B: UncachedReads>(blocks: &mut B, a: Pointer, b: Pointer) -> Result<bool, CheckError>
+/// Whether the snapshots at two pointers, if there are two in an image of this geometry that can be
+/// read, differ in name and in order.
+fn differ<B: UncachedReads>(
+    blocks: &mut B,
+    geometry: Geometry,
+    a: Pointer,
+    b: Pointer,
+) -> Result<bool, CheckError>
     requires first { PointsBelow (B.count blocks.old) a }
     requires second { PointsBelow (B.count blocks.old) b }
     ensures reads { ReadsForFaults B.Blocks IsFault blocks.old blocks.new result }
     ensures apart { (disk : ℕ → List ℕ) → B.Shows blocks.old disk
-        → IfOk result (λ apart. IsTrue apart ↔ AreApartAt disk a b) }
+        → IfOk result (λ apart. IsTrue apart ↔ AreApartAt geometry.layout disk a b) }
 {
-    match are_apart(blocks, a, b) {
+    match are_apart(blocks, geometry, a, b) {
         Ok(apart) => Ok(apart),
         Err(BlockError::Damaged) => Ok(true),
         Err(BlockError::NoMemory) => Err(CheckError::NoMemory),
@@ -81,16 +86,17 @@ fn slot_fault(k: usize, block: BlockNumber, found: SnapshotFault) -> Fault
     }
 }
 
-/// The name of the snapshot at a pointer, and the inode of its inode file, if one is there and can
-/// be read.
+/// The name of the snapshot at a pointer in an image of this geometry, and the inode of its inode
+/// file, if one is there and can be read.
 pub(crate) fn snapshot_at<B: UncachedReads>(
     blocks: &mut B,
     pointer: Pointer,
+    geometry: Geometry,
 ) -> Result<Option<(SnapshotName, Inode)>, CheckError>
     requires { PointsBelow (B.count blocks.old) pointer }
     ensures reads { ReadsForFaults B.Blocks IsFault blocks.old blocks.new result }
     ensures tells { (disk : ℕ → List ℕ) → B.Shows blocks.old disk
-        → IfOk result (TellsSnapshot disk pointer) }
+        → IfOk result (TellsSnapshot geometry.layout disk pointer) }
     ensures there { IfOk result
         (λ found. IfSome found (λ _. (block : ℕ) × (pointer ≡ Block block))) }
 {
@@ -101,7 +107,7 @@ pub(crate) fn snapshot_at<B: UncachedReads>(
     if !read_block(blocks, block)? {
         return Ok(None);
     }
-    match SnapRoot::read(blocks.bytes(block)) {
+    match SnapRoot::read(blocks.bytes(block), geometry.layout()) {
         Some(snapshot) => Ok(Some((SnapshotName::new(snapshot.name), snapshot.inode_file))),
         None => Ok(None),
     }

@@ -6,7 +6,6 @@ ghost use Rattle.layout.specs.Limits.{Sizes};
 ghost use Rattle.layout.specs.declared.TheConstants.{INODES_PER_BLOCK, INODE_BYTES};
 ghost use Rattle.layout.specs.declared.inode.Inode.{Inode};
 ghost use Rattle.layout.specs.declared.root.Root.{Root};
-ghost use Rattle.layout.specs.declared.version.TheConstants.{VERSION};
 ghost use Rattle.buffers.specs.Reads.{HasOnlyRead};
 ghost use Rattle.buffers.specs.Disks.{IsWhole};
 ghost use Rattle.layout.specs.Places.{pointed};
@@ -161,7 +160,7 @@ pub(crate) fn find_places<B: UncachedReads>(
         Ok(places) => Ok(places),
         Err(BlockError::NoMemory) => Err(CheckError::NoMemory),
         Err(BlockError::Device) => Err(CheckError::Device),
-        Err(BlockError::Damaged) => Ok(PlaceMap::new(alloc)),
+        Err(BlockError::Damaged) => Ok(PlaceMap::new(alloc, file.tree().layout())),
     }
 }
 
@@ -219,7 +218,7 @@ fn add_rows(
 fn row_of(bytes: &[u8]) -> NumberRow
     requires { length bytes.now ≡ INODE_BYTES }
     ensures unnamed { result.names ≡ 0 }
-    ensures inode { (s : Sizes) (i : Inode) → IsInode VERSION s i → bytes.now ≡ inode_bytes i
+    ensures inode { (s : Sizes) (i : Inode) → IsInode s i → bytes.now ≡ inode_bytes i
         → (result.kind ≡ i.kind) × (result.links ≡ i.links) }
 {
     let (kind, links) = Inode::kind_and_links(bytes).unwrap_or((Kind::Free, 0));

@@ -5,7 +5,7 @@ ghost use Rattle.layout.specs.Root.{IsRoot};
 ghost use Rattle.layout.specs.declared.root.Root.{Root};
 ghost use Rattle.layout.specs.Inode.{IsInode};
 ghost use Rattle.layout.specs.declared.kind.Kind.TheVariants.{InodeFile};
-ghost use Rattle.layout.specs.declared.version.TheConstants.{SNAPSHOT_SLOTS, VERSION};
+ghost use Rattle.layout.specs.declared.version.TheConstants.{SNAPSHOT_SLOTS};
 ghost use Rattle.images.specs.BlockMap.{HasBit};
 ghost use Rattle.images.specs.Roots.{whole};
 ghost use Rattle.images.specs.Snapshots.{AreSnapshots};
@@ -26,7 +26,7 @@ use crate::tree::Tree;
 use crate::{CheckError, Fault, TreeFault, TreeName, UncachedReads};
 use images::inodes_are_what_their_bytes_spell;
 use inode::{File, based_trees_are_sound, nodes_are_where_pointers_lead};
-use layout::{Geometry, Inode, Kind, Root, SNAPSHOT_SLOTS, VERSION};
+use layout::{Geometry, Inode, Kind, Root, SNAPSHOT_SLOTS};
 use loading::{
     files_without_holes_are_stored, load_numbers, map_file, own_inode, readable_files_are_whole,
     sound_files_have_sound_paths, sound_files_read_as_held,
@@ -69,10 +69,11 @@ pub(crate) fn open_trees<B: UncachedReads>(
     )?;
     trees.push(newest)?;
     for k in 0..SNAPSHOT_SLOTS {
-        let Some((name, inode_file)) = snapshot_at(blocks, root.snapshots[k])? else {
+        let pointer = root.snapshots[k];
+        let Some((name, inode_file)) = snapshot_at(blocks, pointer, root.geometry)? else {
             continue;
         };
-        if !inode_file.fits(VERSION, root.geometry) {
+        if !inode_file.fits(root.geometry) {
             continue;
         }
         let slot = k as u32 + 1;
@@ -103,7 +104,7 @@ fn open_tree<B: UncachedReads>(
     shared: &mut SharedBlocks,
 ) -> Result<Tree, CheckError>
     requires plane { plane ≤ SNAPSHOT_SLOTS }
-    requires top { IsInode VERSION geometry top.now }
+    requires top { IsInode geometry top.now }
     requires size { B.count blocks.old ≡ geometry.blocks }
     requires table { length marks.old ≡ geometry.blocks }
     ensures reads { ReadsForFaults B.Blocks IsFault blocks.old blocks.new result }
@@ -143,7 +144,7 @@ fn open_files<B: UncachedReads>(
     marks: &mut Marks,
     shared: &mut SharedBlocks,
 ) -> Result<(), CheckEnd>
-    requires top { IsInode VERSION geometry tree.old.top }
+    requires top { IsInode geometry tree.old.top }
     requires size { B.count blocks.old ≡ geometry.blocks }
     requires table { length marks.old ≡ geometry.blocks }
     ensures reads { ReadsForFaults B.Blocks IsCheckEndFault blocks.old blocks.new result }

@@ -46,7 +46,6 @@ impl<S: Station> UncachedReads for Buffers<S> {
     }
 
     fn read(&mut self, place: BlockNumber, block: &mut Block) -> Result<(), BlockError> {
-        let _ = self.station.sectors();
         read_sectors(&mut self.station, place.get(), block)
     }
 

@@ -14,7 +14,7 @@ changed_slot (Some AsSettled) other b below is changed = absurd changed
 changed_slot None other b below is changed = absurd changed
 
 pub changed_block : (t : BlockTree) (i : ℕ) (b below : List ℕ) → ((disk : ℕ → List ℕ) → tree_block disk t i ≡ b) → IsChanged t i → b ≡ changed_or t i below
-changed_block t i b below is changed = changed_slot (tree.get nat_cmp t.slots i) (settled_block (λ n. []) t.pointers t.depth t.kept i) b below (is (λ n. [])) changed
+changed_block t i b below is changed = changed_slot (tree.get nat_cmp t.slots i) (settled_block t.layout (λ n. []) t.pointers t.depth t.kept i) b below (is (λ n. [])) changed
 
 unchanged_slot : (s : Option Slot) (below : List ℕ) → (IsChangedSlot s → ⊥) → below ≡ slot_bytes s below
 unchanged_slot (Some (Changed block)) below not = absurd (not tt)

@@ -1,8 +1,9 @@
 -- One node more is placed.
-use Rattle.std.proofs.Common.{◌≡◌, ◌≢◌, ◌⊎◌, inl, inr, ℕ, ◌+◌, ◌<◌, ◌≤◌, refl, ap, sym, subst, ◌∙◌, arith}
-use Rattle.std.proofs.lemmas.Bool.{cases_lt, cases_eq}
+use Rattle.std.proofs.Common.{◌≡◌, ◌≢◌, ◌⊎◌, inl, inr, ℕ, ◌+◌, ◌*◌, ◌<◌, ◌≤◌, List, refl, ap, sym, subst, ◌∙◌, arith}
+use Rattle.std.proofs.lemmas.Bool.{cases_lt, cases_eq, cond_below, cond_above}
 use Rattle.layout.specs.Pointer.{PointsBelow}
 use Rattle.layout.specs.Places.{Blocks}
+use Rattle.layout.specs.Trees.{fan_out}
 use Rattle.layout.specs.declared.geometry.TheConstants.{MOST_BLOCKS}
 use Rattle.layout.specs.declared.pointer.Pointer.{Pointer}
 use Rattle.layout.specs.declared.pointer.Pointer.TheVariants.{Hole, Block}
@@ -12,8 +13,32 @@ use Rattle.blocktree.specs.declared.place_map.PlaceMap.{PlaceMap}
 use Rattle.conspoint.specs.declared.draft.Draft.{Draft}
 use Rattle.conspoint.specs.Drafts.{Grows, WasTaken}
 use Rattle.conspoint.specs.Space.{StoresNone}
-use Rattle.conspoint.specs.Groups.{IsGroup, Follows, ComesFrom, ArePlaced}
+use Rattle.conspoint.specs.Groups.{pointer_at, group, IsGroup, Follows, ComesFrom, ArePlaced}
 use Rattle.conspoint.proofs.DraftLemmas.{taken_later, taken_earlier}
+
+-- ---- the nodes of a group
+
+-- pointers that are these nodes, and holes behind them
+pub group_read : (nodes : PlaceMap) (j : ℕ) (all : List Pointer) → ((r : ℕ) → r < fan_out nodes.layout → pointer_at all r ≡ place_at nodes (fan_out nodes.layout * j + r))
+    → ((r : ℕ) → fan_out nodes.layout ≤ r → pointer_at all r ≡ Hole) → (r : ℕ) → pointer_at all r ≡ group nodes j r
+group_read nodes j all under behind r = elim (cases_lt r (fan_out nodes.layout)) [
+  | inl lt ↦ under r lt ∙ cond_below r (fan_out nodes.layout) (place_at nodes (fan_out nodes.layout * j + r)) Hole lt
+  | inr ge ↦ behind r ge ∙ cond_above r (fan_out nodes.layout) (place_at nodes (fan_out nodes.layout * j + r)) Hole Hole ge refl
+]
+
+pub group_below : (blocks : ℕ) (nodes : PlaceMap) (j r : ℕ) → AreBelow blocks nodes → PointsBelow blocks (group nodes j r)
+group_below blocks nodes j r within = elim (cases_lt r (fan_out nodes.layout)) [
+  | inl lt ↦ subst (PointsBelow blocks) (cond_below r (fan_out nodes.layout) (place_at nodes (fan_out nodes.layout * j + r)) Hole lt) (within (fan_out nodes.layout * j + r))
+  | inr ge ↦ subst (PointsBelow blocks) (cond_above r (fan_out nodes.layout) (place_at nodes (fan_out nodes.layout * j + r)) Hole Hole ge refl) tt
+]
+
+pub group_hole : (nodes : PlaceMap) (j r : ℕ) → (r < fan_out nodes.layout → place_at nodes (fan_out nodes.layout * j + r) ≡ Hole) → group nodes j r ≡ Hole
+group_hole nodes j r none = elim (cases_lt r (fan_out nodes.layout)) [
+  | inl lt ↦ sym (cond_below r (fan_out nodes.layout) (place_at nodes (fan_out nodes.layout * j + r)) Hole lt) ∙ none lt
+  | inr ge ↦ sym (cond_above r (fan_out nodes.layout) (place_at nodes (fan_out nodes.layout * j + r)) Hole Hole ge refl)
+]
+
+-- ---- one more is placed
 
 module _ (a b c : Draft) (settled old new : PlaceMap) (j : ℕ) (p : Pointer) (before : Grows a b) (now : Grows b c) (so_far : ArePlaced a b settled old) (there : place_at new j ≡ p)
     (others : (i : ℕ) → i ≢ j → place_at new i ≡ place_at old i) (from : ComesFrom b c (place_at settled j) p) (within : PointsBelow MOST_BLOCKS p) where

@@ -6,6 +6,7 @@ pub mod DraftLemmas
 pub mod SpaceLemmas
 pub mod SumLemmas
 pub mod StepLemmas
+mod FanLemmas
 pub mod GroupLemmas
 mod ClosureLemmas
 mod MarkLemmas

@@ -1,5 +1,5 @@
 -- Where the nodes of the block map's file stand: its blocks, and behind them the indirect block over them.
-use Rattle.std.proofs.Common.{◌≡◌, ◌⊎◌, inl, inr, ℕ, zero, suc, ◌+◌, ◌-◌, ◌*◌, ◌/◌, ◌%◌, ◌<◌, ◌≤◌, List, get_or, refl, ap, sym, ◌∙◌, arith}
+use Rattle.std.proofs.Common.{◌≡◌, ◌⊎◌, inl, inr, ℕ, zero, suc, ◌+◌, ◌-◌, ◌*◌, ◌/◌, ◌%◌, ◌<◌, ◌≤◌, List, get_or, refl, ap, sym, subst, ◌∙◌, arith}
 use Rattle.std.specs.Prelude.{nat_lt, if◌then◌else◌}
 use Rattle.std.specs.Int.{div_ceil}
 use Rattle.std.proofs.lemmas.Bool.{cases_lt, cond_above}
@@ -7,28 +7,31 @@ use Rattle.layout.specs.Inode.{FitsBody, nodes_of_size, pointers_used}
 use Rattle.layout.specs.Limits.{Sizes}
 use Rattle.layout.specs.Maps.{indirect_pointer}
 use Rattle.layout.specs.Places.{Blocks, place, follow}
-use Rattle.layout.specs.Version.{level_of}
+use Rattle.layout.specs.Trees.{fan_out, level_of, single_bytes}
 use Rattle.layout.specs.declared.inode.Body.{Body}
 use Rattle.layout.specs.declared.inode.Body.TheVariants.{Inline, Pointers}
 use Rattle.layout.specs.declared.inode.Inode.{Inode}
 use Rattle.layout.specs.declared.kind.Kind.TheVariants as kinds
+use Rattle.layout.specs.declared.trees.Layout.{Layout}
+use Rattle.layout.specs.declared.trees.Layout.TheVariants.{Plain}
 use Rattle.layout.specs.declared.pointer.Pointer.{Pointer}
 use Rattle.layout.specs.declared.pointer.Pointer.TheVariants.{Hole, Block}
 use Rattle.images.specs.Nodes.{Held, held, Names, pointers_of}
 use Rattle.images.specs.Soundness.{IsSoundFile}
 use Rattle.images.proofs.OverlayLaws.{held_up}
 use Rattle.images.proofs.ReadingLaws.{highest, hole_past, level_one, level_two, used_is, hole_behind, fits}
+use Rattle.layout.proofs.FanLaws.{node_is, up_from, up_is}
 use Rattle.layout.proofs.PointerLaws.{no_block}
 use Rattle.layout.proofs.SizeLaws.{map_size}
 
 -- the pointers that an inode of one level or of two levels uses
-pub used_one : (size : ℕ) → 128 < size → size ≤ 65536 → pointers_used size ≡ div_ceil size 4096
+pub used_one : (layout : Layout) (size : ℕ) → 128 < size → size ≤ 65536 → pointers_used layout size ≡ div_ceil size 4096
 unfolding nodes_of_size
-used_one size some low = used_is size 0 (level_one size some low)
+used_one layout size some low = used_is layout size 0 (level_one layout size some low)
 
-pub used_two : (size : ℕ) → 65536 < size → size ≤ 67108864 → pointers_used size ≡ div_ceil (div_ceil size 4096) 1024
+pub used_two : (layout : Layout) (size : ℕ) → 65536 < size → size ≤ single_bytes layout → pointers_used layout size ≡ div_ceil (div_ceil size 4096) (fan_out layout)
 unfolding nodes_of_size
-used_two size large low = used_is size 1 (level_two size large low)
+used_two layout size large low = used_is layout size 1 (level_two layout size large low)
 
 -- n blocks of a file stand where g says, and the indirect block over them, where there is one, where it says behind them
 pub record Stands (n : ℕ) (g : ℕ → Pointer) (h : Held) : Type 0 where
@@ -75,19 +78,26 @@ module _ (n : ℕ) (g : ℕ → Pointer) (h : Held) (stands : Stands n g h) wher
 
 -- ---- by level
 
-pub at_level : (d : Blocks) (f : Inode) (m i level : ℕ) → level_of f.size ≡ level → (held d f).place m i ≡ (if nat_lt m level then place d (pointers_of f.body) (level - suc m) i else Hole)
-unfolding held
-at_level d f m i level is = ap (λ k. if nat_lt m k then place d (pointers_of f.body) (k - suc m) i else Hole) is
+-- the first group
+first_up : (layout : Layout) (i : ℕ) → i < fan_out layout → i / fan_out layout ≡ 0
+first_up layout i lt = up_is layout i 0 (omega arith) (omega (arith, lt))
 
-pub above_level : (d : Blocks) (f : Inode) (m i level : ℕ) → level_of f.size ≡ level → level ≤ m → (held d f).place m i ≡ Hole
-above_level d f m i level is ge = at_level d f m i level is ∙ sym (cond_above m level (place d (pointers_of f.body) (level - suc m) i) Hole Hole ge refl)
+first_pointer : (layout : Layout) (i : ℕ) → i < fan_out layout → i % fan_out layout ≡ i
+first_pointer layout i lt = let at = node_is layout i 0 (first_up layout i lt) in omega (arith, at)
+
+pub at_level : (d : Blocks) (f : Inode) (m i level : ℕ) → level_of f.layout f.size ≡ level → (held d f).place m i ≡ (if nat_lt m level then place f.layout d (pointers_of f.body) (level - suc m) i else Hole)
+unfolding held
+at_level d f m i level is = ap (λ k. if nat_lt m k then place f.layout d (pointers_of f.body) (k - suc m) i else Hole) is
+
+pub above_level : (d : Blocks) (f : Inode) (m i level : ℕ) → level_of f.layout f.size ≡ level → level ≤ m → (held d f).place m i ≡ Hole
+above_level d f m i level is ge = at_level d f m i level is ∙ sym (cond_above m level (place f.layout d (pointers_of f.body) (level - suc m) i) Hole Hole ge refl)
 
 module _ (d : Blocks) (f : Inode) (pointers : List Pointer) (body : f.body ≡ Pointers pointers) where
-  pub top_is : (level i : ℕ) → level_of f.size ≡ suc level → (held d f).place level i ≡ get_or pointers i Hole
+  pub top_is : (level i : ℕ) → level_of f.layout f.size ≡ suc level → (held d f).place level i ≡ get_or pointers i Hole
   top_is level i is = highest d f level i is ∙ ap (λ b. get_or (pointers_of b) i Hole) body
 
   -- the inode has the pointers to the blocks
-  pub stands_direct : (n : ℕ) (g : ℕ → Pointer) → level_of f.size ≡ 1 → ((i : ℕ) → get_or pointers i Hole ≡ g i) → ((k : ℕ) → n ≤ k → g k ≡ Hole) → Stands n g (held d f)
+  pub stands_direct : (n : ℕ) (g : ℕ → Pointer) → level_of f.layout f.size ≡ 1 → ((i : ℕ) → get_or pointers i Hole ≡ g i) → ((k : ℕ) → n ≤ k → g k ≡ Hole) → Stands n g (held d f)
   stands_direct n g level are behind = record {
     low = λ i lt. top_is 0 i level ∙ are i;
     past = λ i ge. top_is 0 i level ∙ are i ∙ behind i ge;
@@ -97,47 +107,50 @@ module _ (d : Blocks) (f : Inode) (pointers : List Pointer) (body : f.body ≡ P
   }
 
   -- it has the one to the indirect block, which has them
-  pub stands_under : (n x : ℕ) (g : ℕ → Pointer) → level_of f.size ≡ 2 → ((i : ℕ) → get_or pointers i Hole ≡ g (n + i)) → ((k : ℕ) → n < k → g k ≡ Hole) → n ≤ 1024
-      → g n ≡ Block x → ((i : ℕ) → i < n → indirect_pointer (d x) i ≡ g i) → ((i : ℕ) → n ≤ i → i < 1024 → indirect_pointer (d x) i ≡ Hole) → Stands n g (held d f)
+  pub stands_under : (n x : ℕ) (g : ℕ → Pointer) → level_of f.layout f.size ≡ 2 → ((i : ℕ) → get_or pointers i Hole ≡ g (n + i)) → ((k : ℕ) → n < k → g k ≡ Hole) → n ≤ fan_out f.layout
+      → g n ≡ Block x → ((i : ℕ) → i < n → indirect_pointer (d x) i ≡ g i) → ((i : ℕ) → n ≤ i → i < fan_out f.layout → indirect_pointer (d x) i ≡ Hole) → Stands n g (held d f)
   stands_under n x g level are behind few over under rest = record {
     low = λ i lt. low i (omega arith) ∙ under i lt;
-    past = λ i ge. elim (cases_lt i 1024) [
+    past = λ i ge. elim (cases_lt i (fan_out f.layout)) [
       | inl lt ↦ low i lt ∙ rest i ge lt
-      | inr far ↦ held_up d f 0 i (omega (arith, level)) ∙ ap (λ p. follow d p (i % 1024)) (top_is 1 (i / 1024) level ∙ are (i / 1024) ∙ behind (n + i / 1024) (omega arith))
+      | inr far ↦
+          let one : 1 ≤ i / fan_out f.layout = up_from f.layout 1 i (omega (arith, far)) in
+          held_up d f 0 i (omega (arith, level)) ∙ ap (λ p. follow d p (i % fan_out f.layout)) (top_is 1 (i / fan_out f.layout) level ∙ are (i / fan_out f.layout) ∙ behind (n + i / fan_out f.layout) (omega (arith, one)))
     ];
     top = top_is 1 0 level ∙ are 0 ∙ ap g (omega arith);
     beside = λ i. top_is 1 (suc i) level ∙ are (suc i) ∙ behind (n + suc i) (omega arith);
     above = λ m i. above_level d f (suc (suc m)) i 2 level (omega arith);
   }
     where
-      low : (i : ℕ) → i < 1024 → (held d f).place 0 i ≡ indirect_pointer (d x) i
+      low : (i : ℕ) → i < fan_out f.layout → (held d f).place 0 i ≡ indirect_pointer (d x) i
       low i lt =
-          let first : i / 1024 ≡ 0 = omega arith in
-          let same : i % 1024 ≡ i = omega arith in
+          let first : i / fan_out f.layout ≡ 0 = first_up f.layout i lt in
+          let same : i % fan_out f.layout ≡ i = first_pointer f.layout i lt in
           held_up d f 0 i (omega (arith, level))
-          ∙ ap (λ p. follow d p (i % 1024)) (top_is 1 (i / 1024) level ∙ are (i / 1024) ∙ ap g (omega arith) ∙ over)
+          ∙ ap (λ p. follow d p (i % fan_out f.layout)) (top_is 1 (i / fan_out f.layout) level ∙ are (i / fan_out f.layout) ∙ ap g (omega (arith, first)) ∙ over)
           ∙ ap (indirect_pointer (d x)) same
 
 -- ---- the map's inode
 
 -- its body has pointers
-pub body_of : (b : Body) (blocks size : ℕ) → FitsBody b blocks size → 128 < size → (pointers : List Pointer) × (b ≡ Pointers pointers)
-body_of (Inline bytes) blocks size fits large = absurd (let low = fits.0 in omega arith)
-body_of (Pointers pointers) blocks size fits large = (pointers, refl)
+pub body_of : (layout : Layout) (b : Body) (blocks size : ℕ) → FitsBody layout b blocks size → 128 < size → (pointers : List Pointer) × (b ≡ Pointers pointers)
+body_of layout (Inline bytes) blocks size fits large = absurd (let low = fits.0 in omega arith)
+body_of layout (Pointers pointers) blocks size fits large = (pointers, refl)
 
 -- a map in its grammar, whose nodes are these
-pub sound_stands : (s : Sizes) (d : Blocks) (f : Inode) (n : ℕ) (nodes : List Pointer) → IsSoundFile s (held d f) → f.kind ≡ kinds.BlockMap → 64 ≤ s.blocks → s.blocks ≤ 1048576 → n ≡ div_ceil s.blocks 1024
-    → ((k : ℕ) → k < n → get_or nodes k Hole ≡ (held d f).place 0 k) → (level_of f.size ≡ 2 → get_or nodes n Hole ≡ (held d f).place 1 0)
+pub sound_stands : (s : Sizes) (d : Blocks) (f : Inode) (n : ℕ) (nodes : List Pointer) → IsSoundFile s (held d f) → s.layout ≡ Plain → f.kind ≡ kinds.BlockMap → 64 ≤ s.blocks → s.blocks ≤ 1048576 → n ≡ div_ceil s.blocks 1024
+    → ((k : ℕ) → k < n → get_or nodes k Hole ≡ (held d f).place 0 k) → (level_of f.layout f.size ≡ 2 → get_or nodes n Hole ≡ (held d f).place 1 0)
     → (n ≤ 16 → (k : ℕ) → n ≤ k → get_or nodes k Hole ≡ Hole) → Stands n (λ k. get_or nodes k Hole) (held d f)
 unfolding held
-sound_stands s d f n nodes sound kind large most count low over end =
+sound_stands s d f n nodes sound plain kind large most count low over end =
     let size : f.size ≡ 4 * s.blocks = map_size f.kind s f.attributes f.links f.size kind sound.inode.kind in
-    let body = body_of f.body s.blocks f.size sound.inode.body (omega arith) in
+    let is_plain : f.layout ≡ Plain = sound.inode.layout ∙ plain in
+    let body = body_of f.layout f.body s.blocks f.size sound.inode.body (omega arith) in
     let fit = fits s d f body.0 sound body.1 in
     let behind = λ (i : ℕ) (ge : n ≤ i). hole_behind s d f body.0 sound body.1 i (omega arith) in
     elim (cases_lt 65536 f.size) [
       | inr small ↦
-          let level = level_one f.size fit.0 small in
+          let level = level_one f.layout f.size fit.0 small in
           record {
             low = λ i lt. sym (low i lt);
             past = behind;
@@ -146,13 +159,14 @@ sound_stands s d f n nodes sound kind large most count low over end =
             above = λ m i. above_level d f (suc (suc m)) i 1 level (omega arith);
           }
       | inl big ↦
-          let within : f.size ≤ 67108864 = omega (arith, size, most) in
-          let level = level_two f.size big within in
+          let within : f.size ≤ single_bytes f.layout = subst (λ l. f.size ≤ single_bytes l) (sym is_plain) (omega (arith, size, most)) in
+          let level = level_two f.layout f.size big within in
+          let used : pointers_used f.layout f.size ≡ div_ceil (div_ceil f.size 4096) 1024 = used_two f.layout f.size big within ∙ ap (λ l. div_ceil (div_ceil f.size 4096) (fan_out l)) is_plain in
           record {
             low = λ i lt. sym (low i lt);
             past = behind;
             top = sym (over level);
-            beside = λ i. top_is d f body.0 body.1 1 (suc i) level ∙ hole_past body.0 (pointers_used f.size) (suc i) fit.3 (omega (arith, used_two f.size big within, size, most));
+            beside = λ i. top_is d f body.0 body.1 1 (suc i) level ∙ hole_past body.0 (pointers_used f.layout f.size) (suc i) fit.3 (omega (arith, used, size, most));
             above = λ m i. above_level d f (suc (suc m)) i 2 level (omega arith);
           }
     ]

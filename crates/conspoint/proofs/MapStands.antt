@@ -12,9 +12,9 @@ use Rattle.layout.specs.Inode.{IsInode, pointers_used}
 use Rattle.layout.specs.Places.{Blocks, pointed}
 use Rattle.layout.specs.declared.inode.Body.{Body}
 use Rattle.layout.specs.declared.inode.Inode.{Inode}
+use Rattle.layout.specs.declared.trees.Layout.TheVariants.{Plain}
 use Rattle.layout.specs.declared.pointer.Pointer.{Pointer}
 use Rattle.layout.specs.declared.pointer.Pointer.TheVariants.{Hole, Block}
-use Rattle.layout.specs.declared.version.TheConstants.{VERSION}
 use Rattle.images.specs.Nodes.{held, Names, Agrees, IsOnce, body_block, file_block, place_at_height}
 use Rattle.images.specs.Soundness.{IsSoundFile, IsReadable, HasNoHole, nodes_of_size}
 use Rattle.blockmap.specs.Parts.{Part}
@@ -45,7 +45,7 @@ module _ {s : Sizes} {d e : Blocks} {old : Inode} {before after : Draft} {settle
   unfolding held
   old_block_at j lt =
       let large : 128 < old.size = omega (arith, old_size w is agrees, is.blocks, is.sizes.least_blocks) in
-      let body = body_of old.body s.blocks old.size is.sound.inode.body large in
+      let body = body_of old.layout old.body s.blocks old.size is.sound.inode.body large in
       ap (λ (b : Body). body_block b (pointed d (place_at_height d old 0 j)) j) body.1 ∙ ap (pointed d) ((old_stands w is agrees).low j lt)
 
   -- behind the disk's end an entry is 0, and stays
@@ -111,20 +111,21 @@ module _ {s : Sizes} {d e : Blocks} {old : Inode} {before after : Draft} {settle
   tops_below : All (PointsBelow s.blocks) tops
   tops_below k p lt = subst (PointsBelow s.blocks) (sym (top_at k p lt)) (node_below w is agrees ((if nat_le n 16 then 0 else n) + k))
 
-  tops_past : (k : ℕ) → pointers_used (4 * before.map.count) ≤ k → pointer_at tops k ≡ Hole
+  tops_past : (k : ℕ) → pointers_used Plain (4 * before.map.count) ≤ k → pointer_at tops k ≡ Hole
   tops_past k ge = elim (cases_lt 16 n) [
     | inr less ↦
         let t : leb n 16 ≡ true = le-leb _ _ less in
         w.tops_are k ∙ ap (λ b. node_at settled places ((if b then 0 else n) + k)) t
-        ∙ node_past w is agrees (0 + k) (omega (arith, ends w is agrees less, used_one (4 * before.map.count) (omega (arith, is.sizes.least_blocks, is.blocks)) (omega (arith, w.count)), w.count))
+        ∙ node_past w is agrees (0 + k) (omega (arith, ends w is agrees less, used_one Plain (4 * before.map.count) (omega (arith, is.sizes.least_blocks, is.blocks)) (omega (arith, w.count)), w.count))
     | inl many ↦
         let t : leb n 16 ≡ false = lt-leb _ _ many in
         w.tops_are k ∙ ap (λ b. node_at settled places ((if b then 0 else n) + k)) t
-        ∙ node_past w is agrees (n + k) (omega (arith, goes_on w is agrees many, used_two (4 * before.map.count) (omega (arith, w.count)) (omega (arith, is.sizes.most_blocks, is.blocks)), w.count))
+        ∙ node_past w is agrees (n + k) (omega (arith, goes_on w is agrees many, used_two Plain (4 * before.map.count) (omega (arith, w.count)) (omega (arith, is.sizes.most_blocks, is.blocks)), w.count))
   ]
 
-  inode_is : IsInode VERSION s (own_inode tops before.map.count)
+  inode_is : IsInode s (own_inode tops before.map.count)
   inode_is = record {
+    layout = sym is.plain;
     attributes = new_fit 0 (omega arith);
     size = omega (arith, w.most);
     kind = (refl, refl, ap (λ x. 4 * x) is.blocks);
@@ -132,8 +133,8 @@ module _ {s : Sizes} {d e : Blocks} {old : Inode} {before after : Draft} {settle
       omega (arith, is.blocks, is.sizes.least_blocks),
       w.tops_size,
       tops_below,
-      λ k p lt. get_or_default (drop (pointers_used (4 * before.map.count)) tops) k p Hole lt ∙ get_or-drop (pointers_used (4 * before.map.count)) tops k Hole
-          ∙ tops_past (pointers_used (4 * before.map.count) + k) (omega arith),
+      λ k p lt. get_or_default (drop (pointers_used Plain (4 * before.map.count)) tops) k p Hole lt ∙ get_or-drop (pointers_used Plain (4 * before.map.count)) tops k Hole
+          ∙ tops_past (pointers_used Plain (4 * before.map.count) + k) (omega arith),
     );
   }
 
@@ -147,7 +148,7 @@ module _ {s : Sizes} {d e : Blocks} {old : Inode} {before after : Draft} {settle
         ap length (same_block w is agrees n x there ∙ sym (ap (pointed d) stood)) ∙ (is.sound.indirect 0 0 x stood).size
   ]
 
-  over_is : (x : ℕ) → node_at settled places n ≡ Block x → IsIndirectBlock s.blocks (nodes_of_size (4 * before.map.count) 0 - 1024 * 0) (e x)
+  over_is : (x : ℕ) → node_at settled places n ≡ Block x → IsIndirectBlock Plain s.blocks (nodes_of_size Plain (4 * before.map.count) 0 - 1024 * 0) (e x)
   unfolding nodes_of_size
   over_is x at = elim (cases_lt 16 n) [
     | inr less ↦ absurd (no_block (node_at settled places n) x (node_past w is agrees n (omega (arith, ends w is agrees less))) at)
@@ -166,9 +167,9 @@ module _ {s : Sizes} {d e : Blocks} {old : Inode} {before after : Draft} {settle
   ]
 
   over_sound : (m i x : ℕ) → (held e (own_inode tops before.map.count)).place (suc m) i ≡ Block x
-      → IsIndirectBlock s.blocks (nodes_of_size (4 * before.map.count) m - 1024 * i) ((held e (own_inode tops before.map.count)).bytes (suc m) i)
+      → IsIndirectBlock Plain s.blocks (nodes_of_size Plain (4 * before.map.count) m - 1024 * i) ((held e (own_inode tops before.map.count)).bytes (suc m) i)
   unfolding held
-  over_sound zero zero x at = subst (IsIndirectBlock s.blocks (nodes_of_size (4 * before.map.count) 0 - 1024 * 0)) (sym (ap (pointed e) at)) (over_is x (sym (new_stands w is agrees).top ∙ at))
+  over_sound zero zero x at = subst (IsIndirectBlock Plain s.blocks (nodes_of_size Plain (4 * before.map.count) 0 - 1024 * 0)) (sym (ap (pointed e) at)) (over_is x (sym (new_stands w is agrees).top ∙ at))
   over_sound zero (suc i) x at = absurd (no_block _ x ((new_stands w is agrees).beside i) at)
   over_sound (suc m) i x at = absurd (no_block _ x ((new_stands w is agrees).above m i) at)
 

@@ -1,5 +1,5 @@
 -- What the planning of the block map's file has done: where its nodes stand then.
-use Rattle.std.proofs.Common.{◌≡◌, ◌≢◌, ◌⊎◌, inl, inr, ℕ, ◌+◌, ◌*◌, ◌/◌, ◌%◌, ◌<◌, ◌≤◌, true, false, leb, List, length, refl, ap, sym, subst, ◌∙◌, arith}
+use Rattle.std.proofs.Common.{◌≡◌, ◌≢◌, ◌⊎◌, inl, inr, ℕ, suc, ◌+◌, ◌*◌, ◌/◌, ◌%◌, ◌<◌, ◌≤◌, true, false, leb, List, length, refl, ap, sym, subst, ◌∙◌, arith}
 use Rattle.std.specs.Prelude.{nat_le, nat_lt, if◌then◌else◌}
 use Rattle.std.specs.Int.{div_ceil}
 use Rattle.std.proofs.lemmas.Bool.{cases_lt, cond_below, cond_above, le-leb, lt-leb}
@@ -10,11 +10,12 @@ use Rattle.layout.specs.Maps.{indirect_pointer}
 use Rattle.layout.specs.Pointer.{PointsBelow}
 use Rattle.layout.specs.Inode.{FitsKind}
 use Rattle.layout.specs.Places.{Blocks, follow}
-use Rattle.layout.specs.Version.{level_of}
+use Rattle.layout.specs.Trees.{fan_out, level_of, single_bytes}
 use Rattle.layout.specs.declared.geometry.TheConstants.{MOST_BLOCKS}
 use Rattle.layout.specs.declared.inode.Body.TheVariants.{Pointers}
 use Rattle.layout.specs.declared.inode.Inode.{Inode}
 use Rattle.layout.specs.declared.kind.Kind.TheVariants as kinds
+use Rattle.layout.specs.declared.trees.Layout.TheVariants.{Plain}
 use Rattle.layout.specs.declared.pointer.Pointer.{Pointer}
 use Rattle.layout.specs.declared.pointer.Pointer.TheVariants.{Hole, Block}
 use Rattle.images.specs.Nodes.{held, Names, Agrees}
@@ -32,7 +33,7 @@ use Rattle.layout.proofs.PointerLaws.{no_block, some_block}
 -- the inode of a map of so many blocks
 abbrev pub own_inode : List Pointer → ℕ → Inode
 own_inode pointers count =
-    record { kind = kinds.BlockMap; attributes = no_attributes; links = 1; size = 4 * count; body = Pointers pointers }
+    record { layout = Plain; kind = kinds.BlockMap; attributes = no_attributes; links = 1; size = 4 * count; body = Pointers pointers }
 
 -- On a disk with the planned blocks: the map before and after, the nodes' settled and new places, and the pointers of the inode.
 pub record Work (e : Blocks) (before after : Draft) (settled places tops : List Pointer) (n : ℕ) : Type 0 where
@@ -92,7 +93,7 @@ module _ {s : Sizes} {d e : Blocks} {old : Inode} {before after : Draft} {settle
 
   pub old_stands : Stands n (pointer_at settled) (held d old)
   old_stands =
-      sound_stands s d old n settled is.sound is.kind is.sizes.least_blocks is.sizes.most_blocks (omega (arith, w.count, is.blocks))
+      sound_stands s d old n settled is.sound is.plain is.kind is.sizes.least_blocks is.sizes.most_blocks (omega (arith, w.count, is.blocks))
       (λ k lt. is.lowest k (omega (arith, w.parts))) (λ level. ap (pointer_at settled) (sym w.parts) ∙ is.over level)
       (λ le k ge. settled_past k (omega (arith, ends le)))
 
@@ -198,18 +199,30 @@ module _ {s : Sizes} {d e : Blocks} {old : Inode} {before after : Draft} {settle
     | inr new ↦ no_block (node_at settled places k) new.0 none (new_node settled places k new.0 new.1)
   ]
 
-  two_levels : 16 < n → level_of old.size ≡ 2
-  two_levels lt = level_two old.size (omega (arith, old_size, w.count)) (omega (arith, old_size, is.blocks, is.sizes.most_blocks))
+  pub old_plain : old.layout ≡ Plain
+  unfolding held
+  old_plain = is.sound.inode.layout ∙ is.plain
+
+  two_levels : 16 < n → level_of old.layout old.size ≡ 2
+  two_levels lt =
+      level_two old.layout old.size (omega (arith, old_size, w.count))
+      (subst (λ l. old.size ≤ single_bytes l) (sym old_plain) (omega (arith, old_size, is.blocks, is.sizes.most_blocks)))
+
+  -- node 0 at a height is what the indirect block over it says first, and so are those beside it
+  old_up : (m i : ℕ) → suc m < level_of old.layout old.size → i < 1024 → (held d old).place m i ≡ follow d ((held d old).place (suc m) 0) i
+  old_up m i low lt =
+      let first : i / 1024 ≡ 0 = omega arith in
+      let same : i % 1024 ≡ i = omega arith in
+      held_up d old m i low
+      ∙ ap (λ l. follow d ((held d old).place (suc m) (i / fan_out l)) (i % fan_out l)) old_plain
+      ∙ ap (λ j. follow d ((held d old).place (suc m) j) (i % 1024)) first
+      ∙ ap (follow d ((held d old).place (suc m) 0)) same
 
   -- under the settled indirect block
   old_under : (x i : ℕ) → 16 < n → pointer_at settled n ≡ Block x → i < 1024 → (held d old).place 0 i ≡ indirect_pointer (d x) i
   old_under x i many at lt =
-      let first : i / 1024 ≡ 0 = omega arith in
-      let same : i % 1024 ≡ i = omega arith in
       let level = two_levels many in
-      held_up d old 0 i (omega (arith, level))
-      ∙ ap (λ p. follow d p (i % 1024)) (ap (λ j. (held d old).place 1 j) first ∙ old_stands.top ∙ at)
-      ∙ ap (indirect_pointer (d x)) same
+      old_up 0 i (omega (arith, level)) lt ∙ ap (λ p. follow d p i) (old_stands.top ∙ at)
 
   -- under an indirect block that stays all blocks do
   still : 16 < n → (i : ℕ) → i < n → pointer_at places n ≡ Hole → pointer_at places i ≡ Hole
@@ -221,7 +234,7 @@ module _ {s : Sizes} {d e : Blocks} {old : Inode} {before after : Draft} {settle
   old_over : 16 < n → pointer_at places n ≡ Hole → pointer_at settled n ≢ Hole
   old_over many hole none =
       let level = two_levels many in
-      let none_under : (held d old).place 0 0 ≡ Hole = held_up d old 0 0 (omega (arith, level)) ∙ ap (λ p. follow d p (0 % 1024)) (old_stands.top ∙ none) in
+      let none_under : (held d old).place 0 0 ≡ Hole = old_up 0 0 (omega (arith, level)) (omega arith) ∙ ap (λ p. follow d p 0) (old_stands.top ∙ none) in
       old_block 0 (omega arith) (still many 0 (omega arith) hole) (sym (old_stands.low 0 (omega arith)) ∙ none_under)
 
   over_there : 16 < n → node_at settled places n ≢ Hole
@@ -247,14 +260,14 @@ module _ {s : Sizes} {d e : Blocks} {old : Inode} {before after : Draft} {settle
     | inr less ↦
         let t : leb n 16 ≡ true = le-leb _ _ less in
         stands_direct e (own_inode tops before.map.count) tops refl n (node_at settled places)
-        (level_one (4 * before.map.count) (omega (arith, is.blocks, is.sizes.least_blocks)) (omega (arith, w.count)))
+        (level_one Plain (4 * before.map.count) (omega (arith, is.blocks, is.sizes.least_blocks)) (omega (arith, w.count)))
         (λ i. w.tops_are i ∙ ap (λ b. node_at settled places ((if b then 0 else n) + i)) t ∙ ap (node_at settled places) (omega arith))
         (λ k ge. node_past k (omega (arith, ends less)))
     | inl many ↦
         let t : leb n 16 ≡ false = lt-leb _ _ many in
         let over = some_block (node_at settled places n) (over_there many) in
         stands_under e (own_inode tops before.map.count) tops refl n over.0 (node_at settled places)
-        (level_two (4 * before.map.count) (omega (arith, w.count)) (omega (arith, is.blocks, is.sizes.most_blocks)))
+        (level_two Plain (4 * before.map.count) (omega (arith, w.count)) (omega (arith, is.blocks, is.sizes.most_blocks)))
         (λ i. w.tops_are i ∙ ap (λ b. node_at settled places ((if b then 0 else n) + i)) t)
         (λ k gt. node_past k (omega (arith, goes_on many))) few over.1
         (λ i lt. spelled over.0 i many over.1 (omega (arith, few)) ∙ sym (cond_below i n (node_at settled places i) Hole lt))

@@ -1,7 +1,8 @@
 -- Nodes of a file and the indirect blocks over them.
-use Rattle.std.specs.Prelude.{ℕ, ◌≡◌, ◌⊎◌, ◌+◌, ◌*◌, ◌<◌, List, length, slice_index_or}
+use Rattle.std.specs.Prelude.{ℕ, ◌≡◌, ◌⊎◌, ◌+◌, ◌*◌, ◌<◌, List, length, nat_lt, if◌then◌else◌, slice_index_or}
 use Rattle.layout.specs.Maps.{indirect_pointer}
 use Rattle.layout.specs.Places.{Blocks}
+use Rattle.layout.specs.Trees.{fan_out}
 use Rattle.layout.specs.declared.geometry.TheConstants.{MOST_BLOCKS}
 use Rattle.layout.specs.declared.TheConstants.{BLOCK_BYTES, BLOCK_POINTERS}
 use Rattle.layout.specs.declared.pointer.Pointer.{Pointer}
@@ -15,8 +16,8 @@ use Rattle.conspoint.specs.Drafts.{WasTaken}
 abbrev pub pointer_at : List Pointer → ℕ → Pointer
 pointer_at pointers i = slice_index_or pointers i Hole
 
--- Of 1,024 nodes and the pointer over them, on a disk e: all are as they were, or a block spells
--- the nodes, of which some is no hole, or all are holes.
+-- Of the nodes under one indirect block, as its 1,024 numbers, and the pointer over them, on a disk
+-- e: all are as they were, or a block spells them, of which some is no hole, or all are holes.
 pub data IsGroup (e : Blocks) (settled : Pointer) (old new : ℕ → Pointer) (over : Pointer) : Type 0 where
   keeps : (is : over ≡ settled) → (same : (i : ℕ) → i < BLOCK_POINTERS → new i ≡ old i)
       → IsGroup e settled old new over
@@ -28,15 +29,16 @@ pub data IsGroup (e : Blocks) (settled : Pointer) (old new : ℕ → Pointer) (o
   none : (is : over ≡ Hole) → (under : (i : ℕ) → i < BLOCK_POINTERS → new i ≡ Hole)
       → IsGroup e settled old new over
 
--- The pointer over 1,024 nodes is a hole where all of them are, and where none moved it is as it
--- was.
+-- The pointer over the nodes of a group is a hole where all of them are, and where none moved it is
+-- as it was.
 pub record Follows (settled : Pointer) (old new : ℕ → Pointer) (over : Pointer) : Type 0 where
   pub none : ((i : ℕ) → i < BLOCK_POINTERS → new i ≡ Hole) → over ≡ Hole
   pub same : ((i : ℕ) → i < BLOCK_POINTERS → new i ≡ old i) → (over ≡ settled) ⊎ ((i : ℕ) → i < BLOCK_POINTERS → new i ≡ Hole)
 
--- the nodes of group j
+-- the nodes of group j, and holes behind as many as an indirect block has pointers
 abbrev pub group : PlaceMap → ℕ → ℕ → Pointer
-group nodes j i = place_at nodes (BLOCK_POINTERS * j + i)
+group nodes j i =
+    if nat_lt i (fan_out nodes.layout) then place_at nodes (fan_out nodes.layout * j + i) else Hole
 
 -- a pointer is as it was, or leads to a block that was given out since
 abbrev pub ComesFrom : Draft → Draft → Pointer → Pointer → Type 0

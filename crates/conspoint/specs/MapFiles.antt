@@ -9,10 +9,11 @@ use Rattle.blockmap.specs.declared.map.BlockMap.{BlockMap}
 use Rattle.layout.specs.Limits.{Sizes, AreSizes}
 use Rattle.layout.specs.Maps.{map_entry}
 use Rattle.layout.specs.Places.{Blocks}
-use Rattle.layout.specs.Version.{level_of}
+use Rattle.layout.specs.Trees.{level_of}
 use Rattle.layout.specs.declared.TheConstants.{BLOCK_BYTES, BODY_POINTERS}
 use Rattle.layout.specs.declared.inode.Inode.{Inode}
 use Rattle.layout.specs.declared.kind.Kind.TheVariants as kinds
+use Rattle.layout.specs.declared.trees.Layout.TheVariants.{Plain}
 use Rattle.layout.specs.declared.pointer.Pointer.{Pointer}
 use Rattle.layout.specs.declared.pointer.Pointer.TheVariants.{Hole, Block}
 use Rattle.images.specs.Nodes.{held, Names, IsOnce, Agrees, file_block}
@@ -54,6 +55,7 @@ AreTouched parts = (j : ℕ) → j < length parts → IsTouched parts j
 -- file is one whose blocks are all stored then.
 pub record IsSettledMap (s : Sizes) (d : Blocks) (f : Inode) (map : BlockMap) (nodes : List Pointer) : Type 0 where
   pub sizes : AreSizes s
+  pub plain : s.layout ≡ Plain
   pub blocks : map.count ≡ s.blocks
   pub kind : f.kind ≡ kinds.BlockMap
   pub sound : IsSoundFile s (held d f)
@@ -65,7 +67,7 @@ pub record IsSettledMap (s : Sizes) (d : Blocks) (f : Inode) (map : BlockMap) (n
   -- none of its own blocks is free
   pub used : (b : ℕ) → Names (held d f) b → settled_at map.parts.items b ≢ 0
   pub lowest : (k : ℕ) → k < length map.parts.items → pointer_at nodes k ≡ (held d f).place 0 k
-  pub over : level_of f.size ≡ 2 → pointer_at nodes (length map.parts.items) ≡ (held d f).place 1 0
+  pub over : level_of f.layout f.size ≡ 2 → pointer_at nodes (length map.parts.items) ≡ (held d f).place 1 0
 
 -- The disk e has the map under this inode, in its grammar, with these entries. Each of its nodes
 -- stands where that of the settled map does, or in a taken block; of the blocks of the settled one,

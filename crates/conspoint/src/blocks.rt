@@ -48,6 +48,7 @@ pub fn place_blocks(
     requires within { AreBelow MOST_BLOCKS settled }
     requires end { EndBefore count settled }
     ensures step { Places (changed_blocks tree.now first count) draft.old draft.new result }
+    ensures layout { IfOk result (λ nodes. nodes.layout ≡ settled.layout) }
     ensures end { IfOk result (EndBefore count) }
     ensures before { IfOk result (λ nodes. (i : ℕ) → i < first
         → place_at nodes i ≡ place_at settled i) }

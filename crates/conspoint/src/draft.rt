@@ -224,7 +224,7 @@ impl Draft {
     }
 
     /// The plan of these blocks, with this root for the slot at this sector; and the map.
-    pub fn into_plan(self, slot: u32, root: [u8; ROOT_BYTES]) -> (BlockMap, Plan)
+    pub fn into_plan(self, slot: u64, root: [u8; ROOT_BYTES]) -> (BlockMap, Plan)
         requires { IsSlot slot }
         ensures map { result.0 ≡ self.map }
         ensures plan { result.1 ≡ record {

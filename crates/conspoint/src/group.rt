@@ -1,8 +1,9 @@
 //! Indirect blocks, made anew.
 
-ghost use Rattle.std.specs.Prelude.{◌≡◌, ℕ, ◌<◌, ◌≤◌, All, IfOk, IsTrue, IfSome, IfNone, length, ◌↔◌};
+ghost use Rattle.std.specs.Prelude.{◌≡◌, ℕ, ◌*◌, ◌^◌, ◌<◌, ◌≤◌, All, IfOk, IsTrue, IfSome, IfNone, length, ◌↔◌};
 ghost use Rattle.layout.specs.Maps.{indirect_pointer};
 ghost use Rattle.layout.specs.Pointer.{PointsBelow};
+ghost use Rattle.layout.specs.Trees.{fan_out};
 ghost use Rattle.layout.specs.declared.TheConstants.{BLOCK_BYTES, BLOCK_POINTERS};
 ghost use Rattle.layout.specs.declared.geometry.TheConstants.{MOST_BLOCKS};
 ghost use Rattle.layout.specs.declared.pointer.Pointer.TheVariants.{Hole};
@@ -16,11 +17,8 @@ use crate::draft::Draft;
 use crate::error::PlanError;
 use blocktree::PlaceMap;
 use buffers::SharedBlock;
-use layout::{BLOCK_BYTES, BLOCK_POINTERS, Pointer, set_pointer};
+use layout::{BLOCK_BYTES, BLOCK_POINTERS, Layout, Pointer, set_pointer};
 use std::alloc::Global;
-
-/// Nodes under one indirect block.
-const GROUP: u32 = BLOCK_POINTERS as u32;
 
 /// Spells 1,024 pointers as an indirect block.
 fn spell(pointers: &[Pointer], bytes: &mut [u8; BLOCK_BYTES])
@@ -77,8 +75,8 @@ fn same_pointers(old: &[Pointer], new: &[Pointer]) -> bool
     true
 }
 
-/// The pointer over 1,024 nodes: a hole where all are holes, the settled one where no node moved,
-/// else one to a new block that spells them.
+/// The pointer over the nodes of a group: a hole where all are holes, the settled one where no node
+/// moved, else one to a new block that spells them.
 pub fn place_group(
     alloc: Global,
     draft: &mut Draft,
@@ -112,8 +110,9 @@ pub fn place_group(
 }
 
 /// The first group from one on and before another that has a node which is stored.
-fn next_group(nodes: &PlaceMap, from: u32, to: u32) -> Option<u32>
-    requires { to < 4194304 }
+fn next_group(nodes: &PlaceMap, layout: Layout, from: u32, to: u32) -> Option<u32>
+    requires layout { nodes.now.layout ≡ layout }
+    requires few { fan_out layout * to < 2 ^ 32 }
     ensures found { IfSome result (λ j. (from ≤ j) × (j < to)) }
     ensures before { IfSome result (λ j. (k i : ℕ) → from ≤ k → k < j → i < BLOCK_POINTERS
         → group nodes.now k i ≡ Hole) }
@@ -123,26 +122,31 @@ fn next_group(nodes: &PlaceMap, from: u32, to: u32) -> Option<u32>
     if from >= to {
         return None;
     }
-    match nodes.next(GROUP * from, GROUP * to) {
-        Some(node) => Some(node.index / GROUP),
+    let fan_out = layout.fan_out();
+    match nodes.next(fan_out * from, fan_out * to) {
+        Some(node) => Some(node.index / fan_out),
         None => None,
     }
 }
 
-/// The places over nodes, one over each 1,024 of them, by rising index, for so many groups. Over a
-/// group without a node that is stored there is none.
+/// The places over nodes of this layout, one over each group of as many as an indirect block has
+/// pointers, by rising index, for so many groups. Over a group without a node that is stored there
+/// is none.
 pub fn place_over(
     alloc: Global,
     draft: &mut Draft,
+    layout: Layout,
     settled: &PlaceMap,
     old: &PlaceMap,
     new: &PlaceMap,
     groups: u32,
 ) -> Result<PlaceMap, PlanError>
-    requires few { groups < 4194304 }
+    requires layout { new.now.layout ≡ layout }
+    requires few { fan_out layout * groups < 2 ^ 32 }
     requires within { AreBelow MOST_BLOCKS new.now }
     requires settled { AreBelow MOST_BLOCKS settled.now }
     ensures step { PlacesOver groups (group old.now) (group new.now) draft.old draft.new result }
+    ensures layout { IfOk result (λ over. over.layout ≡ layout) }
     ensures end { IfOk result (EndBefore groups) }
     ensures groups { IfOk result (λ over. OnEach draft.new (λ e. (j : ℕ) → j < groups
         → IsGroup e (place_at settled.now j) (group old.now j) (group new.now j)
@@ -151,9 +155,9 @@ pub fn place_over(
         (place_at settled.now j) (group old.now j) (group new.now j) (place_at over j)) }
     ensures placed { IfOk result (λ over. ArePlaced draft.old draft.new settled.now over) }
 {
-    let mut over = PlaceMap::new(alloc);
+    let mut over = PlaceMap::new(alloc, layout);
     let mut from = 0;
-    while let Some(j) = next_group(new, from, groups) {
+    while let Some(j) = next_group(new, layout, from, groups) {
         let before = old.group(j);
         let after = new.group(j);
         let pointer = place_group(alloc, draft, settled.at(j), &before, &after)?;

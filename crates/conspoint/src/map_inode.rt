@@ -21,7 +21,9 @@ use crate::draft::Draft;
 use crate::error::PlanError;
 use crate::map_file::store_map;
 use buffers::SharedBlock;
-use layout::{BLOCK_BYTES, BLOCK_POINTERS, BODY_POINTERS, Body, Inode, Kind, Pointer, set_pointer};
+use layout::{
+    BLOCK_BYTES, BLOCK_POINTERS, BODY_POINTERS, Body, Inode, Kind, Layout, Pointer, set_pointer,
+};
 use model::Attributes;
 use std::alloc::{AllocError, Global};
 
@@ -179,9 +181,10 @@ fn top_pointers(settled: &[Pointer], places: &[Pointer], first: usize) -> [Point
     pointers
 }
 
-/// The inode of the map's file.
+/// The inode of the map's file, whose indirect block has 1,024 pointers.
 fn map_inode(pointers: [Pointer; BODY_POINTERS], blocks: u32) -> Inode
     ensures { result ≡ record {
+      layout = Layout.Plain;
       kind = Kind.BlockMap;
       attributes = no_attributes;
       links = 1;
@@ -190,6 +193,7 @@ fn map_inode(pointers: [Pointer; BODY_POINTERS], blocks: u32) -> Inode
     } }
 {
     Inode {
+        layout: Layout::Plain,
         kind: Kind::BlockMap,
         attributes: Attributes::none(),
         links: 1,

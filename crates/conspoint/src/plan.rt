@@ -27,7 +27,7 @@ pub struct Plan {
     blocks: Vec<PlannedBlock>,
     written: usize,
     /// The sector of the new root.
-    slot: u32,
+    slot: u64,
     root: [u8; ROOT_BYTES],
 }
 
@@ -43,7 +43,7 @@ impl Model for Plan {
 
 impl Plan {
     /// A plan of which nothing is written. The slot is the sector of the root.
-    pub fn new(blocks: Vec<PlannedBlock>, slot: u32, root: [u8; ROOT_BYTES]) -> Plan
+    pub fn new(blocks: Vec<PlannedBlock>, slot: u64, root: [u8; ROOT_BYTES]) -> Plan
         requires blocks { ArePlacedBehindSlots blocks.items }
         requires slot { IsSlot slot }
         ensures { result

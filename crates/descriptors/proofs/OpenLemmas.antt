@@ -5,7 +5,7 @@ use Rattle.std.proofs.lemmas.Bool.{cases_eq, cond-true, cond-false, eq-eqb, ne_e
 use Rattle.std.proofs.lemmas.Option.{none-some, same_Some}
 use Rattle.std.specs.Option.{ForSome, option_map}
 use Rattle.model.specs.Trees.{Description}
-use Rattle.model.specs.declared.limits.TheConstants.{GREATEST_FILE, GREATEST_OFFSET, OPEN_FILES}
+use Rattle.model.specs.declared.limits.TheConstants.{GREATEST_OFFSET, OPEN_FILES}
 use Rattle.descriptors.specs.Consistency.{AreConsistent}
 use Rattle.descriptors.specs.Files.{description_of, refigured_file}
 use Rattle.descriptors.specs.Openings.{is_for, kept_openings, less_opened, opened_file, opened_files, openings}
@@ -71,12 +71,12 @@ module _ (slots : ℕ → Option OpenDescription) (files : ℕ → Option Shared
     abbrev files_then : ℕ → Option SharedFile
     files_then = put_open d.number (Some f) files
 
-    pub opened_consistent : d.offset ≤ GREATEST_OFFSET → f.size ≤ GREATEST_FILE → AreConsistent slots_then files_then
+    pub opened_consistent : d.offset ≤ GREATEST_OFFSET → f.size ≤ GREATEST_OFFSET → AreConsistent slots_then files_then
     opened_consistent offset size = record {
       bounded = λ k past. put_apart fd (Some d) slots k (λ same. absurd (omega (arith, same, past, below))) ∙ fine.bounded k past;
       counted = counted;
       used = put_each (λ (g : SharedFile). 0 < g.openings) d.number (Some f) files (some_is (λ (g : SharedFile). 0 < g.openings) f (omega (arith, more))) fine.used;
-      sizes = put_each (λ (g : SharedFile). g.size ≤ GREATEST_FILE) d.number (Some f) files (some_is (λ (g : SharedFile). g.size ≤ GREATEST_FILE) f size) fine.sizes;
+      sizes = put_each (λ (g : SharedFile). g.size ≤ GREATEST_OFFSET) d.number (Some f) files (some_is (λ (g : SharedFile). g.size ≤ GREATEST_OFFSET) f size) fine.sizes;
       offsets = put_each (λ (e : OpenDescription). e.offset ≤ GREATEST_OFFSET) fd (Some d) slots (some_is (λ (e : OpenDescription). e.offset ≤ GREATEST_OFFSET) d offset) fine.offsets;
     }
       where
@@ -158,8 +158,8 @@ module _ (slots : ℕ → Option OpenDescription) (files : ℕ → Option Shared
       bounded = λ k past. elim (cases_eq k fd) [ inl same ↦ ap slots_left same ∙ put_here fd None slots | inr apart ↦ put_apart fd None slots k apart ∙ fine.bounded k past ];
       counted = counted;
       used = put_each (λ (g : SharedFile). 0 < g.openings) d.number (less_opened f) files (less_is (λ (g : SharedFile). 0 < g.openings) (λ g less size links some. some) (fine.used d.number f file)) fine.used;
-      sizes = put_each (λ (g : SharedFile). g.size ≤ GREATEST_FILE) d.number (less_opened f) files
-          (less_is (λ (g : SharedFile). g.size ≤ GREATEST_FILE) (λ g less size links some. subst (λ k. k ≤ GREATEST_FILE) (sym size) (fine.sizes d.number f file)) (fine.used d.number f file)) fine.sizes;
+      sizes = put_each (λ (g : SharedFile). g.size ≤ GREATEST_OFFSET) d.number (less_opened f) files
+          (less_is (λ (g : SharedFile). g.size ≤ GREATEST_OFFSET) (λ g less size links some. subst (λ k. k ≤ GREATEST_OFFSET) (sym size) (fine.sizes d.number f file)) (fine.used d.number f file)) fine.sizes;
       offsets = put_each (λ (e : OpenDescription). e.offset ≤ GREATEST_OFFSET) fd None slots (none_is (λ (e : OpenDescription). e.offset ≤ GREATEST_OFFSET)) fine.offsets;
     }
       where

@@ -2,7 +2,7 @@
 use Rattle.std.specs.Prelude.{ℕ, ◌≤◌, ◌==◌, if◌then◌else◌, length, Option, Some, None}
 use Rattle.model.specs.Descriptors.{is_reading, is_writing}
 use Rattle.model.specs.Trees.{Description}
-use Rattle.model.specs.declared.limits.TheConstants.{GREATEST_FILE, GREATEST_OFFSET}
+use Rattle.model.specs.declared.limits.TheConstants.{GREATEST_OFFSET}
 use Rattle.model.specs.Volumes.{Node, directory_node, file_node, link_node}
 use Rattle.descriptors.specs.declared.open_file.OpenFile.{OpenFile}
 
@@ -16,10 +16,10 @@ description_of f = record {
   appends = f.appends;
 }
 
--- an open file's offset and size keep to the limits
+-- an open file's offset and size keep to the bound of offsets
 pub record KeepsBounds (f : OpenFile) : Type 0 where
   pub offset : f.offset ≤ GREATEST_OFFSET
-  pub size : f.size ≤ GREATEST_FILE
+  pub size : f.size ≤ GREATEST_OFFSET
 
 -- what an open file keeps beside its description: how many names the file has, and how many bytes
 pub record Figures : Type 0 where

@@ -2,7 +2,7 @@
 
 ghost use Rattle.std.specs.Prelude.{◌≡◌, ◌≤◌};
 ghost use Rattle.model.specs.Descriptors.{described_by};
-ghost use Rattle.model.specs.declared.limits.TheConstants.{GREATEST_FILE};
+ghost use Rattle.model.specs.declared.limits.TheConstants.{GREATEST_OFFSET};
 
 use crate::description::OpenDescription;
 use crate::shared::SharedFile;
@@ -33,7 +33,7 @@ impl OpenFile {
     pub fn opened(number: u32, flags: Flags, size: u64, links: u32) -> OpenFile
         ensures described { description_of result ≡ described_by number flags }
         ensures figures { figures_of result ≡ record { links = links; size = size } }
-        ensures within { size ≤ GREATEST_FILE → KeepsBounds result }
+        ensures within { size ≤ GREATEST_OFFSET → KeepsBounds result }
     {
         OpenFile {
             number,

@@ -7,7 +7,7 @@ ghost use Rattle.model.specs.Records.{count_orphans};
 ghost use Rattle.model.specs.Steps.{has_open_below};
 ghost use Rattle.model.specs.Trees.{Tree};
 ghost use Rattle.model.specs.Volumes.{IsMounted, IsVolume, Volume, is_open};
-ghost use Rattle.model.specs.declared.limits.TheConstants.{GREATEST_FILE, GREATEST_OFFSET, OPEN_FILES};
+ghost use Rattle.model.specs.declared.limits.TheConstants.{GREATEST_OFFSET, OPEN_FILES};
 ghost use Rattle.descriptors.specs.Consistency.{AreConsistent, AreConsistent-prop};
 ghost use Rattle.descriptors.specs.Files.{KeepsBounds, description_of, refigured_file, relinked_file, resized_file, with_figure_links, with_size};
 ghost use Rattle.descriptors.specs.Shared.{shared_at};
@@ -169,7 +169,7 @@ impl Descriptors {
 
     /// Notes that the file with a number has so many bytes now.
     pub fn resized(&mut self, number: u32, size: u64)
-        requires { size ≤ GREATEST_FILE }
+        requires { size ≤ GREATEST_OFFSET }
         ensures keeps { KeepsRoom self.old self.new }
         ensures files { (fd : ℕ) → open_at self.new fd
             ≡ option_map (resized_file number size) (open_at self.old fd) }

@@ -1,6 +1,5 @@
 //! An edit of a directory, prepared before it is made.
 
-use crate::FILE_BLOCKS;
 use buffers::{BlockError, Blocks, SharedBlock};
 use entries::{Known, Look, hash_of};
 use inode::File;
@@ -18,7 +17,6 @@ pub struct Edit {
     pub(crate) count: u32,
     /// What is known of its blocks then.
     pub(crate) known: Known,
-    ghost within: { count ≤ FILE_BLOCKS },
 }
 
 /// Where a name stands.
@@ -35,7 +33,6 @@ ghost use Rattle.std.specs.BTreeMap as tree;
 ghost use Rattle.layout.specs.Directory.{Named, HoldsEntries};
 ghost use Rattle.buffers.specs.Reads.{ReadsBlocks};
 ghost use Rattle.buffers.specs.Errors.{IsFault};
-ghost use Rattle.dirs.specs.declared.TheConstants.{FILE_BLOCKS};
 
 impl Edit {
     ghost use Rattle.blocktree.specs.Trees.{IsSoundAt, KeepsRoom, KeepsSound};

@@ -14,9 +14,6 @@ pub use directory::{NumberedName, find, list, list_numbered};
 pub use edit::Edit;
 pub use error::AddError;
 
-/// Blocks that the greatest file has.
-const FILE_BLOCKS: u32 = 16_777_216;
-
 /// Blocks that a directory has at the most to which a block was added: those of a file without a
 /// third height of indirect blocks.
 const GROWN_BLOCKS: u32 = 16_384;

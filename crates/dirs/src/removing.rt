@@ -95,7 +95,7 @@ impl Edit {
         let mut bytes = [0; BLOCK_BYTES];
         self.copy(file, blocks, place.block, &mut bytes)?;
         known.remove(place.block, &mut bytes, inodes, name);
-        if place.block + 1 == self.count && count(&bytes, inodes) == 0 {
+        if self.count == place.block + 1 && count(&bytes, inodes) == 0 {
             known.forget_from(place.block);
             self.count = self.trimmed(file, known, blocks, inodes, place.block)?;
             return Ok(());

@@ -1,5 +1,5 @@
 -- What the layers below tell of blocks and of objects in memory, on a system that shows a state.
-use Rattle.std.proofs.Common.{◌≡◌, ◌*◌, ◌/◌, ◌≤◌, ◌∙◌, ℕ, List, Option, Result, arith, sym, subst}
+use Rattle.std.proofs.Common.{◌≡◌, ◌*◌, ◌^◌, ◌<◌, ◌≤◌, ◌∙◌, ℕ, List, Option, Result, arith, sym, subst}
 use Rattle.std.specs.Prelude.{IsErrOf}
 use Rattle.station.specs.Moments.{Meaning}
 use Rattle.station.specs.declared.station.Station.{Ghosts}
@@ -11,6 +11,7 @@ use Rattle.model.specs.Trees.{Description}
 use Rattle.model.specs.Volumes.{IsMounted, IsVolume, Volume}
 use Rattle.overlay.specs.Overlays.{planned_disk}
 use Rattle.overlay.specs.declared.overlay.Overlay.{Overlay}
+use Rattle.buffers.specs.Disks.{numbered_blocks}
 use Rattle.buffers.specs.Errors.{IsFault}
 use Rattle.buffers.specs.Reads.{ReadsBlocks}
 use Rattle.buffers.specs.declared.error.BlockError.{BlockError}
@@ -33,8 +34,8 @@ use Rattle.system.specs.declared.system.System.{System}
 use Rattle.system.proofs.LookedLaws.{ReadsBlocksOn, reads_nothing}
 use Rattle.dispatch.specs.Showing.{IsShowing}
 
-pub eighth : (n b : ℕ) → n ≡ 8 * b → n / 8 ≡ b
-eighth n b is = omega arith
+eighth : (n b : ℕ) → n ≡ 8 * b → b < 2 ^ 32 → numbered_blocks n ≡ b
+eighth n b is few = omega arith
 
 -- ---- which systems show a state
 
@@ -83,11 +84,15 @@ module _ {S : Type 0} {G : Ghosts S} (f : System S G) where
   inodes_under = inodes_of (whole disk_under f.root).active
 
   module _ {table : ℕ → Option Description} {s : State} (shown : IsShowing (meaning_of f) (system_parts f) table s) where
+    -- the blocks of the station are the root's
+    its_count : numbered_blocks (meaning_of f).sectors ≡ f.root.geometry.blocks
+    its_count = let most = f.is_root.head.sizes.most_blocks in eighth (meaning_of f).sectors f.root.geometry.blocks f.sectors (omega (arith, most))
+
     -- memory stands for the running volume
     stands : Stands (blocks_with G) disk_under inodes_under shown.running f.blocks f.inodes
     stands = record {
       shows = shown.shows;
-      volume = subst (λ (n : ℕ). IsVolumeOf n disk_under inodes_under f.inodes shown.running) (sym (eighth (meaning_of f).sectors f.root.geometry.blocks f.sectors)) shown.memory.stands;
+      volume = subst (λ (n : ℕ). IsVolumeOf n disk_under inodes_under f.inodes shown.running) (sym its_count) shown.memory.stands;
     }
 
     its_volume : IsVolume f.inodes.geometry.inodes shown.running
@@ -114,7 +119,7 @@ module _ {S : Type 0} {G : Ghosts S} (f : System S G) where
     module _ {after : Overlay S G} {inodes : InodeFile} {T : Type 0} {r : Result T BlockError} (looks : Looks (blocks_with G) IsFault f.blocks after f.inodes inodes r) where
       pub looked_memory : IsInMemory disk_under f.root inodes shown.running
       looked_memory = record {
-        stands = subst (λ (n : ℕ). IsVolumeOf n disk_under inodes_under inodes shown.running) (looks.reads.count ∙ eighth (meaning_of f).sectors f.root.geometry.blocks f.sectors)
+        stands = subst (λ (n : ℕ). IsVolumeOf n disk_under inodes_under inodes shown.running) (looks.reads.count ∙ its_count)
             (looks.kept disk_under inodes_under shown.running stands).volume;
         volume = shown.memory.volume;
       }

@@ -5,15 +5,15 @@ use Rattle.station.specs.Moments.{Meaning}
 use Rattle.file_station.specs.Files.{FilesMeaning, ShowsFile}
 use Rattle.file_station.specs.declared.image_files.Part.TheVariants.{Disk}
 
--- the files are whole sectors and few enough for a station
+-- the disk's file is whole sectors, and the lengths are ones of a station
 pub record FitStation (m : FilesMeaning) : Type 0 where
   pub whole : m.disk.length % 512 ≡ 0
-  pub sectors : m.disk.length / 512 < 2 ^ 32
+  pub sectors : m.disk.length / 512 < 2 ^ 55
   pub nvram : m.nvram.length < 2 ^ 32
 
 -- they aren't
 abbrev pub HasBadSize : FilesMeaning → Type 0
-HasBadSize m = (0 < m.disk.length % 512) ⊎ (2 ^ 32 ≤ m.disk.length / 512) ⊎ (2 ^ 32 ≤ m.nvram.length)
+HasBadSize m = (0 < m.disk.length % 512) ⊎ (2 ^ 32 ≤ m.nvram.length)
 
 -- these files as a station, with these counts of calls that failed
 abbrev pub station_of : FilesMeaning → ℕ → ℕ → Meaning

@@ -12,7 +12,7 @@ use std::io;
 use thiserror::Error;
 
 /// Sectors of a block.
-const BLOCK_SECTORS: u32 = (BLOCK_BYTES / SECTOR_BYTES) as u32;
+const BLOCK_SECTORS: u64 = (BLOCK_BYTES / SECTOR_BYTES) as u64;
 
 /// Why two files are no station.
 #[derive(Clone, Copy, Debug, PartialEq, Eq, Error)]
@@ -20,8 +20,7 @@ pub enum SizeError {
     /// A file's size can't be read.
     #[error("the file's size can't be read")]
     Unreadable,
-    /// The disk's size is no multiple of 512 bytes, or a count of sectors or bytes doesn't fit 32
-    /// bits.
+    /// The disk's size is no multiple of 512 bytes, or the NVRAM's doesn't fit 32 bits.
     #[error("no station has a file of this size")]
     BadSize,
 }
@@ -35,7 +34,7 @@ pub enum SizeError {
 pub struct FileStation<M: ImageFiles> {
     files: M,
     /// The block that is at hand, and its bytes.
-    block: Option<u32>,
+    block: Option<u64>,
     bytes: [u8; BLOCK_BYTES],
     failed_reads: u64,
     failed_writes: u64,
@@ -45,15 +44,14 @@ pub struct FileStation<M: ImageFiles> {
 
 impl<M: ImageFiles + Drop> FileStation<M> {
     /// A station over these files. BadSize exactly where the disk's file is no whole number of
-    /// sectors, or a count (of sectors, of NVRAM bytes) is past `u32::MAX`.
+    /// sectors, or the NVRAM has more than `u32::MAX` bytes.
     pub fn over(files: M) -> Result<FileStation<M>, SizeError>
         ensures files { IfOk result (λ s. s.files ≡ files) }
         ensures no_fault { IfOk result (λ s. (s.failed_reads ≡ 0) × (s.failed_writes ≡ 0)) }
         ensures bad_size { IsErrOf result SizeError.BadSize ↔ HasBadSize (M.meaning files) }
         ensures readable { IsErrOf result SizeError.Unreadable → ⊥ }
     {
-        let disk = files.len(Part::Disk);
-        if disk % SECTOR_BYTES as u64 != 0 || u32::try_from(disk / SECTOR_BYTES as u64).is_err() {
+        if files.len(Part::Disk) % SECTOR_BYTES as u64 != 0 {
             return Err(SizeError::BadSize);
         }
         if u32::try_from(files.len(Part::Nvram)).is_err() {
@@ -90,7 +88,7 @@ impl<M: ImageFiles + Drop> FileStation<M> {
     }
 
     /// Whether a block is at hand.
-    fn has(&self, block: u32) -> bool
+    fn has(&self, block: u64) -> bool
         ensures { IsTrue result → self.now.block ≡ Some block }
     {
         match self.block {
@@ -101,7 +99,7 @@ impl<M: ImageFiles + Drop> FileStation<M> {
 
     /// Reads a block, as far as the disk has its sectors. It is at hand then, but where the file
     /// can't be read so.
-    fn fetch(&mut self, block: u32)
+    fn fetch(&mut self, block: u64)
         requires { 8 * block < (M.meaning self.old.files).disk.length / 512 }
         ensures same { AreSameFiles (M.meaning self.old.files) (M.meaning self.new.files) }
         ensures reads { self.new.failed_reads ≡ self.old.failed_reads }
@@ -109,7 +107,7 @@ impl<M: ImageFiles + Drop> FileStation<M> {
         ensures goes { FilesGo LeavesFile LeavesFile (M.meaning self.old.files) (M.meaning self.new.files) }
     {
         self.block = None;
-        let at = BLOCK_BYTES as u64 * u64::from(block);
+        let at = BLOCK_BYTES as u64 * block;
         let count = (self.files.len(Part::Disk) - at).min(BLOCK_BYTES as u64) as usize;
         let done = read_first(&mut self.files, at, &mut self.bytes, count);
         if done.is_ok() {
@@ -192,8 +190,8 @@ impl<M: ImageFiles + Drop> Station for FileStation<M> {
     ghost sized = { λ s. laws.sized (M.meaning s.files) s.failed_reads s.failed_writes s.fits
         (M.lengths s.files Disk) (M.lengths s.files Nvram) };
 
-    fn sectors(&self) -> u32 {
-        (self.files.len(Part::Disk) / SECTOR_BYTES as u64) as u32
+    fn sectors(&self) -> u64 {
+        self.files.len(Part::Disk) / SECTOR_BYTES as u64
     }
 
     fn nv_bytes(&self) -> u32 {
@@ -202,7 +200,7 @@ impl<M: ImageFiles + Drop> Station for FileStation<M> {
 
     /// Always true where it succeeds: a file that can't be read is a call that fails. Where the
     /// block can't be read at once, the sector alone may be.
-    fn read_sector(&mut self, n: u32, out: &mut [u8; 512]) -> Result<bool, DeviceFault> {
+    fn read_sector(&mut self, n: u64, out: &mut [u8; 512]) -> Result<bool, DeviceFault> {
         let block = n / BLOCK_SECTORS;
         if !self.has(block) {
             self.fetch(block);
@@ -212,18 +210,14 @@ impl<M: ImageFiles + Drop> Station for FileStation<M> {
             out.copy_from_slice(&self.bytes[at..at + SECTOR_BYTES]);
             return Ok(true);
         }
-        let done = self
-            .files
-            .read(Part::Disk, SECTOR_BYTES as u64 * u64::from(n), out);
+        let done = self.files.read(Part::Disk, SECTOR_BYTES as u64 * n, out);
         note(&mut self.failed_reads, done)?;
         Ok(true)
     }
 
-    fn write_sector(&mut self, n: u32, bytes: &[u8; 512]) -> Result<(), DeviceFault> {
+    fn write_sector(&mut self, n: u64, bytes: &[u8; 512]) -> Result<(), DeviceFault> {
         self.block = None;
-        let done = self
-            .files
-            .write(Part::Disk, SECTOR_BYTES as u64 * u64::from(n), bytes);
+        let done = self.files.write(Part::Disk, SECTOR_BYTES as u64 * n, bytes);
         note(&mut self.failed_writes, done)
     }
 

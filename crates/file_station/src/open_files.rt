@@ -24,8 +24,8 @@ pub struct OpenFiles<F> {
 
 impl<F: FileExt + OpenFile + Drop> FileStation<OpenFiles<F>> {
     /// A station over these files, open for reading and writing. Unreadable where a file's length
-    /// can't be had, BadSize where the disk's is no whole number of sectors, or a count (of
-    /// sectors, of NVRAM bytes) is past `u32::MAX`.
+    /// can't be had, BadSize where the disk's is no whole number of sectors, or the NVRAM's is past
+    /// `u32::MAX`.
     pub fn new(disk: F, nvram: F) -> Result<FileStation<OpenFiles<F>>, SizeError>
         ensures files { IfOk result (λ s. (s.files.disk ≡ disk) × (s.files.nvram ≡ nvram)) }
         ensures sizes { IfOk result

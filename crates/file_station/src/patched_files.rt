@@ -36,8 +36,8 @@ pub struct PatchedFiles<F> {
 
 impl<F: FileExt + OpenFile + Drop> FileStation<PatchedFiles<F>> {
     /// A station over these files, open for reading, as if they had these lengths and were patched
-    /// so. Unreadable where a file's own length can't be had, BadSize where the disk's is no whole
-    /// number of sectors, or a count (of sectors, of NVRAM bytes) is past `u32::MAX`.
+    /// so. Unreadable where a file's own length can't be had, BadSize where the disk's length is no
+    /// whole number of sectors, or the NVRAM's is past `u32::MAX`.
     pub fn patched(
         disk: F,
         nvram: F,

@@ -10,7 +10,7 @@ use Rattle.model.specs.Room.{Need, nothing}
 use Rattle.model.specs.Trees.{Tree, Description}
 use Rattle.model.specs.Volumes.{Node, Volume, bytes_of_node, directory_node, file_node, link_node}
 use Rattle.model.specs.declared.errno.Errno.{Errno}
-use Rattle.model.specs.declared.limits.TheConstants.{GREATEST_FILE}
+use Rattle.model.specs.declared.limits.TheConstants.{GREATEST_OFFSET}
 use Rattle.model.specs.declared.reply.Reply.{Reply}
 use Rattle.model.specs.declared.reply.Reply.TheVariants.{Data, Refused}
 use Rattle.calls.specs.Get.{data_reply}
@@ -49,7 +49,7 @@ figured_size (Some (file_node attributes links bytes)) figures e = cc
 figured_size (Some (link_node attributes text)) figures e = cc
 
 -- no offset behind what is read is past the greatest one
-place_is : (bytes : List ℕ) (offset count : ℕ) → length bytes ≤ GREATEST_FILE → offset ≤ 9223372036854775807
+place_is : (bytes : List ℕ) (offset count : ℕ) → length bytes ≤ GREATEST_OFFSET → offset ≤ 9223372036854775807
     → min (offset + length (read_at offset count bytes)) 9223372036854775807 ≡ offset + length (read_at offset count bytes)
 place_is bytes offset count size within = omega (arith, length-take count (drop offset bytes), length-drop offset bytes)
 
@@ -75,7 +75,7 @@ module _ (table : Descriptors) (v : Volume) (fd count : ℕ) where
   read_done new f bytes opened bounds fits is moved =
       open_passes table v fd (read_tests (is_too_many count)) reading f (Data bytes) (tree_with new v) nothing opened (ap (λ b. Data b) is, tree_is, refl)
     where
-      size : length (contents tree f.number) ≤ GREATEST_FILE
+      size : length (contents tree f.number) ≤ GREATEST_OFFSET
       size = let same = figured_size (v f.number) (figures_of f) (fits.files fd f opened.0) in omega (arith, same, bounds.size)
 
       tree_is : tree_with new v ≡ with_offset fd (description_of f) (f.offset + length (given (description_of f))) tree

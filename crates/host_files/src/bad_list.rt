@@ -17,8 +17,8 @@ pub fn read_list<'a>(
     alloc: Global,
     path: &'a str,
     text: &[u8],
-    sectors: u32,
-) -> Result<Vec<u32>, FileError<'a>>
+    sectors: u64,
+) -> Result<Vec<u64>, FileError<'a>>
     ensures { IfOk result (λ list. Names text.now sectors list.items) }
 {
     let mut list = Vec::new(alloc);
@@ -42,8 +42,8 @@ fn end_line<'a>(
     alloc: Global,
     path: &'a str,
     word: &[u8],
-    sectors: u32,
-    list: &mut Vec<u32>,
+    sectors: u64,
+    list: &mut Vec<u64>,
 ) -> Result<(), FileError<'a>>
     requires { IsListOf sectors list.old.items }
     ensures { OnOk result (EndsLine word.now sectors list.old.items list.new.items) }
@@ -64,7 +64,7 @@ fn end_line<'a>(
 }
 
 /// The least number that may stand behind these.
-fn least_behind(list: &[u32], sectors: u32) -> u32
+fn least_behind(list: &[u64], sectors: u64) -> u64
     requires { IsListOf sectors list.now }
     ensures { IsBehind list.now result }
 {
@@ -76,13 +76,13 @@ fn least_behind(list: &[u32], sectors: u32) -> u32
 
 /// The number that a word spells: one that it parses as, where the word is what this number is
 /// written as.
-fn read_number(alloc: Global, word: &[u8]) -> Result<Option<u32>, AllocError>
+fn read_number(alloc: Global, word: &[u8]) -> Result<Option<u64>, AllocError>
     ensures { IfOk result (λ read. IfSome read (λ n. word.now ≡ decimal n)) }
 {
     let Ok(text) = std::str::from_utf8(word) else {
         return Ok(None);
     };
-    let Ok(number) = text.parse::<u32>() else {
+    let Ok(number) = text.parse::<u64>() else {
         return Ok(None);
     };
     let spelled = number.to_string(alloc)?;
@@ -93,7 +93,7 @@ fn read_number(alloc: Global, word: &[u8]) -> Result<Option<u32>, AllocError>
 }
 
 /// The text of a list.
-pub fn write_list(alloc: Global, list: &[u32]) -> Result<Vec<u8>, AllocError>
+pub fn write_list(alloc: Global, list: &[u64]) -> Result<Vec<u8>, AllocError>
     ensures { IfOk result (λ text. text.items ≡ list_text list.now) }
 {
     let mut text = Vec::new(alloc);

@@ -53,8 +53,8 @@ pub enum FileError<'a> {
         path: &'a str,
         line: usize,
         /// The least number that may stand there.
-        least: u32,
-        sectors: u32,
+        least: u64,
+        sectors: u64,
     },
     /// This file may not be written, and an image with a list of sectors that can't be read is
     /// written even where it is only to be read.

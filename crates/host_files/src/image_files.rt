@@ -26,7 +26,7 @@ use std::{fs, io};
 pub struct Held {
     disk: Option<File>,
     nvram: Option<File>,
-    pub(crate) bad: Vec<u32>,
+    pub(crate) bad: Vec<u64>,
 }
 
 /// Opens both files of an image, which are there and two. Between two tries neither is held, so
@@ -216,7 +216,7 @@ fn load_files<'a>(
 {
     let disk_bytes = read_to_end(alloc, image.disk, &mut disk)?;
     let nvram_bytes = read_to_end(alloc, image.nvram, &mut nvram)?;
-    let sectors = u32::try_from(disk_bytes.len() / SECTOR_BYTES).unwrap_or(u32::MAX);
+    let sectors = (disk_bytes.len() / SECTOR_BYTES) as u64;
     let bad = read_list(alloc, image.bad, text, sectors)?;
     match Sim::load_bad(alloc, disk_bytes, nvram_bytes, &bad) {
         Ok(sim) => {

@@ -69,7 +69,7 @@ impl Station for ImageStation {
 
     ghost sized = { stations.sized };
 
-    fn sectors(&self) -> u32 {
+    fn sectors(&self) -> u64 {
         match self {
             ImageStation::Files(station) => station.sectors(),
             ImageStation::Patched(station) => station.sectors(),
@@ -85,7 +85,7 @@ impl Station for ImageStation {
         }
     }
 
-    fn read_sector(&mut self, n: u32, out: &mut [u8; 512]) -> Result<bool, DeviceFault> {
+    fn read_sector(&mut self, n: u64, out: &mut [u8; 512]) -> Result<bool, DeviceFault> {
         match self {
             ImageStation::Files(station) => station.read_sector(n, out),
             ImageStation::Patched(station) => station.read_sector(n, out),
@@ -93,7 +93,7 @@ impl Station for ImageStation {
         }
     }
 
-    fn write_sector(&mut self, n: u32, bytes: &[u8; 512]) -> Result<(), DeviceFault> {
+    fn write_sector(&mut self, n: u64, bytes: &[u8; 512]) -> Result<(), DeviceFault> {
         match self {
             ImageStation::Files(station) => station.write_sector(n, bytes),
             ImageStation::Patched(station) => station.write_sector(n, bytes),

@@ -23,7 +23,7 @@ impl<'a> NewList<'a> {
     pub fn make<R: Files<File = File> + AllocGlobal>(
         rt: &R,
         image: Image<'a>,
-        list: &[u32],
+        list: &[u64],
     ) -> Result<NewList<'a>, FileError<'a>> {
         let place = find_file_place(rt, image.bad)?;
         if list.is_empty() {

@@ -69,8 +69,8 @@ fn prepare<'a, R: Files<File = File> + AllocGlobal>(
 fn shorten_list<'a, R: Files<File = File> + AllocGlobal>(
     rt: &R,
     image: Image<'a>,
-    old: &[u32],
-    new: &[u32],
+    old: &[u64],
+    new: &[u64],
 ) -> Result<(), FileError<'a>> {
     let mut both = Vec::new(rt.alloc());
     for number in old {

@@ -10,11 +10,11 @@ use Rattle.layout.specs.FileBytes.{byte_in}
 use Rattle.layout.specs.Inode.{IsInode, inode_bytes}
 use Rattle.layout.specs.Limits.{Sizes}
 use Rattle.layout.specs.Places.{Blocks, place, pointed}
-use Rattle.layout.specs.Version.{level_of}
+use Rattle.layout.specs.Trees.{level_of}
 use Rattle.layout.specs.declared.inode.Body.TheVariants.{Inline}
 use Rattle.layout.specs.declared.inode.Inode.{Inode}
 use Rattle.layout.specs.declared.pointer.Pointer.TheVariants.{Hole, Block}
-use Rattle.layout.specs.declared.version.TheConstants.{VERSION}
+use Rattle.layout.specs.declared.trees.Layout.{Layout}
 use Rattle.layout.proofs.PointerLaws.{no_block}
 use Rattle.layout.proofs.ZeroLaws.{zero_byte}
 use Rattle.images.specs.Nodes.{held, Names, body_block, file_block, place_at_height, pointers_of}
@@ -28,12 +28,12 @@ pub no_bit : (k x : ℕ) → x ≡ 0 → HasBit k x → ⊥
 no_bit k x e has = let none : bit_at x k ≡ 0 = ap (λ x. bit_at x k) e ∙ bit_at-zero k in absurd (omega (arith, has))
 
 -- a file without blocks names none
-pub none_named : (d : Blocks) (f : Inode) → level_of f.size ≡ 0 → (b : ℕ) → Names (held d f) b → ⊥
+pub none_named : (d : Blocks) (f : Inode) → level_of f.layout f.size ≡ 0 → (b : ℕ) → Names (held d f) b → ⊥
 unfolding held
 none_named d f level b names =
     no_block (place_at_height d f names.height names.index) b
-    (ap (λ n. if nat_lt names.height n then place d (pointers_of f.body) (n - suc names.height) names.index else Hole) level
-    ∙ sym (cond_above names.height 0 (place d (pointers_of f.body) (0 - suc names.height) names.index) Hole Hole (omega arith) refl)) names.is
+    (ap (λ n. if nat_lt names.height n then place f.layout d (pointers_of f.body) (n - suc names.height) names.index else Hole) level
+    ∙ sym (cond_above names.height 0 (place f.layout d (pointers_of f.body) (0 - suc names.height) names.index) Hole Hole (omega arith) refl)) names.is
 
 pub inline_zero : (stored : List ℕ) (i k : ℕ) → slice_index (body_block (Inline (zeros 128)) stored i) k ≡ 0
 unfolding zeros
@@ -57,9 +57,9 @@ unfolding held
 zero_ends d f body p =
     ap (λ b. slice_index (body_block b ((held d f).bytes 0 (p / 4096)) (p / 4096)) (p % 4096)) body ∙ inline_zero ((held d f).bytes 0 (p / 4096)) (p / 4096) (p % 4096)
 
-pub zero_sound : (s : Sizes) (d : Blocks) (f : Inode) → IsInode VERSION s f → f.body ≡ Inline (zeros 128) → level_of f.size ≡ 0 → IsSoundFile s (held d f)
+pub zero_sound : (s : Sizes) (d : Blocks) (f : Inode) → IsInode s f → f.body ≡ Inline (zeros 128) → level_of f.layout f.size ≡ 0 → IsSoundFile s (held d f)
 zero_sound s d f fits body level = record {
-  inode = subst (IsInode VERSION s) (sym (held_inode d f)) fits;
+  inode = subst (IsInode s) (sym (held_inode d f)) fits;
   indirect = λ m i b is. absurd (none_named d f level b (record { height = suc m; index = i; is = is }));
   bytes = record {
     readable = λ i b is. absurd (none_named d f level b (record { height = 0; index = i; is = is }));
@@ -67,25 +67,25 @@ zero_sound s d f fits body level = record {
   };
 }
 
-pub free_fits : (s : Sizes) → IsInode VERSION s free_inode
+pub free_fits : (s : Sizes) → IsInode s (free_inode s.layout)
 unfolding zeros
-free_fits s = record { attributes = new_fit 0 (omega arith); size = omega arith; kind = (refl, refl, refl); body = (omega arith, length-replicate {A = ℕ} 128 0, refl) }
+free_fits s = record { layout = refl; attributes = new_fit 0 (omega arith); size = omega arith; kind = (refl, refl, refl); body = (omega arith, length-replicate {A = ℕ} 128 0, refl) }
 
-pub directory_fits : (s : Sizes) → IsInode VERSION s empty_directory
+pub directory_fits : (s : Sizes) → IsInode s (empty_directory s.layout)
 unfolding zeros
-directory_fits s = record { attributes = new_fit 0o755 (omega arith); size = omega arith; kind = (refl, refl); body = (omega arith, length-replicate {A = ℕ} 128 0, refl) }
+directory_fits s = record { layout = refl; attributes = new_fit 0o755 (omega arith); size = omega arith; kind = (refl, refl); body = (omega arith, length-replicate {A = ℕ} 128 0, refl) }
 
-pub free_sound : (s : Sizes) (d : Blocks) → IsSoundFile s (held d free_inode)
-free_sound s d = zero_sound s d free_inode (free_fits s) refl refl
+pub free_sound : (s : Sizes) (d : Blocks) → IsSoundFile s (held d (free_inode s.layout))
+free_sound s d = zero_sound s d (free_inode s.layout) (free_fits s) refl refl
 
-pub free_named : (d : Blocks) (b : ℕ) → Names (held d free_inode) b → ⊥
-free_named d b names = none_named d free_inode refl b names
+pub free_named : (layout : Layout) (d : Blocks) (b : ℕ) → Names (held d (free_inode layout)) b → ⊥
+free_named layout d b names = none_named d (free_inode layout) refl b names
 
 -- ---- inodes that nothing uses, as they are stored
 
-pub free_bytes : inode_bytes free_inode ≡ zeros 192
+pub free_bytes : (layout : Layout) → inode_bytes (free_inode layout) ≡ zeros 192
 unfolding little zeros
-free_bytes = refl
+free_bytes layout = refl
 
 pub part_zeros : (k : ℕ) → k < 21 → inode_part (zeros 4096) k ≡ zeros 192
 unfolding zeros

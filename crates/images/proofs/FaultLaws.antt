@@ -99,7 +99,7 @@ kept_tree r w above (p ∷ ps) are kept k s has later =
 frozen_ends : (d : Blocks) (r : Root) (k block : ℕ) → 1 ≤ r.geometry.inodes → slot r k ≡ Block block → EndsFree r.geometry.inodes ((whole d r).frozen k)
 unfolding EndsFree whole
 frozen_ends d r k block some there =
-    subst (EndsFree r.geometry.inodes) (sym (ap (frozen_at d r.geometry.inodes) there)) (tree_ends d r.geometry.inodes (frozen_inode_file (d block)) some)
+    subst (EndsFree r.geometry.inodes) (sym (ap (frozen_at d r.geometry) there)) (tree_ends d r.geometry.inodes (frozen_inode_file r.geometry.layout (d block)) some)
 
 active_ends : (d : Blocks) (r : Root) → 1 ≤ r.geometry.inodes → EndsFree r.geometry.inodes (whole d r).active
 unfolding EndsFree whole

@@ -14,7 +14,7 @@ use Rattle.layout.specs.declared.inode.Inode.{Inode}
 use Rattle.layout.specs.declared.kind.Kind.{Kind}
 use Rattle.layout.specs.declared.kind.Kind.TheVariants as kinds
 use Rattle.layout.specs.declared.root.Root.{Root}
-use Rattle.layout.specs.declared.version.TheConstants.{VERSION}
+use Rattle.layout.specs.declared.trees.Layout.{Layout}
 use Rattle.model.specs.States.{empty}
 use Rattle.images.specs.Nodes.{held, Names, IsOnce}
 use Rattle.images.specs.Roots.{HeldTree, Reach, free_inode, frozen_at, inode_under, slot, tree, whole}
@@ -24,7 +24,7 @@ use Rattle.images.specs.FirstRoots.{IsFirst, empty_directory, first_inodes, firs
 use Rattle.images.specs.Soundness.{FitsNumber, IsSoundFile, IsSoundTree, IsWithin, MapsNumbers}
 use Rattle.images.specs.States.{Holds, OpensBy, HasReserve}
 use Rattle.images.proofs.Frames.{frozen_none}
-use Rattle.images.proofs.WithinLaws.{newest_within}
+use Rattle.images.proofs.WithinLaws.{newest_within, root_plain}
 use Rattle.images.proofs.SlotLaws.{no_snapshots, none_kept}
 use Rattle.images.proofs.AloneLaws.{alone_forgets, alone_volume, no_names}
 use Rattle.images.proofs.ReadingLaws.{read_past, read_spelled}
@@ -33,8 +33,8 @@ use Rattle.layout.proofs.PointerLaws.{no_block}
 
 -- ---- the tree
 
-directory_sound : (s : Sizes) (d : Blocks) → IsSoundFile s (held d empty_directory)
-directory_sound s d = zero_sound s d empty_directory (directory_fits s) refl refl
+directory_sound : (s : Sizes) (d : Blocks) → IsSoundFile s (held d (empty_directory s.layout))
+directory_sound s d = zero_sound s d (empty_directory s.layout) (directory_fits s) refl refl
 
 module _ (r : Root) (e : Blocks) (numbers map : Inode) (is : IsFirst r e numbers map) where
   abbrev t : HeldTree
@@ -50,13 +50,13 @@ module _ (r : Root) (e : Blocks) (numbers map : Inode) (is : IsFirst r e numbers
   sound zero = is.tree.files 0 (omega arith)
   sound (suc zero) = is.tree.files 1 (omega arith)
   sound (suc (suc zero)) = is.tree.files 2 (omega arith)
-  sound (suc (suc (suc zero))) = directory_sound r.geometry e
-  sound (suc (suc (suc (suc n)))) = free_sound r.geometry e
+  sound (suc (suc (suc zero))) = subst (λ (l : Layout). IsSoundFile r.geometry (held e (empty_directory l))) (sym is.root.inode_file.layout) (directory_sound r.geometry e)
+  sound (suc (suc (suc (suc n)))) = subst (λ (l : Layout). IsSoundFile r.geometry (held e (free_inode l))) (sym is.root.inode_file.layout) (free_sound r.geometry e)
 
-  fits : (n : ℕ) → IsInode VERSION r.geometry (inode n)
-  fits n = subst (IsInode VERSION r.geometry) (held_inode e (inode n)) (sound n).inode
+  fits : (n : ℕ) → IsInode r.geometry (inode n)
+  fits n = subst (IsInode r.geometry) (held_inode e (inode n)) (sound n).inode
 
-  free_past : (n : ℕ) → 4 ≤ n → inode n ≡ free_inode
+  free_past : (n : ℕ) → 4 ≤ n → inode n ≡ free_inode r.inode_file.layout
   free_past zero past = absurd (omega arith)
   free_past (suc zero) past = absurd (omega arith)
   free_past (suc (suc zero)) past = absurd (omega arith)
@@ -68,7 +68,7 @@ module _ (r : Root) (e : Blocks) (numbers map : Inode) (is : IsFirst r e numbers
   tree_first zero = refl
   tree_first (suc n) = elim (cases_lt (suc n) r.geometry.inodes) [
     | inl lt ↦
-        read_spelled r.geometry e r.inode_file (inode (suc n)) (suc n) are (omega arith) lt (fits (suc n))
+        read_spelled r.geometry e r.inode_file (inode (suc n)) (suc n) are is.root.inode_file.layout (omega arith) lt (fits (suc n))
         (is.tree.spelled.each (suc n) (omega arith) lt ∙ ap inode_bytes (held_inode e (inode (suc n))))
     | inr ge ↦ read_past e r.geometry.inodes r.inode_file (suc n) (omega arith) ge ∙ ap (held e) (sym (free_past (suc n) (omega (arith, ge, are.least_inodes))))
   ]
@@ -81,8 +81,8 @@ module _ (r : Root) (e : Blocks) (numbers map : Inode) (is : IsFirst r e numbers
   named_low zero b names = omega arith
   named_low (suc zero) b names = omega arith
   named_low (suc (suc zero)) b names = omega arith
-  named_low (suc (suc (suc zero))) b names = absurd (none_named e empty_directory refl b names)
-  named_low (suc (suc (suc (suc n)))) b names = absurd (none_named e free_inode refl b names)
+  named_low (suc (suc (suc zero))) b names = absurd (none_named e (empty_directory r.inode_file.layout) refl b names)
+  named_low (suc (suc (suc (suc n)))) b names = absurd (none_named e (free_inode r.inode_file.layout) refl b names)
 
   each : (n : ℕ) → IsOnce (t n)
   each n = elim (cases_lt n 3) [
@@ -127,7 +127,7 @@ module _ (r : Root) (e : Blocks) (numbers map : Inode) (is : IsFirst r e numbers
 
   no_frozen : (k b : ℕ) → Reach ((whole e r).frozen k) b → ⊥
   unfolding whole
-  no_frozen k b reach = frozen_none e r.geometry.inodes b (subst (λ p. Reach (frozen_at e r.geometry.inodes p) b) (is.slots k) reach)
+  no_frozen k b reach = frozen_none e r.geometry b (subst (λ p. Reach (frozen_at e r.geometry p) b) (is.slots k) reach)
 
   not_system : (b : ℕ) → IsSystem r b → b < 2
   not_system b (roots low) = low
@@ -162,7 +162,7 @@ module _ (r : Root) (e : Blocks) (numbers map : Inode) (is : IsFirst r e numbers
     sound = record {
       active = subst (IsSoundTree r.geometry) (sym active_is) tree_sound;
       frozen = λ k block there. absurd (no_block (slot r k) block (is.slots k) there);
-      within = subst (λ (u : HeldTree). IsWithin r.version u) (sym active_is) (newest_within r.geometry r.version t is.version tree_sound);
+      within = subst (λ (u : HeldTree). IsWithin r.version u) (sym active_is) (newest_within r.geometry r.version t is.version (root_plain r is.root) tree_sound);
       frozen_within = λ k block there. absurd (no_block (slot r k) block (is.slots k) there);
       snapshots = no_snapshots r (whole e r) is.slots;
       exact = exact;

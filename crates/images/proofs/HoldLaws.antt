@@ -23,7 +23,7 @@ use Rattle.images.specs.States.{IsSound, Holds}
 use Rattle.images.specs.Room.{KeepsOwn}
 use Rattle.images.specs.Points.{IsBase, IsPlannedOn, IsSoundPlan, HoldObjects}
 use Rattle.images.proofs.PointLaws.{point_stands, frozen_stays, tree_is, stays_held}
-use Rattle.images.proofs.WithinLaws.{newest_within}
+use Rattle.images.proofs.WithinLaws.{newest_within, root_plain}
 use Rattle.model.proofs.OptionLaws.{some_or_none}
 
 -- ---- the tree
@@ -64,15 +64,16 @@ slot_same : (r new : Root) → new.snapshots ≡ r.snapshots → (k : ℕ) → s
 slot_same r new same zero = refl
 slot_same r new same (suc k) = ap (λ pointers. slice_index_or pointers k Hole) same
 
-module _ (r new : Root) (w now : Whole) (slots : (k : ℕ) → slot new k ≡ slot r k) (heads : (k : ℕ) → now.head k ≡ w.head k) where
+module _ (r new : Root) (w now : Whole) (slots : (k : ℕ) → slot new k ≡ slot r k) (heads : (k : ℕ) → now.head k ≡ w.head k)
+    (geometry : new.geometry ≡ r.geometry) where
   has_was : (k : ℕ) (s : Snapshot) → HasSnapshot new now k s → HasSnapshot r w k s
-  has_was k s has = record { block = has.block; there = sym (slots k) ∙ has.there; read = ap snapshot_in (sym (heads k)) ∙ has.read }
+  has_was k s has = record { block = has.block; there = sym (slots k) ∙ has.there; read = ap (λ (g : Sizes). snapshot_in g.layout (w.head k)) (sym geometry) ∙ ap (snapshot_in new.geometry.layout) (sym (heads k)) ∙ has.read }
 
   has_is : (k : ℕ) (s : Snapshot) → HasSnapshot r w k s → HasSnapshot new now k s
-  has_is k s has = record { block = has.block; there = slots k ∙ has.there; read = ap snapshot_in (heads k) ∙ has.read }
+  has_is k s has = record { block = has.block; there = slots k ∙ has.there; read = ap (λ (g : Sizes). snapshot_in g.layout (now.head k)) geometry ∙ ap (snapshot_in r.geometry.layout) (heads k) ∙ has.read }
 
-  pub snapshots_stay : new.geometry ≡ r.geometry → r.generation ≤ new.generation → AreSnapshots r w → AreSnapshots new now
-  snapshots_stay geometry later are = record {
+  pub snapshots_stay : r.generation ≤ new.generation → AreSnapshots r w → AreSnapshots new now
+  snapshots_stay later are = record {
     each = λ k block there.
         let was = are.each k block (sym (slots k) ∙ there) in (
           was.0,
@@ -81,17 +82,17 @@ module _ (r new : Root) (w now : Whole) (slots : (k : ℕ) → slot new k ≡ sl
             is = was.2.is;
             spelled = heads k ∙ was.2.spelled;
             order = omega (arith, was.2.order);
-            inode_file = subst (λ (g : Sizes). IsInode VERSION g was.0.inode_file) (sym geometry) was.2.inode_file;
+            inode_file = subst (λ (g : Sizes). IsInode g was.0.inode_file) (sym geometry) was.2.inode_file;
           },
         );
     names = λ k l s q one two same. are.names k l s q (has_was k s one) (has_was l q two) same;
     orders = λ k l s q one two same. are.orders k l s q (has_was k s one) (has_was l q two) same;
   }
 
-  pub kept_stay : new.geometry ≡ r.geometry → ((k : ℕ) → now.frozen k ≡ w.frozen k)
+  pub kept_stay : ((k : ℕ) → now.frozen k ≡ w.frozen k)
       → (above : ℕ) (pairs : List (Name × Tree)) → AreKeptAbove r w above pairs → AreKeptAbove new now above pairs
-  kept_stay geometry trees above [] kept = λ k s has. kept k s (has_was k s has)
-  kept_stay geometry trees above (pair ∷ pairs) kept =
+  kept_stay trees above [] kept = λ k s has. kept k s (has_was k s has)
+  kept_stay trees above (pair ∷ pairs) kept =
       let next = kept.2 in (
         kept.0,
         kept.1,
@@ -99,7 +100,7 @@ module _ (r new : Root) (w now : Whole) (slots : (k : ℕ) → slot new k ≡ sl
         kept.3,
         subst (λ (t : HeldTree). IsFrozenTree new.geometry.inodes t pair.1) (sym (trees kept.0))
             (subst (λ (g : Sizes). IsFrozenTree g.inodes (w.frozen kept.0) pair.1) (sym geometry) kept.4),
-        kept_stay geometry trees kept.1.order pairs kept.5,
+        kept_stay trees kept.1.order pairs kept.5,
       )
 
 -- ---- the objects
@@ -141,8 +142,8 @@ module _ (d e : Blocks) (r new : Root) (t : HeldTree) (plane : ℕ) (files : ℕ
         sound = record {
           active = subst (λ (g : Sizes). IsSoundTree g (whole e new).active) (sym plan.geometry) tree;
           frozen = λ k block there. subst (λ (g : Sizes). IsSoundTree g ((whole e new).frozen k)) (sym plan.geometry) (frozen k block there);
-          within = newest_within r.geometry new.version (whole e new).active newest tree;
-          frozen_within = λ k block there. newest_within r.geometry new.version ((whole e new).frozen k) newest (frozen k block there);
+          within = newest_within r.geometry new.version (whole e new).active newest (root_plain r root) tree;
+          frozen_within = λ k block there. newest_within r.geometry new.version ((whole e new).frozen k) newest (root_plain r root) (frozen k block there);
           snapshots = are;
           exact = settled.exact;
           own = own;

@@ -1,6 +1,7 @@
 pub mod SumLaws
 pub mod KindLaws
 pub mod EmptyLaws
+pub mod FanLemmas
 mod Frames
 pub mod OverlayLaws
 pub mod PointLaws
@@ -13,7 +14,7 @@ pub mod ReadableLaws
 mod FreeLaws
 mod InodeFileLaws
 mod BaseLaws
-mod WithinLaws
+pub mod WithinLaws
 mod HoldLaws
 mod StepLaws
 mod AloneLaws

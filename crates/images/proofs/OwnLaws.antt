@@ -11,13 +11,14 @@ use Rattle.layout.specs.Inode.{FitsKind, inode_bytes}
 use Rattle.layout.specs.InodeReading.{inode_in}
 use Rattle.layout.specs.Limits.{Sizes, AreSizes}
 use Rattle.layout.specs.Places.{Blocks, pointed}
-use Rattle.layout.specs.Version.{level_of}
+use Rattle.layout.specs.Trees.{level_of}
 use Rattle.layout.specs.declared.inode.Inode.{Inode}
 use Rattle.layout.specs.declared.kind.Kind.{Kind}
 use Rattle.layout.specs.declared.kind.Kind.TheVariants as kinds
 use Rattle.layout.specs.declared.pointer.Pointer.TheVariants.{Hole, Block}
 use Rattle.layout.specs.declared.root.Root.{Root}
-use Rattle.layout.proofs.InodeLaws.{inode_again}
+use Rattle.layout.specs.declared.trees.Layout.{Layout}
+use Rattle.layout.proofs.InodeLaws.{inode_read}
 use Rattle.layout.proofs.PointerLaws.{block_same}
 use Rattle.layout.proofs.SizeLaws.{map_size}
 use Rattle.images.specs.Nodes.{Held, body_block, file_block, held, place_at_height}
@@ -63,22 +64,22 @@ abbrev kind_or_free : Option Inode → Kind
 kind_or_free (Some i) = i.kind
 kind_or_free None = kinds.Free
 
-first_zeros : (d : Blocks) (s : Sizes) (f : Inode) → IsSoundFile s (held d f) → 1 ≤ level_of f.size → (held d f).place 0 0 ≡ Hole → file_block (held d f) 0 ≡ zeros 4096
+first_zeros : (d : Blocks) (s : Sizes) (f : Inode) → IsSoundFile s (held d f) → 1 ≤ level_of f.layout f.size → (held d f).place 0 0 ≡ Hole → file_block (held d f) 0 ≡ zeros 4096
 unfolding held
 first_zeros d s f sound level hole =
     ap (λ b. body_block b (pointed d (place_at_height d f 0 0)) 0) (body_of s d f sound level).1 ∙ ap (pointed d) hole
 
-pub first_stored : (d : Blocks) (s : Sizes) (t : HeldTree) (f : Inode) → AreSizes s → t 0 ≡ held d f → IsSoundTree s t → 1 ≤ level_of f.size → (held d f).place 0 0 ≢ Hole
+pub first_stored : (d : Blocks) (s : Sizes) (t : HeldTree) (f : Inode) → AreSizes s → t 0 ≡ held d f → IsSoundTree s t → 1 ≤ level_of f.layout f.size → (held d f).place 0 0 ≢ Hole
 first_stored d s t f are top sound level hole =
-    let bytes : inode_bytes (t 1).inode ≡ inode_bytes free_inode =
+    let bytes : inode_bytes (t 1).inode ≡ inode_bytes (free_inode s.layout) =
     sym (sound.inodes.each 1 (omega arith) (omega (arith, are.least_inodes)))
     ∙ ap (λ (h : Held). inode_bytes_at (file_block h) 1) top
     ∙ ap (λ b. inode_part b 1) (first_zeros d s f (subst (IsSoundFile s) top (sound.files 0)) level hole)
-    ∙ part_zeros 1 (omega arith) ∙ sym free_bytes in
-    let read : Some (t 1).inode ≡ Some free_inode =
-    sym (inode_again (t 1).inode (record { sizes = s; are_sizes = are; fits = (sound.files 1).inode }))
-    ∙ ap inode_in bytes
-    ∙ inode_again free_inode (record { sizes = s; are_sizes = are; fits = free_fits s }) in
+    ∙ part_zeros 1 (omega arith) ∙ sym (free_bytes s.layout) in
+    let read : Some (t 1).inode ≡ Some (free_inode s.layout) =
+    sym (inode_read s.layout (t 1).inode (record { sizes = s; are_sizes = are; fits = (sound.files 1).inode }) (sound.files 1).inode.layout)
+    ∙ ap (inode_in s.layout) bytes
+    ∙ inode_read s.layout (free_inode s.layout) (record { sizes = s; are_sizes = are; fits = free_fits s }) refl in
     let free : (t 1).inode.kind ≡ kinds.Free = ap kind_or_free read in
     absurd (let e = sym (sound.kinds 1) ∙ free in cc)
 
@@ -96,7 +97,9 @@ pub map_whole : (s : Sizes) (d e : Blocks) (f g : Inode) → IsSoundFile s (held
 unfolding held
 map_whole s d e f g old new f_is g_is whole m i b is =
     let size : g.size ≡ f.size = map_size g.kind s g.attributes g.links g.size g_is new.inode.kind ∙ sym (map_size f.kind s f.attributes f.links f.size f_is old.inode.kind) in
-    let span = subst (λ (n : ℕ). (m < level_of n) × (i < nodes_of_size n m)) size (within_span s e g new m i b is) in
+    let layout : g.layout ≡ f.layout = new.inode.layout ∙ sym old.inode.layout in
+    let span = subst (λ (l : Layout). (m < level_of l f.size) × (i < nodes_of_size l f.size m)) layout
+    (subst (λ (n : ℕ). (m < level_of g.layout n) × (i < nodes_of_size g.layout n m)) size (within_span s e g new m i b is)) in
     stands_whole s d f old whole m i span.0 span.1
 
 -- ---- what leads to a block that is free after

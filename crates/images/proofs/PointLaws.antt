@@ -84,16 +84,16 @@ pub active_base : (d : Blocks) (r : Root) → IsExact r (whole d r) → NamesOnc
 unfolding whole tree held
 active_base d r exact once = record { exact = exact.active; once = once; needed = λ b names. active names; read = λ n. refl }
 
-pub frozen_read : (d : Blocks) (inodes : ℕ) (p : Pointer) (n : ℕ) → frozen_at d inodes p n ≡ held d (frozen_at d inodes p n).inode
+pub frozen_read : (d : Blocks) (s : Sizes) (p : Pointer) (n : ℕ) → frozen_at d s p n ≡ held d (frozen_at d s p n).inode
 unfolding tree held
-frozen_read d inodes Hole n = refl
-frozen_read d inodes (Block b) n = refl
+frozen_read d s Hole n = refl
+frozen_read d s (Block b) n = refl
 
 -- and so is the tree of a snapshot
 pub frozen_base : (d : Blocks) (r : Root) (k : ℕ) → 1 ≤ k → k ≢ 31 → IsExact r (whole d r) → NamesOnce ((whole d r).frozen k) → IsBase d r ((whole d r).frozen k) k
 unfolding whole
 frozen_base d r k low other exact once =
-    record { exact = λ b. exact.frozen b k low other; once = once; needed = λ b names. frozen k names; read = frozen_read d r.geometry.inodes (slot r k) }
+    record { exact = λ b. exact.frozen b k low other; once = once; needed = λ b names. frozen k names; read = frozen_read d r.geometry (slot r k) }
 
 -- ---- snapshots
 
@@ -102,23 +102,23 @@ pub frozen_stays : (d e : Blocks) (r new : Root) (k : ℕ) → Agrees (Needs r (
     → ((whole e new).frozen k ≡ (whole d r).frozen k) × ((whole e new).head k ≡ (whole d r).head k)
 unfolding whole
 frozen_stays d e r new k same geometry there = (
-  ap (λ (g : Sizes). frozen_at e g.inodes (slot new k)) geometry ∙ ap (frozen_at e r.geometry.inodes) there
-      ∙ frozen_same d e r.geometry.inodes (slot r k) (λ b is. same b (head k is)) (λ b names. same b (frozen k names)),
+  ap (λ (g : Sizes). frozen_at e g (slot new k)) geometry ∙ ap (frozen_at e r.geometry) there
+      ∙ frozen_same d e r.geometry (slot r k) (λ b is. same b (head k is)) (λ b names. same b (frozen k names)),
   ap (pointed e) there ∙ pointed_same d e (slot r k) (λ b is. same b (head k is)),
 )
 
 -- one that is taken
 pub frozen_takes : (d e : Blocks) (r new : Root) (k block : ℕ) → Agrees (Needs r (whole d r)) d e → new.geometry ≡ r.geometry → slot new k ≡ Block block
-    → frozen_inode_file (e block) ≡ r.inode_file → (whole e new).frozen k ≡ (whole d r).active
+    → frozen_inode_file r.geometry.layout (e block) ≡ r.inode_file → (whole e new).frozen k ≡ (whole d r).active
 unfolding whole
 frozen_takes d e r new k block same geometry there is =
-    ap (λ (g : Sizes). frozen_at e g.inodes (slot new k)) geometry ∙ ap (frozen_at e r.geometry.inodes) there ∙ ap (tree e r.geometry.inodes) is
+    ap (λ (g : Sizes). frozen_at e g (slot new k)) geometry ∙ ap (frozen_at e r.geometry) there ∙ ap (tree e r.geometry.inodes) is
     ∙ tree_same d e r.geometry.inodes r.inode_file (λ b names. same b (active names))
 
 -- one that is deleted
 pub frozen_drops : (e : Blocks) (new : Root) (k b : ℕ) → slot new k ≡ Hole → Reach ((whole e new).frozen k) b → ⊥
 unfolding whole
-frozen_drops e new k b none names = frozen_none e new.geometry.inodes b (subst (λ p. Reach (frozen_at e new.geometry.inodes p) b) none names)
+frozen_drops e new k b none names = frozen_none e new.geometry b (subst (λ p. Reach (frozen_at e new.geometry p) b) none names)
 
 -- a slot's tree and plane
 slot_frozen : (d e : Blocks) (r new : Root) (before after : ℕ → ℕ) (k : ℕ) → Agrees (Needs r (whole d r)) d e → new.geometry ≡ r.geometry → Slot e r new before after k
@@ -147,9 +147,9 @@ pub free_is_free : (d : Blocks) (r : Root) (b : ℕ) → IsRoot r → IsExact r 
 unfolding whole
 free_is_free d r b root exact free (active names) = no_bit 0 _ free ((exact.active b).1 names)
 free_is_free d r b root exact free (head k is) = no_bit 31 _ free ((exact.system b).1 (system_head k is))
-free_is_free d r b root exact free (frozen zero names) = frozen_none d r.geometry.inodes b names
+free_is_free d r b root exact free (frozen zero names) = frozen_none d r.geometry b names
 free_is_free d r b root exact free (frozen (suc k) names) = elim (cases_eq (suc k) 31) [
-  | inl is ↦ frozen_none d r.geometry.inodes b (subst (λ p. Reach (frozen_at d r.geometry.inodes p) b) (no_slot r (suc k) root (omega arith)) names)
+  | inl is ↦ frozen_none d r.geometry b (subst (λ p. Reach (frozen_at d r.geometry p) b) (no_slot r (suc k) root (omega arith)) names)
   | inr other ↦ no_bit (suc k) _ free ((exact.frozen b (suc k) (omega arith) other).1 names)
 ]
 

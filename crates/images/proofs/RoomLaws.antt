@@ -5,7 +5,7 @@ use Rattle.std.specs.Int.{bit_at}
 use Rattle.std.proofs.lemmas.Bool.{cases_eq, cases_lt}
 use Rattle.layout.specs.Places.{Blocks, follow}
 use Rattle.layout.specs.Root.{IsRoot}
-use Rattle.layout.specs.Version.{level_of}
+use Rattle.layout.specs.Trees.{level_of}
 use Rattle.layout.specs.declared.pointer.Pointer.TheVariants.{Block}
 use Rattle.layout.specs.declared.root.Root.{Root}
 use Rattle.layout.proofs.PointerLaws.{block_same, follow_same, hole_block}
@@ -21,7 +21,7 @@ use Rattle.images.specs.States.{IsSound}
 use Rattle.images.proofs.BehindLaws.{needed_behind}
 use Rattle.images.proofs.EmptyLaws.{no_bit}
 use Rattle.images.proofs.HoldLaws.{active_tree, sound_tree}
-use Rattle.images.proofs.OverlayLaws.{held_up}
+use Rattle.images.proofs.OverlayLaws.{first_up}
 use Rattle.images.proofs.PointLaws.{active_base, free_is_free, frozen_drops, frozen_stays, frozen_takes, moved, no_slot, point_stands}
 use Rattle.images.proofs.ReadingLaws.{none_above}
 use Rattle.images.proofs.SpanLaws.{stands_first}
@@ -136,14 +136,16 @@ module _ (d e : Blocks) (r new : Root) (t : HeldTree) (plane : ℕ) (files : ℕ
 
   module _ (old : IsSoundTree r.geometry t) (good : IsSoundPlan r.geometry e plan.inode plan.changed) where
     -- a node over the inode file's first block moved with it
-    level_is : level_of (plan.inode 0).size ≡ level_of (t 0).inode.size
+    level_is : level_of (plan.inode 0).layout (plan.inode 0).size ≡ level_of (t 0).inode.layout (t 0).inode.size
     unfolding held
     level_is =
         let now = sound_tree d e r new t plane files root sound base old same plan good in
-        ap level_of (top_size (plan.inode 0).kind r.geometry (plan.inode 0).attributes (plan.inode 0).links (plan.inode 0).size (now.kinds 0) (now.files 0).inode.kind
-        ∙ sym (top_size (t 0).inode.kind r.geometry (t 0).inode.attributes (t 0).inode.links (t 0).inode.size (old.kinds 0) (old.files 0).inode.kind))
+        let layout : (plan.inode 0).layout ≡ (t 0).inode.layout = (now.files 0).inode.layout ∙ sym (old.files 0).inode.layout in
+        let size : (plan.inode 0).size ≡ (t 0).inode.size = top_size (plan.inode 0).kind r.geometry (plan.inode 0).attributes (plan.inode 0).links (plan.inode 0).size (now.kinds 0) (now.files 0).inode.kind
+        ∙ sym (top_size (t 0).inode.kind r.geometry (t 0).inode.attributes (t 0).inode.links (t 0).inode.size (old.kinds 0) (old.files 0).inode.kind) in
+        λ i. level_of (layout i) (size i)
 
-    agree_down : (k : ℕ) → k < level_of (t 0).inode.size → (held e (plan.inode 0)).place k 0 ≡ (t 0).place k 0
+    agree_down : (k : ℕ) → k < level_of (t 0).inode.layout (t 0).inode.size → (held e (plan.inode 0)).place k 0 ≡ (t 0).place k 0
         → (held e (plan.inode 0)).place 0 0 ≡ (t 0).place 0 0
     agree_down zero lt at = at
     agree_down (suc k) lt at =
@@ -151,12 +153,12 @@ module _ (d e : Blocks) (r new : Root) (t : HeldTree) (plane : ℕ) (files : ℕ
         let needed : (b : ℕ) → (held d (t 0).inode).place (suc k) 0 ≡ Block b → e b ≡ d b = λ b is.
         same b (base.needed b (record { file = 0; names = record { height = suc k; index = 0; is = ap (λ (h : Held). h.place (suc k) 0) top ∙ is } })) in
         agree_down k (omega (arith, lt))
-        (held_up e (plan.inode 0) k 0 (omega (arith, lt, level_is))
+        (first_up e (plan.inode 0) k (omega (arith, lt, level_is))
         ∙ ap (λ p. follow e p 0) (at ∙ ap (λ (h : Held). h.place (suc k) 0) top)
         ∙ follow_same d e ((held d (t 0).inode).place (suc k) 0) 0 needed
-        ∙ sym (held_up d (t 0).inode k 0 lt) ∙ sym (ap (λ (h : Held). h.place k 0) top))
+        ∙ sym (first_up d (t 0).inode k lt) ∙ sym (ap (λ (h : Held). h.place k 0) top))
 
-    lowest : (k : ℕ) → k < level_of (t 0).inode.size → (b : ℕ) × ((t 0).place 0 0 ≡ Block b)
+    lowest : (k : ℕ) → k < level_of (t 0).inode.layout (t 0).inode.size → (b : ℕ) × ((t 0).place 0 0 ≡ Block b)
     lowest k lt =
         let top = base.read 0 in
         let some = first_stored d r.geometry t (t 0).inode root.head.sizes top old (omega (arith, lt)) in
@@ -167,7 +169,7 @@ module _ (d e : Blocks) (r new : Root) (t : HeldTree) (plane : ℕ) (files : ℕ
     first_taken : TakesFirst (λ n. held e (plan.inode n)) plan.taken → (k b : ℕ) → (held e (plan.inode 0)).place k 0 ≡ Block b → plan.taken 0 b ≡ true
     first_taken firsts k b is = elim (moves 0 k 0 b is) [
       | inr taken ↦ taken
-      | inl was ↦ elim (cases_lt k (level_of (t 0).inode.size)) [
+      | inl was ↦ elim (cases_lt k (level_of (t 0).inode.layout (t 0).inode.size)) [
         | inr above ↦ hole_block (sym (none_above d (t 0).inode k 0 above) ∙ sym (ap (λ (h : Held). h.place k 0) (base.read 0)) ∙ was)
         | inl lt ↦
             let low = lowest k lt in
@@ -322,7 +324,7 @@ module _ (d e : Blocks) (r new : Root) (t : HeldTree) (plane : ℕ) (files : ℕ
                 ]
           ]
 
-      beyond : (k : ℕ) → k < level_of r.inode_file.size → Target (r.geometry.blocks + k)
+      beyond : (k : ℕ) → k < level_of r.inode_file.layout r.inode_file.size → Target (r.geometry.blocks + k)
       beyond k lt =
           let top = top_is d r in
           let some = first_stored d r.geometry (whole d r).active r.inode_file root.head.sizes top sound.active (omega (arith, lt)) in
@@ -332,9 +334,9 @@ module _ (d e : Blocks) (r new : Root) (t : HeldTree) (plane : ℕ) (files : ℕ
           let given = gives 0 k 0 found.0 own there (λ at. was_free 0 found.0 (first_taken old good firsts k found.0 at) (own_settled found.0 own)) in
           (found.0, given.0, given.1, over k refl there)
 
-      pub but_own : free_under (whole d r).active r.geometry.blocks + level_of r.inode_file.size
+      pub but_own : free_under (whole d r).active r.geometry.blocks + level_of r.inode_file.layout r.inode_file.size
           ≤ free_under (whole e new).active r.geometry.blocks + free_under (whole d r).active (min mid r.geometry.blocks)
-      but_own = leads_back (free_at (whole d r).active) (free_at (whole e new).active) (min mid r.geometry.blocks) r.geometry.blocks (level_of r.inode_file.size)
+      but_own = leads_back (free_at (whole d r).active) (free_at (whole e new).active) (min mid r.geometry.blocks) r.geometry.blocks (level_of r.inode_file.layout r.inode_file.size)
           (Leads (whole d r).active (λ n. held e (plan.inode n)) r.geometry.blocks) (free_one (whole d r).active)
           (leads_alone (whole d r).active (λ n. held e (plan.inode n)) r.geometry.blocks sound.active.once (λ b reach free. free_is_free d r b root sound.exact free (active reach)))
           leads beyond

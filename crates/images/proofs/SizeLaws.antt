@@ -38,7 +38,7 @@ module _ {detail : Detail} (s : Sizes) (d : Blocks) (f : Inode) (sound : IsHeldF
   inline_whole : (bytes : List ℕ) → f.body ≡ Inline bytes → (i : ℕ) → length (file_block (held d f) i) ≡ 4096
   unfolding held
   inline_whole bytes body zero =
-      let fits = subst (λ (b : Body). FitsBody b s.blocks f.size) body sound.inode.body in
+      let fits = subst (λ (b : Body). FitsBody f.layout b s.blocks f.size) body sound.inode.body in
       ap length (inline_first s d f bytes sound.inode body)
       ∙ omega (arith, length-append (take f.size bytes) (zeros (4096 - f.size)), length-take f.size bytes, length-zeros (4096 - f.size), fits.0, fits.1)
   inline_whole bytes body (suc i) = ap length (inline_others d f bytes (suc i) body (omega arith)) ∙ length-zeros 4096

@@ -45,7 +45,7 @@ changes_once (c ∷ cs) (d ∷ ds) are are_too same =
 
 -- a slot has one snapshot
 snapshot_once : (r : Root) (w : Whole) (k l : ℕ) (s q : Snapshot) → HasSnapshot r w k s → HasSnapshot r w l q → k ≡ l → s ≡ q
-snapshot_once r w k l s q one other same = some_is s q (sym one.read ∙ ap (λ k. snapshot_in (w.head k)) same ∙ other.read)
+snapshot_once r w k l s q one other same = some_is s q (sym one.read ∙ ap (λ k. snapshot_in r.geometry.layout (w.head k)) same ∙ other.read)
 
 frozen_once : (inodes : ℕ) (t : HeldTree) (tree other : Tree) → inodes ≤ 2 ^ 32 → IsFrozenTree inodes t tree → IsFrozenTree inodes t other → tree ≡ other
 frozen_once inodes t tree other limit one two =

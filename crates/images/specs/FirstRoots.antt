@@ -10,6 +10,7 @@ use Rattle.layout.specs.declared.TheConstants.{INLINE_BYTES}
 use Rattle.layout.specs.declared.inode.Body.TheVariants.{Inline}
 use Rattle.layout.specs.declared.inode.Inode.{Inode}
 use Rattle.layout.specs.declared.kind.Kind.TheVariants as kinds
+use Rattle.layout.specs.declared.trees.Layout.{Layout}
 use Rattle.model.specs.Attributes.{new_attributes}
 use Rattle.model.specs.declared.limits.TheConstants.{FIRST_NUMBER, ROOT_NUMBER}
 use Rattle.layout.specs.declared.pointer.Pointer.TheVariants.{Hole}
@@ -23,18 +24,18 @@ use Rattle.images.specs.Contents.{content_of, content_bytes}
 use Rattle.images.specs.Soundness.{HasNoHole, IsSoundFile, SpellsInodes}
 
 -- an empty directory of mode 0755
-abbrev pub empty_directory : Inode
-empty_directory =
-    record { kind = kinds.Directory; attributes = new_attributes 0o755; links = 1; size = 0; body = Inline (zeros INLINE_BYTES) }
+abbrev pub empty_directory : Layout → Inode
+empty_directory layout =
+    record { layout = layout; kind = kinds.Directory; attributes = new_attributes 0o755; links = 1; size = 0; body = Inline (zeros INLINE_BYTES) }
 
 -- the inode of each number, where these are those of the inode file, the inode map and the block
--- map
+-- map, in an image of the inode file's layout
 abbrev pub first_inodes : Inode → Inode → Inode → ℕ → Inode
 first_inodes top numbers map zero = top
 first_inodes top numbers map (suc zero) = numbers
 first_inodes top numbers map (suc (suc zero)) = map
-first_inodes top numbers map (suc (suc (suc zero))) = empty_directory
-first_inodes top numbers map (suc (suc (suc (suc n)))) = free_inode
+first_inodes top numbers map (suc (suc (suc zero))) = empty_directory top.layout
+first_inodes top numbers map (suc (suc (suc (suc n)))) = free_inode top.layout
 
 abbrev pub first_tree : Blocks → Inode → Inode → Inode → HeldTree
 first_tree e top numbers map n = held e (first_inodes top numbers map n)

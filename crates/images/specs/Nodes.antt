@@ -2,7 +2,7 @@
 use Rattle.std.specs.Prelude.{ℕ, zero, suc, ◌≡◌, ◌-◌, List, [], ◌++◌, nat_lt, if◌then◌else◌}
 use Rattle.layout.specs.Bytes.{zeros}
 use Rattle.layout.specs.Places.{Blocks, pointed, place}
-use Rattle.layout.specs.Version.{level_of}
+use Rattle.layout.specs.Trees.{level_of}
 use Rattle.layout.specs.declared.TheConstants.{BLOCK_BYTES, INLINE_BYTES}
 use Rattle.layout.specs.declared.inode.Body.{Body}
 use Rattle.layout.specs.declared.inode.Body.TheVariants.{Inline, Pointers}
@@ -16,9 +16,9 @@ pointers_of (Inline bytes) = []
 pointers_of (Pointers pointers) = pointers
 
 -- An inode and all that hangs from it, by height: node i at height 0 is block i of the file, and
--- node i at height m + 1 is the indirect block over nodes 1,024 * i and on at height m. There are
--- nodes below the file's level, and the inode has the pointers to the highest. So a block's address
--- is the same at each level.
+-- node i at height m + 1 is the indirect block over nodes f * i and on at height m, where an
+-- indirect block has f pointers. There are nodes below the file's level, and the inode has the
+-- pointers to the highest. So a block's address is the same at each level.
 pub record Held : Type 0 where
   pub inode : Inode
   pub place : ℕ → ℕ → Pointer
@@ -26,8 +26,8 @@ pub record Held : Type 0 where
 
 abbrev pub place_at_height : Blocks → Inode → ℕ → ℕ → Pointer
 place_at_height disk inode height i =
-    if nat_lt height (level_of inode.size)
-    then place disk (pointers_of inode.body) (level_of inode.size - suc height) i
+    if nat_lt height (level_of inode.layout inode.size)
+    then place inode.layout disk (pointers_of inode.body) (level_of inode.layout inode.size - suc height) i
     else Hole
 
 unfoldable pub held : Blocks → Inode → Held

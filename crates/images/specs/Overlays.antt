@@ -4,7 +4,7 @@ use Rattle.model.specs.declared.attributes.Attributes.{Attributes}
 use Rattle.layout.specs.Bytes.{zeros}
 use Rattle.layout.specs.Maps.{indirect_pointer}
 use Rattle.layout.specs.Places.{Blocks, pointed}
-use Rattle.layout.specs.Version.{level_of}
+use Rattle.layout.specs.Trees.{fan_out, level_of}
 use Rattle.layout.specs.declared.TheConstants.{BLOCK_BYTES}
 use Rattle.layout.specs.declared.inode.Body.TheVariants.{Inline, Pointers}
 use Rattle.layout.specs.declared.inode.Inode.{Inode}
@@ -43,16 +43,16 @@ overlaid_content h c =
       block = overlaid_block h c;
     }
 
--- A table has the place of each node of the changed file, by height and index. Of 1,024 nodes and
--- the indirect block over them, on a disk e: all as the settled file has them, or spelled by a
--- block, or holes.
+-- A table has the place of each node of the changed file, by height and index. Of the nodes under
+-- one indirect block, and of this one, on a disk e: all as the settled file has them, or spelled by
+-- a block, or holes.
 pub data Group (e : Blocks) (h : Held) (table : ℕ → ℕ → Pointer) (m j : ℕ) : Type 0 where
-  keeps : (level : suc m < level_of h.inode.size) → (over : table (suc m) j ≡ h.place (suc m) j)
-      → (under : (i : ℕ) → i / 1024 ≡ j → table m i ≡ h.place m i) → Group e h table m j
+  keeps : (level : suc m < level_of h.inode.layout h.inode.size) → (over : table (suc m) j ≡ h.place (suc m) j)
+      → (under : (i : ℕ) → i / fan_out h.inode.layout ≡ j → table m i ≡ h.place m i) → Group e h table m j
   spells : (block : ℕ) → (over : table (suc m) j ≡ Block block)
-      → (under : (i : ℕ) → i / 1024 ≡ j → indirect_pointer (e block) (i % 1024) ≡ table m i)
+      → (under : (i : ℕ) → i / fan_out h.inode.layout ≡ j → indirect_pointer (e block) (i % fan_out h.inode.layout) ≡ table m i)
       → Group e h table m j
-  none : (over : table (suc m) j ≡ Hole) → (under : (i : ℕ) → i / 1024 ≡ j → table m i ≡ Hole)
+  none : (over : table (suc m) j ≡ Hole) → (under : (i : ℕ) → i / fan_out h.inode.layout ≡ j → table m i ≡ Hole)
       → Group e h table m j
 
 -- the inode says what the changed file says of itself
@@ -64,7 +64,7 @@ pub record Says (f : Inode) (c : Overlay) : Type 0 where
 
 -- the changed file's bytes stand in the inode itself
 pub record IsInline (h : Held) (c : Overlay) (f : Inode) : Type 0 where
-  pub level : level_of f.size ≡ 0
+  pub level : level_of f.layout f.size ≡ 0
   pub says : Says f c
   pub bytes : List ℕ
   pub body : f.body ≡ Inline bytes
@@ -74,7 +74,8 @@ pub record IsInline (h : Held) (c : Overlay) (f : Inode) : Type 0 where
 -- the settled file has it, or in a block that was taken, each for one node.
 pub record IsLaid (e : Blocks) (h : Held) (c : Overlay) (f : Inode) (taken : ℕ → Bool) (table : ℕ → ℕ → Pointer) : Type 0 where
   pub top : ℕ
-  pub level : level_of f.size ≡ suc top
+  pub layout : f.layout ≡ h.inode.layout
+  pub level : level_of f.layout f.size ≡ suc top
   pub says : Says f c
   pub pointers : List Pointer
   pub body : f.body ≡ Pointers pointers

@@ -26,7 +26,7 @@ pub data Slot (e : Blocks) (r new : Root) (before after : ℕ → ℕ) (k : ℕ)
   stays : (same : slot new k ≡ slot r k)
       → (plane : (b : ℕ) → HasBit k (after b) ↔ HasBit k (before b)) → Slot e r new before after k
   takes : (block : ℕ) → (there : slot new k ≡ Block block) → (free : before block ≡ 0)
-      → (root_is : frozen_inode_file (e block) ≡ r.inode_file)
+      → (root_is : frozen_inode_file r.geometry.layout (e block) ≡ r.inode_file)
       → (plane : (b : ℕ) → HasBit k (after b) ↔ HasBit 0 (before b)) → Slot e r new before after k
   drops : (none : slot new k ≡ Hole) → (plane : (b : ℕ) → HasBit k (after b) → ⊥)
       → Slot e r new before after k

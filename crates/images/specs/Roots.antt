@@ -4,6 +4,7 @@ use Rattle.model.specs.Attributes.{no_attributes}
 use Rattle.layout.specs.Bytes.{zeros}
 use Rattle.layout.specs.Places.{Blocks, pointed}
 use Rattle.layout.specs.InodeReading.{inode_in}
+use Rattle.layout.specs.Limits.{Sizes}
 use Rattle.layout.specs.SnapRoot.{Snapshot, snapshot_in}
 use Rattle.layout.specs.declared.TheConstants.{INODE_BYTES, INLINE_BYTES, INODES_PER_BLOCK}
 use Rattle.layout.specs.declared.inode.Body.TheVariants.{Inline}
@@ -12,19 +13,21 @@ use Rattle.layout.specs.declared.kind.Kind.TheVariants as kinds
 use Rattle.layout.specs.declared.pointer.Pointer.{Pointer}
 use Rattle.layout.specs.declared.pointer.Pointer.TheVariants.{Hole, Block}
 use Rattle.layout.specs.declared.root.Root.{Root}
+use Rattle.layout.specs.declared.trees.Layout.{Layout}
 use Rattle.images.specs.Nodes.{Held, held, Names, file_block}
 
-abbrev pub free_inode : Inode
-free_inode =
-    record { kind = kinds.Free; attributes = no_attributes; links = 0; size = 0; body = Inline (zeros INLINE_BYTES) }
+-- a free inode of an image of this layout
+abbrev pub free_inode : Layout → Inode
+free_inode layout =
+    record { layout = layout; kind = kinds.Free; attributes = no_attributes; links = 0; size = 0; body = Inline (zeros INLINE_BYTES) }
 
-abbrev pub or_free : Option Inode → Inode
-or_free (Some inode) = inode
-or_free None = free_inode
+abbrev pub or_free : Layout → Option Inode → Inode
+or_free layout (Some inode) = inode
+or_free layout None = free_inode layout
 
 -- the inode that these bytes spell, or a free one where they spell none
-unfoldable pub inode_from : List ℕ → Inode
-inode_from bytes = or_free (inode_in bytes)
+unfoldable pub inode_from : Layout → List ℕ → Inode
+inode_from layout bytes = or_free layout (inode_in layout bytes)
 
 -- the bytes of one inode of a block of the inode file
 abbrev pub inode_part : List ℕ → ℕ → List ℕ
@@ -39,11 +42,13 @@ inode_bytes_at block n = inode_part (block (n / INODES_PER_BLOCK)) (n % INODES_P
 abbrev pub HeldTree : Type 0
 HeldTree = ℕ → Held
 
--- inode n of so many, where this is the inode file
+-- inode n of so many, where this is the inode file, of its layout
 unfoldable pub inode_under : Held → ℕ → ℕ → Inode
 inode_under h inodes zero = h.inode
 inode_under h inodes (suc n) =
-    if nat_lt (suc n) inodes then inode_from (inode_bytes_at (file_block h) (suc n)) else free_inode
+    if nat_lt (suc n) inodes
+    then inode_from h.inode.layout (inode_bytes_at (file_block h) (suc n))
+    else free_inode h.inode.layout
 
 -- the tree of so many inodes under the inode of the inode file
 unfoldable pub tree : Blocks → ℕ → Inode → HeldTree
@@ -61,18 +66,19 @@ abbrev pub slot : Root → ℕ → Pointer
 slot r zero = Hole
 slot r (suc k) = slice_index_or r.snapshots k Hole
 
-abbrev pub inode_file_or_free : Option Snapshot → Inode
-inode_file_or_free (Some s) = s.inode_file
-inode_file_or_free None = free_inode
+abbrev pub inode_file_or_free : Layout → Option Snapshot → Inode
+inode_file_or_free layout (Some s) = s.inode_file
+inode_file_or_free layout None = free_inode layout
 
 -- the inode of the inode file that a snapshot root block has
-unfoldable pub frozen_inode_file : List ℕ → Inode
-frozen_inode_file bytes = inode_file_or_free (snapshot_in bytes)
+unfoldable pub frozen_inode_file : Layout → List ℕ → Inode
+frozen_inode_file layout bytes = inode_file_or_free layout (snapshot_in layout bytes)
 
--- the tree under the snapshot root block at a pointer: none in a free slot
-abbrev pub frozen_at : Blocks → ℕ → Pointer → HeldTree
-frozen_at disk inodes Hole = λ n. held disk free_inode
-frozen_at disk inodes (Block b) = tree disk inodes (frozen_inode_file (disk b))
+-- the tree under the snapshot root block at a pointer, in an image of these sizes: none in a free
+-- slot
+abbrev pub frozen_at : Blocks → Sizes → Pointer → HeldTree
+frozen_at disk s Hole = λ n. held disk (free_inode s.layout)
+frozen_at disk s (Block b) = tree disk s.inodes (frozen_inode_file s.layout (disk b))
 
 -- all that a root holds: the active tree, and the snapshot root block and the tree of each slot
 pub record Whole : Type 0 where
@@ -84,7 +90,7 @@ unfoldable pub whole : Blocks → Root → Whole
 whole disk r = record {
   active = tree disk r.geometry.inodes r.inode_file;
   head = λ k. pointed disk (slot r k);
-  frozen = λ k. frozen_at disk r.geometry.inodes (slot r k);
+  frozen = λ k. frozen_at disk r.geometry (slot r k);
 }
 
 -- the blocks that a root needs

@@ -2,7 +2,6 @@
 use Rattle.std.specs.Prelude.{ℕ, ◌≡◌, ◌≤◌, ◌<◌, List, [], ◌∷◌, Some, None}
 use Rattle.layout.specs.Inode.{IsInode}
 use Rattle.layout.specs.SnapRoot.{Snapshot, IsSnapshot, snapshot_in, snapshot_bytes}
-use Rattle.layout.specs.declared.version.TheConstants.{VERSION}
 use Rattle.layout.specs.declared.pointer.Pointer.TheVariants.{Block}
 use Rattle.layout.specs.declared.root.Root.{Root}
 use Rattle.model.specs.Paths.{Name}
@@ -16,14 +15,14 @@ use Rattle.images.specs.Contents.{HoldsVolume, tree_contents}
 pub record HasSnapshot (r : Root) (w : Whole) (k : ℕ) (s : Snapshot) : Type 0 where
   pub block : ℕ
   pub there : slot r k ≡ Block block
-  pub read : snapshot_in (w.head k) ≡ Some s
+  pub read : snapshot_in r.geometry.layout (w.head k) ≡ Some s
 
 -- a snapshot root block in its grammar, also by the root's sizes, and no newer than the root
 pub record FitsRoot (r : Root) (bytes : List ℕ) (s : Snapshot) : Type 0 where
   pub is : IsSnapshot s
   pub spelled : bytes ≡ snapshot_bytes s
   pub order : s.order ≤ r.generation
-  pub inode_file : IsInode VERSION r.geometry s.inode_file
+  pub inode_file : IsInode r.geometry s.inode_file
 
 -- each slot that isn't free has a snapshot, no two of one name or of one order number
 pub record AreSnapshots (r : Root) (w : Whole) : Type 0 where

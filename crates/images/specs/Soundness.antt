@@ -7,13 +7,13 @@ use Rattle.layout.specs.Inode.{IsInode, inode_bytes}
 unfoldable pub use Rattle.layout.specs.Inode.{nodes_of_size}
 use Rattle.layout.specs.Limits.{Sizes}
 use Rattle.layout.specs.Maps.{IsTaken, IsIndirectBlock}
-use Rattle.layout.specs.Version.{greatest_size, level_of}
-use Rattle.layout.specs.declared.TheConstants.{BLOCK_BYTES, BLOCK_POINTERS, INODE_BYTES, INODES_PER_BLOCK}
+use Rattle.layout.specs.Trees.{fan_out, level_of}
+use Rattle.layout.specs.Version.{greatest_under}
+use Rattle.layout.specs.declared.TheConstants.{BLOCK_BYTES, INODE_BYTES, INODES_PER_BLOCK}
 use Rattle.layout.specs.declared.kind.Kind.{Kind}
 use Rattle.layout.specs.declared.kind.Kind.TheVariants as kinds
 use Rattle.model.specs.declared.limits.TheConstants.{FIRST_NUMBER}
 use Rattle.layout.specs.declared.pointer.Pointer.TheVariants.{Hole, Block}
-use Rattle.layout.specs.declared.version.TheConstants.{VERSION}
 use Rattle.images.specs.Nodes.{Held, file_block}
 use Rattle.images.specs.Roots.{HeldTree, inode_bytes_at}
 use Rattle.images.specs.BlockMap.{NamesOnce}
@@ -41,9 +41,10 @@ KnowsBytes by_sizes h = Unit {0}
 -- a file in its grammar, in an image of these sizes: its inode, and each indirect block that is
 -- stored; and its bytes
 pub record IsHeldFile (detail : Detail) (s : Sizes) (h : Held) : Type 0 where
-  pub inode : IsInode VERSION s h.inode
+  pub inode : IsInode s h.inode
   pub indirect : (m i b : ℕ) → h.place (suc m) i ≡ Block b
-      → IsIndirectBlock s.blocks (nodes_of_size h.inode.size m - BLOCK_POINTERS * i) (h.bytes (suc m) i)
+      → IsIndirectBlock h.inode.layout s.blocks
+      (nodes_of_size h.inode.layout h.inode.size m - fan_out h.inode.layout * i) (h.bytes (suc m) i)
   pub bytes : KnowsBytes detail h
 
 -- the same with its bytes, and without them
@@ -72,7 +73,9 @@ FitsNumber (suc (suc (suc n))) kind = IsOrdinary kind
 
 -- the file has no hole: of a map all blocks are stored
 abbrev pub HasNoHole : Held → Type 0
-HasNoHole h = (i : ℕ) → 1 ≤ level_of h.inode.size → i < nodes_of_size h.inode.size 0 → h.place 0 i ≢ Hole
+HasNoHole h =
+    (i : ℕ) → 1 ≤ level_of h.inode.layout h.inode.size → i < nodes_of_size h.inode.layout h.inode.size 0
+    → h.place 0 i ≢ Hole
 
 -- The blocks of the inode file spell the inodes of a tree, and zeros elsewhere: for number 0, past
 -- the last number, and behind the last inode of each block.
@@ -102,4 +105,4 @@ pub record IsSoundTree (s : Sizes) (t : HeldTree) : Type 0 where
 
 -- the files of a tree are no larger than a version allows
 abbrev pub IsWithin : ℕ → HeldTree → Type 0
-IsWithin version t = (n : ℕ) → (t n).inode.size ≤ greatest_size version
+IsWithin version t = (n : ℕ) → (t n).inode.size ≤ greatest_under version

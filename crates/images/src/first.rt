@@ -8,6 +8,7 @@ ghost use Rattle.layout.specs.Places.{Blocks, blocks_of};
 ghost use Rattle.layout.specs.declared.TheConstants.{SLOT_A, SLOT_B};
 ghost use Rattle.layout.specs.declared.inode.Inode.{Inode};
 ghost use Rattle.layout.specs.declared.root.Root.{Root};
+ghost use Rattle.layout.specs.declared.trees.Layout.{Layout};
 ghost use Rattle.images.specs.FirstRoots.{IsFirst, root_alone_volume};
 ghost use Rattle.images.specs.Nodes.{Names, held};
 ghost use Rattle.images.specs.Roots.{free_inode, whole};
@@ -25,8 +26,8 @@ pub fn first_roots_hold()
 /// A free inode is in the grammar and names no block: a file may be placed over it. It does
 /// nothing.
 pub fn free_files_hold_nothing()
-    ensures sound { (s : Sizes) (d : Blocks) → IsSoundFile s (held d free_inode) }
-    ensures none { (d : Blocks) (b : ℕ) → Names (held d free_inode) b → ⊥ }
+    ensures sound { (s : Sizes) (d : Blocks) → IsSoundFile s (held d (free_inode s.layout)) }
+    ensures none { (layout : Layout) (d : Blocks) (b : ℕ) → Names (held d (free_inode layout)) b → ⊥ }
 {}
 
 /// A disk whose newest root holds nothing but an empty root directory, with a log that holds no

@@ -3,7 +3,7 @@
 ghost use Rattle.std.specs.Prelude.{ℕ, ◌≢◌, ◌+◌, ◌≤◌, min};
 ghost use Rattle.layout.specs.Places.{Blocks};
 ghost use Rattle.layout.specs.Root.{IsRoot};
-ghost use Rattle.layout.specs.Version.{level_of};
+ghost use Rattle.layout.specs.Trees.{level_of};
 ghost use Rattle.layout.specs.declared.root.Root.{Root};
 ghost use Rattle.images.specs.Contents.{Content};
 ghost use Rattle.images.specs.Nodes.{Agrees, held};
@@ -35,7 +35,7 @@ pub fn points_leave_room()
         → ((k b : ℕ) → IsNewHead r new k b → ⊥) → (mid : ℕ)
         → TakesBelow mid (λ n. n ≢ 2) r new plan.taken
         → TakesFirst (λ n. held e (plan.inode n)) plan.taken
-        → free_under (whole d r).active r.geometry.blocks + level_of r.inode_file.size
+        → free_under (whole d r).active r.geometry.blocks + level_of r.inode_file.layout r.inode_file.size
         ≤ free_under (whole e new).active r.geometry.blocks
         + free_under (whole d r).active (min mid r.geometry.blocks) }
 {}

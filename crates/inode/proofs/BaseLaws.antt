@@ -1,15 +1,22 @@
 -- What a tree is based on, and files that stay the same.
-use Rattle.std.proofs.Common.{◌∙◌, refl}
+use Rattle.std.proofs.Common.{◌≡◌, ◌∙◌, refl}
+use Rattle.layout.specs.declared.inode.Inode.{Inode}
 use Rattle.blocktree.specs.Trees.{SameChanges, SameSettled}
 use Rattle.blocktree.specs.declared.tree.BlockTree.{BlockTree}
-use Rattle.inode.specs.Bases.{anew, over, KeepsBase}
+use Rattle.inode.specs.Bases.{IsBased, anew, over, KeepsBase}
 use Rattle.inode.specs.Files.{IsSameFile}
 use Rattle.inode.specs.declared.file.File.{File}
 
+-- it has the layout of what it is based on
+pub based_layout : (settled : Inode) (t : BlockTree) → IsBased settled t → t.layout ≡ settled.layout
+based_layout settled t (anew layout none) = layout
+based_layout settled t (over pointers body has) = has.layout_is
+
 -- changes of blocks leave it
 pub same_base : (old new : BlockTree) → SameSettled old new → KeepsBase old new
-same_base old new same settled (anew none) = anew (same.count ∙ none)
+same_base old new same settled (anew layout none) = anew (same.layout ∙ layout) (same.count ∙ none)
 same_base old new same settled (over pointers body has) = over pointers body (record {
+  layout_is = same.layout ∙ has.layout_is;
   pointers_are = same.pointers ∙ has.pointers_are;
   depth = same.depth ∙ has.depth;
   count = same.count ∙ has.count;
@@ -18,6 +25,7 @@ same_base old new same settled (over pointers body has) = over pointers body (re
 same_twice : (a b c : BlockTree) → SameChanges a b → SameChanges b c → SameChanges a c
 same_twice a b c first then = record {
   settled = record {
+    layout = then.settled.layout ∙ first.settled.layout;
     pointers = then.settled.pointers ∙ first.settled.pointers;
     depth = then.settled.depth ∙ first.settled.depth;
     count = then.settled.count ∙ first.settled.count;
@@ -33,7 +41,7 @@ same_itself f = record {
   base = λ settled was. was;
   sound = λ blocks disk i was. was;
   was_sound = λ blocks disk i is. is;
-  changes = record { settled = record { pointers = refl; depth = refl; count = refl }; kept = refl; only = λ i is. is };
+  changes = record { settled = record { layout = refl; pointers = refl; depth = refl; count = refl }; kept = refl; only = λ i is. is };
 }
 
 pub still_same : (a b c : File) → IsSameFile a b → IsSameFile b c → IsSameFile a c

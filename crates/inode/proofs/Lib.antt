@@ -1,6 +1,7 @@
 pub mod BytePositions
 mod ChangeLaws
 pub mod EdgeLaws
+pub mod FanLemmas
 pub mod ComposingLaws
 pub mod PutLaws
 pub mod BaseLaws

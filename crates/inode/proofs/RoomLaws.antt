@@ -6,9 +6,10 @@ use Rattle.std.specs.BTreeMap as tree
 use Rattle.std.proofs.lemmas.Bool.{cases_eq, cases_lt}
 use Rattle.std.proofs.lemmas.Bool.Decides.{nat_tests}
 use Rattle.layout.specs.declared.TheConstants.{BODY_POINTERS, INLINE_BYTES}
-use Rattle.layout.specs.Version.{greatest_size, level_of}
-use Rattle.layout.specs.declared.version.TheConstants.{VERSION}
-use Rattle.layout.proofs.SizeLaws.{level_low}
+use Rattle.layout.specs.Trees.{greatest_size, level_of}
+use Rattle.layout.specs.declared.trees.Layout.{Layout}
+use Rattle.layout.specs.declared.trees.Layout.TheVariants.{Plain}
+use Rattle.layout.proofs.SizeLaws.{level_low, level_some}
 use Rattle.blocktree.specs.Places.{block_count, depth_of}
 use Rattle.blocktree.specs.Trees.{slot_stores, IsChanged}
 use Rattle.blocktree.specs.declared.tree.BlockTree.{BlockTree}
@@ -103,14 +104,14 @@ room_three (suc (suc (suc level))) changed more top some = refl
 -- ---- levels
 
 -- what the size of a file tells of its level
-level_tells : (size : ℕ) → (size ≤ INLINE_BYTES → level_of size ≡ 0) × (INLINE_BYTES < size → 1 ≤ level_of size) × (size ≤ 67108864 → level_of size ≤ 2) × (67108864 < size → 3 ≤ level_of size)
+level_tells : (size : ℕ) → (size ≤ INLINE_BYTES → level_of Plain size ≡ 0) × (INLINE_BYTES < size → 1 ≤ level_of Plain size) × (size ≤ 67108864 → level_of Plain size ≤ 2) × (67108864 < size → 3 ≤ level_of Plain size)
 level_tells size = (λ low. grind (arith, nat_tests, low), λ high. grind (arith, nat_tests, high), λ low. grind (arith, nat_tests, low), λ high. grind (arith, nat_tests, high))
 
-level_three : (size : ℕ) → 67108864 < size → 3 ≤ level_of size
+level_three : (size : ℕ) → 67108864 < size → 3 ≤ level_of Plain size
 level_three size high = (level_tells size).3 high
 
 -- a file of level 0 has a block at the most
-few_blocks : (size : ℕ) → level_of size ≡ 0 → block_count size ≤ 1
+few_blocks : (size : ℕ) → level_of Plain size ≡ 0 → block_count size ≤ 1
 few_blocks size flat = elim (cases_lt INLINE_BYTES size) [
   | inl large ↦ absurd (omega (arith, flat, (level_tells size).1 large))
   | inr small ↦ omega (arith, small)
@@ -126,42 +127,42 @@ module _ (f g : File) (k : ℕ) (few : changed_count g.tree ≤ changed_count f.
   -- so many changed blocks more raise the bound by twice as many, and three
   pub any_low : g.size ≤ 67108864 → far_tops g ≡ 0 → file_room g ≤ file_room f + (2 * k + 3)
   any_low small none =
-      let high = room_most_low (level_of g.size) (changed_count g.tree) (more_over g) (top_over g 0) (level_low g.size small) in
-      let low = room_least_zero (level_of f.size) (changed_count f.tree) (more_over f) (top_over f 0) in
+      let high = room_most_low (level_of Plain g.size) (changed_count g.tree) (more_over g) (top_over g 0) (level_low Plain g.size small) in
+      let low = room_least_zero (level_of Plain f.size) (changed_count f.tree) (more_over f) (top_over f 0) in
       omega (arith, few, high, low, none, more_at_most g)
 
   -- by one, where a file that stands in its inode gets no changed block as it leaves it
-  pub kept_low : g.size ≤ 67108864 → far_tops g ≡ 0 → ((1 ≤ level_of f.size) ⊎ (level_of g.size ≡ 0)) → file_room g ≤ file_room f + (2 * k + 1)
+  pub kept_low : g.size ≤ 67108864 → far_tops g ≡ 0 → ((1 ≤ level_of Plain f.size) ⊎ (level_of Plain g.size ≡ 0)) → file_room g ≤ file_room f + (2 * k + 1)
   kept_low small none (inl some) =
-      let high = room_most_low (level_of g.size) (changed_count g.tree) (more_over g) (top_over g 0) (level_low g.size small) in
-      let low = room_least (level_of f.size) (changed_count f.tree) (more_over f) (top_over f 0) some in
+      let high = room_most_low (level_of Plain g.size) (changed_count g.tree) (more_over g) (top_over g 0) (level_low Plain g.size small) in
+      let low = room_least (level_of Plain f.size) (changed_count f.tree) (more_over f) (top_over f 0) some in
       omega (arith, few, high, low, none, more_at_most g)
   kept_low small none (inr flat) =
-      let high = room_none (level_of g.size) (changed_count g.tree) (more_over g) (top_over g 0) flat in
-      let low = room_least_zero (level_of f.size) (changed_count f.tree) (more_over f) (top_over f 0) in
+      let high = room_none (level_of Plain g.size) (changed_count g.tree) (more_over g) (top_over g 0) flat in
+      let low = room_least_zero (level_of Plain f.size) (changed_count f.tree) (more_over f) (top_over f 0) in
       omega (arith, few, high, low, none)
 
   -- of a file that a third height leads to, whose groups get so many more
   pub any_high : (h : ℕ) → g.tree.kept ≤ f.tree.kept → far_tops g ≤ far_tops f + h + min 1 (mark g) → file_room g ≤ file_room f + (2 * k + 4 + h)
   any_high h kept far =
-      let high = room_most (level_of g.size) (changed_count g.tree) (more_over g) (top_over g 0) in
+      let high = room_most (level_of Plain g.size) (changed_count g.tree) (more_over g) (top_over g 0) in
       let one = more_at_most g in
       let top = top_at_most g 0 in
-      elim (cases_eq (level_of f.size) 0) [
+      elim (cases_eq (level_of Plain f.size) 0) [
         | inl flat ↦
-            let low = room_least_zero (level_of f.size) (changed_count f.tree) (more_over f) (top_over f 0) in
+            let low = room_least_zero (level_of Plain f.size) (changed_count f.tree) (more_over f) (top_over f 0) in
             let first : mark g ≡ 0 = omega (arith, kept, f.kept, few_blocks f.size flat) in
             omega (arith, few, high, low, far, first, one, top)
         | inr some ↦
-            let low = room_least (level_of f.size) (changed_count f.tree) (more_over f) (top_over f 0) (omega (arith, some)) in
+            let low = room_least (level_of Plain f.size) (changed_count f.tree) (more_over f) (top_over f 0) (omega (arith, some)) in
             omega (arith, few, high, low, far, one, top)
       ]
 
   -- and of one that a third height led to
-  pub same_high : (h : ℕ) → 3 ≤ level_of f.size → tops_over g ≤ tops_over f + h → file_room g ≤ file_room f + (2 * k + 1 + h)
+  pub same_high : (h : ℕ) → 3 ≤ level_of Plain f.size → tops_over g ≤ tops_over f + h → file_room g ≤ file_room f + (2 * k + 1 + h)
   same_high h three tops =
-      let high = room_most (level_of g.size) (changed_count g.tree) (more_over g) (top_over g 0) in
-      let low = room_three (level_of f.size) (changed_count f.tree) (more_over f) (top_over f 0) three in
+      let high = room_most (level_of Plain g.size) (changed_count g.tree) (more_over g) (top_over g 0) in
+      let low = room_three (level_of Plain f.size) (changed_count f.tree) (more_over f) (top_over f 0) three in
       omega (arith, few, high, low, tops, more_at_most g)
 
 -- What an edit of so many blocks adds: it leaves a file that no third height leads to, or one that is no larger.
@@ -179,7 +180,7 @@ module _ (f : File) (w : FileUpdate) where
   -- a change brings as many changed blocks as it has, at the most
   pieces_more : (g : File) → IsCommitted f w g → changed_count g.tree ≤ changed_count f.tree + length w.pieces.items
   pieces_more g done =
-      let few = few_changed f.tree g.tree w.first (length w.pieces.items) (λ i changed. elim (done.only i changed) [ inl piece ↦ inl piece | inr old ↦ inr old.0 ]) (block_count (greatest_size VERSION)) in
+      let few = few_changed f.tree g.tree w.first (length w.pieces.items) (λ i changed. elim (done.only i changed) [ inl piece ↦ inl piece | inr old ↦ inr old.0 ]) (block_count (greatest_size Plain)) in
       omega (arith, few)
 
   -- none is changed past its end then
@@ -198,10 +199,10 @@ module _ (f : File) (w : FileUpdate) where
       let here : g.size ≤ 67108864 = omega (arith, small, done.size) in
       any_low f g (length w.pieces.items) (pieces_more g done) here (far_low g here (ends g done))
 
-  stores_kept : w.size ≤ 67108864 → ((1 ≤ level_of f.size) ⊎ (level_of w.size ≡ 0)) → StoresMore f w (2 * length w.pieces.items + 1)
+  stores_kept : w.size ≤ 67108864 → ((1 ≤ level_of Plain f.size) ⊎ (level_of Plain w.size ≡ 0)) → StoresMore f w (2 * length w.pieces.items + 1)
   stores_kept small kept g done =
       let here : g.size ≤ 67108864 = omega (arith, small, done.size) in
-      let levels : (1 ≤ level_of f.size) ⊎ (level_of g.size ≡ 0) = subst (λ (n : ℕ). (1 ≤ level_of f.size) ⊎ (level_of n ≡ 0)) (sym done.size) kept in
+      let levels : (1 ≤ level_of Plain f.size) ⊎ (level_of Plain g.size ≡ 0) = subst (λ (n : ℕ). (1 ≤ level_of Plain f.size) ⊎ (level_of Plain n ≡ 0)) (sym done.size) kept in
       kept_low f g (length w.pieces.items) (pieces_more g done) here (far_low g here (ends g done)) levels
 
   -- and where one does, by pieces in two groups
@@ -269,7 +270,7 @@ stores_truncated f w one first part how was = elim (cases_lt 67108864 w.size) [
         | inr there ↦ stores_end f w old one (omega (arith, first, part)) there
       ]
   | inr small ↦
-      let levels : (1 ≤ level_of f.size) ⊎ (level_of w.size ≡ 0) = elim how [
+      let levels : (1 ≤ level_of Plain f.size) ⊎ (level_of Plain w.size ≡ 0) = elim how [
         | inr low ↦ inr ((level_tells w.size).0 low)
         | inl less ↦ elim (cases_lt INLINE_BYTES w.size) [
           | inl high ↦ inl ((level_tells f.size).1 (omega (arith, less, high)))
@@ -288,7 +289,7 @@ level_rises (suc (suc zero)) changed changed' more top top' few low = omega (ari
 level_rises (suc (suc (suc level))) changed changed' more top top' few low = omega (arith, few, low)
 
 same_more : (old new : File) → IsSameFile old new → more_over new ≡ more_over old
-same_more old new same = cc (same.size, same.changes.kept, same.changes.settled.count, same.changes.settled.depth)
+same_more old new same = cc (same.size, same.changes.kept, same.changes.settled.layout, same.changes.settled.count, same.changes.settled.depth)
 
 same_mark : (old new : File) → IsSameFile old new → mark new ≡ mark old
 same_mark old new same = omega (arith, same.size, same.changes.kept)
@@ -304,8 +305,8 @@ pub same_room : (old new : File) → IsSameFile old new → file_room new ≤ fi
 same_room old new same =
     let few = none_changed old.tree new.tree same.changes.only _ in
     let far : far_tops new ≤ far_tops old = sums_each (λ g. top_over new (suc g)) (λ g. top_over old (suc g)) (BODY_POINTERS - 1) (λ g. same_top old new same (suc g)) in
-    let rises = level_rises (level_of old.size) (changed_count old.tree) (changed_count new.tree) (more_over old) (top_over old 0) (top_over new 0) few (same_top old new same 0) in
-    let levels : level_room (level_of new.size) (changed_count new.tree) (more_over new) (top_over new 0) ≡ level_room (level_of old.size) (changed_count new.tree) (more_over old) (top_over new 0) = cc (same.size, same_more old new same) in
+    let rises = level_rises (level_of Plain old.size) (changed_count old.tree) (changed_count new.tree) (more_over old) (top_over old 0) (top_over new 0) few (same_top old new same 0) in
+    let levels : level_room (level_of Plain new.size) (changed_count new.tree) (more_over new) (top_over new 0) ≡ level_room (level_of Plain old.size) (changed_count new.tree) (more_over old) (top_over new 0) = cc (same.size, same_more old new same) in
     omega (arith, far, rises, levels)
 
 no_sum : (n : ℕ) → sum_below (λ i. 0) n ≡ 0
@@ -320,36 +321,44 @@ first_alone t many n only =
     omega (arith, few, no_sum n)
 
 -- all settled blocks of a file count, and it has its settled level
-pub none_more : (f : File) → f.tree.kept ≡ f.tree.count → f.tree.count ≡ block_count f.size → f.tree.depth ≡ depth_of f.size → more_over f ≡ 0
+pub none_more : (f : File) → f.tree.kept ≡ f.tree.count → f.tree.count ≡ block_count f.size → f.tree.depth ≡ depth_of f.tree.layout f.size → more_over f ≡ 0
 none_more f kept count depth =
     let no : nat_lt (min f.tree.kept (block_count f.size)) f.tree.count ≡ false = grind (arith, nat_tests, kept, count) in
-    let yes : (f.tree.depth == depth_of f.size) ≡ true = grind (arith, nat_tests, depth) in
+    let yes : (f.tree.depth == depth_of f.tree.layout f.size) ≡ true = grind (arith, nat_tests, depth) in
     rw (no, yes) refl
 
 -- a file of level 0, of whose blocks at the most the first is changed
-flat_room : (f : File) → level_of f.size ≡ 0 → ((i : ℕ) → IsChanged f.tree i → i ≡ 0) → file_room f ≡ 0
+flat_room : (f : File) → level_of Plain f.size ≡ 0 → ((i : ℕ) → IsChanged f.tree i → i ≡ 0) → file_room f ≡ 0
 flat_room f flat few =
-    let one = first_alone f.tree 1 (block_count (greatest_size VERSION)) (λ i changed. omega (arith, few i changed)) in
-    let level = room_none (level_of f.size) (changed_count f.tree) (more_over f) (top_over f 0) flat in
+    let one = first_alone f.tree 1 (block_count (greatest_size Plain)) (λ i changed. omega (arith, few i changed)) in
+    let level = room_none (level_of Plain f.size) (changed_count f.tree) (more_over f) (top_over f 0) flat in
     let far = none_far f (λ i changed. omega (arith, few i changed)) (omega (arith, few_blocks f.size flat)) in
     omega (arith, one, level, far)
 
 -- one with nothing changed and nothing more over it
 still_room : (f : File) → more_over f ≡ 0 → ((i : ℕ) → IsChanged f.tree i → ⊥) → file_room f ≡ 0
 still_room f none not =
-    let all = first_alone f.tree 0 (block_count (greatest_size VERSION)) (λ i changed. absurd (not i changed)) in
+    let all = first_alone f.tree 0 (block_count (greatest_size Plain)) (λ i changed. absurd (not i changed)) in
     let tops = tops_none f none not in
-    let most = room_most (level_of f.size) (changed_count f.tree) (more_over f) (top_over f 0) in
+    let most = room_most (level_of Plain f.size) (changed_count f.tree) (more_over f) (top_over f 0) in
     omega (arith, all, none, tops, most)
 
+-- each layout has the same files of level 0
+flat_plain : (l : Layout) (size : ℕ) → level_of l size ≡ 0 → level_of Plain size ≡ 0
+flat_plain l size flat = elim (cases_lt INLINE_BYTES size) [
+  | inl large ↦ absurd (omega (arith, flat, level_some l size large))
+  | inr small ↦ (level_tells size).0 small
+]
+
 -- a file as it is loaded
-pub loaded_none : (f : File) → (1 ≤ level_of f.size → f.tree.kept ≡ f.tree.count) → (1 ≤ level_of f.size → f.tree.count ≡ block_count f.size) → (1 ≤ level_of f.size → f.tree.depth ≡ depth_of f.size)
-    → (1 ≤ level_of f.size → (i : ℕ) → IsChanged f.tree i → ⊥) → (level_of f.size ≡ 0 → (i : ℕ) → IsChanged f.tree i → i ≡ 0) → file_room f ≡ 0
-loaded_none f kept count depth none few = elim (cases_eq (level_of f.size) 0) [
-  | inl flat ↦ flat_room f flat (few flat)
-  | inr other ↦ (let high : 1 ≤ level_of f.size = omega (arith, other) in still_room f (none_more f (kept high) (count high) (depth high)) (none high))
+pub loaded_none : (f : File) → (1 ≤ level_of f.tree.layout f.size → f.tree.kept ≡ f.tree.count) → (1 ≤ level_of f.tree.layout f.size → f.tree.count ≡ block_count f.size)
+    → (1 ≤ level_of f.tree.layout f.size → f.tree.depth ≡ depth_of f.tree.layout f.size) → (1 ≤ level_of f.tree.layout f.size → (i : ℕ) → IsChanged f.tree i → ⊥)
+    → (level_of f.tree.layout f.size ≡ 0 → (i : ℕ) → IsChanged f.tree i → i ≡ 0) → file_room f ≡ 0
+loaded_none f kept count depth none few = elim (cases_eq (level_of f.tree.layout f.size) 0) [
+  | inl flat ↦ flat_room f (flat_plain f.tree.layout f.size flat) (few flat)
+  | inr other ↦ (let high : 1 ≤ level_of f.tree.layout f.size = omega (arith, other) in still_room f (none_more f (kept high) (count high) (depth high)) (none high))
 ]
 
 -- a file without bytes, of which no block is changed
 pub empty_room : (f : File) → f.size ≡ 0 → ((i : ℕ) → IsChanged f.tree i → ⊥) → file_room f ≡ 0
-empty_room f empty none = flat_room f (ap level_of empty) (λ i changed. absurd (none i changed))
+empty_room f empty none = flat_room f (ap (level_of Plain) empty) (λ i changed. absurd (none i changed))

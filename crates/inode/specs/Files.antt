@@ -2,6 +2,7 @@
 use Rattle.std.specs.Prelude.{ℕ, ◌≡◌, ◌⊎◌, ◌+◌, ◌<◌, ◌≤◌, min, List, length}
 use Rattle.layout.specs.FileBytes.{byte_in, first_bytes, EndsAt}
 use Rattle.layout.specs.declared.TheConstants.{BLOCK_BYTES}
+use Rattle.layout.specs.Trees.{greatest_size}
 use Rattle.layout.specs.declared.inode.Inode.{Inode}
 use Rattle.blocktree.specs.Trees.{tree_block, HasRoom, IsChanged, KeepsSound, SameBlocks, SameChanges, SameSettled}
 use Rattle.blocktree.specs.Places.{block_count}
@@ -44,9 +45,10 @@ byte_with disk f w = byte_in (block_with disk f w)
 abbrev pub bytes_with : (ℕ → List ℕ) → File → FileUpdate → List ℕ
 bytes_with disk f w = first_bytes (byte_with disk f w) w.size
 
--- there is room for each block of a change
-abbrev pub Fits : BlockTree → FileUpdate → Type 0
-Fits t w = (j : ℕ) → j < length w.pieces.items → HasRoom t (w.first + j)
+-- a file with these blocks may have the size of a change, and there is room for each block of it
+pub record Fits (t : BlockTree) (w : FileUpdate) : Type 0 where
+  pub size : w.size ≤ greatest_size t.layout
+  pub room : (j : ℕ) → j < length w.pieces.items → HasRoom t (w.first + j)
 
 -- What a prepared change makes of a file's blocks: it puts these anew, and has read those; up to
 -- the new end the rest stays as it was.

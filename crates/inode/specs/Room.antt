@@ -1,11 +1,11 @@
 -- What a consistency point may store of a file in memory: a bound that no change raises by more
--- than the change costs.
+-- than the change costs. It is one for files of the plain layout.
 use Rattle.std.specs.Prelude.{ℕ, zero, suc, ◌+◌, ◌-◌, ◌*◌, ◌/◌, ◌≤◌, ◌==◌, min, max, nat_lt, if◌then◌else◌}
 use Rattle.std.specs.Ordering.{nat_cmp}
 use Rattle.std.specs.BTreeMap as tree
-use Rattle.layout.specs.Version.{greatest_size, level_of}
+use Rattle.layout.specs.Trees.{greatest_size, level_of}
 use Rattle.layout.specs.declared.TheConstants.{BLOCK_POINTERS, BODY_POINTERS}
-use Rattle.layout.specs.declared.version.TheConstants.{VERSION}
+use Rattle.layout.specs.declared.trees.Layout.TheVariants.{Plain}
 use Rattle.model.specs.Room.{touched}
 use Rattle.model.specs.declared.limits.TheConstants.{SINGLE_FILE}
 use Rattle.blocktree.specs.Places.{block_count, depth_of}
@@ -22,7 +22,7 @@ changed_below t n = sum_below (λ i. slot_stores (tree.get nat_cmp t.slots i)) n
 
 -- how many of all that a file may have
 abbrev pub changed_count : BlockTree → ℕ
-changed_count t = changed_below t (block_count (greatest_size VERSION))
+changed_count t = changed_below t (block_count (greatest_size Plain))
 
 -- One indirect block more where settled blocks were cut off, or the file has another level than it
 -- had: of a file that has settled blocks.
@@ -30,7 +30,7 @@ abbrev pub more_over : File → ℕ
 more_over f =
     if nat_lt (min f.tree.kept (block_count f.size)) f.tree.count
     then 1
-    else if f.tree.depth == depth_of f.size then 0 else min 1 f.tree.count
+    else if f.tree.depth == depth_of f.tree.layout f.size then 0 else min 1 f.tree.count
 
 -- so many blocks of a file an indirect block of the third height leads to, where there is one
 abbrev pub TOP_BLOCKS : ℕ
@@ -61,7 +61,7 @@ level_room (suc (suc zero)) changed more top = 2 * changed + more
 level_room (suc (suc (suc level))) changed more top = 2 * changed + more + top
 
 abbrev pub file_room : File → ℕ
-file_room f = level_room (level_of f.size) (changed_count f.tree) (more_over f) (top_over f 0) + far_tops f
+file_room f = level_room (level_of Plain f.size) (changed_count f.tree) (more_over f) (top_over f 0) + far_tops f
 
 -- put in force on a file, a change raises the bound by so much at the most
 abbrev pub StoresMore : File → FileUpdate → ℕ → Type 0

@@ -1,7 +1,8 @@
 //! Changes of a file.
 
 ghost use Rattle.std.specs.Prelude.{◌≡◌, ◌≢◌, ◌⊎◌, ℕ, ◌+◌, ◌*◌, ◌<◌, ◌≤◌, ◌/◌, ◌%◌, List, length, slice_index, OnOk, OnErr, IsErrOf, IsFalse, IsTrue, IfOk, max};
-ghost use Rattle.layout.specs.Version.{greatest_size};
+ghost use Rattle.layout.specs.Trees.{greatest_size};
+ghost use Rattle.layout.specs.declared.trees.Layout.TheVariants.{Summed};
 ghost use Rattle.buffers.specs.Reads.{ReadsBlocks};
 ghost use Rattle.buffers.specs.Errors.{IsFault};
 ghost use Rattle.buffers.specs.Positions.{with_bytes_at, truncate};
@@ -12,12 +13,12 @@ ghost use Rattle.inode.specs.Errors.{IsChangeFault};
 use crate::{ChangeError, File, FileUpdate};
 use blocktree::Location;
 use buffers::{Block, BlockError, Blocks, SharedBlock};
-use layout::{INLINE_BYTES, VERSION, greatest_size};
+use layout::INLINE_BYTES;
 use std::alloc::{AllocError, Global};
 
-/// How many blocks hold so many bytes.
+/// How many blocks hold so many bytes, of a file of any layout.
 pub(crate) fn block_count(size: u64) -> u32
-    requires { size ≤ greatest_size VERSION }
+    requires { size ≤ greatest_size Summed }
     ensures { result ≡ block_count size }
 {
     size.div_ceil(4096) as u32
@@ -114,7 +115,7 @@ impl File {
     /// Makes the file of this size. Blocks past it are cut off; within the last one nothing is
     /// cleared.
     pub fn set_size(&mut self, size: u64)
-        requires { size ≤ greatest_size VERSION }
+        requires { size ≤ greatest_size self.old.tree.layout }
         ensures size { self.new.size ≡ size }
         ensures blocks { (disk : ℕ → List ℕ) (j : ℕ)
             → file_block disk self.new j
@@ -142,9 +143,10 @@ impl File {
         requires { 0 < length bytes.now }
         ensures reads { ReadsBlocks B.Blocks IsChangeFault blocks.old blocks.new result }
         ensures same { IsSameFile self.old self.new }
-        ensures within { OnOk result (offset + length bytes.now ≤ greatest_size VERSION) }
+        ensures within { OnOk result
+            (offset + length bytes.now ≤ greatest_size self.old.tree.layout) }
         ensures too_big { IsErrOf result ChangeError.TooBig
-            → greatest_size VERSION < offset + length bytes.now }
+            → greatest_size self.old.tree.layout < offset + length bytes.now }
         ensures sound { (disk : ℕ → List ℕ) → B.Shows blocks.old disk → OnOk result
             ((i : ℕ) → IsPartlyWritten offset (length bytes.now) i
             → IsSoundAt (B.count blocks.old) disk self.old.tree i) }
@@ -166,7 +168,8 @@ impl File {
         ensures stores { length bytes.now ≤ TRANSFER_BYTES → IfOk result
             (λ w. StoresMore self.new w (write_room self.old.size offset (length bytes.now))) }
     {
-        if offset > greatest_size(VERSION) || bytes.len() as u64 > greatest_size(VERSION) - offset {
+        let greatest = self.greatest_size();
+        if offset > greatest || bytes.len() as u64 > greatest - offset {
             return Err(ChangeError::TooBig);
         }
         let end = offset + bytes.len() as u64;
@@ -177,7 +180,7 @@ impl File {
             pieces.push(block)?;
         }
         Ok(FileUpdate {
-            size: self.size.max(end),
+            size: self.size().max(end),
             first,
             pieces,
         })
@@ -193,7 +196,7 @@ impl File {
         offset: u64,
         bytes: &[u8],
     ) -> Result<SharedBlock, BlockError>
-        requires end { offset + length bytes.now ≤ greatest_size VERSION }
+        requires end { offset + length bytes.now ≤ greatest_size Summed }
         requires above { 4096 * i < offset + length bytes.now }
         requires below { offset < 4096 * i + 4096 }
         ensures reads { ReadsBlocks B.Blocks IsFault blocks.old blocks.new result }
@@ -255,7 +258,7 @@ impl File {
     /// Whether a file of this size ends within a hole, of which nothing is to be cut away. Of a
     /// size that the inode can hold the bytes are block 0, zeros too.
     fn ends_in_hole<B: Blocks>(&self, blocks: &mut B, size: u64) -> Result<bool, BlockError>
-        requires { size ≤ greatest_size VERSION }
+        requires { size ≤ greatest_size Summed }
         ensures reads { ReadsBlocks B.Blocks IsFault blocks.old blocks.new result }
         ensures sound { (disk : ℕ → List ℕ) → B.Shows blocks.old disk
             → OnOk result (IsSoundAt (B.count blocks.old) disk self.now.tree (size / 4096)) }
@@ -284,8 +287,9 @@ impl File {
     ) -> Result<FileUpdate, ChangeError>
         ensures reads { ReadsBlocks B.Blocks IsChangeFault blocks.old blocks.new result }
         ensures same { IsSameFile self.old self.new }
-        ensures within { OnOk result (size ≤ greatest_size VERSION) }
-        ensures too_big { IsErrOf result ChangeError.TooBig → greatest_size VERSION < size }
+        ensures within { OnOk result (size ≤ greatest_size self.old.tree.layout) }
+        ensures too_big { IsErrOf result ChangeError.TooBig
+            → greatest_size self.old.tree.layout < size }
         ensures sound { (disk : ℕ → List ℕ) → B.Shows blocks.old disk → OnOk result
             (TruncatesBlock self.old.size size
             → IsSoundAt (B.count blocks.old) disk self.old.tree (size / 4096)) }
@@ -303,7 +307,7 @@ impl File {
             → IfOk result (λ w. bytes_with disk self.old w ≡ filled size (bytes_of_file disk self.old)) }
         ensures stores { IfOk result (λ w. StoresMore self.new w (size_room self.old.size size)) }
     {
-        if size > greatest_size(VERSION) {
+        if size > self.greatest_size() {
             return Err(ChangeError::TooBig);
         }
         let first = (size / 4096) as u32;
@@ -362,7 +366,7 @@ impl File {
         requires { 0 < length bytes.now }
         ensures reads { ReadsBlocks B.Blocks IsChangeFault blocks.old blocks.new result }
         ensures too_big { IsErrOf result ChangeError.TooBig
-            → greatest_size VERSION < offset + length bytes.now }
+            → greatest_size self.old.tree.layout < offset + length bytes.now }
         ensures refused { OnErr result (IsSameFile self.old self.new) }
         ensures base { KeepsBase self.old.tree self.new.tree }
         ensures sound { KeepsSound self.old.tree self.new.tree }
@@ -385,7 +389,8 @@ impl File {
         size: u64,
     ) -> Result<(), ChangeError>
         ensures reads { ReadsBlocks B.Blocks IsChangeFault blocks.old blocks.new result }
-        ensures too_big { IsErrOf result ChangeError.TooBig → greatest_size VERSION < size }
+        ensures too_big { IsErrOf result ChangeError.TooBig
+            → greatest_size self.old.tree.layout < size }
         ensures refused { OnErr result (IsSameFile self.old self.new) }
         ensures base { KeepsBase self.old.tree self.new.tree }
         ensures sound { KeepsSound self.old.tree self.new.tree }

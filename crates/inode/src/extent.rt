@@ -1,8 +1,8 @@
 //! How many blocks of a file are stored, and where its next data and its next hole begin.
 
 ghost use Rattle.std.specs.Prelude.{ℕ, ◌<◌, ◌≤◌, List, OnOk, IfOk, IsTrue, IsFalse, IsErrOf};
-ghost use Rattle.layout.specs.Version.{greatest_size};
-ghost use Rattle.layout.specs.declared.version.TheConstants.{VERSION};
+ghost use Rattle.layout.specs.Trees.{greatest_size};
+ghost use Rattle.layout.specs.declared.trees.Layout.TheVariants.{Summed};
 ghost use Rattle.model.specs.Holes.{CountsStored, FindsFirst, FindsHole, TellsExtent};
 ghost use Rattle.buffers.specs.Reads.{ReadsBlocks};
 ghost use Rattle.buffers.specs.Errors.{IsFault};
@@ -18,7 +18,7 @@ use std::alloc::Global;
 /// How many blocks of a file of this size are stored, where these are the places of the settled
 /// ones.
 fn stored_count(tree: &BlockTree, places: &PlaceMap, size: u64) -> u32
-    requires { size ≤ greatest_size VERSION }
+    requires { size ≤ greatest_size Summed }
     ensures { (disk : ℕ → List ℕ) → AreSettledPlaces disk tree.now places.now
         → CountsStored (is_stored disk tree.now) size result }
 {
@@ -34,7 +34,7 @@ fn stored_count(tree: &BlockTree, places: &PlaceMap, size: u64) -> u32
 
 /// The first place from an offset on in a stored block, in bytes.
 fn next_data(tree: &BlockTree, places: &PlaceMap, size: u64, offset: u64) -> Option<u64>
-    requires { size ≤ greatest_size VERSION }
+    requires { size ≤ greatest_size Summed }
     ensures { (disk : ℕ → List ℕ) → AreSettledPlaces disk tree.now places.now
         → FindsFirst (is_stored disk tree.now) size offset result }
 {
@@ -51,7 +51,7 @@ fn next_data(tree: &BlockTree, places: &PlaceMap, size: u64, offset: u64) -> Opt
 /// The first place from an offset on in a block that isn't stored, or else the file's end, in
 /// bytes. None at an offset from the end on.
 fn next_hole(tree: &BlockTree, places: &PlaceMap, size: u64, offset: u64) -> Option<u64>
-    requires { size ≤ greatest_size VERSION }
+    requires { size ≤ greatest_size Summed }
     ensures { (disk : ℕ → List ℕ) → AreSettledPlaces disk tree.now places.now
         → FindsHole (is_stored disk tree.now) size offset result }
 {
@@ -107,10 +107,11 @@ impl File {
             → AreSound (B.count blocks.old) disk self.now.tree → ⊥ }
     {
         let places = self.tree.settled_places(alloc, blocks)?;
+        let size = self.size();
         Ok(Extent {
-            blocks: stored_count(&self.tree, &places, self.size),
-            data: next_data(&self.tree, &places, self.size, offset),
-            hole: next_hole(&self.tree, &places, self.size, offset),
+            blocks: stored_count(&self.tree, &places, size),
+            data: next_data(&self.tree, &places, size, offset),
+            hole: next_hole(&self.tree, &places, size, offset),
         })
     }
 }

@@ -1,8 +1,8 @@
 //! A file's bytes, as they are read.
 
 ghost use Rattle.std.specs.Prelude.{◌≡◌, ◌⊎◌, ℕ, ◌+◌, ◌<◌, ◌≤◌, ◌/◌, List, length, OnOk, IsErrOf, IfOk};
-ghost use Rattle.layout.specs.Version.{greatest_size};
-ghost use Rattle.layout.specs.declared.version.TheConstants.{VERSION};
+ghost use Rattle.layout.specs.Trees.{greatest_size};
+ghost use Rattle.layout.specs.declared.trees.Layout.TheVariants.{Summed};
 ghost use Rattle.buffers.specs.Reads.{ReadsBlocks};
 ghost use Rattle.buffers.specs.Errors.{IsFault};
 ghost use Rattle.blocktree.specs.Places.{block_count};
@@ -12,7 +12,7 @@ use crate::laws::settled_files_are_as_held;
 use crate::loading::settled_tree;
 use blocktree::{BlockTree, Location};
 use buffers::{Block, BlockError, Blocks};
-use layout::{BLOCK_BYTES, Inode};
+use layout::{BLOCK_BYTES, Inode, Layout};
 use std::alloc::{AllocError, Global};
 
 /// A file in memory: its blocks, and how many bytes it has.
@@ -20,7 +20,7 @@ use std::alloc::{AllocError, Global};
 pub struct File {
     pub(crate) tree: BlockTree,
     pub(crate) size: u64,
-    ghost within: { size ≤ greatest_size VERSION },
+    ghost within: { size ≤ greatest_size tree.layout },
     ghost kept: { tree.kept ≤ block_count size },
 }
 
@@ -37,7 +37,7 @@ impl File {
 
     /// The file of a settled inode. The bytes of a small one become a changed block.
     pub fn load(alloc: Global, inode: Inode) -> Result<File, AllocError>
-        requires { inode.size ≤ greatest_size VERSION }
+        requires { inode.size ≤ greatest_size inode.layout }
         ensures size { IfOk result (λ f. f.size ≡ inode.size) }
         ensures blocks { IfOk result (λ f. (disk : ℕ → List ℕ) (i : ℕ)
             → file_block disk f i ≡ inode_block disk inode i) }
@@ -45,27 +45,28 @@ impl File {
             → IsHeldFile detail s (held disk inode) → IfOk result (IsAsHeld disk inode) }
         ensures ends { (s : Sizes) (disk : ℕ → List ℕ) → IsSoundFile s (held disk inode)
             → IfOk result (IsFile disk) }
-        ensures settled { IfOk result (λ f. StartsFrom inode.body inode.size f.tree) }
+        ensures settled { IfOk result (λ f. StartsFrom inode.layout inode.body inode.size f.tree) }
         ensures unchanged { IfOk result (λ f. StartsUnchanged inode.body f.tree) }
         ensures base { IfOk result (λ f. IsBased inode f.tree) }
     {
         settled_files_are_as_held();
-        let tree = settled_tree(alloc, inode.body, inode.size)?;
+        let tree = settled_tree(alloc, inode.layout, inode.body, inode.size)?;
         Ok(File {
             tree,
             size: inode.size,
         })
     }
 
-    /// A file without bytes.
-    pub fn empty(alloc: Global) -> File
+    /// A file without bytes, of this layout.
+    pub fn empty(alloc: Global, layout: Layout) -> File
+        ensures layout { result.tree.layout ≡ layout }
         ensures size { result.size ≡ 0 }
         ensures blocks { (disk : ℕ → List ℕ) (i : ℕ) → file_block disk result i ≡ zeros 4096 }
-        ensures base { (settled : Inode) → IsBased settled result.tree }
+        ensures base { (settled : Inode) → settled.layout ≡ layout → IsBased settled result.tree }
         ensures unchanged { (i : ℕ) → IsChanged result.tree i → ⊥ }
     {
         File {
-            tree: BlockTree::empty(alloc),
+            tree: BlockTree::empty(alloc, layout),
             size: 0,
         }
     }
@@ -80,9 +81,18 @@ impl File {
     /// How many bytes the file has.
     pub fn size(&self) -> u64
         ensures value { result ≡ self.now.size }
-        ensures most { result ≤ greatest_size VERSION }
+        ensures within { result ≤ greatest_size self.now.tree.layout }
+        ensures most { result ≤ greatest_size Summed }
     {
         self.size
+    }
+
+    /// How many bytes a file of its layout may have.
+    pub(crate) fn greatest_size(&self) -> u64
+        ensures value { result ≡ greatest_size self.now.tree.layout }
+        ensures most { result ≤ greatest_size Summed }
+    {
+        self.tree.layout().greatest_size()
     }
 
     /// Finds block `i`, and makes it resident where it is on the disk.
@@ -145,7 +155,7 @@ impl File {
         offset: u64,
         out: &mut [u8],
     ) -> Result<(), BlockError>
-        requires { offset + length out.old ≤ greatest_size VERSION }
+        requires { offset + length out.old ≤ greatest_size Summed }
         ensures reads { ReadsBlocks B.Blocks IsFault blocks.old blocks.new result }
         ensures bytes { (disk : ℕ → List ℕ) → B.Shows blocks.old disk
             → OnOk result (IsPart (byte_at disk self.now) offset out.new) }

@@ -1,8 +1,8 @@
 //! A change of a file that is prepared.
 
 ghost use Rattle.std.specs.Prelude.{◌+◌, ◌≤◌, length};
-ghost use Rattle.layout.specs.Version.{greatest_size};
-ghost use Rattle.layout.specs.declared.version.TheConstants.{VERSION};
+ghost use Rattle.layout.specs.Trees.{greatest_size};
+ghost use Rattle.layout.specs.declared.trees.Layout.TheVariants.{Summed};
 ghost use Rattle.blocktree.specs.Places.{block_count};
 
 use buffers::SharedBlock;
@@ -13,6 +13,6 @@ pub struct FileUpdate {
     pub(crate) size: u64,
     pub(crate) first: u32,
     pub(crate) pieces: Vec<SharedBlock>,
-    ghost fits: { (size ≤ greatest_size VERSION)
+    ghost fits: { (size ≤ greatest_size Summed)
         × (first + length pieces.items ≤ block_count size) },
 }

@@ -3,7 +3,7 @@
 ghost use Rattle.std.specs.Prelude.{ℕ, suc, ◌≡◌, ◌+◌, ◌≤◌, List};
 ghost use Rattle.layout.specs.Limits.{Sizes};
 ghost use Rattle.layout.specs.Places.{place};
-ghost use Rattle.layout.specs.Version.{level_of};
+ghost use Rattle.layout.specs.Trees.{level_of};
 ghost use Rattle.layout.specs.declared.inode.Body.TheVariants.{Pointers};
 ghost use Rattle.layout.specs.declared.inode.Inode.{Inode};
 ghost use Rattle.layout.specs.declared.pointer.Pointer.{Pointer};
@@ -31,16 +31,16 @@ pub fn settled_files_are_as_held()
 pub fn nodes_are_where_pointers_lead()
     ensures places { (disk : ℕ → List ℕ) (f : Inode) (pointers : List Pointer)
         (depth height i : ℕ) → f.body ≡ Pointers pointers
-        → level_of f.size ≡ suc (depth + height)
-        → (held disk f).place height i ≡ place disk pointers depth i }
+        → level_of f.layout f.size ≡ suc (depth + height)
+        → (held disk f).place height i ≡ place f.layout disk pointers depth i }
     ensures paths { (detail : Detail) (s : Sizes) (disk : ℕ → List ℕ) (f : Inode)
         (pointers : List Pointer) (depth height i : ℕ) → IsHeldFile detail s (held disk f) → f.body ≡ Pointers pointers
-        → level_of f.size ≡ suc (depth + height)
-        → IsPath s.blocks disk pointers depth (nodes_of_size f.size height) i }
+        → level_of f.layout f.size ≡ suc (depth + height)
+        → IsPath f.layout s.blocks disk pointers depth (nodes_of_size f.layout f.size height) i }
     ensures past { (detail : Detail) (s : Sizes) (disk : ℕ → List ℕ) (f : Inode) (height i : ℕ)
-        → IsHeldFile detail s (held disk f) → nodes_of_size f.size height ≤ i
+        → IsHeldFile detail s (held disk f) → nodes_of_size f.layout f.size height ≤ i
         → (held disk f).place height i ≡ Hole }
-    ensures above { (disk : ℕ → List ℕ) (f : Inode) (height i : ℕ) → level_of f.size ≤ height
+    ensures above { (disk : ℕ → List ℕ) (f : Inode) (height i : ℕ) → level_of f.layout f.size ≤ height
         → (held disk f).place height i ≡ Hole }
 {}
 

@@ -1,8 +1,7 @@
 //! What an inode says beside a file's bytes.
 
 ghost use Rattle.std.specs.Prelude.{◌≡◌, ℕ, ◌≤◌, List, IfOk};
-ghost use Rattle.layout.specs.Version.{greatest_size};
-ghost use Rattle.layout.specs.declared.version.TheConstants.{VERSION};
+ghost use Rattle.layout.specs.Trees.{greatest_size};
 ghost use Rattle.inode.specs.Bodies.{inode_block};
 
 use crate::File;
@@ -65,7 +64,7 @@ impl Object {
 
     /// The object of a settled inode.
     pub fn load(alloc: Global, inode: Inode) -> Result<Object, AllocError>
-        requires { inode.size ≤ greatest_size VERSION }
+        requires { inode.size ≤ greatest_size inode.layout }
         ensures status { IfOk result
             (λ o. o.status
             ≡ record {
@@ -80,7 +79,8 @@ impl Object {
             → IsHeldFile detail s (held disk inode) → IfOk result (λ o. IsAsHeld disk inode o.file) }
         ensures ends { (s : Sizes) (disk : ℕ → List ℕ) → IsSoundFile s (held disk inode)
             → IfOk result (λ o. IsFile disk o.file) }
-        ensures settled { IfOk result (λ o. StartsFrom inode.body inode.size o.file.tree) }
+        ensures settled { IfOk result
+            (λ o. StartsFrom inode.layout inode.body inode.size o.file.tree) }
         ensures unchanged { IfOk result (λ o. StartsUnchanged inode.body o.file.tree) }
         ensures base { IfOk result (λ o. IsBased inode o.file.tree) }
         ensures known { IfOk result (λ o. (inodes : ℕ) (block : ℕ → List ℕ)

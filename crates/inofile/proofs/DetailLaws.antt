@@ -64,9 +64,9 @@ unchanged_bytes None below not = refl
 
 whole_block : (blocks : ℕ) (disk : ℕ → List ℕ) (t : BlockTree) (i : ℕ) → AreSound blocks disk t → length (tree_block disk t i) ≡ 4096 → IsSoundAt blocks disk t i
 whole_block blocks disk t i sound whole unchanged lt =
-    let settled : tree_block disk t i ≡ settled_block disk t.pointers t.depth t.kept i =
-    unchanged_bytes (tree.get nat_cmp t.slots i) (settled_block disk t.pointers t.depth t.kept i) unchanged in
-    (sound i (omega (arith, lt, t.fits.1)), ap length (sym (settled ∙ settled_within disk t.pointers t.depth t.kept i (place disk t.pointers t.depth i) lt refl)) ∙ whole)
+    let settled : tree_block disk t i ≡ settled_block t.layout disk t.pointers t.depth t.kept i =
+    unchanged_bytes (tree.get nat_cmp t.slots i) (settled_block t.layout disk t.pointers t.depth t.kept i) unchanged in
+    (sound i (omega (arith, lt, t.fits.1)), ap length (sym (settled ∙ settled_within t.layout disk t.pointers t.depth t.kept i (place t.layout disk t.pointers t.depth i) lt refl)) ∙ whole)
 
 -- where all are known, they can all be read
 pub sound_block : (detail : Detail) (s : Sizes) (disk : ℕ → List ℕ) (settled : Inode) (t : BlockTree) (i : ℕ) → IsHeldFile detail s (held disk settled) → AreSound s.blocks disk t

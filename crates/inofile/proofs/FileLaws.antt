@@ -8,7 +8,7 @@ use Rattle.layout.specs.Limits.{Sizes}
 use Rattle.layout.specs.declared.inode.Inode.{Inode}
 use Rattle.layout.specs.declared.kind.Kind.{Kind}
 use Rattle.layout.specs.declared.kind.Kind.TheVariants as kinds
-use Rattle.layout.specs.declared.version.TheConstants.{VERSION}
+use Rattle.layout.specs.declared.trees.Layout.{Layout}
 use Rattle.model.specs.Volumes.{Node, Volume}
 use Rattle.images.specs.Contents.{Content, HoldsVolume}
 use Rattle.images.specs.Nodes.{held}
@@ -35,42 +35,43 @@ free_or_not kinds.InodeFile = inr (λ e. (cc))
 free_or_not kinds.InodeMap = inr (λ e. (cc))
 free_or_not kinds.BlockMap = inr (λ e. (cc))
 
-settled_file : (disk : ℕ → List ℕ) (s : Sizes) (i : Inode) → IsInode VERSION s i → or_free_content disk (settled_content disk i) ≡ held_content disk i
+settled_file : (disk : ℕ → List ℕ) (s : Sizes) (i : Inode) → IsInode s i → or_free_content s.layout disk (settled_content disk i) ≡ held_content disk i
 settled_file disk s i is = elim (free_or_not i.kind) [
-  | inl free ↦ ap (or_free_content disk) (free_content disk i free) ∙ ap (held_content disk) (sym (free_is s i is free))
-  | inr used ↦ ap (or_free_content disk) (unless i.kind (held_content disk i) used)
+  | inl free ↦ ap (or_free_content s.layout disk) (free_content disk i free) ∙ ap (held_content disk) (sym (free_is s i is free))
+  | inr used ↦ ap (or_free_content s.layout disk) (unless i.kind (held_content disk i) used)
 ]
 
-none_stands : (disk : ℕ → List ℕ) (inodes : ℕ) (found : Option Node) → found ≡ None → StandsForIn by_bytes inodes (held_content disk free_inode) found
+none_stands : (layout : Layout) (disk : ℕ → List ℕ) (inodes : ℕ) (found : Option Node) → found ≡ None → StandsForIn by_bytes inodes (held_content disk (free_inode layout)) found
 unfolding held
-none_stands disk inodes found none = none
+none_stands layout disk inodes found none = none
 
-object_stands : (disk : ℕ → List ℕ) (inodes : ℕ) (settled : Inode) (object : Option Object) (below : Option Content) (found : Option Node) → IsObjectOrNone by_bytes disk inodes settled object found
-    → StandsForIn by_bytes inodes (or_free_content disk (slot_content disk (Some (Changed object)) below)) found
-object_stands disk inodes settled (Some o) below found is = is.stands
-object_stands disk inodes settled None below found is = none_stands disk inodes found is
+object_stands : (layout : Layout) (disk : ℕ → List ℕ) (inodes : ℕ) (settled : Inode) (object : Option Object) (below : Option Content) (found : Option Node) → IsObjectOrNone by_bytes disk inodes settled object found
+    → StandsForIn by_bytes inodes (or_free_content layout disk (slot_content disk (Some (Changed object)) below)) found
+object_stands layout disk inodes settled (Some o) below found is = is.stands
+object_stands layout disk inodes settled None below found is = none_stands layout disk inodes found is
 
-slot_stands : (disk : ℕ → List ℕ) (s : Sizes) (inodes : ℕ) (settled : Inode) (slot : Option ObjectSlot) (found : Option Node) → IsInode VERSION s settled
-    → SlotStandsFor by_bytes disk inodes settled slot found → StandsForIn by_bytes inodes (or_free_content disk (slot_content disk slot (settled_content disk settled))) found
+slot_stands : (disk : ℕ → List ℕ) (s : Sizes) (inodes : ℕ) (settled : Inode) (slot : Option ObjectSlot) (found : Option Node) → IsInode s settled
+    → SlotStandsFor by_bytes disk inodes settled slot found → StandsForIn by_bytes inodes (or_free_content s.layout disk (slot_content disk slot (settled_content disk settled))) found
 slot_stands disk s inodes settled (Some AsSettled) found is stands = subst (λ (c : Content). StandsForIn by_bytes inodes c found) (sym (settled_file disk s settled is)) stands
-slot_stands disk s inodes settled (Some (Loaded object)) found is stands = object_stands disk inodes settled object (settled_content disk settled) found stands.1
-slot_stands disk s inodes settled (Some (Changed object)) found is stands = object_stands disk inodes settled object (settled_content disk settled) found stands
+slot_stands disk s inodes settled (Some (Loaded object)) found is stands = object_stands s.layout disk inodes settled object (settled_content disk settled) found stands.1
+slot_stands disk s inodes settled (Some (Changed object)) found is stands = object_stands s.layout disk inodes settled object (settled_content disk settled) found stands
 slot_stands disk s inodes settled None found is stands = subst (λ (c : Content). StandsForIn by_bytes inodes c found) (sym (settled_file disk s settled is)) stands
 
 loaded_file : (disk : ℕ → List ℕ) (settled : Inode) (object : Option Object) (below : Option Content) → IsAsSettled disk settled object
-    → or_free_content disk (slot_content disk (Some (Loaded object)) below) ≡ held_content disk settled
+    → or_free_content settled.layout disk (slot_content disk (Some (Loaded object)) below) ≡ held_content disk settled
 loaded_file disk settled (Some o) below is = is.0
 loaded_file disk settled None below is = ap (held_content disk) (sym is)
 
-slot_file : (disk : ℕ → List ℕ) (s : Sizes) (inodes : ℕ) (settled : Inode) (slot : Option ObjectSlot) (found : Option Node) → IsInode VERSION s settled → (IsChangedSlot slot → ⊥)
-    → SlotStandsFor by_bytes disk inodes settled slot found → or_free_content disk (slot_content disk slot (settled_content disk settled)) ≡ held_content disk settled
+slot_file : (disk : ℕ → List ℕ) (s : Sizes) (inodes : ℕ) (settled : Inode) (slot : Option ObjectSlot) (found : Option Node) → IsInode s settled → (IsChangedSlot slot → ⊥)
+    → SlotStandsFor by_bytes disk inodes settled slot found → or_free_content s.layout disk (slot_content disk slot (settled_content disk settled)) ≡ held_content disk settled
 slot_file disk s inodes settled (Some AsSettled) found is not stands = settled_file disk s settled is
-slot_file disk s inodes settled (Some (Loaded object)) found is not stands = loaded_file disk settled object (settled_content disk settled) stands.0
+slot_file disk s inodes settled (Some (Loaded object)) found is not stands =
+    ap (λ (l : Layout). or_free_content l disk (slot_content disk (Some (Loaded object)) (settled_content disk settled))) (sym is.layout) ∙ loaded_file disk settled object (settled_content disk settled) stands.0
 slot_file disk s inodes settled (Some (Changed object)) found is not stands = absurd (not tt)
 slot_file disk s inodes settled None found is not stands = settled_file disk s settled is
 
 module _ (count : ℕ) (disk : ℕ → List ℕ) (settled : ℕ → Inode) (s : InodeFile) (v : Volume) (is : IsVolumeOf count disk settled s v) where
-  is_inode : (n : ℕ) → IsInode VERSION s.geometry (settled n)
+  is_inode : (n : ℕ) → IsInode s.geometry (settled n)
   is_inode n = held_inode s.geometry disk (settled n) (is.inodes.sound n)
 
   pub files_hold : HoldsVolume s.geometry.inodes (files_of disk settled s) v

@@ -4,7 +4,6 @@ pub mod ObjectLaws
 pub mod VolumeLaws
 mod CountLaws
 mod SlotLaws
-pub mod VersionLaws
 mod FileLaws
 pub mod ChangedLaws
 pub mod RoomLaws

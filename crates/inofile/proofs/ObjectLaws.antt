@@ -9,8 +9,8 @@ use Rattle.layout.specs.declared.inode.Body.TheVariants.{Inline, Pointers}
 use Rattle.layout.specs.declared.inode.Inode.{Inode}
 use Rattle.layout.specs.declared.kind.Kind.{Kind}
 use Rattle.layout.specs.declared.kind.Kind.TheVariants as kinds
-use Rattle.layout.specs.Version.{level_of}
-use Rattle.layout.specs.declared.version.TheConstants.{VERSION}
+use Rattle.layout.specs.Trees.{level_of}
+use Rattle.layout.specs.declared.trees.Layout.{Layout}
 use Rattle.model.specs.declared.attributes.Attributes.{Attributes}
 use Rattle.model.specs.Attributes.{AreAttributes}
 use Rattle.model.specs.Volumes.{Node}
@@ -35,18 +35,22 @@ use Rattle.layout.proofs.SizeLaws.{level_none}
 
 -- ---- free inodes
 
-free_body : (body : Body) (blocks size : ℕ) → size ≡ 0 → FitsBody body blocks size → body ≡ Inline (zeros 128)
-free_body (Inline bytes) blocks size none fits =
+free_body : (layout : Layout) (body : Body) (blocks size : ℕ) → size ≡ 0 → FitsBody layout body blocks size → body ≡ Inline (zeros 128)
+free_body layout (Inline bytes) blocks size none fits =
     ap Inline (subst (λ (n : ℕ). drop n bytes ≡ zeros (128 - n)) none fits.2)
-free_body (Pointers pointers) blocks size none fits = absurd (omega (arith, none, fits.0))
+free_body layout (Pointers pointers) blocks size none fits = absurd (omega (arith, none, fits.0))
 
-pub free_is : (s : Sizes) (i : Inode) → IsInode VERSION s i → i.kind ≡ kinds.Free → i ≡ free_inode
+pub free_is : (s : Sizes) (i : Inode) → IsInode s i → i.kind ≡ kinds.Free → i ≡ free_inode s.layout
 free_is s i is free =
     let fits = subst (λ (k : Kind). FitsKind k s i.attributes i.links i.size) free is.kind in
-    let body = free_body i.body s.blocks i.size fits.2 is.body in
-    λ j. record { kind = free j; attributes = fits.0 j; links = fits.1 j; size = fits.2 j; body = body j }
+    let body = free_body i.layout i.body s.blocks i.size fits.2 is.body in
+    λ j. record { layout = is.layout j; kind = free j; attributes = fits.0 j; links = fits.1 j; size = fits.2 j; body = body j }
 
-pub held_inode : {detail : Detail} (s : Sizes) (disk : ℕ → List ℕ) (i : Inode) → IsHeldFile detail s (held disk i) → IsInode VERSION s i
+-- in its own layout
+pub free_own : (s : Sizes) (i : Inode) → IsInode s i → i.kind ≡ kinds.Free → i ≡ free_inode i.layout
+free_own s i is free = free_is s i is free ∙ ap free_inode (sym is.layout)
+
+pub held_inode : {detail : Detail} (s : Sizes) (disk : ℕ → List ℕ) (i : Inode) → IsHeldFile detail s (held disk i) → IsInode s i
 unfolding held
 held_inode s disk i sound = sound.inode
 
@@ -104,7 +108,7 @@ loaded_content disk i o is same =
 pub loaded_settled : (disk : ℕ → List ℕ) (i : Inode) (o : Object) → IsLoaded i o → IsAsHeld disk i o.file → Some (content_of_object disk o) ≡ settled_content disk i
 loaded_settled disk i o is same = ap Some (loaded_content disk i o is same) ∙ sym (unless i.kind (held_content disk i) is.used)
 
-pub loaded_object : (detail : Detail) (disk : ℕ → List ℕ) (inodes : ℕ) (s : Sizes) (i : Inode) (o : Object) (found : Option Node) → IsInode VERSION s i → IsLoaded i o → IsAsHeld disk i o.file
+pub loaded_object : (detail : Detail) (disk : ℕ → List ℕ) (inodes : ℕ) (s : Sizes) (i : Inode) (o : Object) (found : Option Node) → IsInode s i → IsLoaded i o → IsAsHeld disk i o.file
     → EndsIn detail disk o.file → IsOrdinary i.kind → StandsForIn detail inodes (held_content disk i) found → IsObjectIn detail disk inodes i o found
 loaded_object detail disk inodes s i o found inode is same ends ordinary stands = record {
   kind = subst (λ (a : Status). IsObjectKind a.kind) (sym is.status) (object_kind i.kind is.used ordinary);
@@ -153,13 +157,14 @@ same_object detail disk inodes settled (Some old) (Some new) found same stays is
 
 same_untouched : (old new : Object) → IsSameObject old new → IsUntouched old → IsUntouched new
 same_untouched old new same is =
-    let deep : 1 ≤ level_of new.file.size → 1 ≤ level_of old.file.size = subst (λ (n : ℕ). 1 ≤ level_of n) same.file.size in
+    let level : level_of new.file.tree.layout new.file.size ≡ level_of old.file.tree.layout old.file.size = cc (same.file.size, same.file.changes.settled.layout) in
+    let deep : 1 ≤ level_of new.file.tree.layout new.file.size → 1 ≤ level_of old.file.tree.layout old.file.size = subst (λ (n : ℕ). 1 ≤ n) level in
     record {
       kept = λ high. same.file.changes.kept ∙ is.kept (deep high) ∙ sym same.file.changes.settled.count;
       count = λ high. same.file.changes.settled.count ∙ is.count (deep high) ∙ ap block_count (sym same.file.size);
-      depth = λ high. same.file.changes.settled.depth ∙ is.depth (deep high) ∙ ap depth_of (sym same.file.size);
+      depth = λ high. same.file.changes.settled.depth ∙ is.depth (deep high) ∙ ap (λ (n : ℕ). n - 1) (sym level);
       none = λ high i changed. is.none (deep high) i (same.file.changes.only i changed);
-      few = λ low i changed. is.few (subst (λ (n : ℕ). level_of n ≡ 0) same.file.size low) i (same.file.changes.only i changed);
+      few = λ low i changed. is.few (subst (λ (n : ℕ). n ≡ 0) level low) i (same.file.changes.only i changed);
     }
 
 pub same_settled : (disk : ℕ → List ℕ) (settled : Inode) (was now : Option Object) → IsSameOrNone was now → IsAsSettled disk settled was → IsAsSettled disk settled now
@@ -185,9 +190,9 @@ object_some detail disk inodes settled None found is = ((λ yes. absurd (false�
 
 -- ---- objects as they are loaded
 
-untouched_body : (b : Body) (blocks size : ℕ) (o : Object) → FitsBody b blocks size → o.file.size ≡ size → StartsFrom b size o.file.tree → StartsUnchanged b o.file.tree → IsUntouched o
-untouched_body (Inline bytes) blocks size o fits same starts unchanged =
-    let flat = level_none o.file.size (omega (arith, same, fits.0)) in
+untouched_body : (l : Layout) (b : Body) (blocks size : ℕ) (o : Object) → FitsBody l b blocks size → o.file.size ≡ size → StartsFrom l b size o.file.tree → StartsUnchanged b o.file.tree → IsUntouched o
+untouched_body l (Inline bytes) blocks size o fits same starts unchanged =
+    let flat = level_none o.file.tree.layout o.file.size (omega (arith, same, fits.0)) in
     record {
       kept = λ deep. absurd (omega (arith, deep, flat));
       count = λ deep. absurd (omega (arith, deep, flat));
@@ -195,13 +200,13 @@ untouched_body (Inline bytes) blocks size o fits same starts unchanged =
       none = λ deep i is. absurd (omega (arith, deep, flat));
       few = λ low. unchanged;
     }
-untouched_body (Pointers pointers) blocks size o fits same starts unchanged = record {
+untouched_body l (Pointers pointers) blocks size o fits same starts unchanged = record {
   kept = λ deep. starts.1;
   count = λ deep. starts.0.count ∙ ap block_count (sym same);
-  depth = λ deep. starts.0.depth ∙ ap depth_of (sym same);
+  depth = λ deep. starts.0.depth ∙ ap (depth_of l) (sym same) ∙ ap (λ (m : Layout). depth_of m o.file.size) (sym starts.0.layout_is);
   none = λ deep i is. unchanged i is;
   few = λ low i is. absurd (unchanged i is);
 }
 
-pub loaded_untouched : (s : Sizes) (i : Inode) (o : Object) → IsInode VERSION s i → o.file.size ≡ i.size → StartsFrom i.body i.size o.file.tree → StartsUnchanged i.body o.file.tree → IsUntouched o
-loaded_untouched s i o is same starts unchanged = untouched_body i.body s.blocks i.size o is.body same starts unchanged
+pub loaded_untouched : (s : Sizes) (i : Inode) (o : Object) → IsInode s i → o.file.size ≡ i.size → StartsFrom i.layout i.body i.size o.file.tree → StartsUnchanged i.body o.file.tree → IsUntouched o
+loaded_untouched s i o is same starts unchanged = untouched_body i.layout i.body s.blocks i.size o is.body same starts unchanged

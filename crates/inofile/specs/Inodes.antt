@@ -4,6 +4,7 @@ use Rattle.std.specs.Option.{option_map}
 use Rattle.std.specs.Ordering.{nat_cmp}
 use Rattle.std.specs.BTreeMap as tree
 use Rattle.layout.specs.declared.inode.Inode.{Inode}
+use Rattle.layout.specs.declared.trees.Layout.{Layout}
 use Rattle.images.specs.Contents.{Content}
 use Rattle.images.specs.Roots.{free_inode}
 use Rattle.inode.specs.declared.object.Object.{Object}
@@ -26,13 +27,13 @@ content_at disk settled s n =
     slot_content disk (tree.get nat_cmp s.slots n) (settled_content disk (settled n))
 
 -- an object's content, or that of a free inode
-abbrev pub or_free_content : (ℕ → List ℕ) → Option Content → Content
-or_free_content disk (Some content) = content
-or_free_content disk None = held_content disk free_inode
+abbrev pub or_free_content : Layout → (ℕ → List ℕ) → Option Content → Content
+or_free_content layout disk (Some content) = content
+or_free_content layout disk None = held_content disk (free_inode layout)
 
 -- the content of each number
 abbrev pub files_of : (ℕ → List ℕ) → (ℕ → Inode) → InodeFile → ℕ → Content
-files_of disk settled s n = or_free_content disk (content_at disk settled s n)
+files_of disk settled s n = or_free_content s.geometry.layout disk (content_at disk settled s n)
 
 -- no object differs
 abbrev pub SameObjects : (ℕ → List ℕ) → (ℕ → Inode) → InodeFile → InodeFile → Type 0

@@ -2,7 +2,7 @@
 use Rattle.std.specs.Prelude.{ℕ, ◌≡◌, ◌≤◌, List, Option, Some, None}
 use Rattle.layout.specs.Inode.{FitsKind}
 use Rattle.layout.specs.Limits.{Sizes}
-use Rattle.layout.specs.Version.{level_of}
+use Rattle.layout.specs.Trees.{level_of}
 use Rattle.layout.specs.declared.inode.Inode.{Inode}
 use Rattle.layout.specs.declared.kind.Kind.{Kind}
 use Rattle.layout.specs.declared.kind.Kind.TheVariants as kinds
@@ -59,16 +59,16 @@ IsObjectOrNone detail disk inodes settled None found = found ≡ None
 -- An object as it is loaded: where its bytes don't stand in its inode, no block of its file is
 -- changed, and all settled ones count; where they do, at the most the first block is.
 pub record IsUntouched (o : Object) : Type 0 where
-  pub kept : 1 ≤ level_of o.file.size → o.file.tree.kept ≡ o.file.tree.count
-  pub count : 1 ≤ level_of o.file.size → o.file.tree.count ≡ block_count o.file.size
-  pub depth : 1 ≤ level_of o.file.size → o.file.tree.depth ≡ depth_of o.file.size
-  pub none : 1 ≤ level_of o.file.size → (i : ℕ) → IsChanged o.file.tree i → ⊥
-  pub few : level_of o.file.size ≡ 0 → (i : ℕ) → IsChanged o.file.tree i → i ≡ 0
+  pub kept : 1 ≤ level_of o.file.tree.layout o.file.size → o.file.tree.kept ≡ o.file.tree.count
+  pub count : 1 ≤ level_of o.file.tree.layout o.file.size → o.file.tree.count ≡ block_count o.file.size
+  pub depth : 1 ≤ level_of o.file.tree.layout o.file.size → o.file.tree.depth ≡ depth_of o.file.tree.layout o.file.size
+  pub none : 1 ≤ level_of o.file.tree.layout o.file.size → (i : ℕ) → IsChanged o.file.tree i → ⊥
+  pub few : level_of o.file.tree.layout o.file.size ≡ 0 → (i : ℕ) → IsChanged o.file.tree i → i ≡ 0
 
 -- what was loaded is as it is settled, and wasn't touched since
 abbrev pub IsAsSettled : (ℕ → List ℕ) → Inode → Option Object → Type 0
 IsAsSettled disk settled (Some o) = (content_of_object disk o ≡ held_content disk settled) × IsUntouched o
-IsAsSettled disk settled None = settled ≡ free_inode
+IsAsSettled disk settled None = settled ≡ free_inode settled.layout
 
 -- the same object, whatever the disk
 pub record IsSameObject (old new : Object) : Type 0 where

@@ -2,7 +2,7 @@
 use Rattle.std.specs.Prelude.{ℕ, ◌≡◌, ◌<◌, ◌≤◌, List, Option, Some, None}
 use Rattle.layout.specs.Inode.{inode_bytes}
 use Rattle.layout.specs.Limits.{Sizes}
-use Rattle.layout.specs.Version.{greatest_size}
+use Rattle.layout.specs.Version.{greatest_under}
 use Rattle.layout.specs.declared.inode.Inode.{Inode}
 use Rattle.layout.specs.declared.kind.Kind.{Kind}
 use Rattle.layout.specs.declared.kind.Kind.TheVariants as kinds
@@ -52,9 +52,9 @@ pub record AreSettledIn (detail : Detail) (blocks : ℕ) (disk : ℕ → List �
   pub spelled : (n : ℕ) → 1 ≤ n → n < sizes.inodes
       → inode_bytes_at (file_block disk file) n ≡ inode_bytes (settled n)
   pub sound : (n : ℕ) → IsHeldFile detail sizes (held disk (settled n))
-  pub within : (n : ℕ) → (settled n).size ≤ greatest_size version
+  pub within : (n : ℕ) → (settled n).size ≤ greatest_under version
   pub fits : (n : ℕ) → FitsNumber n (settled n).kind
-  pub past : (n : ℕ) → sizes.inodes ≤ n → settled n ≡ free_inode
+  pub past : (n : ℕ) → sizes.inodes ≤ n → settled n ≡ free_inode sizes.layout
   pub reached : (i : ℕ) → IsSoundAt blocks disk file.tree i
 
 abbrev pub AreSettled : ℕ → (ℕ → List ℕ) → ℕ → Sizes → File → (ℕ → Inode) → Type 0

@@ -46,10 +46,10 @@ ghost use Rattle.std.specs.Ordering.{nat_cmp};
 ghost use Rattle.std.specs.BTreeMap as tree;
 ghost use Rattle.layout.specs.Inode.{IsInode};
 ghost use Rattle.layout.specs.Limits.{Sizes};
-ghost use Rattle.layout.specs.Version.{greatest_size};
+ghost use Rattle.layout.specs.Trees.{greatest_size};
+ghost use Rattle.layout.specs.Version.{greatest_under};
 ghost use Rattle.layout.specs.declared.inode.Inode.{Inode};
 ghost use Rattle.model.specs.declared.limits.TheConstants.{FIRST_NUMBER, ROOT_NUMBER};
-ghost use Rattle.layout.specs.declared.version.TheConstants.{VERSION};
 ghost use Rattle.model.specs.Counting.{Counts};
 ghost use Rattle.model.specs.Volumes.{IsVolume, Node, Volume};
 ghost use Rattle.buffers.specs.Reads.{ReadsBlocks};
@@ -122,8 +122,8 @@ impl InodeFile {
         ensures read { (detail : Detail) (disk : ℕ → List ℕ) (settled : ℕ → Inode)
             → B.Shows blocks.old disk → AreSettledIn detail (B.count blocks.old) disk self.now.version
             self.now.geometry self.now.file settled → IfOk result (λ i. i ≡ settled number) }
-        ensures fits { IfOk result (IsInode VERSION self.now.geometry) }
-        ensures within { IfOk result (λ i. i.size ≤ greatest_size self.now.version) }
+        ensures fits { IfOk result (IsInode self.now.geometry) }
+        ensures within { IfOk result (λ i. i.size ≤ greatest_under self.now.version) }
         ensures damaged { (detail : Detail) (disk : ℕ → List ℕ) (settled : ℕ → Inode)
             → B.Shows blocks.old disk → IsErrOf result BlockError.Damaged
             → AreSettledIn detail (B.count blocks.old) disk self.now.version self.now.geometry
@@ -358,12 +358,12 @@ impl InodeFile {
 
 // The object of a settled inode, if it is one.
 fn load_object(alloc: Global, inode: Inode) -> Result<Option<Object>, AllocError>
-    requires { inode.size ≤ greatest_size VERSION }
+    requires { inode.size ≤ greatest_size inode.layout }
     ensures content { (detail : Detail) (s : Sizes) (disk : ℕ → List ℕ)
         → IsHeldFile detail s (held disk inode) → IfOk result (λ o. option_map (content_of_object disk) o ≡ settled_content disk inode) }
     ensures as_settled { (detail : Detail) (s : Sizes) (disk : ℕ → List ℕ)
         → IsHeldFile detail s (held disk inode) → IfOk result (IsAsSettled disk inode) }
-    ensures untouched { (s : Sizes) → IsInode VERSION s inode
+    ensures untouched { (s : Sizes) → IsInode s inode
         → IfOk result (λ o. IfSome o IsUntouched) }
     ensures stands { (detail : Detail) (s : Sizes) (disk : ℕ → List ℕ) (inodes : ℕ)
         (found : Option Node) → IsHeldFile detail s (held disk inode) → IsOrdinary inode.kind

@@ -2,14 +2,13 @@
 
 ghost use Rattle.std.specs.Prelude.{◌≡◌, ◌≤◌, ◌<◌, IfOk, IfErr, OnErr};
 ghost use Rattle.layout.specs.Inode.{IsInode, inode_bytes};
-ghost use Rattle.layout.specs.Version.{greatest_size};
+ghost use Rattle.layout.specs.Version.{greatest_under};
 ghost use Rattle.layout.specs.declared.inode.Inode.{Inode};
-ghost use Rattle.layout.specs.declared.version.TheConstants.{VERSION};
 ghost use Rattle.buffers.specs.declared.error.BlockError.TheVariants.{Damaged};
 ghost use Rattle.images.specs.Roots.{inode_part};
 
 use buffers::BlockError;
-use layout::{BLOCK_BYTES, Geometry, INODE_BYTES, Inode};
+use layout::{BLOCK_BYTES, Geometry, INODE_BYTES, Inode, greatest_under};
 
 /// Reads inode `index` of a block of the inode file; Damaged where its bytes are no inode of an
 /// image of this version and geometry.
@@ -20,20 +19,20 @@ pub(crate) fn read_inode(
     geometry: Geometry,
 ) -> Result<Inode, BlockError>
     requires { index < 21 }
-    ensures read { (i : Inode) → IsInode VERSION geometry i
-        → i.size ≤ greatest_size version → inode_part bytes.now index ≡ inode_bytes i
+    ensures read { (i : Inode) → IsInode geometry i
+        → i.size ≤ greatest_under version → inode_part bytes.now index ≡ inode_bytes i
         → IfOk result (λ j. j ≡ i) }
-    ensures fits { IfOk result (IsInode VERSION geometry) }
-    ensures within { IfOk result (λ i. i.size ≤ greatest_size version) }
-    ensures damaged { OnErr result ((i : Inode) → IsInode VERSION geometry i
-        → i.size ≤ greatest_size version → inode_part bytes.now index ≡ inode_bytes i → ⊥) }
+    ensures fits { IfOk result (IsInode geometry) }
+    ensures within { IfOk result (λ i. i.size ≤ greatest_under version) }
+    ensures damaged { OnErr result ((i : Inode) → IsInode geometry i
+        → i.size ≤ greatest_under version → inode_part bytes.now index ≡ inode_bytes i → ⊥) }
     ensures only { IfErr result (λ e. e ≡ Damaged) }
 {
     let _ = geometry.inodes();
-    let Some(inode) = Inode::read(part(bytes, index)) else {
+    let Some(inode) = Inode::read(part(bytes, index), geometry.layout()) else {
         return Err(BlockError::Damaged);
     };
-    if inode.fits(version, geometry) {
+    if inode.fits(geometry) && inode.size <= greatest_under(version) {
         Ok(inode)
     } else {
         Err(BlockError::Damaged)

@@ -3,7 +3,7 @@ use Rattle.std.proofs.Common.{◌≡◌, ◌∙◌, ℕ, ◌+◌, ◌*◌, ◌<�
 use Rattle.std.proofs.lemmas.Bool.{cases_lt, not-false}
 use Rattle.std.proofs.lemmas.List.{get_or-drop}
 use Rattle.layout.specs.Bytes.{number}
-use Rattle.layout.specs.Maps.{IsIndirectBlock, indirect_pointer}
+use Rattle.layout.specs.Maps.{IsPointerBlock, indirect_pointer}
 use Rattle.layout.specs.Pointer.{PointsBelow, pointer_of}
 use Rattle.layout.specs.declared.pointer.Pointer.TheVariants.{Hole}
 
@@ -22,7 +22,7 @@ module _ (used count : ℕ) (few : count ≡ min used 1024) (bytes : List ℕ) (
   hole_behind : (i : ℕ) → i < 1024 → used ≤ i → indirect_pointer bytes i ≡ Hole
   hole_behind i low le = ap pointer_of (number_zero (drop (4 * i) bytes) (λ j small. get_or-drop (4 * i) bytes j 0 ∙ zero (4 * i + j) (omega (arith, few, le)) (omega (arith, low, small))))
 
-  pub filled : (blocks : ℕ) → length bytes ≡ 4096 → (indirect_pointer bytes 0 ≡ Hole → ⊥) → ((i : ℕ) → i < count → PointsBelow blocks (indirect_pointer bytes i)) → IsIndirectBlock blocks used bytes
+  pub filled : (blocks : ℕ) → length bytes ≡ 4096 → (indirect_pointer bytes 0 ≡ Hole → ⊥) → ((i : ℕ) → i < count → PointsBelow blocks (indirect_pointer bytes i)) → IsPointerBlock blocks used bytes
   filled blocks long some fit = record {
     size = long;
     within = λ i low. (

@@ -1,5 +1,5 @@
 -- The inode: what is read is spelled so, and what is spelled so is read.
-use Rattle.std.proofs.Common.{eq-eqb, ◌≡◌, ℕ, ◌*◌, ◌^◌, ◌<◌, ◌≤◌, true, false, eqb, leb, List, ◌++◌, length, get_or, drop, Some, refl, ap, subst, ◌∙◌, arith}
+use Rattle.std.proofs.Common.{eq-eqb, ◌≡◌, ℕ, ◌*◌, ◌^◌, ◌<◌, ◌≤◌, true, false, eqb, leb, List, ◌++◌, length, get_or, drop, Some, refl, sym, ap, subst, ◌∙◌, arith}
 use Rattle.std.specs.Int.{div_ceil}
 use Rattle.std.proofs.lemmas.Bool.Decides.{nat_tests}
 use Rattle.std.proofs.lemmas.Bool.{eqb-true, le-leb, lt-leb}
@@ -11,10 +11,11 @@ use Rattle.layout.specs.Bytes.{zeros, IsBytes}
 use Rattle.layout.specs.Limits.{Sizes, AreSizes}
 use Rattle.layout.specs.Pointer.{PointsBelow, pointers_bytes, pointers_in}
 use Rattle.layout.specs.Reading.{is_zero, all_of}
-use Rattle.layout.specs.Version.{level_of}
+use Rattle.layout.specs.Trees.{greatest_size, level_of}
 use Rattle.layout.specs.Inode.{kind_code, body_bytes, inode_head, inode_fields, inode_bytes, FitsKind, FitsBody, IsInode, IsSomeInode}
 use Rattle.layout.specs.InodeReading.{kind_of, body_in, inode_of, inode_in, kind_and_links_in, likely_sizes}
-use Rattle.layout.specs.declared.version.TheConstants.{VERSION}
+use Rattle.layout.specs.declared.trees.Layout.{Layout}
+use Rattle.layout.specs.declared.trees.Layout.TheVariants.{Plain, Summed}
 use Rattle.layout.specs.declared.kind.Kind.{Kind}
 use Rattle.layout.specs.declared.kind.Kind.TheVariants as kinds
 use Rattle.layout.specs.declared.inode.Body.{Body}
@@ -31,42 +32,42 @@ points_wider : (few many : ℕ) → few ≤ many → (p : Pointer) → PointsBel
 points_wider few many le Hole fits = tt
 points_wider few many le (Block b) fits = (fits.0, omega (arith, fits.1))
 
-body_wider : (few many : ℕ) → few ≤ many → (body : Body) (size : ℕ) → FitsBody body few size → FitsBody body many size
-body_wider few many le (Inline bytes) size fits = fits
-body_wider few many le (Pointers ps) size fits =
+body_wider : (layout : Layout) (few many : ℕ) → few ≤ many → (body : Body) (size : ℕ) → FitsBody layout body few size → FitsBody layout body many size
+body_wider layout few many le (Inline bytes) size fits = fits
+body_wider layout few many le (Pointers ps) size fits =
     (fits.0, fits.1, All-weaker (PointsBelow few) (PointsBelow many) (points_wider few many le) ps fits.2, fits.3)
 
 -- what an image of some sizes has, one of the likely sizes has
-record Likely (kind : Kind) (s : Sizes) (attributes : Attributes) (links size : ℕ) : Type 0 where
-  are : AreSizes (likely_sizes kind size)
-  kind_fits : FitsKind kind (likely_sizes kind size) attributes links size
-  wider : s.blocks ≤ (likely_sizes kind size).blocks
+record Likely (layout : Layout) (kind : Kind) (s : Sizes) (attributes : Attributes) (links size : ℕ) : Type 0 where
+  are : AreSizes (likely_sizes layout kind size)
+  kind_fits : FitsKind kind (likely_sizes layout kind size) attributes links size
+  wider : s.blocks ≤ (likely_sizes layout kind size).blocks
 
-any_sizes : (blocks inodes : ℕ) → 64 ≤ blocks → blocks ≤ 1048576 → 32 ≤ inodes → inodes ≤ 65536 → AreSizes (record { blocks = blocks; inodes = inodes; half = 131072 })
-any_sizes blocks inodes a b c d = record { least_blocks = a; most_blocks = b; least_inodes = c; most_inodes = d; least_half = omega arith; most_half = omega arith }
+any_sizes : (layout : Layout) (blocks inodes : ℕ) → 64 ≤ blocks → blocks ≤ 1048576 → 32 ≤ inodes → inodes ≤ 65536 → AreSizes (record { layout = layout; blocks = blocks; inodes = inodes; half = 131072 })
+any_sizes layout blocks inodes a b c d = record { least_blocks = a; most_blocks = b; least_inodes = c; most_inodes = d; least_half = omega arith; most_half = omega arith }
 
-greatest : AreSizes (record { blocks = 1048576; inodes = 65536; half = 131072 })
-greatest = any_sizes 1048576 65536 (omega arith) (omega arith) (omega arith) (omega arith)
+greatest : (layout : Layout) → AreSizes (record { layout = layout; blocks = 1048576; inodes = 65536; half = 131072 })
+greatest layout = any_sizes layout 1048576 65536 (omega arith) (omega arith) (omega arith) (omega arith)
 
-likely : (kind : Kind) (s : Sizes) (attributes : Attributes) (links size : ℕ) → AreSizes s → FitsKind kind s attributes links size → Likely kind s attributes links size
-likely kinds.Free s attributes links size are fits = record { are = greatest; kind_fits = fits; wider = are.most_blocks }
-likely kinds.File s attributes links size are fits = record { are = greatest; kind_fits = fits; wider = are.most_blocks }
-likely kinds.Directory s attributes links size are fits = record { are = greatest; kind_fits = fits; wider = are.most_blocks }
-likely kinds.Link s attributes links size are fits = record { are = greatest; kind_fits = fits; wider = are.most_blocks }
-likely kinds.InodeFile s attributes links size are fits =
+likely : (layout : Layout) (kind : Kind) (s : Sizes) (attributes : Attributes) (links size : ℕ) → AreSizes s → FitsKind kind s attributes links size → Likely layout kind s attributes links size
+likely layout kinds.Free s attributes links size are fits = record { are = greatest layout; kind_fits = fits; wider = are.most_blocks }
+likely layout kinds.File s attributes links size are fits = record { are = greatest layout; kind_fits = fits; wider = are.most_blocks }
+likely layout kinds.Directory s attributes links size are fits = record { are = greatest layout; kind_fits = fits; wider = are.most_blocks }
+likely layout kinds.Link s attributes links size are fits = record { are = greatest layout; kind_fits = fits; wider = are.most_blocks }
+likely layout kinds.InodeFile s attributes links size are fits =
     let is : size ≡ 4096 * div_ceil s.inodes 21 = fits.2 in
-    record { are = any_sizes 1048576 _ (omega arith) (omega arith) (omega arith) (omega arith); kind_fits = (fits.0, fits.1, omega arith); wider = are.most_blocks }
-likely kinds.InodeMap s attributes links size are fits =
+    record { are = any_sizes layout 1048576 _ (omega arith) (omega arith) (omega arith) (omega arith); kind_fits = (fits.0, fits.1, omega arith); wider = are.most_blocks }
+likely layout kinds.InodeMap s attributes links size are fits =
     let is : size ≡ div_ceil s.inodes 8 = fits.2 in
-    record { are = any_sizes 1048576 _ (omega arith) (omega arith) (omega arith) (omega arith); kind_fits = (fits.0, fits.1, omega arith); wider = are.most_blocks }
-likely kinds.BlockMap s attributes links size are fits =
+    record { are = any_sizes layout 1048576 _ (omega arith) (omega arith) (omega arith) (omega arith); kind_fits = (fits.0, fits.1, omega arith); wider = are.most_blocks }
+likely layout kinds.BlockMap s attributes links size are fits =
     let is : size ≡ 4 * s.blocks = fits.2 in
-    record { are = any_sizes _ 65536 (omega arith) (omega arith) (omega arith) (omega arith); kind_fits = (fits.0, fits.1, omega arith); wider = omega arith }
+    record { are = any_sizes layout _ 65536 (omega arith) (omega arith) (omega arith) (omega arith); kind_fits = (fits.0, fits.1, omega arith); wider = omega arith }
 
-pub likely_inode : (version : ℕ) (i : Inode) → IsSomeInode version i → AreSizes (likely_sizes i.kind i.size) × IsInode version (likely_sizes i.kind i.size) i
-likely_inode version i some =
-    let l = likely i.kind some.sizes i.attributes i.links i.size some.are_sizes some.fits.kind in
-    (l.are, record { attributes = some.fits.attributes; size = some.fits.size; kind = l.kind_fits; body = body_wider some.sizes.blocks (likely_sizes i.kind i.size).blocks l.wider i.body i.size some.fits.body })
+pub likely_inode : (i : Inode) → IsSomeInode i → AreSizes (likely_sizes i.layout i.kind i.size) × IsInode (likely_sizes i.layout i.kind i.size) i
+likely_inode i some =
+    let l = likely i.layout i.kind some.sizes i.attributes i.links i.size some.are_sizes some.fits.kind in
+    (l.are, record { layout = refl; attributes = some.fits.attributes; size = some.fits.size; kind = l.kind_fits; body = body_wider i.layout some.sizes.blocks (likely_sizes i.layout i.kind i.size).blocks l.wider i.body i.size some.fits.body })
 
 -- ---- what is read is spelled so
 
@@ -96,9 +97,9 @@ body_takes size bytes body len fits e =
     pointers_spelled 16 bytes (omega arith) fits ∙ ap (λ (r : List ℕ). pointers_bytes (pointers_in 16 bytes) ++ r) behind
     ∙ ap body_bytes (some_is (Pointers (pointers_in 16 bytes)) body k.1))
 
-pub inode_takes : (bytes : List ℕ) (i : Inode) → IsBytes bytes → inode_in bytes ≡ Some i → bytes ≡ inode_bytes i
+pub inode_takes : (layout : Layout) (bytes : List ℕ) (i : Inode) → IsBytes bytes → inode_in layout bytes ≡ Some i → (bytes ≡ inode_bytes i) × (i.layout ≡ layout)
 unfolding inode_in inode_of
-inode_takes bytes i fits e =
+inode_takes layout bytes i fits e =
     let w = bind_some (all_of inode_fields.at bytes) _ i e in
     let head = w.0.0 in
     let size = head.1.1.1.0 in
@@ -107,11 +108,12 @@ inode_takes bytes i fits e =
     let all = subst (λ (r : List ℕ). (i : ℕ) → get_or r i 0 < 256) t.0 fits in
     let k = bind_some (kind_of head.0) _ i w.2 in
     let b = bind_some (body_in size last) _ i k.2 in
-    let g = if_then (eqb head.1.1.1.1 (level_of size)) (Some (record { kind = k.0; attributes = new_attributes head.1.0; links = head.1.1.0; size = size; body = b.0 })) i b.2 in
+    let g = if_then (eqb head.1.1.1.1 (level_of layout size)) (Some (record { layout = layout; kind = k.0; attributes = new_attributes head.1.0; links = head.1.1.0; size = size; body = b.0 })) i b.2 in
     let code = kind_takes head.0 k.0 k.1 in
-    let level : head.1.1.1.1 ≡ level_of size = eqb-true _ _ g.0 in
+    let level : head.1.1.1.1 ≡ level_of layout size = eqb-true _ _ g.0 in
     let body = body_takes size last b.0 t.1.1.1 (IsBytes-behind (zeros 47) last (IsBytes-behind (inode_head.text head) (zeros 47 ++ last) all)) b.1 in
-    t.0 ∙ (λ j. inode_fields.text ((code j, (head.1.0, (head.1.1.0, (size, level j)))), (tt, body j))) ∙ ap inode_bytes (some_is _ i g.1)
+    let is = some_is _ i g.1 in
+    (t.0 ∙ (λ j. inode_fields.text ((code j, (head.1.0, (head.1.1.0, (size, level j)))), (tt, body j))) ∙ ap inode_bytes is, ap (λ (x : Inode). x.layout) (sym is))
 
 -- ---- what is spelled so is read
 
@@ -143,20 +145,20 @@ links_small kinds.InodeFile s attributes links size fits = omega (arith, fits.1)
 links_small kinds.InodeMap s attributes links size fits = omega (arith, fits.1)
 links_small kinds.BlockMap s attributes links size fits = omega (arith, fits.1)
 
-level_small : (size : ℕ) → level_of size < 256
-level_small size = grind (arith, nat_tests)
+level_small : (layout : Layout) (size : ℕ) → level_of layout size < 256
+level_small layout size = grind (arith, nat_tests)
 
-pub length-body : (body : Body) (blocks size : ℕ) → FitsBody body blocks size → length (body_bytes body) ≡ 128
-length-body (Inline bytes) blocks size fits = fits.1
-length-body (Pointers ps) blocks size fits =
+pub length-body : (layout : Layout) (body : Body) (blocks size : ℕ) → FitsBody layout body blocks size → length (body_bytes body) ≡ 128
+length-body layout (Inline bytes) blocks size fits = fits.1
+length-body layout (Pointers ps) blocks size fits =
     omega (arith, length-append (pointers_bytes ps) (zeros 64), length-pointers_bytes ps, length-zeros 64, fits.1)
 
-body_again : (body : Body) (blocks size : ℕ) → blocks ≤ 1048576 → FitsBody body blocks size → body_in size (body_bytes body) ≡ Some body
+body_again : (layout : Layout) (body : Body) (blocks size : ℕ) → blocks ≤ 1048576 → FitsBody layout body blocks size → body_in size (body_bytes body) ≡ Some body
 unfolding body_in
-body_again (Inline bytes) blocks size limit fits =
+body_again layout (Inline bytes) blocks size limit fits =
     let small : leb size 128 ≡ true = le-leb _ _ fits.0 in
     rw small refl
-body_again (Pointers ps) blocks size limit fits =
+body_again layout (Pointers ps) blocks size limit fits =
     let large : leb size 128 ≡ false = lt-leb _ _ fits.0 in
     let behind : drop 64 (pointers_bytes ps ++ zeros 64) ≡ zeros 64 = drop_at (pointers_bytes ps) (zeros 64) 64 (omega (arith, length-pointers_bytes ps, fits.1)) in
     let same : pointers_in 16 (pointers_bytes ps ++ zeros 64) ≡ ps = pointers_again 16 blocks ps (zeros 64) fits.1 (omega arith) fits.2 in
@@ -164,28 +166,36 @@ body_again (Pointers ps) blocks size limit fits =
 
 -- what stands in the head of an inode
 abbrev head_of : Inode → ℕ × (ℕ × (ℕ × (ℕ × ℕ)))
-head_of i = (kind_code i.kind, (i.attributes.mode, (i.links, (i.size, level_of i.size))))
+head_of i = (kind_code i.kind, (i.attributes.mode, (i.links, (i.size, level_of i.layout i.size))))
 
-head_fits : (s : Sizes) (i : Inode) → IsInode VERSION s i → inode_head.Fits (head_of i)
+greatest_most : (layout : Layout) → greatest_size layout ≤ 8796093022208
+greatest_most Plain = omega arith
+greatest_most Summed = omega arith
+
+head_fits : (s : Sizes) (i : Inode) → IsInode s i → inode_head.Fits (head_of i)
 head_fits s i fits =
     let code : kind_code i.kind < 256 ^ 2 = omega (arith, kind_small i.kind) in
     let links : i.links < 256 ^ 4 = omega (arith, links_small i.kind s i.attributes i.links i.size fits.kind) in
-    let size : i.size < 256 ^ 8 = omega (arith, fits.size) in
-    (code, ((omega arith, fits.attributes.mode), (links, (size, level_small i.size))))
+    let size : i.size < 256 ^ 8 = omega (arith, fits.size, greatest_most i.layout) in
+    (code, ((omega arith, fits.attributes.mode), (links, (size, level_small i.layout i.size))))
 
-pub head_again : (s : Sizes) (i : Inode) → IsInode VERSION s i → kind_and_links_in (inode_bytes i) ≡ Some (i.kind, i.links)
+pub head_again : (s : Sizes) (i : Inode) → IsInode s i → kind_and_links_in (inode_bytes i) ≡ Some (i.kind, i.links)
 unfolding kind_and_links_in
 head_again s i fits = rw (head_exact.again (head_of i) (zeros 47 ++ body_bytes i.body) (head_fits s i fits), kind_again i.kind) refl
 
-pub inode_again : (i : Inode) → IsSomeInode VERSION i → inode_in (inode_bytes i) ≡ Some i
+pub inode_again : (i : Inode) → IsSomeInode i → inode_in i.layout (inode_bytes i) ≡ Some i
 unfolding inode_in inode_of
 inode_again i some =
     let fits = some.fits in
-    let same : eqb (level_of i.size) (level_of i.size) ≡ true = eq-eqb (level_of i.size) (level_of i.size) refl in
-    let read = whole_again inode_exact (head_of i, (tt, body_bytes i.body)) (head_fits some.sizes i fits, (tt, length-body i.body some.sizes.blocks i.size fits.body)) in
-    rw (read, kind_again i.kind, body_again i.body some.sizes.blocks i.size some.are_sizes.most_blocks fits.body, same) refl
+    let same : eqb (level_of i.layout i.size) (level_of i.layout i.size) ≡ true = eq-eqb (level_of i.layout i.size) (level_of i.layout i.size) refl in
+    let read = whole_again inode_exact (head_of i, (tt, body_bytes i.body)) (head_fits some.sizes i fits, (tt, length-body i.layout i.body some.sizes.blocks i.size fits.body)) in
+    rw (read, kind_again i.kind, body_again i.layout i.body some.sizes.blocks i.size some.are_sizes.most_blocks fits.body, same) refl
 
-pub length-inode : (i : Inode) (s : Sizes) → IsInode VERSION s i → length (inode_bytes i) ≡ 192
+-- the same where the layout is told
+pub inode_read : (layout : Layout) (i : Inode) → IsSomeInode i → i.layout ≡ layout → inode_in layout (inode_bytes i) ≡ Some i
+inode_read layout i some of = subst (λ (l : Layout). inode_in l (inode_bytes i) ≡ Some i) of (inode_again i some)
+
+pub length-inode : (i : Inode) (s : Sizes) → IsInode s i → length (inode_bytes i) ≡ 192
 length-inode i s is =
-    let body = length-body i.body s.blocks i.size is.body in
+    let body = length-body i.layout i.body s.blocks i.size is.body in
     simp (length-append, length-little, length-zeros) (omega arith)

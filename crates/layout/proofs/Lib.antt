@@ -1,6 +1,7 @@
 pub mod ZeroLaws
 pub mod PartLaws
 pub mod PointerLaws
+pub mod FanLaws
 pub mod SizeLaws
 pub mod NumberLaws
 pub mod Formats

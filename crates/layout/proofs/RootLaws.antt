@@ -6,13 +6,14 @@ use Rattle.std.proofs.lemmas.List.{append-nil, drop_all}
 use Rattle.layout.specs.Bytes.{little, zeros, IsBytes}
 use Rattle.layout.specs.Pointer.{pointers_bytes, pointers_in}
 use Rattle.layout.specs.Reading.{number_read, all_of}
-use Rattle.layout.specs.Inode.{inode_bytes}
+use Rattle.layout.specs.Inode.{IsSomeInode, inode_bytes}
 use Rattle.layout.specs.InodeReading.{inode_in}
 use Rattle.layout.specs.Root.{magic, root_head, root_fields, head_bytes, root_bytes, IsRoot}
 use Rattle.layout.specs.RootReading.{root_in}
+use Rattle.layout.specs.Version.{layout_of}
 use Rattle.layout.specs.declared.root.Root.{Root}
 use Rattle.layout.proofs.Formats.{bind_some, some_is, if_then, Takes, IsBytes-behind, IsBytes-front, IsExact, num_exact, ranged_exact, part_exact, blank_exact, then_exact, whole_takes, whole_again}
-use Rattle.layout.proofs.InodeLaws.{inode_takes, inode_again, length-inode}
+use Rattle.layout.proofs.InodeLaws.{inode_takes, inode_read, length-inode}
 use Rattle.layout.proofs.WordLaws.{length-pointers_bytes, pointers_again, pointers_spelled}
 
 pub magic_is : little 8 0x544f4f524c464157 ≡ codes "WAFLROOT"
@@ -47,8 +48,8 @@ root_takes bytes r fits e =
     let t = whole_takes root_exact bytes w.0 fits w.1 in
     let all = subst (λ (r : List ℕ). (i : ℕ) → get_or r i 0 < 256) t.0 fits in
     let behind = IsBytes-behind (root_head.text head) (inode ++ (pointers ++ zeros 168)) all in
-    let n = bind_some (inode_in inode) _ r w.2 in
-    let inode-is = inode_takes inode n.0 (IsBytes-front inode (pointers ++ zeros 168) behind) n.1 in
+    let n = bind_some (inode_in (layout_of head.1.0) inode) _ r w.2 in
+    let inode-is = (inode_takes (layout_of head.1.0) inode n.0 (IsBytes-front inode (pointers ++ zeros 168) behind) n.1).0 in
     let none : drop 120 pointers ≡ [] = drop_all 120 pointers (omega (arith, t.1.1.1.0)) in
     let pointers_fit = IsBytes-front pointers (zeros 168) (IsBytes-behind inode (pointers ++ zeros 168) behind) in
     let pointers-are : pointers ≡ pointers_bytes (pointers_in 30 pointers) =
@@ -65,7 +66,10 @@ root_again r is =
       (tt, ((is.head.known.least, is.head.known.most), ((is.head.first, omega (arith, is.head.last)), ((s.least_blocks, s.most_blocks), ((s.least_inodes, s.most_inodes), (s.least_half, s.most_half)))))),
       (length-inode r.inode_file r.geometry is.inode_file, (omega (arith, length-pointers_bytes r.snapshots, is.slots), tt)),
     ) in
-    rw (read, inode_again r.inode_file (record { sizes = r.geometry; are_sizes = s; fits = is.inode_file }), pointers) refl
+    let some : IsSomeInode r.inode_file = record { sizes = r.geometry; are_sizes = s; fits = is.inode_file } in
+    let inode : inode_in (layout_of r.version) (inode_bytes r.inode_file) ≡ Some r.inode_file = inode_read (layout_of r.version) r.inode_file some (is.inode_file.layout ∙ is.head.layout) in
+    let same = is.head.layout in
+    rw (read, inode, sym same, pointers) refl
 
 -- no bytes spell two roots
 pub root_injective : (q r : Root) → IsRoot q → IsRoot r → root_bytes q ≡ root_bytes r → q ≡ r

@@ -7,14 +7,15 @@ use Rattle.model.specs.declared.limits.TheConstants.{FILE_NAMES, LINK_MODE, PATH
 use Rattle.layout.specs.Bytes.{zeros}
 use Rattle.layout.specs.Format.{Format, num, part, blank, mode_bits, ◌▸◌}
 use Rattle.layout.specs.Limits.{Sizes, AreSizes}
-use Rattle.layout.specs.Version.{level_of, greatest_size}
+use Rattle.layout.specs.Trees.{fan_out, greatest_size, level_of}
 use Rattle.layout.specs.Pointer.{PointsBelow, pointers_bytes}
-use Rattle.layout.specs.declared.TheConstants.{BLOCK_BYTES, BLOCK_POINTERS, BODY_POINTERS, INLINE_BYTES, INODES_PER_BLOCK}
+use Rattle.layout.specs.declared.TheConstants.{BLOCK_BYTES, BODY_POINTERS, INLINE_BYTES, INODES_PER_BLOCK}
 use Rattle.layout.specs.declared.kind.Kind.{Kind}
 use Rattle.layout.specs.declared.kind.Kind.TheVariants as kinds
 use Rattle.layout.specs.declared.inode.Body.{Body}
 use Rattle.layout.specs.declared.inode.Body.TheVariants.{Inline, Pointers}
 use Rattle.layout.specs.declared.inode.Inode.{Inode}
+use Rattle.layout.specs.declared.trees.Layout.{Layout}
 use Rattle.layout.specs.declared.pointer.Pointer.{Pointer}
 use Rattle.layout.specs.declared.pointer.Pointer.TheVariants.{Hole}
 
@@ -42,7 +43,7 @@ inode_fields = inode_head ▸ blank 47 ▸ part INLINE_BYTES
 -- the one spelling of each inode
 abbrev pub inode_bytes : Inode → List ℕ
 inode_bytes i =
-    inode_fields.text ((kind_code i.kind, (i.attributes.mode, (i.links, (i.size, level_of i.size)))), (tt, body_bytes i.body))
+    inode_fields.text ((kind_code i.kind, (i.attributes.mode, (i.links, (i.size, level_of i.layout i.size)))), (tt, body_bytes i.body))
 
 -- attributes, links and size by the kind, in an image of these sizes
 abbrev pub FitsKind : Kind → Sizes → Attributes → ℕ → ℕ → Type 0
@@ -55,14 +56,14 @@ FitsKind kinds.InodeMap s attributes links size = (attributes ≡ no_attributes)
 FitsKind kinds.BlockMap s attributes links size = (attributes ≡ no_attributes) × (links ≡ 1) × (size ≡ 4 * s.blocks)
 
 -- how many nodes a file of so many bytes has at a height: its blocks, and over them one for each
--- 1,024 of those below
-unfoldable pub nodes_of_size : ℕ → ℕ → ℕ
-nodes_of_size size zero = div_ceil size BLOCK_BYTES
-nodes_of_size size (suc height) = div_ceil (nodes_of_size size height) BLOCK_POINTERS
+-- pointer of an indirect block
+unfoldable pub nodes_of_size : Layout → ℕ → ℕ → ℕ
+nodes_of_size layout size zero = div_ceil size BLOCK_BYTES
+nodes_of_size layout size (suc height) = div_ceil (nodes_of_size layout size height) (fan_out layout)
 
 -- how many pointers of the body lead to blocks before the end of a file of this size
-abbrev pub pointers_used : ℕ → ℕ
-pointers_used size = nodes_of_size size (level_of size - 1)
+abbrev pub pointers_used : Layout → ℕ → ℕ
+pointers_used layout size = nodes_of_size layout size (level_of layout size - 1)
 
 -- the bytes of a file of this size, which an inode holds itself, and zeros behind them
 abbrev pub FitsInline : List ℕ → ℕ → Type 0
@@ -71,25 +72,26 @@ FitsInline bytes size =
 
 -- pointers to the blocks of a larger file: no pointer leads past the disk, and those behind the
 -- size are holes
-abbrev pub FitsPointers : List Pointer → ℕ → ℕ → Type 0
-FitsPointers pointers blocks size =
+abbrev pub FitsPointers : Layout → List Pointer → ℕ → ℕ → Type 0
+FitsPointers layout pointers blocks size =
     (INLINE_BYTES < size) × (length pointers ≡ BODY_POINTERS) × All (PointsBelow blocks) pointers
-    × All (λ p. p ≡ Hole) (drop (pointers_used size) pointers)
+    × All (λ p. p ≡ Hole) (drop (pointers_used layout size) pointers)
 
 -- the body is of the size's level
-abbrev pub FitsBody : Body → ℕ → ℕ → Type 0
-FitsBody (Inline bytes) blocks size = FitsInline bytes size
-FitsBody (Pointers pointers) blocks size = FitsPointers pointers blocks size
+abbrev pub FitsBody : Layout → Body → ℕ → ℕ → Type 0
+FitsBody layout (Inline bytes) blocks size = FitsInline bytes size
+FitsBody layout (Pointers pointers) blocks size = FitsPointers layout pointers blocks size
 
--- an inode of an image of this version and these sizes
-pub record IsInode (version : ℕ) (s : Sizes) (i : Inode) : Type 0 where
+-- an inode of an image of these sizes
+pub record IsInode (s : Sizes) (i : Inode) : Type 0 where
+  pub layout : i.layout ≡ s.layout
   pub attributes : AreAttributes i.attributes
-  pub size : i.size ≤ greatest_size version
+  pub size : i.size ≤ greatest_size i.layout
   pub kind : FitsKind i.kind s i.attributes i.links i.size
-  pub body : FitsBody i.body s.blocks i.size
+  pub body : FitsBody i.layout i.body s.blocks i.size
 
--- an inode of an image of this version and some sizes
-pub record IsSomeInode (version : ℕ) (i : Inode) : Type 0 where
+-- an inode of an image of some sizes
+pub record IsSomeInode (i : Inode) : Type 0 where
   pub sizes : Sizes
   pub are_sizes : AreSizes sizes
-  pub fits : IsInode version sizes i
+  pub fits : IsInode sizes i

@@ -6,13 +6,14 @@ use Rattle.layout.specs.Reading.{◌>>=◌, is_zero, all_of}
 use Rattle.layout.specs.Inode.{inode_fields, inode_head}
 use Rattle.layout.specs.Limits.{Sizes}
 use Rattle.layout.specs.Pointer.{pointers_in}
-use Rattle.layout.specs.Version.{level_of}
+use Rattle.layout.specs.Trees.{level_of}
 use Rattle.layout.specs.declared.geometry.TheConstants.{MOST_BLOCKS, MOST_INODES, LEAST_HALF}
 use Rattle.layout.specs.declared.kind.Kind.{Kind}
 use Rattle.layout.specs.declared.kind.Kind.TheVariants as kinds
 use Rattle.layout.specs.declared.inode.Body.{Body}
 use Rattle.layout.specs.declared.inode.Body.TheVariants.{Inline, Pointers}
 use Rattle.layout.specs.declared.inode.Inode.{Inode}
+use Rattle.layout.specs.declared.trees.Layout.{Layout}
 
 unfoldable pub kind_of : ℕ → Option Kind
 kind_of code =
@@ -31,17 +32,17 @@ body_in size bytes =
     else (if is_zero (drop 64 bytes) then Some (Pointers (pointers_in 16 bytes)) else None)
 
 -- the inode of these numbers and bytes: kind, attributes, links, size, level and body
-unfoldable pub inode_of : ℕ → Attributes → ℕ → ℕ → ℕ → List ℕ → Option Inode
-inode_of code attributes links size level bytes =
+unfoldable pub inode_of : Layout → ℕ → Attributes → ℕ → ℕ → ℕ → List ℕ → Option Inode
+inode_of layout code attributes links size level bytes =
     kind_of code >>= λ kind.
     body_in size bytes >>= λ body.
-    if level == level_of size
-    then Some (record { kind = kind; attributes = attributes; links = links; size = size; body = body })
+    if level == level_of layout size
+    then Some (record { layout = layout; kind = kind; attributes = attributes; links = links; size = size; body = body })
     else None
 
-unfoldable pub inode_in : List ℕ → Option Inode
-inode_in bytes =
-    all_of inode_fields.at bytes >>= λ v. inode_of v.0.0 (new_attributes v.0.1.0) v.0.1.1.0 v.0.1.1.1.0 v.0.1.1.1.1 v.1.1
+unfoldable pub inode_in : Layout → List ℕ → Option Inode
+inode_in layout bytes =
+    all_of inode_fields.at bytes >>= λ v. inode_of layout v.0.0 (new_attributes v.0.1.0) v.0.1.1.0 v.0.1.1.1.0 v.0.1.1.1.1 v.1.1
 
 -- the kind and the links in the head of an inode
 unfoldable pub kind_and_links_in : List ℕ → Option (Kind × ℕ)
@@ -58,5 +59,5 @@ likely_inodes kinds.InodeFile size = min (21 * (size / 4096)) MOST_INODES
 likely_inodes kinds.InodeMap size = min (8 * size) MOST_INODES
 likely_inodes _ size = MOST_INODES
 
-abbrev pub likely_sizes : Kind → ℕ → Sizes
-likely_sizes kind size = record { blocks = likely_blocks kind size; inodes = likely_inodes kind size; half = LEAST_HALF }
+abbrev pub likely_sizes : Layout → Kind → ℕ → Sizes
+likely_sizes layout kind size = record { layout = layout; blocks = likely_blocks kind size; inodes = likely_inodes kind size; half = LEAST_HALF }

@@ -14,6 +14,7 @@ pub mod Root
 pub mod RootReading
 pub mod Directory
 pub mod Maps
+pub mod Trees
 pub mod Version
 pub mod SnapRoot
 pub mod Opens

@@ -1,7 +1,9 @@
 -- The blocks of the inode map and of the block map, and indirect blocks.
-use Rattle.std.specs.Prelude.{ℕ, ◌≡◌, ◌≢◌, ◌+◌, ◌*◌, ◌/◌, ◌%◌, ◌^◌, ◌<◌, ◌≤◌, List, length, drop, slice_index}
+use Rattle.std.specs.Prelude.{ℕ, ◌≡◌, ◌≢◌, ◌+◌, ◌*◌, ◌/◌, ◌%◌, ◌^◌, ◌<◌, ◌≤◌, List, length, drop, min, slice_index}
 use Rattle.layout.specs.Bytes.{number}
 use Rattle.layout.specs.Pointer.{PointsBelow, pointer_of}
+use Rattle.layout.specs.Trees.{fan_out}
+use Rattle.layout.specs.declared.trees.Layout.{Layout}
 use Rattle.layout.specs.declared.TheConstants.{BLOCK_BYTES, BLOCK_POINTERS}
 use Rattle.model.specs.declared.limits.TheConstants.{FIRST_NUMBER}
 use Rattle.layout.specs.declared.pointer.Pointer.{Pointer}
@@ -34,15 +36,19 @@ pub record SetsWord (i x : ℕ) (old new : List ℕ) : Type 0 where
   pub there : word new i ≡ x
   pub others : (k : ℕ) → 4 * k + 4 ≤ length old → k ≢ i → word new k ≡ word old k
 
--- the pointers of an indirect block lead to blocks of the disk, and those behind the first `used`
--- are holes
+-- the numbers of a block are pointers to blocks of the disk, and those behind the first `used` are
+-- holes
 abbrev pub PointsWithin : ℕ → ℕ → List ℕ → Type 0
 PointsWithin blocks used bytes =
     (i : ℕ) → i < BLOCK_POINTERS → PointsBelow blocks (indirect_pointer bytes i) × (used ≤ i → indirect_pointer bytes i ≡ Hole)
 
--- an indirect block over so many blocks of a file: no pointer leads past the disk, those behind the
--- file's end are holes, and not all are
-pub record IsIndirectBlock (blocks used : ℕ) (bytes : List ℕ) : Type 0 where
+-- a block of pointers, of which the first `used` may lead to blocks of the disk; one does
+pub record IsPointerBlock (blocks used : ℕ) (bytes : List ℕ) : Type 0 where
   pub size : length bytes ≡ BLOCK_BYTES
   pub within : PointsWithin blocks used bytes
   pub some : (i : ℕ) × (i < BLOCK_POINTERS) × (indirect_pointer bytes i ≡ Hole → ⊥)
+
+-- an indirect block over so many blocks of a file: no pointer leads past the disk, those behind the
+-- file's end are holes, as is what stands behind the pointers, and not all are
+abbrev pub IsIndirectBlock : Layout → ℕ → ℕ → List ℕ → Type 0
+IsIndirectBlock layout blocks used bytes = IsPointerBlock blocks (min used (fan_out layout)) bytes

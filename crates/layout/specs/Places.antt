@@ -3,7 +3,9 @@
 use Rattle.std.specs.Prelude.{ℕ, zero, suc, ◌+◌, ◌*◌, ◌/◌, ◌%◌, List, ◌++◌, slice_index_or}
 use Rattle.layout.specs.Bytes.{zeros}
 use Rattle.layout.specs.Maps.{indirect_pointer}
+use Rattle.layout.specs.Trees.{fan_out}
 use Rattle.layout.specs.declared.TheConstants.{BLOCK_BYTES}
+use Rattle.layout.specs.declared.trees.Layout.{Layout}
 use Rattle.layout.specs.declared.pointer.Pointer.{Pointer}
 use Rattle.layout.specs.declared.pointer.Pointer.TheVariants.{Hole, Block}
 
@@ -27,8 +29,9 @@ abbrev pub follow : Blocks → Pointer → ℕ → Pointer
 follow disk Hole i = Hole
 follow disk (Block block) i = indirect_pointer (disk block) i
 
--- the pointer to node i at this depth under these of an inode: at depth 0 these, and node i at the
--- next depth is pointer i mod 1,024 of node i / 1,024
-unfoldable pub place : Blocks → List Pointer → ℕ → ℕ → Pointer
-place disk pointers zero i = slice_index_or pointers i Hole
-place disk pointers (suc depth) i = follow disk (place disk pointers depth (i / 1024)) (i % 1024)
+-- the pointer to node i at this depth under these of an inode: at depth 0 these, and the nodes at
+-- the next depth are as many for each as an indirect block has pointers
+unfoldable pub place : Layout → Blocks → List Pointer → ℕ → ℕ → Pointer
+place layout disk pointers zero i = slice_index_or pointers i Hole
+place layout disk pointers (suc depth) i =
+    follow disk (place layout disk pointers depth (i / fan_out layout)) (i % fan_out layout)

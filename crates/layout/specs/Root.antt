@@ -7,7 +7,7 @@ use Rattle.layout.specs.Limits.{Sizes, AreSizes}
 use Rattle.layout.specs.Pointer.{PointsBelow, pointers_bytes}
 use Rattle.layout.specs.Inode.{IsInode, inode_bytes}
 use Rattle.layout.specs.declared.kind.Kind.TheVariants.{InodeFile}
-use Rattle.layout.specs.Version.{IsVersion, snapshot_slots}
+use Rattle.layout.specs.Version.{IsVersion, layout_of, snapshot_slots}
 use Rattle.layout.specs.declared.TheConstants.{INODE_BYTES, ROOT_BYTES}
 use Rattle.layout.specs.declared.geometry.TheConstants.{LEAST_BLOCKS, MOST_BLOCKS, LEAST_INODES, MOST_INODES, LEAST_HALF, MOST_HALF}
 use Rattle.layout.specs.declared.numbers.TheConstants.{FIRST_GENERATION, LAST_GENERATION}
@@ -58,13 +58,14 @@ pub record IsHead (version generation : ℕ) (s : Sizes) : Type 0 where
   pub first : 1 ≤ generation
   pub last : generation < 2 ^ 62
   pub sizes : AreSizes s
+  pub layout : s.layout ≡ layout_of version
 
 -- a root: its inode is that of the inode file of its sizes, its pointers stay on the disk, and the
 -- slots that its version doesn't have are free
 pub record IsRoot (r : Root) : Type 0 where
   pub head : IsHead r.version r.generation r.geometry
   pub kind : r.inode_file.kind ≡ InodeFile
-  pub inode_file : IsInode VERSION r.geometry r.inode_file
+  pub inode_file : IsInode r.geometry r.inode_file
   pub slots : length r.snapshots ≡ SNAPSHOT_SLOTS
   pub snapshots : All (PointsBelow r.geometry.blocks) r.snapshots
   pub few : All (λ p. p ≡ Hole) (drop (snapshot_slots r.version) r.snapshots)

@@ -8,10 +8,10 @@ use Rattle.layout.specs.InodeReading.{inode_in}
 use Rattle.layout.specs.declared.TheConstants.{BLOCK_BYTES, INODE_BYTES}
 use Rattle.layout.specs.declared.numbers.TheConstants.{FIRST_GENERATION, LAST_GENERATION}
 use Rattle.layout.specs.declared.snap_root.TheConstants.{BEHIND_AT}
-use Rattle.layout.specs.declared.version.TheConstants.{VERSION}
 use Rattle.layout.specs.declared.inode.Inode.{Inode}
 use Rattle.layout.specs.declared.kind.Kind.TheVariants.{InodeFile}
 use Rattle.layout.specs.declared.snap_root.SnapRoot.{SnapRoot}
+use Rattle.layout.specs.declared.trees.Layout.{Layout}
 
 -- a snapshot's root without where its name lies in memory
 pub record Snapshot : Type 0 where
@@ -37,10 +37,11 @@ pub record IsSnapshot (v : Snapshot) : Type 0 where
   pub some : 1 ≤ length v.name
   pub short : length v.name ≤ SNAPSHOT_NAME_BYTES
   pub kind : v.inode_file.kind ≡ InodeFile
-  pub inode_file : IsSomeInode VERSION v.inode_file
+  pub inode_file : IsSomeInode v.inode_file
 
--- what the bytes spell, before the limits of its name and its inode are looked at
-unfoldable pub snapshot_in : List ℕ → Option Snapshot
-snapshot_in bytes =
+-- what the bytes spell in an image of this layout, before the limits of its name and its inode are
+-- looked at
+unfoldable pub snapshot_in : Layout → List ℕ → Option Snapshot
+snapshot_in layout bytes =
     all_of snapshot_fields.at bytes >>= λ v.
-    inode_in v.1.1.0 >>= λ inode. Some (record { order = v.0; name = v.1.0; inode_file = inode })
+    inode_in layout v.1.1.0 >>= λ inode. Some (record { order = v.0; name = v.1.0; inode_file = inode })

@@ -1,5 +1,6 @@
-//! The three numbers of an image that never change.
+//! What an image's root says that never changes: its layout, and three numbers.
 
+use crate::Layout;
 use std::marker::Model;
 
 /// The fewest blocks of a disk.
@@ -15,10 +16,11 @@ pub const LEAST_HALF: u32 = 131_072;
 /// The most bytes of a half of the NVRAM.
 pub const MOST_HALF: u32 = 8_388_608;
 
-/// The sizes of an image: its blocks, its inodes and the bytes of one half of its NVRAM, each
-/// within its limits.
+/// The layout of an image's trees, and its sizes: its blocks, its inodes and the bytes of one half
+/// of its NVRAM, each within its limits.
 #[derive(Clone, Copy, Debug, PartialEq, Eq)]
 pub struct Geometry {
+    layout: Layout,
     blocks: u32,
     inodes: u32,
     half: u32,
@@ -29,28 +31,29 @@ impl Model for Geometry {
 
     ghost Value = { Sizes };
 
-    ghost view = { λ g. record { blocks = g.blocks; inodes = g.inodes; half = g.half } };
+    ghost view = { λ g. record { layout = g.layout; blocks = g.blocks; inodes = g.inodes; half = g.half } };
 
-    ghost invariant = { λ g. AreSizes (record { blocks = g.blocks; inodes = g.inodes; half = g.half }) };
+    ghost invariant = { λ g. AreSizes (record { layout = g.layout; blocks = g.blocks; inodes = g.inodes; half = g.half }) };
 
-    ghost inverse = { λ s. record { blocks = s.blocks; inodes = s.inodes; half = s.half } };
+    ghost inverse = { λ s. record { layout = s.layout; blocks = s.blocks; inodes = s.inodes; half = s.half } };
 }
 
 ghost use Rattle.std.specs.Prelude.{◌≡◌, ◌*◌, IsSome, IfSome, ◌↔◌};
 ghost use Rattle.layout.specs.Limits.{AreSizes, sizes};
 
 impl Geometry {
-    /// The geometry of these numbers; None where one is out of its limits: `blocks` from 64 to
+    /// The geometry of this layout and these numbers; None where one is out of its limits: `blocks` from 64 to
     /// 1,048,576, `inodes` from 32 to 65,536, `half` from 131,072 to 8,388,608 bytes.
-    pub fn new(blocks: u32, inodes: u32, half: u32) -> Option<Geometry>
-        ensures within { IsSome result ↔ AreSizes (sizes blocks inodes half) }
-        ensures value { IfSome result (λ g. g ≡ sizes blocks inodes half) }
+    pub fn new(layout: Layout, blocks: u32, inodes: u32, half: u32) -> Option<Geometry>
+        ensures within { IsSome result ↔ AreSizes (sizes layout blocks inodes half) }
+        ensures value { IfSome result (λ g. g ≡ sizes layout blocks inodes half) }
     {
         let blocks_fit = (LEAST_BLOCKS..=MOST_BLOCKS).contains(&blocks);
         let inodes_fit = (LEAST_INODES..=MOST_INODES).contains(&inodes);
         let half_fits = (LEAST_HALF..=MOST_HALF).contains(&half);
         if blocks_fit && inodes_fit && half_fits {
             Some(Geometry {
+                layout,
                 blocks,
                 inodes,
                 half,
@@ -58,6 +61,13 @@ impl Geometry {
         } else {
             None
         }
+    }
+
+    /// The layout of its trees.
+    pub fn layout(&self) -> Layout
+        ensures { result ≡ self.now.layout }
+    {
+        self.layout
     }
 
     /// Blocks of the disk.
@@ -85,11 +95,11 @@ impl Geometry {
     }
 
     /// Sectors of the disk: eight a block.
-    pub fn sectors(&self) -> u32
+    pub fn sectors(&self) -> u64
         ensures value { result ≡ 8 * self.now.blocks }
         ensures within { AreSizes self.now }
     {
-        8 * self.blocks
+        8 * u64::from(self.blocks)
     }
 
     /// Bytes of the NVRAM: two halves.

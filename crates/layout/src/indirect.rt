@@ -1,7 +1,7 @@
 //! A quick test of indirect blocks, for those where only zeros stand behind the pointers in use.
 
 ghost use Rattle.std.specs.Prelude.{◌≡◌, ◌+◌, ◌<◌, ◌≤◌, ℕ, IsTrue, length, slice_index};
-ghost use Rattle.layout.specs.Maps.{IsIndirectBlock, indirect_pointer};
+ghost use Rattle.layout.specs.Maps.{IsPointerBlock, indirect_pointer};
 ghost use Rattle.layout.specs.Pointer.{PointsBelow};
 ghost use Rattle.layout.specs.declared.TheConstants.{BLOCK_BYTES};
 
@@ -12,13 +12,12 @@ use std::simd::prelude::*;
 /// Whether these bytes are an indirect block over so many blocks of a file, with a block at the
 /// first pointer and zeros behind those in use.
 pub(crate) fn is_filled(bytes: &[u8; BLOCK_BYTES], blocks: u32, used: u32) -> bool
-    ensures { IsTrue result → IsIndirectBlock blocks used bytes.now }
+    ensures { IsTrue result → IsPointerBlock blocks used bytes.now }
 {
     let first = indirect_pointer(bytes, 0);
     if first.is_hole() {
         return false;
     }
-    // Over a file's blocks before its last indirect block all pointers are in use.
     let count = used.min(BLOCK_POINTERS as u32);
     if !are_zero_from(bytes, 4 * count as usize) {
         return false;

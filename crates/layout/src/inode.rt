@@ -6,17 +6,17 @@ ghost use Rattle.layout.specs.Pointer.{pointers_bytes};
 ghost use Rattle.layout.specs.declared.pointer.Pointer.TheVariants.{Hole};
 ghost use Rattle.layout.specs.Inode.{IsInode, IsSomeInode, FitsKind, FitsBody, FitsInline, FitsPointers, body_bytes, inode_bytes, nodes_of_size, pointers_used};
 ghost use Rattle.layout.specs.Limits.{AreSizes, Sizes};
-ghost use Rattle.layout.specs.Version.{greatest_size};
+ghost use Rattle.layout.specs.Trees.{greatest_size};
 ghost use Rattle.layout.specs.InodeReading.{likely_blocks, likely_inodes, likely_sizes, body_in, inode_of, inode_in, kind_and_links_in};
 ghost use Rattle.layout.specs.declared.inode.Inode.{Inode};
+ghost use Rattle.layout.specs.declared.trees.Layout.TheVariants.{Summed};
 
 use crate::fields::is_zero;
 use crate::geometry::{LEAST_HALF, MOST_BLOCKS, MOST_INODES};
 use crate::pointer::{are_holes, pointers_fit, put_pointers, read_pointers};
 use crate::reading::{mode_at, part_at, u8_at, u16_at, u32_at, u64_at, zeros_at};
-use crate::version::{VERSION, greatest_size, level_of};
 use crate::writing::{put_bytes, put_u8, put_u16, put_u32, put_u64, put_zeros};
-use crate::{BODY_POINTERS, Geometry, INLINE_BYTES, INODE_BYTES, Kind, Pointer};
+use crate::{BODY_POINTERS, Geometry, INLINE_BYTES, INODE_BYTES, Kind, Layout, Pointer};
 use model::{Attributes, FILE_NAMES, LINK_MODE, Mode, PATH_BYTES};
 
 /// The bytes of a small object, or where a larger one's blocks are.
@@ -24,14 +24,15 @@ use model::{Attributes, FILE_NAMES, LINK_MODE, Mode, PATH_BYTES};
 pub enum Body {
     /// Level 0: the bytes, and zeros behind them.
     Inline([u8; INLINE_BYTES]),
-    /// Level 1: pointer i is block i of the file. From level 2 on: pointer i is an indirect block,
-    /// of 1,024 pointers.
+    /// Level 1: pointer i is block i of the file. From level 2 on: pointer i is an indirect block.
     Pointers([Pointer; BODY_POINTERS]),
 }
 
 /// An inode. Its level is that of its size.
 #[derive(Clone, Copy, Debug)]
 pub struct Inode {
+    /// The layout of its image, by which its blocks hang from it.
+    pub layout: Layout,
     pub kind: Kind,
     pub attributes: Attributes,
     /// Names of a regular file, 1 for any other object.
@@ -42,13 +43,15 @@ pub struct Inode {
 }
 
 impl Inode {
-    /// The inode that these bytes spell; None where none does, in an image of any geometry.
-    pub fn read(bytes: &[u8]) -> Option<Inode>
-        ensures found { IfSome result (λ i. IsSomeInode VERSION i × (bytes.now ≡ inode_bytes i)) }
-        ensures only { (i : Inode) → IsSomeInode VERSION i → bytes.now ≡ inode_bytes i
-            → result ≡ Some i }
+    /// The inode that these bytes spell in an image of this layout and any sizes; None where none
+    /// does.
+    pub fn read(bytes: &[u8], layout: Layout) -> Option<Inode>
+        ensures found { IfSome result (λ i. IsSomeInode i × (i.layout ≡ layout)
+            × (bytes.now ≡ inode_bytes i)) }
+        ensures only { (i : Inode) → IsSomeInode i → i.layout ≡ layout
+            → bytes.now ≡ inode_bytes i → result ≡ Some i }
     {
-        let Some(inode) = read_fields(bytes) else {
+        let Some(inode) = read_fields(bytes, layout) else {
             return None;
         };
         if inode.fits_some() { Some(inode) } else { None }
@@ -58,7 +61,7 @@ impl Inode {
     /// head is.
     pub fn kind_and_links(bytes: &[u8]) -> Option<(Kind, u32)>
         ensures head { result ≡ kind_and_links_in bytes.now }
-        ensures only { (s : Sizes) (i : Inode) → IsInode VERSION s i → bytes.now ≡ inode_bytes i
+        ensures only { (s : Sizes) (i : Inode) → IsInode s i → bytes.now ≡ inode_bytes i
             → result ≡ Some (i.kind, i.links) }
     {
         read_kind_and_links(bytes)
@@ -83,27 +86,28 @@ impl Inode {
         put_u16(out, at + 2, self.attributes.mode.bits());
         put_u32(out, at + 4, self.links);
         put_u64(out, at + 8, self.size);
-        put_u8(out, at + 16, level_of(self.size));
+        put_u8(out, at + 16, self.layout.level_of(self.size));
         put_zeros(out, at + 17, 47);
         put_body(out, at + 64, &self.body);
     }
 
     /// Whether it is in the grammar of an image of this geometry.
-    pub fn fits(&self, version: u32, geometry: Geometry) -> bool
-        ensures { IsTrue result ↔ IsInode version geometry self.now }
+    pub fn fits(&self, geometry: Geometry) -> bool
+        ensures { IsTrue result ↔ IsInode geometry self.now }
     {
         self.attributes.fit();
-        self.size <= greatest_size(version)
+        self.layout == geometry.layout()
+            && self.size <= self.layout.greatest_size()
             && kind_fits(self, geometry)
-            && body_fits(&self.body, geometry.blocks(), self.size)
+            && body_fits(self.layout, &self.body, geometry.blocks(), self.size)
     }
 
     /// Whether it is in the grammar of an image of some geometry.
     pub(crate) fn fits_some(&self) -> bool
-        ensures { IsTrue result ↔ IsSomeInode VERSION self.now }
+        ensures { IsTrue result ↔ IsSomeInode self.now }
     {
-        match likely_geometry(self.kind, self.size) {
-            Some(geometry) => self.fits(VERSION, geometry),
+        match likely_geometry(self.layout, self.kind, self.size) {
+            Some(geometry) => self.fits(geometry),
             None => false,
         }
     }
@@ -111,15 +115,16 @@ impl Inode {
 
 // The geometry of an image that has an inode of this kind and size, if one has: of the one whose
 // map or inode file has this size, and for other files of the greatest.
-fn likely_geometry(kind: Kind, size: u64) -> Option<Geometry>
-    ensures found { IfSome result (λ g. (g ≡ likely_sizes kind size) × AreSizes g) }
-    ensures none { IfNone result (size ≤ greatest_size VERSION
-        → AreSizes (likely_sizes kind size) → ⊥) }
+fn likely_geometry(layout: Layout, kind: Kind, size: u64) -> Option<Geometry>
+    ensures found { IfSome result (λ g. (g ≡ likely_sizes layout kind size) × AreSizes g) }
+    ensures none { IfNone result (size ≤ greatest_size layout
+        → AreSizes (likely_sizes layout kind size) → ⊥) }
 {
-    if size > greatest_size(VERSION) {
+    if size > layout.greatest_size() {
         return None;
     }
     let geometry = Geometry::new(
+        layout,
         likely_blocks(kind, size),
         likely_inodes(kind, size),
         LEAST_HALF,
@@ -138,7 +143,7 @@ fn likely_blocks(kind: Kind, size: u64) -> u32
 }
 
 fn likely_inodes(kind: Kind, size: u64) -> u32
-    requires { size ≤ greatest_size VERSION }
+    requires { size ≤ greatest_size Summed }
     ensures { result ≡ likely_inodes kind size }
 {
     match kind {
@@ -148,10 +153,10 @@ fn likely_inodes(kind: Kind, size: u64) -> u32
     }
 }
 
-/// The inode that these bytes spell, before its limits are looked at.
+/// The inode that these bytes spell in this layout, before its limits are looked at.
 #[tactic(auto, unfolding(crate::specs::InodeReading::inode_in))]
-pub(crate) fn read_fields(bytes: &[u8]) -> Option<Inode>
-    ensures { result ≡ inode_in bytes.now }
+pub(crate) fn read_fields(bytes: &[u8], layout: Layout) -> Option<Inode>
+    ensures { result ≡ inode_in layout bytes.now }
 {
     let (kind, bytes) = u16_at(bytes)?;
     let (mode, bytes) = mode_at(bytes)?;
@@ -164,7 +169,15 @@ pub(crate) fn read_fields(bytes: &[u8]) -> Option<Inode>
         return None;
     }
     let mode = Mode::new(mode).unwrap();
-    made_inode(kind, Attributes::new(mode), links, size, level, body)
+    made_inode(
+        layout,
+        kind,
+        Attributes::new(mode),
+        links,
+        size,
+        level,
+        body,
+    )
 }
 
 // The kind and the links in these bytes, before the limits are looked at.
@@ -183,6 +196,7 @@ fn read_kind_and_links(bytes: &[u8]) -> Option<(Kind, u32)>
 // The inode of these fields.
 #[tactic(auto, unfolding(crate::specs::InodeReading::inode_of))]
 fn made_inode(
+    layout: Layout,
     kind: u16,
     attributes: Attributes,
     links: u32,
@@ -191,12 +205,13 @@ fn made_inode(
     body: &[u8],
 ) -> Option<Inode>
     requires { length body.now ≡ 128 }
-    ensures { result ≡ inode_of kind attributes links size level body.now }
+    ensures { result ≡ inode_of layout kind attributes links size level body.now }
 {
     let kind = Kind::from_code(kind)?;
     let body = read_body(size, body)?;
-    if level == level_of(size) {
+    if level == layout.level_of(size) {
         Some(Inode {
+            layout,
             kind,
             attributes,
             links,
@@ -275,12 +290,12 @@ fn kind_fits(inode: &Inode, geometry: Geometry) -> bool
 }
 
 // Whether the body is of the size's level, with nothing past the size and no pointer past the disk.
-fn body_fits(body: &Body, blocks: u32, size: u64) -> bool
-    ensures { IsTrue result ↔ FitsBody body.now blocks size }
+fn body_fits(layout: Layout, body: &Body, blocks: u32, size: u64) -> bool
+    ensures { IsTrue result ↔ FitsBody layout body.now blocks size }
 {
     match body {
         Body::Inline(bytes) => inline_fits(bytes, size),
-        Body::Pointers(pointers) => pointer_body_fits(pointers, blocks, size),
+        Body::Pointers(pointers) => pointer_body_fits(layout, pointers, blocks, size),
     }
 }
 
@@ -297,14 +312,19 @@ fn inline_fits(bytes: &[u8; INLINE_BYTES], size: u64) -> bool
 }
 
 // Whether these point to the blocks of a file of this size, with holes behind them.
-fn pointer_body_fits(pointers: &[Pointer; BODY_POINTERS], blocks: u32, size: u64) -> bool
-    ensures { IsTrue result ↔ FitsPointers pointers.now blocks size }
+fn pointer_body_fits(
+    layout: Layout,
+    pointers: &[Pointer; BODY_POINTERS],
+    blocks: u32,
+    size: u64,
+) -> bool
+    ensures { IsTrue result ↔ FitsPointers layout pointers.now blocks size }
 {
     if size <= 128 {
         return false;
     }
     let pointers: &[Pointer] = pointers;
-    pointers_fit(pointers, blocks) && holes_behind(pointers, pointers_used(size))
+    pointers_fit(pointers, blocks) && holes_behind(pointers, pointers_used(layout, size))
 }
 
 // Whether each pointer from this place on is a hole.
@@ -319,18 +339,18 @@ fn holes_behind(pointers: &[Pointer], used: u64) -> bool
 }
 
 // How many pointers of the body a file of so many bytes, more than 128, may use.
-fn pointers_used(size: u64) -> u64
-    ensures { result ≡ pointers_used size }
+fn pointers_used(layout: Layout, size: u64) -> u64
+    ensures { result ≡ pointers_used layout size }
 {
-    nodes_of_size(size, level_of(size).saturating_sub(1))
+    nodes_of_size(layout, size, layout.level_of(size).saturating_sub(1))
 }
 
 // How many nodes a file of so many bytes has at a height.
-fn nodes_of_size(size: u64, height: u8) -> u64
-    ensures { result ≡ nodes_of_size size height }
+fn nodes_of_size(layout: Layout, size: u64, height: u8) -> u64
+    ensures { result ≡ nodes_of_size layout size height }
 {
     if height == 0 {
         return size.div_ceil(4096);
     }
-    nodes_of_size(size, height - 1).div_ceil(1024)
+    nodes_of_size(layout, size, height - 1).div_ceil(u64::from(layout.fan_out()))
 }

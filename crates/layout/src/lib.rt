@@ -22,6 +22,7 @@ mod record_read;
 mod record_write;
 mod root;
 mod snap_root;
+mod trees;
 mod version;
 mod writing;
 
@@ -48,9 +49,10 @@ pub use reading::{part_at, u32_at, u64_at};
 pub use record::{NewObject, Record};
 pub use root::Root;
 pub use snap_root::SnapRoot;
+pub use trees::Layout;
 pub use version::{
-    FIRST_SLOTS, FIRST_VERSION, SNAPSHOT_SLOTS, VERSION, greatest_size, is_version, level_of,
-    snapshot_slots,
+    FIRST_SLOTS, FIRST_VERSION, SNAPSHOT_SLOTS, SUMMED_VERSION, VERSION, greatest_under,
+    is_version, layout_of, snapshot_slots,
 };
 pub use writing::{put_bytes, put_u16, put_u32, put_u64, put_zeros};
 
@@ -59,9 +61,9 @@ pub const SECTOR_BYTES: usize = 512;
 /// Bytes of a block: eight sectors.
 pub const BLOCK_BYTES: usize = 4096;
 /// The sector of slot A, which holds a root: the first of block 0.
-pub const SLOT_A: u32 = 0;
+pub const SLOT_A: u64 = 0;
 /// The sector of slot B, which holds another one: the first of block 1.
-pub const SLOT_B: u32 = 8;
+pub const SLOT_B: u64 = 8;
 /// Bytes of a root: one sector.
 pub const ROOT_BYTES: usize = 512;
 /// Bytes of an inode.
@@ -70,11 +72,13 @@ pub const INODE_BYTES: usize = 192;
 pub const INODES_PER_BLOCK: u32 = 21;
 /// Pointers in an inode's body.
 pub const BODY_POINTERS: usize = 16;
-/// Pointers in an indirect block.
+/// Numbers of four bytes in a block: the entries of one of the block map, and the most pointers that
+/// an indirect block has in any layout.
 pub const BLOCK_POINTERS: usize = 1024;
 /// Greatest number of bytes that an inode holds itself.
 pub const INLINE_BYTES: usize = 128;
 /// Greatest number of bytes of a file to whose blocks its inode points: sixteen blocks.
 pub const DIRECT_BYTES: u64 = 65_536;
-/// Greatest number of bytes of a file to whose blocks sixteen indirect blocks point.
+/// Greatest number of bytes of a file to whose blocks sixteen indirect blocks of 1,024 pointers
+/// point, and of any file under a root of the first version.
 pub const SINGLE_BYTES: u64 = 67_108_864;

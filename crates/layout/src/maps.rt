@@ -1,14 +1,14 @@
 //! What stands in the blocks of the two maps and in indirect blocks.
 
 ghost use Rattle.std.specs.Prelude.{◌≡◌, ◌≢◌, ◌↔◌, ◌<◌, ◌≤◌, ◌+◌, ◌*◌, ◌^◌, ℕ, IsTrue, length};
-ghost use Rattle.layout.specs.Maps.{IsIndirectBlock, IsInodeMap, IsTaken, PointsWithin, SetsWord, indirect_pointer, map_entry};
+ghost use Rattle.layout.specs.Maps.{IsIndirectBlock, IsInodeMap, IsPointerBlock, IsTaken, PointsWithin, SetsWord, indirect_pointer, map_entry};
 ghost use Rattle.layout.specs.Pointer.{PointsBelow, pointer_number};
 ghost use Rattle.layout.specs.declared.pointer.Pointer.TheVariants.{Hole};
 
 use crate::indirect::is_filled;
 use crate::pointer::word_at;
 use crate::writing::put_u32;
-use crate::{BLOCK_BYTES, BLOCK_POINTERS, Pointer};
+use crate::{BLOCK_BYTES, BLOCK_POINTERS, Layout, Pointer};
 use model::FIRST_NUMBER;
 
 /// Whether an inode number is taken, in these bytes of an inode map from its beginning on.
@@ -86,18 +86,19 @@ pub fn indirect_pointer(bytes: &[u8; BLOCK_BYTES], index: u32) -> Pointer
     Pointer::from_number(word_at(bytes, index as usize))
 }
 
-/// Whether these bytes are a stored indirect block, in an image of so many blocks, over so many
-/// blocks of a file: each pointer is a hole or stays on the disk, those from `used` on are holes,
-/// and one is none.
-pub fn is_indirect_block(bytes: &[u8; BLOCK_BYTES], blocks: u32, used: u32) -> bool
-    ensures { IsTrue result ↔ IsIndirectBlock blocks used bytes.now }
+/// Whether these bytes are a stored indirect block, in an image of this layout and so many blocks,
+/// over so many blocks of a file: each pointer is a hole or stays on the disk, those from `used` on
+/// are holes, what stands behind the pointers is zeros, and one is no hole.
+pub fn is_indirect_block(bytes: &[u8; BLOCK_BYTES], layout: Layout, blocks: u32, used: u32) -> bool
+    ensures { IsTrue result ↔ IsIndirectBlock layout blocks used bytes.now }
 {
+    let used = used.min(layout.fan_out());
     is_filled(bytes, blocks, used) || is_spelled(bytes, blocks, used)
 }
 
 // The same, pointer by pointer.
 fn is_spelled(bytes: &[u8; BLOCK_BYTES], blocks: u32, used: u32) -> bool
-    ensures { IsTrue result ↔ IsIndirectBlock blocks used bytes.now }
+    ensures { IsTrue result ↔ IsPointerBlock blocks used bytes.now }
 {
     points_within(bytes, blocks, used) && has_block(bytes)
 }

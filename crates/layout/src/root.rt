@@ -16,7 +16,7 @@ use crate::geometry::{
 use crate::numbers::{FIRST_GENERATION, LAST_GENERATION};
 use crate::pointer::{are_holes, pointers_fit, put_pointers, read_pointers};
 use crate::reading::{part_at, u32_within, u64_at, u64_within, zeros_at};
-use crate::version::{FIRST_VERSION, VERSION, is_version, snapshot_slots};
+use crate::version::{FIRST_VERSION, VERSION, is_version, layout_of, snapshot_slots};
 use crate::writing::{put_u32, put_u64, put_zeros};
 use crate::{
     Generation, Geometry, INODE_BYTES, Inode, Kind, Pointer, ROOT_BYTES, SNAPSHOT_SLOTS, inode,
@@ -81,8 +81,9 @@ impl Root {
         let _ = self.generation.get();
         let blocks = self.geometry.blocks();
         self.inode_file.kind == Kind::InodeFile
-            && self.inode_file.fits(VERSION, self.geometry)
+            && self.inode_file.fits(self.geometry)
             && is_version(self.version)
+            && self.geometry.layout() == layout_of(self.version)
             && snapshots_fit(&self.snapshots, blocks)
             && are_free_behind(&self.snapshots, self.version)
     }
@@ -100,11 +101,12 @@ fn read_fields(bytes: &[u8]) -> Option<Root>
     if !bytes.is_empty() {
         return None;
     }
-    let inode_file = inode::read_fields(inode)?;
+    let layout = layout_of(head.version);
+    let inode_file = inode::read_fields(inode, layout)?;
     Some(Root {
         version: head.version,
         generation: Generation::new(head.generation).unwrap(),
-        geometry: Geometry::new(head.blocks, head.inodes, head.half).unwrap(),
+        geometry: Geometry::new(layout, head.blocks, head.inodes, head.half).unwrap(),
         inode_file,
         snapshots: read_snapshots(snapshots),
     })

@@ -10,7 +10,7 @@ ghost use Rattle.layout.specs.SnapRoot.{IsSnapshot, Snapshot, snapshot_bytes, sn
 use crate::numbers::{FIRST_GENERATION, LAST_GENERATION};
 use crate::reading::{padded_at, part_at, u64_within, zeros_at};
 use crate::writing::{put_bytes, put_u8, put_u64, put_zeros};
-use crate::{BLOCK_BYTES, INODE_BYTES, Inode, Kind, inode};
+use crate::{BLOCK_BYTES, INODE_BYTES, Inode, Kind, Layout, inode};
 use model::SNAPSHOT_NAME_BYTES;
 
 /// Where the inode stands, behind the order and the name.
@@ -31,14 +31,15 @@ pub struct SnapRoot<'a> {
 }
 
 impl<'a> SnapRoot<'a> {
-    /// The root that these bytes spell; None where none does, in an image of any geometry.
-    pub fn read(bytes: &'a [u8]) -> Option<SnapRoot<'a>>
+    /// The root that these bytes spell in an image of this layout and any sizes; None where none
+    /// does.
+    pub fn read(bytes: &'a [u8], layout: Layout) -> Option<SnapRoot<'a>>
         ensures found { IfSome result (λ r. let v = snapshot_of r in
-            IsSnapshot v × (bytes.now ≡ snapshot_bytes v)) }
-        ensures only { (v : Snapshot) → IsSnapshot v → bytes.now ≡ snapshot_bytes v
-            → IsSomeAnd result (λ r. snapshot_of r ≡ v) }
+            IsSnapshot v × (v.inode_file.layout ≡ layout) × (bytes.now ≡ snapshot_bytes v)) }
+        ensures only { (v : Snapshot) → IsSnapshot v → v.inode_file.layout ≡ layout
+            → bytes.now ≡ snapshot_bytes v → IsSomeAnd result (λ r. snapshot_of r ≡ v) }
     {
-        let Some(root) = read_fields(bytes) else {
+        let Some(root) = read_fields(bytes, layout) else {
             return None;
         };
         if root.fits() { Some(root) } else { None }
@@ -58,7 +59,7 @@ impl<'a> SnapRoot<'a> {
         BLOCK_BYTES
     }
 
-    // Whether it is in the grammar of an image of some geometry.
+    // Whether it is in the grammar of an image of some sizes.
     fn fits(&self) -> bool
         ensures { IsTrue result ↔ IsSnapshot (snapshot_of self.now) }
     {
@@ -82,10 +83,11 @@ fn put_name(out: &mut [u8], name: &[u8])
     put_zeros(out, 9 + name.len(), SNAPSHOT_NAME_BYTES - name.len());
 }
 
-// The root that these bytes spell, before the limits of its name and its inode are looked at.
+// The root that these bytes spell in this layout, before the limits of its name and its inode are
+// looked at.
 #[tactic(auto, unfolding(crate::specs::SnapRoot::snapshot_in))]
-fn read_fields(bytes: &[u8]) -> Option<SnapRoot<'_>>
-    ensures { option_map snapshot_of result ≡ snapshot_in bytes.now }
+fn read_fields(bytes: &[u8], layout: Layout) -> Option<SnapRoot<'_>>
+    ensures { option_map snapshot_of result ≡ snapshot_in layout bytes.now }
 {
     let (order, bytes) = u64_within(bytes, FIRST_GENERATION, LAST_GENERATION)?;
     let (name, bytes) = padded_at(bytes)?;
@@ -94,7 +96,7 @@ fn read_fields(bytes: &[u8]) -> Option<SnapRoot<'_>>
     if !bytes.is_empty() {
         return None;
     }
-    let inode_file = inode::read_fields(inode)?;
+    let inode_file = inode::read_fields(inode, layout)?;
     Some(SnapRoot {
         order,
         name,

@@ -1,10 +1,10 @@
 //! What differs from one version of the layout to the next, in one place.
 
 ghost use Rattle.std.specs.Prelude.{◌≡◌, ◌↔◌, IsTrue};
-ghost use Rattle.layout.specs.Version.{IsVersion, greatest_size, level_of, snapshot_slots};
+ghost use Rattle.layout.specs.Version.{IsVersion, greatest_under, layout_of, snapshot_slots};
 
-use crate::{DIRECT_BYTES, INLINE_BYTES, SINGLE_BYTES};
-use model::{GREATEST_FILE, SNAPSHOTS};
+use crate::{Layout, SINGLE_BYTES};
+use model::SNAPSHOTS;
 
 /// The first version, which is read only: the first consistency point over such a root writes the
 /// newest version.
@@ -12,6 +12,9 @@ pub const FIRST_VERSION: u32 = 1;
 
 /// The newest version, which is read and written.
 pub const VERSION: u32 = 2;
+
+/// The version whose indirect blocks have sums. No root of it is read yet.
+pub const SUMMED_VERSION: u32 = 4;
 
 /// The slots of snapshots in a root of the first version.
 pub const FIRST_SLOTS: usize = 20;
@@ -27,30 +30,25 @@ pub fn is_version(version: u32) -> bool
     FIRST_VERSION <= version && version <= VERSION
 }
 
-/// The level of a file of so many bytes: 0 has the bytes in the inode, 1 has pointers to them, 2
-/// has one indirect block between, 3 has two.
-pub fn level_of(size: u64) -> u8
-    ensures { result ≡ level_of size }
+/// The layout of a version's trees.
+pub fn layout_of(version: u32) -> Layout
+    ensures { result ≡ layout_of version }
 {
-    if size <= INLINE_BYTES as u64 {
-        0
-    } else if size <= DIRECT_BYTES {
-        1
-    } else if size <= SINGLE_BYTES {
-        2
+    if version == SUMMED_VERSION {
+        Layout::Summed
     } else {
-        3
+        Layout::Plain
     }
 }
 
-/// The greatest size of a file, in bytes.
-pub fn greatest_size(version: u32) -> u64
-    ensures { result ≡ greatest_size version }
+/// The greatest size of a file under a root of this version, in bytes.
+pub fn greatest_under(version: u32) -> u64
+    ensures { result ≡ greatest_under version }
 {
     if version == FIRST_VERSION {
         SINGLE_BYTES
     } else {
-        GREATEST_FILE
+        layout_of(version).greatest_size()
     }
 }
 

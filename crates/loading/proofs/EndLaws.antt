@@ -14,6 +14,7 @@ use Rattle.layout.specs.Maps.{IsInodeMap}
 use Rattle.layout.specs.Places.{Blocks, place, pointed}
 use Rattle.layout.specs.declared.kind.Kind.{Kind}
 use Rattle.layout.specs.declared.kind.Kind.TheVariants as kinds
+use Rattle.layout.specs.declared.trees.Layout.{Layout}
 use Rattle.layout.specs.declared.inode.Body.{Body}
 use Rattle.layout.specs.declared.inode.Body.TheVariants.{Inline, Pointers}
 use Rattle.layout.specs.declared.inode.Inode.{Inode}
@@ -72,11 +73,11 @@ block_ends block bytes size m same is ends k le lt =
     ∙ ends (4096 * (m / 4096) + k) (omega (arith, same, le))
 
 -- and all behind it, of the file of an inode
-pub ends_all : (disk : Blocks) (body : Body) (size : ℕ) → ((p : ℕ) → size ≤ p → p / 4096 ≡ size / 4096 → byte_in (body_block disk body size) p ≡ 0)
-    → EndsAt size (byte_in (body_block disk body size))
-ends_all disk body size last p past = elim (cases_lt (size / 4096) (p / 4096)) [
+pub ends_all : (layout : Layout) (disk : Blocks) (body : Body) (size : ℕ) → ((p : ℕ) → size ≤ p → p / 4096 ≡ size / 4096 → byte_in (body_block layout disk body size) p ≡ 0)
+    → EndsAt size (byte_in (body_block layout disk body size))
+ends_all layout disk body size last p past = elim (cases_lt (size / 4096) (p / 4096)) [
   | inr le ↦ last p past (omega arith)
-  | inl lt ↦ ap (λ b. slice_index b (p % 4096)) (past_end disk body size (p / 4096) (omega arith) (omega arith)) ∙ zero_byte (p % 4096) 4096
+  | inl lt ↦ ap (λ b. slice_index b (p % 4096)) (past_end layout disk body size (p / 4096) (omega arith) (omega arith)) ∙ zero_byte (p % 4096) 4096
 ]
 
 -- ---- bytes as a list
@@ -87,65 +88,67 @@ part_whole f size out long part = ext_get_or 0 out (map f (range_with_len 0 size
 
 -- ---- a loaded tree, and the inode that it starts from
 
-path_like : (blocks : ℕ) (disk : Blocks) (pointers : List Pointer) (size i : ℕ) (t : BlockTree) → HasPointers pointers size t
-    → IsPath blocks disk pointers (depth_of size) (block_count size) i → IsPath blocks disk t.pointers t.depth t.count i
-path_like blocks disk pointers size i t has path =
-    subst (λ ps. IsPath blocks disk ps t.depth t.count i) (sym has.pointers_are)
-    (subst (λ d. IsPath blocks disk pointers d t.count i) (sym has.depth)
-    (subst (λ n. IsPath blocks disk pointers (depth_of size) n i) (sym has.count) path))
+path_like : (layout : Layout) (blocks : ℕ) (disk : Blocks) (pointers : List Pointer) (size i : ℕ) (t : BlockTree) → HasPointers layout pointers size t
+    → IsPath layout blocks disk pointers (depth_of layout size) (block_count size) i → IsPath t.layout blocks disk t.pointers t.depth t.count i
+path_like layout blocks disk pointers size i t has path =
+    subst (λ l. IsPath l blocks disk t.pointers t.depth t.count i) (sym has.layout_is)
+    (subst (λ ps. IsPath layout blocks disk ps t.depth t.count i) (sym has.pointers_are)
+    (subst (λ d. IsPath layout blocks disk pointers d t.count i) (sym has.depth)
+    (subst (λ n. IsPath layout blocks disk pointers (depth_of layout size) n i) (sym has.count) path)))
 
-same_place : (disk : Blocks) (pointers : List Pointer) (size i : ℕ) (t : BlockTree) → HasPointers pointers size t
-    → place disk t.pointers t.depth i ≡ place disk pointers (depth_of size) i
-same_place disk pointers size i t has = ap (λ ps. place disk ps t.depth i) has.pointers_are ∙ ap (λ d. place disk pointers d i) has.depth
+same_place : (layout : Layout) (disk : Blocks) (pointers : List Pointer) (size i : ℕ) (t : BlockTree) → HasPointers layout pointers size t
+    → place t.layout disk t.pointers t.depth i ≡ place layout disk pointers (depth_of layout size) i
+same_place layout disk pointers size i t has =
+    ap (λ l. place l disk t.pointers t.depth i) has.layout_is ∙ ap (λ ps. place layout disk ps t.depth i) has.pointers_are ∙ ap (λ d. place layout disk pointers d i) has.depth
 
-pub starts_sound_at : (blocks : ℕ) (disk : Blocks) (body : Body) (size i : ℕ) (t : BlockTree) → t.kept ≤ t.count → StartsFrom body size t
-    → IsBodyPath blocks disk body size i → IsWholeAt disk body size i → IsSoundAt blocks disk t i
-starts_sound_at blocks disk (Inline bytes) size i t within starts path whole = λ _ lt. absurd (omega (arith, starts, within, lt))
-starts_sound_at blocks disk (Pointers pointers) size i t within starts path whole = λ _ lt.
+pub starts_sound_at : (layout : Layout) (blocks : ℕ) (disk : Blocks) (body : Body) (size i : ℕ) (t : BlockTree) → t.kept ≤ t.count → StartsFrom layout body size t
+    → IsBodyPath layout blocks disk body size i → IsWholeAt layout disk body size i → IsSoundAt blocks disk t i
+starts_sound_at layout blocks disk (Inline bytes) size i t within starts path whole = λ _ lt. absurd (omega (arith, starts.1, within, lt))
+starts_sound_at layout blocks disk (Pointers pointers) size i t within starts path whole = λ _ lt.
     let low : i < block_count size = omega (arith, starts.1, starts.0.count, lt) in (
-      path_like blocks disk pointers size i t starts.0 (path low),
-      ap (λ p. length (pointed disk p)) (same_place disk pointers size i t starts.0) ∙ whole low,
+      path_like layout blocks disk pointers size i t starts.0 (path low),
+      ap (λ p. length (pointed disk p)) (same_place layout disk pointers size i t starts.0) ∙ whole low,
     )
 
 -- a block of it that was read
-pub sound_whole : (blocks : ℕ) (disk : Blocks) (body : Body) (size i : ℕ) (t : BlockTree) → StartsFrom body size t → StartsUnchanged body t
-    → (i < block_count size → IsSoundAt blocks disk t i) → IsWholeAt disk body size i
-sound_whole blocks disk (Inline bytes) size i t starts clean sound = tt
-sound_whole blocks disk (Pointers pointers) size i t starts clean sound = λ lt.
-    ap (λ p. length (pointed disk p)) (sym (same_place disk pointers size i t starts.0)) ∙ (sound lt (clean i) (omega (arith, starts.1, starts.0.count, lt))).1
+pub sound_whole : (layout : Layout) (blocks : ℕ) (disk : Blocks) (body : Body) (size i : ℕ) (t : BlockTree) → StartsFrom layout body size t → StartsUnchanged body t
+    → (i < block_count size → IsSoundAt blocks disk t i) → IsWholeAt layout disk body size i
+sound_whole layout blocks disk (Inline bytes) size i t starts clean sound = tt
+sound_whole layout blocks disk (Pointers pointers) size i t starts clean sound = λ lt.
+    ap (λ p. length (pointed disk p)) (sym (same_place layout disk pointers size i t starts.0)) ∙ (sound lt (clean i) (omega (arith, starts.1, starts.0.count, lt))).1
 
-pub starts_sound : (blocks : ℕ) (disk : Blocks) (body : Body) (size : ℕ) (t : BlockTree) → StartsFrom body size t
-    → ((i : ℕ) → IsBodyPath blocks disk body size i) → AreSound blocks disk t
-starts_sound blocks disk (Inline bytes) size t starts paths = λ i lt. absurd (omega (arith, starts, lt))
-starts_sound blocks disk (Pointers pointers) size t starts paths = λ i lt.
-    path_like blocks disk pointers size i t starts.0 (paths i (omega (arith, starts.0.count, lt)))
+pub starts_sound : (layout : Layout) (blocks : ℕ) (disk : Blocks) (body : Body) (size : ℕ) (t : BlockTree) → StartsFrom layout body size t
+    → ((i : ℕ) → IsBodyPath layout blocks disk body size i) → AreSound blocks disk t
+starts_sound layout blocks disk (Inline bytes) size t starts paths = λ i lt. absurd (omega (arith, starts.1, lt))
+starts_sound layout blocks disk (Pointers pointers) size t starts paths = λ i lt.
+    path_like layout blocks disk pointers size i t starts.0 (paths i (omega (arith, starts.0.count, lt)))
 
-pub stored_all : (disk : Blocks) (body : Body) (size : ℕ) (t : BlockTree) → StartsFrom body size t → HasAllPlaces disk t → IsStored disk body size
-stored_all disk (Inline bytes) size t starts all = tt
-stored_all disk (Pointers pointers) size t starts all = λ i lt hole.
-    all i (omega (arith, starts.0.count, lt)) (same_place disk pointers size i t starts.0 ∙ hole)
+pub stored_all : (layout : Layout) (disk : Blocks) (body : Body) (size : ℕ) (t : BlockTree) → StartsFrom layout body size t → HasAllPlaces disk t → IsStored layout disk body size
+stored_all layout disk (Inline bytes) size t starts all = tt
+stored_all layout disk (Pointers pointers) size t starts all = λ i lt hole.
+    all i (omega (arith, starts.0.count, lt)) (same_place layout disk pointers size i t starts.0 ∙ hole)
 
-pub all_stored : (disk : Blocks) (body : Body) (size : ℕ) (t : BlockTree) → StartsFrom body size t → IsStored disk body size → HasAllPlaces disk t
-all_stored disk (Inline bytes) size t starts stored = λ i lt. absurd (omega (arith, starts, lt))
-all_stored disk (Pointers pointers) size t starts stored = λ i lt hole.
-    stored i (omega (arith, starts.0.count, lt)) (sym (same_place disk pointers size i t starts.0) ∙ hole)
+pub all_stored : (layout : Layout) (disk : Blocks) (body : Body) (size : ℕ) (t : BlockTree) → StartsFrom layout body size t → IsStored layout disk body size → HasAllPlaces disk t
+all_stored layout disk (Inline bytes) size t starts stored = λ i lt. absurd (omega (arith, starts.1, lt))
+all_stored layout disk (Pointers pointers) size t starts stored = λ i lt hole.
+    stored i (omega (arith, starts.0.count, lt)) (sym (same_place layout disk pointers size i t starts.0) ∙ hole)
 
 -- ---- the places that were read
 
-pub lowest_nodes : (disk : Blocks) (t : BlockTree) (nodes : PlaceMap) → AreNodes disk t.pointers (t.depth - 0) (nodes_at t.count 0) nodes → (i : ℕ) → i < t.count
-    → place_at nodes i ≡ place disk t.pointers t.depth i
+pub lowest_nodes : (disk : Blocks) (t : BlockTree) (nodes : PlaceMap) → AreNodes t.layout disk t.pointers (t.depth - 0) (nodes_at t.layout t.count 0) nodes → (i : ℕ) → i < t.count
+    → place_at nodes i ≡ place t.layout disk t.pointers t.depth i
 unfolding nodes_at
-lowest_nodes disk t nodes are i lt = let none : t.depth - 0 ≡ t.depth = omega arith in are i lt ∙ ap (λ d. place disk t.pointers d i) none
+lowest_nodes disk t nodes are i lt = let none : t.depth - 0 ≡ t.depth = omega arith in are i lt ∙ ap (λ d. place t.layout disk t.pointers d i) none
 
 -- ---- a map's file
 
-pub map_file_is : (disk : Blocks) (inode : Inode) (file : File) → StartsFrom inode.body inode.size file.tree → HasAllPlaces disk file.tree → IsWholeAt disk inode.body inode.size (inode.size / 4096)
+pub map_file_is : (disk : Blocks) (inode : Inode) (file : File) → StartsFrom inode.layout inode.body inode.size file.tree → HasAllPlaces disk file.tree → IsWholeAt inode.layout disk inode.body inode.size (inode.size / 4096)
     → file.size ≡ inode.size → ((i : ℕ) → file_block disk file i ≡ inode_block disk inode i)
     → ((p : ℕ) → file.size ≤ p → p / 4096 ≡ file.size / 4096 → byte_at disk file p ≡ 0) → IsMapFile disk inode
 map_file_is disk inode file starts all read size same last = record {
-  stored = stored_all disk inode.body inode.size file.tree starts all;
+  stored = stored_all inode.layout disk inode.body inode.size file.tree starts all;
   last = read;
-  ends = ends_all disk inode.body inode.size (λ p past here.
+  ends = ends_all inode.layout disk inode.body inode.size (λ p past here.
       ap (λ b. slice_index b (p % 4096)) (sym (same (p / 4096))) ∙ last p (omega (arith, size, past)) (here ∙ ap (λ n. n / 4096) (sym size)));
 }
 

@@ -8,9 +8,12 @@ use Rattle.layout.specs.Inode.{IsInode, inode_bytes}
 use Rattle.layout.specs.Limits.{AreSizes}
 use Rattle.layout.specs.Maps.{IsInodeMap}
 use Rattle.layout.specs.Places.{Blocks}
+use Rattle.layout.specs.Trees.{greatest_size}
 use Rattle.layout.specs.declared.inode.Inode.{Inode}
 use Rattle.layout.specs.declared.kind.Kind.TheVariants as kinds
 use Rattle.layout.specs.declared.root.Root.{Root}
+use Rattle.layout.specs.declared.trees.Layout.{Layout}
+use Rattle.layout.specs.declared.trees.Layout.TheVariants.{Plain}
 use Rattle.layout.specs.declared.version.TheConstants.{VERSION}
 use Rattle.model.specs.Volumes.{Volume}
 use Rattle.blocktree.specs.Trees.{IsSoundAt}
@@ -56,12 +59,12 @@ module _ {detail : Detail} (l : TreesReadAsHeld) (disk : Blocks) (r : Root) (are
   root = ready.root
 
   -- the newest version allows files as large as these
-  pub newest_within : IsWithin VERSION (whole disk r).active
+  pub newest_within : r.geometry.layout ≡ Plain → IsWithin VERSION (whole disk r).active
   unfolding whole
-  newest_within n = (sound.files n).inode.size
+  newest_within plain n = let fits = (sound.files n).inode in subst (λ (l : Layout). (tree disk r.geometry.inodes r.inode_file n).inode.size ≤ greatest_size l) (fits.layout ∙ plain) fits.size
 
   -- the inode at a number, where it has been read
-  pub is_own : (n : ℕ) (i : Inode) → IsInode VERSION r.geometry i → 1 ≤ n → n < 21 → inode_part (inode_block disk r.inode_file 0) n ≡ inode_bytes i
+  pub is_own : (n : ℕ) (i : Inode) → IsInode r.geometry i → 1 ≤ n → n < 21 → inode_part (inode_block disk r.inode_file 0) n ≡ inode_bytes i
       → tree disk r.geometry.inodes r.inode_file n ≡ held disk i
   is_own n i fits some few is =
       let block : n / 21 ≡ 0 = omega arith in
@@ -78,20 +81,20 @@ module _ {detail : Detail} (l : TreesReadAsHeld) (disk : Blocks) (r : Root) (are
       ∙ trees.own_spelled r.geometry are disk r.inode_file sound root l n some (omega (arith, few, are.least_inodes))
 
   -- what the file of a map is to be
-  pub map_paths : (n count k : ℕ) (i : Inode) → count ≡ r.geometry.blocks → tree disk r.geometry.inodes r.inode_file n ≡ held disk i → IsBodyPath count disk i.body i.size k
-  map_paths n count k i same is = subst (λ c. IsBodyPath c disk i.body i.size k) (sym same)
+  pub map_paths : (n count k : ℕ) (i : Inode) → count ≡ r.geometry.blocks → tree disk r.geometry.inodes r.inode_file n ≡ held disk i → IsBodyPath i.layout count disk i.body i.size k
+  map_paths n count k i same is = subst (λ c. IsBodyPath i.layout c disk i.body i.size k) (sym same)
       (trees.paths_of r.geometry are disk r.inode_file sound root l n i k is)
 
   pub numbers_file : (i : Inode) → tree disk r.geometry.inodes r.inode_file 1 ≡ held disk i → IsMapFile disk i
   numbers_file i is = trees.map_file r.geometry are disk r.inode_file sound root l 1 i is sound.inode_map
 
-  pub numbers_whole : (i : Inode) → tree disk r.geometry.inodes r.inode_file 1 ≡ held disk i → IsWholeBody disk i.body i.size
+  pub numbers_whole : (i : Inode) → tree disk r.geometry.inodes r.inode_file 1 ≡ held disk i → IsWholeBody i.layout disk i.body i.size
   numbers_whole i is = trees.map_whole r.geometry are disk r.inode_file sound root l 1 i is sound.readable
 
   pub parts_file : (i : Inode) → tree disk r.geometry.inodes r.inode_file 2 ≡ held disk i → IsMapFile disk i
   parts_file i is = trees.map_file r.geometry are disk r.inode_file sound root l 2 i is sound.block_map
 
-  pub parts_whole : (i : Inode) → tree disk r.geometry.inodes r.inode_file 2 ≡ held disk i → IsReadable ((whole disk r).active 2) → IsWholeBody disk i.body i.size
+  pub parts_whole : (i : Inode) → tree disk r.geometry.inodes r.inode_file 2 ≡ held disk i → IsReadable ((whole disk r).active 2) → IsWholeBody i.layout disk i.body i.size
   unfolding whole
   parts_whole i is map = trees.map_whole r.geometry are disk r.inode_file sound root l 2 i is map
 
@@ -105,7 +108,7 @@ module _ {detail : Detail} (l : TreesReadAsHeld) (disk : Blocks) (r : Root) (are
 
   -- with the inode file in memory
   module _ (file : File) (blocks : (d : Blocks) (i : ℕ) → memory.file_block d file i ≡ inode_block d r.inode_file i)
-      (starts : StartsFrom r.inode_file.body r.inode_file.size file.tree) where
+      (starts : StartsFrom r.inode_file.layout r.inode_file.body r.inode_file.size file.tree) where
     same : memory.file_block disk file ≡ inode_block disk r.inode_file
     same = fun_ext {f = memory.file_block disk file} {g = inode_block disk r.inode_file} (blocks disk)
 
@@ -126,19 +129,19 @@ module _ {detail : Detail} (l : TreesReadAsHeld) (disk : Blocks) (r : Root) (are
     pub memory_own : (n : ℕ) → 1 ≤ n → n < 21 → inode_part (memory.file_block disk file 0) n ≡ inode_bytes (tree disk r.geometry.inodes r.inode_file n).inode
     memory_own n some few = ap (λ b. inode_part b n) (blocks disk 0) ∙ own_there n some few
 
-    pub memory_is : (n : ℕ) (i : Inode) → IsInode VERSION r.geometry i → 1 ≤ n → n < 21 → inode_part (memory.file_block disk file 0) n ≡ inode_bytes i
+    pub memory_is : (n : ℕ) (i : Inode) → IsInode r.geometry i → 1 ≤ n → n < 21 → inode_part (memory.file_block disk file 0) n ≡ inode_bytes i
         → tree disk r.geometry.inodes r.inode_file n ≡ held disk i
     memory_is n i fits some few is = is_own n i fits some few (ap (λ b. inode_part b n) (sym (blocks disk 0)) ∙ is)
 
     -- they are there to be read
     pub no_inode_map : (count : ℕ) → count ≡ r.geometry.blocks
-        → (IsSoundAt count disk file.tree 0 → (i : Inode) → IsInode VERSION r.geometry i → i.kind ≡ kinds.InodeMap
+        → (IsSoundAt count disk file.tree 0 → (i : Inode) → IsInode r.geometry i → i.kind ≡ kinds.InodeMap
         → inode_part (memory.file_block disk file 0) 1 ≡ inode_bytes i → ⊥) → ⊥
     no_inode_map count is damaged =
         damaged (reached count 0 is) (tree disk r.geometry.inodes r.inode_file 1).inode (sound.files 1).inode (sound.kinds 1) (memory_own 1 (omega arith) (omega arith))
 
     pub no_block_map : (count : ℕ) → count ≡ r.geometry.blocks
-        → (IsSoundAt count disk file.tree 0 → (i : Inode) → IsInode VERSION r.geometry i → i.kind ≡ kinds.BlockMap
+        → (IsSoundAt count disk file.tree 0 → (i : Inode) → IsInode r.geometry i → i.kind ≡ kinds.BlockMap
         → inode_part (memory.file_block disk file 0) 2 ≡ inode_bytes i → ⊥) → ⊥
     no_block_map count is damaged =
         damaged (reached count 0 is) (tree disk r.geometry.inodes r.inode_file 2).inode (sound.files 2).inode (sound.kinds 2) (memory_own 2 (omega arith) (omega arith))

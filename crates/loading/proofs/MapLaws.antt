@@ -8,6 +8,7 @@ use Rattle.std.proofs.lemmas.List.{get_or_past, drop-replicate, get_or_append_le
 use Rattle.layout.specs.Bytes.{number, zeros}
 use Rattle.layout.specs.Maps.{map_entry, word}
 use Rattle.layout.specs.Places.{Blocks, place, pointed}
+use Rattle.layout.specs.declared.trees.Layout.{Layout}
 use Rattle.layout.specs.declared.inode.Body.{Body}
 use Rattle.layout.specs.declared.inode.Body.TheVariants.{Inline, Pointers}
 use Rattle.layout.proofs.ZeroLaws.{number-zeros}
@@ -30,12 +31,12 @@ word-zeros i count = ap (number 4) (drop-zeros (4 * i) count) ∙ number-zeros (
 
 -- ---- blocks past a file's end
 
-pub past_end : (disk : Blocks) (body : Body) (size i : ℕ) → 1 ≤ i → div_ceil size 4096 ≤ i → body_block disk body size i ≡ zeros 4096
+pub past_end : (layout : Layout) (disk : Blocks) (body : Body) (size i : ℕ) → 1 ≤ i → div_ceil size 4096 ≤ i → body_block layout disk body size i ≡ zeros 4096
 unfolding settled_block
-past_end disk (Inline bytes) size zero some past = absurd (omega arith)
-past_end disk (Inline bytes) size (suc i) some past = ap (λ b. if b then filled 4096 (take size bytes) else zeros 4096) (eqb-suc-zero i)
-past_end disk (Pointers pointers) size i some past =
-    sym (cond_above i (block_count size) (pointed disk (place disk pointers (depth_of size) i)) (zeros 4096) (zeros 4096) past refl)
+past_end layout disk (Inline bytes) size zero some past = absurd (omega arith)
+past_end layout disk (Inline bytes) size (suc i) some past = ap (λ b. if b then filled 4096 (take size bytes) else zeros 4096) (eqb-suc-zero i)
+past_end layout disk (Pointers pointers) size i some past =
+    sym (cond_above i (block_count size) (pointed disk (place layout disk pointers (depth_of layout size) i)) (zeros 4096) (zeros 4096) past refl)
 
 -- ---- entries
 

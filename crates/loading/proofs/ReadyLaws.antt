@@ -28,8 +28,8 @@ readable disk r first snapshots holds = record {
 pub frozen_is : (disk : Blocks) (r : Root) (k : ℕ) (s : Snapshot) → HasSnapshot r (whole disk r) k s → (whole disk (record r { inode_file = s.inode_file })).active ≡ (whole disk r).frozen k
 unfolding whole frozen_inode_file
 frozen_is disk r k s has =
-    sym (ap (frozen_at disk r.geometry.inodes) has.there
-    ∙ ap (tree disk r.geometry.inodes) (ap inode_file_or_free (ap (λ p. snapshot_in (pointed disk p)) (sym has.there) ∙ has.read)))
+    sym (ap (frozen_at disk r.geometry) has.there
+    ∙ ap (tree disk r.geometry.inodes) (ap (inode_file_or_free r.geometry.layout) (ap (λ p. snapshot_in r.geometry.layout (pointed disk p)) (sym has.there) ∙ has.read)))
 
 pub frozen_readable : (disk : Blocks) (r : Root) (first : Volume) (snapshots : List (Name × Tree)) (k : ℕ) (s : Snapshot) (kept : Tree) → Holds r (whole disk r) first snapshots
     → HasSnapshot r (whole disk r) k s → IsFrozenTree r.geometry.inodes ((whole disk r).frozen k) kept → IsReadable disk (record r { inode_file = s.inode_file })

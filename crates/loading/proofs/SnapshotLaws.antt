@@ -9,6 +9,7 @@ use Rattle.layout.specs.Inode.{inode_bytes}
 use Rattle.layout.specs.Limits.{Sizes}
 use Rattle.layout.specs.Places.{Blocks, pointed}
 use Rattle.layout.specs.SnapRoot.{Snapshot, IsSnapshot, snapshot_bytes, snapshot_in}
+use Rattle.layout.specs.declared.trees.Layout.{Layout}
 use Rattle.layout.specs.declared.pointer.Pointer.{Pointer}
 use Rattle.layout.specs.declared.pointer.Pointer.TheVariants.{Hole, Block}
 use Rattle.layout.specs.declared.root.Root.{Root}
@@ -19,7 +20,7 @@ use Rattle.layout.proofs.ZeroLaws.{length-zeros}
 use Rattle.buffers.specs.Disks.{IsWhole}
 use Rattle.images.specs.Roots.{frozen_inode_file, slot, whole}
 use Rattle.images.specs.Snapshots.{AreSnapshots, FitsRoot, HasSnapshot}
-use Rattle.loading.specs.Snapshots.{AreOfTwoSnapshots, AreApartAt, FitsSlot, IsSnapshotAt, IsSnapshotBlock}
+use Rattle.loading.specs.Snapshots.{AreOfTwoSnapshots, AreApartAt, FitsSlot, IsRootOf, IsSnapshotAt, IsSnapshotBlock}
 
 -- ---- how many bytes they have
 
@@ -59,23 +60,28 @@ at_slot disk r k (Block b) are is =
 -- the snapshots' root blocks are read as they are spelled
 abbrev pub Spells : Type 0
 Spells =
-    (v : Snapshot) → IsSnapshot v
-    → (snapshot_in (snapshot_bytes v) ≡ Some v)
-    × (frozen_inode_file (snapshot_bytes v) ≡ v.inode_file)
+    (layout : Layout) (v : Snapshot) → IsSnapshot v → v.inode_file.layout ≡ layout
+    → (snapshot_in layout (snapshot_bytes v) ≡ Some v)
+    × (frozen_inode_file layout (snapshot_bytes v) ≡ v.inode_file)
+
+-- so is one in an image of this layout
+reads : (layout : Layout) → Spells → (s : Snapshot) (bytes : List ℕ) → IsRootOf layout s bytes → snapshot_in layout bytes ≡ Some s
+reads layout spells s bytes is = ap (snapshot_in layout) is.spelled ∙ (spells layout s is.is is.layout_is).0
 
 -- a slot whose block spells a snapshot has it
-has : (disk : Blocks) (r : Root) → Spells → (k b : ℕ) (s : Snapshot) → slot r k ≡ Block b → IsSnapshot s → disk b ≡ snapshot_bytes s → HasSnapshot r (whole disk r) k s
+has : (disk : Blocks) (r : Root) → Spells → (k b : ℕ) (s : Snapshot) → slot r k ≡ Block b → IsRootOf r.geometry.layout s (disk b) → HasSnapshot r (whole disk r) k s
 unfolding whole
-has disk r spells k b s there is spelled = record { block = b; there = there; read = ap snapshot_in (ap (pointed disk) there ∙ spelled) ∙ (spells s is).0 }
+has disk r spells k b s there is =
+    record { block = b; there = there; read = ap (λ p. snapshot_in r.geometry.layout (pointed disk p)) there ∙ reads r.geometry.layout spells s (disk b) is }
 
 -- two slots have snapshots of different names and orders
 module _ (disk : Blocks) (r : Root) (are : AreSnapshots r (whole disk r)) (spells : Spells) where
-  pub apart : (l k : ℕ) (p q : Pointer) → l < k → slot r (suc l) ≡ p → slot r (suc k) ≡ q → AreApartAt disk p q
+  pub apart : (l k : ℕ) (p q : Pointer) → l < k → slot r (suc l) ≡ p → slot r (suc k) ≡ q → AreApartAt r.geometry.layout disk p q
   apart l k Hole q lt first second = tt
   apart l k (Block a) Hole lt first second = tt
-  apart l k (Block a) (Block b) lt first second = λ s t is_s is_t at_s at_t. (
-    λ same. absurd (omega (arith, lt, are.names (suc l) (suc k) s t (has disk r spells (suc l) a s first is_s at_s) (has disk r spells (suc k) b t second is_t at_t) same)),
-    λ same. absurd (omega (arith, lt, are.orders (suc l) (suc k) s t (has disk r spells (suc l) a s first is_s at_s) (has disk r spells (suc k) b t second is_t at_t) same)),
+  apart l k (Block a) (Block b) lt first second = λ s t is_s is_t. (
+    λ same. absurd (omega (arith, lt, are.names (suc l) (suc k) s t (has disk r spells (suc l) a s first is_s) (has disk r spells (suc k) b t second is_t) same)),
+    λ same. absurd (omega (arith, lt, are.orders (suc l) (suc k) s t (has disk r spells (suc l) a s first is_s) (has disk r spells (suc k) b t second is_t) same)),
   )
 
 -- ---- slots that were tested
@@ -96,28 +102,29 @@ module _ (disk : Blocks) (r : Root) (count : length r.snapshots ≡ SNAPSHOT_SLO
   each (suc k) b is =
       let at = block_at k b is in (
         at.snapshot,
-        has disk r spells (suc k) b at.snapshot is at.is at.spelled,
+        has disk r spells (suc k) b at.snapshot is (record { is = at.is; layout_is = at.inode_file.layout; spelled = at.spelled }),
         record { is = at.is; spelled = ap (pointed disk) is ∙ at.spelled; order = at.order; inode_file = at.inode_file },
       )
 
   -- what a slot has is what its block spells
-  spelled_at : (k : ℕ) (s : Snapshot) (there : HasSnapshot r (whole disk r) (suc k) s) → IsSnapshot s × (disk there.block ≡ snapshot_bytes s)
+  spelled_at : (k : ℕ) (s : Snapshot) (there : HasSnapshot r (whole disk r) (suc k) s) → IsRootOf r.geometry.layout s (disk there.block)
   unfolding whole
   spelled_at k s there =
       let at = block_at k there.block there.there in
-      let read : snapshot_in (disk there.block) ≡ Some s = sym (ap (λ (p : Pointer). snapshot_in (pointed disk p)) there.there) ∙ there.read in
-      let one : Some at.snapshot ≡ Some s = sym (spells at.snapshot at.is).0 ∙ sym (ap snapshot_in at.spelled) ∙ read in
+      let is : IsRootOf r.geometry.layout at.snapshot (disk there.block) = record { is = at.is; layout_is = at.inode_file.layout; spelled = at.spelled } in
+      let read : snapshot_in r.geometry.layout (disk there.block) ≡ Some s = sym (ap (λ (p : Pointer). snapshot_in r.geometry.layout (pointed disk p)) there.there) ∙ there.read in
+      let one : Some at.snapshot ≡ Some s = sym (reads r.geometry.layout spells at.snapshot (disk there.block) is) ∙ read in
       let same : at.snapshot ≡ s = cc in
-      (subst IsSnapshot same at.is, at.spelled ∙ ap snapshot_bytes same)
+      subst (λ (x : Snapshot). IsRootOf r.geometry.layout x (disk there.block)) same is
 
   differ : (k l : ℕ) (s q : Snapshot) → l < k → HasSnapshot r (whole disk r) (suc l) s → HasSnapshot r (whole disk r) (suc k) q → (s.name ≡ q.name → ⊥) × (s.order ≡ q.order → ⊥)
   differ k l s q lt first second =
       let one = spelled_at l s first in
       let two = spelled_at k q second in
-      let apart : AreApartAt disk (slice_index_or r.snapshots l Hole) (slice_index_or r.snapshots k Hole) = (fits k (within k second.block second.there)).1 l lt in
-      let blocks : AreApartAt disk (Block first.block) (Block second.block) =
-      subst (λ (p : Pointer). AreApartAt disk (Block first.block) p) second.there (subst (λ (p : Pointer). AreApartAt disk p (slice_index_or r.snapshots k Hole)) first.there apart) in
-      blocks s q one.0 two.0 one.1 two.1
+      let apart : AreApartAt r.geometry.layout disk (slice_index_or r.snapshots l Hole) (slice_index_or r.snapshots k Hole) = (fits k (within k second.block second.there)).1 l lt in
+      let blocks : AreApartAt r.geometry.layout disk (Block first.block) (Block second.block) =
+      subst (λ (p : Pointer). AreApartAt r.geometry.layout disk (Block first.block) p) second.there (subst (λ (p : Pointer). AreApartAt r.geometry.layout disk p (slice_index_or r.snapshots k Hole)) first.there apart) in
+      blocks s q one two
 
   none_first : (k : ℕ) (s : Snapshot) → HasSnapshot r (whole disk r) zero s → ⊥
   none_first k s there = let none : Hole ≡ Block there.block = there.there in cc
@@ -142,14 +149,14 @@ module _ (disk : Blocks) (r : Root) (count : length r.snapshots ≡ SNAPSHOT_SLO
   }
 
 -- whether two blocks are apart, by the snapshots that they spell
-pub as_spelled : (a b : List ℕ) (v w : Snapshot) → IsSnapshot v → IsSnapshot w → a ≡ snapshot_bytes v → b ≡ snapshot_bytes w
-    → ((s : Snapshot) → IsSnapshot s → a ≡ snapshot_bytes s → v ≡ s) → ((s : Snapshot) → IsSnapshot s → b ≡ snapshot_bytes s → w ≡ s)
-    → AreOfTwoSnapshots a b ↔ ((v.name ≢ w.name) × (v.order ≢ w.order))
-as_spelled a b v w is_v is_w at_v at_w one other = (
-  λ apart. apart v w is_v is_w at_v at_w,
-  λ differ s q is_s is_q at_s at_q.
-      let first = one s is_s at_s in
-      let second = other q is_q at_q in (
+pub as_spelled : (layout : Layout) (a b : List ℕ) (v w : Snapshot) → IsRootOf layout v a → IsRootOf layout w b
+    → ((s : Snapshot) → IsRootOf layout s a → v ≡ s) → ((s : Snapshot) → IsRootOf layout s b → w ≡ s)
+    → AreOfTwoSnapshots layout a b ↔ ((v.name ≢ w.name) × (v.order ≢ w.order))
+as_spelled layout a b v w is_v is_w one other = (
+  λ apart. apart v w is_v is_w,
+  λ differ s q is_s is_q.
+      let first = one s is_s in
+      let second = other q is_q in (
         λ same. differ.0 (ap (λ (x : Snapshot). x.name) first ∙ same ∙ sym (ap (λ (x : Snapshot). x.name) second)),
         λ same. differ.1 (ap (λ (x : Snapshot). x.order) first ∙ same ∙ sym (ap (λ (x : Snapshot). x.order) second)),
       ),

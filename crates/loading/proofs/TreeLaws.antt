@@ -12,7 +12,6 @@ use Rattle.layout.specs.Places.{Blocks}
 use Rattle.layout.specs.declared.inode.Inode.{Inode}
 use Rattle.layout.specs.declared.kind.Kind.{Kind}
 use Rattle.layout.specs.declared.kind.Kind.TheVariants as kinds
-use Rattle.layout.specs.declared.version.TheConstants.{VERSION}
 use Rattle.inode.specs.Bodies.{inode_block}
 use Rattle.model.specs.Volumes.{Node, Volume}
 use Rattle.blocktree.specs.Trees.{IsSoundAt}
@@ -30,7 +29,6 @@ use Rattle.blockmap.specs.Maps.{settled_at, entry_at, IsTouched}
 use Rattle.blockmap.specs.Parts.{Part}
 use Rattle.blockmap.specs.declared.map.BlockMap.{BlockMap}
 use Rattle.images.specs.BlockMap.{entry}
-use Rattle.inofile.proofs.VersionLaws.{in_version}
 use Rattle.images.proofs.EmptyLaws.{free_bytes, free_fits}
 use Rattle.images.proofs.KindLaws.{ordinary_kind}
 use Rattle.images.proofs.ReadableLaws.{inodes_readable}
@@ -128,6 +126,10 @@ module _ {detail : Detail} (s : Sizes) (are : AreSizes s) (disk : Blocks) (top :
   pub top_sound : IsHeldFile detail s (held disk top)
   top_sound = subst (IsHeldFile detail s) first_is (sound.files 0)
 
+  top_layout : top.layout ≡ s.layout
+  unfolding held
+  top_layout = top_sound.inode.layout
+
   pub top_reads : inode_block disk top ≡ file_block (held disk top)
   top_reads = l.reads detail s disk top top_sound
 
@@ -145,30 +147,30 @@ module _ {detail : Detail} (s : Sizes) (are : AreSizes s) (disk : Blocks) (top :
     past = λ ge. absurd (omega arith);
   }
 
-  free_in : (version : ℕ) → IsInode version s free_inode
-  free_in version = in_version version s free_inode (free_fits s) (omega arith)
-
   inode_at : (version : ℕ) → IsWithin version (tree disk s.inodes top) → (n : ℕ) → IsInodeAt version s n (inode_bytes_at (file_block (tree disk s.inodes top 0)) n)
   inode_at version within n = elim (cases_lt n s.inodes) [
     | inr past ↦ record {
-      inode = free_inode;
-      is = free_in version;
-      spelled = sound.inodes.past n past ∙ sym free_bytes;
+      inode = free_inode s.layout;
+      is = free_fits s;
+      within = omega arith;
+      spelled = sound.inodes.past n past ∙ sym (free_bytes s.layout);
       kind = free_past s.inodes n (omega (arith, are.least_inodes)) past;
     }
     | inl lt ↦ elim (cases_lt 0 n) [
       | inl some ↦ record {
         inode = (tree disk s.inodes top n).inode;
-        is = in_version version s _ (sound.files n).inode (within n);
+        is = (sound.files n).inode;
+        within = within n;
         spelled = sound.inodes.each n some lt;
         kind = in_use n some lt;
       }
       | inr none ↦
           let at : n ≡ 0 = omega arith in
           subst (λ k. IsInodeAt version s k (inode_bytes_at (file_block (tree disk s.inodes top 0)) k)) (sym at) (record {
-            inode = free_inode;
-            is = free_in version;
-            spelled = sound.inodes.first ∙ sym free_bytes;
+            inode = free_inode s.layout;
+            is = free_fits s;
+            within = omega arith;
+            spelled = sound.inodes.first ∙ sym (free_bytes s.layout);
             kind = free_first s.inodes (omega (arith, are.least_inodes));
           })
     ]
@@ -192,9 +194,9 @@ module _ {detail : Detail} (s : Sizes) (are : AreSizes s) (disk : Blocks) (top :
   own_spelled n some lt =
       ap (λ block. inode_bytes_at block n) (top_reads ∙ sym (ap file_block first_is)) ∙ sound.inodes.each n some lt
 
-  pub own_is : (n : ℕ) (i : Inode) → 1 ≤ n → n < s.inodes → IsInode VERSION s i → inode_bytes_at (inode_block disk top) n ≡ inode_bytes i
+  pub own_is : (n : ℕ) (i : Inode) → 1 ≤ n → n < s.inodes → IsInode s i → inode_bytes_at (inode_block disk top) n ≡ inode_bytes i
       → tree disk s.inodes top n ≡ held disk i
-  own_is n i some lt fits is = l.spells s disk top i n are some lt fits (ap (λ block. inode_bytes_at block n) (sym top_reads) ∙ is)
+  own_is n i some lt fits is = l.spells s disk top i n are top_layout some lt fits (ap (λ block. inode_bytes_at block n) (sym top_reads) ∙ is)
 
   -- ---- all inodes by number
 
@@ -202,9 +204,9 @@ module _ {detail : Detail} (s : Sizes) (are : AreSizes s) (disk : Blocks) (top :
   unfolding tree held
   held_again n = refl
 
-  free_behind : (n : ℕ) → s.inodes ≤ n → (tree disk s.inodes top n).inode ≡ free_inode
+  free_behind : (n : ℕ) → s.inodes ≤ n → (tree disk s.inodes top n).inode ≡ free_inode s.layout
   unfolding held
-  free_behind n past = ap (λ h. h.inode) (l.ends disk s.inodes top n (omega (arith, are.least_inodes)) past)
+  free_behind n past = ap (λ h. h.inode) (l.ends disk s.inodes top n (omega (arith, are.least_inodes)) past) ∙ ap free_inode top_layout
 
   pub settled : (file : File) → memory.file_block disk file ≡ inode_block disk top → ((i : ℕ) → IsSoundAt s.blocks disk file.tree i)
       → (version : ℕ) → IsWithin version (tree disk s.inodes top) → AreSettledIn detail s.blocks disk version s file (inodes_of (tree disk s.inodes top))
@@ -248,7 +250,7 @@ module _ {detail : Detail} (s : Sizes) (are : AreSizes s) (disk : Blocks) (top :
   pub map_file : (n : ℕ) (i : Inode) → tree disk s.inodes top n ≡ held disk i → IsMapGrammar (tree disk s.inodes top n) → IsMapFile disk i
   map_file n i is map = l.stored detail s disk i (own_sound n i is) (subst IsMapGrammar is map)
 
-  pub map_whole : (n : ℕ) (i : Inode) → tree disk s.inodes top n ≡ held disk i → IsReadable (tree disk s.inodes top n) → IsWholeBody disk i.body i.size
+  pub map_whole : (n : ℕ) (i : Inode) → tree disk s.inodes top n ≡ held disk i → IsReadable (tree disk s.inodes top n) → IsWholeBody i.layout disk i.body i.size
   map_whole n i is readable = (l.whole detail s disk i (own_sound n i is)).0 (subst IsReadable is readable)
 
   pub map_bytes : (i : Inode) → tree disk s.inodes top 1 ≡ held disk i → inode_bytes_of disk i ≡ content_bytes (content_of (tree disk s.inodes top 1))
@@ -274,7 +276,7 @@ module _ {detail : Detail} (s : Sizes) (are : AreSizes s) (disk : Blocks) (top :
 
   -- ---- what is loaded
 
-  pub paths_of : (n : ℕ) (i : Inode) (k : ℕ) → tree disk s.inodes top n ≡ held disk i → IsBodyPath s.blocks disk i.body i.size k
+  pub paths_of : (n : ℕ) (i : Inode) (k : ℕ) → tree disk s.inodes top n ≡ held disk i → IsBodyPath i.layout s.blocks disk i.body i.size k
   paths_of n i k is = l.paths detail s disk i k (own_sound n i is)
 
   entry_is : (i : Inode) (b : ℕ) → tree disk s.inodes top 2 ≡ held disk i
@@ -283,7 +285,7 @@ module _ {detail : Detail} (s : Sizes) (are : AreSizes s) (disk : Blocks) (top :
   entry_is i b is = ap (λ block. map_entry (block (b / 1024)) (b % 1024)) (l.reads detail s disk i (own_sound 2 i is) ∙ ap file_block (sym is))
 
   past_map : (i : Inode) (j : ℕ) → i.size ≡ 4 * s.blocks → div_ceil s.blocks 1024 ≤ j → inode_block disk i j ≡ zeros 4096
-  past_map i j size past = past_end disk i.body i.size j (omega (arith, are.least_blocks, past)) (omega (arith, size, past))
+  past_map i j size past = past_end i.layout disk i.body i.size j (omega (arith, are.least_blocks, past)) (omega (arith, size, past))
 
   pub map_is : (i : Inode) (map : BlockMap) (parts : List Part) → tree disk s.inodes top 2 ≡ held disk i → i.size ≡ 4 * s.blocks
       → AreParts (inode_block disk i) (div_ceil s.blocks 1024) parts → AreUnchanged parts → map.parts.items ≡ parts → map.count ≡ s.blocks → map.next ≡ 2

@@ -45,7 +45,7 @@ IsReadable = IsReadableIn by_bytes
 -- a file in memory is that of a settled inode, of which nothing is changed
 pub record IsFileOfInode (inode : Inode) (file : File) : Type 0 where
   pub blocks : (disk : Blocks) (i : ℕ) → file_block disk file i ≡ inode_block disk inode i
-  pub starts : StartsFrom inode.body inode.size file.tree
+  pub starts : StartsFrom inode.layout inode.body inode.size file.tree
 
 -- the inodes of a tree by number
 abbrev pub inodes_of : HeldTree → ℕ → Inode

@@ -4,6 +4,7 @@ use Rattle.std.specs.Int.{div_ceil}
 use Rattle.layout.specs.Bytes.{zeros}
 use Rattle.layout.specs.Inode.{IsInode, inode_bytes}
 use Rattle.layout.specs.Limits.{Sizes}
+use Rattle.layout.specs.Version.{greatest_under}
 use Rattle.layout.specs.declared.TheConstants.{BLOCK_BYTES, INODE_BYTES, INODES_PER_BLOCK}
 use Rattle.layout.specs.declared.inode.Inode.{Inode}
 use Rattle.layout.specs.declared.kind.Kind.{Kind}
@@ -23,7 +24,8 @@ pub record HasKindOfPlace (inodes n : ℕ) (kind : Kind) : Type 0 where
 -- sizes
 pub record IsInodeAt (version : ℕ) (s : Sizes) (n : ℕ) (bytes : List ℕ) : Type 0 where
   pub inode : Inode
-  pub is : IsInode version s inode
+  pub is : IsInode s inode
+  pub within : inode.size ≤ greatest_under version
   pub spelled : bytes ≡ inode_bytes inode
   pub kind : HasKindOfPlace s.inodes n inode.kind
 

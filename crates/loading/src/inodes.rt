@@ -2,9 +2,9 @@
 
 ghost use Rattle.std.specs.Prelude.{◌≡◌, ◌↔◌, ℕ, ◌+◌, ◌*◌, ◌<◌, ◌≤◌, ◌^◌, List, IsTrue, OnOk, IfOk, IfSome, IsErrOf, Some, slice_index};
 ghost use Rattle.layout.specs.Inode.{IsInode, inode_bytes};
+ghost use Rattle.layout.specs.Version.{greatest_under};
 ghost use Rattle.layout.specs.declared.TheConstants.{BLOCK_BYTES};
 ghost use Rattle.layout.specs.declared.inode.Inode.{Inode};
-ghost use Rattle.layout.specs.declared.version.TheConstants.{VERSION};
 ghost use Rattle.buffers.specs.Reads.{ReadsBlocks};
 ghost use Rattle.buffers.specs.Errors.{IsFault};
 ghost use Rattle.blocktree.specs.Trees.{IsSoundAt};
@@ -16,7 +16,7 @@ ghost use Rattle.loading.specs.InodeBlocks.{AreInodeBlocks, HasKindOfPlace, IsIn
 use buffers::{BlockError, Blocks};
 use inode::File;
 use layout::{
-    BLOCK_BYTES, Geometry, INODE_BYTES, INODES_PER_BLOCK, Inode, Kind, ROOT_NUMBER, VERSION,
+    BLOCK_BYTES, Geometry, INODE_BYTES, INODES_PER_BLOCK, Inode, Kind, ROOT_NUMBER, greatest_under,
 };
 
 /// Tests all blocks of a settled inode file.
@@ -54,34 +54,33 @@ pub fn own_inode<B: Blocks>(
 ) -> Result<Inode, BlockError>
     requires { number < INODES_PER_BLOCK }
     ensures reads { ReadsBlocks B.Blocks IsFault blocks.old blocks.new result }
-    ensures is { IfOk result (IsInode VERSION geometry) }
+    ensures is { IfOk result (IsInode geometry) }
     ensures kind { IfOk result (λ i. i.kind ≡ kind) }
     ensures spelled { (disk : ℕ → List ℕ) → B.Shows blocks.old disk
         → IfOk result (λ i. inode_part (file_block disk file.now 0) number ≡ inode_bytes i) }
     ensures damaged { (disk : ℕ → List ℕ) → B.Shows blocks.old disk
         → IsErrOf result BlockError.Damaged
         → IsSoundAt (B.count blocks.old) disk file.now.tree 0
-        → (i : Inode) → IsInode VERSION geometry i → i.kind ≡ kind
+        → (i : Inode) → IsInode geometry i → i.kind ≡ kind
         → inode_part (file_block disk file.now 0) number ≡ inode_bytes i → ⊥ }
 {
     let location = file.locate(blocks, 0)?;
     let bytes = file.bytes(blocks, 0, location);
-    match read_inode(part(bytes, number), VERSION, geometry) {
+    match read_inode(part(bytes, number), geometry) {
         Some(inode) if inode.kind == kind => Ok(inode),
         _ => Err(BlockError::Damaged),
     }
 }
 
-/// The inode that these bytes spell in an image of this version and geometry.
-fn read_inode(bytes: &[u8], version: u32, geometry: Geometry) -> Option<Inode>
-    ensures found { IfSome result (λ i. IsInode version geometry i
-        × (bytes.now ≡ inode_bytes i)) }
-    ensures only { (i : Inode) → IsInode version geometry i → bytes.now ≡ inode_bytes i
+/// The inode that these bytes spell in an image of this geometry.
+fn read_inode(bytes: &[u8], geometry: Geometry) -> Option<Inode>
+    ensures found { IfSome result (λ i. IsInode geometry i × (bytes.now ≡ inode_bytes i)) }
+    ensures only { (i : Inode) → IsInode geometry i → bytes.now ≡ inode_bytes i
         → result ≡ Some i }
 {
     let _ = geometry.inodes();
-    let inode = Inode::read(bytes)?;
-    if inode.fits(version, geometry) {
+    let inode = Inode::read(bytes, geometry.layout())?;
+    if inode.fits(geometry) {
         Some(inode)
     } else {
         None
@@ -119,13 +118,14 @@ fn is_inode_at(bytes: &[u8], place: u32, version: u32, geometry: Geometry) -> bo
 
 /// The inode that these bytes are at a place of an inode file, if they are one.
 pub fn inode_at(bytes: &[u8], place: u32, version: u32, geometry: Geometry) -> Option<Inode>
-    ensures found { IfSome result (λ i. IsInode version geometry i
+    ensures found { IfSome result (λ i. IsInode geometry i × (i.size ≤ greatest_under version)
         × (bytes.now ≡ inode_bytes i) × HasKindOfPlace geometry.inodes place i.kind) }
-    ensures only { (i : Inode) → IsInode version geometry i → bytes.now ≡ inode_bytes i
+    ensures only { (i : Inode) → IsInode geometry i → i.size ≤ greatest_under version
+        → bytes.now ≡ inode_bytes i
         → HasKindOfPlace geometry.inodes place i.kind → result ≡ Some i }
 {
-    let inode = read_inode(bytes, version, geometry)?;
-    if kind_fits(inode.kind, place, geometry.inodes()) {
+    let inode = read_inode(bytes, geometry)?;
+    if inode.size <= greatest_under(version) && kind_fits(inode.kind, place, geometry.inodes()) {
         Some(inode)
     } else {
         None

@@ -8,8 +8,7 @@ ghost use Rattle.layout.specs.Maps.{IsInodeMap};
 ghost use Rattle.layout.specs.declared.TheConstants.{BLOCK_POINTERS};
 ghost use Rattle.layout.specs.declared.kind.Kind.TheVariants as kinds;
 ghost use Rattle.layout.specs.declared.pointer.Pointer.TheVariants.{Hole};
-ghost use Rattle.layout.specs.Version.{greatest_size};
-ghost use Rattle.layout.specs.declared.version.TheConstants.{VERSION};
+ghost use Rattle.layout.specs.Trees.{greatest_size};
 ghost use Rattle.buffers.specs.Reads.{ReadsBlocks};
 ghost use Rattle.buffers.specs.Errors.{IsFault};
 ghost use Rattle.blocktree.specs.PlaceMaps.{place_at};
@@ -35,7 +34,7 @@ pub fn load_numbers<B: Blocks>(
     inode: Inode,
     geometry: Geometry,
 ) -> Result<Vec<u8>, BlockError>
-    requires is { IsInode VERSION geometry inode }
+    requires is { IsInode geometry inode }
     requires kind { inode.kind ≡ kinds.InodeMap }
     ensures reads { ReadsBlocks B.Blocks IsFault blocks.old blocks.new result }
     ensures size { IfOk result (λ v. vec_len v ≡ div_ceil geometry.inodes 8) }
@@ -43,13 +42,13 @@ pub fn load_numbers<B: Blocks>(
     ensures file { (disk : ℕ → List ℕ) → B.Shows blocks.old disk
         → OnOk result (IsMapFile disk inode) }
     ensures whole { (disk : ℕ → List ℕ) → B.Shows blocks.old disk
-        → OnOk result (IsWholeBody disk inode.body inode.size) }
+        → OnOk result (IsWholeBody inode.layout disk inode.body inode.size) }
     ensures bytes { (disk : ℕ → List ℕ) → B.Shows blocks.old disk
         → IfOk result (λ v. v.items ≡ inode_bytes_of disk inode) }
     ensures damaged { (disk : ℕ → List ℕ) → B.Shows blocks.old disk
         → IsErrOf result BlockError.Damaged
-        → ((i : ℕ) → IsBodyPath (B.count blocks.old) disk inode.body inode.size i)
-        → IsWholeBody disk inode.body inode.size → IsMapFile disk inode
+        → ((i : ℕ) → IsBodyPath inode.layout (B.count blocks.old) disk inode.body inode.size i)
+        → IsWholeBody inode.layout disk inode.body inode.size → IsMapFile disk inode
         → IsInodeMap 0 geometry.inodes (inode_bytes_of disk inode) → ⊥ }
 {
     let inodes = geometry.inodes();
@@ -86,7 +85,7 @@ pub(crate) fn load_parts<B: Blocks>(
     inode: Inode,
     geometry: Geometry,
 ) -> Result<Vec<MapPart>, BlockError>
-    requires is { IsInode VERSION geometry inode }
+    requires is { IsInode geometry inode }
     requires kind { inode.kind ≡ kinds.BlockMap }
     ensures reads { ReadsBlocks B.Blocks IsFault blocks.old blocks.new result }
     ensures size { IfOk result
@@ -99,8 +98,8 @@ pub(crate) fn load_parts<B: Blocks>(
     ensures unchanged { IfOk result (λ parts. AreUnchanged parts.items) }
     ensures damaged { (disk : ℕ → List ℕ) → B.Shows blocks.old disk
         → IsErrOf result BlockError.Damaged
-        → ((i : ℕ) → IsBodyPath (B.count blocks.old) disk inode.body inode.size i)
-        → IsWholeBody disk inode.body inode.size → IsMapFile disk inode → ⊥ }
+        → ((i : ℕ) → IsBodyPath inode.layout (B.count blocks.old) disk inode.body inode.size i)
+        → IsWholeBody inode.layout disk inode.body inode.size → IsMapFile disk inode → ⊥ }
 {
     let file = map_file(alloc, blocks, inode)?;
     let mut parts = Vec::new(alloc);
@@ -115,18 +114,18 @@ pub(crate) fn load_parts<B: Blocks>(
 /// The file of a map: all of its blocks are stored, and zeros stand past its end. Of its blocks
 /// only the last one is read.
 pub fn map_file<B: Blocks>(alloc: Global, blocks: &mut B, inode: Inode) -> Result<File, BlockError>
-    requires { inode.size ≤ greatest_size VERSION }
+    requires { inode.size ≤ greatest_size inode.layout }
     ensures reads { ReadsBlocks B.Blocks IsFault blocks.old blocks.new result }
     ensures size { IfOk result (λ f. f.size ≡ inode.size) }
     ensures blocks { IfOk result (λ f. (disk : ℕ → List ℕ) (i : ℕ)
         → file_block disk f i ≡ inode_block disk inode i) }
-    ensures starts { IfOk result (λ f. StartsFrom inode.body inode.size f.tree) }
+    ensures starts { IfOk result (λ f. StartsFrom inode.layout inode.body inode.size f.tree) }
     ensures unchanged { IfOk result (λ f. StartsUnchanged inode.body f.tree) }
     ensures file { (disk : ℕ → List ℕ) → B.Shows blocks.old disk
         → OnOk result (IsMapFile disk inode) }
     ensures damaged { (disk : ℕ → List ℕ) → B.Shows blocks.old disk
         → IsErrOf result BlockError.Damaged
-        → ((i : ℕ) → IsBodyPath (B.count blocks.old) disk inode.body inode.size i)
+        → ((i : ℕ) → IsBodyPath inode.layout (B.count blocks.old) disk inode.body inode.size i)
         → IsMapFile disk inode → ⊥ }
 {
     let file = File::load(alloc, inode)?;

@@ -18,7 +18,7 @@ use station::Station;
 #[derive(Clone, Copy, Debug)]
 pub struct Newest {
     pub root: Root,
-    pub slot: u32,
+    pub slot: u64,
 }
 
 /// Finds the newest root. `NoRoot` where no slot of the station that can be read holds one,
@@ -135,7 +135,7 @@ fn newer_root(first: Root, second: Root) -> Result<Newest, RootError>
 
 /// The root in a slot, if the station has the slot and a root is there. A slot that can't be read
 /// holds none.
-fn read_slot<S: Station>(station: &mut S, sector: u32) -> Result<Option<Root>, RootError>
+fn read_slot<S: Station>(station: &mut S, sector: u64) -> Result<Option<Root>, RootError>
     ensures reads { OnlyReads (λ e. e ≡ RootError.Device)
         (S.meaning station.old) (S.meaning station.new) result }
     ensures root { IfOk result (λ slot. ForSome slot IsRoot) }

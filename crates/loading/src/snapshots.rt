@@ -5,7 +5,7 @@ ghost use Rattle.layout.specs.Inode.{IsInode};
 ghost use Rattle.layout.specs.Places.{pointed};
 ghost use Rattle.layout.specs.Pointer.{PointsBelow};
 ghost use Rattle.layout.specs.Root.{IsRoot};
-ghost use Rattle.layout.specs.declared.version.TheConstants.{SNAPSHOT_SLOTS, VERSION};
+ghost use Rattle.layout.specs.declared.version.TheConstants.{SNAPSHOT_SLOTS};
 ghost use Rattle.layout.specs.declared.pointer.Pointer.TheVariants.{Hole};
 ghost use Rattle.buffers.specs.Disks.{IsWhole};
 ghost use Rattle.buffers.specs.Reads.{ReadsBlocks};
@@ -16,7 +16,7 @@ ghost use Rattle.loading.specs.Snapshots.{AreOfTwoSnapshots, AreApartAt, IsSnaps
 
 use buffers::{BlockError, Blocks};
 use images::snapshots_are_what_their_bytes_spell;
-use layout::{BLOCK_BYTES, Pointer, Root, SNAPSHOT_SLOTS, SnapRoot, VERSION};
+use layout::{BLOCK_BYTES, Geometry, Pointer, Root, SNAPSHOT_SLOTS, SnapRoot};
 
 /// Tests the root block of each snapshot of a root: `Damaged` where one is no snapshot's root in an
 /// image of these sizes, or has an order above the root's generation, and where two have one name
@@ -33,7 +33,7 @@ pub fn check_snapshots<B: Blocks>(blocks: &mut B, root: &Root) -> Result<(), Blo
     snapshots_are_what_their_bytes_spell();
     for k in 0..SNAPSHOT_SLOTS {
         check_snapshot(blocks, root.snapshots[k], root)?;
-        check_apart(blocks, &root.snapshots, k)?;
+        check_apart(blocks, root.geometry, &root.snapshots, k)?;
     }
     Ok(())
 }
@@ -41,6 +41,7 @@ pub fn check_snapshots<B: Blocks>(blocks: &mut B, root: &Root) -> Result<(), Blo
 /// Tests that the snapshot in a slot has the name and the order of none in a slot before it.
 fn check_apart<B: Blocks>(
     blocks: &mut B,
+    geometry: Geometry,
     snapshots: &[Pointer; SNAPSHOT_SLOTS],
     k: usize,
 ) -> Result<(), BlockError>
@@ -48,16 +49,16 @@ fn check_apart<B: Blocks>(
     requires within { All (PointsBelow (B.count blocks.old)) snapshots.now }
     ensures reads { ReadsBlocks B.Blocks IsFault blocks.old blocks.new result }
     ensures apart { (disk : ℕ → List ℕ) → B.Shows blocks.old disk → OnOk result ((l : ℕ) → l < k
-        → AreApartAt disk (slice_index_or snapshots.now l Hole)
+        → AreApartAt geometry.layout disk (slice_index_or snapshots.now l Hole)
         (slice_index_or snapshots.now k Hole)) }
     ensures damaged { (disk : ℕ → List ℕ) → B.Shows blocks.old disk
         → IsErrOf result BlockError.Damaged
         → ((l : ℕ) → l ≤ k → IsWhole (pointed disk (slice_index_or snapshots.now l Hole)))
-        → ((l : ℕ) → l < k → AreApartAt disk (slice_index_or snapshots.now l Hole)
+        → ((l : ℕ) → l < k → AreApartAt geometry.layout disk (slice_index_or snapshots.now l Hole)
         (slice_index_or snapshots.now k Hole)) → ⊥ }
 {
     for earlier in 0..k {
-        let apart = are_apart(blocks, snapshots[earlier], snapshots[k])?;
+        let apart = are_apart(blocks, geometry, snapshots[earlier], snapshots[k])?;
         if !apart {
             return Err(BlockError::Damaged);
         }
@@ -65,13 +66,19 @@ fn check_apart<B: Blocks>(
     Ok(())
 }
 
-/// Whether the snapshots at two pointers, if there are two, differ in name and in order.
-pub fn are_apart<B: Blocks>(blocks: &mut B, a: Pointer, b: Pointer) -> Result<bool, BlockError>
+/// Whether the snapshots at two pointers, if there are two in an image of this geometry, differ in
+/// name and in order.
+pub fn are_apart<B: Blocks>(
+    blocks: &mut B,
+    geometry: Geometry,
+    a: Pointer,
+    b: Pointer,
+) -> Result<bool, BlockError>
     requires first { PointsBelow (B.count blocks.old) a }
     requires second { PointsBelow (B.count blocks.old) b }
     ensures reads { ReadsBlocks B.Blocks IsFault blocks.old blocks.new result }
     ensures apart { (disk : ℕ → List ℕ) → B.Shows blocks.old disk
-        → IfOk result (λ apart. IsTrue apart ↔ AreApartAt disk a b) }
+        → IfOk result (λ apart. IsTrue apart ↔ AreApartAt geometry.layout disk a b) }
     ensures damaged { (disk : ℕ → List ℕ) → B.Shows blocks.old disk
         → IsErrOf result BlockError.Damaged
         → IsWhole (pointed disk a) → IsWhole (pointed disk b) → ⊥ }
@@ -84,17 +91,17 @@ pub fn are_apart<B: Blocks>(blocks: &mut B, a: Pointer, b: Pointer) -> Result<bo
     };
     blocks.make_resident(a)?;
     blocks.make_resident(b)?;
-    Ok(differ(blocks.bytes(a), blocks.bytes(b)))
+    Ok(differ(geometry, blocks.bytes(a), blocks.bytes(b)))
 }
 
 /// Whether two blocks are no roots of snapshots of one name or one order.
-fn differ(a: &[u8; BLOCK_BYTES], b: &[u8; BLOCK_BYTES]) -> bool
-    ensures { IsTrue result ↔ AreOfTwoSnapshots a.now b.now }
+fn differ(geometry: Geometry, a: &[u8; BLOCK_BYTES], b: &[u8; BLOCK_BYTES]) -> bool
+    ensures { IsTrue result ↔ AreOfTwoSnapshots geometry.layout a.now b.now }
 {
-    let Some(a) = SnapRoot::read(a) else {
+    let Some(a) = SnapRoot::read(a, geometry.layout()) else {
         return true;
     };
-    let Some(b) = SnapRoot::read(b) else {
+    let Some(b) = SnapRoot::read(b, geometry.layout()) else {
         return true;
     };
     a.order != b.order && a.name != b.name
@@ -103,9 +110,9 @@ fn differ(a: &[u8; BLOCK_BYTES], b: &[u8; BLOCK_BYTES]) -> bool
 /// Whether a snapshot fits the sizes of a root, and isn't newer than it.
 fn is_of(snapshot: &SnapRoot<'_>, root: &Root) -> bool
     ensures { IsTrue result ↔ ((snapshot.now.order ≤ root.now.generation)
-        × IsInode VERSION root.now.geometry snapshot.now.inode_file) }
+        × IsInode root.now.geometry snapshot.now.inode_file) }
 {
-    snapshot.order <= root.generation.get() && snapshot.inode_file.fits(VERSION, root.geometry)
+    snapshot.order <= root.generation.get() && snapshot.inode_file.fits(root.geometry)
 }
 
 /// Tests the root block of the snapshot at a pointer, if there is one.
@@ -126,7 +133,7 @@ pub fn check_snapshot<B: Blocks>(
         return Ok(());
     };
     blocks.make_resident(place)?;
-    match SnapRoot::read(blocks.bytes(place)) {
+    match SnapRoot::read(blocks.bytes(place), root.geometry.layout()) {
         Some(snapshot) if is_of(&snapshot, root) => Ok(()),
         _ => Err(BlockError::Damaged),
     }

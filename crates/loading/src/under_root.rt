@@ -2,8 +2,7 @@
 
 ghost use Rattle.std.specs.Prelude.{◌≡◌, ◌≤◌, ◌⊎◌, ℕ, List, IfOk, MatchResult};
 ghost use Rattle.layout.specs.Root.{IsRoot};
-ghost use Rattle.layout.specs.Version.{greatest_size};
-ghost use Rattle.layout.specs.declared.version.TheConstants.{VERSION};
+ghost use Rattle.layout.specs.Trees.{greatest_size};
 ghost use Rattle.buffers.specs.Reads.{ReadsBlocks};
 ghost use Rattle.buffers.specs.Errors.{IsFault};
 ghost use Rattle.images.specs.Roots.{whole};
@@ -64,7 +63,7 @@ pub fn load_inodes<B: Blocks>(
     inode_file: Inode,
 ) -> Result<InodeFile, BlockError>
     requires count { B.count blocks.old ≡ geometry.blocks }
-    requires size { inode_file.size ≤ greatest_size VERSION }
+    requires size { inode_file.size ≤ greatest_size inode_file.layout }
     ensures reads { ReadsBlocks B.Blocks IsFault blocks.old blocks.new result }
     ensures version { IfOk result (λ s. s.version ≡ version) }
     ensures geometry { IfOk result (λ s. s.geometry ≡ geometry) }

@@ -9,6 +9,7 @@ use Rattle.layout.specs.Inode.{FitsKind}
 use Rattle.layout.specs.Limits.{Sizes}
 use Rattle.layout.specs.Places.{Blocks}
 use Rattle.layout.specs.declared.inode.Inode.{Inode}
+use Rattle.layout.specs.declared.trees.Layout.{Layout}
 use Rattle.blocktree.specs.declared.tree.BlockTree.{BlockTree}
 use Rattle.blockmap.specs.Maps.{entry_at}
 use Rattle.blockmap.specs.Parts.{Part}
@@ -38,16 +39,16 @@ use Rattle.placement.specs.Steps.{ReadsAndPlaces}
 use Rattle.placement.proofs.OneLaws.{among, one_of}
 
 -- a file of the system's own, over nothing
-based_on : (t : BlockTree) → IsBased free_inode t → IsBasedOn free_inode t
-based_on t (anew count) = none refl count
-based_on t (over pointers body has) = absurd (cc)
+based_on : (l : Layout) (t : BlockTree) → IsBased (free_inode l) t → IsBasedOn (free_inode l) t
+based_on l t (anew layout count) = none layout refl count
+based_on l t (over pointers body has) = absurd (cc)
 
-pub own_change : (s : Sizes) (d : Draft) (o : Object) (kind : Kind) → s.blocks ≡ d.map.count → IsSoundFile s (held nothing free_inode) → ((b : ℕ) → Names (held nothing free_inode) b → ⊥)
-    → IsBased free_inode o.file.tree → IsFile nothing o.file → o.status ≡ record { kind = kind; attributes = no_attributes; links = 1 } → FitsKind kind s no_attributes 1 o.file.size
-    → IsChangeOf s d nothing free_inode o
+pub own_change : (s : Sizes) (d : Draft) (o : Object) (kind : Kind) → s.blocks ≡ d.map.count → IsSoundFile s (held nothing (free_inode s.layout)) → ((b : ℕ) → Names (held nothing (free_inode s.layout)) b → ⊥)
+    → IsBased (free_inode s.layout) o.file.tree → IsFile nothing o.file → o.status ≡ record { kind = kind; attributes = no_attributes; links = 1 } → FitsKind kind s no_attributes 1 o.file.size
+    → IsChangeOf s d nothing (free_inode s.layout) o
 own_change s d o kind blocks sound none_named based ends status fits = record {
   blocks = blocks;
-  based = based_on o.file.tree based;
+  based = based_on s.layout o.file.tree based;
   sound = sound;
   once = λ m i k j b here there. absurd (none_named b (record { height = m; index = i; is = here }));
   used = λ b names free. none_named b names;
@@ -75,11 +76,11 @@ marked_in taken old new came b = (
     same isnt = ap (λ x. bit_at x 0) (came.stay b (λ at. true_false (one_of taken b at) isnt))
 
 -- a file that was placed over nothing, and marked
-pub has_file : (IsOne : Blocks → Type 0) (s : Sizes) (old mid new : Draft) (f : Inode) (taken : List ℕ) (freed : ℕ → Bool) → ((b : ℕ) → Names (held nothing free_inode) b → ⊥)
+pub has_file : (IsOne : Blocks → Type 0) (s : Sizes) (old mid new : Draft) (f : Inode) (taken : List ℕ) (freed : ℕ → Bool) → ((b : ℕ) → Names (held nothing (free_inode s.layout)) b → ⊥)
     → Grows mid new → new.map.next ≡ mid.map.next → mid.map.parts.items ≡ old.map.parts.items
     → AreMarked taken (length taken) true mid.map.parts.items new.map.parts.items
     → ((b : ℕ) → is_one taken b ≡ true → WasTaken old mid b)
-    → OnEach mid (λ e. Agrees (Names (held nothing free_inode)) nothing e → IsOne e → IsPlaced s e (held nothing free_inode) f (is_one taken) freed)
+    → OnEach mid (λ e. Agrees (Names (held nothing (free_inode s.layout))) nothing e → IsOne e → IsPlaced s e (held nothing (free_inode s.layout)) f (is_one taken) freed)
     → HasFileOn IsOne s old new f
 has_file IsOne s old mid new f taken freed none_named grows next parts came given placed = record {
   taken = is_one taken;

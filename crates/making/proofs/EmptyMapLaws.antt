@@ -11,13 +11,14 @@ use Rattle.layout.specs.Limits.{AreSizes, Sizes}
 use Rattle.layout.specs.Maps.{map_entry}
 use Rattle.layout.specs.Places.{Blocks, follow, place, pointed}
 use Rattle.layout.specs.Pointer.{PointsBelow}
-use Rattle.layout.specs.Version.{level_of}
+use Rattle.layout.specs.Trees.{fan_out, level_of}
+use Rattle.layout.specs.declared.trees.Layout.{Layout}
+use Rattle.layout.specs.declared.trees.Layout.TheVariants.{Plain}
 use Rattle.layout.specs.declared.inode.Body.TheVariants.{Pointers}
 use Rattle.layout.specs.declared.inode.Inode.{Inode}
 use Rattle.layout.specs.declared.kind.Kind.TheVariants as kinds
 use Rattle.layout.specs.declared.pointer.Pointer.{Pointer}
 use Rattle.layout.specs.declared.pointer.Pointer.TheVariants.{Hole}
-use Rattle.layout.specs.declared.version.TheConstants.{VERSION}
 use Rattle.blockmap.specs.Maps.{entry_at}
 use Rattle.conspoint.specs.Drafts.{HasAll}
 use Rattle.conspoint.specs.Groups.{pointer_at}
@@ -27,6 +28,7 @@ use Rattle.images.specs.Nodes.{held, Names, file_block}
 use Rattle.images.specs.Soundness.{IsSoundFile}
 use Rattle.making.specs.Plans.{HasFile, IsDraftMapOn, IsPlacedOver}
 use Rattle.making.specs.Starts.{nothing, system_entry}
+use Rattle.inode.proofs.FanLemmas.{greatest_least}
 use Rattle.layout.proofs.PointerLaws.{no_block}
 use Rattle.layout.proofs.ZeroLaws.{zero_byte, word_zero}
 
@@ -35,7 +37,7 @@ holes = replicate 16 Hole
 
 -- the inode of a map of holes
 abbrev pub no_map : Sizes → Inode
-no_map s = record { kind = kinds.BlockMap; attributes = no_attributes; links = 1; size = 4 * s.blocks; body = Pointers holes }
+no_map s = record { layout = s.layout; kind = kinds.BlockMap; attributes = no_attributes; links = 1; size = 4 * s.blocks; body = Pointers holes }
 
 hole_at : (i : ℕ) → get_or holes i Hole ≡ Hole
 hole_at i = elim (cases_lt i 16) [
@@ -43,10 +45,10 @@ hole_at i = elim (cases_lt i 16) [
   | inr ge ↦ get_or_past holes i Hole (omega (arith, ge, length-replicate {A = Pointer} 16 Hole))
 ]
 
-no_place : (depth i : ℕ) → place nothing holes depth i ≡ Hole
+no_place : (l : Layout) (depth i : ℕ) → place l nothing holes depth i ≡ Hole
 unfolding place
-no_place zero i = hole_at i
-no_place (suc depth) i = ap (λ p. follow nothing p (i % 1024)) (no_place depth (i / 1024))
+no_place l zero i = hole_at i
+no_place l (suc depth) i = ap (λ p. follow nothing p (i % fan_out l)) (no_place l depth (i / fan_out l))
 
 hole_or : (t : Bool) (p : Pointer) → p ≡ Hole → (if t then p else Hole) ≡ Hole
 hole_or true p is = is
@@ -54,7 +56,8 @@ hole_or false p is = refl
 
 pub no_node : (s : Sizes) (m i : ℕ) → (held nothing (no_map s)).place m i ≡ Hole
 unfolding held
-no_node s m i = hole_or (nat_lt m (level_of (4 * s.blocks))) (place nothing holes (level_of (4 * s.blocks) - suc m) i) (no_place (level_of (4 * s.blocks) - suc m) i)
+no_node s m i =
+    hole_or (nat_lt m (level_of s.layout (4 * s.blocks))) (place s.layout nothing holes (level_of s.layout (4 * s.blocks) - suc m) i) (no_place s.layout (level_of s.layout (4 * s.blocks) - suc m) i)
 
 pub no_name : (s : Sizes) (b : ℕ) → Names (held nothing (no_map s)) b → ⊥
 no_name s b names = no_block ((held nothing (no_map s)).place names.height names.index) b (no_node s names.height names.index) names.is
@@ -63,16 +66,17 @@ empty_block : (s : Sizes) (i : ℕ) → file_block (held nothing (no_map s)) i �
 unfolding held
 empty_block s i = ap (pointed nothing) (no_node s 0 i)
 
-no_map_fits : (s : Sizes) → AreSizes s → IsInode VERSION s (no_map s)
+no_map_fits : (s : Sizes) → AreSizes s → IsInode s (no_map s)
 no_map_fits s are = record {
+  layout = refl;
   attributes = new_fit 0 (omega arith);
-  size = omega (arith, are.most_blocks);
+  size = omega (arith, are.most_blocks, greatest_least s.layout);
   kind = (refl, refl, refl);
   body = (
     omega (arith, are.least_blocks),
     length-replicate {A = Pointer} 16 Hole,
     λ k p lt. subst (PointsBelow s.blocks) (sym (get_or_default holes k p Hole lt ∙ hole_at k)) tt,
-    λ k p lt. get_or_default (drop (pointers_used (4 * s.blocks)) holes) k p Hole lt ∙ get_or-drop (pointers_used (4 * s.blocks)) holes k Hole ∙ hole_at (pointers_used (4 * s.blocks) + k),
+    λ k p lt. get_or_default (drop (pointers_used s.layout (4 * s.blocks)) holes) k p Hole lt ∙ get_or-drop (pointers_used s.layout (4 * s.blocks)) holes k Hole ∙ hole_at (pointers_used s.layout (4 * s.blocks) + k),
   );
 }
 
@@ -93,9 +97,10 @@ system_past b ge = sym (cond_above b 2 2147483648 0 0 ge refl)
 pub system_low : (b : ℕ) → b < 2 → system_entry b ≡ 2147483648
 system_low b lt = sym (cond_below b 2 2147483648 0 lt)
 
-pub no_settled_map : (s : Sizes) (d : Draft) (nodes : List Pointer) → AreSizes s → IsPlacedOver s.blocks d → ((k : ℕ) → pointer_at nodes k ≡ Hole) → IsSettledMap s nothing (no_map s) d.map nodes
-no_settled_map s d nodes are over none = record {
+pub no_settled_map : (s : Sizes) (d : Draft) (nodes : List Pointer) → AreSizes s → s.layout ≡ Plain → IsPlacedOver s.blocks d → ((k : ℕ) → pointer_at nodes k ≡ Hole) → IsSettledMap s nothing (no_map s) d.map nodes
+no_settled_map s d nodes are plain over none = record {
   sizes = are;
+  plain = plain;
   blocks = over.count;
   kind = refl;
   sound = no_map_sound s are;
@@ -111,10 +116,10 @@ no_settled_map s d nodes are over none = record {
   over = λ level. none (length d.map.parts.items) ∙ sym (no_node s 1 0);
 }
 
-module _ (s : Sizes) (old new : Draft) (nodes : List Pointer) (f : Inode) (are : AreSizes s) (over : IsPlacedOver s.blocks old) (none : (k : ℕ) → pointer_at nodes k ≡ Hole) (plan : PlansMap old new nodes f)
+module _ (s : Sizes) (old new : Draft) (nodes : List Pointer) (f : Inode) (are : AreSizes s) (plain : s.layout ≡ Plain) (over : IsPlacedOver s.blocks old) (none : (k : ℕ) → pointer_at nodes k ≡ Hole) (plan : PlansMap old new nodes f)
     (some : Blocks) (has_some : HasAll some new.blocks.items) where
   on : (e : Blocks) → HasAll e new.blocks.items → IsMapOn s nothing e (no_map s) f plan.taken plan.freed (entry_at new.map.parts.items)
-  on e has = plan.stands e has s nothing (no_map s) (no_settled_map s old nodes are over none) (λ b names. absurd (no_name s b names))
+  on e has = plan.stands e has s nothing (no_map s) (no_settled_map s old nodes are plain over none) (λ b names. absurd (no_name s b names))
 
   -- nothing is freed
   kept : (b : ℕ) → plan.freed b ≡ false

@@ -7,7 +7,9 @@ use Rattle.std.specs.Prelude.{Err, IfErr, IsErrOf, Result}
 use Rattle.std.specs.Int.{div_ceil}
 use Rattle.std.specs.Ordering.{nat_cmp}
 use Rattle.std.specs.BTreeMap as tree
-use Rattle.layout.specs.Version.{level_of}
+use Rattle.layout.specs.Trees.{single_bytes}
+use Rattle.layout.specs.declared.trees.Layout.{Layout}
+use Rattle.layout.specs.declared.trees.Layout.TheVariants.{Plain, Summed}
 use Rattle.layout.proofs.SizeLaws.{level_low}
 use Rattle.model.specs.Room.{fixed_of}
 use Rattle.images.specs.Sums.{sum_below}
@@ -30,8 +32,9 @@ use Rattle.conspoint.specs.MapFiles.{map_nodes}
 use Rattle.conspoint.specs.Space.{TakesAtMost, block_stores, changed_blocks}
 use Rattle.conspoint.proofs.SumLemmas.{changed_within}
 use Rattle.inode.specs.declared.file.File.{File}
-use Rattle.inode.proofs.RoomLaws.{more_at_most}
-use Rattle.placement.specs.Space.{file_stores, first_stores, height_stores, level_stores, more_over, tops_over}
+use Rattle.inode.proofs.GroupLaws.{more_at_most}
+use Rattle.placement.specs.Files.{file_level}
+use Rattle.placement.specs.Space.{file_stores, first_stores, height_stores, level_stores, more_over, tops_stored}
 use Rattle.making.specs.Space.{NUMBERS_STORES, TOP_STORES}
 use Rattle.making.specs.Starts.{IsEmptyMap, system_entry}
 use Rattle.making.proofs.EmptyMapLaws.{system_low, system_past}
@@ -74,12 +77,20 @@ few_given_out blocks old new least empty grows takes =
     omega (arith, least, all, rest, takes, grows.count, empty.count, map_few (div_ceil blocks 1024))
 
 -- not many more blocks are stored of a file than are changed
-stores_few : (level blocks changed more tops : ℕ) → level ≤ 2 → more ≤ 1 → level_stores level blocks changed more tops ≤ 2 * changed + 1
+stores_few : (l : Layout) (level blocks changed more tops : ℕ) → level ≤ 2 → more ≤ 1 → level_stores l level blocks changed more tops ≤ 2 * changed + 1
 unfolding sum_below height_stores
-stores_few zero blocks changed more tops low one = omega arith
-stores_few (suc zero) blocks changed more tops low one = omega arith
-stores_few (suc (suc zero)) blocks changed more tops low one = omega (arith, one)
-stores_few (suc (suc (suc level))) blocks changed more tops low one = absurd (omega (arith, low))
+stores_few l zero blocks changed more tops low one = omega arith
+stores_few l (suc zero) blocks changed more tops low one = omega arith
+stores_few l (suc (suc zero)) blocks changed more tops low one = omega (arith, one)
+stores_few l (suc (suc (suc level))) blocks changed more tops low one = absurd (omega (arith, low))
+
+-- so small a file has no third height
+low_single : (l : Layout) (size : ℕ) → size ≤ 33554432 → size ≤ single_bytes l
+low_single Plain size low = omega (arith, low)
+low_single Summed size low = low
+
+level_few : (f : File) → f.size ≤ 33554432 → file_level f ≤ 2
+level_few f low = level_low f.tree.layout f.size (low_single f.tree.layout f.size low)
 
 unchanged_slot : (s : Option Slot) → (IsChangedSlot s → ⊥) → slot_stores s ≡ 0
 unchanged_slot s not = elim (slot_is s) [ inl none ↦ none | inr changed ↦ absurd (not changed) ]
@@ -96,15 +107,15 @@ none_changed t first n not =
 -- the inode map has two blocks at the most
 pub numbers_few : (f : File) (inodes : ℕ) → f.size ≡ div_ceil inodes 8 → inodes ≤ 65536 → file_stores f ≤ NUMBERS_STORES
 numbers_few f inodes size most =
-    let few = stores_few (level_of f.size) (block_count f.size) (changed_blocks f.tree 0 (block_count f.size)) (more_over f) (tops_over f) (level_low f.size (omega (arith, size, most))) (more_at_most f) in
+    let few = stores_few f.tree.layout (file_level f) (block_count f.size) (changed_blocks f.tree 0 (block_count f.size)) (more_over f) (tops_stored f.tree.layout f) (level_few f (omega (arith, size, most))) (more_at_most f) in
     let within = changed_within f.tree 0 (block_count f.size) in
     let blocks : block_count f.size ≤ 2 = omega (arith, size, most) in
     omega (arith, few, within, blocks)
 
 -- of the inode file only the first block is stored
-pub top_few : (f : File) → f.size ≤ 67108864 → ((i : ℕ) → IsChanged f.tree i → ⊥) → first_stores f ≤ TOP_STORES
+pub top_few : (f : File) → f.size ≤ 33554432 → ((i : ℕ) → IsChanged f.tree i → ⊥) → first_stores f ≤ TOP_STORES
 top_few f low not =
-    let few = stores_few (level_of f.size) (block_count f.size) (changed_blocks f.tree 1 (block_count f.size) + 1) (more_over f) (nodes_at (block_count f.size) 2) (level_low f.size low) (more_at_most f) in
+    let few = stores_few f.tree.layout (file_level f) (block_count f.size) (changed_blocks f.tree 1 (block_count f.size) + 1) (more_over f) (nodes_at f.tree.layout (block_count f.size) 2) (level_few f low) (more_at_most f) in
     let none = none_changed f.tree 1 (block_count f.size) not in
     omega (arith, few, none)
 

@@ -12,7 +12,7 @@ use Rattle.layout.specs.Root.{IsRoot}
 use Rattle.layout.specs.declared.pointer.Pointer.{Pointer}
 use Rattle.layout.specs.declared.pointer.Pointer.TheVariants.{Hole}
 use Rattle.layout.specs.declared.root.Root.{Root}
-use Rattle.layout.specs.Version.{snapshot_slots}
+use Rattle.layout.specs.Version.{layout_of, snapshot_slots}
 use Rattle.layout.specs.declared.version.TheConstants.{SNAPSHOT_SLOTS, VERSION}
 use Rattle.model.specs.Records.{count_orphans}
 use Rattle.model.specs.Room.{fixed_of}
@@ -64,12 +64,12 @@ no_orphans : (n : ℕ) → count_orphans n root_alone_volume ≡ 0
 no_orphans zero = refl
 no_orphans (suc n) = rw (named n) (omega (arith, no_orphans n))
 
-module _ (r : Root) (d : Draft) (version : r.version ≡ VERSION) (generation : r.generation ≡ 1) (are : AreSizes r.geometry) (none : r.snapshots ≡ replicate SNAPSHOT_SLOTS Hole) (has : HasTree r.geometry d r.inode_file) where
+module _ (r : Root) (d : Draft) (version : r.version ≡ VERSION) (layout : r.geometry.layout ≡ layout_of VERSION) (generation : r.generation ≡ 1) (are : AreSizes r.geometry) (none : r.snapshots ≡ replicate SNAPSHOT_SLOTS Hole) (has : HasTree r.geometry d r.inode_file) where
   pub root_is : (e : Blocks) → HasAll e d.blocks.items → IsRoot r
   root_is e all = record {
-    head = record { known = record { least = omega (arith, version); most = omega (arith, version) }; first = omega (arith, generation); last = omega (arith, generation); sizes = are };
+    head = record { known = record { least = omega (arith, version); most = omega (arith, version) }; first = omega (arith, generation); last = omega (arith, generation); sizes = are; layout = layout ∙ ap layout_of (sym version) };
     kind = has.kind;
-    inode_file = subst (IsInode VERSION r.geometry) (held_inode e r.inode_file) ((has.tree e all).files 0 (omega arith)).inode;
+    inode_file = subst (IsInode r.geometry) (held_inode e r.inode_file) ((has.tree e all).files 0 (omega arith)).inode;
     slots = ap length none ∙ length-replicate {A = Pointer} SNAPSHOT_SLOTS Hole;
     snapshots = subst (All (PointsBelow r.geometry.blocks)) (sym none) (below r.geometry.blocks);
     few = subst (λ (v : ℕ). All (λ p. p ≡ Hole) (drop (snapshot_slots v) r.snapshots)) (sym version)
@@ -81,7 +81,7 @@ module _ (r : Root) (d : Draft) (version : r.version ≡ VERSION) (generation : 
     is_map : tree e r.geometry.inodes r.inode_file 2 ≡ held e has.map
     is_map =
         let is = has.tree e all in
-        read_spelled r.geometry e r.inode_file has.map 2 are (omega arith) (omega (arith, are.least_inodes)) (subst (IsInode VERSION r.geometry) (held_inode e has.map) (is.files 2 (omega arith)).inode)
+        read_spelled r.geometry e r.inode_file has.map 2 are (subst (IsInode r.geometry) (held_inode e r.inode_file) (is.files 0 (omega arith)).inode).layout (omega arith) (omega (arith, are.least_inodes)) (subst (IsInode r.geometry) (held_inode e has.map) (is.files 2 (omega arith)).inode)
         (is.spelled.each 2 (omega arith) (omega (arith, are.least_inodes)) ∙ ap inode_bytes (held_inode e has.map))
 
     unused : (b : ℕ) → d.map.next ≤ b → entry (whole e r).active b ≡ 0

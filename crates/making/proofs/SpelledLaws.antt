@@ -1,5 +1,5 @@
 -- The first block of the inode file spells the inodes of a new image.
-use Rattle.std.proofs.Common.{◌≡◌, ◌≢◌, false, ℕ, zero, suc, ◌+◌, ◌*◌, ◌%◌, ◌≤◌, List, length, drop, refl, sym, subst, ◌∙◌, arith, length-take, length-drop, length-append}
+use Rattle.std.proofs.Common.{◌≡◌, ◌≢◌, false, ℕ, zero, suc, ◌+◌, ◌*◌, ◌%◌, ◌≤◌, List, length, drop, refl, ap, sym, subst, ◌∙◌, arith, length-take, length-drop, length-append}
 use Rattle.std.proofs.Math.Path.{fun_ext}
 use Rattle.std.proofs.lemmas.Bool.{ne_eqb}
 use Rattle.std.specs.Prelude.{Some, ◌==◌, if◌then◌else◌}
@@ -8,6 +8,7 @@ use Rattle.layout.specs.Bytes.{zeros}
 use Rattle.layout.specs.Inode.{inode_bytes}
 use Rattle.layout.specs.Places.{Blocks}
 use Rattle.layout.specs.declared.inode.Inode.{Inode}
+use Rattle.layout.specs.declared.trees.Layout.{Layout}
 use Rattle.layout.specs.declared.kind.Kind.TheVariants as kinds
 use Rattle.images.specs.FirstRoots.{empty_directory, first_inodes, first_tree}
 use Rattle.images.specs.InodeFiles.{FitsPlace, spliced_at, with_inode}
@@ -30,9 +31,9 @@ pub record PutsOneByOne : Type 0 where
 length-put : (at : ℕ) (bytes block : List ℕ) → length block ≡ 4096 → length bytes ≡ 192 → at + 192 ≤ 4096 → length (spliced_at at bytes block) ≡ 4096
 length-put at bytes block whole long fits = simp (length-take, length-drop, length-append) (omega (arith, whole, long))
 
-module _ (puts : PutsOneByOne) (numbers map : Inode) (long_numbers : length (inode_bytes numbers) ≡ 192) (long_map : length (inode_bytes map) ≡ 192) (long_directory : length (inode_bytes empty_directory) ≡ 192) where
+module _ (puts : PutsOneByOne) (layout : Layout) (numbers map : Inode) (long_numbers : length (inode_bytes numbers) ≡ 192) (long_map : length (inode_bytes map) ≡ 192) (long_directory : length (inode_bytes (empty_directory layout)) ≡ 192) where
   abbrev base : Held
-  base = held nothing free_inode
+  base = held nothing (free_inode layout)
 
   abbrev c0 : Overlay
   c0 = record { kind = kinds.InodeFile; attributes = no_attributes; links = 0; size = 0; kept = 0; block = λ i. Some (zeros 4096) }
@@ -44,7 +45,7 @@ module _ (puts : PutsOneByOne) (numbers map : Inode) (long_numbers : length (ino
   c2 = with_inode base c1 2 (inode_bytes map)
 
   abbrev c3 : Overlay
-  c3 = with_inode base c2 3 (inode_bytes empty_directory)
+  c3 = with_inode base c2 3 (inode_bytes (empty_directory layout))
 
   fits1 : FitsPlace base c0 1 (inode_bytes numbers)
   fits1 = record { block = length-zeros 4096; inode = long_numbers }
@@ -52,36 +53,36 @@ module _ (puts : PutsOneByOne) (numbers map : Inode) (long_numbers : length (ino
   fits2 : FitsPlace base c1 2 (inode_bytes map)
   fits2 = record { block = length-put 192 (inode_bytes numbers) (zeros 4096) (length-zeros 4096) long_numbers (omega arith); inode = long_map }
 
-  fits3 : FitsPlace base c2 3 (inode_bytes empty_directory)
+  fits3 : FitsPlace base c2 3 (inode_bytes (empty_directory layout))
   fits3 = record { block = length-put 384 (inode_bytes map) (spliced_at 192 (inode_bytes numbers) (zeros 4096)) fits2.block long_map (omega arith); inode = long_directory }
 
-  pub first_long : length (inodes_block numbers map) ≡ 4096
-  first_long = length-put 576 (inode_bytes empty_directory) (overlaid_block base c2 0) fits3.block long_directory (omega arith)
+  pub first_long : length (inodes_block layout numbers map) ≡ 4096
+  first_long = length-put 576 (inode_bytes (empty_directory layout)) (overlaid_block base c2 0) fits3.block long_directory (omega arith)
 
-  blocks_are : (i : ℕ) → overlaid_block base c3 i ≡ (if i == 0 then inodes_block numbers map else zeros 4096)
+  blocks_are : (i : ℕ) → overlaid_block base c3 i ≡ (if i == 0 then inodes_block layout numbers map else zeros 4096)
   blocks_are zero = refl
   blocks_are (suc i) = (let later : (suc i == 0) ≡ false = ne_eqb (suc i) 0 (λ is. absurd (omega (arith, is))) in rw later refl)
 
   other : (m : ℕ) → m ≢ 1 → m ≢ 2 → m ≢ 3 → inode_bytes_at (overlaid_block base c3) m ≡ zeros 192
   other m one two three =
-      puts.others base c2 3 m (inode_bytes empty_directory) fits3 three ∙ puts.others base c1 2 m (inode_bytes map) fits2 two ∙ puts.others base c0 1 m (inode_bytes numbers) fits1 one
+      puts.others base c2 3 m (inode_bytes (empty_directory layout)) fits3 three ∙ puts.others base c1 2 m (inode_bytes map) fits2 two ∙ puts.others base c0 1 m (inode_bytes numbers) fits1 one
       ∙ part_zeros (m % 21) (omega arith)
 
-  each : (e : Blocks) (top : Inode) (n : ℕ) → 1 ≤ n → inode_bytes_at (overlaid_block base c3) n ≡ inode_bytes (first_inodes top numbers map n)
-  each e top zero low = absurd (omega arith)
-  each e top (suc zero) low =
-      puts.others base c2 3 1 (inode_bytes empty_directory) fits3 (λ is. absurd (omega (arith, is))) ∙ puts.others base c1 2 1 (inode_bytes map) fits2 (λ is. absurd (omega (arith, is)))
+  each : (top : Inode) (n : ℕ) → top.layout ≡ layout → 1 ≤ n → inode_bytes_at (overlaid_block base c3) n ≡ inode_bytes (first_inodes top numbers map n)
+  each top zero same low = absurd (omega arith)
+  each top (suc zero) same low =
+      puts.others base c2 3 1 (inode_bytes (empty_directory layout)) fits3 (λ is. absurd (omega (arith, is))) ∙ puts.others base c1 2 1 (inode_bytes map) fits2 (λ is. absurd (omega (arith, is)))
       ∙ puts.there base c0 1 (inode_bytes numbers) fits1
-  each e top (suc (suc zero)) low = puts.others base c2 3 2 (inode_bytes empty_directory) fits3 (λ is. absurd (omega (arith, is))) ∙ puts.there base c1 2 (inode_bytes map) fits2
-  each e top (suc (suc (suc zero))) low = puts.there base c2 3 (inode_bytes empty_directory) fits3
-  each e top (suc (suc (suc (suc n)))) low = other (suc (suc (suc (suc n)))) (λ is. absurd (omega (arith, is))) (λ is. absurd (omega (arith, is))) (λ is. absurd (omega (arith, is))) ∙ sym free_bytes
+  each top (suc (suc zero)) same low = puts.others base c2 3 2 (inode_bytes (empty_directory layout)) fits3 (λ is. absurd (omega (arith, is))) ∙ puts.there base c1 2 (inode_bytes map) fits2
+  each top (suc (suc (suc zero))) same low = puts.there base c2 3 (inode_bytes (empty_directory layout)) fits3 ∙ ap (λ (l : Layout). inode_bytes (empty_directory l)) (sym same)
+  each top (suc (suc (suc (suc n)))) same low = other (suc (suc (suc (suc n)))) (λ is. absurd (omega (arith, is))) (λ is. absurd (omega (arith, is))) (λ is. absurd (omega (arith, is))) ∙ sym (free_bytes top.layout)
 
-  pub first_spelled : (e : Blocks) (inodes : ℕ) (top : Inode) → 32 ≤ inodes → ((i : ℕ) → file_block (held e top) i ≡ (if i == 0 then inodes_block numbers map else zeros 4096))
+  pub first_spelled : (e : Blocks) (inodes : ℕ) (top : Inode) → top.layout ≡ layout → 32 ≤ inodes → ((i : ℕ) → file_block (held e top) i ≡ (if i == 0 then inodes_block layout numbers map else zeros 4096))
       → SpellsInodes inodes (file_block (held e top)) (first_tree e top numbers map)
   unfolding held
-  first_spelled e inodes top some blocks = subst (λ (g : ℕ → List ℕ). SpellsInodes inodes g (first_tree e top numbers map)) (fun_ext (λ i. blocks_are i ∙ sym (blocks i))) (record {
-    each = λ n low high. each e top n low;
+  first_spelled e inodes top same some blocks = subst (λ (g : ℕ → List ℕ). SpellsInodes inodes g (first_tree e top numbers map)) (fun_ext (λ i. blocks_are i ∙ sym (blocks i))) (record {
+    each = λ n low high. each top n same low;
     first = other 0 (λ is. absurd (omega (arith, is))) (λ is. absurd (omega (arith, is))) (λ is. absurd (omega (arith, is)));
     past = λ n past. other n (λ is. absurd (omega (arith, is, some))) (λ is. absurd (omega (arith, is, some))) (λ is. absurd (omega (arith, is, some)));
-    behind = λ i. puts.behind base c2 3 i (inode_bytes empty_directory) fits3 ∙ puts.behind base c1 2 i (inode_bytes map) fits2 ∙ puts.behind base c0 1 i (inode_bytes numbers) fits1 ∙ behind_zeros;
+    behind = λ i. puts.behind base c2 3 i (inode_bytes (empty_directory layout)) fits3 ∙ puts.behind base c1 2 i (inode_bytes map) fits2 ∙ puts.behind base c0 1 i (inode_bytes numbers) fits1 ∙ behind_zeros;
   })

@@ -49,8 +49,8 @@ start_system b = (
 module _ (puts : PutsOneByOne) (s : Sizes) (are : AreSizes s) (d0 d1 d2 d3 d4 : Draft) (numbers top map : Inode) (first : ℕ)
     (has1 : HasFile s d0 d1 numbers) (on1 : OnEach d1 (λ e. IsNumbersOn e numbers)) (has0 : HasFileOn (λ e. IsWhole (e first)) s d1 d2 top) (on0 : OnEach d2 (λ e. IsTopOn e first top))
     (has2 : HasFile s d2 d3 map) (on2 : OnEach d3 (λ e. IsDraftMapOn e d3 map)) (grows1 : Grows d0 d1) (grows2 : Grows d1 d2) (grows3 : Grows d2 d3) (grows4 : Grows d3 d4)
-    (start : IsEmptyMap s.blocks d0.map) (stored : OnEach d4 (λ e. e first ≡ inodes_block numbers map))
-    (long_numbers : length (inode_bytes numbers) ≡ 192) (long_map : length (inode_bytes map) ≡ 192) (long_directory : length (inode_bytes empty_directory) ≡ 192) where
+    (start : IsEmptyMap s.blocks d0.map) (stored : OnEach d4 (λ e. e first ≡ inodes_block s.layout numbers map))
+    (long_numbers : length (inode_bytes numbers) ≡ 192) (long_map : length (inode_bytes map) ≡ 192) (long_directory : length (inode_bytes (empty_directory s.layout)) ≡ 192) where
   module _ (e : Blocks) (has : HasAll e d4.blocks.items) where
     at3 : HasAll e d3.blocks.items
     at3 = grows4.has e has
@@ -65,7 +65,11 @@ module _ (puts : PutsOneByOne) (s : Sizes) (are : AreSizes s) (d0 d1 d2 d3 d4 : 
     in1 = has1.stands e at1 tt
 
     in0 : StandsInJust s e top has0.taken
-    in0 = has0.stands e at2 (ap length (stored e has) ∙ first_long puts numbers map long_numbers long_map long_directory)
+    in0 = has0.stands e at2 (ap length (stored e has) ∙ first_long puts s.layout numbers map long_numbers long_map long_directory)
+
+    top_layout : top.layout ≡ s.layout
+    unfolding held
+    top_layout = in0.sound.inode.layout
 
     in2 : StandsInJust s e map has2.taken
     in2 = has2.stands e at3 tt
@@ -141,10 +145,10 @@ module _ (puts : PutsOneByOne) (s : Sizes) (are : AreSizes s) (d0 d1 d2 d3 d4 : 
     marked zero b names = (has2.active b).1 (inl ((has0.active b).1 (inr ((in0.named b).0 names))))
     marked (suc zero) b names = (has2.active b).1 (inl ((has0.active b).1 (inl ((has1.active b).1 (inr ((in1.named b).0 names))))))
     marked (suc (suc zero)) b names = (has2.active b).1 (inr ((in2.named b).0 names))
-    marked (suc (suc (suc zero))) b names = absurd (none_named e empty_directory refl b names)
-    marked (suc (suc (suc (suc n)))) b names = absurd (free_named e b names)
+    marked (suc (suc (suc zero))) b names = absurd (none_named e (empty_directory top.layout) refl b names)
+    marked (suc (suc (suc (suc n)))) b names = absurd (free_named top.layout e b names)
 
-    first_block : (i : ℕ) → file_block (held e top) i ≡ (if i == 0 then inodes_block numbers map else zeros 4096)
+    first_block : (i : ℕ) → file_block (held e top) i ≡ (if i == 0 then inodes_block s.layout numbers map else zeros 4096)
     first_block i = (on0 e at2).blocks i ∙ ap (λ (x : List ℕ). if i == 0 then x else zeros 4096) (stored e has)
 
     pub first_tree_is : IsFirstTree s e top numbers map
@@ -152,7 +156,7 @@ module _ (puts : PutsOneByOne) (s : Sizes) (are : AreSizes s) (d0 d1 d2 d3 d4 : 
       numbers_kind = (on1 e at1).kind;
       map_kind = (on2 e at3).kind;
       files = three (λ n. IsSoundFile s (first_tree e top numbers map n)) in0.sound in1.sound in2.sound;
-      spelled = first_spelled puts numbers map long_numbers long_map long_directory e s.inodes top are.least_inodes first_block;
+      spelled = first_spelled puts s.layout numbers map long_numbers long_map long_directory e s.inodes top top_layout are.least_inodes first_block;
       taken = (on1 e at1).taken;
       numbers_whole = (on1 e at1).whole;
       map_whole = (on2 e at3).whole;

@@ -3,15 +3,22 @@ use Rattle.std.specs.Prelude.{ℕ, ◌≡◌, ◌*◌, ◌<◌, List, [], replic
 use Rattle.station.specs.Images.{Images}
 use Rattle.station.specs.Moments.{Meaning}
 use Rattle.model.specs.States.{State}
-use Rattle.layout.specs.Limits.{Sizes, AreSizes}
+use Rattle.layout.specs.Limits.{Sizes, AreSizes, sizes}
 use Rattle.layout.specs.Log.{half_at, IsClosed}
 use Rattle.layout.specs.Opens.{HoldsRoot}
+use Rattle.layout.specs.Version.{layout_of}
 use Rattle.layout.specs.declared.TheConstants.{SLOT_A, SLOT_B, SECTOR_BYTES}
 use Rattle.layout.specs.declared.numbers.TheConstants.{FIRST_GENERATION}
 use Rattle.layout.specs.declared.root.Root.{Root}
+use Rattle.layout.specs.declared.version.TheConstants.{VERSION}
 use Rattle.images.specs.States.{OpensBy}
 use Rattle.conspoint.specs.Cuts.{HasNewRoot}
 use Rattle.conspoint.specs.Plans.{Planned}
+
+-- the sizes of an image that is made: so many blocks, inodes and bytes of a half, and the layout of
+-- the newest version
+abbrev pub new_sizes : ℕ → ℕ → ℕ → Sizes
+new_sizes blocks inodes half = sizes (layout_of VERSION) blocks inodes half
 
 -- the numbers are in range, and the station is of just their size
 pub record Suits (m : Meaning) (s : Sizes) : Type 0 where

@@ -7,6 +7,7 @@ use Rattle.layout.specs.Inode.{inode_bytes}
 use Rattle.layout.specs.Places.{Blocks}
 use Rattle.layout.specs.declared.TheConstants.{BLOCK_BYTES, BLOCK_POINTERS, INODE_BYTES}
 use Rattle.layout.specs.declared.inode.Inode.{Inode}
+use Rattle.layout.specs.declared.trees.Layout.{Layout}
 use Rattle.blockmap.specs.Maps.{IsTouched, entry_at, settled_at}
 use Rattle.blockmap.specs.Parts.{Part}
 use Rattle.blockmap.specs.declared.map.BlockMap.{BlockMap}
@@ -42,8 +43,9 @@ pub record IsEmptyMap (blocks : ℕ) (m : BlockMap) : Type 0 where
 abbrev pub numbers_block : ℕ → List ℕ
 numbers_block i = if i == 0 then 15 ∷ zeros 4095 else zeros 4096
 
--- the first block of the inode file, with the inodes of the two maps and of the root directory
-abbrev pub inodes_block : Inode → Inode → List ℕ
-inodes_block numbers map =
-    spliced_at (INODE_BYTES * 3) (inode_bytes empty_directory)
+-- the first block of the inode file, with the inodes of the two maps and of the root directory, in
+-- an image of this layout
+abbrev pub inodes_block : Layout → Inode → Inode → List ℕ
+inodes_block layout numbers map =
+    spliced_at (INODE_BYTES * 3) (inode_bytes (empty_directory layout))
     (spliced_at (INODE_BYTES * 2) (inode_bytes map) (spliced_at (INODE_BYTES * 1) (inode_bytes numbers) (zeros BLOCK_BYTES)))

@@ -5,7 +5,7 @@ ghost use Rattle.std.specs.Prelude.{◌≡◌, ℕ, IfOk};
 ghost use Rattle.layout.specs.Bytes.{zeros};
 
 use buffers::{Block, BlockError, Blocks};
-use layout::{BLOCK_BYTES, BlockNumber, is_indirect_block};
+use layout::{BLOCK_BYTES, BlockNumber, Layout, is_indirect_block};
 use std::alloc::{AllocError, Global};
 
 /// So many blocks of zeros.
@@ -51,7 +51,7 @@ impl Blocks for EmptyDisk {
         self.block.bytes()
     }
 
-    fn is_indirect(&mut self, _place: BlockNumber, used: u32) -> bool {
-        is_indirect_block(self.block.bytes(), self.count, used)
+    fn is_indirect(&mut self, _place: BlockNumber, layout: Layout, used: u32) -> bool {
+        is_indirect_block(self.block.bytes(), layout, self.count, used)
     }
 }

@@ -2,6 +2,7 @@
 
 ghost use Rattle.std.specs.Prelude.{◌≡◌, ℕ, ◌+◌, ◌≤◌, IfErr, IfOk, IsErrOf, OnOk, length};
 ghost use Rattle.std.specs.Int.{div_ceil};
+ghost use Rattle.layout.specs.Version.{layout_of};
 ghost use Rattle.layout.specs.declared.TheConstants.{BLOCK_POINTERS};
 ghost use Rattle.layout.specs.declared.pointer.Pointer.TheVariants.{Hole};
 ghost use Rattle.buffers.specs.Disks.{IsWhole};
@@ -102,6 +103,7 @@ fn no_nodes(alloc: Global, blocks: usize) -> Result<Vec<Pointer>, AllocError>
 
 /// Places the block map, all of whose blocks are to be stored.
 fn place_map(alloc: Global, draft: &mut Draft, geometry: Geometry) -> Result<Inode, PlanError>
+    requires layout { geometry.layout ≡ layout_of VERSION }
     requires start { IsPlacedOver geometry.blocks draft.old }
     ensures step { Takes (map_nodes (div_ceil geometry.blocks BLOCK_POINTERS))
         draft.old draft.new result }
@@ -117,6 +119,7 @@ fn place_map(alloc: Global, draft: &mut Draft, geometry: Geometry) -> Result<Ino
 
 /// Plans all files of the image. The answer is the inode of the inode file.
 fn plan_files(alloc: Global, draft: &mut Draft, geometry: Geometry) -> Result<Inode, PlanError>
+    requires layout { geometry.layout ≡ layout_of VERSION }
     requires map { IsEmptyMap geometry.blocks draft.old.map }
     ensures grows { Grows draft.old draft.new }
     ensures tree { IfOk result (HasTree geometry draft.new) }
@@ -133,14 +136,18 @@ fn plan_files(alloc: Global, draft: &mut Draft, geometry: Geometry) -> Result<In
     let (inode, first) = top;
     // The map's own blocks come last: each block that is given out changes an entry.
     let map = place_map(alloc, draft, geometry)?;
-    draft.put(first, first_block(alloc, &numbers, &map)?)?;
+    draft.put(
+        first,
+        first_block(alloc, geometry.layout(), &numbers, &map)?,
+    )?;
     Ok(inode)
 }
 
-/// Plans the first consistency point of an image of this geometry: every place and every byte of
-/// it, and its root, of generation 1 and for slot A. Nothing is read and nothing is written.
-/// `NoMemory` is the only error: the least disk has room for it.
+/// Plans the first consistency point of an image of this geometry, whose layout is that of the newest
+/// version: every place and every byte of it, and its root, of generation 1 and for slot A. Nothing
+/// is read and nothing is written. `NoMemory` is the only error: the least disk has room for it.
 pub fn plan_first(alloc: Global, geometry: Geometry) -> Result<FirstPoint, PlanError>
+    requires { geometry.layout ≡ layout_of VERSION }
     ensures point { IfOk result (λ p. IsFirstPoint geometry p.plan p.root) }
     ensures memory { IfErr result (λ e. e ≡ PlanError.NoMemory) }
 {

@@ -3,10 +3,9 @@
 ghost use Rattle.std.specs.Prelude.{◌≡◌, IfOk, IfErr, MatchResult};
 ghost use Rattle.station.specs.Moments.{IsSameStation, HasGrown, EachCut};
 ghost use Rattle.model.specs.States.{empty};
-ghost use Rattle.layout.specs.Limits.{sizes};
 ghost use Rattle.conspoint.specs.Cuts.{HasNewRoot};
 ghost use Rattle.conspoint.specs.Plans.{FitsDisk};
-ghost use Rattle.making.specs.Images.{HoldsMade, IsWritten, OpensAlone, Suits};
+ghost use Rattle.making.specs.Images.{HoldsMade, IsWritten, OpensAlone, Suits, new_sizes};
 
 use crate::clearing::clear;
 use crate::error::MakeError;
@@ -14,7 +13,7 @@ use crate::first::plan_first;
 use buffers::Buffers;
 use conspoint::{Plan, write_point};
 use images::first_images_open_to_the_empty_state;
-use layout::Geometry;
+use layout::{Geometry, VERSION, layout_of};
 use station::Station;
 use std::alloc::Global;
 
@@ -31,23 +30,23 @@ pub fn make<S: Station>(
     inodes: u32,
     half: u32,
 ) -> Result<S, (MakeError, S)>
-    ensures suited { IfOk result (λ made. Suits (S.meaning station) (sizes blocks inodes half)) }
+    ensures suited { IfOk result (λ made. Suits (S.meaning station) (new_sizes blocks inodes half)) }
     ensures bad_size { IfErr result (λ e. e.0 ≡ MakeError.BadSize
-        → (e.1 ≡ station) × ¬ Suits (S.meaning station) (sizes blocks inodes half)) }
+        → (e.1 ≡ station) × ¬ Suits (S.meaning station) (new_sizes blocks inodes half)) }
     ensures memory { IfErr result (λ e. e.0 ≡ MakeError.NoMemory
-        → (e.1 ≡ station) × Suits (S.meaning station) (sizes blocks inodes half)) }
+        → (e.1 ≡ station) × Suits (S.meaning station) (new_sizes blocks inodes half)) }
     ensures device { IfErr result (λ e. e.0 ≡ MakeError.Device
-        → Suits (S.meaning station) (sizes blocks inodes half)
+        → Suits (S.meaning station) (new_sizes blocks inodes half)
         × HasGrown (S.meaning station).failed_writes (S.meaning e.1).failed_writes) }
     ensures same { MatchResult result (λ made. IsSameStation (S.meaning station) (S.meaning made))
         (λ e. IsSameStation (S.meaning station) (S.meaning e.1)) }
     ensures made { IfOk result (λ made. EachCut
-        (S.meaning made) (HoldsMade (sizes blocks inodes half))) }
+        (S.meaning made) (HoldsMade (new_sizes blocks inodes half))) }
     ensures opens { IfOk result (λ made. EachCut
         (S.meaning made) (OpensAlone (S.meaning made) (empty inodes))) }
 {
     first_images_open_to_the_empty_state();
-    let Some(geometry) = Geometry::new(blocks, inodes, half) else {
+    let Some(geometry) = Geometry::new(layout_of(VERSION), blocks, inodes, half) else {
         return Err((MakeError::BadSize, station));
     };
     if station.sectors() != geometry.sectors() || station.nv_bytes() != geometry.nvram_bytes() {

@@ -35,13 +35,13 @@ pub(crate) fn inode_map(alloc: Global, geometry: Geometry) -> Result<Object, All
         (λ o. o.status
         ≡ record { kind = Kind.InodeMap; attributes = no_attributes; links = 1 }) }
     ensures size { IfOk result (λ o. o.file.size ≡ div_ceil geometry.inodes 8) }
-    ensures base { IfOk result (λ o. IsBased free_inode o.file.tree) }
+    ensures base { IfOk result (λ o. IsBased (free_inode geometry.layout) o.file.tree) }
     ensures changed { IfOk result AreAllChanged }
     ensures blocks { IfOk result (λ o. (disk : ℕ → List ℕ) (i : ℕ)
         → file_block disk o.file i ≡ numbers_block i) }
 {
     let size = geometry.inodes().div_ceil(8);
-    let mut file = File::empty(alloc);
+    let mut file = File::empty(alloc, geometry.layout());
     file.set_size(size as u64);
     for i in 0..size.div_ceil(4096) {
         file.make_room(i)?;

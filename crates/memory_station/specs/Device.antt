@@ -2,7 +2,7 @@
 -- a sector whole or not at all, and in any order until it is told to sync; an NVRAM keeps each byte
 -- that reached it. An NVRAM behind a file system on such a disk is described by Hitz, Lau and
 -- Malcolm, "File System Design for an NFS File Server Appliance", USENIX Winter 1994.
-use Rattle.std.specs.Prelude.{◌≡◌, ◌⊎◌, ℕ, zero, suc, ◌/◌, ◌%◌, ◌^◌, ◌<◌, ◌≤◌, List, [], ◌∷◌, ◌++◌, length, get_or, take, fold, if◌then◌else◌}
+use Rattle.std.specs.Prelude.{◌≡◌, ◌⊎◌, ℕ, zero, suc, ◌%◌, ◌^◌, ◌<◌, ◌≤◌, List, [], ◌∷◌, ◌++◌, length, get_or, take, fold, if◌then◌else◌}
 use Rattle.station.specs.Images.{Images, Sector, unreadable, sector_with, part_of, reaches, disk_with, nvram_with}
 use Rattle.memory_station.specs.Disk.{sectors_with}
 use Rattle.memory_station.specs.declared.history.Call.{Call}
@@ -16,10 +16,9 @@ pub record Device : Type 0 where
   pub held : ℕ → List Sector
   pub nvram : List ℕ
 
--- these bytes are too many, or no whole sectors
+-- the disk is no whole number of sectors, or the NVRAM has too many bytes
 abbrev pub IsBadSize : List ℕ → List ℕ → Type 0
-IsBadSize disk nvram =
-    (0 < length disk % 512) ⊎ (2 ^ 32 ≤ length disk / 512) ⊎ (2 ^ 32 ≤ length nvram)
+IsBadSize disk nvram = (0 < length disk % 512) ⊎ (2 ^ 32 ≤ length nvram)
 
 -- before any call, all settled, where the sectors in a list can't be read
 abbrev pub fresh : List ℕ → List ℕ → List ℕ → Device

@@ -14,7 +14,7 @@ use std::alloc::{AllocError, Global};
 #[derive(Drop)]
 pub(crate) struct Disk {
     pub(crate) bytes: Vec<u8>,
-    pub(crate) bad: Vec<u32>,
+    pub(crate) bad: Vec<u64>,
     ghost rising: { IsStrictlyIncreasing bad.items },
     ghost within: { (n : ℕ) → is_bad bad.items n ≡ true → 512 * n + 512 ≤ length bytes.items },
     ghost zeros: { HasZeros bytes.items bad.items },
@@ -24,7 +24,7 @@ impl Disk {
     ghost use Rattle.memory_station.specs.Sectors.{sectors_at};
 
     /// A disk of these bytes, of which these sectors can't be read.
-    pub(crate) fn load(alloc: Global, bytes: Vec<u8>, bad: &[u32]) -> Result<Disk, AllocError>
+    pub(crate) fn load(alloc: Global, bytes: Vec<u8>, bad: &[u64]) -> Result<Disk, AllocError>
         requires { All (λ n. 512 * n + 512 ≤ length bytes.items) bad.now }
         ensures sectors { IfOk result (λ d.
             (n : ℕ) → sectors_at d n ≡ sectors_with bytes.items bad.now n) }
@@ -53,7 +53,7 @@ impl Disk {
     }
 
     /// Reads sector `n`, and tells whether it can be read.
-    pub(crate) fn read(&self, n: u32, out: &mut [u8; 512]) -> bool
+    pub(crate) fn read(&self, n: u64, out: &mut [u8; 512]) -> bool
         requires { 512 * n + 512 ≤ length self.now.bytes.items }
         ensures { Tells result out.new (sectors_at self.now n) }
     {
@@ -66,7 +66,7 @@ impl Disk {
     }
 
     /// Writes whole sectors from sector `first` on, which can be read then.
-    pub(crate) fn write(&mut self, first: u32, bytes: &[u8])
+    pub(crate) fn write(&mut self, first: u64, bytes: &[u8])
         requires place { 512 * first + length bytes.now ≤ length self.old.bytes.items }
         requires whole { length bytes.now % 512 ≡ 0 }
         ensures sectors { (n : ℕ) → sectors_at self.new n
@@ -76,12 +76,12 @@ impl Disk {
         ensures room { vec_capacity self.old.bad ≤ vec_capacity self.new.bad }
     {
         put(&mut self.bytes, first as usize * SECTOR_BYTES, bytes);
-        let end = first as usize + bytes.len() / SECTOR_BYTES;
-        self.bad.retain(|n| *n < first || end <= *n as usize);
+        let end = first + (bytes.len() / SECTOR_BYTES) as u64;
+        self.bad.retain(|n| *n < first || end <= *n);
     }
 
     /// Sector `n` can't be read any more.
-    pub(crate) fn lose(&mut self, n: u32)
+    pub(crate) fn lose(&mut self, n: u64)
         requires place { 512 * n + 512 ≤ length self.old.bytes.items }
         requires room { vec_len self.old.bad + 1 ≤ vec_capacity self.old.bad }
         ensures sectors { (m : ℕ) → sectors_at self.new m
@@ -113,7 +113,7 @@ impl Disk {
 }
 
 /// Puts a number among those that rise, if it isn't there.
-fn list(bad: &mut Vec<u32>, n: u32)
+fn list(bad: &mut Vec<u64>, n: u64)
     requires rising { IsStrictlyIncreasing bad.old.items }
     requires room { vec_len bad.old + 1 ≤ vec_capacity bad.old }
     ensures rising { IsStrictlyIncreasing bad.new.items }

@@ -19,7 +19,7 @@ pub(crate) enum Call {
     /// A write of whole sectors from sector `first` on. One that isn't `done` is in no read, and a
     /// cut may leave it.
     Write {
-        first: u32,
+        first: u64,
         bytes: Vec<u8>,
         done: bool,
     },
@@ -38,7 +38,7 @@ pub(crate) enum Call {
 /// A sector's part of a write.
 #[derive(Drop)]
 pub(crate) struct SectorWrite {
-    sector: u32,
+    sector: u64,
     bytes: [u8; 512],
 }
 
@@ -47,11 +47,11 @@ pub(crate) fn note_write(
     alloc: Global,
     calls: &mut Vec<Call>,
     unsynced: &mut Vec<SectorWrite>,
-    first: u32,
+    first: u64,
     bytes: &[u8],
     done: bool,
 ) -> Result<(), AllocError>
-    requires { first + length bytes.now / 512 ≤ 2 ^ 32 }
+    requires { first + length bytes.now / 512 ≤ 2 ^ 64 }
     ensures call { OnOk result ((v : _) × (v.items ≡ bytes.now)
         × (calls.new.items ≡ calls.old.items ++ Write first v done ∷ [])) }
     ensures parts { OnOk result (unsynced.new.items
@@ -71,20 +71,20 @@ pub(crate) fn note_write(
 }
 
 /// Adds each sector's part of a write from sector `first` on, in rising order.
-fn push_parts(unsynced: &mut Vec<SectorWrite>, first: u32, bytes: &[u8])
-    requires place { first + length bytes.now / 512 ≤ 2 ^ 32 }
+fn push_parts(unsynced: &mut Vec<SectorWrite>, first: u64, bytes: &[u8])
+    requires place { first + length bytes.now / 512 ≤ 2 ^ 64 }
     requires room { vec_len unsynced.old + length bytes.now / 512 ≤ vec_capacity unsynced.old }
     ensures { unsynced.new.items
         ≡ unsynced.old.items ++ parts_of first bytes.now (length bytes.now / 512) }
 {
     for part in 0..bytes.len() / SECTOR_BYTES {
-        let sector = first + part as u32;
+        let sector = first + part as u64;
         unsynced.push(sector_write(sector, bytes, part)).unwrap();
     }
 }
 
 /// A write's part for its sector number `part`, counted from 0.
-fn sector_write(sector: u32, bytes: &[u8], part: usize) -> SectorWrite
+fn sector_write(sector: u64, bytes: &[u8], part: usize) -> SectorWrite
     requires { 512 * part + 512 ≤ length bytes.now }
     ensures { result ≡ record { sector = sector; bytes = take 512 (drop (512 * part) bytes.now) } }
 {

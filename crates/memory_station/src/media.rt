@@ -17,11 +17,11 @@ use std::alloc::{AllocError, Global};
 #[derive(Drop)]
 pub(crate) struct Media {
     alloc: Global,
-    pub(crate) sectors: u32,
+    pub(crate) sectors: u64,
     pub(crate) nvram_bytes: u32,
     first_disk: Vec<u8>,
     first_nvram: Vec<u8>,
-    first_bad: Vec<u32>,
+    first_bad: Vec<u64>,
     calls: Vec<Call>,
     /// What reads give; after the cut, what it left.
     pub(crate) disk: Disk,
@@ -33,7 +33,7 @@ pub(crate) struct Media {
     /// The power was cut, which did so with the unsynced sector writes.
     pub(crate) is_cut: bool,
     keep: CutOutcome,
-    ghost fits: { sectors < 2 ^ 32 },
+    ghost fits: { sectors < 2 ^ 55 },
     ghost nvram_fits: { nvram_bytes < 2 ^ 32 },
     ghost disk_size: { length disk.bytes.items ≡ 512 * sectors },
     ghost settled_size: { length settled.bytes.items ≡ 512 * sectors },
@@ -54,7 +54,7 @@ impl Media {
         alloc: Global,
         disk: Vec<u8>,
         nvram: Vec<u8>,
-        bad: &[u32],
+        bad: &[u64],
     ) -> Result<Media, LoadError>
         ensures loaded { IfOk result (IsLoadedFrom disk.items nvram.items bad.now) }
         ensures bad_size { IsErrOf result LoadError.BadSize
@@ -63,12 +63,10 @@ impl Media {
         if disk.len() % SECTOR_BYTES != 0 {
             return Err(LoadError::BadSize);
         }
-        if !are_below(bad, disk.len() / SECTOR_BYTES) {
+        let sectors = (disk.len() / SECTOR_BYTES) as u64;
+        if !are_below(bad, sectors) {
             return Err(LoadError::BadSize);
         }
-        let Ok(sectors) = u32::try_from(disk.len() / SECTOR_BYTES) else {
-            return Err(LoadError::BadSize);
-        };
         let Ok(nvram_bytes) = u32::try_from(nvram.len()) else {
             return Err(LoadError::BadSize);
         };
@@ -101,7 +99,7 @@ impl Media {
 
     /// Writes whole sectors from sector `first` on. Where it isn't to be `done`, reads stay as they
     /// were.
-    pub(crate) fn write(&mut self, first: u32, bytes: &[u8], done: bool) -> Result<(), AllocError>
+    pub(crate) fn write(&mut self, first: u64, bytes: &[u8], done: bool) -> Result<(), AllocError>
         requires place { 512 * first + length bytes.now ≤ 512 * self.old.sectors }
         requires whole { length bytes.now % 512 ≡ 0 }
         requires power { self.old.is_cut ≡ false }
@@ -175,8 +173,8 @@ impl Media {
 }
 
 /// Whether all these numbers are below this one.
-fn are_below(numbers: &[u32], most: usize) -> bool
+fn are_below(numbers: &[u64], most: u64) -> bool
     ensures { IsTrue result ↔ All (λ n. n < most) numbers.now }
 {
-    numbers.iter().all(|n| (*n as usize) < most)
+    numbers.iter().all(|n| *n < most)
 }

@@ -20,8 +20,8 @@ pub enum LoadError {
     /// No memory for the copies that a station keeps.
     #[error("no memory")]
     NoMemory = 1,
-    /// The disk is no whole number of sectors, or it has more than `u32::MAX` sectors or the NVRAM
-    /// more bytes, or a sector that can't be read is past the disk.
+    /// The disk is no whole number of sectors, or the NVRAM has more than `u32::MAX` bytes, or a
+    /// sector that can't be read is past the disk.
     #[error("no station has this size")]
     BadSize = 2,
 }
@@ -56,8 +56,7 @@ impl Sim {
     ghost use Rattle.memory_station.specs.Sim.{FollowsRead, FollowsWrite, FollowsNvWrite, FollowsSync, HasCountedRead, HasCountedWrite};
 
     /// A station with these images, all settled. BadSize exactly where the disk is no whole number
-    /// of sectors, or a count (of sectors, of NVRAM bytes) is past `u32::MAX`; NoMemory where a
-    /// growth was refused.
+    /// of sectors, or the NVRAM has more than `u32::MAX` bytes; NoMemory where a growth was refused.
     pub fn load(alloc: Global, disk: Vec<u8>, nvram: Vec<u8>) -> Result<Sim, LoadError>
         ensures loaded { IfOk result (λ s. IsLoaded disk.items nvram.items [] (sim_meaning s)) }
         ensures power { IfOk result (λ s. was_cut s ≡ false) }
@@ -74,7 +73,7 @@ impl Sim {
         alloc: Global,
         disk: Vec<u8>,
         nvram: Vec<u8>,
-        bad: &[u32],
+        bad: &[u64],
     ) -> Result<Sim, LoadError>
         ensures loaded { IfOk result (λ s. IsLoaded disk.items nvram.items bad.now (sim_meaning s)) }
         ensures power { IfOk result (λ s. was_cut s ≡ false) }
@@ -150,7 +149,7 @@ impl Sim {
 
     /// The numbers of the sectors that can't be read, rising: those that reads tell, or after the
     /// cut those that it left.
-    pub fn bad_sectors(&self) -> &[u32]
+    pub fn bad_sectors(&self) -> &[u64]
         ensures numbers { result.now ≡ bad_of self.now }
         ensures rising { IsStrictlyIncreasing result.now }
         ensures within { All (λ n. n < (sim_meaning self.now).sectors) result.now }
@@ -202,7 +201,7 @@ impl Sim {
     }
 
     /// Writes whole sectors from sector `first` on, and tells whether that succeeds.
-    fn try_write(&mut self, first: u32, bytes: &[u8]) -> Result<(), DeviceFault>
+    fn try_write(&mut self, first: u64, bytes: &[u8]) -> Result<(), DeviceFault>
         requires place { 512 * first + length bytes.now ≤ 512 * self.old.media.sectors }
         requires whole { length bytes.now % 512 ≡ 0 }
         ensures follows { FollowsWrite first bytes.now self.old self.new result }
@@ -221,7 +220,7 @@ impl Sim {
     }
 
     /// Writes whole sectors from sector `first` on, and counts that if it fails.
-    fn write_sectors(&mut self, first: u32, bytes: &[u8]) -> Result<(), DeviceFault>
+    fn write_sectors(&mut self, first: u64, bytes: &[u8]) -> Result<(), DeviceFault>
         requires place { 512 * first + length bytes.now ≤ 512 * self.old.media.sectors }
         requires whole { length bytes.now % 512 ≡ 0 }
         ensures follows { FollowsWrite first bytes.now self.old self.new result }
@@ -312,7 +311,7 @@ impl Station for Sim {
 
     ghost sized = { laws.sized };
 
-    fn sectors(&self) -> u32 {
+    fn sectors(&self) -> u64 {
         self.media.sectors
     }
 
@@ -320,7 +319,7 @@ impl Station for Sim {
         self.media.nvram_bytes
     }
 
-    fn read_sector(&mut self, n: u32, out: &mut [u8; 512]) -> Result<bool, DeviceFault>
+    fn read_sector(&mut self, n: u64, out: &mut [u8; 512]) -> Result<bool, DeviceFault>
         requires { n < (sim_meaning self.old).sectors }
         ensures call { ReadCall (sim_meaning self.old) (sim_meaning self.new) result }
         ensures bytes { IfOk result (λ is.
@@ -331,7 +330,7 @@ impl Station for Sim {
         Ok(self.media.disk.read(n, out))
     }
 
-    fn write_sector(&mut self, n: u32, bytes: &[u8; 512]) -> Result<(), DeviceFault>
+    fn write_sector(&mut self, n: u64, bytes: &[u8; 512]) -> Result<(), DeviceFault>
         requires { n < (sim_meaning self.old).sectors }
         ensures call { WriteCall (SomeSectorsWritten n bytes.now)
             (sim_meaning self.old) (sim_meaning self.new) result }
@@ -350,7 +349,7 @@ impl Station for Sim {
             (sim_meaning self.old) (sim_meaning self.new)) }
         ensures planned { FollowsWrite (8 * b) bytes.now self.old self.new result }
     {
-        self.write_sectors(8 * b, bytes)
+        self.write_sectors(8 * u64::from(b), bytes)
     }
 
     fn sync(&mut self) -> Result<(), DeviceFault>

@@ -48,7 +48,7 @@ module _ (r : Root) (w : Whole) (are : AreSnapshots r w) (k : ℕ) (head : Snaps
     (holds : HoldsVolume r.geometry.inodes (tree_contents (w.frozen k)) v) where
   -- a slot has one snapshot
   same_head : (l : ℕ) (q : Snapshot) → HasSnapshot r w l q → l ≡ k → q ≡ head
-  same_head l q there is = some_is q head (sym there.read ∙ ap (λ (n : ℕ). snapshot_in (w.head n)) is ∙ has.read)
+  same_head l q there is = some_is q head (sym there.read ∙ ap (λ (n : ℕ). snapshot_in r.geometry.layout (w.head n)) is ∙ has.read)
 
   is_first : 0 < head.order
   is_first =

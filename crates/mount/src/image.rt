@@ -3,8 +3,7 @@
 ghost use Rattle.std.specs.Prelude.{◌≡◌, IfOk, IfErr, MatchResult};
 ghost use Rattle.station.specs.Moments.{IsSameStation, HasGrown, EachCut};
 ghost use Rattle.model.specs.States.{empty};
-ghost use Rattle.layout.specs.Limits.{sizes};
-ghost use Rattle.making.specs.Images.{HoldsMade, Suits};
+ghost use Rattle.making.specs.Images.{HoldsMade, Suits, new_sizes};
 ghost use Rattle.system.specs.Images.{OpensTo};
 
 use making::MakeError;
@@ -23,18 +22,18 @@ pub fn make<S: Station>(
     inodes: u32,
     half: u32,
 ) -> Result<S, (MakeError, S)>
-    ensures suited { IfOk result (λ made. Suits (S.meaning station) (sizes blocks inodes half)) }
+    ensures suited { IfOk result (λ made. Suits (S.meaning station) (new_sizes blocks inodes half)) }
     ensures bad_size { IfErr result (λ e. e.0 ≡ MakeError.BadSize
-        → (e.1 ≡ station) × ¬ Suits (S.meaning station) (sizes blocks inodes half)) }
+        → (e.1 ≡ station) × ¬ Suits (S.meaning station) (new_sizes blocks inodes half)) }
     ensures memory { IfErr result (λ e. e.0 ≡ MakeError.NoMemory
-        → (e.1 ≡ station) × Suits (S.meaning station) (sizes blocks inodes half)) }
+        → (e.1 ≡ station) × Suits (S.meaning station) (new_sizes blocks inodes half)) }
     ensures device { IfErr result (λ e. e.0 ≡ MakeError.Device
-        → Suits (S.meaning station) (sizes blocks inodes half)
+        → Suits (S.meaning station) (new_sizes blocks inodes half)
         × HasGrown (S.meaning station).failed_writes (S.meaning e.1).failed_writes) }
     ensures same { MatchResult result (λ made. IsSameStation (S.meaning station) (S.meaning made))
         (λ e. IsSameStation (S.meaning station) (S.meaning e.1)) }
     ensures made { IfOk result (λ made. EachCut
-        (S.meaning made) (HoldsMade (sizes blocks inodes half))) }
+        (S.meaning made) (HoldsMade (new_sizes blocks inodes half))) }
     ensures opens { IfOk result (λ made. EachCut (S.meaning made) (OpensTo
         (S.meaning made) (empty inodes))) }
 {

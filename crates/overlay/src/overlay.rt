@@ -1,11 +1,11 @@
 //! The blocks of a disk while a consistency point is under way.
 
-ghost use Rattle.std.specs.Prelude.{◌≡◌, ◌≢◌, ◌⊎◌, ◌↔◌, ◌/◌, ◌≤◌, ℕ, List, Some, None, OnOk, IfErr, IfSome, IfNone, IsTrue};
+ghost use Rattle.std.specs.Prelude.{◌≡◌, ◌≢◌, ◌⊎◌, ◌↔◌, ◌≤◌, ℕ, List, Some, None, OnOk, IfErr, IfSome, IfNone, IsTrue};
 ghost use Rattle.std.specs.BTreeMap.{IsEmpty};
 ghost use Rattle.station.specs.Calls.{OnlyWrites};
 ghost use Rattle.station.specs.Moments.{After, Goes, EachCut, LeavesJust, LeavesOnly};
 ghost use Rattle.layout.specs.Places.{blocks_of};
-ghost use Rattle.buffers.specs.Disks.{IsWhole, ShowsDisk};
+ghost use Rattle.buffers.specs.Disks.{IsWhole, ShowsDisk, numbered_blocks};
 ghost use Rattle.conspoint.specs.Cuts.{IsFault, StaysOutside, HasNewRoot, HasRootOrLost};
 ghost use Rattle.overlay.specs.Overlays.{FitsOver, HoldsHere, IsHere, IsPlannedAt, ReadsOver, ShowsOver, SlicesOn, unwritten};
 ghost use Rattle.overlay.specs.Props.{FitsOver-prop, HoldsHere-prop};
@@ -15,7 +15,7 @@ ghost use Rattle.conspoint.specs.Plans.{FitsDisk};
 use crate::pending::PendingPoint;
 use buffers::{BlockError, Blocks, Buffers, SharedBlock};
 use conspoint::{finished_disks_are_one, write_rest, written_disks_have_the_blocks};
-use layout::{BLOCK_BYTES, BlockNumber, is_indirect_block};
+use layout::{BLOCK_BYTES, BlockNumber, Layout, is_indirect_block};
 use station::Station;
 
 /// The blocks of a station, and over them those of a consistency point under way: a place reads as
@@ -41,7 +41,7 @@ impl<S: Station> Blocks for Overlay<S> {
 
     ghost failed = { λ b. (S.meaning b.buffers.station).failed_reads };
 
-    ghost count = { λ b. (S.meaning b.buffers.station).sectors / 8 };
+    ghost count = { λ b. numbered_blocks (S.meaning b.buffers.station).sectors };
 
     fn count(&self) -> u32 {
         self.buffers.count()
@@ -61,11 +61,11 @@ impl<S: Station> Blocks for Overlay<S> {
         }
     }
 
-    fn is_indirect(&mut self, place: BlockNumber, used: u32) -> bool {
+    fn is_indirect(&mut self, place: BlockNumber, layout: Layout, used: u32) -> bool {
         if let Some(block) = self.planned(place) {
-            return is_indirect_block(block.bytes(), self.count(), used);
+            return is_indirect_block(block.bytes(), layout, self.count(), used);
         }
-        self.buffers.is_indirect(place, used)
+        self.buffers.is_indirect(place, layout, used)
     }
 
     ghost reads_nothing = { λ s.

@@ -2,11 +2,14 @@
 -- another level.
 use Rattle.std.proofs.Common.{◌≡◌, ℕ, zero, suc, ◌+◌, ◌-◌, ◌*◌, ◌/◌, ◌^◌, ◌<◌, ◌≤◌, ◌⊎◌, inl, inr, Result, Ok, refl, ap, sym, subst, ◌∙◌, arith, true, false}
 use Rattle.std.specs.Prelude.{min, nat_lt, ◌==◌, if◌then◌else◌}
+use Rattle.std.proofs.Math.Nat.{pow-zero}
 use Rattle.std.specs.Ordering.{nat_cmp}
 use Rattle.std.specs.BTreeMap as tree
 use Rattle.std.proofs.lemmas.Bool.{cases_eq, cases_lt, cond_above, cond_below}
 use Rattle.std.proofs.lemmas.Bool.Decides.{nat_tests}
-use Rattle.layout.specs.Version.{level_of}
+use Rattle.layout.specs.Trees.{fan_out, greatest_size}
+use Rattle.layout.specs.declared.trees.Layout.{Layout}
+use Rattle.layout.specs.declared.trees.Layout.TheVariants.{Plain, Summed}
 use Rattle.layout.specs.declared.pointer.Pointer.TheVariants.{Hole}
 use Rattle.images.specs.Sums.{sum_below}
 use Rattle.images.proofs.SumLaws.{is_in_sum, one_more, sum_of_none, sums_rise}
@@ -26,30 +29,32 @@ use Rattle.inode.specs.declared.file.File.{File}
 use Rattle.inode.specs.Room.{top_over}
 use Rattle.inode.proofs.GroupLaws.{at_here, group_changed, mark, tops_all}
 use Rattle.placement.specs.Nodes.{AllUnder, AreCounted, StaysUnder, height_of, node}
-use Rattle.placement.specs.Space.{height_stores, level_stores, more_over, tops_over}
+use Rattle.placement.specs.Files.{file_level}
+use Rattle.placement.specs.Space.{height_stores, level_stores, more_over, tops_stored}
 use Rattle.placement.specs.Steps.{CountsHeights, PlacesHeights, raise_stores}
 use Rattle.placement.specs.declared.nodes.Nodes.{Nodes}
+use Rattle.placement.proofs.FanLemmas.{fan_least, in_this_group, next_group, up_before, up_behind, within_group}
 use Rattle.placement.proofs.HeldLaws.{first_nodes}
 use Rattle.placement.proofs.RaiseLaws.{ones}
 
 -- what is counted of so many blocks in the first groups
-abbrev reach : (ℕ → ℕ) → ℕ → ℕ → ℕ
-reach f count j = sum_below f (min (1024 * j) count)
+abbrev reach : Layout → (ℕ → ℕ) → ℕ → ℕ → ℕ
+reach l f count j = sum_below f (min (fan_out l * j) count)
 
 -- so many more in one group
 abbrev extra : ℕ → ℕ → ℕ → ℕ
 extra more at j = if j == at then more else 0
 
 -- what is counted in a group, and so many more in this one
-abbrev in_group : (ℕ → ℕ) → ℕ → ℕ → ℕ → ℕ → ℕ
-in_group f count at more j = reach f count (j + 1) - reach f count j + extra more at j
+abbrev in_this : Layout → (ℕ → ℕ) → ℕ → ℕ → ℕ → ℕ → ℕ
+in_this l f count at more j = reach l f count (j + 1) - reach l f count j + extra more at j
 
 -- a group counts where something is counted in it
-abbrev pub weight : (ℕ → ℕ) → ℕ → ℕ → ℕ → ℕ → ℕ
-weight f count at more j = min 1 (in_group f count at more j)
+abbrev pub weight : Layout → (ℕ → ℕ) → ℕ → ℕ → ℕ → ℕ → ℕ
+weight l f count at more j = min 1 (in_this l f count at more j)
 
-reach_rises : (f : ℕ → ℕ) (count j : ℕ) → reach f count j ≤ reach f count (j + 1)
-reach_rises f count j = sums_rise f (min (1024 * j) count) (min (1024 * (j + 1)) count) (omega arith)
+reach_rises : (l : Layout) (f : ℕ → ℕ) (count j : ℕ) → reach l f count j ≤ reach l f count (j + 1)
+reach_rises l f count j = sums_rise f (min (fan_out l * j) count) (min (fan_out l * (j + 1)) count) (next_group l count j)
 
 here : (more m at : ℕ) → m ≡ at → extra more at m ≡ more
 here more m at is = let yes : (m == at) ≡ true = grind (arith, nat_tests, is) in rw yes refl
@@ -58,21 +63,21 @@ elsewhere : (more m at : ℕ) → (m ≡ at → ⊥) → extra more at m ≡ 0
 elsewhere more m at not = let no : (m == at) ≡ false = grind (arith, nat_tests, not) in rw no refl
 
 -- as many groups count as blocks, and so many more
-record AtMost (f : ℕ → ℕ) (count at more m : ℕ) : Type 0 where
-  before : m ≤ at → sum_below (weight f count at more) m ≤ reach f count m
-  all : sum_below (weight f count at more) m ≤ reach f count m + more
-  each : sum_below (weight f count at more) m ≤ m
+record AtMost (l : Layout) (f : ℕ → ℕ) (count at more m : ℕ) : Type 0 where
+  before : m ≤ at → sum_below (weight l f count at more) m ≤ reach l f count m
+  all : sum_below (weight l f count at more) m ≤ reach l f count m + more
+  each : sum_below (weight l f count at more) m ≤ m
 
-at_most : (f : ℕ → ℕ) (count at more m : ℕ) → AtMost f count at more m
-at_most f count at more zero =
-    let none = sum_of_none (weight f count at more) in
+at_most : (l : Layout) (f : ℕ → ℕ) (count at more m : ℕ) → AtMost l f count at more m
+at_most l f count at more zero =
+    let none = sum_of_none (weight l f count at more) in
     record { before = λ le. omega (arith, none); all = omega (arith, none); each = omega (arith, none) }
-at_most f count at more (suc m) =
-    let so_far = at_most f count at more m in
-    let added = one_more (weight f count at more) m in
-    let rises = reach_rises f count m in
+at_most l f count at more (suc m) =
+    let so_far = at_most l f count at more m in
+    let added = one_more (weight l f count at more) m in
+    let rises = reach_rises l f count m in
     let next : suc m ≡ m + 1 = omega arith in
-    subst (λ (n : ℕ). AtMost f count at more n) (sym next) (elim (cases_eq m at) [
+    subst (λ (n : ℕ). AtMost l f count at more n) (sym next) (elim (cases_eq m at) [
       | inl is ↦
           let one = here more m at is in
           let few = so_far.before (omega (arith, is)) in
@@ -87,21 +92,21 @@ at_most f count at more (suc m) =
     ])
 
 -- so many count at the most
-pub weights_most : (f : ℕ → ℕ) (count at more n : ℕ) → sum_below (weight f count at more) n ≤ min n (sum_below f count + more)
-weights_most f count at more n =
-    let all = at_most f count at more n in
-    let within = sums_rise f (min (1024 * n) count) count (omega arith) in
+pub weights_most : (l : Layout) (f : ℕ → ℕ) (count at more n : ℕ) → sum_below (weight l f count at more) n ≤ min n (sum_below f count + more)
+weights_most l f count at more n =
+    let all = at_most l f count at more n in
+    let within = sums_rise f (min (fan_out l * n) count) count (omega arith) in
     omega (arith, all.all, all.each, within)
 
 -- no block of a group that doesn't count is counted
-none_counted : (f : ℕ → ℕ) (count at more j i : ℕ) → weight f count at more j ≡ 0 → i < 1024 → 1024 * j + i < count → f (1024 * j + i) ≡ 0
-none_counted f count at more j i none small low =
-    let before = sums_rise f (min (1024 * j) count) (1024 * j + i) (omega arith) in
-    let after = is_in_sum f (1024 * j + i) (min (1024 * (j + 1)) count) (omega (arith, small, low)) in
+none_counted : (l : Layout) (f : ℕ → ℕ) (count at more j i : ℕ) → weight l f count at more j ≡ 0 → i < fan_out l → fan_out l * j + i < count → f (fan_out l * j + i) ≡ 0
+none_counted l f count at more j i none small low =
+    let before = sums_rise f (min (fan_out l * j) count) (fan_out l * j + i) (omega arith) in
+    let after = is_in_sum f (fan_out l * j + i) (min (fan_out l * (j + 1)) count) (within_group l count j i small low) in
     omega (arith, none, before, after)
 
-not_at : (f : ℕ → ℕ) (count at j : ℕ) → weight f count at 1 j ≡ 0 → j ≡ at → ⊥
-not_at f count at j none is = omega (arith, none, here 1 j at is)
+not_at : (l : Layout) (f : ℕ → ℕ) (count at j : ℕ) → weight l f count at 1 j ≡ 0 → j ≡ at → ⊥
+not_at l f count at j none is = omega (arith, none, here 1 j at is)
 
 -- what stands at a block of a file: where it isn't counted, what the settled nodes that count have there
 abbrev pub LeavesUncounted : (ℕ → ℕ) → ℕ → Nodes → ℕ → PlaceMap → Type 0
@@ -115,7 +120,7 @@ record IsAsDeep (f : File) : Type 0 where
   none : more_over f ≡ 0
   kept : f.tree.count ≤ f.tree.kept
   long : f.tree.count ≤ block_count f.size
-  depth : f.tree.depth ≡ depth_of f.size
+  depth : f.tree.depth ≡ depth_of f.tree.layout f.size
 
 -- or it has no settled block
 more_cases : (f : File) → (more_over f ≡ 1) ⊎ IsAsDeep f ⊎ (f.tree.count ≡ 0)
@@ -123,12 +128,12 @@ more_cases f = elim (cases_lt (min f.tree.kept (block_count f.size)) f.tree.coun
   | inl less ↦ (let yes : nat_lt (min f.tree.kept (block_count f.size)) f.tree.count ≡ true = grind (arith, nat_tests, less) in inl (rw yes refl))
   | inr all ↦
       let no : nat_lt (min f.tree.kept (block_count f.size)) f.tree.count ≡ false = grind (arith, nat_tests, all) in
-      elim (cases_eq f.tree.depth (depth_of f.size)) [
+      elim (cases_eq f.tree.depth (depth_of f.tree.layout f.size)) [
         | inl same ↦
-            let yes : (f.tree.depth == depth_of f.size) ≡ true = grind (arith, nat_tests, same) in
+            let yes : (f.tree.depth == depth_of f.tree.layout f.size) ≡ true = grind (arith, nat_tests, same) in
             inr (inl (record { none = rw (no, yes) refl; kept = omega (arith, all); long = omega (arith, all); depth = same }))
         | inr other ↦
-            let not : (f.tree.depth == depth_of f.size) ≡ false = grind (arith, nat_tests, other) in
+            let not : (f.tree.depth == depth_of f.tree.layout f.size) ≡ false = grind (arith, nat_tests, other) in
             elim (cases_eq f.tree.count 0) [
               | inl none ↦ inr (inr none)
               | inr some ↦ inl (rw (no, not) (omega (arith, some)))
@@ -137,17 +142,20 @@ more_cases f = elim (cases_lt (min f.tree.kept (block_count f.size)) f.tree.coun
 ]
 
 -- a file whose blocks have so many heights has few
-few_kept : (t : BlockTree) (depth : ℕ) → t.depth ≤ depth → depth ≤ 1 → t.kept ≤ 16 * 1024 ^ depth
-few_kept t depth le low = elim (cases_eq t.depth depth) [
-  | inl is ↦
-      let power : 1024 ^ t.depth ≡ 1024 ^ depth = ap (λ (k : ℕ). 1024 ^ k) is in
-      omega (arith, t.fits.0, t.fits.1, power)
-  | inr less ↦
-      let flat : t.depth ≡ 0 = omega (arith, le, low, less) in
-      let deep : depth ≡ 1 = omega (arith, le, low, less) in
-      let one : 1024 ^ t.depth ≡ 1 = ap (λ (k : ℕ). 1024 ^ k) flat in
-      let more : 1024 ^ depth ≡ 1024 = ap (λ (k : ℕ). 1024 ^ k) deep in
-      omega (arith, t.fits.0, t.fits.1, one, more)
+few_flat : (t : BlockTree) → t.depth ≡ 0 → t.kept ≤ 16
+few_flat t flat =
+    let one : fan_out t.layout ^ t.depth ≡ 1 = ap (λ (k : ℕ). fan_out t.layout ^ k) flat ∙ pow-zero (fan_out t.layout) in
+    omega (arith, t.fits.0, t.fits.1, one)
+
+few_deep : (t : BlockTree) → t.layout ≡ Plain → t.depth ≡ 1 → t.kept ≤ 16384
+few_deep t plain deep =
+    let more : fan_out t.layout ^ t.depth ≡ 1024 = ap (λ (l : Layout). fan_out l ^ t.depth) plain ∙ ap (λ (k : ℕ). 1024 ^ k) deep in
+    omega (arith, t.fits.0, t.fits.1, more)
+
+few_kept : (t : BlockTree) → t.layout ≡ Plain → t.depth ≤ 1 → t.kept ≤ 16384
+few_kept t plain le = elim (cases_eq t.depth 0) [
+  | inl flat ↦ omega (arith, few_flat t flat)
+  | inr some ↦ few_deep t plain (omega (arith, le, some))
 ]
 
 -- no settled block that counts is among these, or all of them count
@@ -156,7 +164,7 @@ IsOnOneSide kept low high = (high ≤ kept) ⊎ (kept ≤ low)
 
 -- Of blocks of which none is counted all are as they were settled, in a file that had as many heights, or holes.
 module _ (f : ℕ → ℕ) (file : File) (settled : Nodes) (blocks : PlaceMap) (counted : AreCounted file.tree settled) (end : EndBefore (block_count file.size) blocks)
-    (unchanged : LeavesUncounted f file.tree.kept settled (block_count file.size) blocks) (h low high : ℕ) (level : h < level_of file.size) (some : height_of settled ≤ h → file.tree.kept < high)
+    (unchanged : LeavesUncounted f file.tree.kept settled (block_count file.size) blocks) (h low high : ℕ) (level : h < file_level file) (some : height_of settled ≤ h → file.tree.kept < high)
     (none : (i : ℕ) → low ≤ i → i < high → i < block_count file.size → f i ≡ 0) (side : more_over file ≡ 1 → IsOnOneSide (min file.tree.kept (block_count file.size)) low high) where
   abbrev count : ℕ
   count = block_count file.size
@@ -196,7 +204,7 @@ module _ (f : ℕ → ℕ) (file : File) (settled : Nodes) (blocks : PlaceMap) (
               let within : i < count = omega (arith, counts, all, deep.long) in
               unchanged i within (none i le lt within) ∙ sym (cond_below i kept (node settled 0 i) Hole counts)
           | inr past ↦
-              let old = counted.end 0 i (omega (arith, first_nodes file.tree.count, past, all)) in
+              let old = counted.end 0 i (omega (arith, first_nodes file.tree.layout file.tree.count, past, all)) in
               elim (cases_lt i count) [
                 | inl within ↦ unchanged i within (none i le lt within) ∙ sym (cond_above i kept (node settled 0 i) Hole Hole past refl) ∙ sym old
                 | inr over ↦ end i over ∙ sym old
@@ -213,13 +221,13 @@ module _ (f : ℕ → ℕ) (file : File) (settled : Nodes) (blocks : PlaceMap) (
     ]
   ]
 
--- ---- groups of 1,024 blocks, and of as many of these
+-- ---- groups of blocks, and of as many of these
 
-under_one : (P : ℕ → Type 0) (j : ℕ) → ((i : ℕ) → 1024 * j ≤ i → i < 1024 * (j + 1) → P i) → AllUnder P 1 j
+under_one : (l : Layout) (P : ℕ → Type 0) (j : ℕ) → ((i : ℕ) → fan_out l * j ≤ i → i < fan_out l * (j + 1) → P i) → AllUnder l P 1 j
 unfolding AllUnder
-under_one P j each = λ i lt. each (1024 * j + i) (omega arith) (omega (arith, lt))
+under_one l P j each = λ i lt. each (fan_out l * j + i) (omega arith) (omega (arith, lt))
 
-under_two : (P : ℕ → Type 0) (j : ℕ) → ((i : ℕ) → 1048576 * j ≤ i → i < 1048576 * (j + 1) → P i) → AllUnder P 2 j
+under_two : (P : ℕ → Type 0) (j : ℕ) → ((i : ℕ) → 1048576 * j ≤ i → i < 1048576 * (j + 1) → P i) → AllUnder Plain P 2 j
 unfolding AllUnder
 under_two P j each = λ k small i lt. each (1024 * (1024 * j + k) + i) (omega (arith, small)) (omega (arith, small, lt))
 
@@ -236,26 +244,30 @@ module _ (f : ℕ → ℕ) (file : File) (settled : Nodes) (blocks : PlaceMap) (
   abbrev before : ℕ
   before = min file.tree.kept (block_count file.size)
 
+  abbrev l : Layout
+  l = settled.layout
+
   -- over a group that doesn't count none is stored
-  pub one_stays : (j : ℕ) → 2 ≤ level_of file.size → weight f (block_count file.size) (before / 1024) (more_over file) j ≡ 0 → StaysUnder settled blocks 1 j
+  pub one_stays : (j : ℕ) → 2 ≤ file_level file → weight l f (block_count file.size) (before / fan_out l) (more_over file) j ≡ 0 → StaysUnder settled blocks 1 j
   one_stays j level none =
-      let side : more_over file ≡ 1 → IsOnOneSide before (1024 * j) (1024 * (j + 1)) = λ one.
-      let other = not_at f (block_count file.size) (before / 1024) j (subst (λ (m : ℕ). weight f (block_count file.size) (before / 1024) m j ≡ 0) one none) in
-      elim (cases_lt j (before / 1024)) [
-        | inl less ↦ inl (omega (arith, less))
-        | inr more ↦ elim (cases_eq j (before / 1024)) [ inl is ↦ absurd (other is) | inr not ↦ inr (omega (arith, more, not)) ]
+      let side : more_over file ≡ 1 → IsOnOneSide before (fan_out l * j) (fan_out l * (j + 1)) = λ one.
+      let other = not_at l f (block_count file.size) (before / fan_out l) j (subst (λ (m : ℕ). weight l f (block_count file.size) (before / fan_out l) m j ≡ 0) one none) in
+      elim (cases_lt j (before / fan_out l)) [
+        | inl less ↦ inl (up_before l before j less)
+        | inr more ↦ elim (cases_eq j (before / fan_out l)) [ inl is ↦ absurd (other is) | inr not ↦ inr (up_behind l before j (omega (arith, more, not))) ]
       ] in
-      elim (stays f file settled blocks counted end unchanged 1 (1024 * j) (1024 * (j + 1)) (omega (arith, level))
-      (λ flat. (let few = few_kept file.tree 0 (omega (arith, flat, counted.heights)) (omega arith) in omega (arith, few)))
-      (λ i le lt within. subst (λ (k : ℕ). f k ≡ 0) (omega (arith, le)) (none_counted f (block_count file.size) (before / 1024) (more_over file) j (i - 1024 * j) none (omega (arith, le, lt)) (omega (arith, le, within))))
+      elim (stays f file settled blocks counted end unchanged 1 (fan_out l * j) (fan_out l * (j + 1)) (omega (arith, level))
+      (λ flat. (let few = few_flat file.tree (omega (arith, flat, counted.heights)) in omega (arith, few, fan_least l j)))
+      (λ i le lt within. subst (λ (k : ℕ). f k ≡ 0) (in_this_group l j i le)
+      (none_counted l f (block_count file.size) (before / fan_out l) (more_over file) j (i - fan_out l * j) none (omega (arith, le, lt)) (subst (λ (k : ℕ). k < block_count file.size) (sym (in_this_group l j i le)) within)))
       side) [
-        | inl same ↦ inl (same.0, under_one _ j same.1)
-        | inr holes ↦ inr (under_one _ j holes)
+        | inl same ↦ inl (same.0, under_one l _ j same.1)
+        | inr holes ↦ inr (under_one l _ j holes)
       ]
 
-  -- so at the third height
-  pub two_stays : (j : ℕ) → 3 ≤ level_of file.size → ((i : ℕ) → i < block_count file.size → f i ≡ slot_stores (tree.get nat_cmp file.tree.slots i)) → top_over file j ≡ 0 → StaysUnder settled blocks 2 j
-  two_stays j level is none =
+  -- so at the third height, in the plain layout
+  pub two_stays : (j : ℕ) → l ≡ Plain → 3 ≤ file_level file → ((i : ℕ) → i < block_count file.size → f i ≡ slot_stores (tree.get nat_cmp file.tree.slots i)) → top_over file j ≡ 0 → StaysUnder settled blocks 2 j
+  two_stays j plain level is none =
       let side : more_over file ≡ 1 → IsOnOneSide before (1048576 * j) (1048576 * (j + 1)) = λ one.
       elim (cases_eq j (mark file)) [
         | inl at ↦ absurd (omega (arith, none, one, at_here (mark file) (more_over file) j at))
@@ -266,11 +278,11 @@ module _ (f : ℕ → ℕ) (file : File) (settled : Nodes) (blocks : PlaceMap) (
       ] in
       let empty : group_changed file.tree j ≡ 0 = omega (arith, none) in
       elim (stays f file settled blocks counted end unchanged 2 (1048576 * j) (1048576 * (j + 1)) (omega (arith, level))
-      (λ flat. (let few = few_kept file.tree 1 (omega (arith, flat, counted.heights)) (omega arith) in omega (arith, few)))
+      (λ flat. (let few = few_kept file.tree (sym counted.layout ∙ plain) (omega (arith, flat, counted.heights)) in omega (arith, few)))
       (λ i le lt within. is i within ∙ group_none file.tree j i empty le lt)
       side) [
-        | inl same ↦ inl (same.0, under_two _ j same.1)
-        | inr holes ↦ inr (under_two _ j holes)
+        | inl same ↦ inl (same.0, subst (λ (k : Layout). AllUnder k (λ i. place_at blocks i ≡ node settled 0 i) 2 j) (sym plain) (under_two _ j same.1))
+        | inr holes ↦ inr (subst (λ (k : Layout). AllUnder k (λ i. place_at blocks i ≡ Hole) 2 j) (sym plain) (under_two _ j holes))
       ]
 
 -- these numbers at the second height and those at the third
@@ -289,50 +301,70 @@ counts_each one two blocks level settled lowest first second (suc (suc (suc h)))
 
 -- ---- what a file at a level comes to
 
-raise_fits : (blocks changed more tops : ℕ) (one two : ℕ → ℕ) (h : ℕ) → sum_below one (nodes_at blocks 1) ≤ min (nodes_at blocks 1) (changed + more) → sum_below two (nodes_at blocks 2) ≤ tops
-    → raise_stores blocks (by_height one two) (suc h) ≤ height_stores blocks changed more tops (suc h)
+raise_fits : (l : Layout) (blocks changed more tops : ℕ) (one two : ℕ → ℕ) (h : ℕ) → sum_below one (nodes_at l blocks 1) ≤ min (nodes_at l blocks 1) (changed + more) → sum_below two (nodes_at l blocks 2) ≤ tops
+    → raise_stores l blocks (by_height one two) (suc h) ≤ height_stores l blocks changed more tops (suc h)
 unfolding raise_stores height_stores
-raise_fits blocks changed more tops one two zero first second = first
-raise_fits blocks changed more tops one two (suc zero) first second = second
-raise_fits blocks changed more tops one two (suc (suc h)) first second = omega (arith, ones (nodes_at blocks (suc (suc (suc h)))))
+raise_fits l blocks changed more tops one two zero first second = first
+raise_fits l blocks changed more tops one two (suc zero) first second = second
+raise_fits l blocks changed more tops one two (suc (suc h)) first second = omega (arith, ones (nodes_at l blocks (suc (suc (suc h)))))
 
 -- the blocks that are changed, and what is stored over them
-pub stores_most : (level blocks changed more tops : ℕ) (one two : ℕ → ℕ) → sum_below one (nodes_at blocks 1) ≤ min (nodes_at blocks 1) (changed + more) → sum_below two (nodes_at blocks 2) ≤ tops → 1 ≤ level
-    → changed + sum_below (raise_stores blocks (by_height one two)) level ≤ level_stores level blocks changed more tops
+pub stores_most : (l : Layout) (level blocks changed more tops : ℕ) (one two : ℕ → ℕ) → sum_below one (nodes_at l blocks 1) ≤ min (nodes_at l blocks 1) (changed + more) → sum_below two (nodes_at l blocks 2) ≤ tops → 1 ≤ level
+    → changed + sum_below (raise_stores l blocks (by_height one two)) level ≤ level_stores l level blocks changed more tops
 unfolding sum_below raise_stores height_stores
-stores_most zero blocks changed more tops one two first second le = absurd (omega (arith, le))
-stores_most (suc zero) blocks changed more tops one two first second le = omega arith
-stores_most (suc (suc level)) blocks changed more tops one two first second le =
-    omega (arith, stores_most (suc level) blocks changed more tops one two first second (omega arith), raise_fits blocks changed more tops one two level first second)
+stores_most l zero blocks changed more tops one two first second le = absurd (omega (arith, le))
+stores_most l (suc zero) blocks changed more tops one two first second le = omega arith
+stores_most l (suc (suc level)) blocks changed more tops one two first second le =
+    omega (arith, stores_most l (suc level) blocks changed more tops one two first second (omega arith), raise_fits l blocks changed more tops one two level first second)
 
-pub changed_most : (level blocks changed more tops : ℕ) → 1 ≤ level → changed ≤ level_stores level blocks changed more tops
+pub changed_most : (l : Layout) (level blocks changed more tops : ℕ) → 1 ≤ level → changed ≤ level_stores l level blocks changed more tops
 unfolding height_stores
-changed_most level blocks changed more tops some = omega (arith, is_in_sum (height_stores blocks changed more tops) 0 level some)
+changed_most l level blocks changed more tops some = omega (arith, is_in_sum (height_stores l blocks changed more tops) 0 level some)
 
-two_few : (count : ℕ) → count ≤ 16777216 → nodes_at count 2 ≤ 16
+-- the nodes of the third height that may be stored anew
+abbrev pub tops_each : Layout → File → ℕ → ℕ
+tops_each Plain file j = top_over file j
+tops_each Summed file j = 1
+
+-- of the plain layout they are no more than an inode has pointers
+two_few : (count : ℕ) → count ≤ 16777216 → nodes_at Plain count 2 ≤ 16
 unfolding nodes_at
 two_few count low = omega (arith, low)
 
--- the nodes of the third height of a file are no more than an inode has pointers
-pub tops_few : (file : File) → sum_below (top_over file) (nodes_at (block_count file.size) 2) ≤ tops_over file
-tops_few file =
-    let few : nodes_at (block_count file.size) 2 ≤ 16 = two_few (block_count file.size) (omega (arith, file.within)) in
-    omega (arith, sums_rise (top_over file) (nodes_at (block_count file.size) 2) 16 few, tops_all file)
+tops_low : (l : Layout) (file : File) → file.tree.layout ≡ l → sum_below (tops_each l file) (nodes_at l (block_count file.size) 2) ≤ tops_stored l file
+tops_low Plain file is =
+    let most : file.size ≤ 68719476736 = subst (λ (k : Layout). file.size ≤ greatest_size k) is file.within in
+    let few : nodes_at Plain (block_count file.size) 2 ≤ 16 = two_few (block_count file.size) (omega (arith, most)) in
+    omega (arith, sums_rise (top_over file) (nodes_at Plain (block_count file.size) 2) 16 few, tops_all file)
+tops_low Summed file is = omega (arith, ones (nodes_at Summed (block_count file.size) 2))
+
+pub tops_few : (file : File) → sum_below (tops_each file.tree.layout file) (nodes_at file.tree.layout (block_count file.size) 2) ≤ tops_stored file.tree.layout file
+tops_few file = tops_low file.tree.layout file refl
+
+-- over the others none is stored
+pub tops_stay : (l : Layout) (f : ℕ → ℕ) (file : File) (settled : Nodes) (blocks : PlaceMap) → AreCounted file.tree settled → EndBefore (block_count file.size) blocks
+    → LeavesUncounted f file.tree.kept settled (block_count file.size) blocks → (j : ℕ) → file.tree.layout ≡ l → 3 ≤ file_level file
+    → ((i : ℕ) → i < block_count file.size → f i ≡ slot_stores (tree.get nat_cmp file.tree.slots i)) → tops_each l file j ≡ 0 → StaysUnder settled blocks 2 j
+tops_stay Plain f file settled blocks counted end unchanged j is level each none = two_stays f file settled blocks counted end unchanged j (counted.layout ∙ is) level each none
+tops_stay Summed f file settled blocks counted end unchanged j is level each none = absurd (omega (arith, none))
 
 -- The blocks of a file are placed, and the nodes over them, where f counts each block that isn't as it was settled, and these numbers
 -- each node of the third height that isn't.
 pub placed_most : {T U : Type 0} {a b c : Draft} {x : T} {r : Result U PlanError} (f two : ℕ → ℕ) (changed tops : ℕ) (file : File) (settled : Nodes) (blocks : PlaceMap) → AreCounted file.tree settled
-    → EndBefore (block_count file.size) blocks → LeavesUncounted f file.tree.kept settled (block_count file.size) blocks → 1 ≤ level_of file.size → sum_below f (block_count file.size) ≤ changed
-    → sum_below two (nodes_at (block_count file.size) 2) ≤ tops → ((j : ℕ) → 3 ≤ level_of file.size → two j ≡ 0 → StaysUnder settled blocks 2 j)
-    → Places changed a b (Ok x) → PlacesHeights (block_count file.size) (level_of file.size) settled blocks b c r
-    → Places (level_stores (level_of file.size) (block_count file.size) changed (more_over file) tops) a c r
-placed_most f two changed tops file settled blocks counted end unchanged level fits above stay first over =
+    → EndBefore (block_count file.size) blocks → LeavesUncounted f file.tree.kept settled (block_count file.size) blocks → 1 ≤ file_level file → sum_below f (block_count file.size) ≤ changed
+    → sum_below two (nodes_at file.tree.layout (block_count file.size) 2) ≤ tops → ((j : ℕ) → 3 ≤ file_level file → two j ≡ 0 → StaysUnder settled blocks 2 j)
+    → Places changed a b (Ok x) → PlacesHeights (block_count file.size) (file_level file) settled blocks b c r
+    → Places (level_stores file.tree.layout (file_level file) (block_count file.size) changed (more_over file) tops) a c r
+placed_most {a = a} {c = c} {r = r} f two changed tops file settled blocks counted end unchanged level fits above stay first over =
     let count = block_count file.size in
-    let at = min file.tree.kept count / 1024 in
-    let one = weight f count at (more_over file) in
-    let most = weights_most f count at (more_over file) (nodes_at count 1) in
-    places_then first (over (by_height one two) (counts_each one two count (level_of file.size) settled blocks (λ j high none. one_stays f file settled blocks counted end unchanged j high none) stay))
-    (stores_most (level_of file.size) count changed (more_over file) tops one two (omega (arith, most, fits)) above level)
+    let l = settled.layout in
+    let at = min file.tree.kept count / fan_out l in
+    let one = weight l f count at (more_over file) in
+    let most = weights_most l f count at (more_over file) (nodes_at l count 1) in
+    let higher : sum_below two (nodes_at l count 2) ≤ tops = subst (λ (k : Layout). sum_below two (nodes_at k count 2) ≤ tops) (sym counted.layout) above in
+    subst (λ (k : Layout). Places (level_stores k (file_level file) count changed (more_over file) tops) a c r) counted.layout
+    (places_then first (over (by_height one two) (counts_each one two count (file_level file) settled blocks (λ j high none. one_stays f file settled blocks counted end unchanged j high none) stay))
+    (stores_most l (file_level file) count changed (more_over file) tops one two (omega (arith, most, fits)) higher level))
 
 -- a block that isn't counted isn't changed
 pub not_changed : (t : BlockTree) (first i : ℕ) → first ≤ i → block_stores t first i ≡ 0 → IsChanged t i → ⊥

@@ -10,7 +10,6 @@ use Rattle.layout.specs.Inode.{FitsBody}
 use Rattle.layout.specs.FileBytes.{byte_in, EndsAt}
 use Rattle.layout.specs.Limits.{Sizes}
 use Rattle.layout.specs.Places.{Blocks, place, pointed}
-use Rattle.layout.specs.Version.{level_of}
 use Rattle.layout.specs.declared.inode.Body.{Body}
 use Rattle.layout.specs.declared.inode.Body.TheVariants.{Inline, Pointers}
 use Rattle.layout.specs.declared.inode.Inode.{Inode}
@@ -28,7 +27,7 @@ use Rattle.inode.specs.declared.object.Object.{Object}
 use Rattle.conspoint.specs.Blocks.{AreWholeOver}
 use Rattle.conspoint.specs.declared.draft.Draft.{Draft}
 use Rattle.placement.specs.declared.nodes.Nodes.{Nodes}
-use Rattle.placement.specs.Files.{IsBasedOn, IsChangeOf, IsPlaced, is_one, content_with, object_block, with_first}
+use Rattle.placement.specs.Files.{IsBasedOn, IsChangeOf, IsPlaced, file_level, is_one, content_with, object_block, with_first}
 use Rattle.placement.specs.Layouts.{inode_with, AreSettledNodes, IsLaidOut}
 use Rattle.placement.specs.Nodes.{HasMoved, ArePlacedOver}
 use Rattle.layout.proofs.SizeLaws.{level_some}
@@ -65,11 +64,11 @@ first_ends bytes block size large ends p le =
 
 -- blocks as memory has them, over settled ones that can be read
 module _ (d : Blocks) (base : Inode) (o : Object) (based : IsBasedOn base o.file.tree) (readable : IsReadable (held d base)) where
-  below_whole : (i : ℕ) → IsWhole (settled_block d o.file.tree.pointers o.file.tree.depth o.file.tree.kept i)
+  below_whole : (i : ℕ) → IsWhole (settled_block o.file.tree.layout d o.file.tree.pointers o.file.tree.depth o.file.tree.kept i)
   unfolding settled_block
   below_whole i =
       let t = o.file.tree in
-      let block = pointed d (place d t.pointers t.depth i) in
+      let block = pointed d (place t.layout d t.pointers t.depth i) in
       elim (cases_lt i t.kept) [
         | inl lt ↦ subst IsWhole (cond_below i t.kept block (zeros 4096) lt) (blocks_whole d base t based readable i (omega (arith, lt, t.fits.1)))
         | inr ge ↦ subst IsWhole (cond_above i t.kept block (zeros 4096) (zeros 4096) ge refl) (length-zeros 4096)
@@ -77,7 +76,7 @@ module _ (d : Blocks) (base : Inode) (o : Object) (based : IsBasedOn base o.file
 
   pub object_whole : (first : ℕ) → AreWholeOver o.file.tree first (block_count o.file.size) → (i : ℕ) → first ≤ i → IsWhole (object_block d o i)
   object_whole first over i from = elim (cases_lt i (block_count o.file.size)) [
-    | inl lt ↦ subst IsWhole (cond_below i (block_count o.file.size) (files.file_block d o.file i) (zeros 4096) lt) (over i from lt (settled_block d o.file.tree.pointers o.file.tree.depth o.file.tree.kept i) (below_whole i))
+    | inl lt ↦ subst IsWhole (cond_below i (block_count o.file.size) (files.file_block d o.file i) (zeros 4096) lt) (over i from lt (settled_block o.file.tree.layout d o.file.tree.pointers o.file.tree.depth o.file.tree.kept i) (below_whole i))
     | inr ge ↦ subst IsWhole (cond_above i (block_count o.file.size) (files.file_block d o.file i) (zeros 4096) (zeros 4096) ge refl) (length-zeros 4096)
   ]
 
@@ -94,17 +93,21 @@ module _ (s : Sizes) (old new : Draft) (d e : Blocks) (base : Inode) (o : Object
   content_is = λ j. record { kind = o.status.kind; attributes = o.status.attributes; links = o.status.links; size = o.file.size; block = λ i. laid.blocks i j }
 
   -- a file's blocks are whole where it has any
-  readable : (1 ≤ level_of o.file.size → (i : ℕ) → IsWhole (block i)) → (b : Body) → body ≡ b → FitsBody b s.blocks o.file.size → IsReadable (held e (inode_with o body))
+  readable : (1 ≤ file_level o.file → (i : ℕ) → IsWhole (block i)) → (b : Body) → body ≡ b → FitsBody o.file.tree.layout b s.blocks o.file.size → IsReadable (held e (inode_with o body))
   unfolding held
-  readable whole (Inline bytes) is fits i x at = absurd (none_named e (inode_with o body) (level_none o.file.size fits.0) x (record { height = 0; index = i; is = at }))
+  readable whole (Inline bytes) is fits i x at = absurd (none_named e (inode_with o body) (level_none o.file.tree.layout o.file.size fits.0) x (record { height = 0; index = i; is = at }))
   readable whole (Pointers ps) is fits i x at =
       let stored = (held e (inode_with o body)).bytes 0 i in
-      ap length (ap (λ b. body_block b stored i) (sym is) ∙ laid.blocks i) ∙ whole (level_some o.file.size fits.0) i
+      ap length (ap (λ b. body_block b stored i) (sym is) ∙ laid.blocks i) ∙ whole (level_some o.file.tree.layout o.file.size fits.0) i
 
-  sound_is : (1 ≤ level_of o.file.size → (i : ℕ) → IsWhole (block i)) → IsSoundFile s (held e (inode_with o body))
+  base_layout : base.layout ≡ s.layout
+  unfolding held
+  base_layout = change.sound.inode.layout
+
+  sound_is : (1 ≤ file_level o.file → (i : ℕ) → IsWhole (block i)) → IsSoundFile s (held e (inode_with o body))
   unfolding held
   sound_is whole = record {
-    inode = record { attributes = change.attributes; size = o.file.within; kind = change.kind; body = laid.body };
+    inode = record { layout = known.tree ∙ base_layout; attributes = change.attributes; size = o.file.within; kind = change.kind; body = laid.body };
     indirect = laid.indirect;
     bytes = record {
       readable = readable whole body refl laid.body;
@@ -112,7 +115,7 @@ module _ (s : Sizes) (old new : Draft) (d e : Blocks) (base : Inode) (o : Object
     };
   }
 
-  pub file_placed : (1 ≤ level_of o.file.size → (i : ℕ) → IsWhole (block i)) → IsPlaced s e (held d base) (inode_with o body) (is_one taken) (is_one freed)
+  pub file_placed : (1 ≤ file_level o.file → (i : ℕ) → IsWhole (block i)) → IsPlaced s e (held d base) (inode_with o body) (is_one taken) (is_one freed)
   file_placed whole =
       let before = held d base in
       let after = held e (inode_with o body) in

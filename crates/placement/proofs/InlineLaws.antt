@@ -8,14 +8,13 @@ use Rattle.layout.specs.Bytes.{zeros}
 use Rattle.layout.specs.Inode.{FitsInline}
 use Rattle.layout.specs.Limits.{Sizes}
 use Rattle.layout.specs.Places.{Blocks, pointed}
-use Rattle.layout.specs.Version.{level_of}
 use Rattle.layout.specs.declared.inode.Body.TheVariants.{Inline}
 use Rattle.images.specs.Nodes.{held, body_block}
 use Rattle.blocktree.specs.Places.{block_count}
 use Rattle.inode.specs.Files.{file_block, IsFile}
 use Rattle.inode.specs.declared.object.Object.{Object}
 use Rattle.placement.specs.declared.nodes.Nodes.{Nodes}
-use Rattle.placement.specs.Files.{object_block}
+use Rattle.placement.specs.Files.{file_level, object_block}
 use Rattle.placement.specs.Layouts.{inode_with, IsLaidOut}
 use Rattle.placement.specs.Nodes.{height_of, node}
 use Rattle.blocktree.specs.declared.place_map.PlaceMap.{PlaceMap}
@@ -81,7 +80,7 @@ head_is bytes block size count whole low each =
           ∙ sym (get_or-append_right (take size block) (zeros (128 - size)) k 0 (omega (arith, ge, head)))
     ])
 
-module _ (s : Sizes) (d e : Blocks) (o : Object) (bytes : List ℕ) (nodes : Nodes) (level : level_of o.file.size ≡ 0) (none : nodes.heights.items ≡ [])
+module _ (s : Sizes) (d e : Blocks) (o : Object) (bytes : List ℕ) (nodes : Nodes) (level : file_level o.file ≡ 0) (none : nodes.heights.items ≡ [])
     (ends : IsFile d o.file) (whole : length (file_block d o.file 0) ≡ 4096) (is : bytes ≡ take o.file.size (file_block d o.file 0) ++ zeros (128 - o.file.size)) where
   past : (k : ℕ) → o.file.size ≤ k → get_or (file_block d o.file 0) k 0 ≡ 0
   past k le = elim (cases_lt k 4096) [
@@ -100,7 +99,7 @@ module _ (s : Sizes) (d e : Blocks) (o : Object) (bytes : List ℕ) (nodes : Nod
   first_block : bytes ++ zeros 3968 ≡ object_block d o 0
   first_block =
       let block = file_block d o.file 0 in
-      let full = ap (λ xs. xs ++ zeros 3968) is ∙ filled block o.file.size whole (is_inline o.file.size level) past in
+      let full = ap (λ xs. xs ++ zeros 3968) is ∙ filled block o.file.size whole (is_inline o.file.tree.layout o.file.size level) past in
       elim (cases_lt 0 (block_count o.file.size)) [
         | inl lt ↦ full ∙ cond_below 0 (block_count o.file.size) block (zeros 4096) lt
         | inr ge ↦
@@ -110,7 +109,7 @@ module _ (s : Sizes) (d e : Blocks) (o : Object) (bytes : List ℕ) (nodes : Nod
 
   other_block : (i : ℕ) → zeros 4096 ≡ object_block d o (suc i)
   other_block i =
-      let low = is_inline o.file.size level in
+      let low = is_inline o.file.tree.layout o.file.size level in
       cond_above (suc i) (block_count o.file.size) (file_block d o.file (suc i)) (zeros 4096) (zeros 4096) (omega (arith, low)) refl
 
   inline_block : (stored : List ℕ) (i : ℕ) → body_block (Inline bytes) stored i ≡ object_block d o i
@@ -122,6 +121,6 @@ module _ (s : Sizes) (d e : Blocks) (o : Object) (bytes : List ℕ) (nodes : Nod
   inline_stands = record {
     nodes = record { places = inline_place };
     blocks = λ i. inline_block (pointed e ((held e (inode_with o (Inline bytes))).place 0 i)) i;
-    body = subst (λ xs. FitsInline xs o.file.size) (sym is) (inline_fits (file_block d o.file 0) o.file.size whole (is_inline o.file.size level) past);
+    body = subst (λ xs. FitsInline xs o.file.size) (sym is) (inline_fits (file_block d o.file 0) o.file.size whole (is_inline o.file.tree.layout o.file.size level) past);
     indirect = λ m i b at. hole_block (sym (node_above e (inode_with o (Inline bytes)) (suc m) i (omega (arith, level))) ∙ at);
   }

@@ -1,3 +1,4 @@
+mod FanLemmas
 pub mod StepLaws
 mod PlacedLaws
 mod MovedLaws

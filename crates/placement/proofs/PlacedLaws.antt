@@ -50,12 +50,12 @@ node_height n m i b is = elim (cases_lt m (height_of n)) [
   | inr ge ↦ hole_block (sym (node_over n m i ge) ∙ is)
 ]
 
-old_at : (xs : List PlaceMap) (p : PlaceMap) (m : ℕ) → m < length xs → slice_get (xs ++ p ∷ []) m ≡ slice_get xs m
+pub old_at : (xs : List PlaceMap) (p : PlaceMap) (m : ℕ) → m < length xs → slice_get (xs ++ p ∷ []) m ≡ slice_get xs m
 old_at xs p m lt =
     slice_get-get_or (xs ++ p ∷ []) m p (omega (arith, length-append xs (p ∷ []), lt))
     ∙ ap (λ (q : PlaceMap). Some q) (get_or_append_left xs (p ∷ []) p m lt) ∙ sym (slice_get-get_or xs m p lt)
 
-last_at : (xs : List PlaceMap) (p : PlaceMap) (m : ℕ) → m ≡ length xs → slice_get (xs ++ p ∷ []) m ≡ Some p
+pub last_at : (xs : List PlaceMap) (p : PlaceMap) (m : ℕ) → m ≡ length xs → slice_get (xs ++ p ∷ []) m ≡ Some p
 last_at xs p m is =
     slice_get-get_or (xs ++ p ∷ []) m p (omega (arith, length-append xs (p ∷ []), is))
     ∙ ap (λ (q : PlaceMap). Some q) (ap (λ (k : ℕ). get_or (xs ++ p ∷ []) k p) is ∙ get_or-append_seam xs p [] p)

@@ -6,7 +6,7 @@ use Rattle.layout.specs.Bytes.{zeros}
 use Rattle.layout.specs.Inode.{FitsKind}
 use Rattle.layout.specs.Limits.{Sizes}
 use Rattle.layout.specs.Places.{Blocks}
-use Rattle.layout.specs.Version.{level_of}
+use Rattle.layout.specs.Trees.{level_of}
 use Rattle.layout.specs.declared.TheConstants.{BLOCK_BYTES}
 use Rattle.layout.specs.declared.inode.Body.TheVariants.{Pointers}
 use Rattle.layout.specs.declared.inode.Inode.{Inode}
@@ -19,17 +19,25 @@ use Rattle.blocktree.specs.Places.{block_count}
 use Rattle.blocktree.specs.Trees.{IsChanged}
 use Rattle.blocktree.specs.declared.tree.BlockTree.{BlockTree}
 use Rattle.inode.specs.Files.{file_block, IsFile}
+use Rattle.inode.specs.declared.file.File.{File}
 use Rattle.inode.specs.declared.object.Object.{Object}
 use Rattle.blockmap.specs.Maps.{IsFree}
 use Rattle.conspoint.specs.Drafts.{OnEach}
 use Rattle.conspoint.specs.declared.draft.Draft.{Draft}
 use Rattle.placement.specs.declared.file.PlacedFile.{PlacedFile}
 
--- A file's blocks in memory lie over those that hang from a settled inode, or over none.
+-- A file's blocks in memory lie over those that hang from a settled inode, or over none. They have
+-- its layout.
 pub data IsBasedOn (base : Inode) (t : BlockTree) : Type 0 where
-  settled : (body : base.body ≡ Pointers t.pointers) → (level : level_of base.size ≡ suc t.depth)
-      → (count : t.count ≡ block_count base.size) → IsBasedOn base t
-  none : (level : level_of base.size ≡ 0) → (count : t.count ≡ 0) → IsBasedOn base t
+  settled : (layout : t.layout ≡ base.layout) → (body : base.body ≡ Pointers t.pointers)
+      → (level : level_of base.layout base.size ≡ suc t.depth) → (count : t.count ≡ block_count base.size)
+      → IsBasedOn base t
+  none : (layout : t.layout ≡ base.layout) → (level : level_of base.layout base.size ≡ 0) → (count : t.count ≡ 0)
+      → IsBasedOn base t
+
+-- the level of a file in memory
+abbrev pub file_level : File → ℕ
+file_level f = level_of f.tree.layout f.size
 
 -- block i of an object in memory: zeros past its end
 abbrev pub object_block : Blocks → Object → ℕ → List ℕ
@@ -71,7 +79,7 @@ pub record IsChangeOf (s : Sizes) (d : Draft) (disk : Blocks) (base : Inode) (o 
 pub record IsWholeOver (disk : Blocks) (base : Inode) (o : Object) : Type 0 where
   pub no_hole : HasNoHole (held disk base)
   pub size : o.file.size ≡ base.size
-  pub kept : 1 ≤ level_of base.size → o.file.tree.kept ≡ block_count base.size
+  pub kept : 1 ≤ level_of base.layout base.size → o.file.tree.kept ≡ block_count base.size
 
 -- each block of an object is changed in memory
 abbrev pub AreAllChanged : Object → Type 0

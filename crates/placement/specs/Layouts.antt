@@ -1,11 +1,10 @@
 -- A changed file's inode and nodes, at each level.
-use Rattle.std.specs.Prelude.{ℕ, suc, ◌≡◌, ◌+◌, ◌-◌, ◌*◌, ◌<◌, ◌≤◌, List, ◌⊎◌}
+use Rattle.std.specs.Prelude.{ℕ, suc, ◌≡◌, ◌-◌, ◌*◌, ◌<◌, ◌≤◌, List, ◌⊎◌}
 use Rattle.layout.specs.Inode.{FitsBody}
 use Rattle.layout.specs.Limits.{Sizes}
 use Rattle.layout.specs.Maps.{IsIndirectBlock}
 use Rattle.layout.specs.Places.{Blocks, place, pointed}
-use Rattle.layout.specs.Version.{level_of}
-use Rattle.layout.specs.declared.TheConstants.{BLOCK_POINTERS}
+use Rattle.layout.specs.Trees.{fan_out, level_of}
 use Rattle.layout.specs.declared.inode.Body.{Body}
 use Rattle.layout.specs.declared.inode.Inode.{Inode}
 use Rattle.layout.specs.declared.pointer.Pointer.{Pointer}
@@ -25,12 +24,13 @@ use Rattle.conspoint.specs.Drafts.{OnEach}
 use Rattle.conspoint.specs.Groups.{IsGroup}
 use Rattle.placement.specs.declared.file.Laid.{Laid}
 use Rattle.placement.specs.declared.nodes.Nodes.{Nodes}
-use Rattle.placement.specs.Nodes.{AreKept, AreNodesOf, ArePlacedAt, ArePlacedIn, ArePlacedOver, AreShort, height_of, kept_place, node, under}
+use Rattle.placement.specs.Nodes.{AreKept, AreNodesOf, ArePlacedAt, ArePlacedIn, ArePlacedOver, AreShort, height_of, in_group, kept_place, node, under}
 use Rattle.placement.specs.Files.{OnEachWith, object_block}
 
--- an object's inode with this body
+-- an object's inode with this body, of the layout of its file's tree
 abbrev pub inode_with : Object → Body → Inode
 inode_with o body = record {
+  layout = o.file.tree.layout;
   kind = o.status.kind;
   attributes = o.status.attributes;
   links = o.status.links;
@@ -42,22 +42,25 @@ inode_with o body = record {
 -- were placed over settled ones.
 abbrev pub StandOver : Blocks → Nodes → Nodes → Type 0
 StandOver e settled n = (m j : ℕ) → suc m < height_of n
-    → IsGroup e (node settled (suc m) j) (under settled m j) (λ i. node n m (BLOCK_POINTERS * j + i)) (node n (suc m) j)
+    → IsGroup e (node settled (suc m) j) (under settled m j) (in_group n m j) (node n (suc m) j)
 
 -- these are the settled nodes under a file's blocks, and those that hang from its settled inode
 pub record AreSettledNodes (disk : Blocks) (base : Inode) (t : BlockTree) (n : Nodes) : Type 0 where
   pub nodes : AreNodesOf n (held disk base)
-  pub blocks : (i : ℕ) → i < t.count → node n 0 i ≡ place disk t.pointers t.depth i
-  pub heights : (height_of n ≡ level_of base.size) ⊎ (level_of base.size ≡ 0)
+  pub layout : n.layout ≡ base.layout
+  pub tree : t.layout ≡ base.layout
+  pub blocks : (i : ℕ) → i < t.count → node n 0 i ≡ place t.layout disk t.pointers t.depth i
+  pub heights : (height_of n ≡ level_of base.layout base.size) ⊎ (level_of base.layout base.size ≡ 0)
 
 -- on a disk e these nodes hang from an inode, whose file has these blocks, and all is in its
 -- grammar but what the inode says of the file
 pub record IsLaidOut (s : Sizes) (e : Blocks) (block : ℕ → List ℕ) (f : Inode) (n : Nodes) : Type 0 where
   pub nodes : AreNodesOf n (held e f)
   pub blocks : (i : ℕ) → file_block (held e f) i ≡ block i
-  pub body : FitsBody f.body s.blocks f.size
+  pub body : FitsBody f.layout f.body s.blocks f.size
   pub indirect : (m i b : ℕ) → (held e f).place (suc m) i ≡ Block b
-      → IsIndirectBlock s.blocks (nodes_of_size f.size m - BLOCK_POINTERS * i) ((held e f).bytes (suc m) i)
+      → IsIndirectBlock f.layout s.blocks (nodes_of_size f.layout f.size m - fan_out f.layout * i)
+      ((held e f).bytes (suc m) i)
 
 -- on a disk e these pointers lead to the blocks of a file
 abbrev pub LeadToBlocks : Blocks → (ℕ → Pointer) → (ℕ → List ℕ) → Type 0
@@ -87,9 +90,10 @@ pub record AreLowest (first count : ℕ) (t : BlockTree) (settled : Nodes) (old 
 -- Nodes of a file of so many blocks, up to a level, over these places of its blocks: those over
 -- them were placed between two drafts.
 pub record AreRaised (count level : ℕ) (settled : Nodes) (lowest : PlaceMap) (old new : Draft) (n : Nodes) : Type 0 where
+  pub layout : n.layout ≡ settled.layout
   pub heights : height_of n ≡ level
   pub lowest_are : (i : ℕ) → node n 0 i ≡ place_at lowest i
-  pub end : (m i : ℕ) → nodes_at count m ≤ i → node n m i ≡ Hole
+  pub end : (m i : ℕ) → nodes_at settled.layout count m ≤ i → node n m i ≡ Hole
   pub placed : ArePlacedIn 1 level old new settled n
 
 -- what is laid out of an object got its places between two drafts, over settled nodes

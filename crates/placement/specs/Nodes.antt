@@ -1,9 +1,11 @@
--- Where the nodes of a file are, by height: its blocks, the indirect blocks over each 1,024 of
+-- Where the nodes of a file are, by height: its blocks, the indirect blocks over groups of
 -- them, and so on.
 use Rattle.std.specs.Prelude.{ℕ, zero, suc, ◌≡◌, ◌≢◌, ◌<◌, ◌+◌, ◌*◌, ◌≤◌, ◌⊎◌, List, length, slice_index, nat_lt, if◌then◌else◌, Option, Some, None}
 use Rattle.std.specs.List.{slice_get}
 use Rattle.layout.specs.Pointer.{PointsBelow}
-use Rattle.layout.specs.declared.TheConstants.{BLOCK_POINTERS}
+use Rattle.layout.specs.Trees.{fan_out}
+use Rattle.layout.specs.declared.trees.Layout.{Layout}
+use Rattle.layout.specs.declared.trees.Layout.TheVariants.{Plain, Summed}
 use Rattle.layout.specs.declared.pointer.Pointer.{Pointer}
 use Rattle.layout.specs.declared.pointer.Pointer.TheVariants.{Hole, Block}
 use Rattle.images.specs.Nodes.{Held}
@@ -29,46 +31,69 @@ node n m i = place_of (slice_get n.heights.items m) i
 abbrev pub height_of : Nodes → ℕ
 height_of n = length n.heights.items
 
--- what the indirect block over group j of the nodes at a height spells: where there is no height
--- above, none
+-- pointer i of the indirect block over group j of the nodes at a height: holes behind as many as it
+-- has
+abbrev pub in_group : Nodes → ℕ → ℕ → ℕ → Pointer
+in_group n m j i = if nat_lt i (fan_out n.layout) then node n m (fan_out n.layout * j + i) else Hole
+
+-- what this block spells: where there is no height above, none
 abbrev pub under : Nodes → ℕ → ℕ → ℕ → Pointer
-under n m j i = if nat_lt (suc m) (height_of n) then node n m (BLOCK_POINTERS * j + i) else Hole
+under n m j i = if nat_lt (suc m) (height_of n) then in_group n m j i else Hole
 
 -- what holds of each block under node j at a height
-unfoldable pub AllUnder : (ℕ → Type 0) → ℕ → ℕ → Type 0
-AllUnder P zero j = P j
-AllUnder P (suc height) j = (i : ℕ) → i < BLOCK_POINTERS → AllUnder P height (BLOCK_POINTERS * j + i)
+unfoldable pub AllUnder : Layout → (ℕ → Type 0) → ℕ → ℕ → Type 0
+AllUnder layout P zero j = P j
+AllUnder layout P (suc height) j =
+    (i : ℕ) → i < fan_out layout → AllUnder layout P height (fan_out layout * j + i)
 
 -- over node j at a height the blocks of a file are those that were settled, as high up, or there
 -- are none
 abbrev pub StaysUnder : Nodes → PlaceMap → ℕ → ℕ → Type 0
 StaysUnder settled lowest height j =
-    ((height < height_of settled) × AllUnder (λ i. place_at lowest i ≡ node settled 0 i) height j)
-    ⊎ AllUnder (λ i. place_at lowest i ≡ Hole) height j
+    ((height < height_of settled) × AllUnder settled.layout (λ i. place_at lowest i ≡ node settled 0 i) height j)
+    ⊎ AllUnder settled.layout (λ i. place_at lowest i ≡ Hole) height j
 
 -- a file has fewer nodes at a height
 abbrev pub MOST_NODES : ℕ
 MOST_NODES = 4294967295
 
+-- as many groups of nodes have an index
+abbrev pub most_groups : Layout → ℕ
+most_groups Plain = 4194304
+most_groups Summed = 8388608
+
 -- where block i of a file is settled, if it isn't cut off
 abbrev pub kept_place : BlockTree → Nodes → ℕ → Pointer
 kept_place t settled i = if nat_lt i t.kept then node settled 0 i else Hole
 
--- over 1,024 holes there is no node
+-- these are all nodes of a group at a height, and holes
+abbrev pub IsEmptyGroup : Nodes → ℕ → ℕ → Type 0
+IsEmptyGroup n m j = (i : ℕ) → i < fan_out n.layout → node n m (fan_out n.layout * j + i) ≡ Hole
+
+-- over such a group there is no node
 abbrev pub AreFull : Nodes → Type 0
-AreFull n = (m j : ℕ) → ((i : ℕ) → i < BLOCK_POINTERS → node n m (BLOCK_POINTERS * j + i) ≡ Hole) → node n (suc m) j ≡ Hole
+AreFull n = (m j : ℕ) → IsEmptyGroup n m j → node n (suc m) j ≡ Hole
 
 -- these are the nodes of what hangs from an inode
 pub record AreNodesOf (n : Nodes) (h : Held) : Type 0 where
   pub places : (m i : ℕ) → h.place m i ≡ node n m i
 
+-- the nodes at each height are held by groups of the layout
+abbrev pub HaveLayout : Layout → Option PlaceMap → Type 0
+HaveLayout layout (Some places) = places.layout ≡ layout
+HaveLayout layout None = Unit {0}
+
+abbrev pub AreAlike : Nodes → Type 0
+AreAlike n = (m : ℕ) → HaveLayout n.layout (slice_get n.heights.items m)
+
 -- all nodes of a file stay on a disk of so many blocks
 abbrev pub AreWithin : ℕ → Nodes → Type 0
 AreWithin blocks n = (m i : ℕ) → PointsBelow blocks (node n m i)
 
--- settled nodes as they are read: all stay on a disk of so many blocks, and none is over holes
--- alone
+-- settled nodes as they are read: those at each height are of the layout, all stay on a disk of so
+-- many blocks, and none is over holes alone
 pub record AreSettledIn (blocks : ℕ) (n : Nodes) : Type 0 where
+  pub alike : AreAlike n
   pub within : AreWithin blocks n
   pub full : AreFull n
 
@@ -130,8 +155,9 @@ pub record ArePlacedOver (old new : Draft) (settled placed : Nodes) : Type 0 whe
 -- of the settled nodes of a file as many heights were read as its tree has, and past the nodes that
 -- it counts there all are holes
 pub record AreCounted (t : BlockTree) (n : Nodes) : Type 0 where
+  pub layout : n.layout ≡ t.layout
   pub heights : height_of n ≡ suc t.depth
-  pub end : (m i : ℕ) → nodes_at t.count m ≤ i → node n m i ≡ Hole
+  pub end : (m i : ℕ) → nodes_at t.layout t.count m ≤ i → node n m i ≡ Hole
 
 -- of a file's blocks from one on and before another, only one that is settled as a hole becomes a
 -- hole, and none that is changed

@@ -1,5 +1,6 @@
 -- What the steps that place a file promise.
 use Rattle.std.specs.Prelude.{ℕ, zero, suc, ◌≡◌, ◌<◌, ◌≤◌, All, true, Result, OnOk, IsErrOf}
+use Rattle.layout.specs.declared.trees.Layout.{Layout}
 use Rattle.images.specs.Sums.{sum_below}
 use Rattle.blocktree.specs.Names.{nodes_at}
 use Rattle.blocktree.specs.declared.place_map.PlaceMap.{PlaceMap}
@@ -31,17 +32,18 @@ pub record ReadsAndPlaces {B T : Type 0} (G : Ghosts B) (n : ℕ) (blocks after 
 -- is stored
 abbrev pub CountsHeights : (ℕ → ℕ → ℕ) → ℕ → ℕ → Nodes → PlaceMap → Type 0
 CountsHeights w blocks level settled lowest =
-    (h j : ℕ) → 1 ≤ h → h < level → j < nodes_at blocks h → w h j ≡ 0 → StaysUnder settled lowest h j
+    (h j : ℕ) → 1 ≤ h → h < level → j < nodes_at settled.layout blocks h → w h j ≡ 0 → StaysUnder settled lowest h j
 
 -- how many that are at a height
-unfoldable pub raise_stores : ℕ → (ℕ → ℕ → ℕ) → ℕ → ℕ
-raise_stores blocks w zero = 0
-raise_stores blocks w (suc h) = sum_below (w (suc h)) (nodes_at blocks (suc h))
+unfoldable pub raise_stores : Layout → ℕ → (ℕ → ℕ → ℕ) → ℕ → ℕ
+raise_stores layout blocks w zero = 0
+raise_stores layout blocks w (suc h) = sum_below (w (suc h)) (nodes_at layout blocks (suc h))
 
 -- a step that places the nodes over so many blocks of a file at a level, which lie there
 abbrev pub PlacesHeights : {T : Type 0} → ℕ → ℕ → Nodes → PlaceMap → Draft → Draft → Result T PlanError → Type 0
 PlacesHeights blocks level settled lowest old new result =
-    (w : ℕ → ℕ → ℕ) → CountsHeights w blocks level settled lowest → Places (sum_below (raise_stores blocks w) level) old new result
+    (w : ℕ → ℕ → ℕ) → CountsHeights w blocks level settled lowest
+    → Places (sum_below (raise_stores settled.layout blocks w) level) old new result
 
 -- the blocks that were given out between two drafts for a file that is placed lie on the disk, as
 -- those do that it leaves

@@ -1,11 +1,11 @@
 //! A changed file's blocks, at their new places.
 
-ghost use Rattle.std.specs.Prelude.{◌<◌, IfOk};
+ghost use Rattle.std.specs.Prelude.{◌≡◌, ◌<◌, IfOk};
 ghost use Rattle.blocktree.specs.PlaceMaps.{place_at};
 ghost use Rattle.conspoint.specs.Space.{changed_blocks};
 ghost use Rattle.conspoint.specs.Steps.{Places};
 ghost use Rattle.placement.specs.Layouts.{AreLowest};
-ghost use Rattle.placement.specs.Nodes.{AreStored, AreWithin, height_of};
+ghost use Rattle.placement.specs.Nodes.{AreAlike, AreStored, AreWithin, height_of};
 
 use crate::nodes::Nodes;
 use blocktree::{BlockTree, PlaceMap};
@@ -24,7 +24,9 @@ pub(crate) fn place_lowest(
 ) -> Result<PlaceMap, PlanError>
     requires some { 0 < height_of settled.now }
     requires settled { AreWithin draft.old.map.count settled.now }
+    requires alike { AreAlike settled.now }
     ensures step { Places (changed_blocks tree.now first count) draft.old draft.new result }
+    ensures layout { IfOk result (λ places. places.layout ≡ settled.now.layout) }
     ensures lowest { IfOk result
         (AreLowest first count tree.now settled.now draft.old draft.new) }
     ensures stored { IfOk result

@@ -13,7 +13,7 @@ ghost use Rattle.conspoint.specs.Drafts.{IsReserved};
 ghost use Rattle.conspoint.specs.Space.{changed_blocks};
 ghost use Rattle.placement.specs.Files.{HasPlacedButFirst, IsChangeOf, OnEachWith, object_block, with_first};
 ghost use Rattle.placement.specs.Layouts.{AreLowest, AreSettledNodes, IsLaidOut, IsLaidOver, inode_with};
-ghost use Rattle.placement.specs.Nodes.{AreCounted, AreSettledIn, AreWithin, height_of, node};
+ghost use Rattle.placement.specs.Nodes.{AreAlike, AreCounted, AreSettledIn, AreWithin, height_of, node};
 ghost use Rattle.placement.specs.Space.{first_stores};
 ghost use Rattle.conspoint.specs.Steps.{Places};
 ghost use Rattle.placement.specs.Steps.{HasBlocks, ReadsAndPlaces};
@@ -41,7 +41,9 @@ fn place_but_first(
     requires some { 0 < count }
     requires height { 0 < height_of settled.now }
     requires settled { AreWithin draft.old.map.count settled.now }
+    requires alike { AreAlike settled.now }
     ensures step { Places (changed_blocks tree.now 1 count + 1) draft.old draft.new result }
+    ensures layout { IfOk result (λ r. r.0.layout ≡ settled.now.layout) }
     ensures reserved { IfOk result (λ r. IsReserved draft.new r.1) }
     ensures first { IfOk result (λ r. place_at r.0 0 ≡ Block r.1) }
     ensures lowest { IfOk result

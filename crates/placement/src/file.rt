@@ -2,7 +2,6 @@
 
 ghost use Rattle.std.specs.Prelude.{◌≡◌, ℕ, ◌<◌, ◌≤◌, List, [], All, Contains, ◌↔◌, IfOk, OnOk, IsErrOf, min};
 ghost use Rattle.layout.specs.Limits.{Sizes};
-ghost use Rattle.layout.specs.Version.{level_of};
 ghost use Rattle.layout.specs.declared.inode.Inode.{Inode};
 ghost use Rattle.images.specs.Nodes.{held};
 ghost use Rattle.images.specs.Soundness.{IsSoundFile};
@@ -11,7 +10,7 @@ ghost use Rattle.blocktree.specs.Places.{block_count};
 ghost use Rattle.blocktree.specs.Trees.{IsSoundAt};
 ghost use Rattle.inode.specs.Files.{IsFile};
 ghost use Rattle.conspoint.specs.Blocks.{AreWholeOver};
-ghost use Rattle.placement.specs.Files.{HasPlaced, IsChangeOf, object_block};
+ghost use Rattle.placement.specs.Files.{HasPlaced, IsChangeOf, file_level, object_block};
 ghost use Rattle.placement.specs.Layouts.{AreRaised, AreSettledNodes, Carries, IsLaidOut, IsLaidOver, StandsIn, inode_with};
 ghost use Rattle.placement.specs.Nodes.{AreCounted, AreKept, AreSettledIn, AreShort, AreStored, AreWithin, HasMoved, node};
 ghost use Rattle.placement.specs.Space.{file_stores};
@@ -29,7 +28,7 @@ use blocktree::PlaceMap;
 use buffers::Blocks;
 use conspoint::{Draft, PlanError};
 use inode::{Object, nodes_are_where_pointers_lead};
-use layout::{BlockNumber, Body, Inode, level_of};
+use layout::{BlockNumber, Body, Inode};
 use std::alloc::{AllocError, Global};
 
 /// A file that has places for all its nodes.
@@ -60,6 +59,13 @@ pub(crate) fn block_count(object: &Object) -> u32
     object.file.size().div_ceil(4096) as u32
 }
 
+/// The level of an object's file.
+fn file_level(object: &Object) -> u8
+    ensures { result ≡ file_level object.now.file }
+{
+    object.file.tree().layout().level_of(object.file.size())
+}
+
 /// How many of an object's first `count` blocks may be as settled.
 pub(crate) fn kept_of(object: &Object, count: u32) -> u32
     ensures { result ≡ min object.now.file.tree.kept count }
@@ -76,21 +82,23 @@ pub(crate) fn lay_over(
     blocks: PlaceMap,
     kept: u32,
 ) -> Result<Laid, PlanError>
-    requires level { 1 ≤ level_of object.now.file.size }
+    requires level { 1 ≤ file_level object.now.file }
+    requires layout { settled.now.layout ≡ object.now.file.tree.layout }
+    requires same { blocks.layout ≡ settled.now.layout }
     requires end { EndBefore (block_count object.now.file.size) blocks }
     requires blocks { AreBelow draft.old.map.count blocks }
     requires settled { AreSettledIn draft.old.map.count settled.now }
     ensures step { PlacesHeights (block_count object.now.file.size)
-        (level_of object.now.file.size) settled.now blocks draft.old draft.new result }
+        (file_level object.now.file) settled.now blocks draft.old draft.new result }
     ensures kept { IfOk result (λ l. l.kept ≡ kept) }
     ensures raised { IfOk result (λ l. AreRaised (block_count object.now.file.size)
-        (level_of object.now.file.size) settled.now blocks draft.old draft.new l.nodes) }
+        (file_level object.now.file) settled.now blocks draft.old draft.new l.nodes) }
     ensures stands { (s : Sizes) (disk : ℕ → List ℕ) (base : Inode)
         → s.blocks ≡ draft.old.map.count → IsSoundFile s (held disk base)
         → AreSettledNodes disk base object.now.file.tree settled.now → IfOk result (λ l.
         Carries s draft.new disk base (place_at blocks) (inode_with object.now l.body) l.nodes) }
 {
-    let level = usize::from(level_of(object.file.size()));
+    let level = usize::from(file_level(object));
     let nodes = raise_all(alloc, draft, settled, blocks, block_count(object), level)?;
     let highest = nodes.height(level - 1);
     let body = Body::Pointers(body_of(highest));
@@ -104,7 +112,7 @@ fn lay_blocks(
     object: &Object,
     settled: &Nodes,
 ) -> Result<Laid, PlanError>
-    requires level { 1 ≤ level_of object.now.file.size }
+    requires level { 1 ≤ file_level object.now.file }
     requires settled { AreSettledIn draft.old.map.count settled.now }
     requires counted { AreCounted object.now.file.tree settled.now }
     ensures step { Places (file_stores object.now.file) draft.old draft.new result }
@@ -128,7 +136,7 @@ fn lay_blocks(
 
 /// An object of level 0: its inode has its bytes.
 fn lay_inline<B: Blocks>(alloc: Global, blocks: &mut B, object: &Object) -> Result<Laid, PlanError>
-    requires level { level_of object.now.file.size ≡ 0 }
+    requires level { file_level object.now.file ≡ 0 }
     ensures reads { ReadsBlocks B.Blocks IsReadFault blocks.old blocks.new result }
     ensures none { IfOk result (λ l. l.nodes.heights.items ≡ []) }
     ensures kept { IfOk result (λ l. l.kept ≡ 0) }
@@ -142,6 +150,7 @@ fn lay_inline<B: Blocks>(alloc: Global, blocks: &mut B, object: &Object) -> Resu
 {
     let body = Body::Inline(inline_bytes(blocks, &object.file)?);
     let nodes = Nodes {
+        layout: object.file.tree().layout(),
         heights: Vec::new(alloc),
     };
     Ok(Laid {
@@ -164,10 +173,10 @@ fn lay<B: Blocks>(
     ensures step { ReadsAndPlaces B.Blocks (file_stores object.now.file)
         blocks.old blocks.new draft.old draft.new result }
     ensures laid { IfOk result (IsLaidOver object.now settled.now draft.old draft.new) }
-    ensures stored { IfOk result (λ l. 1 ≤ level_of object.now.file.size
+    ensures stored { IfOk result (λ l. 1 ≤ file_level object.now.file
         → AreStored 0 (block_count object.now.file.size) object.now.file.tree settled.now
         (node l.nodes 0)) }
-    ensures whole { OnOk result (1 ≤ level_of object.now.file.size
+    ensures whole { OnOk result (1 ≤ file_level object.now.file
         → AreWholeOver object.now.file.tree 0 (block_count object.now.file.size)) }
     ensures stands { (s : Sizes) (disk : ℕ → List ℕ) (base : Inode) → B.Shows blocks.old disk
         → IsChangeOf s draft.old disk base object.now
@@ -179,7 +188,7 @@ fn lay<B: Blocks>(
         → IsErrOf result PlanError.Damaged → ⊥ }
 {
     nodes_are_where_pointers_lead();
-    if level_of(object.file.size()) == 0 {
+    if file_level(object) == 0 {
         let small = lay_inline(alloc, blocks, object)?;
         return Ok(small);
     }
@@ -214,6 +223,7 @@ pub(crate) fn placed_file(
     let taken = moved(alloc, &nodes, settled, &changed, kept, count)?;
     let freed = moved(alloc, settled, &nodes, &changed, kept, tree.count())?;
     let inode = Inode {
+        layout: tree.layout(),
         kind: object.status.kind,
         attributes: object.status.attributes,
         links: object.status.links,

@@ -7,17 +7,18 @@ ghost use Rattle.layout.specs.declared.pointer.Pointer.TheVariants.{Hole, Block}
 ghost use Rattle.blocktree.specs.PlaceMaps.{AreBelow, EndBefore, place_at};
 ghost use Rattle.conspoint.specs.Groups.{pointer_at};
 ghost use Rattle.conspoint.specs.MapFiles.{map_nodes};
-ghost use Rattle.placement.specs.Nodes.{AreChanged, AreShort, AreWithin, HasLeft, HasLeftAmong, HasLeftIn, HasMoved, IsAmong, AreBetween, height_of, node};
+ghost use Rattle.placement.specs.Nodes.{AreAlike, AreChanged, AreShort, AreWithin, HasLeft, HasLeftAmong, HasLeftIn, HasMoved, IsAmong, AreBetween, height_of, node};
 
 use blocktree::{BlockTree, PlaceMap};
-use layout::{BODY_POINTERS, BlockNumber, Pointer};
+use layout::{BODY_POINTERS, BlockNumber, Layout, Pointer};
 use std::alloc::{AllocError, Global};
 
 /// Where the nodes of a file are.
 #[derive(Debug, Drop)]
 pub struct Nodes {
-    /// Those at each height, as far as there are any: its blocks, the indirect blocks over each
-    /// 1,024 of them, and so on.
+    pub(crate) layout: Layout,
+    /// Those at each height, as far as there are any: its blocks, the indirect blocks over them,
+    /// and so on.
     pub(crate) heights: Vec<PlaceMap>,
 }
 
@@ -35,7 +36,8 @@ impl Nodes {
     /// The nodes at one of the heights.
     pub(crate) fn height(&self, height: usize) -> &PlaceMap
         requires { height < height_of self.now }
-        ensures { (i : ℕ) → place_at result.now i ≡ node self.now height i }
+        ensures nodes { (i : ℕ) → place_at result.now i ≡ node self.now height i }
+        ensures layout { AreAlike self.now → result.now.layout ≡ self.now.layout }
     {
         &self.heights[height]
     }

@@ -3,57 +3,63 @@
 ghost use Rattle.std.specs.Prelude.{◌≡◌, ℕ, suc, ◌+◌, ◌*◌, ◌<◌, ◌≤◌, ◌↔◌, List, IfOk, IsErrOf, IsFalse, IsTrue};
 ghost use Rattle.layout.specs.Limits.{Sizes};
 ghost use Rattle.layout.specs.declared.inode.Inode.{Inode};
-ghost use Rattle.layout.specs.declared.TheConstants.{BLOCK_POINTERS};
+ghost use Rattle.layout.specs.Trees.{fan_out};
 ghost use Rattle.layout.specs.declared.pointer.Pointer.TheVariants.{Hole, Block};
 ghost use Rattle.blocktree.specs.PlaceMaps.{EndBefore, place_at};
 ghost use Rattle.images.specs.Nodes.{held};
 ghost use Rattle.images.specs.Soundness.{IsSoundFile};
 ghost use Rattle.placement.specs.Files.{IsBasedOn};
 ghost use Rattle.placement.specs.Layouts.{AreSettledNodes};
-ghost use Rattle.placement.specs.Nodes.{AreCounted, AreSettledIn, MOST_NODES, height_of, node};
+ghost use Rattle.placement.specs.Nodes.{AreCounted, AreSettledIn, IsEmptyGroup, MOST_NODES, height_of, most_groups, node};
 ghost use Rattle.buffers.specs.Reads.{ReadsBlocks};
 ghost use Rattle.conspoint.specs.Errors.{IsReadFault};
-ghost use Rattle.conspoint.specs.Groups.{group};
 
 use crate::nodes::Nodes;
 use blocktree::{BlockTree, PlaceMap};
 use buffers::Blocks;
 use conspoint::PlanError;
 use inode::nodes_are_where_pointers_lead;
-use layout::BLOCK_POINTERS;
+use layout::Layout;
 use std::alloc::Global;
 
-/// Nodes under one indirect block.
-const GROUP: u32 = BLOCK_POINTERS as u32;
-
 /// As many groups of nodes as have an index.
-const GROUPS: u32 = 4_194_304;
+fn most_groups(layout: Layout) -> u32
+    ensures { result ≡ most_groups layout }
+{
+    match layout {
+        Layout::Plain => 4_194_304,
+        Layout::Summed => 8_388_608,
+    }
+}
 
 /// Whether no node of a group is stored.
-fn is_empty(nodes: &PlaceMap, j: u32) -> bool
-    requires few { j < GROUPS }
+fn is_empty(layout: Layout, nodes: &PlaceMap, j: u32) -> bool
+    requires few { j < most_groups layout }
     requires end { EndBefore MOST_NODES nodes.now }
-    ensures { IsTrue result ↔ ((i : ℕ) → i < BLOCK_POINTERS → group nodes.now j i ≡ Hole) }
+    ensures { IsTrue result ↔ ((i : ℕ) → i < fan_out layout
+        → place_at nodes.now (fan_out layout * j + i) ≡ Hole) }
 {
-    let start = GROUP * j;
-    match nodes.next(start, start.saturating_add(GROUP)) {
+    let fan = layout.fan_out();
+    let start = fan * j;
+    match nodes.next(start, start.saturating_add(fan)) {
         Some(_) => false,
         None => true,
     }
 }
 
 /// Whether each node is over one that is stored.
-fn is_full(below: &PlaceMap, over: &PlaceMap) -> bool
-    requires end { EndBefore GROUPS over.now }
+fn is_full(layout: Layout, below: &PlaceMap, over: &PlaceMap) -> bool
+    requires end { EndBefore (most_groups layout) over.now }
     requires below { EndBefore MOST_NODES below.now }
-    ensures full { IsTrue result → (j : ℕ) → ((i : ℕ) → i < BLOCK_POINTERS
-        → group below.now j i ≡ Hole) → place_at over.now j ≡ Hole }
+    ensures full { IsTrue result → (j : ℕ) → ((i : ℕ) → i < fan_out layout
+        → place_at below.now (fan_out layout * j + i) ≡ Hole) → place_at over.now j ≡ Hole }
     ensures empty { IsFalse result → (j : ℕ) × (b : ℕ) × (place_at over.now j ≡ Block b)
-        × ((i : ℕ) → i < BLOCK_POINTERS → group below.now j i ≡ Hole) }
+        × ((i : ℕ) → i < fan_out layout → place_at below.now (fan_out layout * j + i) ≡ Hole) }
 {
+    let end = most_groups(layout);
     let mut next = 0;
-    while let Some(node) = over.next(next, GROUPS) {
-        if is_empty(below, node.index) {
+    while let Some(node) = over.next(next, end) {
+        if is_empty(layout, below, node.index) {
             return false;
         }
         next = node.index + 1;
@@ -63,20 +69,18 @@ fn is_full(below: &PlaceMap, over: &PlaceMap) -> bool
 
 /// Whether each of these nodes is over one of the highest of a file's, where it has any.
 fn is_above(nodes: &Nodes, over: &PlaceMap) -> bool
-    requires end { 0 < height_of nodes.now → EndBefore GROUPS over.now }
+    requires end { 0 < height_of nodes.now → EndBefore (most_groups nodes.now.layout) over.now }
     requires nodes { (m i : ℕ) → MOST_NODES ≤ i → node nodes.now m i ≡ Hole }
     ensures full { IsTrue result → (m j : ℕ) → height_of nodes.now ≡ suc m
-        → ((i : ℕ) → i < BLOCK_POINTERS → node nodes.now m (BLOCK_POINTERS * j + i) ≡ Hole)
-        → place_at over.now j ≡ Hole }
+        → IsEmptyGroup nodes.now m j → place_at over.now j ≡ Hole }
     ensures empty { IsFalse result → (m : ℕ) × (j : ℕ) × (b : ℕ) × (height_of nodes.now ≡ suc m)
-        × (place_at over.now j ≡ Block b) × ((i : ℕ) → i < BLOCK_POINTERS
-        → node nodes.now m (BLOCK_POINTERS * j + i) ≡ Hole) }
+        × (place_at over.now j ≡ Block b) × IsEmptyGroup nodes.now m j }
 {
     let count = nodes.heights.len();
     if count == 0 {
         return true;
     }
-    is_full(nodes.height(count - 1), over)
+    is_full(nodes.layout, nodes.height(count - 1), over)
 }
 
 /// The nodes of the settled inode under a file's blocks, height by height. Damaged also where an
@@ -101,6 +105,7 @@ pub fn settled_nodes<B: Blocks>(
     nodes_are_where_pointers_lead();
     let _ = tree.count();
     let mut nodes = Nodes {
+        layout: tree.layout(),
         heights: Vec::new(alloc),
     };
     for height in 0..tree.depth() as usize + 1 {

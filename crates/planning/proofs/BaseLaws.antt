@@ -42,8 +42,8 @@ active_top d r = refl
 frozen_top : (d : Blocks) (r : Root) (k : ℕ) (s : Snapshot) → HasSnapshot r (whole d r) k s → ((whole d r).frozen k 0).inode ≡ s.inode_file
 unfolding whole tree held inode_under frozen_inode_file
 frozen_top d r k s has =
-    ap (λ (p : Pointer). (frozen_at d r.geometry.inodes p 0).inode) has.there
-    ∙ ap inode_file_or_free (ap (λ p. snapshot_in (pointed d p)) (sym has.there) ∙ has.read)
+    ap (λ (p : Pointer). (frozen_at d r.geometry p 0).inode) has.there
+    ∙ ap (inode_file_or_free r.geometry.layout) (ap (λ p. snapshot_in r.geometry.layout (pointed d p)) (sym has.there) ∙ has.read)
 
 pub start_file : (d : Blocks) (r : Root) (change : SnapshotChange) → HasRestored change r (whole d r) → ((starting_tree change (whole d r)) 0).inode ≡ starting_file change r
 start_file d r Unchanged has = active_top d r

@@ -1,4 +1,6 @@
 -- What a change of the snapshots makes of the slots and of the block map's sets.
+use Rattle.layout.specs.declared.inode.Inode.{Inode}
+use Rattle.layout.specs.declared.trees.Layout.{Layout}
 use Rattle.std.proofs.Common.{◌≡◌, ◌≢◌, inl, inr, ◌↔◌, ℕ, zero, suc, ◌+◌, ◌≤◌, All, Bool, Some, List, drop, length, length-drop, refl, ap, sym, subst, ◌∙◌, arith}
 use Rattle.std.proofs.Math.Path.{fun_ext}
 use Rattle.std.proofs.lemmas.Bool.{cases_eq, cases_lt}
@@ -74,7 +76,7 @@ plane_active k bit p plane before after number changes = λ b. changes.others b 
 
 -- what images says of a snapshot's root block
 abbrev pub SnapshotsSpelled : Type 0
-SnapshotsSpelled = (v : Snapshot) → IsSnapshot v → (snapshot_in (snapshot_bytes v) ≡ Some v) × (frozen_inode_file (snapshot_bytes v) ≡ v.inode_file)
+SnapshotsSpelled = (layout : Layout) (v : Snapshot) → IsSnapshot v → v.inode_file.layout ≡ layout → (snapshot_in layout (snapshot_bytes v) ≡ Some v) × (frozen_inode_file layout (snapshot_bytes v) ≡ v.inode_file)
 
 slot_same : (r new : Root) (k : ℕ) → new.snapshots ≡ r.snapshots → slot new k ≡ slot r k
 slot_same r new zero same = refl
@@ -100,7 +102,7 @@ head_is d r k = refl
 one_slot : (d : Blocks) (r : Root) (k l b : ℕ) (s : Snapshot) → AreSnapshots r (whole d r) → HasSnapshot r (whole d r) k s → slot r k ≡ Block b → slot r l ≡ Block b → k ≡ l
 one_slot d r k l b s are has at_k at_l =
     let heads : (whole d r).head l ≡ (whole d r).head k = head_is d r l ∙ ap (pointed d) (at_l ∙ sym at_k) ∙ sym (head_is d r k) in
-    are.orders k l s s has (record { block = b; there = at_l; read = ap snapshot_in heads ∙ has.read }) refl
+    are.orders k l s s has (record { block = b; there = at_l; read = ap (snapshot_in r.geometry.layout) heads ∙ has.read }) refl
 
 module _ (heads : SnapshotsSpelled) (r new : Root) (d e : Blocks) (after : ℕ → ℕ) (root : IsRoot r) (sound : IsSound r (whole d r)) where
   abbrev before : ℕ → ℕ
@@ -119,7 +121,7 @@ module _ (heads : SnapshotsSpelled) (r new : Root) (d e : Blocks) (after : ℕ �
         let there : slot new k ≡ Block slots.0 = ap (slot new) same ∙ slots.1.there in
         let bit = λ (b : ℕ). stepped.keeps b k (omega (arith, low)) ∙ ap (bit_at (stepped.between b)) same ∙ stepped.sets.0.plane_is b in
         takes slots.0 there (stepped.sets.1 slots.0 slots.1.there)
-        (ap frozen_inode_file (ap (pointed e) (sym slots.1.there) ∙ has) ∙ (heads s can.is).1 ∙ can.tree)
+        (ap (frozen_inode_file r.geometry.layout) (ap (pointed e) (sym slots.1.there) ∙ has) ∙ (heads r.geometry.layout s can.is (ap (λ (i : Inode). i.layout) can.tree ∙ root.inode_file.layout)).1 ∙ can.tree)
         (λ b. (λ is. sym (bit b) ∙ is, λ is. bit b ∙ is))
     | inr differs ↦
         let bit = λ (b : ℕ). stepped.keeps b k (omega (arith, low)) ∙ stepped.sets.0.others b k differs other in

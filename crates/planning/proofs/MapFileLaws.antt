@@ -1,4 +1,7 @@
 -- The block map's own file is planned.
+use Rattle.layout.specs.Trees.{single_bytes}
+use Rattle.layout.specs.declared.trees.Layout.TheVariants.{Plain}
+use Rattle.layout.specs.declared.trees.Layout.{Layout}
 use Rattle.std.proofs.Common.{◌≡◌, ◌≢◌, ◌⊎◌, inl, inr, ℕ, ◌*◌, ◌/◌, ◌%◌, ◌<◌, ◌≤◌, Bool, false, List, length, refl, ap, sym, subst, ◌∙◌, arith}
 use Rattle.std.proofs.lemmas.Bool.{cases_lt}
 use Rattle.std.proofs.lemmas.Bool.Decides.{nat_tests}
@@ -7,7 +10,7 @@ use Rattle.layout.specs.Inode.{FitsKind}
 use Rattle.layout.specs.Limits.{AreSizes, Sizes}
 use Rattle.layout.specs.Maps.{map_entry}
 use Rattle.layout.specs.Places.{Blocks}
-use Rattle.layout.specs.Version.{level_of}
+use Rattle.layout.specs.Trees.{level_of}
 use Rattle.layout.specs.declared.inode.Inode.{Inode}
 use Rattle.layout.specs.declared.kind.Kind.{Kind}
 use Rattle.layout.specs.declared.pointer.Pointer.{Pointer}
@@ -36,8 +39,8 @@ entries_in : (t : HeldTree) (b : ℕ) → entry t b ≡ map_entry (file_block (t
 unfolding entry
 entries_in t b = refl
 
-level_two : (size : ℕ) → level_of size ≡ 2 → 65536 < size
-level_two size is = grind (arith, nat_tests)
+level_two : (layout : Layout) (size : ℕ) → level_of layout size ≡ 2 → 65536 < size
+level_two layout size is = grind (arith, nat_tests)
 
 -- how large the settled block map is
 blocks_size : {version : ℕ} (count : ℕ) (disk : Blocks) (s : Sizes) (top : File) (settled_of : ℕ → Inode) → AreSettled count disk version s top settled_of → (settled_of 2).size ≡ 4 * s.blocks
@@ -48,33 +51,34 @@ blocks_size count disk s top settled_of are =
 parts_of : (m : BlockMap) → length m.parts.items ≡ div_ceil m.count 1024
 parts_of m = omega (arith, m.covers, m.just)
 
-has_over : {version : ℕ} (count parts : ℕ) (disk : Blocks) (s : Sizes) (top : File) (settled_of : ℕ → Inode) → AreSettled count disk version s top settled_of → parts ≡ div_ceil s.blocks 1024 → level_of (settled_of 2).size ≡ 2 → 16 < parts
+has_over : {version : ℕ} (count parts : ℕ) (disk : Blocks) (s : Sizes) (top : File) (settled_of : ℕ → Inode) → AreSettled count disk version s top settled_of → parts ≡ div_ceil s.blocks 1024 → level_of (settled_of 2).layout (settled_of 2).size ≡ 2 → 16 < parts
 has_over count parts disk s top settled_of are is level =
-    let size = blocks_size count disk s top settled_of are in let large = level_two (settled_of 2).size level in omega arith
+    let size = blocks_size count disk s top settled_of are in let large = level_two (settled_of 2).layout (settled_of 2).size level in omega arith
 
 -- no block of a settled map is a hole
-stored_block : (s : Sizes) (disk : Blocks) (f : Inode) (parts k : ℕ) → HasNoHole (held disk f) → f.size ≡ 4 * s.blocks → 64 ≤ s.blocks → s.blocks ≤ 1048576 → parts ≡ div_ceil s.blocks 1024 → k < parts
+stored_block : (s : Sizes) (disk : Blocks) (f : Inode) (parts k : ℕ) → f.layout ≡ Plain → HasNoHole (held disk f) → f.size ≡ 4 * s.blocks → 64 ≤ s.blocks → s.blocks ≤ 1048576 → parts ≡ div_ceil s.blocks 1024 → k < parts
     → (held disk f).place 0 k ≢ Hole
 unfolding held nodes_of_size
-stored_block s disk f parts k no_hole size least most parts_are lt = no_hole k (some (cases_lt 65536 f.size)) (omega (arith, size, parts_are, lt))
+stored_block s disk f parts k plain no_hole size least most parts_are lt = no_hole k (some (cases_lt 65536 f.size)) (omega (arith, size, parts_are, lt))
   where
-    some : (65536 < f.size) ⊎ (f.size ≤ 65536) → 1 ≤ level_of f.size
-    some (inl big) = omega (arith, reading.level_two f.size big (omega (arith, size, most)))
-    some (inr small) = omega (arith, reading.level_one f.size (omega (arith, size, least)) small)
+    some : (65536 < f.size) ⊎ (f.size ≤ 65536) → 1 ≤ level_of f.layout f.size
+    some (inl big) = omega (arith, reading.level_two f.layout f.size big (subst (λ (l : Layout). f.size ≤ single_bytes l) (sym plain) (omega (arith, size, most))))
+    some (inr small) = omega (arith, reading.level_one f.layout f.size (omega (arith, size, least)) small)
 
 pub settled_map : {version : ℕ} (count : ℕ) (draft : Draft) (disk : Blocks) (s : Sizes) (top : File) (settled_of : ℕ → Inode) (before : Before) (f : Inode) (nodes : List Pointer) → AreSettled count disk version s top settled_of
-    → AreSizes s → count ≡ draft.map.count
+    → AreSizes s → s.layout ≡ Plain → count ≡ draft.map.count
     → NamesOnce (settled_tree disk settled_of) → IsExactPlane (settled_tree disk settled_of) before → ((b : ℕ) → settled_at draft.map.parts.items b ≡ before.entry b)
     → HasEntries draft before.entry (settled_tree disk settled_of) → HasNoHole (held disk (settled_of 2)) → f ≡ settled_of 2
     → ((k : ℕ) → k < length draft.map.parts.items → pointer_at nodes k ≡ (held disk f).place 0 k)
     → (16 < length draft.map.parts.items → pointer_at nodes (length draft.map.parts.items) ≡ (held disk f).place 1 0)
     → IsSettledMap s disk (settled_of 2) draft.map nodes
-settled_map count draft disk s top settled_of before f nodes are sizes count_is once exact same entries no_hole is lowest over = record {
+settled_map count draft disk s top settled_of before f nodes are sizes plain count_is once exact same entries no_hole is lowest over = record {
   sizes = sizes;
+  plain = plain;
   blocks = sym (are.count ∙ count_is);
   kind = are.fits 2;
   sound = are.sound 2;
-  no_hole = λ k lt not. stored_block s disk (settled_of 2) (length draft.map.parts.items) k no_hole (blocks_size count disk s top settled_of are) sizes.least_blocks sizes.most_blocks
+  no_hole = λ k lt not. stored_block s disk (settled_of 2) (length draft.map.parts.items) k ((inode_is s disk (settled_of 2) (are.sound 2)).layout ∙ plain) no_hole (blocks_size count disk s top settled_of are) sizes.least_blocks sizes.most_blocks
       (parts_of draft.map ∙ ap (λ n. div_ceil n 1024) (sym (are.count ∙ count_is))) lt;
   once = once.each 2;
   entries = λ b not. same b ∙ entries b not ∙ entries_in (settled_tree disk settled_of) b;

@@ -1,5 +1,5 @@
 -- What a plan takes is no more than what memory may need of a point, number by number, and what every point stores.
-use Rattle.std.proofs.Common.{◌≡◌, ℕ, zero, suc, ◌+◌, ◌*◌, ◌/◌, ◌%◌, ◌<◌, ◌≤◌, ◌↔◌, Option, Some, None, IsSome, inl, inr, refl, ap, arith, true, false}
+use Rattle.std.proofs.Common.{◌≡◌, ℕ, zero, suc, ◌+◌, ◌*◌, ◌/◌, ◌%◌, ◌<◌, ◌≤◌, ◌↔◌, Option, Some, None, IsSome, List, inl, inr, refl, ap, sym, subst, ◌∙◌, arith, true, false}
 use Rattle.std.specs.Prelude.{min, nat_le, nat_lt, ◌==◌, if◌then◌else◌, Bool}
 use Rattle.std.specs.Int.{div_ceil}
 use Rattle.std.specs.Ordering.{nat_cmp}
@@ -7,9 +7,8 @@ use Rattle.std.specs.BTreeMap as tree
 use Rattle.std.proofs.lemmas.Bool.{cases_eq}
 use Rattle.std.proofs.lemmas.Bool.Decides.{nat_tests}
 use Rattle.layout.specs.declared.TheConstants.{BLOCK_POINTERS, BODY_POINTERS}
-use Rattle.layout.specs.Version.{greatest_size, level_of}
+use Rattle.layout.specs.Trees.{greatest_size, level_of, single_bytes}
 use Rattle.layout.specs.declared.root.Root.{Root}
-use Rattle.layout.specs.declared.version.TheConstants.{VERSION}
 use Rattle.layout.proofs.SizeLaws.{level_low}
 use Rattle.model.specs.Records.{count_orphans}
 use Rattle.model.specs.Room.{fixed_of}
@@ -30,7 +29,14 @@ use Rattle.inofile.specs.Room.{has_moved, memory_room, number_room, slot_room}
 use Rattle.inofile.specs.declared.inode_file.InodeFile.{InodeFile}
 use Rattle.inofile.specs.declared.inode_file.ObjectSlot.{ObjectSlot}
 use Rattle.inofile.specs.declared.inode_file.ObjectSlot.TheVariants.{AsSettled, Loaded, Changed}
-use Rattle.placement.specs.Space.{file_stores, height_stores, level_stores, more_over}
+use Rattle.placement.specs.Space.{file_stores, height_stores, level_stores, more_over, tops_stored}
+use Rattle.layout.specs.declared.inode.Inode.{Inode}
+use Rattle.layout.specs.declared.trees.Layout.{Layout}
+use Rattle.layout.specs.declared.trees.Layout.TheVariants.{Plain}
+use Rattle.images.specs.Soundness.{by_bytes}
+use Rattle.inode.proofs.BaseLaws.{based_layout}
+use Rattle.inofile.specs.Volumes.{IsVolumeOf, SlotStandsFor}
+use Rattle.planning.proofs.OwnLaws.{inode_is}
 use Rattle.planning.specs.Space.{map_file_nodes, map_stores, nodes_below, number_changes, point_stores, slot_nodes, top_block, top_nodes, MAP_NUMBERS}
 
 -- ---- a file
@@ -44,7 +50,7 @@ same_blocks t (suc n) =
     omega (arith, same_blocks t n, here)
 
 -- level by level
-level_within : (level blocks changed more top far all : ℕ) → level ≤ 3 → changed ≤ all → level_stores level blocks changed more (top + far) ≤ level_room level all more top + far
+level_within : (level blocks changed more top far all : ℕ) → level ≤ 3 → changed ≤ all → level_stores Plain level blocks changed more (top + far) ≤ level_room level all more top + far
 unfolding sum_below height_stores
 level_within zero blocks changed more top far all low few = omega arith
 level_within (suc zero) blocks changed more top far all low few = omega (arith, few)
@@ -52,33 +58,59 @@ level_within (suc (suc zero)) blocks changed more top far all low few = omega (a
 level_within (suc (suc (suc zero))) blocks changed more top far all low few = omega (arith, few)
 level_within (suc (suc (suc (suc level)))) blocks changed more top far all low few = absurd (omega (arith, low))
 
-level_most : (size : ℕ) → level_of size ≤ 3
-level_most size = grind (arith, nat_tests)
+level_most : (size : ℕ) → size ≤ 68719476736 → level_of Plain size ≤ 3
+level_most size low = grind (arith, nat_tests, low)
 
-pub stores_room : (f : File) → file_stores f ≤ file_room f
-stores_room f =
-    let all = sums_rise (block_stores f.tree 0) (block_count f.size) (block_count (greatest_size VERSION)) (omega (arith, f.within)) in
-    let same = same_blocks f.tree (block_count (greatest_size VERSION)) in
-    level_within (level_of f.size) (block_count f.size) (changed_blocks f.tree 0 (block_count f.size)) (more_over f) (top_over f 0) (far_tops f) (changed_count f.tree) (level_most f.size) (omega (arith, all, same))
+-- of a file of the plain layout
+pub stores_room : (f : File) → f.tree.layout ≡ Plain → file_stores f ≤ file_room f
+stores_room f plain =
+    let low : f.size ≤ 68719476736 = subst (λ (l : Layout). f.size ≤ greatest_size l) plain f.within in
+    let all = sums_rise (block_stores f.tree 0) (block_count f.size) (block_count (greatest_size Plain)) (omega (arith, low)) in
+    let same = same_blocks f.tree (block_count (greatest_size Plain)) in
+    let few = level_within (level_of Plain f.size) (block_count f.size) (changed_blocks f.tree 0 (block_count f.size)) (more_over f) (top_over f 0) (far_tops f) (changed_count f.tree) (level_most f.size low) (omega (arith, all, same)) in
+    subst (λ (l : Layout). level_stores l (level_of l f.size) (block_count f.size) (changed_blocks f.tree 0 (block_count f.size)) (more_over f) (tops_stored l f) ≤ file_room f) (sym plain) few
 
 -- ---- a number: its blocks, and twice for the number that is changed
 
-slot_needs : (slot : Option ObjectSlot) → slot_nodes slot + 2 * (if is_changed_slot slot then 1 else 0) ≤ slot_room slot
-slot_needs None = omega arith
-slot_needs (Some AsSettled) = omega arith
-slot_needs (Some (Loaded object)) = omega arith
-slot_needs (Some (Changed None)) = omega arith
-slot_needs (Some (Changed (Some object))) = omega (arith, stores_room object.file)
+-- a file that is changed is of the plain layout
+abbrev IsPlainSlot : Option ObjectSlot → Type 0
+IsPlainSlot None = Unit {0}
+IsPlainSlot (Some AsSettled) = Unit {0}
+IsPlainSlot (Some (Loaded object)) = Unit {0}
+IsPlainSlot (Some (Changed None)) = Unit {0}
+IsPlainSlot (Some (Changed (Some object))) = object.file.tree.layout ≡ Plain
+
+abbrev pub ArePlain : InodeFile → Type 0
+ArePlain s = (n : ℕ) → IsPlainSlot (tree.get nat_cmp s.slots n)
+
+slot_plain : (disk : ℕ → List ℕ) (inodes : ℕ) (settled : Inode) (slot : Option ObjectSlot) (found : Option Node) → settled.layout ≡ Plain → SlotStandsFor by_bytes disk inodes settled slot found → IsPlainSlot slot
+slot_plain disk inodes settled None found plain stands = tt
+slot_plain disk inodes settled (Some AsSettled) found plain stands = tt
+slot_plain disk inodes settled (Some (Loaded object)) found plain stands = tt
+slot_plain disk inodes settled (Some (Changed None)) found plain stands = tt
+slot_plain disk inodes settled (Some (Changed (Some object))) found plain stands = based_layout settled object.file.tree stands.base ∙ plain
+
+-- so are all in memory over a tree of an image of the plain layout
+pub all_plain : (blocks : ℕ) (disk : ℕ → List ℕ) (settled : ℕ → Inode) (s : InodeFile) (v : Volume) → s.geometry.layout ≡ Plain → IsVolumeOf blocks disk settled s v → ArePlain s
+all_plain blocks disk settled s v plain memory n =
+    slot_plain disk s.geometry.inodes (settled n) (tree.get nat_cmp s.slots n) (v n) ((inode_is s.geometry disk (settled n) (memory.inodes.sound n)).layout ∙ plain) (memory.objects n)
+
+slot_needs : (slot : Option ObjectSlot) → IsPlainSlot slot → slot_nodes slot + 2 * (if is_changed_slot slot then 1 else 0) ≤ slot_room slot
+slot_needs None plain = omega arith
+slot_needs (Some AsSettled) plain = omega arith
+slot_needs (Some (Loaded object)) plain = omega arith
+slot_needs (Some (Changed None)) plain = omega arith
+slot_needs (Some (Changed (Some object))) plain = omega (arith, stores_room object.file plain)
 
 -- an object came or went
 abbrev moves : Volume → Volume → ℕ → ℕ
 moves base v n = has_moved (base n) (v n)
 
-numbers_need : (s : InodeFile) (base v : Volume) (n : ℕ) → nodes_below s n + 2 * sum_below (number_changes s) n + sum_below (moves base v) n + 4 * count_orphans n v
+numbers_need : (s : InodeFile) (base v : Volume) (n : ℕ) → ArePlain s → nodes_below s n + 2 * sum_below (number_changes s) n + sum_below (moves base v) n + 4 * count_orphans n v
     ≤ sum_below (number_room base s v) n
 unfolding nodes_below sum_below
-numbers_need s base v zero = omega arith
-numbers_need s base v (suc n) = omega (arith, numbers_need s base v n, slot_needs (tree.get nat_cmp s.slots n), orphan_four (v n))
+numbers_need s base v zero plain = omega arith
+numbers_need s base v (suc n) plain = omega (arith, numbers_need s base v n plain, slot_needs (tree.get nat_cmp s.slots n) (plain n), orphan_four (v n))
 
 -- ---- groups of numbers
 
@@ -130,18 +162,18 @@ unfolding sum_below
 blocks_few s zero = omega arith
 blocks_few s (suc n) = omega (arith, blocks_few s n, one_block s n)
 
-level_tops : (level blocks changed tops numbers : ℕ) → level ≤ 2 → changed ≤ numbers + 1 → level_stores level blocks changed 0 tops ≤ 2 * numbers + level
+level_tops : (layout : Layout) (level blocks changed tops numbers : ℕ) → level ≤ 2 → changed ≤ numbers + 1 → level_stores layout level blocks changed 0 tops ≤ 2 * numbers + level
 unfolding sum_below height_stores
-level_tops zero blocks changed tops numbers low few = omega arith
-level_tops (suc zero) blocks changed tops numbers low few = omega (arith, few)
-level_tops (suc (suc zero)) blocks changed tops numbers low few = omega (arith, few)
-level_tops (suc (suc (suc level))) blocks changed tops numbers low few = absurd (omega (arith, low))
+level_tops layout zero blocks changed tops numbers low few = omega arith
+level_tops layout (suc zero) blocks changed tops numbers low few = omega (arith, few)
+level_tops layout (suc (suc zero)) blocks changed tops numbers low few = omega (arith, few)
+level_tops layout (suc (suc (suc level))) blocks changed tops numbers low few = absurd (omega (arith, low))
 
-top_needs : (s : InodeFile) (size : ℕ) → size ≤ 67108864 → top_nodes s size ≤ 2 * sum_below (number_changes s) s.geometry.inodes + level_of size
+top_needs : (s : InodeFile) (size : ℕ) → size ≤ single_bytes s.geometry.layout → top_nodes s size ≤ 2 * sum_below (number_changes s) s.geometry.inodes + level_of s.geometry.layout size
 top_needs s size small =
     let count = block_count size in
     let groups : sum_below (has_number s) count ≤ sum_below (number_changes s) s.geometry.inodes = groups_below (number_changes s) 21 count s.geometry.inodes (changes_past s) in
-    level_tops (level_of size) count (sum_below (top_block s) count) (nodes_at count 2) (sum_below (number_changes s) s.geometry.inodes) (level_low size small)
+    level_tops s.geometry.layout (level_of s.geometry.layout size) count (sum_below (top_block s) count) (nodes_at s.geometry.layout count 2) (sum_below (number_changes s) s.geometry.inodes) (level_low s.geometry.layout size small)
     (omega (arith, groups, blocks_few s count, first_once count))
 
 -- ---- a point
@@ -159,15 +191,17 @@ unmoved (Some old) b none no_more = absurd (none refl)
 
 -- What a plan takes, and what is kept for the orphans. Of the inode map those blocks are counted of whose numbers an object
 -- came or went over the base.
-pub point_needs : (r : Root) (s : InodeFile) (base v : Volume) (blocks : ℕ) → KeepsNodeLimits s.geometry.inodes base → KeepsNodeLimits s.geometry.inodes v → 3 < s.geometry.inodes → r.inode_file.size ≤ 67108864
-    → point_stores (map_moves base v) r s blocks + 4 * count_orphans s.geometry.inodes v ≤ memory_room base s v + level_of r.inode_file.size + map_file_nodes blocks
-point_needs r s base v blocks base_keeps keeps least small =
+pub point_needs : (r : Root) (s : InodeFile) (base v : Volume) (blocks : ℕ) → ArePlain s → r.inode_file.layout ≡ s.geometry.layout → KeepsNodeLimits s.geometry.inodes base → KeepsNodeLimits s.geometry.inodes v → 3 < s.geometry.inodes
+    → r.inode_file.size ≤ single_bytes s.geometry.layout
+    → point_stores (map_moves base v) r s blocks + 4 * count_orphans s.geometry.inodes v ≤ memory_room base s v + level_of r.inode_file.layout r.inode_file.size + map_file_nodes blocks
+point_needs r s base v blocks plain of base_keeps keeps least small =
     let inodes = s.geometry.inodes in
     let past : (n : ℕ) → inodes ≤ n → moves base v n ≡ 0 = λ n le. unmoved (base n) (v n) (empty_past inodes base n base_keeps least le) (empty_past inodes v n keeps least le) in
-    let numbers = numbers_need s base v inodes in
+    let numbers = numbers_need s base v inodes plain in
     let map : map_stores (map_moves base v) s ≤ sum_below (moves base v) inodes = groups_below (moves base v) MAP_NUMBERS (block_count (div_ceil inodes 8)) inodes past in
     let top = top_needs s r.inode_file.size small in
-    omega (arith, numbers, map, top)
+    let level : level_of r.inode_file.layout r.inode_file.size ≡ level_of s.geometry.layout r.inode_file.size = ap (λ (l : Layout). level_of l r.inode_file.size) of in
+    omega (arith, numbers, map, top, level)
 
 moved_not : (a b : Option Node) → has_moved a b ≡ 0 → IsSome a ↔ IsSome b
 moved_not None None none = ((λ is. is), (λ is. is))
@@ -189,8 +223,8 @@ file_fits blocks level true low = omega (arith, low)
 file_fits blocks level false low = omega (arith, low)
 
 -- what every point stores
-pub fixed_needs : (size blocks : ℕ) → size ≤ 67108864 → level_of size + map_file_nodes blocks + 1 ≤ fixed_of blocks
-fixed_needs size blocks small =
-    let all = file_fits (div_ceil blocks BLOCK_POINTERS) (level_of size) (nat_le (div_ceil blocks BLOCK_POINTERS) BODY_POINTERS) (level_low size small) in
+pub fixed_needs : (layout : Layout) (size blocks : ℕ) → size ≤ single_bytes layout → level_of layout size + map_file_nodes blocks + 1 ≤ fixed_of blocks
+fixed_needs layout size blocks small =
+    let all = file_fits (div_ceil blocks BLOCK_POINTERS) (level_of layout size) (nat_le (div_ceil blocks BLOCK_POINTERS) BODY_POINTERS) (level_low layout size small) in
     let same : div_ceil blocks BLOCK_POINTERS ≡ (blocks + 1023) / 1024 = omega arith in
     omega (arith, all, same)

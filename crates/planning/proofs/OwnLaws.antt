@@ -12,13 +12,12 @@ use Rattle.layout.specs.FileBytes.{byte_in}
 use Rattle.layout.specs.Inode.{FitsBody, FitsKind, IsInode}
 use Rattle.layout.specs.Limits.{Sizes}
 use Rattle.layout.specs.Places.{Blocks}
-use Rattle.layout.specs.Version.{level_of}
+use Rattle.layout.specs.Trees.{level_of}
 use Rattle.layout.specs.declared.inode.Body.{Body}
 use Rattle.layout.specs.declared.inode.Body.TheVariants.{Inline, Pointers}
 use Rattle.layout.specs.declared.inode.Inode.{Inode}
 use Rattle.layout.specs.declared.kind.Kind.{Kind}
 use Rattle.layout.specs.declared.kind.Kind.TheVariants as kinds
-use Rattle.layout.specs.declared.version.TheConstants.{VERSION}
 use Rattle.blocktree.specs.Places.{block_count}
 use Rattle.blocktree.specs.Trees.{SameSettled}
 use Rattle.blocktree.specs.declared.tree.BlockTree.{BlockTree}
@@ -50,17 +49,17 @@ pub used_block : (d : Draft) (disk : Blocks) (settled_of : ℕ → Inode) (befor
     → (n b : ℕ) → Names (held disk (settled_of n)) b → IsFree d.map.parts.items b → ⊥
 used_block d disk settled_of before exact same n b names free = no_bit before.plane (before.entry b) (sym (same b) ∙ free) ((exact b).1 (record { file = n; names = names }))
 
-pub inode_is : (s : Sizes) (disk : Blocks) (f : Inode) → IsSoundFile s (held disk f) → IsInode VERSION s f
-inode_is s disk f sound = subst (IsInode VERSION s) (held_inode disk f) sound.inode
+pub inode_is : (s : Sizes) (disk : Blocks) (f : Inode) → IsSoundFile s (held disk f) → IsInode s f
+inode_is s disk f sound = subst (IsInode s) (held_inode disk f) sound.inode
 
 -- one of the file system's own files with blocks changed in memory, over its settled inode
 pub own_change : {version : ℕ} (count : ℕ) (draft : Draft) (disk : Blocks) (s : Sizes) (top : File) (settled_of : ℕ → Inode) (before : Before) (n : ℕ) (f : Inode) (from : BlockTree) (o : Object)
     → AreSettled count disk version s top settled_of → NamesOnce (settled_tree disk settled_of) → IsExactPlane (settled_tree disk settled_of) before → ((b : ℕ) → settled_at draft.map.parts.items b ≡ before.entry b)
-    → count ≡ draft.map.count → f ≡ settled_of n → StartsFrom f.body f.size from → SameSettled from o.file.tree
+    → count ≡ draft.map.count → f ≡ settled_of n → StartsFrom f.layout f.body f.size from → SameSettled from o.file.tree
     → o.status ≡ record { kind = f.kind; attributes = f.attributes; links = f.links } → o.file.size ≡ f.size → IsFile disk o.file → IsChangeOf s draft disk (settled_of n) o
 own_change count draft disk s top settled_of before n f from o are once exact same count_is is starts kept status size ends =
     let sound : IsSoundFile s (held disk f) = subst (λ (x : Inode). IsSoundFile s (held disk x)) (sym is) (are.sound n) in
-    let inode : IsInode VERSION s f = inode_is s disk f sound in
+    let inode : IsInode s f = inode_is s disk f sound in
     record {
       blocks = are.count ∙ count_is;
       based = subst (λ (x : Inode). IsBasedOn x o.file.tree) is (based_start s disk f from o.file.tree sound starts kept);
@@ -74,12 +73,12 @@ own_change count draft disk s top settled_of before n f from o are once exact sa
     }
 
 -- all settled blocks of a file that was loaded count
-starts_kept : (s : Sizes) (f : Inode) (from : BlockTree) (body : Body) → f.body ≡ body → FitsBody f.body s.blocks f.size → StartsFrom body f.size from → 1 ≤ level_of f.size → from.kept ≡ block_count f.size
+starts_kept : (s : Sizes) (f : Inode) (from : BlockTree) (body : Body) → f.body ≡ body → FitsBody f.layout f.body s.blocks f.size → StartsFrom f.layout body f.size from → 1 ≤ level_of f.layout f.size → from.kept ≡ block_count f.size
 starts_kept s f from (Inline bytes) is fits starts level =
-    let small : f.size ≤ 128 = (subst (λ b. FitsBody b s.blocks f.size) is fits).0 in absurd (omega (arith, level_none f.size small))
+    let small : f.size ≤ 128 = (subst (λ b. FitsBody f.layout b s.blocks f.size) is fits).0 in absurd (omega (arith, level_none f.layout f.size small))
 starts_kept s f from (Pointers pointers) is fits starts level = starts.1 ∙ starts.0.count
 
-pub whole_over : (s : Sizes) (disk : Blocks) (f : Inode) (from : BlockTree) (o : Object) → IsSoundFile s (held disk f) → HasNoHole (held disk f) → StartsFrom f.body f.size from → o.file.size ≡ f.size
+pub whole_over : (s : Sizes) (disk : Blocks) (f : Inode) (from : BlockTree) (o : Object) → IsSoundFile s (held disk f) → HasNoHole (held disk f) → StartsFrom f.layout f.body f.size from → o.file.size ≡ f.size
     → o.file.tree.kept ≡ from.kept → IsWholeOver disk f o
 whole_over s disk f from o sound no_hole starts size kept = record {
   no_hole = no_hole;
@@ -147,8 +146,8 @@ map_size_is count disk s top settled_of are =
     (subst (λ (k : Kind). FitsKind k s (settled_of 1).attributes (settled_of 1).links (settled_of 1).size) (are.fits 1) (inode_is s disk (settled_of 1) (are.sound 1)).kind).2
 
 -- a loaded file over its settled inode
-pub loaded_based : (s : Sizes) (disk : Blocks) (f : Inode) (t : BlockTree) → IsSoundFile s (held disk f) → StartsFrom f.body f.size t → IsBasedOn f t
-loaded_based s disk f t sound starts = based_start s disk f t t sound starts (record { pointers = refl; depth = refl; count = refl })
+pub loaded_based : (s : Sizes) (disk : Blocks) (f : Inode) (t : BlockTree) → IsSoundFile s (held disk f) → StartsFrom f.layout f.body f.size t → IsBasedOn f t
+loaded_based s disk f t sound starts = based_start s disk f t t sound starts (record { layout = refl; pointers = refl; depth = refl; count = refl })
 
 -- an inode map of these bytes in memory, over its settled inode
 pub record IsMapOver (s : Sizes) (draft : Draft) (disk : Blocks) (base : Inode) (o : Object) (bytes : List ℕ) : Type 0 where
@@ -161,7 +160,7 @@ pub record IsMapOver (s : Sizes) (draft : Draft) (disk : Blocks) (base : Inode) 
 module _ {version : ℕ} (count : ℕ) (draft : Draft) (disk : Blocks) (s : Sizes) (top : File) (settled_of : ℕ → Inode) (before : Before) (f : Inode) (old : File) (o : Object) (bytes : List ℕ)
     (are : AreSettled count disk version s top settled_of) (once : NamesOnce (settled_tree disk settled_of)) (exact : IsExactPlane (settled_tree disk settled_of) before)
     (same : (b : ℕ) → settled_at draft.map.parts.items b ≡ before.entry b) (count_is : count ≡ draft.map.count) (is : f ≡ settled_of 1) (old_size : old.size ≡ f.size) (old_ends : IsFile disk old)
-    (starts : StartsFrom f.body f.size old.tree) (status : o.status ≡ record { kind = f.kind; attributes = f.attributes; links = f.links }) (stays : SameSettled old.tree o.file.tree)
+    (starts : StartsFrom f.layout f.body f.size old.tree) (status : o.status ≡ record { kind = f.kind; attributes = f.attributes; links = f.links }) (stays : SameSettled old.tree o.file.tree)
     (kept : o.file.tree.kept ≡ old.tree.kept) (new_size : o.file.size ≡ old.size) (long : length bytes ≡ div_ceil s.inodes 8)
     (here : (i k : ℕ) → k < 4096 → i < div_ceil (length bytes) 4096 → slice_index (file_block disk o.file i) k ≡ slice_index bytes (4096 * i + k))
     (others : (j : ℕ) → div_ceil (length bytes) 4096 ≤ j → file_block disk o.file j ≡ file_block disk old j) where

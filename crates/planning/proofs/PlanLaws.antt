@@ -10,7 +10,7 @@ use Rattle.layout.specs.Maps.{map_entry}
 use Rattle.layout.specs.Limits.{Sizes}
 use Rattle.layout.specs.Places.{Blocks, blocks_of}
 use Rattle.layout.specs.Root.{IsRoot}
-use Rattle.layout.specs.Version.{level_of}
+use Rattle.layout.specs.Trees.{level_of}
 use Rattle.layout.specs.declared.inode.Inode.{Inode}
 use Rattle.layout.specs.declared.root.Root.{Root}
 use Rattle.layout.specs.declared.version.TheConstants.{VERSION}
@@ -39,6 +39,7 @@ use Rattle.inofile.specs.Inodes.{IsChanged, files_of}
 use Rattle.inofile.specs.Settled.{held_content}
 use Rattle.inofile.specs.Volumes.{IsVolumeOf, MapsVolume}
 use Rattle.inofile.specs.declared.inode_file.InodeFile.{InodeFile}
+use Rattle.images.proofs.WithinLaws.{root_plain}
 use Rattle.planning.specs.Changes.{FitsSlots, HasHeads, IsStepOf, StartsActive, StepsEntries, TouchesRestored, starting_file, starting_plane, starting_tree}
 use Rattle.planning.specs.Numbers.{trimmed}
 use Rattle.planning.specs.Plans.{IsAllPlanned, IsClean, IsPlanStart, IsPlannable, IsRootStart, WillHaveEntries, inodes_of}
@@ -67,7 +68,7 @@ abbrev pub LeavesRoom : Blocks → Root → HeldTree → ℕ → Type 0
 LeavesRoom d r t plane = (e : Blocks) (new : Root) (files : ℕ → Content) → IsRoot new → Agrees (Needs r (whole d r)) d e
     → (plan : IsPlannedOn (whole d r) t plane r e new files) → IsSoundPlan r.geometry e plan.inode plan.changed
     → ((k b : ℕ) → IsNewHead r new k b → ⊥) → (mid : ℕ) → TakesBelow mid (λ n. n ≢ 2) r new plan.taken → TakesFirst (λ n. held e (plan.inode n)) plan.taken
-    → free_under (whole d r).active r.geometry.blocks + level_of r.inode_file.size
+    → free_under (whole d r).active r.geometry.blocks + level_of r.inode_file.layout r.inode_file.size
     ≤ free_under (whole e new).active r.geometry.blocks + free_under (whole d r).active (min mid r.geometry.blocks)
 
 -- and where what every point stores may be shared
@@ -106,7 +107,7 @@ tree_is d r t plane base = fun_ext (λ n. sym (base.read n))
 
 module _ {start : Draft} (spelled : ReadsSpelled) (reads_past : ReadsPast) (same_held : HoldsAgreed) (d : Blocks) (r new : Root) (base : HeldTree) (draft : Draft) (before : Before) (found : ℕ → Content) (inodes : InodeFile) (v : Volume)
     (all : IsAllPlanned start draft d before r.geometry (settled_tree d (inodes_of base)) found inodes new.inode_file) (root : IsRoot r) (sound : IsSound r (whole d r)) (is_base : IsBase d r base before.plane)
-    (base_sound : IsSoundTree r.geometry base) (past : (n : ℕ) → r.geometry.inodes ≤ n → (base n).inode ≡ free_inode)
+    (base_sound : IsSoundTree r.geometry base) (past : (n : ℕ) → r.geometry.inodes ≤ n → (base n).inode ≡ free_inode r.geometry.layout)
     (before_is : (b : ℕ) → before.entry b ≡ entry (whole d r).active b) (geometry : new.geometry ≡ r.geometry)
     (maps : MapsVolume inodes.numbers.bytes.items v) (objects : HoldObjects r.geometry.inodes (files_after all.plan found (settled_tree d (inodes_of base))) v)
     (e : Blocks) (has : HasAll e draft.blocks.items) (agrees : Agrees (Needs r (whole d r)) d e) where
@@ -190,7 +191,7 @@ module _ {start : Draft} (spelled : ReadsSpelled) (reads_past : ReadsPast) (same
   -- and where no snapshot shares what every point stores, so many blocks stay free
   pub room_on : LeavesRoom d r base before.plane → (step : SnapshotStep) → StepsEntries step r new before.entry before.entry (entry_at draft.map.parts.items) → SnapshotsSpelled → CanStep step r (whole d r) → StepsSlots step r new
       → HasHead step new e → HasHeads r new start → (before.plane ≢ 0 → AreTouched start.map.parts.items) → IsRoot new → ((k b : ℕ) → IsNewHead r new k b → ⊥)
-      → free_under (whole d r).active r.geometry.blocks + level_of r.inode_file.size
+      → free_under (whole d r).active r.geometry.blocks + level_of r.inode_file.layout r.inode_file.size
       ≤ free_under (whole e new).active r.geometry.blocks + free_under (whole d r).active (min all.middle.map.next r.geometry.blocks)
   unfolding plans_on point_planned
   room_on law step entries heads can slots head has_heads touched new_root none =
@@ -269,8 +270,8 @@ module _ {start : Draft} (spelled : ReadsSpelled) (reads_past : ReadsPast) (same
   base_sound : IsSoundTree r.geometry base_of
   base_sound = start_sound disk r plannable.sound bases change fits plannable.restored
 
-  past : (n : ℕ) → r.geometry.inodes ≤ n → (base_of n).inode ≡ free_inode
-  past = subst (λ (s : Sizes). (n : ℕ) → s.inodes ≤ n → (base_of n).inode ≡ free_inode) sizes plannable.memory.inodes.past
+  past : (n : ℕ) → r.geometry.inodes ≤ n → (base_of n).inode ≡ free_inode r.geometry.layout
+  past = subst (λ (s : Sizes). (n : ℕ) → s.inodes ≤ n → (base_of n).inode ≡ free_inode s.layout) sizes plannable.memory.inodes.past
 
   anew : starting_plane change ≢ 0 → AreTouched start.map.parts.items
   anew frozen = restored_touched change start frozen touched
@@ -310,7 +311,7 @@ module _ {start : Draft} (spelled : ReadsSpelled) (reads_past : ReadsPast) (same
       → CanStep step r (whole disk r) → StepsSlots step r new → OnEach draft (HasHead step new) → ((k b : ℕ) → IsNewHead r new k b → ⊥) → (spent : ℕ)
       → ((middle : Draft) → Grows start middle → ((w : ℕ → ℕ) → CountsBlocks w inodes.numbers.bytes.items (file_block (tree_of 1))
       → TakesAtMost (nodes_below inodes inodes.geometry.inodes + map_stores w inodes + top_nodes inodes (tree_of 0).inode.size) start middle)
-      → free_under (whole disk r).active (min middle.map.next r.geometry.blocks) ≤ spent + level_of r.inode_file.size)
+      → free_under (whole disk r).active (min middle.map.next r.geometry.blocks) ≤ spent + level_of r.inode_file.layout r.inode_file.size)
       → LeavesFree spent r disk (writes_of draft.blocks.items) new
   room_is law step stepped heads can slots head none spent few e has agrees =
       let all = all_from_map (λ (w : Write). e w.place ≡ w.bytes) draft.blocks.items has in
@@ -369,6 +370,7 @@ module _ (bases : TreesAreBases) (d : ℕ → List ℕ) (change : SnapshotChange
 
     pub start_is : (draft : Draft) → IsClean m → draft.map ≡ m → IsRootStart over_first change draft r
     start_is draft clean map_is = record {
+      plain = ap (λ (s : Sizes). s.layout) sizes.sizes ∙ root_plain r sizes.root_is;
       sound = subst (λ (s : Sizes). IsSoundTree s (settled_tree (blocks_of d) (inodes_of first_tree))) (sym sizes.sizes) first_sound;
       top = start_file (blocks_of d) r change plannable.restored;
       plane = refl;
@@ -382,7 +384,7 @@ module _ (bases : TreesAreBases) (d : ℕ → List ℕ) (change : SnapshotChange
 pub start_later : {B : Type 0} {G : Ghosts B} {x : B} {inodes : InodeFile} {o : OverTree G x inodes} (change : SnapshotChange) (old new : Draft) (r : Root) (top : Inode) → IsRootStart o change old r → top ≡ starting_file change r
     → Grows old new → StartsActive change (settled_at old.map.parts.items) (entry_at old.map.parts.items) (entry_at new.map.parts.items) → TouchesRestored change new → IsPlanStart o new top
 start_later {o = o} change old new r top start top_is grows starts touched = record {
-  map = record { sound = start.sound; same = λ b. grows.settled.settled b ∙ start.same b; entries = has_entries change old new o.before.entry (settled_tree o.disk o.settled) grows touched start.entries };
+  map = record { plain = start.plain; sound = start.sound; same = λ b. grows.settled.settled b ∙ start.same b; entries = has_entries change old new o.before.entry (settled_tree o.disk o.settled) grows touched start.entries };
   top = start.top ∙ sym top_is;
   active = has_active change o.before (settled_at old.map.parts.items) (entry_at old.map.parts.items) (entry_at new.map.parts.items) start.plane start.same start.clean starts;
 }

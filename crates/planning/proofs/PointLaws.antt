@@ -10,7 +10,6 @@ use Rattle.layout.specs.Places.{Blocks}
 use Rattle.layout.specs.Root.{IsRoot}
 use Rattle.layout.specs.declared.inode.Inode.{Inode}
 use Rattle.layout.specs.declared.root.Root.{Root}
-use Rattle.layout.specs.declared.version.TheConstants.{VERSION}
 use Rattle.images.specs.Nodes.{held, Names, file_block}
 use Rattle.images.specs.Room.{StoresOwn}
 use Rattle.images.specs.Roots.{HeldTree, free_inode, inode_bytes_at, inode_under, tree, whole}
@@ -28,11 +27,11 @@ use Rattle.images.proofs.EmptyLaws.{held_inode}
 
 -- what images says of reading inodes
 abbrev pub ReadsSpelled : Type 0
-ReadsSpelled = (s : Sizes) (d : Blocks) (top i : Inode) (n : ℕ) → AreSizes s → 1 ≤ n → n < s.inodes → IsInode VERSION s i
+ReadsSpelled = (s : Sizes) (d : Blocks) (top i : Inode) (n : ℕ) → AreSizes s → top.layout ≡ s.layout → 1 ≤ n → n < s.inodes → IsInode s i
     → inode_bytes_at (file_block (held d top)) n ≡ inode_bytes i → tree d s.inodes top n ≡ held d i
 
 abbrev pub ReadsPast : Type 0
-ReadsPast = (d : Blocks) (inodes : ℕ) (top : Inode) (n : ℕ) → 1 ≤ n → inodes ≤ n → tree d inodes top n ≡ held d free_inode
+ReadsPast = (d : Blocks) (inodes : ℕ) (top : Inode) (n : ℕ) → 1 ≤ n → inodes ≤ n → tree d inodes top n ≡ held d (free_inode top.layout)
 
 tree_inode : (d : Blocks) (inodes : ℕ) (top : Inode) (n : ℕ) → (tree d inodes top n).inode ≡ inode_under (held d top) inodes n
 unfolding tree held
@@ -57,12 +56,12 @@ pub record PlansFrom (d : Blocks) (r : Root) (t : HeldTree) (plane : ℕ) (e : B
   pub own : StoresOwn plane (λ n. held e (plan.inode n)) r new plan.taken
 
 module _ (spelled : ReadsSpelled) (reads_past : ReadsPast) (d e : Blocks) (r new : Root) (t : HeldTree) (next : ℕ) (before : Before) (after : ℕ → ℕ) (p : PlannedInodes) (files : ℕ → Content)
-    (root : IsRoot r) (sound : IsSound r (whole d r)) (tree_sound : IsSoundTree r.geometry t) (past : (n : ℕ) → r.geometry.inodes ≤ n → (t n).inode ≡ free_inode)
+    (root : IsRoot r) (sound : IsSound r (whole d r)) (tree_sound : IsSoundTree r.geometry t) (past : (n : ℕ) → r.geometry.inodes ≤ n → (t n).inode ≡ free_inode r.geometry.layout)
     (before_is : (b : ℕ) → before.entry b ≡ entry (whole d r).active b) (progress : IsProgress r.geometry t e next before after p) (whole_plan : IsComplete r new t e after p files) where
-  each_fits : (n : ℕ) → IsInode VERSION r.geometry (p.inode n)
+  each_fits : (n : ℕ) → IsInode r.geometry (p.inode n)
   each_fits n = elim (cases_Bool (p.changed n)) [
-    | inl is ↦ subst (IsInode VERSION r.geometry) (held_inode e (p.inode n)) (progress.sound n is).inode
-    | inr isnt ↦ subst (IsInode VERSION r.geometry) (sym (progress.stays n isnt)) (tree_sound.files n).inode
+    | inl is ↦ subst (IsInode r.geometry) (held_inode e (p.inode n)) (progress.sound n is).inode
+    | inr isnt ↦ subst (IsInode r.geometry) (sym (progress.stays n isnt)) (tree_sound.files n).inode
   ]
 
   -- under the new root, by the numbers of before
@@ -73,12 +72,13 @@ module _ (spelled : ReadsSpelled) (reads_past : ReadsPast) (d e : Blocks) (r new
         let bytes : inode_bytes_at (file_block (held e (p.inode 0))) (suc n) ≡ inode_bytes (p.inode (suc n)) =
         whole_plan.inodes.each (suc n) (omega arith) low ∙ ap inode_bytes (held_inode e (p.inode (suc n))) in
         sym (tree_inode e r.geometry.inodes (p.inode 0) (suc n))
-        ∙ ap (λ h. h.inode) (spelled r.geometry e (p.inode 0) (p.inode (suc n)) (suc n) root.head.sizes (omega arith) low (each_fits (suc n)) bytes)
+        ∙ ap (λ h. h.inode) (spelled r.geometry e (p.inode 0) (p.inode (suc n)) (suc n) root.head.sizes (each_fits 0).layout (omega arith) low (each_fits (suc n)) bytes)
         ∙ held_inode e (p.inode (suc n))
     | inr high ↦
         sym (tree_inode e r.geometry.inodes (p.inode 0) (suc n))
         ∙ ap (λ h. h.inode) (reads_past e r.geometry.inodes (p.inode 0) (suc n) (omega arith) high)
-        ∙ held_inode e free_inode
+        ∙ held_inode e (free_inode (p.inode 0).layout)
+        ∙ ap free_inode (each_fits 0).layout
         ∙ sym (progress.stays (suc n) (whole_plan.past (suc n) high) ∙ past (suc n) high)
   ]
 

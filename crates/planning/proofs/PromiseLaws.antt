@@ -255,7 +255,7 @@ damaged_unread is = record { count = refl; counted = tt; device = λ fault. (let
 pub file_none : {IsOne : ℕ → Type 0} (f : File) → ChangesFile IsOne f f
 file_none {IsOne = IsOne} f = record {
   size = refl;
-  settled = record { pointers = refl; depth = refl; count = refl };
+  settled = record { layout = refl; pointers = refl; depth = refl; count = refl };
   sound = λ blocks disk i is. is;
   changes = changes_none IsOne f.tree;
 }
@@ -264,7 +264,7 @@ file_none {IsOne = IsOne} f = record {
 pub file_then : {IsOne IsOther : ℕ → Type 0} {a b c : File} → ((i : ℕ) → IsOther i → IsOne i) → ChangesFile IsOne a b → ChangesFile IsOther b c → ChangesFile IsOne a c
 file_then {IsOne = IsOne} {IsOther = IsOther} {a = a} {b = b} {c = c} are first then = record {
   size = then.size ∙ first.size;
-  settled = record { pointers = then.settled.pointers ∙ first.settled.pointers; depth = then.settled.depth ∙ first.settled.depth; count = then.settled.count ∙ first.settled.count };
+  settled = record { layout = then.settled.layout ∙ first.settled.layout; pointers = then.settled.pointers ∙ first.settled.pointers; depth = then.settled.depth ∙ first.settled.depth; count = then.settled.count ∙ first.settled.count };
   sound = λ blocks disk i is. then.sound blocks disk i (first.sound blocks disk i is);
   changes = changes_twice IsOne IsOther a.tree b.tree c.tree are first.changes then.changes;
 }
@@ -273,12 +273,12 @@ pub file_some : {IsOne IsOther : ℕ → Type 0} {a b : File} → ((i : ℕ) →
 file_some {a = a} are change = file_then are (file_none a) change
 
 pub keeps_none : (f : File) → KeepsFile f f
-keeps_none f = record { size = refl; settled = record { pointers = refl; depth = refl; count = refl }; sound = λ blocks disk i is. is; kept = refl }
+keeps_none f = record { size = refl; settled = record { layout = refl; pointers = refl; depth = refl; count = refl }; sound = λ blocks disk i is. is; kept = refl }
 
 pub keeps_then : {a b c : File} → KeepsFile a b → KeepsFile b c → KeepsFile a c
 keeps_then first then = record {
   size = then.size ∙ first.size;
-  settled = record { pointers = then.settled.pointers ∙ first.settled.pointers; depth = then.settled.depth ∙ first.settled.depth; count = then.settled.count ∙ first.settled.count };
+  settled = record { layout = then.settled.layout ∙ first.settled.layout; pointers = then.settled.pointers ∙ first.settled.pointers; depth = then.settled.depth ∙ first.settled.depth; count = then.settled.count ∙ first.settled.count };
   sound = λ blocks disk i is. then.sound blocks disk i (first.sound blocks disk i is);
   kept = then.kept ∙ first.kept;
 }

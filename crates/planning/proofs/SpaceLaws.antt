@@ -9,13 +9,13 @@ use Rattle.inofile.specs.Inodes.{IsChangedSlot, slot_object}
 use Rattle.inofile.specs.declared.inode_file.ObjectSlot.{ObjectSlot}
 use Rattle.inofile.specs.declared.inode_file.ObjectSlot.TheVariants.{AsSettled, Loaded, Changed}
 use Rattle.inofile.specs.declared.inode_file.InodeFile.{InodeFile}
-use Rattle.layout.specs.Version.{level_of}
+use Rattle.layout.specs.Trees.{level_of}
 use Rattle.images.specs.Sums.{sum_below}
 use Rattle.images.proofs.SumLaws.{sum_of_none}
 use Rattle.blocktree.specs.Places.{block_count}
 use Rattle.inode.specs.declared.file.File.{File}
 use Rattle.conspoint.specs.Space.{changed_blocks}
-use Rattle.placement.specs.Space.{file_stores, height_stores, more_over, tops_over}
+use Rattle.placement.specs.Space.{tops_stored, file_stores, height_stores, more_over}
 use Rattle.planning.specs.Space.{nodes_below, number_nodes, slot_nodes}
 
 -- below a later number as many are counted, or more
@@ -53,6 +53,6 @@ is_behind xs i n k rises within is lt =
 -- of an empty file nothing is stored
 pub none_stored : (f : File) → f.size ≡ 0 → file_stores f ≤ 0
 none_stored f empty =
-    let stores = height_stores (block_count f.size) (changed_blocks f.tree 0 (block_count f.size)) (more_over f) (tops_over f) in
-    let none = ap (λ (n : ℕ). sum_below stores (level_of n)) empty ∙ sum_of_none stores in
+    let stores = height_stores f.tree.layout (block_count f.size) (changed_blocks f.tree 0 (block_count f.size)) (more_over f) (tops_stored f.tree.layout f) in
+    let none = ap (λ (n : ℕ). sum_below stores (level_of f.tree.layout n)) empty ∙ sum_of_none stores in
     omega (arith, none)

@@ -10,12 +10,14 @@ use Rattle.layout.specs.FileBytes.{EndsAt, byte_in}
 use Rattle.layout.specs.Inode.{FitsKind, IsInode}
 use Rattle.layout.specs.Limits.{Sizes}
 use Rattle.layout.specs.Places.{Blocks}
+use Rattle.layout.specs.Trees.{single_bytes}
+use Rattle.layout.specs.declared.trees.Layout.{Layout}
+use Rattle.layout.specs.declared.trees.Layout.TheVariants.{Plain, Summed}
 use Rattle.layout.specs.declared.inode.Inode.{Inode}
 use Rattle.layout.specs.Root.{IsRoot}
 use Rattle.layout.specs.declared.kind.Kind.{Kind}
 use Rattle.layout.specs.declared.kind.Kind.TheVariants as kinds
 use Rattle.layout.specs.declared.root.Root.{Root}
-use Rattle.layout.specs.declared.version.TheConstants.{VERSION}
 use Rattle.buffers.specs.declared.blocks.Blocks.{Ghosts}
 use Rattle.blockmap.specs.Maps.{entry_at, settled_at}
 use Rattle.conspoint.specs.Cuts.{disk_with_blocks}
@@ -127,16 +129,20 @@ module _ {start : Draft} (writes : WritesAll) (d : Draft) (disk : Blocks) (befor
   pub top_kind : top.kind ≡ kinds.InodeFile
   top_kind = ap (λ (i : Inode). i.kind) (sym all.top_is) ∙ progress.kinds 0 all.first
 
-  pub top_fits : IsInode VERSION s top
-  top_fits = subst (IsInode VERSION s) all.top_is (inode_is s e (all.plan.inode 0) (progress.sound 0 all.first))
+  pub top_fits : IsInode s top
+  top_fits = subst (IsInode s) all.top_is (inode_is s e (all.plan.inode 0) (progress.sound 0 all.first))
 
 -- how large the inode file is
 pub top_size : (s : Sizes) (r : Root) → IsRoot r → s ≡ r.geometry → r.inode_file.size ≡ 4096 * div_ceil s.inodes 21
 top_size s r root same =
     (subst (λ (k : Kind). FitsKind k r.geometry r.inode_file.attributes r.inode_file.links r.inode_file.size) root.kind root.inode_file.kind).2 ∙ ap (λ (z : Sizes). 4096 * div_ceil z.inodes 21) (sym same)
 
-pub top_small : (r : Root) → IsRoot r → r.inode_file.size ≤ 67108864
-top_small r root = omega (arith, top_size r.geometry r root refl, root.head.sizes.most_inodes)
+single_least : (layout : Layout) → 33554432 ≤ single_bytes layout
+single_least Plain = omega arith
+single_least Summed = omega arith
+
+pub top_small : (layout : Layout) (r : Root) → IsRoot r → r.inode_file.size ≤ single_bytes layout
+top_small layout r root = omega (arith, top_size r.geometry r root refl, root.head.sizes.most_inodes, single_least layout)
 
 -- and so is that of the tree that a change starts from
 module _ {B : Type 0} {G : Ghosts B} {x : B} {inodes : InodeFile} {o : OverTree G x inodes} {change : SnapshotChange} {d : Draft} {root : Root} (start : IsRootStart o change d root) where
@@ -153,6 +159,6 @@ module _ {B : Type 0} {G : Ghosts B} {x : B} {inodes : InodeFile} {o : OverTree 
   pub start_kind : (starting_file change root).kind ≡ kinds.InodeFile
   start_kind = ap (λ (i : Inode). i.kind) (sym start.top) ∙ o.memory.inodes.fits 0
 
-  pub start_fits : inodes.geometry ≡ root.geometry → IsInode VERSION root.geometry (starting_file change root)
-  start_fits same = subst (λ (s : Sizes). IsInode VERSION s (starting_file change root)) same
-      (subst (IsInode VERSION inodes.geometry) start.top (inode_is inodes.geometry o.disk (o.settled 0) (o.memory.inodes.sound 0)))
+  pub start_fits : inodes.geometry ≡ root.geometry → IsInode root.geometry (starting_file change root)
+  start_fits same = subst (λ (s : Sizes). IsInode s (starting_file change root)) same
+      (subst (IsInode inodes.geometry) start.top (inode_is inodes.geometry o.disk (o.settled 0) (o.memory.inodes.sound 0)))

@@ -1,4 +1,5 @@
 -- Blocks of the inode map that tell of their numbers what they told.
+use Rattle.layout.specs.declared.trees.Layout.{Layout}
 use Rattle.std.proofs.Common.{◌≡◌, ◌≢◌, ◌↔◌, ◌⊎◌, inl, inr, ℕ, zero, suc, ◌+◌, ◌*◌, ◌/◌, ◌%◌, ◌<◌, ◌≤◌, List, length, ap, sym, subst, ◌∙◌, arith}
 use Rattle.std.proofs.lemmas.Bool.{cases_eq, cases_lt}
 use Rattle.std.proofs.lemmas.Bool.Decides.{nat_tests}
@@ -10,7 +11,7 @@ use Rattle.std.specs.Prelude.{IsSome, slice_index}
 use Rattle.layout.specs.FileBytes.{EndsAt, byte_in, first_bytes}
 use Rattle.layout.specs.Inode.{FitsBody}
 use Rattle.layout.specs.Limits.{Sizes}
-use Rattle.layout.specs.Version.{level_of}
+use Rattle.layout.specs.Trees.{level_of}
 use Rattle.layout.specs.declared.inode.Body.{Body}
 use Rattle.layout.specs.declared.inode.Body.TheVariants.{Inline, Pointers}
 use Rattle.model.specs.Volumes.{Volume}
@@ -25,7 +26,7 @@ use Rattle.inode.specs.Bases.{StartsUnchanged}
 use Rattle.inode.specs.Files.{file_block as blocks_of}
 use Rattle.inode.specs.declared.file.File.{File}
 use Rattle.inofile.specs.Volumes.{MapsVolume}
-use Rattle.placement.specs.Space.{file_stores, height_stores, level_stores, more_over, tops_over}
+use Rattle.placement.specs.Space.{tops_stored, file_stores, height_stores, level_stores, more_over}
 use Rattle.planning.specs.Space.{CountsBlocks, TellsSame}
 use Rattle.planning.proofs.MapLaws.{stands_none, stands_some}
 use Rattle.planning.proofs.TopLaws.{stored_most}
@@ -102,24 +103,24 @@ changed_few w t (suc n) counts =
     omega (arith, before, these, those, stored_most t.tree 0 n (w n) (omega arith) (counts n))
     )
 
-flat_stores : (level blocks changed more tops : ℕ) → level ≤ 1 → level_stores level blocks changed more tops ≤ changed
+flat_stores : (layout : Layout) (level blocks changed more tops : ℕ) → level ≤ 1 → level_stores layout level blocks changed more tops ≤ changed
 unfolding sum_below height_stores
-flat_stores zero blocks changed more tops le = omega arith
-flat_stores (suc zero) blocks changed more tops le = omega arith
-flat_stores (suc (suc level)) blocks changed more tops le = absurd (omega (arith, le))
+flat_stores layout zero blocks changed more tops le = omega arith
+flat_stores layout (suc zero) blocks changed more tops le = omega arith
+flat_stores layout (suc (suc level)) blocks changed more tops le = absurd (omega (arith, le))
 
-small_level : (size : ℕ) → size ≤ 8192 → level_of size ≤ 1
-small_level size le = grind (arith, nat_tests)
+small_level : (layout : Layout) (size : ℕ) → size ≤ 8192 → level_of layout size ≤ 1
+small_level layout size le = grind (arith, nat_tests)
 
 -- of a file whose changed blocks these numbers count, where it was loaded without a change
-pub few_stored : (w : ℕ → ℕ) (b : Body) (blocks size : ℕ) (first last : File) → FitsBody b blocks size → size ≤ 8192 → last.size ≡ size → StartsUnchanged b first.tree
+pub few_stored : (layout : Layout) (w : ℕ → ℕ) (b : Body) (blocks size : ℕ) (first last : File) → FitsBody layout b blocks size → size ≤ 8192 → last.size ≡ size → StartsUnchanged b first.tree
     → ((i : ℕ) → IsChanged last.tree i → (1 ≤ w i) ⊎ IsChanged first.tree i) → file_stores last ≤ sum_below w (block_count size)
-few_stored w (Inline bytes) blocks size first last fits small is unchanged counts =
-    let stores = height_stores (block_count last.size) (changed_blocks last.tree 0 (block_count last.size)) (more_over last) (tops_over last) in
-    let none = ap (sum_below stores) (level_none last.size (omega (arith, is, fits.0))) ∙ sum_of_none stores in
+few_stored layout w (Inline bytes) blocks size first last fits small is unchanged counts =
+    let stores = height_stores last.tree.layout (block_count last.size) (changed_blocks last.tree 0 (block_count last.size)) (more_over last) (tops_stored last.tree.layout last) in
+    let none = ap (sum_below stores) (level_none last.tree.layout last.size (omega (arith, is, fits.0))) ∙ sum_of_none stores in
     omega (arith, none)
-few_stored w (Pointers pointers) blocks size first last fits small is unchanged counts =
-    let flat = flat_stores (level_of last.size) (block_count last.size) (changed_blocks last.tree 0 (block_count last.size)) (more_over last) (tops_over last) (small_level last.size (omega (arith, is, small))) in
+few_stored layout w (Pointers pointers) blocks size first last fits small is unchanged counts =
+    let flat = flat_stores last.tree.layout (level_of last.tree.layout last.size) (block_count last.size) (changed_blocks last.tree 0 (block_count last.size)) (more_over last) (tops_stored last.tree.layout last) (small_level last.tree.layout last.size (omega (arith, is, small))) in
     let few = changed_few w last (block_count last.size) (λ i changed. elim (counts i changed) [
       | inl some ↦ some
       | inr before ↦ absurd (unchanged i before)

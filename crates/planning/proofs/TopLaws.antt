@@ -1,4 +1,6 @@
 -- How many blocks of the inode file are stored.
+use Rattle.layout.specs.Limits.{Sizes}
+use Rattle.layout.specs.declared.trees.Layout.{Layout}
 use Rattle.std.proofs.Common.{◌≡◌, ℕ, zero, suc, ◌+◌, ◌*◌, ◌%◌, ◌≤◌, Option, Some, None, true, false, ◌⊎◌, inl, inr, refl, ap, sym, subst, ◌∙◌, arith}
 use Rattle.std.specs.Prelude.{min, nat_lt, ◌==◌, if◌then◌else◌}
 use Rattle.std.specs.Ordering.{nat_cmp}
@@ -7,10 +9,9 @@ use Rattle.std.proofs.lemmas.Bool.{cases_eq}
 use Rattle.std.proofs.lemmas.Bool.Decides.{nat_tests}
 use Rattle.layout.specs.Inode.{FitsBody, IsInode}
 use Rattle.layout.specs.Root.{IsRoot}
-use Rattle.layout.specs.Version.{level_of}
+use Rattle.layout.specs.Trees.{level_of}
 use Rattle.layout.specs.declared.inode.Body.{Body}
 use Rattle.layout.specs.declared.inode.Inode.{Inode}
-use Rattle.layout.specs.declared.version.TheConstants.{VERSION}
 use Rattle.layout.specs.declared.root.Root.{Root}
 use Rattle.layout.specs.declared.inode.Body.TheVariants.{Inline, Pointers}
 use Rattle.images.specs.Sums.{sum_below}
@@ -30,7 +31,7 @@ use Rattle.inofile.specs.Inodes.{is_changed_slot}
 use Rattle.inofile.specs.declared.inode_file.InodeFile.{InodeFile}
 use Rattle.inofile.specs.declared.inode_file.ObjectSlot.TheVariants as inode_slots
 use Rattle.inofile.specs.declared.inode_file.ObjectSlot as inode_slot
-use Rattle.placement.specs.Space.{first_stores, height_stores, level_stores}
+use Rattle.placement.specs.Space.{first_stores, height_stores, level_stores, more_over}
 use Rattle.planning.specs.Inodes.{ChangesOnly, HasChange}
 use Rattle.planning.specs.Space.{number_changes, top_block, top_nodes}
 use Rattle.planning.proofs.StartLaws.{top_size}
@@ -111,52 +112,58 @@ top_counts s t (suc n) only =
 
 -- ---- the inode file of a plan
 
-height_rises : (blocks a b more tops h : ℕ) → a ≤ b → height_stores blocks a more tops h ≤ height_stores blocks b more tops h
+height_rises : (layout : Layout) (blocks a b more tops h : ℕ) → a ≤ b → height_stores layout blocks a more tops h ≤ height_stores layout blocks b more tops h
 unfolding height_stores
-height_rises blocks a b more tops zero le = le
-height_rises blocks a b more tops (suc zero) le = omega (arith, le)
-height_rises blocks a b more tops (suc (suc zero)) le = omega arith
-height_rises blocks a b more tops (suc (suc (suc h))) le = omega arith
+height_rises layout blocks a b more tops zero le = le
+height_rises layout blocks a b more tops (suc zero) le = omega (arith, le)
+height_rises layout blocks a b more tops (suc (suc zero)) le = omega arith
+height_rises layout blocks a b more tops (suc (suc (suc h))) le = omega arith
 
-level_rises : (level blocks a b more tops : ℕ) → a ≤ b → level_stores level blocks a more tops ≤ level_stores level blocks b more tops
-level_rises level blocks a b more tops le = sums_each (height_stores blocks a more tops) (height_stores blocks b more tops) level (λ h. height_rises blocks a b more tops h le)
+level_rises : (layout : Layout) (level blocks a b more tops : ℕ) → a ≤ b → level_stores layout level blocks a more tops ≤ level_stores layout level blocks b more tops
+level_rises layout level blocks a b more tops le = sums_each (height_stores layout blocks a more tops) (height_stores layout blocks b more tops) level (λ h. height_rises layout blocks a b more tops h le)
 
 -- all of a settled file of this size counts
-pub record IsWhole (size : ℕ) (t : BlockTree) : Type 0 where
+pub record IsWhole (layout : Layout) (size : ℕ) (t : BlockTree) : Type 0 where
+  of : t.layout ≡ layout
   kept : t.kept ≡ t.count
   count : t.count ≡ block_count size
-  depth : t.depth ≡ depth_of size
+  depth : t.depth ≡ depth_of layout size
 
 -- of such a file at most these blocks are stored
-pub top_within : (s : InodeFile) (size : ℕ) (f : File) → f.size ≡ size → 4096 ≤ size → IsWhole f.size f.tree → ((i : ℕ) → IsChanged f.tree i → (i ≡ 0) ⊎ HasChange s i) → first_stores f ≤ top_nodes s size
+pub top_within : (s : InodeFile) (size : ℕ) (f : File) → f.size ≡ size → 4096 ≤ size → IsWhole s.geometry.layout f.size f.tree → ((i : ℕ) → IsChanged f.tree i → (i ≡ 0) ⊎ HasChange s i) → first_stores f ≤ top_nodes s size
 top_within s size f is large whole only =
     let some : 1 ≤ block_count f.size = omega (arith, is, large) in
     let counts = top_counts s f.tree (block_count f.size) only in
-    let level = level_rises (level_of f.size) (block_count f.size) (changed_blocks f.tree 1 (block_count f.size) + 1) (sum_below (top_block s) (block_count f.size)) 0 (nodes_at (block_count f.size) 2) (omega (arith, counts, some)) in
+    let l = s.geometry.layout in
+    let level = level_rises l (level_of l f.size) (block_count f.size) (changed_blocks f.tree 1 (block_count f.size) + 1) (sum_below (top_block s) (block_count f.size)) 0 (nodes_at l (block_count f.size) 2) (omega (arith, counts, some)) in
     subst (λ (n : ℕ). first_stores f ≤ top_nodes s n) is
-    (subst (λ (m : ℕ). level_stores (level_of f.size) (block_count f.size) (changed_blocks f.tree 1 (block_count f.size) + 1) m (nodes_at (block_count f.size) 2) ≤ top_nodes s f.size) (sym (none_more f whole.kept whole.count whole.depth)) level)
+    (subst (λ (x : Layout). level_stores x (level_of x f.size) (block_count f.size) (changed_blocks f.tree 1 (block_count f.size) + 1) (more_over f) (nodes_at x (block_count f.size) 2) ≤ top_nodes s f.size) (sym whole.of)
+    (subst (λ (m : ℕ). level_stores l (level_of l f.size) (block_count f.size) (changed_blocks f.tree 1 (block_count f.size) + 1) m (nodes_at l (block_count f.size) 2) ≤ top_nodes s f.size)
+    (sym (none_more f whole.kept whole.count (whole.depth ∙ ap (λ (x : Layout). depth_of x f.size) (sym whole.of)))) level))
 
 -- what is loaded of a large inode
-record IsLoaded (size : ℕ) (t : BlockTree) : Type 0 where
-  whole : IsWhole size t
+record IsLoaded (layout : Layout) (size : ℕ) (t : BlockTree) : Type 0 where
+  whole : IsWhole layout size t
   unchanged : (i : ℕ) → IsChanged t i → ⊥
 
-is_loaded : (b : Body) (blocks size : ℕ) (t : BlockTree) → FitsBody b blocks size → 4096 ≤ size → StartsFrom b size t → StartsUnchanged b t → IsLoaded size t
-is_loaded (Inline bytes) blocks size t fits large starts unchanged = absurd (omega (arith, fits.0, large))
-is_loaded (Pointers pointers) blocks size t fits large starts unchanged =
-    record { whole = record { kept = starts.1; count = starts.0.count; depth = starts.0.depth }; unchanged = unchanged }
+is_loaded : (layout : Layout) (b : Body) (blocks size : ℕ) (t : BlockTree) → FitsBody layout b blocks size → 4096 ≤ size → StartsFrom layout b size t → StartsUnchanged b t → IsLoaded layout size t
+is_loaded layout (Inline bytes) blocks size t fits large starts unchanged = absurd (omega (arith, fits.0, large))
+is_loaded layout (Pointers pointers) blocks size t fits large starts unchanged =
+    record { whole = record { of = starts.0.layout_is; kept = starts.1; count = starts.0.count; depth = starts.0.depth }; unchanged = unchanged }
 
 -- the inode file, loaded and changed
-pub top_few : (s : InodeFile) (r : Root) (f : Inode) (first last : File) → IsRoot r → f.size ≡ r.inode_file.size → IsInode VERSION r.geometry f → StartsFrom f.body f.size first.tree → StartsUnchanged f.body first.tree
+pub top_few : (s : InodeFile) (r : Root) (f : Inode) (first last : File) → IsRoot r → s.geometry ≡ r.geometry → f.size ≡ r.inode_file.size → IsInode r.geometry f → StartsFrom f.layout f.body f.size first.tree → StartsUnchanged f.body first.tree
     → first.size ≡ f.size → last.size ≡ first.size → SameSettled first.tree last.tree → ChangesOnly (λ i. (i ≡ 0) ⊎ HasChange s i) first.tree last.tree → first_stores last ≤ top_nodes s r.inode_file.size
-top_few s r f first last root long fits starts unchanged loaded same settled changes =
+top_few s r f first last root sizes long fits starts unchanged loaded same settled changes =
     let size : last.size ≡ r.inode_file.size = same ∙ loaded ∙ long in
     let large : 4096 ≤ r.inode_file.size = omega (arith, top_size r.geometry r root refl, root.head.sizes.least_inodes) in
-    let is = is_loaded f.body r.geometry.blocks f.size first.tree fits.body (omega (arith, large, long)) starts unchanged in
+    let layout : f.layout ≡ s.geometry.layout = fits.layout ∙ ap (λ (z : Sizes). z.layout) (sym sizes) in
+    let is = is_loaded f.layout f.body r.geometry.blocks f.size first.tree fits.body (omega (arith, large, long)) starts unchanged in
     top_within s r.inode_file.size last size large (record {
       kept = changes.kept ∙ is.whole.kept ∙ sym settled.count;
       count = settled.count ∙ is.whole.count ∙ ap block_count (sym (same ∙ loaded));
-      depth = settled.depth ∙ is.whole.depth ∙ ap depth_of (sym (same ∙ loaded));
+      of = settled.layout ∙ is.whole.of ∙ layout;
+      depth = settled.depth ∙ is.whole.depth ∙ (λ j. depth_of (layout j) (sym (same ∙ loaded) j));
     }) (λ i changed. elim (changes.only i changed) [
       | inl one ↦ one
       | inr before ↦ absurd (is.unchanged i before)

@@ -43,7 +43,7 @@ pub record IsCleared (s : Sizes) (e : Blocks) (old : Held) (f : Inode) (taken fr
   pub placed : IsPlaced s e old f taken freed
   pub none : (b : ℕ) → Names (held e f) b → ⊥
   pub kind : f.kind ≡ kinds.Free
-  pub content : (d : Blocks) → content_of (held e f) ≡ trimmed (content_of (held d free_inode))
+  pub content : (d : Blocks) → content_of (held e f) ≡ trimmed (content_of (held d (free_inode s.layout)))
 
 -- an object in memory that may be placed over a settled inode
 pub record IsObjectOver (s : Sizes) (disk : Blocks) (settled : Inode) (o : Object) : Type 0 where

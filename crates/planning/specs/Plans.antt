@@ -4,6 +4,7 @@ use Rattle.layout.specs.Inode.{inode_bytes}
 use Rattle.layout.specs.Limits.{Sizes}
 use Rattle.layout.specs.Maps.{map_entry}
 use Rattle.layout.specs.Places.{Blocks, blocks_of}
+use Rattle.layout.specs.declared.trees.Layout.TheVariants.{Plain}
 use Rattle.layout.specs.declared.TheConstants.{BLOCK_BYTES, INODE_BYTES, INODES_PER_BLOCK}
 use Rattle.layout.specs.declared.inode.Inode.{Inode}
 use Rattle.layout.specs.declared.pointer.Pointer.TheVariants.{Block}
@@ -87,6 +88,7 @@ WillHaveEntries (Restore k f) count settled t = (b : ℕ) → count ≤ b → se
 -- A tree in its grammar, whose map's entries are the settled ones, but where the map is stored
 -- anew.
 pub record IsMapStart {B : Type 0} {G : Ghosts B} {blocks : B} {inodes : InodeFile} (o : OverTree G blocks inodes) (d : Draft) : Type 0 where
+  pub plain : inodes.geometry.layout ≡ Plain
   pub sound : IsSoundTree inodes.geometry (tree_of o)
   pub same : HasSettled d o.before.entry
   pub entries : HasEntries d o.before.entry (tree_of o)
@@ -100,6 +102,7 @@ pub record IsPlanStart {B : Type 0} {G : Ghosts B} {blocks : B} {inodes : InodeF
 
 -- What a whole plan starts from, over a map with no change: the tree that the change starts from.
 pub record IsRootStart {B : Type 0} {G : Ghosts B} {blocks : B} {inodes : InodeFile} (o : OverTree G blocks inodes) (change : SnapshotChange) (d : Draft) (root : Root) : Type 0 where
+  pub plain : inodes.geometry.layout ≡ Plain
   pub sound : IsSoundTree inodes.geometry (tree_of o)
   pub top : o.settled 0 ≡ starting_file change root
   pub plane : o.before.plane ≡ starting_plane change

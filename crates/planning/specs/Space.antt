@@ -6,7 +6,7 @@ use Rattle.std.specs.Ordering.{nat_cmp}
 use Rattle.std.specs.BTreeMap as tree
 use Rattle.layout.specs.declared.TheConstants.{BLOCK_BYTES, BLOCK_POINTERS, INODES_PER_BLOCK}
 use Rattle.layout.specs.Maps.{IsTaken}
-use Rattle.layout.specs.Version.{level_of}
+use Rattle.layout.specs.Trees.{level_of}
 use Rattle.layout.specs.declared.root.Root.{Root}
 use Rattle.images.specs.Sums.{sum_below}
 use Rattle.blocktree.specs.Names.{nodes_at}
@@ -67,7 +67,8 @@ top_block s i =
 -- the blocks of an inode file of so many bytes: those, and the indirect ones over them
 abbrev pub top_nodes : InodeFile → ℕ → ℕ
 top_nodes s size =
-    level_stores (level_of size) (block_count size) (sum_below (top_block s) (block_count size)) 0 (nodes_at (block_count size) 2)
+    level_stores s.geometry.layout (level_of s.geometry.layout size) (block_count size) (sum_below (top_block s) (block_count size)) 0
+    (nodes_at s.geometry.layout (block_count size) 2)
 
 -- the blocks of a block map, an entry for each block of a disk of so many
 abbrev pub map_file_nodes : ℕ → ℕ

@@ -3,8 +3,7 @@
 ghost use Rattle.std.specs.Prelude.{ℕ, ◌≡◌, ◌^◌, ◌<◌, ◌≤◌, List, All, IfOk, OnOk, IsErrOf, length, false};
 ghost use Rattle.layout.specs.Limits.{AreSizes, Sizes};
 ghost use Rattle.layout.specs.Pointer.{PointsBelow};
-ghost use Rattle.layout.specs.Version.{greatest_size};
-ghost use Rattle.layout.specs.declared.version.TheConstants.{VERSION};
+ghost use Rattle.layout.specs.Trees.{greatest_size};
 ghost use Rattle.layout.specs.declared.TheConstants.{BODY_POINTERS};
 ghost use Rattle.layout.specs.declared.inode.Inode.{Inode};
 ghost use Rattle.buffers.specs.Reads.{ReadsBlocks};
@@ -38,7 +37,7 @@ fn map_nodes<B: Blocks>(
     settled: Inode,
     count: usize,
 ) -> Result<Vec<Pointer>, PlanError>
-    requires size { settled.size ≤ greatest_size VERSION }
+    requires size { settled.size ≤ greatest_size settled.layout }
     requires few { count < 2 ^ 32 }
     ensures reads { ReadsBlocks B.Blocks IsReadFault blocks.old blocks.new result }
     ensures count { IfOk result (λ nodes. length nodes.items ≡ map_nodes count) }

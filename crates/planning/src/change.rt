@@ -143,16 +143,16 @@ pub(crate) fn starting_file(root: &Root, change: &SnapshotChange<'_>) -> Result<
     requires { IsRoot root.now }
     ensures is { IfOk result (λ f. f ≡ starting_file change.now root.now) }
     ensures size { IfOk result (λ f. f.size ≡ root.now.inode_file.size) }
-    ensures fits { IfOk result (IsInode VERSION root.now.geometry) }
+    ensures fits { IfOk result (IsInode root.now.geometry) }
     ensures damaged { IsErrOf result PlanError.Damaged
         → (starting_file change.now root.now).kind ≡ kinds.InodeFile
-        → IsInode VERSION root.now.geometry (starting_file change.now root.now) → ⊥ }
+        → IsInode root.now.geometry (starting_file change.now root.now) → ⊥ }
     ensures why { IfErr result (λ e. e ≡ PlanError.Damaged) }
 {
     let SnapshotChange::Restore { inode_file, .. } = *change else {
         return Ok(root.inode_file);
     };
-    if inode_file.kind == Kind::InodeFile && inode_file.fits(VERSION, root.geometry) {
+    if inode_file.kind == Kind::InodeFile && inode_file.fits(root.geometry) {
         Ok(inode_file)
     } else {
         Err(PlanError::Damaged)

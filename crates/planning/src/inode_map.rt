@@ -3,10 +3,10 @@
 ghost use Rattle.std.specs.Prelude.{ℕ, ◌≡◌, ◌≢◌, ◌⊎◌, ◌+◌, ◌*◌, ◌<◌, ◌≤◌, List, IsFalse, IsTrue, IfOk, OnOk, IsErrOf, false, length, slice_index};
 ghost use Rattle.std.specs.Int.{div_ceil};
 ghost use Rattle.layout.specs.Limits.{AreSizes};
-ghost use Rattle.layout.specs.Version.{greatest_size};
+ghost use Rattle.layout.specs.Trees.{greatest_size};
 ghost use Rattle.layout.specs.declared.TheConstants.{BLOCK_BYTES};
 ghost use Rattle.layout.specs.declared.inode.Inode.{Inode};
-ghost use Rattle.layout.specs.declared.version.TheConstants.{VERSION};
+ghost use Rattle.layout.specs.declared.trees.Layout.TheVariants.{Summed};
 ghost use Rattle.buffers.specs.Positions.{IsPart};
 ghost use Rattle.buffers.specs.Reads.{ReadsBlocks};
 ghost use Rattle.buffers.specs.Errors.{IsFault};
@@ -41,7 +41,7 @@ fn has_bytes<B: Blocks>(
     file: &File,
     bytes: &[u8],
 ) -> Result<bool, BlockError>
-    requires { length bytes.now ≤ greatest_size VERSION }
+    requires { length bytes.now ≤ greatest_size Summed }
     ensures reads { ReadsBlocks B.Blocks IsFault blocks.old blocks.new result }
     ensures same { (disk : ℕ → List ℕ) → B.Shows blocks.old disk → IfOk result
         (λ has. IsTrue has → IsPart (byte_at disk file.now) 0 bytes.now) }
@@ -116,7 +116,7 @@ fn put_parts<B: Blocks>(
     file: &mut File,
     bytes: &[u8],
 ) -> Result<(), BlockError>
-    requires { length bytes.now ≤ greatest_size VERSION }
+    requires { length bytes.now ≤ greatest_size Summed }
     ensures reads { ReadsBlocks B.Blocks IsFault blocks.old blocks.new result }
     ensures file { KeepsFile file.old file.new }
     ensures only { (disk : ℕ → List ℕ) → B.Shows blocks.old disk → (j : ℕ)

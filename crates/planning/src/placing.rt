@@ -2,9 +2,8 @@
 
 ghost use Rattle.std.specs.Prelude.{ℕ, ◌≡◌, ◌⊎◌, ◌≤◌, ◌<◌, ◌↔◌, List, IfOk, IsErrOf, IsTrue};
 ghost use Rattle.layout.specs.Limits.{Sizes};
-ghost use Rattle.layout.specs.Version.{greatest_size, level_of};
+ghost use Rattle.layout.specs.Trees.{greatest_size, level_of};
 ghost use Rattle.model.specs.declared.limits.TheConstants.{ROOT_NUMBER};
-ghost use Rattle.layout.specs.declared.version.TheConstants.{VERSION};
 ghost use Rattle.images.specs.Contents.{content_of};
 ghost use Rattle.images.specs.Nodes.{held};
 ghost use Rattle.inofile.specs.Inodes.{IsChanged};
@@ -20,7 +19,7 @@ use conspoint::{Draft, PlanError};
 use entries::Known;
 use inode::{File, Object, Status};
 use inofile::InodeFile;
-use layout::{Inode, level_of};
+use layout::Inode;
 use placement::{PlacedFile, place_file};
 use std::alloc::Global;
 
@@ -32,7 +31,7 @@ fn clear<B: Blocks>(
     settled: Inode,
 ) -> Result<PlacedFile, PlanError>
     requires disk { B.count blocks.old ≡ draft.old.map.count }
-    requires size { settled.size ≤ greatest_size VERSION }
+    requires size { settled.size ≤ greatest_size settled.layout }
     ensures step { ReadsAndPlaces B.Blocks 0 blocks.old blocks.new draft.old draft.new result }
     ensures blocks { IfOk result (HasBlocks draft.old draft.new) }
     ensures cleared { (s : Sizes) (disk : ℕ → List ℕ) → B.Shows blocks.old disk
@@ -57,9 +56,9 @@ fn clear<B: Blocks>(
 /// Whether an object lies over all that its settled inode names.
 fn lies_over(object: &Object, settled: &Inode) -> bool
     ensures { IsTrue result
-        ↔ ((0 < object.now.file.tree.count) ⊎ (level_of settled.now.size ≡ 0)) }
+        ↔ ((0 < object.now.file.tree.count) ⊎ (level_of settled.now.layout settled.now.size ≡ 0)) }
 {
-    object.file.tree().count() > 0 || level_of(settled.size) == 0
+    object.file.tree().count() > 0 || settled.layout.level_of(settled.size) == 0
 }
 
 /// Places an object over its settled inode. One that is made anew leaves all blocks that the
@@ -72,7 +71,7 @@ fn place_object<B: Blocks>(
     object: &Object,
 ) -> Result<PlacedFile, PlanError>
     requires disk { B.count blocks.old ≡ draft.old.map.count }
-    requires size { settled.size ≤ greatest_size VERSION }
+    requires size { settled.size ≤ greatest_size settled.layout }
     ensures step { ReadsAndPlaces B.Blocks (file_stores object.now.file)
         blocks.old blocks.new draft.old draft.new result }
     ensures blocks { IfOk result (HasBlocks draft.old draft.new) }

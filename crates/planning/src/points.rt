@@ -89,7 +89,7 @@ fn plan_files<B: Blocks>(
 ) -> Result<Inode, PlanError>
     requires start { AreOfSizes root.now inodes.now (B.count blocks.old) draft.old.map }
     requires size { inode_file.size ≡ root.now.inode_file.size }
-    requires fits { IsInode VERSION root.now.geometry inode_file }
+    requires fits { IsInode root.now.geometry inode_file }
     ensures step { PlansParts B.Blocks inodes.now
         (λ w. point_stores w root.now inodes.now draft.old.map.count)
         blocks.old blocks.new draft.old draft.new result }
@@ -120,7 +120,7 @@ fn next_root(root: &Root, generation: Generation, inode_file: Inode) -> Result<R
     ensures inode_file { IfOk result (λ r. r.inode_file ≡ inode_file) }
     ensures snapshots { IfOk result (λ r. r.snapshots ≡ root.now.snapshots) }
     ensures damaged { IsErrOf result PlanError.Damaged → IsRoot root.now
-        → inode_file.kind ≡ kinds.InodeFile → IsInode VERSION root.now.geometry inode_file → ⊥ }
+        → inode_file.kind ≡ kinds.InodeFile → IsInode root.now.geometry inode_file → ⊥ }
     ensures why { IfErr result (λ e. e ≡ PlanError.Damaged) }
 {
     let _ = generation.get();
@@ -182,7 +182,7 @@ pub fn plan<B: Blocks>(
     blocks: &mut B,
     root: &Root,
     generation: Generation,
-    slot: u32,
+    slot: u64,
     inodes: &InodeFile,
     map: BlockMap,
     change: &SnapshotChange<'_>,

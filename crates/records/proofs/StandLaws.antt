@@ -12,6 +12,7 @@ use Rattle.inofile.specs.Inodes.{HasRoomFor, IsKnown}
 use Rattle.inofile.specs.Room.{NeedsNoMore, slot_room}
 use Rattle.images.specs.Soundness.{Detail}
 use Rattle.inofile.specs.Volumes.{IsVolumeIn}
+use Rattle.inofile.proofs.ObjectLaws.{held_inode}
 use Rattle.inofile.specs.declared.inode_file.ObjectSlot.{ObjectSlot}
 use Rattle.inofile.specs.declared.inode_file.InodeFile.{InodeFile}
 use Rattle.paths.specs.Standing.{Looks, StandsIn}
@@ -35,6 +36,11 @@ module _ {B : Type 0} {detail : Detail} {G : Ghosts B} {disk : ℕ → List ℕ}
     shows = shows;
     volume = subst (λ (n : ℕ). IsVolumeIn detail n disk settled t v) (sym same) volume;
   }
+
+-- each settled inode has the layout of the image
+pub settled_layout : {B : Type 0} {detail : Detail} {G : Ghosts B} {disk : ℕ → List ℕ} {settled : ℕ → Inode} {v : Volume} (blocks : B) (s : InodeFile) (n : ℕ)
+    → StandsIn detail G disk settled v blocks s → (settled n).layout ≡ s.geometry.layout
+settled_layout {disk = disk} {settled = settled} blocks s n stands = (held_inode s.geometry disk (settled n) (stands.volume.inodes.sound n)).layout
 
 -- blocks that were read before something failed
 pub reads_err : {B T U E : Type 0} {G : Ghosts B} {F : E → Type 0} {a b : B} {e : E} (q : Result U E) → IsErrAnd q (λ f. f ≡ e) → ReadsBlocks {T = T} G F a b (Err e) → ReadsBlocks G F a b q

@@ -21,7 +21,7 @@ use buffers::{BlockError, Blocks};
 use entries::Known;
 use inode::{ChangeError, File, Object, Status};
 use inofile::InodeFile;
-use layout::{FIRST_NUMBER, InodeNumber, Kind, NewObject, is_link_text};
+use layout::{FIRST_NUMBER, InodeNumber, Kind, Layout, NewObject, is_link_text};
 use model::{Attributes, MODE_BITS, Mode};
 use std::alloc::Global;
 
@@ -58,41 +58,47 @@ pub(crate) fn is_made(object: &NewObject<'_>) -> bool
     }
 }
 
-/// The object that a record makes, with its one name.
+/// The object that a record makes in an image of this layout, with its one name.
 pub fn new_object<B: Blocks>(
     alloc: Global,
+    layout: Layout,
     blocks: &mut B,
     object: &NewObject<'_>,
 ) -> Result<Object, BlockError>
     requires { IsMade (made_of object.now) }
     ensures reads { ReadsBlocks B.Blocks IsFault blocks.old blocks.new result }
     ensures object { (detail : Detail) (disk : ℕ → List ℕ) → B.Shows blocks.old disk → IfOk result
-        (λ o. (inodes : ℕ) (settled : Inode)
+        (λ o. (inodes : ℕ) (settled : Inode) → settled.layout ≡ layout
         → IsObjectIn detail disk inodes settled o (Some (node_of (made_of object.now)))) }
     ensures room { IfOk result HasRoomOfNew }
     ensures damaged { (disk : ℕ → List ℕ) → B.Shows blocks.old disk
         → IsErrOf result BlockError.Damaged → ⊥ }
 {
     match object {
-        NewObject::Directory { mode } => Ok(new_directory(alloc, *mode)),
-        NewObject::File { mode } => Ok(new_file(alloc, *mode)),
-        NewObject::Link { text } => new_link(alloc, blocks, text),
+        NewObject::Directory { mode } => Ok(new_directory(alloc, layout, *mode)),
+        NewObject::File { mode } => Ok(new_file(alloc, layout, *mode)),
+        NewObject::Link { text } => new_link(alloc, layout, blocks, text),
     }
 }
 
 // A symbolic link of this text.
-fn new_link<B: Blocks>(alloc: Global, blocks: &mut B, text: &[u8]) -> Result<Object, BlockError>
+fn new_link<B: Blocks>(
+    alloc: Global,
+    layout: Layout,
+    blocks: &mut B,
+    text: &[u8],
+) -> Result<Object, BlockError>
     requires { IsLinkText text.now }
     ensures reads { ReadsBlocks B.Blocks IsFault blocks.old blocks.new result }
     ensures object { (detail : Detail) (disk : ℕ → List ℕ) → B.Shows blocks.old disk → IfOk result
-        (λ o. (inodes : ℕ) (settled : Inode)
+        (λ o. (inodes : ℕ) (settled : Inode) → settled.layout ≡ layout
         → IsObjectIn detail disk inodes settled o
         (Some (link_node (new_attributes LINK_MODE) text.now))) }
     ensures room { IfOk result HasRoomOfNew }
     ensures damaged { (disk : ℕ → List ℕ) → B.Shows blocks.old disk
         → IsErrOf result BlockError.Damaged → ⊥ }
 {
-    let mut file = File::empty(alloc);
+    let mut file = File::empty(alloc, layout);
     let change = match file.prepare_write(alloc, blocks, 0, text) {
         Ok(change) => change,
         Err(ChangeError::NoMemory) => return Err(BlockError::NoMemory),
@@ -111,9 +117,9 @@ fn new_link<B: Blocks>(alloc: Global, blocks: &mut B, text: &[u8]) -> Result<Obj
 }
 
 // A file of one name without bytes.
-fn new_file(alloc: Global, mode: Mode) -> Object
+fn new_file(alloc: Global, layout: Layout, mode: Mode) -> Object
     ensures object { (detail : Detail) (disk : ℕ → List ℕ) (inodes : ℕ) (settled : Inode)
-        → IsObjectIn detail disk inodes settled result
+        → settled.layout ≡ layout → IsObjectIn detail disk inodes settled result
         (Some (file_node (new_attributes mode) 1 [])) }
     ensures room { file_room result.file ≡ 0 }
     ensures good { mode ≤ MODE_BITS }
@@ -124,15 +130,15 @@ fn new_file(alloc: Global, mode: Mode) -> Object
     let status = Status::new(Kind::File, attributes);
     Object {
         status,
-        file: File::empty(alloc),
+        file: File::empty(alloc, layout),
         known: Known::new(alloc),
     }
 }
 
 /// A directory without names.
-pub(crate) fn new_directory(alloc: Global, mode: Mode) -> Object
+pub(crate) fn new_directory(alloc: Global, layout: Layout, mode: Mode) -> Object
     ensures object { (detail : Detail) (disk : ℕ → List ℕ) (inodes : ℕ) (settled : Inode)
-        → IsObjectIn detail disk inodes settled result
+        → settled.layout ≡ layout → IsObjectIn detail disk inodes settled result
         (Some (directory_node (new_attributes mode) (λ name. None))) }
     ensures room { file_room result.file ≡ 0 }
     ensures good { mode ≤ MODE_BITS }
@@ -143,7 +149,7 @@ pub(crate) fn new_directory(alloc: Global, mode: Mode) -> Object
     let status = Status::new(Kind::Directory, attributes);
     Object {
         status,
-        file: File::empty(alloc),
+        file: File::empty(alloc, layout),
         known: Known::new(alloc),
     }
 }

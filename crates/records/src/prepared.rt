@@ -129,7 +129,8 @@ fn prepare_create<B: Blocks>(
     if !vacant {
         return Err(Failure::Refused(Errno::DAMAGED));
     }
-    let new = new_object(alloc, blocks, object)?;
+    let layout = inodes.geometry().layout();
+    let new = new_object(alloc, layout, blocks, object)?;
     prepare_new(alloc, inodes, blocks, number, parent, name, new)
 }
 

@@ -12,7 +12,7 @@ use std::alloc::{AllocError, Global};
 pub struct Images {
     pub disk: Vec<u8>,
     pub nvram: Vec<u8>,
-    pub bad: Vec<u32>,
+    pub bad: Vec<u64>,
 }
 
 impl Images {
@@ -63,7 +63,9 @@ impl Images {
                 return Ok(false);
             };
             // A station in memory gives zeros there.
-            let start = SECTOR.saturating_mul(number);
+            let Ok(start) = u32::try_from(SECTOR.saturating_mul(number)) else {
+                return Ok(false);
+            };
             if !put(&mut self.disk, start, &[0; SECTOR_BYTES]) {
                 return Ok(false);
             }
@@ -89,10 +91,10 @@ impl Images {
 }
 
 /// Bytes of a sector.
-const SECTOR: u32 = SECTOR_BYTES as u32;
+const SECTOR: u64 = SECTOR_BYTES as u64;
 
 /// Sectors of the two blocks that roots stand in.
-const SLOT_SECTORS: u32 = 16;
+const SLOT_SECTORS: u64 = 16;
 
 fn copied(alloc: Global, sim: &Sim) -> Result<Images, AllocError> {
     let (disk, nvram) = sim.images();
@@ -109,7 +111,7 @@ pub fn looks_at_bad(words: &str) -> bool {
 }
 
 /// Compares numbers with a text of them, with a space before each.
-fn compare_numbers(alloc: Global, numbers: &[u32], expected: &str) -> Result<bool, Fault> {
+fn compare_numbers(alloc: Global, numbers: &[u64], expected: &str) -> Result<bool, Fault> {
     let came = shown(alloc, numbers)?;
     compare(alloc, came.as_str(), expected.trim_start())
 }
@@ -122,7 +124,7 @@ fn compare(alloc: Global, came: &str, expected: &str) -> Result<bool, Fault> {
 }
 
 /// Numbers with a space between.
-fn shown(alloc: Global, numbers: &[u32]) -> Result<String, AllocError> {
+fn shown(alloc: Global, numbers: &[u64]) -> Result<String, AllocError> {
     let mut text = String::new(alloc);
     for (i, number) in numbers.iter().enumerate() {
         text = if i == 0 {

@@ -2,7 +2,7 @@
 
 use crate::choices::Choices;
 use crate::image::{part, put};
-use layout::{BlockNumber, Body, Entry, INODE_BYTES, Inode, InodeNumber, Pointer};
+use layout::{BlockNumber, Body, Entry, INODE_BYTES, Inode, InodeNumber, Layout, Pointer};
 use model::NAME_BYTES;
 
 /// `links AT N`, `block AT N`: the inode that stands there gets so many links, or this first block.
@@ -10,7 +10,10 @@ pub fn put_inode(choices: &mut Choices, image: &mut Vec<u8>, verb: &str, words: 
     let [Some(at), Some(value), _] = choices.numbers(words) else {
         return false;
     };
-    let Some(mut inode) = part(image, at, INODE_BYTES as u32).and_then(Inode::read) else {
+    let Some(bytes) = part(image, at, INODE_BYTES as u32) else {
+        return false;
+    };
+    let Some(mut inode) = Inode::read(bytes, Layout::Plain) else {
         return false;
     };
     match &mut inode.body {

@@ -5,6 +5,7 @@ use Rattle.std.proofs.lemmas.Bool.{cases_eq, cases_lt, cond_below, cond_above}
 use Rattle.layout.specs.Places.{Blocks}
 use Rattle.layout.specs.Root.{IsRoot}
 use Rattle.layout.specs.SnapRoot.{Snapshot, snapshot_in}
+use Rattle.layout.specs.declared.trees.Layout.{Layout}
 use Rattle.layout.specs.declared.pointer.Pointer.{Pointer}
 use Rattle.layout.specs.declared.pointer.Pointer.TheVariants.{Hole, Block}
 use Rattle.layout.specs.declared.root.Root.{Root}
@@ -89,23 +90,23 @@ order_of : Option Snapshot → ℕ
 order_of None = 0
 order_of (Some s) = s.order
 
-order_in : Blocks → Pointer → ℕ
-order_in disk Hole = 0
-order_in disk (Block b) = order_of (snapshot_in (disk b))
+order_in : Layout → Blocks → Pointer → ℕ
+order_in layout disk Hole = 0
+order_in layout disk (Block b) = order_of (snapshot_in layout (disk b))
 
 -- the order number in a pointer's block is that of the snapshot
-order_is : (disk : Blocks) (p : Pointer) (s : Snapshot) → SpellsSnapshot disk p s → order_in disk p ≡ s.order
+order_is : (layout : Layout) (disk : Blocks) (p : Pointer) (s : Snapshot) → SpellsSnapshot layout disk p s → order_in layout disk p ≡ s.order
 unfolding order_in order_of
-order_is disk Hole s spelled = absurd spelled
-order_is disk (Block b) s spelled = ap order_of spelled
+order_is layout disk Hole s spelled = absurd spelled
+order_is layout disk (Block b) s spelled = ap order_of spelled
 
 -- and there is one where it isn't 0
-order_some : (disk : Blocks) (p : Pointer) → 0 < order_in disk p → (s : Snapshot) × SpellsSnapshot disk p s
+order_some : (layout : Layout) (disk : Blocks) (p : Pointer) → 0 < order_in layout disk p → (s : Snapshot) × SpellsSnapshot layout disk p s
 unfolding order_in order_of
-order_some disk Hole some = absurd (omega (arith, some))
-order_some disk (Block b) some = found (snapshot_in (disk b)) refl some
+order_some layout disk Hole some = absurd (omega (arith, some))
+order_some layout disk (Block b) some = found (snapshot_in layout (disk b)) refl some
   where
-    found : (o : Option Snapshot) → snapshot_in (disk b) ≡ o → 0 < order_of o → (s : Snapshot) × (snapshot_in (disk b) ≡ Some s)
+    found : (o : Option Snapshot) → snapshot_in layout (disk b) ≡ o → 0 < order_of o → (s : Snapshot) × (snapshot_in layout (disk b) ≡ Some s)
     found None is up = absurd (omega (arith, up))
     found (Some s) is up = (s, is)
 
@@ -114,35 +115,35 @@ module _ (disk : Blocks) (r : Root) (root : IsRoot r) (are : AreSnapshots r (who
   at i = slice_index_or r.snapshots i Hole
 
   one_above : ℕ → ℕ → ℕ
-  one_above above i = if nat_lt above (order_in disk (at i)) then 1 else 0
+  one_above above i = if nat_lt above (order_in r.geometry.layout disk (at i)) then 1 else 0
 
-  is_above : (above i : ℕ) → above < order_in disk (at i) → one_above above i ≡ 1
+  is_above : (above i : ℕ) → above < order_in r.geometry.layout disk (at i) → one_above above i ≡ 1
   unfolding one_above
-  is_above above i lt = sym (cond_below above (order_in disk (at i)) 1 0 lt)
+  is_above above i lt = sym (cond_below above (order_in r.geometry.layout disk (at i)) 1 0 lt)
 
-  not_above : (above i : ℕ) → order_in disk (at i) ≤ above → one_above above i ≡ 0
+  not_above : (above i : ℕ) → order_in r.geometry.layout disk (at i) ≤ above → one_above above i ≡ 0
   unfolding one_above
-  not_above above i le = sym (cond_above above (order_in disk (at i)) 1 0 0 le refl)
+  not_above above i le = sym (cond_above above (order_in r.geometry.layout disk (at i)) 1 0 0 le refl)
 
   at_most : (above i : ℕ) → one_above above i ≤ 1
-  at_most above i = elim (cases_lt above (order_in disk (at i))) [
+  at_most above i = elim (cases_lt above (order_in r.geometry.layout disk (at i))) [
     | inl lt ↦ (let is = is_above above i lt in omega (arith, is))
     | inr le ↦ (let is = not_above above i le in omega (arith, is))
   ]
 
   -- what a slot has
-  there : (i : ℕ) → 0 < order_in disk (at i) → (s : Snapshot) × HasSnapshot r (whole disk r) (suc i) s × (order_in disk (at i) ≡ s.order)
+  there : (i : ℕ) → 0 < order_in r.geometry.layout disk (at i) → (s : Snapshot) × HasSnapshot r (whole disk r) (suc i) s × (order_in r.geometry.layout disk (at i) ≡ s.order)
   unfolding at
   there i some =
-      let found = order_some disk (at i) some in
-      (found.0, has disk r (suc i) (at i) found.0 refl found.1, order_is disk (at i) found.0 found.1)
+      let found = order_some r.geometry.layout disk (at i) some in
+      (found.0, has disk r (suc i) (at i) found.0 refl found.1, order_is r.geometry.layout disk (at i) found.0 found.1)
 
-  order_at : (i : ℕ) (s : Snapshot) → HasSnapshot r (whole disk r) (suc i) s → order_in disk (at i) ≡ s.order
+  order_at : (i : ℕ) (s : Snapshot) → HasSnapshot r (whole disk r) (suc i) s → order_in r.geometry.layout disk (at i) ≡ s.order
   unfolding at
-  order_at i s here = order_is disk (at i) s (spells disk r (suc i) s here)
+  order_at i s here = order_is r.geometry.layout disk (at i) s (spells disk r (suc i) s here)
 
   kept_count : (above : ℕ) (pairs : List (Name × Tree)) → AreKeptAbove r (whole disk r) above pairs → length pairs ≡ sum_to (one_above above) SNAPSHOT_SLOTS
-  kept_count above [] kept = sym (sum_none (one_above above) SNAPSHOT_SLOTS (λ i lt. not_above above i (elim (cases_lt above (order_in disk (at i))) [
+  kept_count above [] kept = sym (sum_none (one_above above) SNAPSHOT_SLOTS (λ i lt. not_above above i (elim (cases_lt above (order_in r.geometry.layout disk (at i))) [
     | inr le ↦ le
     | inl up ↦
         let one = there i (omega (arith, up)) in
@@ -153,12 +154,12 @@ module _ (disk : Blocks) (r : Root) (root : IsRoot r) (are : AreSnapshots r (who
       let slot_is = in_slot r k next.has.block next.has.there in
       let j = slot_is.0 in
       let here : HasSnapshot r (whole disk r) (suc j) s = subst (λ i. HasSnapshot r (whole disk r) i s) slot_is.1 next.has in
-      let order : order_in disk (at j) ≡ s.order = order_at j s here in
+      let order : order_in r.geometry.layout disk (at j) ≡ s.order = order_at j s here in
       let one : one_above above j ≡ one_above s.order j + 1 =
       (let up = is_above above j (omega (arith, order, next.above_it)) in let none = not_above s.order j (omega (arith, order)) in omega (arith, up, none)) in
-      let others : (i : ℕ) → i ≢ j → one_above above i ≡ one_above s.order i = λ i other. elim (cases_lt s.order (order_in disk (at i))) [
+      let others : (i : ℕ) → i ≢ j → one_above above i ≡ one_above s.order i = λ i other. elim (cases_lt s.order (order_in r.geometry.layout disk (at i))) [
         | inl up ↦ is_above above i (omega (arith, up, next.above_it)) ∙ sym (is_above s.order i up)
-        | inr le ↦ elim (cases_lt above (order_in disk (at i))) [
+        | inr le ↦ elim (cases_lt above (order_in r.geometry.layout disk (at i))) [
           | inr low ↦ not_above above i low ∙ sym (not_above s.order i le)
           | inl up ↦
               let found = there i (omega (arith, up)) in
@@ -178,7 +179,7 @@ module _ (disk : Blocks) (r : Root) (root : IsRoot r) (are : AreSnapshots r (who
   room_left pairs zero kept low high none = absurd (omega (arith, low))
   room_left pairs (suc j) kept low high none =
       let all = kept_count 0 pairs kept in
-      let zero_there : order_in disk (at j) ≡ 0 = ap (order_in disk) none in
+      let zero_there : order_in r.geometry.layout disk (at j) ≡ 0 = ap (order_in r.geometry.layout disk) none in
       let fewer = sum_fewer (one_above 0) SNAPSHOT_SLOTS j (at_most 0) (omega (arith, high)) (not_above 0 j (omega (arith, zero_there))) in
       omega (arith, all, fewer)
 
@@ -190,10 +191,10 @@ module _ (disk : Blocks) (r : Root) (root : IsRoot r) (are : AreSnapshots r (who
       let each = sum_all (one_above 0) SNAPSHOT_SLOTS (λ i lt. is_above 0 i (in_use i (omega (arith, lt)))) in
       omega (arith, all, each)
     where
-      in_use : (i : ℕ) → i < SNAPSHOT_SLOTS → 0 < order_in disk (at i)
+      in_use : (i : ℕ) → i < SNAPSHOT_SLOTS → 0 < order_in r.geometry.layout disk (at i)
       in_use i lt = used (slot r (suc i)) refl
         where
-          used : (p : Pointer) → slot r (suc i) ≡ p → 0 < order_in disk (at i)
+          used : (p : Pointer) → slot r (suc i) ≡ p → 0 < order_in r.geometry.layout disk (at i)
           used Hole is = absurd (none (suc i) (omega arith) (omega (arith, lt)) is)
           used (Block b) is =
               let one = are.each (suc i) b is in

@@ -20,49 +20,49 @@ use Rattle.loading.proofs.SnapshotLaws.{at_slot}
 use Rattle.snapshots.proofs.SlotLaws.{has, in_slot, one_snapshot, spells}
 
 -- the last slot's snapshot is the least
-least_one : (disk : Blocks) (r : Root) (above n : ℕ) (b : Next) → IsOver disk (slice_index_or r.snapshots n Hole) above b
-    → ((j : ℕ) (s : Snapshot) → j < n → SpellsSnapshot disk (slice_index_or r.snapshots j Hole) s → above < s.order → b.order ≤ s.order)
-    → ((s : Snapshot) → SpellsSnapshot disk (slice_index_or r.snapshots n Hole) s → s.order ≡ b.order) → IsLeastAbove disk r above (n + 1) (Some b)
+least_one : (disk : Blocks) (r : Root) (above n : ℕ) (b : Next) → IsOver r.geometry.layout disk (slice_index_or r.snapshots n Hole) above b
+    → ((j : ℕ) (s : Snapshot) → j < n → SpellsSnapshot r.geometry.layout disk (slice_index_or r.snapshots j Hole) s → above < s.order → b.order ≤ s.order)
+    → ((s : Snapshot) → SpellsSnapshot r.geometry.layout disk (slice_index_or r.snapshots n Hole) s → s.order ≡ b.order) → IsLeastAbove disk r above (n + 1) (Some b)
 least_one disk r above n b over least same = (
   (n, omega arith, over),
   λ j s lt spelled up. elim (cases_eq j n) [
-    | inl here ↦ (let is = same s (subst (λ i. SpellsSnapshot disk (slice_index_or r.snapshots i Hole) s) here spelled) in omega (arith, is))
+    | inl here ↦ (let is = same s (subst (λ i. SpellsSnapshot r.geometry.layout disk (slice_index_or r.snapshots i Hole) s) here spelled) in omega (arith, is))
     | inr other ↦ least j s (omega arith) spelled up
   ],
 )
 
 -- the least one so far is
 least_still : (disk : Blocks) (r : Root) (above n : ℕ) (a : Next) → IsLeastAbove disk r above n (Some a)
-    → ((s : Snapshot) → SpellsSnapshot disk (slice_index_or r.snapshots n Hole) s → a.order ≤ s.order) → IsLeastAbove disk r above (n + 1) (Some a)
+    → ((s : Snapshot) → SpellsSnapshot r.geometry.layout disk (slice_index_or r.snapshots n Hole) s → a.order ≤ s.order) → IsLeastAbove disk r above (n + 1) (Some a)
 least_still disk r above n a least high = (
   (least.0.0, omega (arith, least.0.1), least.0.2),
   λ j s lt spelled up. elim (cases_eq j n) [
-    | inl here ↦ high s (subst (λ i. SpellsSnapshot disk (slice_index_or r.snapshots i Hole) s) here spelled)
+    | inl here ↦ high s (subst (λ i. SpellsSnapshot r.geometry.layout disk (slice_index_or r.snapshots i Hole) s) here spelled)
     | inr other ↦ least.1 j s (omega arith) spelled up
   ],
 )
 
 -- one slot more is looked at
 pub least_more : (disk : Blocks) (r : Root) (above n : ℕ) (next one : Option Next) → IsLeastAbove disk r above n next
-    → IfSome one (IsOver disk (slice_index_or r.snapshots n Hole) above)
-    → IfNone one ((s : Snapshot) → SpellsSnapshot disk (slice_index_or r.snapshots n Hole) s → s.order ≤ above)
-    → ((next one : Next) → IsOver disk (slice_index_or r.snapshots n Hole) above one → (s : Snapshot) → SpellsSnapshot disk (slice_index_or r.snapshots n Hole) s → s.order ≡ one.order)
+    → IfSome one (IsOver r.geometry.layout disk (slice_index_or r.snapshots n Hole) above)
+    → IfNone one ((s : Snapshot) → SpellsSnapshot r.geometry.layout disk (slice_index_or r.snapshots n Hole) s → s.order ≤ above)
+    → ((next one : Next) → IsOver r.geometry.layout disk (slice_index_or r.snapshots n Hole) above one → (s : Snapshot) → SpellsSnapshot r.geometry.layout disk (slice_index_or r.snapshots n Hole) s → s.order ≡ one.order)
     → IsLeastAbove disk r above (n + 1) (LeastOf next one)
 least_more disk r above n None None least some none same = λ j s lt spelled. elim (cases_eq j n) [
-  | inl here ↦ none s (subst (λ i. SpellsSnapshot disk (slice_index_or r.snapshots i Hole) s) here spelled)
+  | inl here ↦ none s (subst (λ i. SpellsSnapshot r.geometry.layout disk (slice_index_or r.snapshots i Hole) s) here spelled)
   | inr other ↦ least j s (omega arith) spelled
 ]
 least_more disk r above n None (Some b) least some none same = (
   (n, omega arith, some),
   λ j s lt spelled up. elim (cases_eq j n) [
-    | inl here ↦ (let is = same b b some s (subst (λ i. SpellsSnapshot disk (slice_index_or r.snapshots i Hole) s) here spelled) in omega (arith, is))
+    | inl here ↦ (let is = same b b some s (subst (λ i. SpellsSnapshot r.geometry.layout disk (slice_index_or r.snapshots i Hole) s) here spelled) in omega (arith, is))
     | inr other ↦ (let low = least j s (omega arith) spelled in absurd (omega (arith, low, up)))
   ],
 )
 least_more disk r above n (Some a) None least some none same = (
   (least.0.0, omega (arith, least.0.1), least.0.2),
   λ j s lt spelled up. elim (cases_eq j n) [
-    | inl here ↦ (let low = none s (subst (λ i. SpellsSnapshot disk (slice_index_or r.snapshots i Hole) s) here spelled) in absurd (omega (arith, low, up)))
+    | inl here ↦ (let low = none s (subst (λ i. SpellsSnapshot r.geometry.layout disk (slice_index_or r.snapshots i Hole) s) here spelled) in absurd (omega (arith, low, up)))
     | inr other ↦ least.1 j s (omega arith) spelled up
   ],
 )
@@ -73,8 +73,8 @@ least_more disk r above n (Some a) (Some b) least some none same = elim (cases_l
       let is = same a b some s spelled in omega (arith, is, farther)))
 ]
 
-pub same_order : (disk : Blocks) (r : Root) (n above : ℕ) (one : Next) → IsOver disk (slice_index_or r.snapshots n Hole) above one → (s : Snapshot)
-    → SpellsSnapshot disk (slice_index_or r.snapshots n Hole) s → s.order ≡ one.order
+pub same_order : (disk : Blocks) (r : Root) (n above : ℕ) (one : Next) → IsOver r.geometry.layout disk (slice_index_or r.snapshots n Hole) above one → (s : Snapshot)
+    → SpellsSnapshot r.geometry.layout disk (slice_index_or r.snapshots n Hole) s → s.order ≡ one.order
 same_order disk r n above one over s spelled =
     let first : HasSnapshot r (whole disk r) (suc n) over.snapshot = has disk r (suc n) (slice_index_or r.snapshots n Hole) over.snapshot refl over.spells in
     let second : HasSnapshot r (whole disk r) (suc n) s = has disk r (suc n) (slice_index_or r.snapshots n Hole) s refl spelled in
@@ -96,12 +96,12 @@ module _ (disk : Blocks) (r : Root) (root : IsRoot r) (are : AreSnapshots r (who
   none_left [] least kept = refl
   none_left (pair ∷ rest) least (k, s, next, is, frozen, more) =
       let at = in_slot r k next.has.block next.has.there in
-      let low = least at.0 s (omega (arith, at.2, root.slots)) (subst (λ i. SpellsSnapshot disk (slot r i) s) at.1 (spells disk r k s next.has)) in
+      let low = least at.0 s (omega (arith, at.2, root.slots)) (subst (λ i. SpellsSnapshot r.geometry.layout disk (slot r i) s) at.1 (spells disk r k s next.has)) in
       absurd (omega (arith, low, next.above_it))
 
   -- the next one to list is the least above
   pub next_listed : (rest : List (Name × Tree)) (next : Next) (name : Name) → IsLeastAbove disk r above SNAPSHOT_SLOTS (Some next) → AreKeptAbove r (whole disk r) above rest
-      → ((s : Snapshot) → SpellsSnapshot disk (Block next.place) s → name ≡ s.name)
+      → ((s : Snapshot) → SpellsSnapshot r.geometry.layout disk (Block next.place) s → name ≡ s.name)
       → (more : List (Name × Tree)) × AreKeptAbove r (whole disk r) next.order more × (names_of rest ≡ name ∷ names_of more)
   next_listed [] next name ((j, lt, over), least) kept named =
       let there : HasSnapshot r (whole disk r) (suc j) over.snapshot = has disk r (suc j) (slice_index_or r.snapshots j Hole) over.snapshot refl over.spells in
@@ -110,12 +110,12 @@ module _ (disk : Blocks) (r : Root) (root : IsRoot r) (are : AreSnapshots r (who
   next_listed (pair ∷ rest) next name ((j, lt, over), least) (k, s, is_next, is, frozen, more) named =
       let there : HasSnapshot r (whole disk r) (suc j) over.snapshot = has disk r (suc j) (slice_index_or r.snapshots j Hole) over.snapshot refl over.spells in
       let at = in_slot r k is_next.has.block is_next.has.there in
-      let low = least at.0 s (omega (arith, at.2, root.slots)) (subst (λ i. SpellsSnapshot disk (slot r i) s) at.1 (spells disk r k s is_next.has)) is_next.above_it in
+      let low = least at.0 s (omega (arith, at.2, root.slots)) (subst (λ i. SpellsSnapshot r.geometry.layout disk (slot r i) s) at.1 (spells disk r k s is_next.has)) is_next.above_it in
       let high = is_next.least (suc j) over.snapshot there (omega (arith, over.order, over.above_it)) in
       let order : s.order ≡ over.snapshot.order = omega (arith, low, high, over.order) in
       let slot_is : k ≡ suc j = are.orders k (suc j) s over.snapshot is_next.has there order in
       let one : s ≡ over.snapshot = one_snapshot disk r (suc j) s over.snapshot (subst (λ i. HasSnapshot r (whole disk r) i s) slot_is is_next.has) there in
-      let spelled : SpellsSnapshot disk (Block next.place) over.snapshot = subst (λ p. SpellsSnapshot disk p over.snapshot) over.there over.spells in
+      let spelled : SpellsSnapshot r.geometry.layout disk (Block next.place) over.snapshot = subst (λ p. SpellsSnapshot r.geometry.layout disk p over.snapshot) over.there over.spells in
       let called : pair.0 ≡ name = is ∙ ap (λ (x : Snapshot). x.name) one ∙ sym (named over.snapshot spelled) in (
         rest,
         subst (λ (o : ℕ). AreKeptAbove r (whole disk r) o rest) (order ∙ over.order) more,

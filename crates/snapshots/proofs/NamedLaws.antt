@@ -72,7 +72,7 @@ module _ (disk : Blocks) (r : Root) (name : Name) where
 -- what a slot's pointer leads to, where it has the name
 pub finds : (disk : Blocks) (r : Root) (name : Name) (v : Volume) (pairs : List (Name × Tree)) → Holds r (whole disk r) v pairs
     → (k : ℕ) (p : Pointer) (found : Option FoundSnapshot) → slot r (suc k) ≡ p → IsSome found → IfSome found (λ f. f.slot ≡ k + 1)
-    → IfSome found (λ f. SpellsSnapshot disk p (snapshot_found name f)) → FindsSnapshot r disk name pairs found
+    → IfSome found (λ f. SpellsSnapshot r.geometry.layout disk p (snapshot_found name f)) → FindsSnapshot r disk name pairs found
 finds disk r name v pairs holds k p None there some at spells = absurd (false≢true some)
 finds disk r name v pairs holds k p (Some f) there some at spells =
     let same : suc k ≡ f.slot = omega (arith, at) in

@@ -6,6 +6,7 @@ use Rattle.std.proofs.lemmas.Slice.Eq.{bytes_eq-Decides}
 use Rattle.std.proofs.lemmas.List.{get_or_past}
 use Rattle.layout.specs.Places.{Blocks, pointed}
 use Rattle.layout.specs.SnapRoot.{Snapshot, snapshot_bytes, snapshot_in}
+use Rattle.layout.specs.declared.trees.Layout.{Layout}
 use Rattle.layout.specs.declared.pointer.Pointer.{Pointer}
 use Rattle.layout.specs.declared.pointer.Pointer.TheVariants.{Hole, Block}
 use Rattle.layout.specs.declared.root.Root.{Root}
@@ -15,14 +16,14 @@ use Rattle.images.specs.Roots.{slot, whole}
 use Rattle.images.specs.Snapshots.{HasSnapshot}
 use Rattle.snapshots.specs.Found.{SpellsSnapshot}
 
-pub has : (disk : Blocks) (r : Root) (k : ℕ) (p : Pointer) (s : Snapshot) → slot r k ≡ p → SpellsSnapshot disk p s → HasSnapshot r (whole disk r) k s
+pub has : (disk : Blocks) (r : Root) (k : ℕ) (p : Pointer) (s : Snapshot) → slot r k ≡ p → SpellsSnapshot r.geometry.layout disk p s → HasSnapshot r (whole disk r) k s
 unfolding whole
 has disk r k Hole s is spells = absurd spells
-has disk r k (Block b) s is spells = record { block = b; there = is; read = ap snapshot_in (ap (pointed disk) is) ∙ spells }
+has disk r k (Block b) s is spells = record { block = b; there = is; read = ap (λ x. snapshot_in r.geometry.layout (pointed disk x)) is ∙ spells }
 
-pub spells : (disk : Blocks) (r : Root) (k : ℕ) (s : Snapshot) → HasSnapshot r (whole disk r) k s → SpellsSnapshot disk (slot r k) s
+pub spells : (disk : Blocks) (r : Root) (k : ℕ) (s : Snapshot) → HasSnapshot r (whole disk r) k s → SpellsSnapshot r.geometry.layout disk (slot r k) s
 unfolding whole
-spells disk r k s has = subst (λ p. SpellsSnapshot disk p s) (sym has.there) (ap snapshot_in (sym (ap (pointed disk) has.there)) ∙ has.read)
+spells disk r k s has = subst (λ p. SpellsSnapshot r.geometry.layout disk p s) (sym has.there) (ap (λ x. snapshot_in r.geometry.layout (pointed disk x)) (sym has.there) ∙ has.read)
 
 -- a slot that isn't free is one of the root's
 pub in_slot : (r : Root) (k block : ℕ) → slot r k ≡ Block block → (j : ℕ) × (k ≡ suc j) × (j < length r.snapshots)
@@ -34,22 +35,23 @@ in_slot r (suc j) block is = elim (cases_lt j (length r.snapshots)) [
 
 -- no slot has the name, where none of the pointers' blocks does
 pub none_has : (disk : Blocks) (r : Root) (name : List ℕ) (n k : ℕ) (s : Snapshot) → length r.snapshots ≤ n
-    → ((j : ℕ) (q : Snapshot) → j < n → SpellsSnapshot disk (slice_index_or r.snapshots j Hole) q → q.name ≢ name)
+    → ((j : ℕ) (q : Snapshot) → j < n → SpellsSnapshot r.geometry.layout disk (slice_index_or r.snapshots j Hole) q → q.name ≢ name)
     → HasSnapshot r (whole disk r) k s → s.name ≢ name
 none_has disk r name n k s all none has =
     let at = in_slot r k has.block has.there in
-    none at.0 s (omega (arith, all, at.2)) (subst (λ i. SpellsSnapshot disk (slot r i) s) at.1 (spells disk r k s has))
+    none at.0 s (omega (arith, all, at.2)) (subst (λ i. SpellsSnapshot r.geometry.layout disk (slot r i) s) at.1 (spells disk r k s has))
 
 -- one slot has one snapshot
 pub one_snapshot : (disk : Blocks) (r : Root) (k : ℕ) (s q : Snapshot) → HasSnapshot r (whole disk r) k s → HasSnapshot r (whole disk r) k q → s ≡ q
 one_snapshot disk r k s q first second = some_same (sym first.read ∙ second.read)
 
 -- a block that spells a snapshot spells no other
-pub one_spelled : (bytes : List ℕ) (v s : Snapshot) → snapshot_in bytes ≡ Some v → snapshot_in bytes ≡ Some s → s ≡ v
-one_spelled bytes v s is other = some_same (sym other ∙ is)
+pub one_spelled : (layout : Layout) (bytes : List ℕ) (v s : Snapshot) → snapshot_in layout bytes ≡ Some v → snapshot_in layout bytes ≡ Some s → s ≡ v
+one_spelled layout bytes v s is other = some_same (sym other ∙ is)
 
-pub is_spelled : (block bytes : List ℕ) (v : Snapshot) → bytes ≡ block → bytes ≡ snapshot_bytes v → snapshot_in (snapshot_bytes v) ≡ Some v → snapshot_in block ≡ Some v
-is_spelled block bytes v there spelled reads = ap snapshot_in (sym there ∙ spelled) ∙ reads
+pub is_spelled : (layout : Layout) (block bytes : List ℕ) (v : Snapshot) → bytes ≡ block → bytes ≡ snapshot_bytes v → snapshot_in layout (snapshot_bytes v) ≡ Some v
+    → snapshot_in layout block ≡ Some v
+is_spelled layout block bytes v there spelled reads = ap (snapshot_in layout) (sym there ∙ spelled) ∙ reads
 
 pub other_name : (a b : List ℕ) → not (bytes_eq a b) ≡ true → a ≡ b → ⊥
 other_name a b other same = let told : bytes_eq a b ≡ true = (bytes_eq-Decides a b).1 same in false≢true (sym (ap not told) ∙ other)

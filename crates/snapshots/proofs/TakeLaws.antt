@@ -94,7 +94,7 @@ module _ (disk : Blocks) (r : Root) (root : IsRoot r) (name : Name) (v : Volume)
         names = λ k s has same. (let both : None ≡ Some (name, (one_named disk r name v pairs holds k s has same).tree) = sym none ∙ (one_named disk r name v pairs holds k s has same).listed in absurd (cc));
         orders = λ k s there.
             let at = in_slot r k there.block there.there in
-            let most = newest.most at.0 s (omega (arith, at.2, root.slots)) (subst (λ i. SpellsSnapshot disk (slot r i) s) at.1 (spells disk r k s there)) in
+            let most = newest.most at.0 s (omega (arith, at.2, root.slots)) (subst (λ i. SpellsSnapshot r.geometry.layout disk (slot r i) s) at.1 (spells disk r k s there)) in
             omega (arith, most, order);
         first = omega (arith, order);
         order = omega (arith, low, order);

@@ -2,6 +2,7 @@
 use Rattle.std.specs.Prelude.{ℕ, ◌≡◌, List, find, bytes_eq, Option, Some, None}
 use Rattle.layout.specs.Places.{Blocks}
 use Rattle.layout.specs.SnapRoot.{Snapshot, snapshot_in}
+use Rattle.layout.specs.declared.trees.Layout.{Layout}
 use Rattle.layout.specs.declared.pointer.Pointer.{Pointer}
 use Rattle.layout.specs.declared.pointer.Pointer.TheVariants.{Hole, Block}
 use Rattle.layout.specs.declared.root.Root.{Root}
@@ -11,10 +12,10 @@ use Rattle.images.specs.Roots.{whole}
 use Rattle.images.specs.Snapshots.{HasSnapshot, IsFrozenTree}
 use Rattle.snapshots.specs.declared.finding.FoundSnapshot.{FoundSnapshot}
 
--- the block at a pointer spells this snapshot
-abbrev pub SpellsSnapshot : Blocks → Pointer → Snapshot → Type 0
-SpellsSnapshot disk Hole s = ⊥
-SpellsSnapshot disk (Block b) s = snapshot_in (disk b) ≡ Some s
+-- the block at a pointer spells this snapshot, in an image of this layout
+abbrev pub SpellsSnapshot : Layout → Blocks → Pointer → Snapshot → Type 0
+SpellsSnapshot layout disk Hole s = ⊥
+SpellsSnapshot layout disk (Block b) s = snapshot_in layout (disk b) ≡ Some s
 
 -- the snapshot of this name that was found
 abbrev pub snapshot_found : Name → FoundSnapshot → Snapshot

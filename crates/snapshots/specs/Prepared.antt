@@ -1,9 +1,8 @@
 -- Commands that change the snapshots, once their tests are passed.
 use Rattle.std.specs.Prelude.{◌≡◌, ◌≤◌, Bool, true, false, None, length}
 use Rattle.layout.specs.Places.{Blocks}
-use Rattle.layout.specs.Version.{greatest_size}
+use Rattle.layout.specs.Trees.{greatest_size}
 use Rattle.layout.specs.declared.root.Root.{Root}
-use Rattle.layout.specs.declared.version.TheConstants.{VERSION}
 use Rattle.model.specs.Paths.{first_refusal}
 use Rattle.model.specs.Room.{Room, nothing}
 use Rattle.model.specs.States.{State}
@@ -40,7 +39,8 @@ command_prepared (Restore name found) = SnapRestore name.now
 abbrev pub FitsPrepared : PreparedSnapshot → Type 0
 FitsPrepared (Take name taking) = IsSlotNumber taking.slot × (length name.now ≤ SNAPSHOT_NAME_BYTES)
 FitsPrepared (Delete name found) = IsSlotNumber found.slot
-FitsPrepared (Restore name found) = IsSlotNumber found.slot × (found.inode_file.size ≤ greatest_size VERSION)
+FitsPrepared (Restore name found) =
+    IsSlotNumber found.slot × (found.inode_file.size ≤ greatest_size found.inode_file.layout)
 
 -- At a state with these snapshots under a root its tests are passed: a snapshot of the name may be
 -- taken there, or stands there; and the tree may become that of one if no file is open.

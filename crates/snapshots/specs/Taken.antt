@@ -23,9 +23,10 @@ RefusesTake s name errno = first_refusal (take_tests s name) ≡ Some errno
 -- Of a root's first n slots, this is the greatest order number of a snapshot, or 0 where there is
 -- none.
 pub record HasNewestOrder (disk : Blocks) (r : Root) (n last : ℕ) : Type 0 where
-  pub most : (j : ℕ) (s : Snapshot) → j < n → SpellsSnapshot disk (slice_index_or r.snapshots j Hole) s → s.order ≤ last
+  pub most : (j : ℕ) (s : Snapshot) → j < n → SpellsSnapshot r.geometry.layout disk (slice_index_or r.snapshots j Hole) s
+      → s.order ≤ last
   pub found : (last ≡ 0)
-      ⊎ ((j : ℕ) × (s : Snapshot) × (j < n) × SpellsSnapshot disk (slice_index_or r.snapshots j Hole) s × (s.order ≡ last))
+      ⊎ ((j : ℕ) × (s : Snapshot) × (j < n) × SpellsSnapshot r.geometry.layout disk (slice_index_or r.snapshots j Hole) s × (s.order ≡ last))
 
 -- A snapshot of this name may be taken there: in the least slot that is free, with the next order
 -- number. So its order number is above that of each snapshot, and within the limit.

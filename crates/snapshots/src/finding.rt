@@ -1,12 +1,11 @@
 //! The snapshot of a name.
 
 ghost use Rattle.std.specs.Prelude.{◌≡◌, ◌≢◌, ◌<◌, ◌≤◌, ℕ, List, IfOk, IfSome, IfNone, IsErrOf};
-ghost use Rattle.layout.specs.Limits.{Sizes};
 ghost use Rattle.layout.specs.Pointer.{PointsBelow};
 ghost use Rattle.layout.specs.Root.{IsRoot};
 ghost use Rattle.layout.specs.SnapRoot.{Snapshot};
-ghost use Rattle.layout.specs.Version.{greatest_size};
-ghost use Rattle.layout.specs.declared.version.TheConstants.{SNAPSHOT_SLOTS, VERSION};
+ghost use Rattle.layout.specs.Trees.{greatest_size};
+ghost use Rattle.layout.specs.declared.version.TheConstants.{SNAPSHOT_SLOTS};
 ghost use Rattle.model.specs.Paths.{Name};
 ghost use Rattle.model.specs.Trees.{Tree};
 ghost use Rattle.model.specs.Volumes.{Volume};
@@ -19,7 +18,7 @@ ghost use Rattle.snapshots.specs.Found.{FindsSnapshot, SpellsSnapshot, snapshot_
 
 use buffers::{BlockError, Blocks};
 use images::snapshots_are_what_their_bytes_spell;
-use layout::{Inode, Pointer, Root, SNAPSHOT_SLOTS, SnapRoot};
+use layout::{Geometry, Inode, Pointer, Root, SNAPSHOT_SLOTS, SnapRoot};
 
 /// A snapshot that has the name that was asked for.
 #[derive(Clone, Copy, Debug)]
@@ -46,7 +45,7 @@ pub fn find<B: Blocks>(
     ensures slot { IfOk result (λ found. IfSome found (λ f. (1 ≤ f.slot)
         × (f.slot ≤ SNAPSHOT_SLOTS))) }
     ensures size { IfOk result (λ found.
-        IfSome found (λ f. f.inode_file.size ≤ greatest_size VERSION)) }
+        IfSome found (λ f. f.inode_file.size ≤ greatest_size f.inode_file.layout)) }
     ensures finds { (disk : ℕ → List ℕ) → B.Shows blocks.old disk → (v : Volume)
         (pairs : List (Name × Tree)) → Holds root.now (whole disk root.now) v pairs
         → IfOk result (FindsSnapshot root.now disk name.now pairs) }
@@ -55,7 +54,7 @@ pub fn find<B: Blocks>(
         → IsErrOf result BlockError.Damaged → ⊥ }
 {
     for k in 0..SNAPSHOT_SLOTS {
-        let found = named_at(blocks, root.snapshots[k], k as u32 + 1, name)?;
+        let found = named_at(blocks, root.geometry, root.snapshots[k], k as u32 + 1, name)?;
         if found.is_some() {
             return Ok(found);
         }
@@ -66,6 +65,7 @@ pub fn find<B: Blocks>(
 /// The snapshot whose root block is at the pointer of a slot, if there is one and it has this name.
 fn named_at<B: Blocks>(
     blocks: &mut B,
+    geometry: Geometry,
     pointer: Pointer,
     slot: u32,
     name: &[u8],
@@ -74,20 +74,20 @@ fn named_at<B: Blocks>(
     ensures reads { ReadsBlocks B.Blocks IsFault blocks.old blocks.new result }
     ensures slot { IfOk result (λ found. IfSome found (λ f. f.slot ≡ slot)) }
     ensures size { IfOk result (λ found.
-        IfSome found (λ f. f.inode_file.size ≤ greatest_size VERSION)) }
+        IfSome found (λ f. f.inode_file.size ≤ greatest_size f.inode_file.layout)) }
     ensures found { (disk : ℕ → List ℕ) → B.Shows blocks.old disk → IfOk result (λ found.
-        IfSome found (λ f. SpellsSnapshot disk pointer (snapshot_found name.now f))) }
+        IfSome found (λ f. SpellsSnapshot geometry.layout disk pointer (snapshot_found name.now f))) }
     ensures none { (disk : ℕ → List ℕ) → B.Shows blocks.old disk → IfOk result (λ found.
-        IfNone found ((s : Snapshot) → SpellsSnapshot disk pointer s → s.name ≢ name.now)) }
-    ensures damaged { (disk : ℕ → List ℕ) (sizes : Sizes) (most : ℕ) → B.Shows blocks.old disk
-        → IsErrOf result BlockError.Damaged → IsSnapshotAt sizes most disk pointer → ⊥ }
+        IfNone found ((s : Snapshot) → SpellsSnapshot geometry.layout disk pointer s → s.name ≢ name.now)) }
+    ensures damaged { (disk : ℕ → List ℕ) (most : ℕ) → B.Shows blocks.old disk
+        → IsErrOf result BlockError.Damaged → IsSnapshotAt geometry most disk pointer → ⊥ }
 {
     snapshots_are_what_their_bytes_spell();
     let Pointer::Block(place) = pointer else {
         return Ok(None);
     };
     blocks.make_resident(place)?;
-    let Some(snapshot) = SnapRoot::read(blocks.bytes(place)) else {
+    let Some(snapshot) = SnapRoot::read(blocks.bytes(place), geometry.layout()) else {
         return Err(BlockError::Damaged);
     };
     if snapshot.name != name {

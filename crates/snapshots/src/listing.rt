@@ -1,7 +1,6 @@
 //! The names of all snapshots, oldest first.
 
 ghost use Rattle.std.specs.Prelude.{◌≡◌, ◌≤◌, ℕ, List, map, IfOk, IfSome, IfNone, IsErrOf};
-ghost use Rattle.layout.specs.Limits.{Sizes};
 ghost use Rattle.layout.specs.Pointer.{PointsBelow};
 ghost use Rattle.layout.specs.Root.{IsRoot};
 ghost use Rattle.layout.specs.SnapRoot.{Snapshot};
@@ -20,7 +19,7 @@ ghost use Rattle.snapshots.specs.Listed.{IsHigher, IsLeastAbove, IsOver, LeastOf
 
 use buffers::{BlockError, Blocks};
 use images::snapshots_are_what_their_bytes_spell;
-use layout::{BlockNumber, Pointer, Root, SNAPSHOT_SLOTS, SnapRoot};
+use layout::{BlockNumber, Geometry, Pointer, Root, SNAPSHOT_SLOTS, SnapRoot};
 use model::Names;
 use std::alloc::Global;
 
@@ -34,25 +33,26 @@ pub(crate) struct Next {
 /// The snapshot at a pointer, where its order number is above this one.
 pub(crate) fn above_at<B: Blocks>(
     blocks: &mut B,
+    geometry: Geometry,
     pointer: Pointer,
     above: u64,
 ) -> Result<Option<Next>, BlockError>
     requires { PointsBelow (B.count blocks.old) pointer }
     ensures reads { ReadsBlocks B.Blocks IsFault blocks.old blocks.new result }
     ensures is { (disk : ℕ → List ℕ) → B.Shows blocks.old disk → IfOk result (λ next.
-        IfSome next (IsOver disk pointer above)) }
+        IfSome next (IsOver geometry.layout disk pointer above)) }
     ensures none { (disk : ℕ → List ℕ) → B.Shows blocks.old disk → IfOk result (λ next.
-        IfNone next ((s : Snapshot) → SpellsSnapshot disk pointer s → s.order ≤ above)) }
+        IfNone next ((s : Snapshot) → SpellsSnapshot geometry.layout disk pointer s → s.order ≤ above)) }
     ensures higher { IfOk result (λ next. IfSome next (IsHigher (B.count blocks.old) above)) }
-    ensures damaged { (disk : ℕ → List ℕ) (sizes : Sizes) (most : ℕ) → B.Shows blocks.old disk
-        → IsErrOf result BlockError.Damaged → IsSnapshotAt sizes most disk pointer → ⊥ }
+    ensures damaged { (disk : ℕ → List ℕ) (most : ℕ) → B.Shows blocks.old disk
+        → IsErrOf result BlockError.Damaged → IsSnapshotAt geometry most disk pointer → ⊥ }
 {
     snapshots_are_what_their_bytes_spell();
     let Pointer::Block(place) = pointer else {
         return Ok(None);
     };
     blocks.make_resident(place)?;
-    let Some(snapshot) = SnapRoot::read(blocks.bytes(place)) else {
+    let Some(snapshot) = SnapRoot::read(blocks.bytes(place), geometry.layout()) else {
         return Err(BlockError::Damaged);
     };
     let order = snapshot.order;
@@ -93,7 +93,7 @@ fn next_above<B: Blocks>(
 {
     let mut next = None;
     for k in 0..SNAPSHOT_SLOTS {
-        let one = above_at(blocks, root.snapshots[k], above)?;
+        let one = above_at(blocks, root.geometry, root.snapshots[k], above)?;
         next = nearer(next, one);
     }
     Ok(next)
@@ -103,19 +103,20 @@ fn next_above<B: Blocks>(
 fn name_at<B: Blocks>(
     alloc: Global,
     blocks: &mut B,
+    geometry: Geometry,
     place: BlockNumber,
 ) -> Result<Vec<u8>, BlockError>
     requires { PointsBelow (B.count blocks.old) (Pointer.Block place) }
     ensures reads { ReadsBlocks B.Blocks IsFault blocks.old blocks.new result }
     ensures name { (disk : ℕ → List ℕ) → B.Shows blocks.old disk → IfOk result (λ name.
-        (s : Snapshot) → SpellsSnapshot disk (Pointer.Block place) s → name.items ≡ s.name) }
-    ensures damaged { (disk : ℕ → List ℕ) (sizes : Sizes) (most : ℕ) → B.Shows blocks.old disk
+        (s : Snapshot) → SpellsSnapshot geometry.layout disk (Pointer.Block place) s → name.items ≡ s.name) }
+    ensures damaged { (disk : ℕ → List ℕ) (most : ℕ) → B.Shows blocks.old disk
         → IsErrOf result BlockError.Damaged
-        → IsSnapshotAt sizes most disk (Pointer.Block place) → ⊥ }
+        → IsSnapshotAt geometry most disk (Pointer.Block place) → ⊥ }
 {
     snapshots_are_what_their_bytes_spell();
     blocks.make_resident(place)?;
-    let Some(snapshot) = SnapRoot::read(blocks.bytes(place)) else {
+    let Some(snapshot) = SnapRoot::read(blocks.bytes(place), geometry.layout()) else {
         return Err(BlockError::Damaged);
     };
     let mut name = Vec::new(alloc);
@@ -140,7 +141,7 @@ pub fn names<B: Blocks>(alloc: Global, blocks: &mut B, root: &Root) -> Result<Na
     let mut names = Vec::new(alloc);
     let mut above = 0;
     while let Some(next) = next_above(blocks, root, above)? {
-        let name = name_at(alloc, blocks, next.place)?;
+        let name = name_at(alloc, blocks, root.geometry, next.place)?;
         names.push(name)?;
         above = next.order;
     }

@@ -88,7 +88,7 @@ fn newest<B: Blocks>(blocks: &mut B, root: &Root) -> Result<u64, BlockError>
 {
     let mut last = 0;
     for k in 0..SNAPSHOT_SLOTS {
-        if let Some(next) = above_at(blocks, root.snapshots[k], last)? {
+        if let Some(next) = above_at(blocks, root.geometry, root.snapshots[k], last)? {
             last = next.order;
         }
     }

@@ -1,8 +1,7 @@
 //! The tree of a snapshot.
 
 ghost use Rattle.std.specs.Prelude.{◌≡◌, ◌⊎◌, ◌≤◌, ℕ, List, IfOk, MatchResult, Some};
-ghost use Rattle.layout.specs.Version.{greatest_size};
-ghost use Rattle.layout.specs.declared.version.TheConstants.{VERSION};
+ghost use Rattle.layout.specs.Trees.{greatest_size};
 ghost use Rattle.model.specs.Paths.{Name};
 ghost use Rattle.model.specs.Trees.{Tree};
 ghost use Rattle.model.specs.Volumes.{Volume};
@@ -31,7 +30,7 @@ pub fn view<B: Blocks>(
     found: &FoundSnapshot,
 ) -> Result<InodeFile, BlockError>
     requires count { B.count blocks.old ≡ root.now.geometry.blocks }
-    requires size { found.now.inode_file.size ≤ greatest_size VERSION }
+    requires size { found.now.inode_file.size ≤ greatest_size found.now.inode_file.layout }
     ensures reads { ReadsBlocks B.Blocks IsFault blocks.old blocks.new result }
     ensures version { IfOk result (λ inodes. inodes.version ≡ root.now.version) }
     ensures geometry { IfOk result (λ inodes. inodes.geometry ≡ root.now.geometry) }

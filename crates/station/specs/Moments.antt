@@ -39,9 +39,9 @@ EachCut m P = m.is_honest → (c : Images) → MayLeave m c → P c
 abbrev pub LeavesJust : Meaning → Images → Type 0
 LeavesJust m images = EachCut m (λ c. c ≡ images)
 
--- the sizes fit 32 bits
+-- the disk's bytes fit 64 bits, and the NVRAM's 32
 pub record FitsNumbers (m : Meaning) : Type 0 where
-  pub sectors : m.sectors < 2 ^ 32
+  pub sectors : m.sectors < 2 ^ 55
   pub nvram : m.nvram_bytes < 2 ^ 32
 
 -- a sector has 512 bytes, or can't be read

@@ -43,7 +43,7 @@ pub trait Station {
     ghost meaning: { Self → Meaning };
 
     /// How many sectors the disk has.
-    fn sectors(&self) -> u32
+    fn sectors(&self) -> u64
         ensures { result ≡ (meaning self.now).sectors };
 
     /// How many bytes the NVRAM has.
@@ -51,14 +51,14 @@ pub trait Station {
         ensures { result ≡ (meaning self.now).nvram_bytes };
 
     /// Reads sector `n`, and tells whether it can be read.
-    fn read_sector(&mut self, n: u32, out: &mut [u8; 512]) -> Result<bool, DeviceFault>
+    fn read_sector(&mut self, n: u64, out: &mut [u8; 512]) -> Result<bool, DeviceFault>
         requires { n < (meaning self.old).sectors }
         ensures call { ReadCall (meaning self.old) (meaning self.new) result }
         ensures bytes { IfOk result (λ is.
             Shows (meaning self.old) (λ c. Tells is out.new (c.disk n))) };
 
     /// Writes sector `n`.
-    fn write_sector(&mut self, n: u32, bytes: &[u8; 512]) -> Result<(), DeviceFault>
+    fn write_sector(&mut self, n: u64, bytes: &[u8; 512]) -> Result<(), DeviceFault>
         requires { n < (meaning self.old).sectors }
         ensures call { WriteCall (SomeSectorsWritten n bytes.now)
             (meaning self.old) (meaning self.new) result }
@@ -95,7 +95,7 @@ pub trait Station {
         ensures kept { OnOk result
             (LeftGoes (NvramWritten at bytes.now) (meaning self.old) (meaning self.new)) };
 
-    /// The sizes fit 32 bits.
+    /// The disk's bytes fit 64 bits, and the NVRAM's 32.
     ghost sizes_fit: { (s : Self) → FitsNumbers (meaning s) };
 
     /// What reads give is among what a cut now may leave.

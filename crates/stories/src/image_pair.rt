@@ -10,7 +10,7 @@ use std::alloc::{AllocError, Global};
 pub struct Images {
     pub disk: Vec<u8>,
     pub nvram: Vec<u8>,
-    pub bad: Vec<u32>,
+    pub bad: Vec<u64>,
 }
 
 impl Images {

@@ -55,6 +55,7 @@ slots_twice {r} {mid} one two = record {
   slots = two.slots ∙ one.slots;
   heads = λ k block at. two.heads k block (same k ∙ at) ∙ one.heads k block at;
   later = omega (arith, one.later, two.later);
+  geometry = two.geometry ∙ one.geometry;
 }
   where
     same : (k : ℕ) → slot mid k ≡ slot r k
@@ -116,6 +117,7 @@ module _ {S : Type 0} {G : Ghosts S} (old mid : System S G) where
           slots = ap (λ (r : Root). r.snapshots) root;
           heads = λ k block at. sym (ap (λ (d : Blocks). d block) disk);
           later = subst (λ (r : Root). old.root.generation ≤ r.generation) (sym root) (omega arith);
+          geometry = ap (λ (r : Root). r.geometry) root;
         }
 
     -- ---- it was, and nothing is left

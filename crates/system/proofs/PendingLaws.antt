@@ -213,6 +213,7 @@ module _ (cuts : CutLaws) (roots : RootLaws) (ways : WayLaws) {S : Type 0} {G : 
               ∙ agrees cuts roots serves none old.sectors old.half plan mid.root step v is.planned here n.seen has block (head k at)
               ∙ sym (ap (λ (d : ℕ → Sector). blocks_of d block) there);
           later = subst (λ (r : Root). old.root.generation ≤ r.generation) (sym root) (omega (arith, is.planned.point.later));
+          geometry = ap (λ (r : Root). r.geometry) root ∙ is.planned.point.geometry;
         }
 
   -- ---- what is promised of it

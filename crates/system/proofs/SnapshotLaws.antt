@@ -5,6 +5,7 @@ use Rattle.std.proofs.lemmas.Bool.{cases_lt}
 use Rattle.station.specs.Moments.{HasGrown, LeavesOnly, Meaning}
 use Rattle.station.specs.declared.station.Station.{Ghosts}
 use Rattle.station.proofs.Moments.{goes_on_unchanged, joined, leaves_unchanged, weaker}
+use Rattle.layout.specs.Limits.{Sizes}
 use Rattle.layout.specs.Places.{Blocks, blocks_of}
 use Rattle.layout.specs.Root.{IsRoot}
 use Rattle.layout.specs.SnapRoot.{Snapshot, snapshot_in}
@@ -69,14 +70,16 @@ module _ {r new : Root} {disk after : Blocks} (keeps : KeepsSlotsOn r disk new a
 
   pub still_has : (k : ℕ) (s : Snapshot) → HasSnapshot r (whole disk r) k s → HasSnapshot new (whole after new) k s
   still_has k s has =
+      let same : new.geometry.layout ≡ r.geometry.layout = ap (λ (z : Sizes). z.layout) keeps.geometry in
       slots.has after new k (Block has.block) s (same_slot k ∙ has.there)
-      (ap snapshot_in (keeps.heads k has.block has.there) ∙ subst (λ (p : Pointer). SpellsSnapshot disk p s) has.there (slots.spells disk r k s has))
+      ((λ i. snapshot_in (same i) (keeps.heads k has.block has.there i)) ∙ subst (λ (p : Pointer). SpellsSnapshot r.geometry.layout disk p s) has.there (slots.spells disk r k s has))
 
   had : (k : ℕ) (s : Snapshot) → HasSnapshot new (whole after new) k s → HasSnapshot r (whole disk r) k s
   had k s has =
       let there = sym (same_slot k) ∙ has.there in
+      let same : r.geometry.layout ≡ new.geometry.layout = ap (λ (z : Sizes). z.layout) (sym keeps.geometry) in
       slots.has disk r k (Block has.block) s there
-      (ap snapshot_in (sym (keeps.heads k has.block there)) ∙ subst (λ (p : Pointer). SpellsSnapshot after p s) has.there (slots.spells after new k s has))
+      ((λ i. snapshot_in (same i) (sym (keeps.heads k has.block there) i)) ∙ subst (λ (p : Pointer). SpellsSnapshot new.geometry.layout after p s) has.there (slots.spells after new k s has))
 
   -- so one that might be taken may be taken
   pub can_take : (name : Name) (t : Taking) → IsRoot new → MayTake disk r name t → t.order < 2 ^ 62

@@ -110,6 +110,7 @@ pub record KeepsSlotsOn (root : Root) (disk : Blocks) (new : Root) (after : Bloc
   pub slots : new.snapshots ≡ root.snapshots
   pub heads : (k block : ℕ) → slot root k ≡ Block block → after block ≡ disk block
   pub later : root.generation ≤ new.generation
+  pub geometry : new.geometry ≡ root.geometry
 
 -- so they do from one system to another
 abbrev pub KeepsSlots : {S : Type 0} {G : Ghosts S} → System S G → System S G → Type 0

@@ -13,6 +13,7 @@ use Rattle.layout.specs.declared.kind.Kind.TheVariants as kinds
 use Rattle.layout.specs.declared.pointer.Pointer.{Pointer}
 use Rattle.layout.specs.declared.pointer.Pointer.TheVariants.{Hole, Block}
 use Rattle.layout.specs.declared.root.Root.{Root}
+use Rattle.layout.specs.declared.trees.Layout.{Layout}
 
 points_below-prop : (blocks : ℕ) (p : Pointer) → IsProp (PointsBelow blocks p)
 points_below-prop blocks Hole = hlevel props
@@ -28,9 +29,9 @@ fits_kind-prop kinds.InodeFile s attributes links size = hlevel props
 fits_kind-prop kinds.InodeMap s attributes links size = hlevel props
 fits_kind-prop kinds.BlockMap s attributes links size = hlevel props
 
-fits_body-prop : (b : Body) (blocks size : ℕ) → IsProp (FitsBody b blocks size)
-fits_body-prop (Inline bytes) blocks size = hlevel props
-fits_body-prop (Pointers pointers) blocks size = hlevel (props, points_below-prop)
+fits_body-prop : (layout : Layout) (b : Body) (blocks size : ℕ) → IsProp (FitsBody layout b blocks size)
+fits_body-prop layout (Inline bytes) blocks size = hlevel props
+fits_body-prop layout (Pointers pointers) blocks size = hlevel (props, points_below-prop)
 
 pub IsRoot-prop : (r : Root) → IsProp (IsRoot r)
 IsRoot-prop r = hlevel (props, points_below-prop, fits_kind-prop, fits_body-prop)

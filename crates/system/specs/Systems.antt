@@ -1,5 +1,5 @@
 -- What a mounted system stands for.
-use Rattle.std.specs.Prelude.{ℕ, ◌≡◌, ◌⊎◌, ◌≤◌, ◌/◌, ◌++◌, List, Option, Some, None, IsFalse}
+use Rattle.std.specs.Prelude.{ℕ, ◌≡◌, ◌⊎◌, ◌≤◌, ◌++◌, List, Option, Some, None, IsFalse}
 use Rattle.station.specs.Moments.{EachCut, Meaning}
 use Rattle.station.specs.declared.station.Station.{Ghosts}
 use Rattle.layout.specs.Places.{blocks_of}
@@ -9,6 +9,7 @@ use Rattle.model.specs.Records.{Change}
 use Rattle.model.specs.States.{State, going}
 use Rattle.model.specs.Trees.{Tree, Description}
 use Rattle.model.specs.Volumes.{Volume, IsMounted, tree_of}
+use Rattle.buffers.specs.Disks.{numbered_blocks}
 use Rattle.buffers.specs.declared.blocks.Blocks as blocks
 use Rattle.buffers.specs.declared.block_cache.BlockCache.{BlockCache}
 use Rattle.blockmap.specs.declared.map.BlockMap.{BlockMap}
@@ -47,7 +48,7 @@ blocks_with G = record {
   ReadsOn = λ a b. ReadsOver (G.meaning a.buffers.station) (G.meaning b.buffers.station) a.pending b.pending;
   IsResident = λ b place. IsHere b.buffers.kept b.pending place;
   failed = λ b. (G.meaning b.buffers.station).failed_reads;
-  count = λ b. (G.meaning b.buffers.station).sectors / 8;
+  count = λ b. numbered_blocks (G.meaning b.buffers.station).sectors;
 }
 
 -- What a system has beside its station: blocks that it keeps clean in memory, the consistency point

@@ -1,8 +1,7 @@
 //! The planning of a consistency point.
 
 ghost use Rattle.std.specs.Prelude.{◌≡◌, ◌≤◌, IfOk, None};
-ghost use Rattle.layout.specs.Version.{greatest_size};
-ghost use Rattle.layout.specs.declared.version.TheConstants.{VERSION};
+ghost use Rattle.layout.specs.Trees.{greatest_size};
 ghost use Rattle.conspoint.specs.Plans.{IsPlanned};
 ghost use Rattle.loading.specs.Images.{IsFileOfInode};
 ghost use Rattle.planning.specs.Changes.{FitsSlots};
@@ -23,7 +22,7 @@ use std::alloc::{AllocError, Global};
 use std::mem;
 
 /// The sector of the slot that isn't this one.
-fn other_slot(slot: u32) -> u32
+fn other_slot(slot: u64) -> u64
     ensures { result ≡ slots.other_slot slot }
 {
     if slot == SLOT_A { SLOT_B } else { SLOT_A }
@@ -35,7 +34,7 @@ fn take_memory(
     plan: Plan,
     inode_file: Inode,
 ) -> Result<(PendingPoint, File), AllocError>
-    requires size { inode_file.size ≤ greatest_size VERSION }
+    requires size { inode_file.size ≤ greatest_size inode_file.layout }
     ensures plan { IfOk result (λ r. (r.0.plan ≡ plan) × IsPlanned plan) }
     ensures file { IfOk result (λ r. IsFileOfInode inode_file r.1) }
 {

@@ -2,9 +2,8 @@
 
 ghost use Rattle.std.specs.Prelude.{◌≡◌, ◌⊎◌, ◌≤◌, IfOk, MatchResult, None, Some};
 ghost use Rattle.layout.specs.Places.{blocks_of};
-ghost use Rattle.layout.specs.Version.{greatest_size};
+ghost use Rattle.layout.specs.Trees.{greatest_size};
 ghost use Rattle.layout.specs.declared.geometry.TheConstants.{MOST_INODES};
-ghost use Rattle.layout.specs.declared.version.TheConstants.{VERSION};
 ghost use Rattle.model.specs.Paths.{Name};
 ghost use Rattle.model.specs.declared.command.Command.{Command};
 ghost use Rattle.buffers.specs.Reads.{ReadsBlocks};
@@ -42,7 +41,7 @@ fn load_restored<B: Blocks>(
     found: &FoundSnapshot,
 ) -> Result<(InodeFile, u32), BlockError>
     requires count { B.count blocks.old ≡ root.now.geometry.blocks }
-    requires size { found.now.inode_file.size ≤ greatest_size VERSION }
+    requires size { found.now.inode_file.size ≤ greatest_size found.now.inode_file.layout }
     ensures reads { ReadsBlocks B.Blocks IsFault blocks.old blocks.new result }
     ensures geometry { IfOk result (λ r. r.0.geometry ≡ root.now.geometry) }
     ensures few { IfOk result (λ r. r.1 ≤ MOST_INODES) }
@@ -63,7 +62,7 @@ impl<S: Station> System<S> {
     /// point.
     pub(crate) fn restore(&mut self, name: &[u8], found: &FoundSnapshot) -> Result<bool, PointError>
         requires slot { IsSlotNumber found.now.slot }
-        requires size { found.now.inode_file.size ≤ greatest_size VERSION }
+        requires size { found.now.inode_file.size ≤ greatest_size found.now.inode_file.layout }
         ensures { Checkpoints self.old self.new (λ s.
             HasSnapshot self.old.root (whole (blocks_of (disk_of self.old)) self.old.root)
             found.now.slot (snapshot_found name.now found.now)

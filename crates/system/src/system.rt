@@ -27,7 +27,7 @@ pub struct System<S: Station> {
     /// The root that memory stands on: that of the point under way, or else the newest one.
     pub root: Root,
     /// The sector of the slot that it stands in.
-    pub(crate) slot: u32,
+    pub(crate) slot: u64,
     pub inodes: InodeFile,
     /// The view of a snapshot that was loaded last, until the next consistency point.
     pub view: Option<View>,

@@ -110,7 +110,7 @@ fn is_list(rt: &HostRuntime, path: &str, bytes: u64) -> bool {
         return false;
     }
     match fs::read(rt, path) {
-        Ok(text) => read_list(rt.alloc(), path, &text, u32::MAX).is_ok(),
+        Ok(text) => read_list(rt.alloc(), path, &text, u64::MAX).is_ok(),
         Err(_) => false,
     }
 }

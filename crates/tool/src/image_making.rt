@@ -2,12 +2,13 @@
 
 ghost use Rattle.std.specs.Prelude.{◌≡◌, IsErr};
 ghost use Rattle.host_files.specs.Names.{HasOneName};
-ghost use Rattle.layout.specs.Limits.{AreSizes};
+ghost use Rattle.layout.specs.Limits.{AreSizes, sizes};
+ghost use Rattle.layout.specs.declared.trees.Layout.TheVariants.{Plain};
 
 use crate::image_error::ImageError;
 use file_station::FileStation;
 use host_files::{FileError, Image, NewList, Patience, Replacement, hold_both, on};
-use layout::Geometry;
+use layout::{Geometry, Layout};
 use mount::{MakeError, make};
 use station::{SECTOR_BYTES, Station};
 use std::alloc::Global;
@@ -28,11 +29,11 @@ pub fn make_image<'a, R: Files<File = File> + AllocGlobal + Clock>(
     is_new: bool,
     patience: Patience,
 ) -> Result<(), ImageError<'a>>
-    ensures bad_size { ¬ AreSizes (record { blocks = blocks; inodes = inodes; half = half })
+    ensures bad_size { ¬ AreSizes (sizes Plain blocks inodes half)
         → result ≡ Err (ImageError.Make MakeError.BadSize) }
     ensures one { HasOneName image.entry → IsErr result }
 {
-    let Some(geometry) = Geometry::new(blocks, inodes, half) else {
+    let Some(geometry) = Geometry::new(Layout::Plain, blocks, inodes, half) else {
         return Err(ImageError::Make(MakeError::BadSize));
     };
     let _held = hold_both(rt, image, is_new, patience)?;
@@ -68,7 +69,7 @@ fn make_on<'a, F: FileExt + OpenFile + Drop>(
 ) -> Result<(), ImageError<'a>> {
     on(
         image.disk,
-        disk.set_len(SECTOR_BYTES as u64 * u64::from(geometry.sectors())),
+        disk.set_len(SECTOR_BYTES as u64 * geometry.sectors()),
     )?;
     on(
         image.nvram,

@@ -57,12 +57,12 @@ pub(crate) fn warn_of_image<E: Write>(rt: &HostRuntime, image: Image<'_>, err: &
 }
 
 /// The sectors of a disk that a list names. None where there is no list, or it can't be read.
-pub(crate) fn listed_sectors(rt: &HostRuntime, image: Image<'_>, disk: &File) -> Vec<u32> {
+pub(crate) fn listed_sectors(rt: &HostRuntime, image: Image<'_>, disk: &File) -> Vec<u64> {
     let none = Vec::new(rt.alloc());
     let Ok(metadata) = disk.metadata() else {
         return none;
     };
-    let sectors = u32::try_from(metadata.len() / SECTOR_BYTES as u64).unwrap_or(u32::MAX);
+    let sectors = metadata.len() / SECTOR_BYTES as u64;
     match fs::metadata(rt, image.bad) {
         Ok(found) if found.is_file() => {}
         _ => return none,

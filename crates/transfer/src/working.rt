@@ -85,7 +85,7 @@ fn root_of<S: Station>(station: &mut S) -> Option<Root> {
     }
 }
 
-fn root_in<S: Station>(station: &mut S, slot: u32) -> Option<Root> {
+fn root_in<S: Station>(station: &mut S, slot: u64) -> Option<Root> {
     if slot >= station.sectors() {
         return None;
     }

@@ -4,7 +4,7 @@ ghost use Rattle.std.specs.Prelude.{◌≤◌, ℕ, List, Option, IfOk, IfSome, 
 ghost use Rattle.layout.specs.declared.inode.Inode.{Inode};
 ghost use Rattle.model.specs.Reading.{stats};
 ghost use Rattle.model.specs.Volumes.{Node};
-ghost use Rattle.model.specs.declared.limits.TheConstants.{GREATEST_FILE};
+ghost use Rattle.model.specs.declared.limits.TheConstants.{GREATEST_OFFSET};
 ghost use Rattle.inofile.specs.Objects.{IsObject};
 ghost use Rattle.paths.specs.Numbers.{IsInodeNumber};
 ghost use Rattle.calls.specs.Stat.{IsStatOf, TellsStat, stat_reply};
@@ -72,7 +72,7 @@ pub fn stat_number<B: Blocks>(
     number: InodeNumber,
 ) -> Result<Stat, Failure>
     requires { IsInodeNumber inodes.old.geometry.inodes number }
-    ensures within { IfOk result (λ s. s.size ≤ GREATEST_FILE) }
+    ensures within { IfOk result (λ s. s.size ≤ GREATEST_OFFSET) }
     ensures told { Tells B.Blocks blocks.old blocks.new inodes.old inodes.new
         (λ v. TellsStat v number) result }
 {
@@ -92,7 +92,7 @@ fn stat_of(number: u32, object: &Object) -> Option<Stat>
     ensures told { (disk : ℕ → List ℕ) (inodes : ℕ) (settled : Inode) (found : Option Node)
         → IsObject disk inodes settled object.now found
         → MatchOption result ⊥ (IsStatOf number found) }
-    ensures within { IfSome result (λ s. s.size ≤ GREATEST_FILE) }
+    ensures within { IfSome result (λ s. s.size ≤ GREATEST_OFFSET) }
 {
     let mode = object.status.attributes.mode;
     match object.status.kind {

@@ -1,8 +1,8 @@
 //! Which bytes are in a format: those that are read as a value and written back as they were.
 
 use layout::{
-    BLOCK_BYTES, Entry, Gate, Geometry, HEADER_BYTES, Header, INODE_BYTES, Inode, ROOT_BYTES,
-    Record, Root, SnapRoot, is_directory_block, is_indirect_block, is_inode_map, read_gate,
+    BLOCK_BYTES, Entry, Gate, HEADER_BYTES, Header, INODE_BYTES, Inode, Layout, ROOT_BYTES, Record,
+    Root, SnapRoot, is_directory_block, is_indirect_block, is_inode_map, read_gate,
 };
 
 /// What the bytes of a table are to be.
@@ -10,6 +10,8 @@ use layout::{
 pub enum Format {
     Root,
     Inode,
+    /// An inode of the layout with sums.
+    SummedInode,
     Snapshot,
     /// An entry of a directory, and whatever stands behind it.
     Entry,
@@ -22,20 +24,26 @@ pub enum Format {
     InodeMap { first: u32, inodes: u32 },
     /// An indirect block over so many blocks of a file, in an image of so many blocks.
     Indirect { blocks: u32, used: u32 },
+    /// The same of the layout with sums.
+    SummedIndirect { blocks: u32, used: u32 },
 }
 
 /// Whether the bytes are in the format.
 pub fn holds(format: Format, bytes: &[u8]) -> bool {
     match format {
         Format::Root => is_root(bytes),
-        Format::Inode => is_inode(bytes),
+        Format::Inode => is_inode(bytes, Layout::Plain),
+        Format::SummedInode => is_inode(bytes, Layout::Summed),
         Format::Snapshot => is_snapshot(bytes),
         Format::Entry => is_entry(bytes),
         Format::Record => is_record(bytes),
         Format::Half => is_half(bytes),
         Format::Directory { inodes } => is_directory(bytes, inodes),
         Format::InodeMap { first, inodes } => is_map(bytes, first, inodes),
-        Format::Indirect { blocks, used } => is_indirect(bytes, blocks, used),
+        Format::Indirect { blocks, used } => is_indirect(bytes, Layout::Plain, blocks, used),
+        Format::SummedIndirect { blocks, used } => {
+            is_indirect(bytes, Layout::Summed, blocks, used)
+        }
     }
 }
 
@@ -48,8 +56,8 @@ fn is_root(bytes: &[u8]) -> bool {
     again.as_slice() == bytes
 }
 
-fn is_inode(bytes: &[u8]) -> bool {
-    let Some(inode) = Inode::read(bytes) else {
+fn is_inode(bytes: &[u8], layout: Layout) -> bool {
+    let Some(inode) = Inode::read(bytes, layout) else {
         return false;
     };
     let mut again = [0xff; INODE_BYTES];
@@ -58,7 +66,7 @@ fn is_inode(bytes: &[u8]) -> bool {
 }
 
 fn is_snapshot(bytes: &[u8]) -> bool {
-    let Some(root) = SnapRoot::read(bytes) else {
+    let Some(root) = SnapRoot::read(bytes, Layout::Plain) else {
         return false;
     };
     let mut again = [0xff; BLOCK_BYTES];
@@ -134,9 +142,9 @@ fn is_map(bytes: &[u8], first: u32, inodes: u32) -> bool {
     first <= 65_536 && bytes.len() <= BLOCK_BYTES && is_inode_map(bytes, first, inodes)
 }
 
-fn is_indirect(bytes: &[u8], blocks: u32, used: u32) -> bool {
+fn is_indirect(bytes: &[u8], layout: Layout, blocks: u32, used: u32) -> bool {
     match block_of(bytes) {
-        Some(block) => is_indirect_block(&block, blocks, used),
+        Some(block) => is_indirect_block(&block, layout, blocks, used),
         None => false,
     }
 }

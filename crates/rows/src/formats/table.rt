@@ -70,6 +70,7 @@ fn format_of(name: &str, [a, b, c]: [u32; 3]) -> Option<Format> {
     let formats = [
         ("root", Format::Root),
         ("inode", Format::Inode),
+        ("summed-inode", Format::SummedInode),
         ("snapshot", Format::Snapshot),
         ("entry", Format::Entry),
         ("record", Format::Record),
@@ -83,6 +84,10 @@ fn format_of(name: &str, [a, b, c]: [u32; 3]) -> Option<Format> {
             },
         ),
         ("indirect", Format::Indirect { blocks: a, used: b }),
+        (
+            "summed-indirect",
+            Format::SummedIndirect { blocks: a, used: b },
+        ),
     ];
     for (known, format) in formats {
         if name == known {

@@ -5,19 +5,21 @@
 //!     read OFFSET COUNT   so many bytes from an offset on, each 0 as a dot
 //!     write OFFSET TEXT
 //!     size SIZE           cuts the file, or fills it up
+//!     layout NAME         files are of the layout `plain` or `summed` from here on, and this one is
+//!                         empty; a group begins with `plain`
 
 use super::bodies::{inline_inode, pointer_inode};
 use buffers::Buffers;
 use inode::File;
-use layout::{VERSION, greatest_size};
+use layout::Layout;
 use memory_station::Sim;
-use model::GREATEST_FILE;
 use std::alloc::{AllocError, Global};
 
 /// Runs a row on the file, and answers what it gives.
 pub fn file_row(
     alloc: Global,
     buffers: &mut Buffers<Sim>,
+    layout: &mut Layout,
     file: &mut File,
     word: &str,
     rest: &str,
@@ -41,11 +43,19 @@ pub fn file_row(
             Err(error) => format!(in alloc; "{error}"),
         },
         "inline" => {
-            *file = File::load(alloc, inline_inode(rest))?;
+            *file = File::load(alloc, inline_inode(*layout, rest))?;
             size_of(alloc, file)
         }
-        "pointers" if number <= greatest_size(VERSION) => {
-            *file = File::load(alloc, pointer_inode(number, text))?;
+        "pointers" if number <= layout.greatest_size() => {
+            *file = File::load(alloc, pointer_inode(*layout, number, text))?;
+            size_of(alloc, file)
+        }
+        "layout" => {
+            *layout = match rest {
+                "summed" => Layout::Summed,
+                _ => Layout::Plain,
+            };
+            *file = File::load(alloc, inline_inode(*layout, ""))?;
             size_of(alloc, file)
         }
         _ => format!(in alloc; "no row"),
@@ -63,10 +73,8 @@ fn read_row(
     offset: u64,
     count: usize,
 ) -> Result<String, AllocError> {
-    if offset > GREATEST_FILE || count > 100 {
-        return format!(in alloc; "no row");
-    }
-    if offset + count as u64 > greatest_size(VERSION) {
+    let most = file.tree().layout().greatest_size();
+    if count > 100 || offset > most - count as u64 {
         return format!(in alloc; "no row");
     }
     let mut bytes = vec![in alloc; 0u8; count]?;

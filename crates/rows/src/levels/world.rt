@@ -7,6 +7,7 @@ use crate::fault::Fault;
 use crate::image::put;
 use buffers::Buffers;
 use inode::File;
+use layout::Layout;
 use memory_station::Sim;
 use std::alloc::Global;
 
@@ -15,6 +16,7 @@ use std::alloc::Global;
 pub struct World {
     disk: Vec<u8>,
     buffers: Buffers<Sim>,
+    layout: Layout,
     file: File,
 }
 
@@ -26,7 +28,8 @@ impl World {
         Ok(World {
             disk,
             buffers,
-            file: File::load(alloc, inline_inode(""))?,
+            layout: Layout::Plain,
+            file: File::load(alloc, inline_inode(Layout::Plain, ""))?,
         })
     }
 
@@ -43,7 +46,10 @@ impl World {
                 .station
                 .fail_at(rest.parse::<u32>().unwrap_or(0)),
             "let_go" => self.buffers.let_go(),
-            _ => return Ok(file_row(alloc, &mut self.buffers, &mut self.file, word, rest)?),
+            _ => {
+                let (layout, file) = (&mut self.layout, &mut self.file);
+                return Ok(file_row(alloc, &mut self.buffers, layout, file, word, rest)?);
+            }
         }
         Ok(String::from_str(alloc, "ok")?)
     }

@@ -2,9 +2,7 @@
 
 use crate::warnings::slots::{Slot, Taken, look_at_both, take_newer};
 use checker::SnapshotName;
-use layout::{
-    BLOCK_BYTES, Inode, Pointer, Root, SLOT_A, SLOT_B, SNAPSHOT_SLOTS, SnapRoot, VERSION,
-};
+use layout::{BLOCK_BYTES, Inode, Pointer, Root, SLOT_A, SLOT_B, SNAPSHOT_SLOTS, SnapRoot};
 use model::SNAPSHOT_NAME_BYTES;
 use std::alloc::{AllocError, Global};
 use std::fs::{File, OpenFile};
@@ -18,9 +16,9 @@ const NAME_AT: usize = 9;
 pub(crate) struct Found {
     pub(crate) root: Root,
     /// The sector that it stands in.
-    pub(crate) sector: u32,
+    pub(crate) sector: u64,
     /// The sector of another root, which doesn't go with it.
-    pub(crate) other: Option<u32>,
+    pub(crate) other: Option<u64>,
     /// The inode of the file of the inodes of the root before it, where that stands in the other
     /// slot.
     older: Option<Inode>,
@@ -153,7 +151,7 @@ pub(crate) fn find_image(alloc: Global, disk: &File) -> Result<Option<Found>, Al
 }
 
 /// The inode of the file of the inodes of the root before one, where that stands in the other slot.
-fn older_tree(taken: &Taken, other: Option<u32>) -> Option<Inode> {
+fn older_tree(taken: &Taken, other: Option<u64>) -> Option<Inode> {
     match &taken.other {
         Slot::Root(root) if other.is_none() => Some(root.inode_file),
         _ => None,
@@ -162,7 +160,7 @@ fn older_tree(taken: &Taken, other: Option<u32>) -> Option<Inode> {
 
 /// The root that a mount takes of what both slots hold, or the likelier one where it takes none of
 /// two, with the sector of the other.
-fn take_one(disk: &File, first: &Slot, second: &Slot) -> Option<(Taken, Option<u32>)> {
+fn take_one(disk: &File, first: &Slot, second: &Slot) -> Option<(Taken, Option<u64>)> {
     if let Some(taken) = take_newer(first, second) {
         return Some((taken, None));
     }
@@ -239,7 +237,7 @@ fn read_snapshot(disk: &File, root: &Root, slot: usize) -> Option<Snapshot> {
     if disk.read_exact_at(&mut bytes, at).is_err() {
         return Some(unread(slot, None));
     }
-    match SnapRoot::read(&bytes) {
+    match SnapRoot::read(&bytes, root.geometry.layout()) {
         Some(snapshot) if is_of(&snapshot, root) => Some(Snapshot {
             slot,
             name: Some(SnapshotName::new(snapshot.name)),
@@ -261,7 +259,7 @@ fn unread(slot: usize, name: Option<SnapshotName>) -> Snapshot {
 
 /// Whether a snapshot fits the sizes of a root, and isn't newer than it.
 fn is_of(snapshot: &SnapRoot<'_>, root: &Root) -> bool {
-    snapshot.order <= root.generation.get() && snapshot.inode_file.fits(VERSION, root.geometry)
+    snapshot.order <= root.generation.get() && snapshot.inode_file.fits(root.geometry)
 }
 
 /// The name in a snapshot's root whose other bytes are damaged.

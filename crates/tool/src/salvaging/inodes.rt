@@ -1,15 +1,12 @@
 //! The inodes for which a mount refuses a tree, found without one.
 
 use layout::{
-    BLOCK_BYTES, BLOCK_POINTERS, Body, DIRECT_BYTES, INODE_BYTES, INODES_PER_BLOCK, Inode, Kind,
-    Pointer, ROOT_NUMBER, Root, indirect_pointer,
+    BLOCK_BYTES, Body, DIRECT_BYTES, INODE_BYTES, INODES_PER_BLOCK, Inode, Kind, Pointer,
+    ROOT_NUMBER, Root, greatest_under, indirect_pointer,
 };
 use std::alloc::{AllocError, Global};
 use std::fs::File;
 use std::os::unix::fs::FileExt;
-
-/// Pointers in an indirect block.
-const POINTERS: u32 = BLOCK_POINTERS as u32;
 
 /// How many maps there are. Their inodes are the first two behind number 0.
 const MAPS: usize = 2;
@@ -46,18 +43,23 @@ pub(crate) fn maps_in(alloc: Global, root: &Root, disk: &File) -> Option<(u64, V
 /// The block of the disk that has a block of the inode file. None where that is a hole, or can't be
 /// found.
 fn place_of(disk: &File, root: &Root, block: u32) -> Option<u32> {
-    let Inode { size, body, .. } = root.inode_file;
+    let Inode {
+        layout,
+        size,
+        body,
+        ..
+    } = root.inode_file;
     let Body::Pointers(pointers) = body else {
         return None;
     };
     if size <= DIRECT_BYTES {
         return number_of(*pointers.get(block as usize)?);
     }
-    let over = number_of(*pointers.get((block / POINTERS) as usize)?)?;
+    let over = number_of(*pointers.get((block / layout.fan_out()) as usize)?)?;
     let mut bytes = [0; BLOCK_BYTES];
     disk.read_exact_at(&mut bytes, BLOCK_BYTES as u64 * u64::from(over))
         .ok()?;
-    number_of(indirect_pointer(&bytes, block % POINTERS))
+    number_of(indirect_pointer(&bytes, block % layout.fan_out()))
 }
 
 fn number_of(pointer: Pointer) -> Option<u32> {
@@ -90,7 +92,7 @@ fn add_bad(
 
 /// Whether these bytes are an inode that may have this number.
 fn is_sound(bytes: &[u8], root: &Root, number: u32) -> bool {
-    let Some(inode) = Inode::read(bytes) else {
+    let Some(inode) = Inode::read(bytes, root.geometry.layout()) else {
         return false;
     };
     let is_kind = match inode.kind {
@@ -98,5 +100,5 @@ fn is_sound(bytes: &[u8], root: &Root, number: u32) -> bool {
         Kind::File | Kind::Directory | Kind::Link => number < root.geometry.inodes(),
         Kind::InodeFile | Kind::InodeMap | Kind::BlockMap => false,
     };
-    is_kind && inode.fits(root.version, root.geometry)
+    is_kind && inode.size <= greatest_under(root.version) && inode.fits(root.geometry)
 }

@@ -6,7 +6,7 @@ use layout::{CLOSED, HEADER_GATE, INODE_BYTES, ROOT_BYTES, Root, SECTOR_BYTES};
 use std::alloc::{AllocError, Global};
 
 /// Zeros in the place of the root in this sector.
-pub(crate) fn no_slot(alloc: Global, sector: u32) -> Result<Patch, AllocError> {
+pub(crate) fn no_slot(alloc: Global, sector: u64) -> Result<Patch, AllocError> {
     zeros(alloc, sector_at(sector), SECTOR_BYTES)
 }
 
@@ -31,8 +31,8 @@ pub(crate) fn root_patch(alloc: Global, found: &Found, root: &Root) -> Result<Pa
 }
 
 /// The byte at which a sector begins.
-fn sector_at(sector: u32) -> u64 {
-    SECTOR_BYTES as u64 * u64::from(sector)
+fn sector_at(sector: u64) -> u64 {
+    sector.saturating_mul(SECTOR_BYTES as u64)
 }
 
 /// Zeros over so many bytes of the disk.

@@ -23,14 +23,14 @@ pub(crate) enum Slot {
 pub(crate) struct Taken {
     pub(crate) root: Root,
     /// The sector that it stands in.
-    pub(crate) sector: u32,
+    pub(crate) sector: u64,
     /// What the other slot holds.
     pub(crate) other: Slot,
 }
 
 impl Taken {
     /// The sector of the other slot.
-    pub(crate) fn other_sector(&self) -> u32 {
+    pub(crate) fn other_sector(&self) -> u64 {
         if self.sector == SLOT_A {
             SLOT_B
         } else {
@@ -40,7 +40,7 @@ impl Taken {
 }
 
 /// The letter of the slot at a sector.
-pub(crate) fn letter(sector: u32) -> char {
+pub(crate) fn letter(sector: u64) -> char {
     if sector == SLOT_A { 'A' } else { 'B' }
 }
 
@@ -56,16 +56,16 @@ pub(crate) fn open_to_look(rt: &HostRuntime, path: &str) -> Option<File> {
 }
 
 /// What both slots of a disk hold, of which these sectors can't be read.
-pub(crate) fn look_at_both(disk: &File, bad: &[u32]) -> (Slot, Slot) {
+pub(crate) fn look_at_both(disk: &File, bad: &[u64]) -> (Slot, Slot) {
     (look_at(disk, SLOT_A, bad), look_at(disk, SLOT_B, bad))
 }
 
-fn look_at(disk: &File, sector: u32, bad: &[u32]) -> Slot {
+fn look_at(disk: &File, sector: u64, bad: &[u64]) -> Slot {
     if bad.contains(&sector) {
         return Slot::Unread;
     }
     let mut bytes = [0; ROOT_BYTES];
-    let at = SECTOR_BYTES as u64 * u64::from(sector);
+    let at = sector.saturating_mul(SECTOR_BYTES as u64);
     if disk.read_exact_at(&mut bytes, at).is_err() {
         return Slot::Unread;
     }

@@ -9,4 +9,5 @@ invariant-loop-i l = record {
   within : AreBelow l.blocks l.places;
   end : EndBefore l.i l.places;
   nodes : (i : ℕ) → i < l.i → place_at l.places i ≡ slice_index_or l.pointers i Hole;
+  layout : l.places.layout ≡ l.fn.layout;
 }

@@ -11,7 +11,7 @@ use Rattle.records.specs.Prepared.{Does}
 use Rattle.records.specs.declared.failure.Failure.{Failure}
 use Rattle.records.specs.declared.prepared.Prepared.{Prepared}
 use Rattle.images.specs.Soundness.{by_bytes}
-use Rattle.records.proofs.StandLaws.{looks_beside, looks_of_reads, stands_over, stands_with}
+use Rattle.records.proofs.StandLaws.{looks_beside, looks_of_reads, settled_layout, stands_over, stands_with}
 use Rattle.calls.specs.Changing.{made_by}
 use Rattle.calls.specs.Making.{CreatesObject, IsLeastFree, MakesIn}
 use Rattle.calls.proofs.PrepareSteps.{fails_by, follows, grants, refuses, stops, stops_later}
@@ -80,7 +80,7 @@ returns-clause-prepares g c =
     (λ disk settled v stands.
     let read = stands_over {G = g.B.Blocks} c.args.blocks.now c.new_object.new.blocks c.args.inodes.now c.new_object.ensures.reads.count (c.new_object.ensures.reads.same disk stands.shows) stands.volume in
     let free = ap v c.new-number.ensures ∙ c.in-Some.ensures.free _ disk settled v read.volume in
-    let there = λ (k : ℕ). subst (λ (m : Made). IsObject disk k (settled n) c.in_ok-new.new (Some (node_of m))) c.as_new.ensures.says (c.in_ok-new.ensures.object by_bytes disk stands.shows k (settled n)) in
+    let there = λ (k : ℕ). subst (λ (m : Made). IsObject disk k (settled n) c.in_ok-new.new (Some (node_of m))) c.as_new.ensures.says (c.in_ok-new.ensures.object by_bytes disk stands.shows k (settled n) (settled_layout c.args.blocks.now c.args.inodes.now n stands ∙ sym (c.layout-layout.ensures ∙ ap (λ s. s.layout) c.geometry.ensures))) in
     subst (λ (x : List ℕ). Does disk settled c.prepare_new.new.inodes v c.in_ok-prepared.prepared (create n c.args.parent made x)) c.deref.ensures.value
     (c.in_ok-prepared.ensures.does _ disk settled v made (before.kept disk settled v stands) (ap is_vacant free) there c.in_ok-new.ensures.room))
     (λ disk settled v table stands volume mounted.

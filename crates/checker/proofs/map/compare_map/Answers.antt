@@ -9,7 +9,6 @@ use Rattle.layout.specs.declared.kind.Kind.TheVariants.{BlockMap}
 use Rattle.layout.specs.declared.pointer.Pointer.{Pointer}
 use Rattle.layout.specs.declared.pointer.Pointer.TheVariants.{Block}
 use Rattle.layout.specs.declared.root.Root.{Root}
-use Rattle.layout.specs.declared.version.TheConstants.{VERSION}
 use Rattle.buffers.specs.Disks.{IsWhole}
 use Rattle.blocktree.specs.PlaceMaps.{place_at}
 use Rattle.inode.specs.Files.{file_block}
@@ -42,7 +41,7 @@ mapped g c disk r shows at plane =
     let fault = faults.Tree tree_faults.BlockMap in
     map_read c.sound_files_read_as_held.ensures c.inodes_are_what_their_bytes_spell.ensures.spelled c.based_trees_are_sound.ensures.all
     c.args.geometry disk r c.args.tree.now c.in_ok-inode.inode c.in_ok-file.file c.in_ok-places.places (g.B.Blocks.count c.own_inode.new.blocks) (tree_later (own g c).count at) plane
-    (if_ok (IsInode VERSION c.args.geometry) fault c.own_inode.result c.in_ok-inode.inode c.in_ok-inode.ensures c.own_inode.ensures.is)
+    (if_ok (IsInode c.args.geometry) fault c.own_inode.result c.in_ok-inode.inode c.in_ok-inode.ensures c.own_inode.ensures.is)
     (if_ok (λ (x : Inode). inode_bytes_at (file_block disk c.args.tree.now.file) 2 ≡ inode_bytes x) fault c.own_inode.result c.in_ok-inode.inode c.in_ok-inode.ensures (c.own_inode.ensures.spelled disk shows))
     (record { blocks = c.in_ok-file.ensures.blocks; starts = c.in_ok-file.ensures.settled }) (c.in_ok-places.ensures.places disk ((own g c).same disk shows))
 

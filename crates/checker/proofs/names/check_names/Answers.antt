@@ -20,6 +20,7 @@ use Rattle.checker.specs.declared.tree.Tree.{Tree}
 use Rattle.checker.proofs.GraphLaws.{IsKnown, holds_graph, tree_ends, unlinked_finding, unreached_finding}
 use Rattle.checker.proofs.HaltLaws.{passes_residual}
 use Rattle.checker.proofs.HeldLaws.{tree_later}
+use Rattle.checker.proofs.StepLaws.{passes_halt}
 use Rattle.checker.proofs.names.check_names.Given.{Over}
 use Rattle.checker.proofs.names.check_names.Goals as goal
 use Rattle.checker.proofs.names.check_names.Goals.{In_ok-table}
@@ -55,6 +56,9 @@ table : (g : Over) (c : In_ok-table g) (disk : ℕ → List ℕ) (r : Root) → 
     → IsTable r.geometry (tree_in (whole disk r) c.args.tree.now.plane) c.in_ok-table.table.items × IsUnnamed c.in_ok-table.table.items
 table g c disk r shows knows at =
     copied (λ rows. IsTable r.geometry (tree_in (whole disk r) c.args.tree.now.plane) rows × IsUnnamed rows) (c.in_ok-table.ensures.items ∙ c.deref.ensures.value) (c.in_ok-now.ensures.table disk r shows knows at)
+
+pub returns-in_err-now-clause-passes : goal.returns-in_err-now-clause-passes
+returns-in_err-now-clause-passes g c = λ disk r marks shows knows over seen none. passes_halt _ _ c.from_residual.result _ c.from_residual.ensures.1
 
 pub returns-in_err-walk-clause-passes : goal.returns-in_err-walk-clause-passes
 returns-in_err-walk-clause-passes g c = λ disk r marks shows knows over seen none.

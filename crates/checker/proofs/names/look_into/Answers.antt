@@ -3,7 +3,6 @@ use Rattle.std.specs.Prelude.{IfSome}
 use Rattle.layout.specs.Inode.{IsInode}
 use Rattle.layout.specs.Limits.{Sizes}
 use Rattle.layout.specs.declared.root.Root.{Root}
-use Rattle.layout.specs.declared.version.TheConstants.{VERSION}
 use Rattle.images.specs.Nodes.{file_block}
 use Rattle.images.specs.Roots.{whole}
 use Rattle.images.specs.Soundness.{by_sizes}
@@ -38,7 +37,7 @@ file g c disk r shows at leads =
 
 pub load-requires : goal.load-requires
 load-requires g c =
-    let fits : IsInode VERSION c.args.geometry c.in-Some.inode = subst (λ o. IfSome o (IsInode VERSION c.args.geometry)) c.in-Some.is c.in_ok-inode.ensures.fits in
+    let fits : IsInode c.args.geometry c.in-Some.inode = subst (λ o. IfSome o (IsInode c.args.geometry)) c.in-Some.is c.in_ok-inode.ensures.fits in
     fits.size
 
 pub returns-in_err-inode-clause-reads : goal.returns-in_err-inode-clause-reads

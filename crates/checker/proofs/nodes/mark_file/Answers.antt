@@ -30,9 +30,9 @@ returns-in_err-mark_top-clause-marked g c disk s shows same fits =
     let blocks = g.B.Blocks.count c.args.blocks.now in
     let body : f.body ≡ Pointers p = c.in-Pointers.is in
     let parts = with_pointers s f p fits body in
-    let level = top_level f.size height parts.0 c.top_height-height.ensures in
+    let level = top_level f.layout f.size height parts.0 c.top_height-height.ensures in
     let within : i < length p = omega (arith, parts.1, c.loop-i-test.true) in
-    file_passed disk f s blocks count same c.block_count-count.ensures (IsUnder height i) (g.B.Blocks.count c.loop-i.blocks) c.args.number c.args.bits
+    file_passed disk f s blocks count same c.block_count-count.ensures (IsUnder f.layout height i) (g.B.Blocks.count c.loop-i.blocks) c.args.number c.args.bits
     c.loop-i.marks c.mark_top.new.marks c.args.marks.now c.mark_top.new.marks c.loop-i.shared.of c.mark_top.new.shared.of c.args.shared.now.of c.mark_top.new.shared.of
     c.from_residual.result c.in_err-mark_top.field-0.0 c.loop-i.invariant.looked.count c.from_residual.ensures.1
     (c.in_err-mark_top.ensures.marked disk (held disk f) (c.loop-i.invariant.looked.same disk shows)
@@ -54,9 +54,9 @@ loop-i-preserved g c =
       keeps = keeps_more before.keeps c.in_ok-mark_top.ensures.keeps;
       marked = λ disk s shows same fits.
           let parts = with_pointers s f p fits body in
-          let level = top_level f.size height parts.0 c.top_height-height.ensures in
+          let level = top_level f.layout f.size height parts.0 c.top_height-height.ensures in
           let within : i < length p = omega (arith, parts.1, c.loop-i-test.true) in
-          among_more blocks (g.B.Blocks.count c.loop-i.blocks) c.args.number count c.args.bits disk (held disk f) height 0 i i (i + 1)
+          among_more f.layout blocks (g.B.Blocks.count c.loop-i.blocks) c.args.number count c.args.bits disk (held disk f) height 0 i i (i + 1)
           c.args.marks.now c.loop-i.marks c.mark_top.new.marks c.args.shared.now.of c.loop-i.shared.of c.mark_top.new.shared.of
           before.looked.count (omega arith) refl refl c.in_ok-mark_top.ensures.keeps.kept (before.marked disk s shows same fits)
           (c.in_ok-mark_top.ensures.marked disk (held disk f) (before.looked.same disk shows)
@@ -73,11 +73,11 @@ returns-clause-marked g c disk s shows same fits =
     let blocks = g.B.Blocks.count c.args.blocks.now in
     let body : f.body ≡ Pointers p = c.in-Pointers.is in
     let parts = with_pointers s f p fits body in
-    let level = top_level f.size height parts.0 c.top_height-height.ensures in
+    let level = top_level f.layout f.size height parts.0 c.top_height-height.ensures in
     let end : c.loop-i.i ≡ length p = omega (arith, parts.1, c.loop-i-test.false, c.loop-i.auto.i-end) in
     let P : ℕ → Type 0 = λ n.
-    MarksFor (held disk f) (IsAmong height 0 n) c.args.number c.args.bits c.args.marks.now c.loop-i.marks c.args.shared.now.of c.loop-i.shared.of
-    × AreIndirect blocks disk (held disk f) count (IsAmong height 0 n) in
+    MarksFor (held disk f) (IsAmong f.layout height 0 n) c.args.number c.args.bits c.args.marks.now c.loop-i.marks c.args.shared.now.of c.loop-i.shared.of
+    × AreIndirect f.layout blocks disk (held disk f) count (IsAmong f.layout height 0 n) in
     let all = all_marked disk f s blocks count same c.block_count-count.ensures height p level body c.args.number c.args.bits c.args.marks.now c.loop-i.marks c.args.shared.now.of c.loop-i.shared.of
     (subst P end (c.loop-i.invariant.marked disk s shows same fits)) in
     (all.0, grammar_of disk f s blocks count same c.block_count-count.ensures fits all.1)

@@ -3,7 +3,6 @@ use Rattle.std.proofs.lemmas.Bool.{cases_lt}
 use Rattle.layout.specs.Inode.{IsInode}
 use Rattle.layout.specs.Limits.{Sizes}
 use Rattle.layout.specs.declared.root.Root.{Root}
-use Rattle.layout.specs.declared.version.TheConstants.{VERSION}
 use Rattle.images.specs.Soundness.{IsFileGrammar}
 use Rattle.images.specs.Nodes.{Held, held}
 use Rattle.images.specs.Roots.{HeldTree, free_inode, whole}
@@ -34,7 +33,7 @@ here g c disk r shows at =
 pub returns-in-Some-clause-stands : goal.returns-in-Some-clause-stands
 returns-in-Some-clause-stands g c = λ disk r shows at shares.
     let top = c.args.tree.now.top in
-    let fits : IsInode VERSION c.args.geometry top = subst (λ (s : Sizes). IsInode VERSION s top) at.over.geometry at.tree.fits in
+    let fits : IsInode c.args.geometry top = subst (λ (s : Sizes). IsInode s top) at.over.geometry at.tree.fits in
     owner_stands disk (tree_in (whole disk r) c.args.tree.now.plane) top c.args.shared.now 0 c.in-Some.node (top_is disk r c.args.tree.now at.tree)
     (if_some (IsOwner c.args.shared.now 0 (held disk top)) c.in_ok-node.field-0 c.in-Some.node c.in-Some.is (c.in_ok-node.ensures.stands disk c.args.geometry top shows fits at.tree.file))
 
@@ -87,7 +86,7 @@ pub returns-in-Some-3-clause-stands : goal.returns-in-Some-3-clause-stands
 returns-in-Some-3-clause-stands g c = λ disk r shows at shares.
     let inode = c.in-Some-2.inode in
     let is = here g (goal.at.returns-in-Some-3-clause-stands g c).In-Some-2 disk r shows at in
-    let fits : IsInode VERSION c.args.geometry inode = subst (IsInode VERSION c.args.geometry) is.0 ((grammar_at at).files c.loop-number.number).inode in
+    let fits : IsInode c.args.geometry inode = subst (IsInode c.args.geometry) is.0 ((grammar_at at).files c.loop-number.number).inode in
     let file : IsFileOfInode inode c.in_ok-file.file = record { blocks = c.in_ok-file.ensures.blocks; starts = c.in_ok-file.ensures.settled } in
     owner_stands disk (tree_in (whole disk r) c.args.tree.now.plane) inode c.args.shared.now c.loop-number.number c.in-Some-3.node is.1
     (if_some (IsOwner c.args.shared.now c.loop-number.number (held disk inode)) c.in_ok-node-2.field-0 c.in-Some-3.node c.in-Some-3.is
@@ -100,7 +99,7 @@ returns-clause-stands g c = λ disk r shows at shares.
       | inl low ↦ c.loop-number.invariant.alone disk r shows at n m low
       | inr high ↦
           let past : c.args.geometry.inodes ≤ n = omega (arith, high, c.loop-number-test.false, c.inodes-number-end.ensures.value) in
-          let free : t n ≡ held disk free_inode = ap (λ (h : HeldTree). h n) (tree_is disk r c.args.geometry c.args.tree.now at.over.geometry at.tree)
+          let free : t n ≡ held disk (free_inode c.args.tree.now.top.layout) = ap (λ (h : HeldTree). h n) (tree_is disk r c.args.geometry c.args.tree.now at.over.geometry at.tree)
           ∙ c.inodes_are_what_their_bytes_spell.ensures.past disk c.args.geometry.inodes c.args.tree.now.top n (omega (arith, past, (sizes_over at.over).least_inodes)) past in
-          subst (λ (h : Held). IsAloneAt c.args.shared.now n h m) (sym free) (free_alone c.nodes_are_where_pointers_lead.ensures.above disk c.args.shared.now n m)
+          subst (λ (h : Held). IsAloneAt c.args.shared.now n h m) (sym free) (free_alone c.nodes_are_where_pointers_lead.ensures.above c.args.tree.now.top.layout disk c.args.shared.now n m)
     ]))

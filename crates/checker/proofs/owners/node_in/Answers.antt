@@ -27,7 +27,7 @@ returns-in-Err-Damaged-clause-alone g c = λ disk s inode shows count grammar fi
 pub returns-in-Some-clause-stands : goal.returns-in-Some-clause-stands
 returns-in-Some-clause-stands g c = λ disk s inode shows fits file.
     let t = c.tree-tree.result.now in
-    let starts : StartsFrom inode.body inode.size t = subst (StartsFrom inode.body inode.size) (sym c.tree-tree.ensures) file.starts in
+    let starts : StartsFrom inode.layout inode.body inode.size t = subst (StartsFrom inode.layout inode.body inode.size) (sym c.tree-tree.ensures) file.starts in
     let le : c.loop-height.height ≤ t.depth = omega (arith, c.loop-height-test.true, c.depth-height-end.ensures) in
     let found = c.in-Some.ensures.found in
     owner_at c.nodes_are_where_pointers_lead.ensures.places s disk inode t c.in-Ok.nodes c.args.shared.now c.args.number c.loop-height.height c.in-Some.node fits starts le
@@ -39,7 +39,7 @@ loop-height-preserved g c = record {
   read = looked_more c.loop-height.invariant.read (looked_of g.met.B.Blocks.reads_nothing g.met.B.UncachedReads.grows c.in-Ok.ensures.reads);
   alone = λ disk s inode shows count grammar file.
       let t = c.tree-tree.result.now in
-      let starts : StartsFrom inode.body inode.size t = subst (StartsFrom inode.body inode.size) (sym c.tree-tree.ensures) file.starts in
+      let starts : StartsFrom inode.layout inode.body inode.size t = subst (StartsFrom inode.layout inode.body inode.size) (sym c.tree-tree.ensures) file.starts in
       let le : c.loop-height.height ≤ t.depth = omega (arith, c.loop-height-test.true, c.depth-height-end.ensures) in
       let none : (i : ℕ) → i < t.count → place_at c.in-Ok.nodes i ≡ Block c.args.shared.now.block → IsNode c.args.shared.now.second c.args.number c.loop-height.height i =
       λ i lt there. c.in_default.ensures.none i (omega (arith, lt, c.count.ensures.value)) there in
@@ -51,7 +51,7 @@ loop-height-preserved g c = record {
 pub returns-in_default-clause-alone : goal.returns-in_default-clause-alone
 returns-in_default-clause-alone g c = λ disk s inode shows count grammar file.
     let t = c.tree-tree.result.now in
-    let starts : StartsFrom inode.body inode.size t = subst (StartsFrom inode.body inode.size) (sym c.tree-tree.ensures) file.starts in
+    let starts : StartsFrom inode.layout inode.body inode.size t = subst (StartsFrom inode.layout inode.body inode.size) (sym c.tree-tree.ensures) file.starts in
     let le : c.loop-height.height ≤ t.depth = omega (arith, c.loop-height-test.true, c.depth-height-end.ensures) in
     let deep : t.depth < c.loop-height.height + 1 = omega (arith, c.depth-height-end.ensures) in
     let none : (i : ℕ) → i < t.count → place_at c.in-Ok.nodes i ≡ Block c.args.shared.now.block → IsNode c.args.shared.now.second c.args.number c.loop-height.height i =
@@ -64,7 +64,7 @@ returns-in_default-clause-alone g c = λ disk s inode shows count grammar file.
 pub returns-clause-alone : goal.returns-clause-alone
 returns-clause-alone g c = λ disk s inode shows count grammar file.
     let t = c.tree-tree.result.now in
-    let starts : StartsFrom inode.body inode.size t = subst (StartsFrom inode.body inode.size) (sym c.tree-tree.ensures) file.starts in
+    let starts : StartsFrom inode.layout inode.body inode.size t = subst (StartsFrom inode.layout inode.body inode.size) (sym c.tree-tree.ensures) file.starts in
     let deep : t.depth < c.loop-height.height = omega (arith, c.loop-height-test.false, c.depth-height-end.ensures) in
     all_heights c.nodes_are_where_pointers_lead.ensures.above s disk inode t c.args.shared.now c.args.number c.loop-height.height grammar starts deep
     (c.loop-height.invariant.alone disk s inode shows count grammar file)

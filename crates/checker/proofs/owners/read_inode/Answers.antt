@@ -6,7 +6,7 @@ use Rattle.buffers.specs.Disks.{IsWhole}
 use Rattle.images.specs.Roots.{whole}
 use Rattle.checker.specs.Findings.{tree_in}
 use Rattle.checker.proofs.HaltLaws.{looks_residual}
-use Rattle.checker.proofs.HeldLaws.{grammar_at, kind_of_place}
+use Rattle.checker.proofs.HeldLaws.{grammar_at, kind_of_place, newest_size}
 use Rattle.checker.proofs.ReadLaws.{looked, looked_none, looks_ok}
 use Rattle.checker.proofs.RowReads.{part_read, row_damaged}
 use Rattle.checker.proofs.TableLaws.{hole_zeros}
@@ -19,7 +19,7 @@ pub returns-in_default-clause-is : goal.returns-in_default-clause-is
 returns-in_default-clause-is g c = λ disk r tree shows at leads.
     let n = c.args.number in
     let t = tree_in (whole disk r) tree.plane in
-    c.inode_in.ensures.only (t n).inode ((grammar_at at).files n).inode
+    c.inode_in.ensures.only (t n).inode ((grammar_at at).files n).inode (newest_size at.over ((grammar_at at).files n).inode)
     (part_read disk r c.args.geometry n tree _ c.args.place at (hole_zeros disk _ c.in_default.is) leads c.requires.low c.requires.high)
     (kind_of_place c.args.geometry t n (grammar_at at) c.requires.low c.requires.high)
 
@@ -41,7 +41,7 @@ pub returns-clause-is : goal.returns-clause-is
 returns-clause-is g c = λ disk r tree shows at leads.
     let n = c.args.number in
     let t = tree_in (whole disk r) tree.plane in
-    c.inode_in-2.ensures.only (t n).inode ((grammar_at at).files n).inode
+    c.inode_in-2.ensures.only (t n).inode ((grammar_at at).files n).inode (newest_size at.over ((grammar_at at).files n).inode)
     (part_read disk r c.args.geometry n tree c.bytes.result.now c.args.place at
     (c.bytes.ensures disk (c.in_ok-read_block.ensures.reads.same disk shows) ∙ sym (ap (pointed disk) c.in-Block.is)) leads c.requires.low c.requires.high)
     (kind_of_place c.args.geometry t n (grammar_at at) c.requires.low c.requires.high)

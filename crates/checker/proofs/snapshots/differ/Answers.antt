@@ -17,4 +17,4 @@ returns-in-Err-Device-clause-reads g c = looks_err (looked_none c.args.blocks.no
 
 pub returns-in-Err-Damaged-clause-apart : goal.returns-in-Err-Damaged-clause-apart
 returns-in-Err-Damaged-clause-apart g c disk shows =
-    ((λ yes. apart_unread disk c.args.a c.args.b (c.in-Err-Damaged.ensures.damaged disk shows (search rules))), (λ apart. refl))
+    ((λ yes. apart_unread c.args.geometry.layout disk c.args.a c.args.b (c.in-Err-Damaged.ensures.damaged disk shows (search rules))), (λ apart. refl))

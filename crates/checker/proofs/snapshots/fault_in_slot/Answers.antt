@@ -59,8 +59,8 @@ loop-l-preserved g c = record {
         let same : c.loop-l.l ≡ j = omega (arith, low, last) in
         let before : c.loop-l.l < length r.snapshots = omega (arith, within, c.loop-l-test.true) in
         let told = (c.in_ok-differ.ensures.apart disk (c.loop-l.invariant.look.same disk shows)).0 (search rules) in
-        subst (λ (i : ℕ). AreApartAt disk (slice_index_or r.snapshots i Hole) (slice_index_or r.snapshots c.args.k Hole)) same
-        (subst (λ (p : Pointer). AreApartAt disk p (slice_index_or r.snapshots c.args.k Hole)) (get_or_default r.snapshots c.loop-l.l c.index-root-l.result Hole before)
-        (subst (AreApartAt disk (slice_index_or r.snapshots c.loop-l.l c.index-root-l.result)) (get_or_default r.snapshots c.args.k c.index-root-k-in-loop-l.result Hole within) told))
+        subst (λ (i : ℕ). AreApartAt r.geometry.layout disk (slice_index_or r.snapshots i Hole) (slice_index_or r.snapshots c.args.k Hole)) same
+        (subst (λ (p : Pointer). AreApartAt r.geometry.layout disk p (slice_index_or r.snapshots c.args.k Hole)) (get_or_default r.snapshots c.loop-l.l c.index-root-l.result Hole before)
+        (subst (AreApartAt r.geometry.layout disk (slice_index_or r.snapshots c.loop-l.l c.index-root-l.result)) (get_or_default r.snapshots c.args.k c.index-root-k-in-loop-l.result Hole within) told))
   ];
 }

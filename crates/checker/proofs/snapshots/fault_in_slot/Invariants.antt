@@ -9,5 +9,5 @@ abbrev pub invariant-loop-l : goal.invariant-loop-l
 invariant-loop-l g l = record {
   look : HasLooked g.B.Blocks l.fn.blocks l.blocks;
   apart : (disk : ℕ → List ℕ) → g.B.Blocks.Shows l.fn.blocks disk → (j : ℕ) → j < l.l
-      → AreApartAt disk (slice_index_or l.root.snapshots j Hole) (slice_index_or l.root.snapshots l.fn.k Hole);
+      → AreApartAt l.root.geometry.layout disk (slice_index_or l.root.snapshots j Hole) (slice_index_or l.root.snapshots l.fn.k Hole);
 }

@@ -12,8 +12,8 @@ returns-then-not-branch-clause-reads g c = looks_ok (looked c.read_block.ensures
 
 pub returns-then-not-branch-clause-tells : goal.returns-then-not-branch-clause-tells
 returns-then-not-branch-clause-tells g c disk shows =
-    subst (λ (p : Pointer). TellsSnapshot disk p None) (sym c.in-Block.is)
-    (λ s is spelled. c.in_ok-read_block.ensures.whole disk shows (search rules) (ap length spelled ∙ length-snapshot s is))
+    subst (λ (p : Pointer). TellsSnapshot c.args.geometry.layout disk p None) (sym c.in-Block.is)
+    (λ s is. c.in_ok-read_block.ensures.whole disk shows (search rules) (ap length is.spelled ∙ length-snapshot s is.is))
 
 pub returns-in-Some-clause-tells : goal.returns-in-Some-clause-tells
 returns-in-Some-clause-tells g c disk shows =
@@ -21,11 +21,11 @@ returns-in-Some-clause-tells g c disk shows =
     let v = snapshot_of c.in-Some.snapshot in
     let found = c.in-Some.ensures.found in
     let name : take 63 v.name ≡ v.name = take_all 63 v.name found.0.short in
-    subst (λ (p : Pointer). TellsSnapshot disk p (Some (c.new.result, c.in-Some.snapshot.inode_file)))
+    subst (λ (p : Pointer). TellsSnapshot c.args.geometry.layout disk p (Some (c.new.result, c.in-Some.snapshot.inode_file)))
     (sym c.in-Block.is) (
       v,
-      ap snapshot_in (sym at ∙ found.1)
-          ∙ (c.snapshots_are_what_their_bytes_spell.ensures v found.0).0,
+      ap (snapshot_in c.args.geometry.layout) (sym at ∙ found.2)
+          ∙ (c.snapshots_are_what_their_bytes_spell.ensures c.args.geometry.layout v found.0 (found.1 ∙ c.layout.ensures)).0,
       sym (c.new.ensures ∙ name),
       refl,
     )

@@ -21,7 +21,7 @@ pub returns-in-Err-Damaged-clause-reads : goal.returns-in-Err-Damaged-clause-rea
 returns-in-Err-Damaged-clause-reads g c = looks_ok (looked_of g.met.B.Blocks.reads_nothing g.met.B.UncachedReads.grows c.settled_nodes.ensures.reads)
 
 pub returns-in-Err-Damaged-clause-below : goal.returns-in-Err-Damaged-clause-below
-returns-in-Err-Damaged-clause-below g c = λ i. none_below _ _ (c.new.ensures i)
+returns-in-Err-Damaged-clause-below g c = λ i. none_below _ _ (c.new.ensures.holes i)
 
 pub returns-in-Err-Damaged-clause-places : goal.returns-in-Err-Damaged-clause-places
 returns-in-Err-Damaged-clause-places g c = λ disk shows sound.

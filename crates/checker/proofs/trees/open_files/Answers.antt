@@ -4,7 +4,6 @@ use Rattle.layout.specs.Limits.{AreSizes, Sizes}
 use Rattle.layout.specs.Maps.{IsInodeMap}
 use Rattle.layout.specs.declared.inode.Inode.{Inode}
 use Rattle.layout.specs.declared.kind.Kind.TheVariants as kinds
-use Rattle.layout.specs.declared.version.TheConstants.{VERSION}
 use Rattle.inode.specs.Files.{file_block}
 use Rattle.inode.specs.declared.file.File.{File}
 use Rattle.images.specs.Contents.{content_bytes, content_of}
@@ -69,7 +68,7 @@ returns-in_err-tree-clause-opened g c = λ disk r shows root same is unmarked no
     let shows1 = c.in_ok-mark_file.ensures.reads.same disk shows in
     let top : IsFileGrammar s (held disk c.args.tree.now.top) = (c.in_ok-mark_file.ensures.marked disk s shows (sym c.requires.size) c.requires.top).1 in
     let one : t 1 ≡ held disk i = own_is c.sound_files_read_as_held.ensures c.inodes_are_what_their_bytes_spell.ensures.spelled s disk r c.args.tree.now 1 i same sizes is top
-    (omega arith) (omega (arith, sizes.least_inodes)) (if_ok (IsInode VERSION s) fault c.own_inode.result i c.in_ok-inode.ensures c.own_inode.ensures.is)
+    (omega arith) (omega (arith, sizes.least_inodes)) (if_ok (IsInode s) fault c.own_inode.result i c.in_ok-inode.ensures c.own_inode.ensures.is)
     (if_ok (λ (x : Inode). inode_bytes_at (file_block disk c.args.tree.now.file) 1 ≡ inode_bytes x) fault c.own_inode.result i c.in_ok-inode.ensures (c.own_inode.ensures.spelled disk shows1)) in
     passes_residual (λ (_ : Vec ℕ Global). Unit {0}) _ (TellsOut r t) c.from_residual-in_err-tree.result _ c.from_residual-in_err-tree.ensures.1
     (passes_or_fault (λ (_ : Vec ℕ Global). Unit {0}) (TellsOut r t) (faults.Tree tree_faults.InodeMap) c.load_numbers.result _ c.in_err-tree.ensures (λ damaged. (
@@ -130,7 +129,7 @@ returns-in_err-_map-clause-opened g c = λ disk r shows root same is unmarked no
     let shows3 = c.load_numbers.ensures.reads.same disk (c.own_inode.ensures.reads.same disk (c.in_ok-mark_file.ensures.reads.same disk shows)) in
     let top : IsFileGrammar s (held disk c.args.tree.now.top) = (c.in_ok-mark_file.ensures.marked disk s shows (sym c.requires.size) c.requires.top).1 in
     let two : t 2 ≡ held disk i = own_is c.sound_files_read_as_held.ensures c.inodes_are_what_their_bytes_spell.ensures.spelled s disk r c.args.tree.now 2 i same sizes is top
-    (omega arith) (omega (arith, sizes.least_inodes)) (if_ok (IsInode VERSION s) fault c.own_inode-2.result i c.in_ok-inode-2.ensures c.own_inode-2.ensures.is)
+    (omega arith) (omega (arith, sizes.least_inodes)) (if_ok (IsInode s) fault c.own_inode-2.result i c.in_ok-inode-2.ensures c.own_inode-2.ensures.is)
     (if_ok (λ (x : Inode). inode_bytes_at (file_block disk c.args.tree.now.file) 2 ≡ inode_bytes x) fault c.own_inode-2.result i c.in_ok-inode-2.ensures (c.own_inode-2.ensures.spelled disk shows3)) in
     passes_residual (λ (_ : File). Unit {0}) _ (TellsOut r t) c.from_residual-in_err-_map.result _ c.from_residual-in_err-_map.ensures.1
     (passes_or_fault (λ (_ : File). Unit {0}) (TellsOut r t) (faults.Tree tree_faults.BlockMap) c.map_file.result _ c.in_err-_map.ensures (λ damaged. (
@@ -165,10 +164,10 @@ returns-clause-opened g c = λ disk r shows root same is unmarked none.
     let looks : LooksUnder (held disk c.args.tree.now.top) IsAny k 0 c.args.marks.now c.mark_file.new.marks c.args.shared.now.of c.mark_file.new.shared.of =
     marked.0 k ((c.bit.ensures k).1 refl) in
     let one : t 1 ≡ held disk i = own_is c.sound_files_read_as_held.ensures c.inodes_are_what_their_bytes_spell.ensures.spelled s disk r c.args.tree.now 1 i same sizes is top
-    (omega arith) (omega (arith, sizes.least_inodes)) (if_ok (IsInode VERSION s) (faults.Tree (tree_faults.Inode 1)) c.own_inode.result i c.in_ok-inode.ensures c.own_inode.ensures.is)
+    (omega arith) (omega (arith, sizes.least_inodes)) (if_ok (IsInode s) (faults.Tree (tree_faults.Inode 1)) c.own_inode.result i c.in_ok-inode.ensures c.own_inode.ensures.is)
     (if_ok (λ (x : Inode). inode_bytes_at (file_block disk c.args.tree.now.file) 1 ≡ inode_bytes x) (faults.Tree (tree_faults.Inode 1)) c.own_inode.result i c.in_ok-inode.ensures (c.own_inode.ensures.spelled disk shows1)) in
     let two : t 2 ≡ held disk j = own_is c.sound_files_read_as_held.ensures c.inodes_are_what_their_bytes_spell.ensures.spelled s disk r c.args.tree.now 2 j same sizes is top
-    (omega arith) (omega (arith, sizes.least_inodes)) (if_ok (IsInode VERSION s) (faults.Tree (tree_faults.Inode 2)) c.own_inode-2.result j c.in_ok-inode-2.ensures c.own_inode-2.ensures.is)
+    (omega arith) (omega (arith, sizes.least_inodes)) (if_ok (IsInode s) (faults.Tree (tree_faults.Inode 2)) c.own_inode-2.result j c.in_ok-inode-2.ensures c.own_inode-2.ensures.is)
     (if_ok (λ (x : Inode). inode_bytes_at (file_block disk c.args.tree.now.file) 2 ≡ inode_bytes x) (faults.Tree (tree_faults.Inode 2)) c.own_inode-2.result j c.in_ok-inode-2.ensures (c.own_inode-2.ensures.spelled disk shows3)) in
     let first : IsMapFile disk i = on_ok (IsMapFile disk i) (faults.Tree tree_faults.InodeMap) c.load_numbers.result numbers c.in_ok-tree.ensures (c.load_numbers.ensures.file disk shows2) in
     let second : IsMapFile disk j = on_ok (IsMapFile disk j) (faults.Tree tree_faults.BlockMap) c.map_file.result c.in_ok-_map._map c.in_ok-_map.ensures (c.map_file.ensures.file disk shows4) in
@@ -179,7 +178,7 @@ returns-clause-opened g c = λ disk r shows root same is unmarked none.
       maps = subst (λ (x : Sizes). HasMaps x t numbers.items) (sym same) (record {
         inode_map = map_grammar c.nodes_are_where_pointers_lead.ensures.places c.sound_files_read_as_held.ensures s disk i (t 1) one first;
         block_map = map_grammar c.nodes_are_where_pointers_lead.ensures.places c.sound_files_read_as_held.ensures s disk j (t 2) two second;
-        readable = map_readable s disk i (t 1) one (on_ok (IsWholeBody disk i.body i.size) (faults.Tree tree_faults.InodeMap) c.load_numbers.result numbers c.in_ok-tree.ensures (c.load_numbers.ensures.whole disk shows2));
+        readable = map_readable s disk i (t 1) one (on_ok (IsWholeBody i.layout disk i.body i.size) (faults.Tree tree_faults.InodeMap) c.load_numbers.result numbers c.in_ok-tree.ensures (c.load_numbers.ensures.whole disk shows2));
         bytes_are = λ grammar. bytes ∙ map_bytes c.sound_files_read_as_held.ensures s disk i (t 1) one grammar;
         within = maps_within s numbers.items sizes (omega (arith, numbers.ok.0, size)) map;
       });

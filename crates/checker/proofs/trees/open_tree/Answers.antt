@@ -2,7 +2,6 @@ use Rattle.std.proofs.Common.{◌≡◌, ◌∙◌, ℕ, ap, sym, subst}
 use Rattle.std.specs.Prelude.{None, Option, Some}
 use Rattle.layout.specs.Inode.{IsInode}
 use Rattle.layout.specs.Limits.{Sizes}
-use Rattle.layout.specs.declared.version.TheConstants.{VERSION}
 use Rattle.images.specs.Roots.{whole}
 use Rattle.loading.specs.Images.{IsFileOfInode}
 use Rattle.checker.specs.Findings.{first_fault, tree_in}
@@ -18,7 +17,7 @@ pub returns-clause-tree : goal.returns-clause-tree
 returns-clause-tree g c = λ disk r shows root same has named top kind unmarked none.
     let tree = c.open_files-opened.new.tree in
     let file : IsFileOfInode c.args.top.now c.in_ok-file.file = record { blocks = c.in_ok-file.ensures.blocks; starts = c.in_ok-file.ensures.settled } in
-    let fits = subst (λ (s : Sizes). IsInode VERSION s c.args.top.now) (sym same) c.requires.top in
+    let fits = subst (λ (s : Sizes). IsInode s c.args.top.now) (sym same) c.requires.top in
     let is : IsTreeOf disk r tree = subst (IsTreeOf disk r) (sym c.open_files-opened.ensures.same) (record { has = has; named = named; top = top; fits = fits; kind = kind; file = file }) in
     let none_yet : tree.fault ≡ None = ap (λ (x : Tree). x.fault) c.open_files-opened.ensures.same in
     let told = told_fault (λ _. IsOpened disk r c.open_files-opened.new.marks c.open_files-opened.new.shared.of tree) (TellsOut r (tree_in (whole disk r) c.args.plane)) c.open_files-opened.result c.in_ok-fault.field-0

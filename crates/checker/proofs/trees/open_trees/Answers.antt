@@ -47,7 +47,7 @@ loop-k-preserved g c =
           (c.in_ok-tree.ensures.others q (λ same. other (omega (arith, same), subst (HasTree r) (sym same) has)));
       trees = λ disk shows are unmarked none.
           let shows1 = c.loop-k.invariant.read.same disk shows in
-          let told = told_of disk p c.in_ok-name.field-0 _ c.in-Some.is (c.in_ok-name.ensures.tells disk shows1) in
+          let told = told_of r.geometry.layout disk p c.in_ok-name.field-0 _ c.in-Some.is (c.in_ok-name.ensures.tells disk shows1) in
           let top = snapshot_tree disk r are k p (c.in-Some.name, c.in-Some.inode_file) there told in
           let before : StaysFor (k + 1) c.args.marks.now c.loop-k.marks c.args.shared.now.of c.loop-k.shared.of = c.loop-k.invariant.stays (k + 1) (λ both. omega (arith, both.0)) in
           trees_push r k c.loop-k.trees.items (IsSeenTo disk r 0 0 c.loop-k.marks c.loop-k.shared.of) (c.loop-k.invariant.trees disk shows are unmarked none)
@@ -71,7 +71,7 @@ loop-k-preserved-in_default g c =
       trees = λ disk shows are unmarked none.
           trees_skip r c.loop-k.k c.loop-k.trees.items (IsSeenTo disk r 0 0 c.loop-k.marks c.loop-k.shared.of) (c.loop-k.invariant.trees disk shows are unmarked none)
           (no_tree disk r are c.loop-k.k p there
-          (told_of disk p c.in_ok-name.field-0 _ c.in_default.is (c.in_ok-name.ensures.tells disk (c.loop-k.invariant.read.same disk shows))));
+          (told_of r.geometry.layout disk p c.in_ok-name.field-0 _ c.in_default.is (c.in_ok-name.ensures.tells disk (c.loop-k.invariant.read.same disk shows))));
     }
 
 pub loop-k-preserved-then-not-fits : goal.loop-k-preserved-then-not-fits
@@ -85,7 +85,7 @@ loop-k-preserved-then-not-fits g c =
       size = c.loop-k.invariant.size;
       stays = λ q other. c.loop-k.invariant.stays q (λ both. other (omega (arith, both.0), both.1));
       trees = λ disk shows are unmarked none.
-          let told = told_of disk p c.in_ok-name.field-0 _ c.in-Some.is (c.in_ok-name.ensures.tells disk (c.loop-k.invariant.read.same disk shows)) in
+          let told = told_of r.geometry.layout disk p c.in_ok-name.field-0 _ c.in-Some.is (c.in_ok-name.ensures.tells disk (c.loop-k.invariant.read.same disk shows)) in
           let top = snapshot_tree disk r are c.loop-k.k p (c.in-Some.name, c.in-Some.inode_file) there told in
           let yes : c.fits.result ≡ true = c.fits.ensures.1 top.fits in
           let unfit = c.if-not-fits.true in

@@ -1,4 +1,4 @@
-use Rattle.std.proofs.Common.{◌≡◌, ◌≢◌, inl, inr, ◌+◌, ◌<◌, ◌≤◌, ℕ, ap, sym, subst, ◌∙◌, arith, rules}
+use Rattle.std.proofs.Common.{◌≡◌, ◌≢◌, inl, inr, ◌+◌, ◌<◌, ◌≤◌, ℕ, refl, ap, sym, subst, ◌∙◌, arith, rules}
 use Rattle.std.specs.Prelude.{min}
 use Rattle.std.proofs.lemmas.Bool.{cases_eq, cases_lt}
 use Rattle.layout.specs.Places.{pointed}
@@ -21,6 +21,7 @@ pub loop-i-init : goal.loop-i-init
 loop-i-init c = record {
   low = search rules;
   step = places_none c.args.draft.now;
+  layout = refl;
   end = c.requires.end;
   before = search rules;
   holes = search rules;
@@ -46,6 +47,7 @@ loop-i-preserved c =
     record {
       low = omega (arith, low);
       step = places_ok (places_then so_far.step stored.step (added_one t first c.loop-i.from i c.args.count low found.0 found.1 found.2));
+      layout = put.layout ∙ so_far.layout;
       end = changed_all (λ j q. c.args.count ≤ j → q ≡ Hole) c.loop-i.nodes c.set.new.self i p put.there put.others (λ le. absurd (omega (arith, le, found.1))) (λ j n. so_far.end j);
       before = changed_all (λ j q. j < first → q ≡ place_at settled j) c.loop-i.nodes c.set.new.self i p put.there put.others (λ lt. absurd (omega (arith, lt, low))) (λ j n. so_far.before j);
       holes = changed_all (λ j q. q ≡ Hole → place_at settled j ≡ Hole) c.loop-i.nodes c.set.new.self i p put.there put.others (λ is. hole_block (sym is)) (λ j n. so_far.holes j);

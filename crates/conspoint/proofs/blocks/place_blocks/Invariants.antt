@@ -15,6 +15,7 @@ abbrev pub invariant-loop-i : goal.invariant-loop-i
 invariant-loop-i l = record {
   low : l.first ≤ l.from;
   step : Places {T = Unit {0}} (changed_blocks l.tree l.first (min l.from l.count)) l.fn.draft l.draft (Ok tt);
+  layout : l.nodes.layout ≡ l.fn.settled.layout;
   end : EndBefore l.count l.nodes;
   before : (i : ℕ) → i < l.first → place_at l.nodes i ≡ place_at l.fn.settled i;
   holes : (i : ℕ) → place_at l.nodes i ≡ Hole → place_at l.fn.settled i ≡ Hole;

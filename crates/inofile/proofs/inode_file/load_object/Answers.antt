@@ -1,18 +1,17 @@
 use Rattle.std.proofs.Common.{sym}
 use Rattle.layout.specs.Inode.{IsInode}
 use Rattle.layout.specs.Limits.{Sizes}
-use Rattle.layout.specs.declared.version.TheConstants.{VERSION}
 use Rattle.images.specs.Nodes.{held}
 use Rattle.inofile.specs.Objects.{IsUntouched}
 use Rattle.inofile.proofs.DetailLaws.{ends_in}
-use Rattle.inofile.proofs.ObjectLaws.{IsLoaded, free_is, free_stands, free_content, held_inode, loaded_content, loaded_object, loaded_settled, loaded_untouched}
+use Rattle.inofile.proofs.ObjectLaws.{IsLoaded, free_own, free_stands, free_content, held_inode, loaded_content, loaded_object, loaded_settled, loaded_untouched}
 use Rattle.inofile.proofs.inode_file.load_object.Goals as goal
 
 pub returns-in-Free-clause-content : goal.returns-in-Free-clause-content
 returns-in-Free-clause-content c = λ detail s disk sound. sym (free_content disk c.args.inode c.in-Free.is)
 
 pub returns-in-Free-clause-as_settled : goal.returns-in-Free-clause-as_settled
-returns-in-Free-clause-as_settled c = λ detail s disk sound. free_is s c.args.inode (held_inode s disk c.args.inode sound) c.in-Free.is
+returns-in-Free-clause-as_settled c = λ detail s disk sound. free_own s c.args.inode (held_inode s disk c.args.inode sound) c.in-Free.is
 
 pub returns-in-Free-clause-stands : goal.returns-in-Free-clause-stands
 returns-in-Free-clause-stands c = λ detail s disk inodes found sound ordinary stands. free_stands detail disk inodes c.args.inode found c.in-Free.is stands
@@ -26,7 +25,7 @@ loaded c = record {
   known = c.in_ok-object-in_default.ensures.known;
 }
 
-untouched : (c : goal.In_ok-object-in_default) (s : Sizes) → IsInode VERSION s c.args.inode → IsUntouched c.in_ok-object-in_default.object
+untouched : (c : goal.In_ok-object-in_default) (s : Sizes) → IsInode s c.args.inode → IsUntouched c.in_ok-object-in_default.object
 untouched c s is = loaded_untouched s c.args.inode c.in_ok-object-in_default.object is c.in_ok-object-in_default.ensures.size c.in_ok-object-in_default.ensures.settled c.in_ok-object-in_default.ensures.unchanged
 
 pub returns-in_ok-object-in_default-clause-content : goal.returns-in_ok-object-in_default-clause-content

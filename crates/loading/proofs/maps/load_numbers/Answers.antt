@@ -9,13 +9,13 @@ pub returns-in_err-bytes-clause-damaged : goal.returns-in_err-bytes-clause-damag
 returns-in_err-bytes-clause-damaged g c = λ disk shows is paths whole map own.
     let inode = c.args.inode in
     c.in_err-bytes.ensures.damaged disk (c.in_ok-file.ensures.reads.same disk shows) (search rules)
-    (λ i. starts_sound_at (g.B.Blocks.count c.map_file.new.blocks) disk inode.body inode.size i c.in_ok-file.file.tree c.in_ok-file.file.tree.fits.1 c.in_ok-file.ensures.starts
-    (subst (λ n. IsBodyPath n disk inode.body inode.size i) (sym c.in_ok-file.ensures.reads.count) (paths i)) (whole i))
+    (λ i. starts_sound_at inode.layout (g.B.Blocks.count c.map_file.new.blocks) disk inode.body inode.size i c.in_ok-file.file.tree c.in_ok-file.file.tree.fits.1 c.in_ok-file.ensures.starts
+    (subst (λ n. IsBodyPath inode.layout n disk inode.body inode.size i) (sym c.in_ok-file.ensures.reads.count) (paths i)) (whole i))
 
 pub returns-then-is_inode_map-clause-whole : goal.returns-then-is_inode_map-clause-whole
 returns-then-is_inode_map-clause-whole g c = λ disk shows i.
     let inode = c.args.inode in
-    sound_whole (g.B.Blocks.count c.map_file.new.blocks) disk inode.body inode.size i c.in_ok-file.file.tree c.in_ok-file.ensures.starts c.in_ok-file.ensures.unchanged
+    sound_whole inode.layout (g.B.Blocks.count c.map_file.new.blocks) disk inode.body inode.size i c.in_ok-file.file.tree c.in_ok-file.ensures.starts c.in_ok-file.ensures.unchanged
     (λ lt. c.in_ok-bytes.ensures.sound disk (c.in_ok-file.ensures.reads.same disk shows) i (subst (λ n. i < block_count n) (sym c.in_ok-file.ensures.size) lt))
 
 pub returns-clause-damaged : goal.returns-clause-damaged

@@ -26,8 +26,8 @@ returns-in_err-location-clause-damaged g c = λ disk shows is paths whole map.
     let inode = c.args.inode in
     let j = c.loop-j.j in
     c.in_err-location.ensures.damaged disk (c.loop-j.invariant.read.same disk (c.in_ok-file.ensures.reads.same disk shows)) (search rules)
-    (starts_sound_at (g.B.Blocks.count c.loop-j.blocks) disk inode.body inode.size j c.in_ok-file.file.tree c.in_ok-file.file.tree.fits.1 c.in_ok-file.ensures.starts
-    (subst (λ n. IsBodyPath n disk inode.body inode.size j) (sym (c.loop-j.invariant.read.count ∙ c.in_ok-file.ensures.reads.count)) (paths j)) (whole j))
+    (starts_sound_at inode.layout (g.B.Blocks.count c.loop-j.blocks) disk inode.body inode.size j c.in_ok-file.file.tree c.in_ok-file.file.tree.fits.1 c.in_ok-file.ensures.starts
+    (subst (λ n. IsBodyPath inode.layout n disk inode.body inode.size j) (sym (c.loop-j.invariant.read.count ∙ c.in_ok-file.ensures.reads.count)) (paths j)) (whole j))
 
 pub returns-in_err-file-clause-reads : goal.returns-in_err-file-clause-reads
 returns-in_err-file-clause-reads g c = reads_err c.from_residual.result c.from_residual.ensures.1 c.in_err-file.ensures.reads

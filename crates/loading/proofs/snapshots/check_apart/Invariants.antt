@@ -9,5 +9,5 @@ abbrev pub invariant-loop-earlier : goal.invariant-loop-earlier
 invariant-loop-earlier g l = record {
   read : HasOnlyRead g.B.Blocks l.fn.blocks l.blocks;
   apart : (disk : ℕ → List ℕ) → g.B.Blocks.Shows l.fn.blocks disk → (j : ℕ) → j < l.earlier
-      → AreApartAt disk (slice_index_or l.snapshots j Hole) (slice_index_or l.snapshots l.k Hole);
+      → AreApartAt l.geometry.layout disk (slice_index_or l.snapshots j Hole) (slice_index_or l.snapshots l.k Hole);
 }

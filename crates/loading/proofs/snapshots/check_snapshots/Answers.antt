@@ -19,7 +19,7 @@ returns-in_err-check_apart-clause-damaged g c disk shows damaged are =
     let r = c.args.root.now in
     c.in_err-check_apart.ensures.damaged disk (c.in_ok-check_snapshot.ensures.reads.same disk (c.loop-k.invariant.read.same disk shows)) (search rules)
     (λ l lt. snapshot_whole r.geometry r.generation disk (slice_index_or r.snapshots l Hole) (at_slot disk r l (slice_index_or r.snapshots l Hole) are refl))
-    (λ l lt. apart disk c.args.root.now are c.snapshots_are_what_their_bytes_spell.ensures l c.loop-k.k (slice_index_or c.args.root.now.snapshots l Hole) (slice_index_or c.args.root.now.snapshots c.loop-k.k Hole) lt refl refl)
+    (λ l lt. apart disk r are c.snapshots_are_what_their_bytes_spell.ensures l c.loop-k.k (slice_index_or r.snapshots l Hole) (slice_index_or r.snapshots c.loop-k.k Hole) lt refl refl)
 
 pub returns-in_err-check_snapshot-clause-reads : goal.returns-in_err-check_snapshot-clause-reads
 returns-in_err-check_snapshot-clause-reads g c = reads_err c.from_residual.result c.from_residual.ensures.1 (only_more _ c.loop-k.invariant.read c.in_err-check_snapshot.ensures.reads)

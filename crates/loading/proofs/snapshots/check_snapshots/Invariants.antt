@@ -10,5 +10,5 @@ invariant-loop-k g l = record {
   read : HasOnlyRead g.B.Blocks l.fn.blocks l.blocks;
   are : (disk : ℕ → List ℕ) → g.B.Blocks.Shows l.fn.blocks disk → (j : ℕ) → j < l.k → IsSnapshotAt l.root.geometry l.root.generation disk (slice_index_or l.root.snapshots j Hole);
   apart : (disk : ℕ → List ℕ) → g.B.Blocks.Shows l.fn.blocks disk → (j i : ℕ) → j < l.k → i < j
-      → AreApartAt disk (slice_index_or l.root.snapshots i Hole) (slice_index_or l.root.snapshots j Hole);
+      → AreApartAt l.root.geometry.layout disk (slice_index_or l.root.snapshots i Hole) (slice_index_or l.root.snapshots j Hole);
 }

@@ -14,7 +14,7 @@ pub returns-clause-file : goal.returns-clause-file
 returns-clause-file c =
     let old = c.args.draft.now in
     let new = c.store_own_map.new.draft in
-    map_file c.args.geometry old new c.in_ok-none.none.items c.in_ok-map.map c.blocks-2.ensures.within c.requires.start c.in_ok-none.ensures.none
+    map_file c.args.geometry old new c.in_ok-none.none.items c.in_ok-map.map c.blocks-2.ensures.within c.requires.layout c.requires.start c.in_ok-none.ensures.none
     (subst (λ (ns : List Pointer). PlansMap old new ns c.in_ok-map.map) c.deref.ensures.value c.in_ok-map.ensures.planned)
     (disk_with_blocks new.blocks.items nothing) (c.written_disks_have_the_blocks.ensures.has new.blocks.items nothing new.drafted.planned.apart)
 
@@ -22,7 +22,7 @@ pub returns-clause-map : goal.returns-clause-map
 returns-clause-map c = λ e has.
     let old = c.args.draft.now in
     let new = c.store_own_map.new.draft in
-    map_on c.args.geometry old new c.in_ok-none.none.items c.in_ok-map.map c.blocks-2.ensures.within c.requires.start c.in_ok-none.ensures.none
+    map_on c.args.geometry old new c.in_ok-none.none.items c.in_ok-map.map c.blocks-2.ensures.within c.requires.layout c.requires.start c.in_ok-none.ensures.none
     (subst (λ (ns : List Pointer). PlansMap old new ns c.in_ok-map.map) c.deref.ensures.value c.in_ok-map.ensures.planned)
     (disk_with_blocks new.blocks.items nothing) (c.written_disks_have_the_blocks.ensures.has new.blocks.items nothing new.drafted.planned.apart) e has
 

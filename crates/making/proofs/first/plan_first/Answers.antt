@@ -21,12 +21,12 @@ returns-clause-point c =
       bytes = search rules;
       fits = λ sectors least most. c.into_plan-map.ensures.fits sectors least (omega (arith, most, c.plan_files.ensures.grows.count, start.count));
       behind = subst (λ (p : Planned). All (λ b. 2 ≤ b.place) p.blocks) (sym plan) d.drafted.planned.behind;
-      root = root_is _ d refl refl within refl has (disk_with_blocks d.blocks.items nothing) (c.written_disks_have_the_blocks.ensures.has d.blocks.items nothing d.drafted.planned.apart);
+      root = root_is _ d refl c.requires refl within refl has (disk_with_blocks d.blocks.items nothing) (c.written_disks_have_the_blocks.ensures.has d.blocks.items nothing d.drafted.planned.apart);
       generation = refl;
       geometry = refl;
       version = refl;
-      holds = λ e all. c.first_roots_hold.ensures _ e has.numbers has.map (first_is _ d refl refl within refl has e (subst (λ (p : Planned). HasAll e p.blocks) plan all));
-      room = λ e all. reserve_is _ d refl refl within refl has e (subst (λ (p : Planned). HasAll e p.blocks) plan all)
+      holds = λ e all. c.first_roots_hold.ensures _ e has.numbers has.map (first_is _ d refl c.requires refl within refl has e (subst (λ (p : Planned). HasAll e p.blocks) plan all));
+      room = λ e all. reserve_is _ d refl c.requires refl within refl has e (subst (λ (p : Planned). HasAll e p.blocks) plan all)
           (few_given_out c.args.geometry.blocks c.new-draft.result d within.least_blocks start c.plan_files.ensures.grows c.in_ok-inode_file.ensures.takes);
     }
 

@@ -11,7 +11,7 @@ use Rattle.making.proofs.inode_map.inode_map.Given as goal
 abbrev pub invariant-loop-i : goal.invariant-loop-i
 invariant-loop-i l = record {
   size : l.file.size ≡ l.size;
-  base : IsBased free_inode l.file.tree;
+  base : IsBased (free_inode l.fn.geometry.layout) l.file.tree;
   changed : (j : ℕ) → j < l.i → IsChanged l.file.tree j;
   blocks : (disk : ℕ → List ℕ) (j : ℕ) → file_block disk l.file j ≡ (if nat_lt j l.i then numbers_block j else zeros 4096);
 }

@@ -14,7 +14,7 @@ use Rattle.placement.proofs.blocks.place_lowest.Goals.{In_ok-below}
 below_is : (c : In_ok-below) → (i : ℕ) → place_at c.in_ok-below.below i ≡ (if nat_lt i (min c.args.tree.now.kept c.args.count) then node c.args.settled.now 0 i else Hole)
 below_is c =
     kept_as (place_at c.height.result.now) (node c.args.settled.now 0) c.in_ok-below.below c.min-kept.result (min c.args.tree.now.kept c.args.count)
-    (c.min-kept.ensures ∙ ap (λ (k : ℕ). min k c.args.count) c.kept.ensures.value) c.height.ensures c.in_ok-below.ensures
+    (c.min-kept.ensures ∙ ap (λ (k : ℕ). min k c.args.count) c.kept.ensures.value) c.height.ensures.nodes c.in_ok-below.ensures.places
 
 pub place_blocks-requires : goal.place_blocks-requires
 place_blocks-requires c =
@@ -52,3 +52,6 @@ returns-clause-stored c =
       holes = λ i le lt hole. sym (kept_first (node c.args.settled.now 0) c.in_ok-below.below c.args.tree.now.kept c.args.count i each lt) ∙ c.in_ok-nodes.ensures.holes i hole;
       changed = λ i le lt changed. c.in_ok-nodes.ensures.stored i lt le changed;
     }
+
+pub returns-clause-layout : goal.returns-clause-layout
+returns-clause-layout c = c.in_ok-nodes.ensures.layout ∙ c.in_ok-below.ensures.layout ∙ c.height.ensures.layout c.requires.alike

@@ -32,3 +32,6 @@ returns-clause-lowest c =
       unchanged = λ i lt some not. later i some ∙ lowest.unchanged i lt some not;
       whole = lowest.whole;
     }
+
+pub returns-clause-layout : goal.returns-clause-layout
+returns-clause-layout c = c.set.ensures.layout ∙ c.in_ok-places.ensures.layout

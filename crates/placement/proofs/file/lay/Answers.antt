@@ -7,11 +7,11 @@ use Rattle.placement.proofs.SettledLaws.{NodeLaws, blocks_whole, paths_sound}
 use Rattle.placement.proofs.StepLaws.{both_err, both_ok, place_ended, read_ended, reads_nothing}
 use Rattle.placement.proofs.file.lay.Goals as goal
 
-pub returns-then-level_of-eq0-clause-stands : goal.returns-then-level_of-eq0-clause-stands
-returns-then-level_of-eq0-clause-stands g c = λ s disk base shows change known e has same. c.in_ok-small.ensures.stands s disk e shows change.ends
+pub returns-then-file_level-eq0-clause-stands : goal.returns-then-file_level-eq0-clause-stands
+returns-then-file_level-eq0-clause-stands g c = λ s disk base shows change known e has same. c.in_ok-small.ensures.stands s disk e shows change.ends
 
-pub returns-then-level_of-eq0-clause-laid : goal.returns-then-level_of-eq0-clause-laid
-returns-then-level_of-eq0-clause-laid g c =
+pub returns-then-file_level-eq0-clause-laid : goal.returns-then-file_level-eq0-clause-laid
+returns-then-file_level-eq0-clause-laid g c =
     let nodes = c.in_ok-small.small.nodes in
     let none : height_of nodes ≤ 0 = omega (arith, ap (λ (xs : List PlaceMap). length xs) c.in_ok-small.ensures.none) in
     record {
@@ -27,7 +27,7 @@ returns-in_err-small-clause-damaged g c = λ s disk base shows change blocks bad
     let t = c.args.object.now.file.tree in
     c.in_err-small.ensures.damaged disk shows (search rules)
     (λ not kept. let low : 0 < t.count = omega (arith, kept, t.fits.1) in
-    (subst (λ (n : ℕ). IsPath n disk t.pointers t.depth t.count 0) blocks (paths_sound laws s disk base t change.based change.sound 0 low), blocks_whole disk base t change.based change.sound.bytes.readable 0 low))
+    (subst (λ (n : ℕ). IsPath t.layout n disk t.pointers t.depth t.count 0) blocks (paths_sound laws s disk base t change.based change.sound 0 low), blocks_whole disk base t change.based change.sound.bytes.readable 0 low))
 
 pub returns-clause-stands : goal.returns-clause-stands
 returns-clause-stands g c = λ s disk base shows change known. c.in_ok-laid.ensures.stands s disk base change known
@@ -35,8 +35,8 @@ returns-clause-stands g c = λ s disk base shows change known. c.in_ok-laid.ensu
 pub returns-in_err-small-clause-step : goal.returns-in_err-small-clause-step
 returns-in_err-small-clause-step g c = both_err c.from_residual.result c.from_residual.ensures.1 (read_ended c.in_err-small.ensures.reads c.in_err-small.ensures.why)
 
-pub returns-then-level_of-eq0-clause-step : goal.returns-then-level_of-eq0-clause-step
-returns-then-level_of-eq0-clause-step g c = both_ok (read_ended c.in_ok-small.ensures.reads c.in_ok-small.ensures.why)
+pub returns-then-file_level-eq0-clause-step : goal.returns-then-file_level-eq0-clause-step
+returns-then-file_level-eq0-clause-step g c = both_ok (read_ended c.in_ok-small.ensures.reads c.in_ok-small.ensures.why)
 
 pub returns-in_err-laid-clause-step : goal.returns-in_err-laid-clause-step
 returns-in_err-laid-clause-step g c = both_err c.from_residual-in_err-laid.result c.from_residual-in_err-laid.ensures.1 (place_ended reads_nothing c.in_err-laid.ensures.step)

@@ -1,23 +1,21 @@
-use Rattle.std.proofs.Common.{ℕ, Ok, Result, refl, sym, subst, ◌∙◌, arith}
+use Rattle.std.proofs.Common.{◌≡◌, ℕ, ◌<◌, Ok, Result, refl, sym, subst, ◌∙◌, arith}
 use Rattle.std.specs.Ordering.{nat_cmp}
 use Rattle.std.specs.BTreeMap as tree
 use Rattle.std.proofs.lemmas.Bool.{cond_above}
-use Rattle.layout.specs.Version.{level_of}
 use Rattle.blocktree.specs.PlaceMaps.{AreBelow, place_at}
 use Rattle.blocktree.specs.Places.{block_count}
 use Rattle.blocktree.specs.Trees.{slot_stores}
-use Rattle.inode.specs.Room.{top_over}
 use Rattle.conspoint.specs.Space.{block_stores, changed_blocks}
 use Rattle.conspoint.specs.Steps.{Places}
 use Rattle.conspoint.specs.declared.draft.Draft.{Draft}
 use Rattle.conspoint.specs.declared.error.PlanError.{PlanError}
 use Rattle.conspoint.proofs.StepLemmas.{places_err, places_ok, places_rise}
-use Rattle.placement.specs.Files.{object_block}
+use Rattle.placement.specs.Files.{file_level, object_block}
 use Rattle.placement.specs.Layouts.{AreLowest}
 use Rattle.placement.specs.Nodes.{AreSettledIn, AreStored}
-use Rattle.placement.specs.Space.{file_stores, more_over, tops_over}
+use Rattle.placement.specs.Space.{file_stores, more_over, tops_stored}
 use Rattle.placement.specs.Steps.{PlacesHeights}
-use Rattle.placement.proofs.CostLaws.{LeavesUncounted, changed_most, not_changed, placed_most, tops_few, two_stays}
+use Rattle.placement.proofs.CostLaws.{LeavesUncounted, changed_most, not_changed, placed_most, tops_each, tops_few, tops_stay}
 use Rattle.placement.proofs.LaidLaws.{laid_over}
 use Rattle.placement.proofs.RaiseLaws.{placed_heights}
 use Rattle.placement.proofs.StandLaws.{blocks_are}
@@ -33,6 +31,8 @@ lay_over-requires c =
     let count = sym c.in_ok-blocks.ensures.step.grows.count in
     record {
       level = c.requires.level;
+      layout = c.requires.counted.layout;
+      same = c.in_ok-blocks.ensures.layout;
       end = lowest.end;
       blocks = subst (λ (n : ℕ). AreBelow n c.in_ok-blocks.blocks) count lowest.placed.within;
       settled = subst (λ (n : ℕ). AreSettledIn n c.args.settled.now) count c.requires.settled;
@@ -58,13 +58,13 @@ pub returns-clause-stands : goal.returns-clause-stands
 returns-clause-stands c = λ s disk base change known e has same.
     let o = c.args.object.now in
     let settled = c.args.settled.now in
-    let over = placed_heights (block_count o.file.size) (level_of o.file.size) settled c.in_ok-blocks.blocks c.in_ok-laid.ensures.step in
+    let over = placed_heights (block_count o.file.size) (file_level o.file) settled c.in_ok-blocks.blocks c.in_ok-laid.ensures.step in
     c.in_ok-laid.ensures.stands s disk base (change.blocks ∙ sym c.in_ok-blocks.ensures.step.grows.count) change.sound known e has same (object_block disk o)
     (λ i. blocks_are disk e base o settled known same (lowest_is (goal.at.returns-clause-stands c).In_ok-blocks) (over.grows.has e has) i (omega arith))
 
 -- the blocks are placed before
 most : {U : Type 0} {d : Draft} {r : Result U PlanError} (c : In_ok-blocks)
-    → PlacesHeights (block_count c.args.object.now.file.size) (level_of c.args.object.now.file.size) c.args.settled.now c.in_ok-blocks.blocks c.place_lowest.new.draft d r
+    → PlacesHeights (block_count c.args.object.now.file.size) (file_level c.args.object.now.file) c.args.settled.now c.in_ok-blocks.blocks c.place_lowest.new.draft d r
     → Places (file_stores c.args.object.now.file) c.args.draft.now d r
 most c step =
     let file = c.args.object.now.file in
@@ -73,9 +73,11 @@ most c step =
     let lowest : Places (changed_blocks t 0 count) c.args.draft.now c.place_lowest.new.draft (Ok c.in_ok-blocks.blocks) = rw (c.tree.ensures, c.block_count-count.ensures) at c.in_ok-blocks.ensures.step in
     let is = lowest_is c in
     let unchanged : LeavesUncounted (block_stores t 0) t.kept c.args.settled.now count c.in_ok-blocks.blocks = λ i lt none. is.unchanged i lt (omega arith) (not_changed t 0 i (omega arith) none) in
-    placed_most (block_stores t 0) (top_over file) (changed_blocks t 0 count) (tops_over file) file c.args.settled.now c.in_ok-blocks.blocks c.requires.counted is.end unchanged
+    let stored : (i : ℕ) → i < count → block_stores t 0 i ≡ slot_stores (tree.get nat_cmp t.slots i) = λ i lt.
+    sym (cond_above i 0 0 (slot_stores (tree.get nat_cmp t.slots i)) (slot_stores (tree.get nat_cmp t.slots i)) (omega arith) refl) in
+    placed_most (block_stores t 0) (tops_each t.layout file) (changed_blocks t 0 count) (tops_stored t.layout file) file c.args.settled.now c.in_ok-blocks.blocks c.requires.counted is.end unchanged
     c.requires.level (omega arith) (tops_few file)
-    (λ j high none. two_stays (block_stores t 0) file c.args.settled.now c.in_ok-blocks.blocks c.requires.counted is.end unchanged j high (λ i lt. sym (cond_above i 0 0 (slot_stores (tree.get nat_cmp t.slots i)) (slot_stores (tree.get nat_cmp t.slots i)) (omega arith) refl)) none)
+    (λ j high none. tops_stay t.layout (block_stores t 0) file c.args.settled.now c.in_ok-blocks.blocks c.requires.counted is.end unchanged j refl high stored none)
     lowest step
 
 pub returns-clause-step : goal.returns-clause-step
@@ -89,4 +91,4 @@ pub returns-in_err-blocks-clause-step : goal.returns-in_err-blocks-clause-step
 returns-in_err-blocks-clause-step c =
     let file = c.args.object.now.file in
     places_err c.from_residual.result c.from_residual.ensures.1
-    (places_rise (rw (c.tree.ensures, c.block_count-count.ensures) at c.in_err-blocks.ensures.step) (changed_most (level_of file.size) (block_count file.size) (changed_blocks file.tree 0 (block_count file.size)) (more_over file) (tops_over file) c.requires.level))
+    (places_rise (rw (c.tree.ensures, c.block_count-count.ensures) at c.in_err-blocks.ensures.step) (changed_most file.tree.layout (file_level file) (block_count file.size) (changed_blocks file.tree 0 (block_count file.size)) (more_over file) (tops_stored file.tree.layout file) c.requires.level))

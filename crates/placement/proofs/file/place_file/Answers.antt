@@ -57,7 +57,7 @@ returns-clause-placed g c = λ s disk base shows change.
           (content_is s c.args.draft.now c.lay.new.draft disk e base o laid.body (object_block disk o) settled laid.nodes change known (stands e has same) ends c.in_ok-laid.ensures.laid.placed
           placed.taken.items placed.freed.items c.in_ok-placed.ensures.taken c.in_ok-placed.ensures.freed);
       no_hole = λ whole e has same. subst (λ f. HasNoHole (held e f)) is
-          (no_hole_left disk e base (inode_with o laid.body) o settled laid.nodes whole refl known.nodes (stands e has same).nodes c.in_ok-laid.ensures.stored);
+          (no_hole_left disk e base (inode_with o laid.body) o settled laid.nodes whole known.tree refl refl known.nodes (stands e has same).nodes c.in_ok-laid.ensures.stored);
       whole = λ all e has same. subst (λ f. HasNoHole (held e f)) is
-          (none_left e (inode_with o laid.body) o settled laid.nodes all refl (stands e has same).nodes c.in_ok-laid.ensures.stored);
+          (none_left e (inode_with o laid.body) o settled laid.nodes all refl refl (stands e has same).nodes c.in_ok-laid.ensures.stored);
     }

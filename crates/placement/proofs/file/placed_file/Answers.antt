@@ -21,7 +21,7 @@ moved-requires-2 c =
     record {
       short = λ m i past.
           let count = ap (λ (t : BlockTree). t.count) c.tree-tree.ensures in
-          c.requires.counted.end m i (omega (arith, nodes_fall c.args.object.now.file.tree.count m, past, c.count.ensures.value, count));
+          c.requires.counted.end m i (omega (arith, nodes_fall c.args.object.now.file.tree.layout c.args.object.now.file.tree.count m, past, c.count.ensures.value, count));
       among = changed.within;
       kept = λ i some lt not. c.requires.kept i some lt (changed.all i some lt not);
     }

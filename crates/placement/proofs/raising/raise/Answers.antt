@@ -7,10 +7,10 @@ use Rattle.placement.proofs.raising.raise.Goals.{After-height-old, After-new-non
 
 -- where the settled file has a height over this one, and where it has none
 settled_are : (c : After-height-old) → AreOver c.args.settled.now c.args.height c.height-over.result.now c.height-old.result.now
-settled_are c = over_settled c.args.settled.now c.height-over.result.now c.height-old.result.now c.args.height (omega (arith, c.if-above-len.true, c.len.ensures)) c.height-over.ensures c.height-old.ensures
+settled_are c = over_settled c.args.settled.now c.height-over.result.now c.height-old.result.now c.args.height (omega (arith, c.if-above-len.true, c.len.ensures)) (c.height-old.ensures.layout c.requires.alike) c.height-over.ensures.nodes c.height-old.ensures.nodes
 
 none_are : (c : After-new-none) → AreOver c.args.settled.now c.args.height c.new-none.result c.new-none.result
-none_are c = over_none c.args.settled.now c.new-none.result c.args.height (omega (arith, c.if-above-len.false, c.len.ensures)) c.new-none.ensures
+none_are c = over_none c.args.settled.now c.new-none.result c.args.height (omega (arith, c.if-above-len.false, c.len.ensures)) c.new-none.ensures.holes
 
 pub returns-then-above-len-clause-step : goal.returns-then-above-len-clause-step
 returns-then-above-len-clause-step c = raised_step (settled_are (goal.at.returns-then-above-len-clause-step c).After-height-old) c.in_ok-placed.ensures.step

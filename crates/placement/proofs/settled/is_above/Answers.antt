@@ -1,4 +1,5 @@
 use Rattle.std.proofs.Common.{◌≡◌, ◌∙◌, ℕ, suc, ◌+◌, ◌-◌, ◌*◌, ap, sym, arith}
+use Rattle.layout.specs.Trees.{fan_out}
 use Rattle.placement.specs.Nodes.{height_of, node}
 use Rattle.placement.proofs.settled.is_above.Goals as goal
 use Rattle.placement.proofs.settled.is_above.Goals.{After-is_full}
@@ -11,7 +12,8 @@ top_is c m is i =
 
 pub returns-clause-full : goal.returns-clause-full
 returns-clause-full c = λ yes m j is holes.
-    c.is_full.ensures.full yes j (λ i small. c.height.ensures (1024 * j + i) ∙ top_is (goal.at.returns-clause-full c).After-is_full m is (1024 * j + i) ∙ holes i small)
+    let fan = fan_out c.args.nodes.now.layout in
+    c.is_full.ensures.full yes j (λ i small. c.height.ensures.nodes (fan * j + i) ∙ top_is (goal.at.returns-clause-full c).After-is_full m is (fan * j + i) ∙ holes i small)
 
 pub returns-clause-empty : goal.returns-clause-empty
 returns-clause-empty c = λ no.
@@ -21,5 +23,5 @@ returns-clause-empty c = λ no.
       b,
       omega (arith, c.len-count.ensures, c.if-count-eq0.false),
       is,
-      λ i small. sym (c.height.ensures (1024 * j + i)) ∙ holes i small,
+      λ i small. sym (c.height.ensures.nodes (fan_out c.args.nodes.now.layout * j + i)) ∙ holes i small,
     )

@@ -1,7 +1,9 @@
-use Rattle.std.proofs.Common.{rules, ◌≡◌, inl, inr, subst, arith}
+use Rattle.std.proofs.Common.{rules, ◌≡◌, inl, inr, ◌+◌, ◌*◌, subst, arith}
 use Rattle.std.proofs.lemmas.Bool.{cases_eq, cases_lt}
+use Rattle.layout.specs.Trees.{fan_out}
 use Rattle.layout.specs.declared.pointer.Pointer.TheVariants.{Hole}
-use Rattle.conspoint.specs.Groups.{group}
+use Rattle.blocktree.specs.PlaceMaps.{place_at}
+use Rattle.placement.specs.Nodes.{most_groups}
 use Rattle.placement.proofs.settled.is_full.Goals as goal
 
 pub loop-next-init : goal.loop-next-init
@@ -17,7 +19,7 @@ loop-next-preserved c =
         | inl before ↦ c.loop-next.invariant.full j before holes
         | inr late ↦ elim (cases_eq j n.index) [
           | inr other ↦ c.in-Some.ensures.before j late (omega (arith, lt, other))
-          | inl is ↦ absurd (let yes = c.is_empty.ensures.1 (λ i small. subst (λ k. group c.args.below.now k i ≡ Hole) is (holes i small)) in let no = c.if-is_empty.false in search (rules, yes, no))
+          | inl is ↦ absurd (let yes = c.is_empty.ensures.1 (λ i small. subst (λ k. place_at c.args.below.now (fan_out c.args.layout * k + i) ≡ Hole) is (holes i small)) in let no = c.if-is_empty.false in search (rules, yes, no))
         ]
       ];
     }
@@ -28,8 +30,8 @@ returns-then-is_empty-clause-empty c = λ no. (c.in-Some.node.index, c.in-Some.n
 pub returns-clause-full : goal.returns-clause-full
 returns-clause-full c = λ yes j holes. elim (cases_lt j c.loop-next.next) [
   | inl before ↦ c.loop-next.invariant.full j before holes
-  | inr late ↦ elim (cases_lt j 4194304) [
-    | inl low ↦ c.in_default.ensures.none j late low
+  | inr late ↦ elim (cases_lt j (most_groups c.args.layout)) [
+    | inl low ↦ c.in_default.ensures.none j late (omega (arith, low, c.most_groups-end.ensures))
     | inr high ↦ c.requires.end j high
   ]
 ]

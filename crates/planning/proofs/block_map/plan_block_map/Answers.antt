@@ -41,7 +41,7 @@ returns-clause-planned g c = λ o start p fresh.
     let shown = c.settled_inode.ensures.reads.same o.disk o.shows in
     map_file_planned old new o.disk o.before s o.settled p nodes f o.once o.exact start.same fresh c.store_own_map.ensures.step.grows
     (subst (λ (ns : List Pointer). PlansMap old new ns f) c.deref.ensures.value c.in_ok-map.ensures.planned)
-    (settled_map (g.B.Blocks.count c.args.blocks.now) old o.disk s c.args.inodes.now.file o.settled o.before found nodes o.memory.inodes c.requires.sizes c.requires.disk o.once o.exact start.same start.entries
+    (settled_map (g.B.Blocks.count c.args.blocks.now) old o.disk s c.args.inodes.now.file o.settled o.before found nodes o.memory.inodes c.requires.sizes start.plain c.requires.disk o.once o.exact start.same start.entries
     start.sound.block_map (now g at o)
     (subst (λ n. (k : ℕ) → k < n → pointer_at nodes k ≡ (held o.disk found).place 0 k) c.map_blocks.ensures (c.in_ok-nodes.ensures.lowest s o.disk shown (file g at o)))
     (subst (λ n. 16 < n → pointer_at nodes n ≡ (held o.disk found).place 1 0) c.map_blocks.ensures (c.in_ok-nodes.ensures.over s o.disk shown (file g at o))))

@@ -99,7 +99,7 @@ module _ (g : Over) (c : In_ok-put_parts g) (o : OverTree g.B.Blocks c.args.bloc
       let bytes = c.args.inodes.now.numbers.bytes.items in
       let first = c.in_ok-object.object.file in
       let only = rw c.map_bytes-2.ensures.bytes at (c.put_parts.ensures.only o.disk shown) in
-      let few = few_stored w c.in_ok-settled.settled.body s.blocks c.in_ok-settled.settled.size first c.put_parts.new.file (inode_is s o.disk c.in_ok-settled.settled is_sound).body
+      let few = few_stored c.in_ok-settled.settled.layout w c.in_ok-settled.settled.body s.blocks c.in_ok-settled.settled.size first c.put_parts.new.file (inode_is s o.disk c.in_ok-settled.settled is_sound).body
       (omega (arith, c.in_ok-settled.ensures.size, c.requires.sizes.most_inodes)) (c.put_parts.ensures.file.size ∙ c.in_ok-object.ensures.size) c.in_ok-object.ensures.unchanged
       (λ i changed. elim (only i changed) [
         | inl other ↦ inl (counts_one w bytes (nodes.file_block (held o.disk (o.settled 1))) (file_block o.disk first i) i counts

@@ -1,4 +1,4 @@
-use Rattle.std.proofs.Common.{◌≡◌, rules, arith}
+use Rattle.std.proofs.Common.{◌≡◌, refl, rules, arith}
 use Rattle.std.specs.Ordering.{nat_cmp}
 use Rattle.std.specs.BTreeMap as tree
 use Rattle.planning.specs.Numbers.{IsSettledFile}
@@ -31,7 +31,7 @@ returns-in_err-cleared-clause-damaged g c = λ o same bad.
 pub returns-in_default-clause-placed : goal.returns-in_default-clause-placed
 returns-in_default-clause-placed g c = λ o is e has same.
     let at = (goal.at.returns-in_default-clause-placed g c).In_ok-settled in
-    none_placed c.args.inodes.now.geometry o.disk e o.settled c.args.inodes.now c.args.number c.in_ok-settled.settled c.in_ok-cleared.cleared.inode _ _ (now g at o) (c.in_default.ensures.none o.disk o.settled)
+    none_placed c.args.inodes.now.geometry o.disk e o.settled c.args.inodes.now c.args.number c.in_ok-settled.settled c.in_ok-cleared.cleared.inode _ _ refl (now g at o) (c.in_default.ensures.none o.disk o.settled)
     (c.in_ok-cleared.ensures.cleared c.args.inodes.now.geometry o.disk (c.settled_inode.ensures.reads.same o.disk o.shows) (file g at o is) e has
     (agrees_now o.disk e c.in_ok-settled.settled (o.settled c.args.number) (now g at o) same))
 

@@ -11,7 +11,7 @@ use Rattle.std.specs.Prelude.{All}
 pub returns-in_err-placed-clause-damaged : goal.returns-in_err-placed-clause-damaged
 returns-in_err-placed-clause-damaged g c = λ s disk shows file object bad. elim (cases_lt 0 c.args.object.now.file.tree.count) [
   | inl some ↦ c.in_err-placed.ensures.damaged s disk c.args.settled shows (change_over s c.args.draft.now disk c.args.settled c.args.object.now file object (inl some)) (search rules)
-  | inr none ↦ c.in_err-placed.ensures.damaged s disk free_inode shows (change_anew s c.args.draft.now disk c.args.settled c.args.object.now file object (omega arith)) (search rules)
+  | inr none ↦ c.in_err-placed.ensures.damaged s disk (free_inode s.layout) shows (change_anew s c.args.draft.now disk c.args.settled c.args.object.now file object (omega arith)) (search rules)
 ]
 
 pub returns-then-lies_over-clause-placed : goal.returns-then-lies_over-clause-placed
@@ -31,7 +31,7 @@ returns-clause-placed g c = λ s disk shows file object e has same.
     let later = settled_later s c.args.draft.now c.place_file.new.draft disk c.args.settled file c.place_file.ensures.step.parts c.place_file.ensures.step.grows.count in
     let cleared = c.in_ok-cleared.ensures.cleared s disk (c.place_file.ensures.step.reads.same disk shows) later e has same in
     placed_anew s disk e c.args.settled c.in_ok-placed.placed.inode c.in_ok-cleared.cleared.inode _ _ _ _ (λ b is names. file.used b names (c.in_ok-placed.ensures.blocks.given b is).free)
-    ((c.in_ok-placed.ensures.placed s disk free_inode shows (change_anew s c.args.draft.now disk c.args.settled c.args.object.now file object none)).placed e (c.clear.ensures.step.grows.has e has) (λ b names. absurd (none_named disk free_inode refl b names)))
+    ((c.in_ok-placed.ensures.placed s disk (free_inode s.layout) shows (change_anew s c.args.draft.now disk c.args.settled c.args.object.now file object none)).placed e (c.clear.ensures.step.grows.has e has) (λ b names. absurd (none_named disk (free_inode s.layout) refl b names)))
     cleared.placed cleared.none
 
 pub returns-clause-content : goal.returns-clause-content
@@ -40,7 +40,7 @@ returns-clause-content g c = λ s disk shows file object e has same.
       | inl some ↦ absurd (both_ways c.lies_over.result c.if-lies_over.false (c.lies_over.ensures.1 (inl some)))
       | inr least ↦ omega (arith, least)
     ] in
-    (c.in_ok-placed.ensures.placed s disk free_inode shows (change_anew s c.args.draft.now disk c.args.settled c.args.object.now file object none)).content e (c.clear.ensures.step.grows.has e has) (λ b names. absurd (none_named disk free_inode refl b names))
+    (c.in_ok-placed.ensures.placed s disk (free_inode s.layout) shows (change_anew s c.args.draft.now disk c.args.settled c.args.object.now file object none)).content e (c.clear.ensures.step.grows.has e has) (λ b names. absurd (none_named disk (free_inode s.layout) refl b names))
 
 pub returns-in_err-placed-clause-step : goal.returns-in_err-placed-clause-step
 returns-in_err-placed-clause-step g c = both_err c.from_residual.result c.from_residual.ensures.1 c.in_err-placed.ensures.step

@@ -1,5 +1,6 @@
 use Rattle.std.proofs.Common.{arith}
 use Rattle.layout.specs.Root.{IsRoot}
+use Rattle.images.proofs.WithinLaws.{root_plain}
 use Rattle.planning.proofs.ChangeLaws.{no_further}
 use Rattle.planning.proofs.points.next_root.Goals as goal
 
@@ -11,6 +12,7 @@ returns-else-fits-clause-damaged c = λ is root kind inode.
         first = omega (arith, c.get.ensures.value, c.get.ensures.within.0);
         last = omega (arith, c.get.ensures.value, c.get.ensures.within.1);
         sizes = root.head.sizes;
+        layout = root_plain c.args.root.now root;
       };
       kind = kind;
       inode_file = inode;

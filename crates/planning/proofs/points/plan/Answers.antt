@@ -1,9 +1,10 @@
+use Rattle.planning.specs.Plans.{inodes_of}
 use Rattle.std.proofs.Common.{◌≡◌, ℕ, ◌+◌, ◌*◌, ◌<◌, ◌≤◌, List, ap, sym, subst, ◌∙◌, arith, rules}
 use Rattle.std.specs.Prelude.{min}
 use Rattle.layout.specs.Limits.{Sizes}
 use Rattle.layout.specs.Places.{Blocks, blocks_of}
 use Rattle.layout.specs.Root.{IsRoot}
-use Rattle.layout.specs.Version.{level_of}
+use Rattle.layout.specs.Trees.{level_of}
 use Rattle.layout.specs.declared.inode.Inode.{Inode}
 use Rattle.layout.specs.declared.root.Root.{Root}
 use Rattle.model.specs.Records.{count_orphans}
@@ -40,7 +41,8 @@ use Rattle.planning.proofs.ChangeLaws.{entries_of, no_head, none_stored, one_hea
 use Rattle.planning.specs.declared.change.SnapshotChange.{SnapshotChange}
 use Rattle.planning.proofs.BaseLaws.{TreesAreBases, start_base, start_sound}
 use Rattle.planning.proofs.StartLaws.{start_size, top_small}
-use Rattle.planning.proofs.NeedLaws.{fixed_needs, map_moves, moves_count, point_needs}
+use Rattle.images.proofs.WithinLaws.{root_plain}
+use Rattle.planning.proofs.NeedLaws.{all_plain, fixed_needs, map_moves, moves_count, point_needs}
 use Rattle.planning.proofs.PlanLaws.{HoldsMemory, LeavesAll, LeavesRoom, all_is, before_of, by_step, entries_are, inodes_from, over_first, point_is, room_is, start_is, tree_is}
 use Rattle.planning.proofs.RoomLaws.{spent_most}
 use Rattle.planning.proofs.TellLaws.{moves_told}
@@ -59,11 +61,13 @@ module _ (bases : TreesAreBases) (change : SnapshotChange) (d : ℕ → List ℕ
       (moves_told (map_moves base v) r.geometry t inodes.numbers.bytes.items base v (start_sound disk r plannable.sound bases change fits plannable.restored) plannable.holds plannable.memory.mapped (moves_count base v))
 
   -- what a plan takes, for what memory has
-  needed : inodes.geometry ≡ r.geometry → IsRoot r → point_stores (map_moves base v) r inodes m.count + 4 * count_orphans inodes.geometry.inodes v ≤ memory_room base inodes v + level_of r.inode_file.size + map_file_nodes m.count
+  needed : inodes.geometry ≡ r.geometry → IsRoot r → point_stores (map_moves base v) r inodes m.count + 4 * count_orphans inodes.geometry.inodes v ≤ memory_room base inodes v + level_of r.inode_file.layout r.inode_file.size + map_file_nodes m.count
   needed sizes root =
       let least = root.head.sizes.least_inodes in
-      point_needs r inodes base v m.count (subst (λ (s : Sizes). KeepsNodeLimits s.inodes base) (sym sizes) plannable.base_volume.limits)
-      (subst (λ (s : Sizes). KeepsNodeLimits s.inodes v) (sym sizes) plannable.volume.limits) (subst (λ (s : Sizes). 3 < s.inodes) (sym sizes) (omega (arith, least))) (top_small r root)
+      point_needs r inodes base v m.count
+      (all_plain r.geometry.blocks (blocks_of d) (inodes_of (starting_tree change (whole (blocks_of d) r))) inodes v (ap (λ (s : Sizes). s.layout) sizes ∙ root_plain r root) plannable.memory)
+      (root.inode_file.layout ∙ ap (λ (s : Sizes). s.layout) (sym sizes)) (subst (λ (s : Sizes). KeepsNodeLimits s.inodes base) (sym sizes) plannable.base_volume.limits)
+      (subst (λ (s : Sizes). KeepsNodeLimits s.inodes v) (sym sizes) plannable.volume.limits) (subst (λ (s : Sizes). 3 < s.inodes) (sym sizes) (omega (arith, least))) (top_small inodes.geometry.layout r root)
 
 module _ (g : Over) (c : In-Ok g) (d : ℕ → List ℕ) (base v : Volume) (shows : g.B.Blocks.Shows c.args.blocks.now (blocks_of d))
     (plannable : IsPlannable c.args.change.now c.args.root.now d c.args.slot c.args.generation c.args.map c.args.inodes.now base v) where
@@ -135,7 +139,7 @@ module _ (g : Over) (c : In-Ok g) (d : ℕ → List ℕ) (base v : Volume) (show
       spent_most r (whole disk r) old mid n r.geometry.blocks plannable.sound.exact (ap (λ (x : BlockMap). x.next) c.new-draft.ensures.map ∙ fresh)
       count (grows.count ∙ count) (λ b. same b ∙ plannable.entries b) (λ b. grows.settled.settled b ∙ same b ∙ plannable.entries b) takes
 
-  need : point_stores (map_moves base v) r inodes c.args.map.count + 4 * count_orphans inodes.geometry.inodes v ≤ memory_room base inodes v + level_of r.inode_file.size + map_file_nodes c.args.map.count
+  need : point_stores (map_moves base v) r inodes c.args.map.count + 4 * count_orphans inodes.geometry.inodes v ≤ memory_room base inodes v + level_of r.inode_file.layout r.inode_file.size + map_file_nodes c.args.map.count
   need = needed bases change d r c.args.slot c.args.generation c.args.map inodes base v plannable c.requires.fits c.requires.sizes.sizes c.requires.sizes.root_is
 
   counted : CountsBlocks (map_moves base v) inodes.numbers.bytes.items (file_block (held disk (over 1)))
@@ -159,7 +163,7 @@ module _ (g : Over) (c : In-Ok g) (d : ℕ → List ℕ) (base v : Volume) (show
       all_is c.inodes_are_what_their_bytes_spell.ensures.spelled c.inodes_are_what_their_bytes_spell.ensures.past c.disks_that_agree_hold_the_same.ensures.file memory bases d change r c.in-Ok.root c.args.slot c.args.generation c.args.map
       inodes base v draft plannable c.requires.fits c.requires.sizes.root_is c.in-Ok.ensures.step.root c.in-Ok.ensures.step.geometry c.in-Ok.ensures.step.version c.in-Ok.ensures.step.generation c.requires.sizes.sizes planned.all settled planned.heads
       planned.touched (all_law step is can) step (stepped step is) c.snapshots_are_what_their_bytes_spell.ensures can made.slots made.head spent
-      (taken_few draft spent fresh c.plan_root.ensures.step.grows (omega (arith, stores, number, need, most, fixed_needs r.inode_file.size c.args.map.count (top_small r c.requires.sizes.root_is), one_head change)))
+      (taken_few draft spent fresh c.plan_root.ensures.step.grows (omega (arith, stores, number, need, most, fixed_needs r.inode_file.layout r.inode_file.size c.args.map.count (top_small r.inode_file.layout r c.requires.sizes.root_is), one_head change)))
 
   room_here : c.args.map.next ≡ 2 → (step : SnapshotStep) → IsStepOf change r step → SharesNone step → CanStep step r (whole disk r) → (spent : ℕ)
       → memory_room base inodes v ≤ spent + 4 * count_orphans inodes.geometry.inodes v → LeavesFree spent r disk (writes_of draft.blocks.items) c.in-Ok.root
@@ -171,7 +175,7 @@ module _ (g : Over) (c : In-Ok g) (d : ℕ → List ℕ) (base v : Volume) (show
       inodes base v draft plannable c.requires.fits c.requires.sizes.root_is c.in-Ok.ensures.step.root c.in-Ok.ensures.step.geometry c.in-Ok.ensures.step.version c.in-Ok.ensures.step.generation c.requires.sizes.sizes planned.all settled planned.heads
       planned.touched (room_law step is can) step (stepped step is) c.snapshots_are_what_their_bytes_spell.ensures can made.slots made.head (no_head step r c.in-Ok.root none made.slots) spent
       (λ middle grows tells.
-      taken_few middle (spent + level_of r.inode_file.size) fresh (grows_twice old planned.start middle planned.grows grows)
+      taken_few middle (spent + level_of r.inode_file.layout r.inode_file.size) fresh (grows_twice old planned.start middle planned.grows grows)
       (omega (arith, tells (map_moves base v) counted, planned.takes, no_block, need, most, ap (top_nodes inodes) size)))
 
 pub returns-in-Ok-clause-over : goal.returns-in-Ok-clause-over
@@ -205,7 +209,7 @@ returns-in-Err-clause-over g c = λ d base v shows plannable.
       needs = λ bad.
           let short = c.in-Err.ensures.step.lacks over w (told bases change d r c.args.slot c.args.generation m s base v plannable c.requires.fits) (search rules) in
           let few : left m < point_stores w r s m.count + head_nodes change = omega (arith, short, ap left c.new-draft.ensures.map, ap (λ (x : BlockMap). point_stores w r s x.count) c.new-draft.ensures.map) in
-          omega (arith, few, one_head change, fixed_needs r.inode_file.size m.count (top_small r c.requires.sizes.root_is), needed bases change d r c.args.slot c.args.generation m s base v plannable c.requires.fits c.requires.sizes.sizes c.requires.sizes.root_is);
+          omega (arith, few, one_head change, fixed_needs r.inode_file.layout r.inode_file.size m.count (top_small r.inode_file.layout r c.requires.sizes.root_is), needed bases change d r c.args.slot c.args.generation m s base v plannable c.requires.fits c.requires.sizes.sizes c.requires.sizes.root_is);
     }
 
 pub returns-in-Ok-clause-point : goal.returns-in-Ok-clause-point

@@ -43,7 +43,7 @@ top_change g c o start numbers =
 
 -- and how many of its blocks are stored
 top_within : (g : Over) (c : After-plan_changes g) → first_stores c.plan_changes.new.file ≤ top_nodes c.args.inodes.now c.args.root.now.inode_file.size
-top_within g c = top_few c.args.inodes.now c.args.root.now c.args.inode_file c.in_ok-top.top.file c.plan_changes.new.file c.requires.start.root_is c.requires.size c.requires.fits c.in_ok-top.ensures.settled c.in_ok-top.ensures.unchanged
+top_within g c = top_few c.args.inodes.now c.args.root.now c.args.inode_file c.in_ok-top.top.file c.plan_changes.new.file c.requires.start.root_is c.requires.start.sizes c.requires.size c.requires.fits c.in_ok-top.ensures.settled c.in_ok-top.ensures.unchanged
     c.in_ok-top.ensures.size c.plan_changes.ensures.file.size c.plan_changes.ensures.file.settled c.plan_changes.ensures.file.changes
 
 -- the block map's own blocks are as many as before
@@ -97,6 +97,7 @@ returns-clause-planned g c = λ o start.
     let first = c.in_ok-placed.placed.1 in
     let top = c.in_ok-placed.ensures.planned c.args.inodes.now later change kind same_now p fresh numbers.map.way.progress in
     let last = c.in_ok-plan_last.ensures.planned (over_read c.place_top.ensures.step.reads later) (record {
+      plain = start.map.plain;
       sound = start.map.sound;
       same = λ b. next_grows.settled.settled b ∙ same_now b;
       entries = entries_later c.plan_changes.new.draft c.place_top.new.draft o.before.entry (tree_of o) next_grows (entries_later c.args.draft.now c.plan_changes.new.draft o.before.entry (tree_of o) first_grows start.map.entries);

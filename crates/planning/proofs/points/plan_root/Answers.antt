@@ -2,7 +2,6 @@ use Rattle.std.proofs.Common.{ℕ, ap, sym, subst, ◌∙◌, rules, arith}
 use Rattle.layout.specs.Inode.{IsInode}
 use Rattle.layout.specs.Limits.{Sizes}
 use Rattle.layout.specs.declared.inode.Inode.{Inode}
-use Rattle.layout.specs.declared.version.TheConstants.{VERSION}
 use Rattle.blockmap.specs.Maps.{entry_at, settled_at}
 use Rattle.buffers.proofs.ReadLaws.{reads_ok}
 use Rattle.conspoint.specs.Drafts.{Grows}
@@ -56,7 +55,7 @@ returns-in_err-next-clause-damaged g c = λ o start bad.
     let same = λ (b : ℕ). c.plan_files.ensures.step.grows.settled.settled b ∙ now.map.same b in
     c.in_err-next.ensures.damaged (search rules) c.in_ok-slots.ensures.changed.root
     (top_kind writes d o.disk o.before inodes.geometry (tree_of o) (found_in o) inodes c.in_ok-inode_file.inode_file all o.exact same)
-    (subst (λ (z : Sizes). IsInode VERSION z c.in_ok-inode_file.inode_file) (c.requires.start.sizes ∙ sym c.in_ok-slots.ensures.changed.geometry)
+    (subst (λ (z : Sizes). IsInode z c.in_ok-inode_file.inode_file) (c.requires.start.sizes ∙ sym c.in_ok-slots.ensures.changed.geometry)
     (top_fits writes d o.disk o.before inodes.geometry (tree_of o) (found_in o) inodes c.in_ok-inode_file.inode_file all o.exact same))
 
 pub returns-in_err-slots-clause-step : goal.returns-in_err-slots-clause-step

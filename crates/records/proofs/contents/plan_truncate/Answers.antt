@@ -1,8 +1,9 @@
-use Rattle.std.proofs.Common.{rules, ℕ, ◌∙◌, sym, subst}
+use Rattle.std.proofs.Common.{rules, ℕ, ◌∙◌, sym, subst, arith}
 use Rattle.layout.specs.FileBytes.{EndsAt}
 use Rattle.model.specs.Edits.{resized}
 use Rattle.inode.specs.Files.{byte_at, byte_with, bytes_of_file}
 use Rattle.inode.proofs.ComposingLaws.{truncated_ends}
+use Rattle.inode.proofs.FanLemmas.{greatest_least}
 use Rattle.model.proofs.EditLaws.{length-resized}
 use Rattle.records.proofs.BlockLaws.{truncated_tells}
 use Rattle.records.proofs.ContentLaws.{resized_is, resizes_same, rewrites_same}
@@ -29,3 +30,6 @@ returns-in-Ok g c =
       whole = λ disk shows. (told.blocks disk shows).read;
       damaged = search rules;
     }
+
+pub unreachable-requires : goal.unreachable-requires
+unreachable-requires g c = omega (arith, c.in-Err-TooBig.ensures.too_big (search rules), c.requires, greatest_least c.args.file.now.tree.layout)

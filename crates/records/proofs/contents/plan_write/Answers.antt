@@ -2,6 +2,7 @@ use Rattle.std.proofs.Common.{rules, ◌∙◌, arith}
 use Rattle.model.specs.Edits.{written}
 use Rattle.inode.specs.Files.{byte_at, byte_with, bytes_of_file}
 use Rattle.inode.proofs.ComposingLaws.{written_ends}
+use Rattle.inode.proofs.FanLemmas.{greatest_least}
 use Rattle.model.proofs.EditLaws.{length-written}
 use Rattle.records.proofs.BlockLaws.{write_tells}
 use Rattle.records.proofs.ContentLaws.{resizes_same, rewrites_same, written_is}
@@ -28,3 +29,6 @@ returns-in-Ok g c =
       whole = λ disk shows. (told.blocks disk shows).read;
       damaged = search rules;
     }
+
+pub unreachable-requires : goal.unreachable-requires
+unreachable-requires g c = omega (arith, c.in-Err-TooBig.ensures.too_big (search rules), c.requires.within, greatest_least c.args.file.now.tree.layout)

@@ -19,7 +19,7 @@ returns-clause-object c =
     let found = Some (directory_node (new_attributes c.args.mode) (λ name. None)) in
     let made = new_object kinds.Directory c.args.mode c.new-attributes.result c.new-status.result c.empty.result c.new.result found c.new-attributes.ensures c.new-status.ensures in
     let none : c.empty.result.size / 4096 ≡ 0 = ap (λ s. s / 4096) c.empty.ensures.size in
-    λ detail disk inodes settled. made detail disk inodes settled (record {
+    λ detail disk inodes settled same. made detail disk inodes settled (record {
       kind = tt;
       attributes = new_fit c.args.mode (subst (λ (m : ℕ). m ≤ 4095) c.bits.ensures.same c.bits.ensures.fits);
       fits = λ s. (refl, ap (λ (n : ℕ). n % 4096) c.empty.ensures.size);
@@ -39,7 +39,7 @@ returns-clause-object c =
         refl,
       );
       ends = ends_of detail disk c.empty.result (λ p beyond. ap (λ (b : List ℕ). slice_index b (p % 4096)) (c.empty.ensures.blocks disk (p / 4096)) ∙ slice_index-zeros 4096 (p % 4096));
-      base = c.empty.ensures.base settled;
+      base = c.empty.ensures.base settled same;
       known = λ is. c.new.ensures inodes (file_block disk c.empty.result);
     })
 

@@ -2,6 +2,7 @@ use Rattle.std.proofs.Common.{rules, ◌≡◌, ◌+◌, ◌*◌, ◌≤◌, ℕ
 use Rattle.std.specs.Prelude.{nat_lt, if◌then◌else◌}
 use Rattle.std.proofs.lemmas.Bool.Decides.{nat_tests}
 use Rattle.layout.specs.FileBytes.{EndsAt, first_bytes}
+use Rattle.layout.specs.declared.trees.Layout.{Layout}
 use Rattle.model.specs.Attributes.{new_attributes}
 use Rattle.model.specs.Volumes.{link_node}
 use Rattle.model.specs.Room.{touched}
@@ -14,6 +15,7 @@ use Rattle.inode.specs.Room.{file_room}
 use Rattle.inode.proofs.BytePositions.{slice_index-zeros}
 use Rattle.inode.proofs.ComposingLaws.{committed_byte, written_ends}
 use Rattle.inode.proofs.EdgeLaws.{list_of_write}
+use Rattle.inode.proofs.FanLemmas.{greatest_least}
 use Rattle.inode.proofs.RoomLaws.{empty_room, same_room}
 use Rattle.records.proofs.NewLaws.{new_object}
 use Rattle.records.proofs.FileLaws.{written_first}
@@ -25,12 +27,12 @@ use Rattle.records.proofs.DetailLaws.{ends_of, link_in}
 use Rattle.records.proofs.new_objects.new_link.Goals as goal
 
 -- a tree that is based on an inode without pointers has no settled blocks
-no_blocks : (t : BlockTree) → IsBased free_inode t → t.count ≡ 0
-no_blocks t (anew none) = none
-no_blocks t (over pointers body has) = absurd (cc)
+no_blocks : (layout : Layout) (t : BlockTree) → IsBased (free_inode layout) t → t.count ≡ 0
+no_blocks layout t (anew layout_is none) = none
+no_blocks layout t (over pointers body has) = absurd (cc)
 
 pub returns-clause-object : goal.returns-clause-object
-returns-clause-object g c = λ detail disk shows inodes settled.
+returns-clause-object g c = λ detail disk shows inodes settled same.
     let text = c.args.text.now in
     let old = c.empty-file.result in
     let new = c.commit.new.self in
@@ -50,7 +52,7 @@ returns-clause-object g c = λ detail disk shows inodes settled.
       fits = λ s. (refl, refl, omega (arith, many, some), omega (arith, many, short));
       stands = link_in detail inodes (record { kind = kinds.Link; attributes = new_attributes LINK_MODE; links = 1; size = new.size; block = file_block disk new }) text bytes;
       ends = ends_of detail disk new (written_ends (byte_at disk old) (byte_at disk new) old.size new.size 0 text size ends byte);
-      base = c.commit.ensures.base settled (c.prepare_write.ensures.same.base settled (c.empty-file.ensures.base settled));
+      base = c.commit.ensures.base settled (c.prepare_write.ensures.same.base settled (c.empty-file.ensures.base settled same));
       known = λ is. c.new.ensures inodes (file_block disk new);
     })
 
@@ -69,4 +71,7 @@ returns-clause-room g c =
 pub returns-in-Err-Damaged-clause-damaged : goal.returns-in-Err-Damaged-clause-damaged
 returns-in-Err-Damaged-clause-damaged g c = λ disk shows is.
     let t = c.empty-file.result.tree in
-    c.in-Err-Damaged.ensures.damaged disk shows (search rules) (λ i part unchanged lt. absurd (omega (arith, lt, t.fits.1, no_blocks t (c.empty-file.ensures.base free_inode))))
+    c.in-Err-Damaged.ensures.damaged disk shows (search rules) (λ i part unchanged lt. absurd (omega (arith, lt, t.fits.1, no_blocks c.args.layout t (c.empty-file.ensures.base (free_inode c.args.layout) refl))))
+
+pub unreachable-requires : goal.unreachable-requires
+unreachable-requires g c = omega (arith, c.in-Err-TooBig.ensures.too_big (search rules), c.requires.short, greatest_least c.empty-file.result.tree.layout)

@@ -1,4 +1,4 @@
-use Rattle.std.proofs.Common.{Some, ℕ, IfOk, sym, subst, arith}
+use Rattle.std.proofs.Common.{◌≡◌, Some, ℕ, IfOk, sym, subst, arith}
 use Rattle.layout.specs.Record.{made_of}
 use Rattle.layout.specs.declared.inode.Inode.{Inode}
 use Rattle.layout.specs.declared.record.NewObject.{NewObject}
@@ -10,16 +10,16 @@ pub new_link-requires : goal.new_link-requires
 new_link-requires g c = subst (λ (o : NewObject). IsMade (made_of o)) c.in-Link.is c.requires
 
 pub returns-in-Directory-clause-object : goal.returns-in-Directory-clause-object
-returns-in-Directory-clause-object g c = λ detail disk shows inodes settled.
-    subst (λ (o : NewObject). IsObjectIn detail disk inodes settled c.new_directory.result (Some (node_of (made_of o)))) (sym c.in-Directory.is) (c.new_directory.ensures.object detail disk inodes settled)
+returns-in-Directory-clause-object g c = λ detail disk shows inodes settled same.
+    subst (λ (o : NewObject). IsObjectIn detail disk inodes settled c.new_directory.result (Some (node_of (made_of o)))) (sym c.in-Directory.is) (c.new_directory.ensures.object detail disk inodes settled same)
 
 pub returns-in-File-clause-object : goal.returns-in-File-clause-object
-returns-in-File-clause-object g c = λ detail disk shows inodes settled.
-    subst (λ (o : NewObject). IsObjectIn detail disk inodes settled c.new_file.result (Some (node_of (made_of o)))) (sym c.in-File.is) (c.new_file.ensures.object detail disk inodes settled)
+returns-in-File-clause-object g c = λ detail disk shows inodes settled same.
+    subst (λ (o : NewObject). IsObjectIn detail disk inodes settled c.new_file.result (Some (node_of (made_of o)))) (sym c.in-File.is) (c.new_file.ensures.object detail disk inodes settled same)
 
 pub returns-in-Link-clause-object : goal.returns-in-Link-clause-object
 returns-in-Link-clause-object g c = λ detail disk shows.
-    subst (λ (o : NewObject). IfOk c.new_link.result (λ x. (inodes : ℕ) (settled : Inode) → IsObjectIn detail disk inodes settled x (Some (node_of (made_of o))))) (sym c.in-Link.is)
+    subst (λ (o : NewObject). IfOk c.new_link.result (λ x. (inodes : ℕ) (settled : Inode) → settled.layout ≡ c.args.layout → IsObjectIn detail disk inodes settled x (Some (node_of (made_of o))))) (sym c.in-Link.is)
     (c.new_link.ensures.object detail disk shows)
 
 pub returns-in-Directory-clause-room : goal.returns-in-Directory-clause-room

@@ -1,4 +1,4 @@
-use Rattle.std.proofs.Common.{rules, ◌≡◌, ◌≤◌, ◌<◌, ℕ, List, IsTrue, refl, sym, subst, ◌∙◌}
+use Rattle.std.proofs.Common.{rules, ◌≡◌, ◌≤◌, ◌<◌, ℕ, List, IsTrue, refl, sym, ap, subst, ◌∙◌}
 use Rattle.std.proofs.lemmas.Bool.{both_ways}
 use Rattle.std.proofs.lemmas.Result.{IfOk-weaker}
 use Rattle.layout.specs.Limits.{Sizes}
@@ -15,7 +15,7 @@ use Rattle.records.specs.Preparing.{IsKnownVolume}
 use Rattle.records.proofs.DetailLaws.{known_of}
 use Rattle.records.proofs.Deciding.{obstructs, reads_in, stops}
 use Rattle.records.proofs.Failures.{refusal_is}
-use Rattle.records.proofs.StandLaws.{no_look}
+use Rattle.records.proofs.StandLaws.{no_look, settled_layout}
 use Rattle.records.proofs.prepared.prepare_create.Goals as goal
 
 pub returns-then-not-is_made : goal.returns-then-not-is_made
@@ -49,7 +49,9 @@ returns g c =
       ready = new.ready;
       does = λ {detail} disk settled v stands.
           new.does detail disk settled v (made_of c.args.object.now) (before.kept disk settled v stands) (is_free detail disk settled v stands)
-          (λ k. made.object detail disk (vacant.looks.kept disk settled v stands).shows k (settled c.args.number)) made.room;
+          (λ k.
+          let now = vacant.looks.kept disk settled v stands in
+          made.object detail disk now.shows k (settled c.args.number) (settled_layout c.is_vacant.new.blocks c.is_vacant.new.inodes c.args.number now ∙ sym (c.layout-layout.ensures ∙ ap (λ s. s.layout) c.geometry-2.ensures))) made.room;
       applies = λ {detail} disk settled v stands.
           IfOk-weaker c.prepare_new.result _ _ (λ p taken. record { low = low; high = high; vacant = is_free detail disk settled v stands; takes = taken; good = good })
           (new.takes detail disk settled v (before.kept disk settled v stands));

@@ -36,3 +36,10 @@ returns-in-Err-NoMemory-clause-goes_on g c d first o dialog line under_way heard
     let files = c.args.files.now in
     let cut = λ (b : Bool). FnReturnsAt g.C.Fn c.args.was_cut.now files.fs.system.blocks.buffers.station b in
     stopped_here d first o files files (g.O.Write.contents c.args.out.now.inner) (g.O.Write.contents c.args.out.now.inner) c.args.kept.now c.args.kept.now dialog false under_way cut
+
+pub returns-in-Ok-Some-clause-goes_on : goal.returns-in-Ok-Some-clause-goes_on
+returns-in-Ok-Some-clause-goes_on g c d first o dialog line under_way heard =
+    let here = (subst (λ (h : Heard). IsHeardAs line h) c.in-Line.is heard).0 in
+    let of = rw c.in-Ok-Some.field-0-is at c.in-Ok-Some.ensures.command in
+    let read = c.deref.ensures.value ∙ here in
+    c.do_command.ensures.goes_on d first o dialog line under_way (rw read at of)

@@ -10,5 +10,5 @@ abbrev pub invariant-loop-k : goal.invariant-loop-k
 invariant-loop-k g l = record {
   read : HasOnlyRead g.B.Blocks l.initial.blocks l.blocks;
   others : (disk : ℕ → List ℕ) → g.B.Blocks.Shows l.initial.blocks disk → (j : ℕ) (s : Snapshot) → j < l.k
-      → SpellsSnapshot disk (slice_index_or l.root.snapshots j Hole) s → s.name ≢ l.name;
+      → SpellsSnapshot l.root.geometry.layout disk (slice_index_or l.root.snapshots j Hole) s → s.name ≢ l.name;
 }

@@ -41,5 +41,5 @@ returns-in_err-name-clause-damaged g c disk shows v pairs holds damaged =
     let r = c.args.root.now in
     let shown = c.loop-names.invariant.read.same disk shows in
     let least = subst (IsLeastAbove disk r c.loop-names.above SNAPSHOT_SLOTS) c.in-Some.is (c.in_ok-next.ensures.least disk shown) in
-    c.in_err-name.ensures.damaged disk r.geometry r.generation (c.next_above.ensures.reads.same disk shown) (search rules)
+    c.in_err-name.ensures.damaged disk r.generation (c.next_above.ensures.reads.same disk shown) (search rules)
     (next_at disk r c.loop-names.above c.in-Some.next holds.sound.snapshots least)

@@ -11,5 +11,5 @@ returns-in_err-one-clause-damaged g c disk shows v pairs holds damaged =
     let r = c.args.root.now in
     let within : c.loop-k.k < length r.snapshots = omega (arith, c.requires.root.slots, c.loop-k-test.true) in
     let there : slot r (suc c.loop-k.k) ≡ c.index-root-k.result = sym (get_or_read r.snapshots c.loop-k.k c.index-root-k.result within c.index-root-k.is Hole) in
-    c.in_err-one.ensures.damaged disk r.geometry r.generation (c.loop-k.invariant.read.same disk shows) (search rules)
+    c.in_err-one.ensures.damaged disk r.generation (c.loop-k.invariant.read.same disk shows) (search rules)
     (at_slot disk r c.loop-k.k (slice_index_or r.snapshots c.loop-k.k c.index-root-k.result) holds.sound.snapshots (there ∙ c.index-root-k.is))

@@ -7,4 +7,4 @@ abbrev pub invariant-loop-j : goal.invariant-loop-j
 invariant-loop-j l = record { so_far : AreFirst l.self l.first l.count l.from }
 
 abbrev pub decreases-loop-j : goal.decreases-loop-j
-decreases-loop-j l = div_ceil l.count 1024 - l.from
+decreases-loop-j l = div_ceil l.count l.fan - l.from

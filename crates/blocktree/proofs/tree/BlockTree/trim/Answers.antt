@@ -3,7 +3,7 @@ use Rattle.blocktree.proofs.SlotLaws.{trimmed_below, trimmed_block, trimmed_chan
 use Rattle.blocktree.proofs.tree.BlockTree.trim.Goals as goal
 
 pub returns-clause-blocks : goal.returns-clause-blocks
-returns-clause-blocks c = λ disk j. trimmed_block disk _ _ _ _ c.args.count c.args.self.now.slots c.truncate_slots.new.slots c.truncate_slots.ensures c.min-self.ensures j
+returns-clause-blocks c = λ disk j. trimmed_block _ disk _ _ _ _ c.args.count c.args.self.now.slots c.truncate_slots.new.slots c.truncate_slots.ensures c.min-self.ensures j
 
 pub returns-clause-keeps : goal.returns-clause-keeps
 returns-clause-keeps c = λ j lt had. trimmed_room c.args.self.now.slots c.truncate_slots.new.slots c.args.count c.truncate_slots.ensures j lt had

@@ -33,6 +33,7 @@ pub loop-i-preserved : goal.loop-i-preserved
 loop-i-preserved c = record {
   fits = search rules;
   same = search rules;
+  layout = c.set_block.ensures.settled.layout ∙ c.loop-i.invariant.layout;
   base = λ settled based. c.set_block.ensures.base settled (c.loop-i.invariant.base settled based);
   whole = λ disk was j.
       let now = c.loop-i.invariant.whole disk was in

@@ -17,6 +17,7 @@ invariant-loop-i l = record {
   fits : (i : ℕ) → tree.ContainsKey nat_cmp l.changed i → HasRoom l.file.tree i;
   same : (disk : ℕ → List ℕ) (i : ℕ) → unwrap_or (tree.get nat_cmp l.changed i) (file_block disk l.file i)
       ≡ unwrap_or (tree.get nat_cmp l.initial.changed i) (file_block disk l.initial.file i);
+  layout : l.file.tree.layout ≡ l.initial.file.tree.layout;
   base : KeepsBase l.initial.file.tree l.file.tree;
   whole : (disk : ℕ → List ℕ) → AreWhole (file_block disk l.initial.file) → AreWhole (file_block disk l.file);
   sound : KeepsSound l.initial.file.tree l.file.tree;

@@ -16,6 +16,7 @@ returns c = record {
   base = λ settled was. same_base _ _ c.install.ensures.settled settled (same_base _ _ c.trim.ensures.settled settled was);
   sound = λ blocks disk i was. c.install.ensures.sound blocks disk i (c.trim.ensures.sound blocks disk i was);
   settled = record {
+    layout = c.install.ensures.settled.layout ∙ c.trim.ensures.settled.layout;
     pointers = c.install.ensures.settled.pointers ∙ c.trim.ensures.settled.pointers;
     depth = c.install.ensures.settled.depth ∙ c.trim.ensures.settled.depth;
     count = c.install.ensures.settled.count ∙ c.trim.ensures.settled.count;

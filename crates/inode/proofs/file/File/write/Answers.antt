@@ -17,3 +17,6 @@ returns-clause-list g c = λ disk shows whole.
 
 pub returns-clause-base : goal.returns-clause-base
 returns-clause-base g c = λ settled was. c.commit.ensures.base settled (c.in_ok-change.ensures.same.base settled was)
+
+pub returns-clause-sound : goal.returns-clause-sound
+returns-clause-sound g c = λ blocks disk i was. c.commit.ensures.sound blocks disk i (c.in_ok-change.ensures.same.sound blocks disk i was)

@@ -1,8 +1,7 @@
 use Rattle.std.proofs.Common.{◌∙◌, ap, ℕ, ◌≡◌, ◌≤◌, ◌%◌, List}
 use Rattle.layout.specs.Inode.{IsInode, inode_bytes}
-use Rattle.layout.specs.Version.{greatest_size}
+use Rattle.layout.specs.Version.{greatest_under}
 use Rattle.layout.specs.declared.inode.Inode.{Inode}
-use Rattle.layout.specs.declared.version.TheConstants.{VERSION}
 use Rattle.buffers.specs.declared.error.BlockError.TheVariants.{Damaged}
 use Rattle.images.specs.Roots.{inode_part}
 use Rattle.images.specs.Soundness.{Detail}
@@ -25,5 +24,5 @@ returns-clause-read g c = λ detail disk settled shows are.
 
 pub returns-clause-damaged : goal.returns-clause-damaged
 returns-clause-damaged g c = λ detail disk settled shows bad are.
-    of_error c.read_inode.result Damaged ((i : Inode) → IsInode VERSION c.args.self.now.geometry i → i.size ≤ greatest_size c.args.self.now.version → inode_part c.bytes.result.now (c.args.number % 21) ≡ inode_bytes i → ⊥) bad c.read_inode.ensures.damaged
+    of_error c.read_inode.result Damaged ((i : Inode) → IsInode c.args.self.now.geometry i → i.size ≤ greatest_under c.args.self.now.version → inode_part c.bytes.result.now (c.args.number % 21) ≡ inode_bytes i → ⊥) bad c.read_inode.ensures.damaged
     (settled c.args.number) (held_inode c.args.self.now.geometry disk (settled c.args.number) (are.sound c.args.number)) (are.within c.args.number) (spelled g c disk settled shows are)
