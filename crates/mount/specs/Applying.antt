@@ -34,7 +34,8 @@ use Rattle.system.specs.Images.{OpensTo}
 use Rattle.system.specs.Opening.{HasFailed}
 use Rattle.images.specs.Room.{free_under}
 use Rattle.system.specs.Serving.{HasEmptyLog, ServesState}
-use Rattle.dispatch.specs.Serving.{AnswersAtOnce, HasLogged, IsAccepted, IsAtOnce, LacksRoom, TellsNoFault, TellsSettled, TellsStored}
+pub use Rattle.dispatch.specs.Serving.{AnswersAtOnce, IsAtOnce}
+use Rattle.dispatch.specs.Serving.{HasLogged, IsAccepted, LacksRoom, TellsNoFault, TellsSettled, TellsStored}
 use Rattle.system.specs.Systems as systems
 use Rattle.system.specs.Systems.{AreLeft, IsCovered}
 use Rattle.system.specs.declared.error.CallError.{CallError}

@@ -6,6 +6,9 @@ use Rattle.station.specs.declared.station.Station.{Ghosts}
 use Rattle.model.specs.States.{State, Mark, going, failed}
 use Rattle.model.specs.declared.command.Command.{Command}
 use Rattle.model.specs.Runs.{IsWithin}
+pub use Rattle.images.specs.Faults.{HasNoFault}
+pub use Rattle.loading.specs.Slots.{HasNoRoot}
+pub use Rattle.system.specs.declared.mount_error.MountError.{MountError}
 use Rattle.system.specs.Images.{OpensTo}
 use Rattle.system.specs.Serving.{ServesState}
 use Rattle.system.specs.Systems as systems

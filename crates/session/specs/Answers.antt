@@ -10,8 +10,7 @@ use Rattle.model.specs.declared.reply.Reply.TheVariants.{Refused as refused}
 use Rattle.model.specs.States.{State}
 use Rattle.script.specs.Replies.{reply_line}
 use Rattle.station.specs.declared.station.Station.{Ghosts}
-use Rattle.dispatch.specs.Serving.{AnswersAtOnce, IsAtOnce}
-use Rattle.mount.specs.Applying.{AnswersAlways, IsQuiet, RunsAt}
+use Rattle.mount.specs.Applying.{AnswersAlways, AnswersAtOnce, IsAtOnce, IsQuiet, RunsAt}
 use Rattle.mount.specs.Systems.{mounted, Serves, IsYoung, LastsFor}
 use Rattle.mount.specs.declared.fs.Fs.{Fs}
 use Rattle.mount.specs.declared.fs.TheConstants.{POINTS}

@@ -8,12 +8,10 @@ use Rattle.model.specs.States.{State, Forgets}
 use Rattle.station.specs.Images.{Unchanged}
 use Rattle.station.specs.Moments.{Meaning, Goes}
 use Rattle.station.specs.declared.station.Station.{Ghosts}
-use Rattle.images.specs.Faults.{HasNoFault}
-use Rattle.loading.specs.Slots.{HasNoRoot}
 use Rattle.system.specs.Images.{OpensTo}
 use Rattle.system.specs.Opening.{HasFailed, HasNewest}
 use Rattle.system.specs.Systems.{meaning_of, system_parts}
-use Rattle.mount.specs.Systems.{mounted, Serves}
+use Rattle.mount.specs.Systems.{HasNoFault, HasNoRoot, mounted, Serves}
 use Rattle.system.specs.declared.mount_error.MountError.{MountError}
 use Rattle.system.specs.declared.mount_error.MountError.TheVariants as error
 use Rattle.mount.specs.declared.fs.Fs.{Fs}

@@ -1,7 +1,7 @@
 //! What the program ends with where something fails.
 
 ghost use Rattle.std.specs.Prelude.{◌≡◌};
-ghost use Rattle.system.specs.declared.mount_error.MountError.{MountError};
+ghost use Rattle.mount.specs.Systems.{MountError};
 ghost use Rattle.tool.specs.Refusals.{IsSystemFault, IsTransferFault, check_status, line_status, report_status, serving_status};
 
 use checker::{CheckError, Report};
