@@ -29,14 +29,6 @@ pub part_past : (l : Layout) (i j count : ℕ) → i / fan_out l ≡ j → count
 part_past Plain i j count up le = omega (arith, up, le)
 part_past Summed i j count up le = omega (arith, up, le)
 
-pub fan_most : (l : Layout) → fan_out l ≤ 1024
-fan_most Plain = omega arith
-fan_most Summed = omega arith
-
-pub part_small : (l : Layout) (i : ℕ) → i % fan_out l < 1024
-part_small Plain i = omega arith
-part_small Summed i = omega arith
-
 pub from_in : (l : Layout) (from j : ℕ) → from / fan_out l ≤ j → from ≤ fan_out l * j + fan_out l
 from_in Plain from j le = omega (arith, le)
 from_in Summed from j le = omega (arith, le)
@@ -44,11 +36,6 @@ from_in Summed from j le = omega (arith, le)
 pub down_low : (l : Layout) (from i : ℕ) → from ≤ i / fan_out l → fan_out l * from ≤ i
 down_low Plain from i le = omega (arith, le)
 down_low Summed from i le = omega (arith, le)
-
--- the nodes of other groups
-pub before_group : (l : Layout) (i j : ℕ) → i < fan_out l * j → i / fan_out l < j
-before_group Plain i j lt = omega (arith, lt)
-before_group Summed i j lt = omega (arith, lt)
 
 pub behind_group : (l : Layout) (i j : ℕ) → fan_out l * j + fan_out l ≤ i → j < i / fan_out l
 behind_group Plain i j le = omega (arith, le)

@@ -10,8 +10,8 @@ use Rattle.layout.specs.Trees.{fan_out}
 use Rattle.layout.specs.declared.trees.Layout.{Layout}
 use Rattle.layout.specs.declared.pointer.Pointer.{Pointer}
 use Rattle.layout.specs.declared.pointer.Pointer.TheVariants.{Hole}
-use Rattle.layout.proofs.FanLaws.{up_low, up_from, up_below, up_within, up_is, up_back, pointer_back}
-use Rattle.blocktree.proofs.FanLemmas.{together, up_in, part_low, part_high, part_within, part_past, part_small, from_in, down_low}
+use Rattle.layout.proofs.FanLaws.{up_low, up_from, up_below, up_within, up_is, up_back, pointer_back, pointer_low}
+use Rattle.blocktree.proofs.FanLemmas.{together, up_in, part_low, part_high, part_within, part_past, from_in, down_low}
 use Rattle.blocktree.specs.PlaceMaps.{place_at, pointer_in}
 use Rattle.blocktree.specs.declared.place_map.PlaceMap.{PlaceMap}
 
@@ -151,7 +151,7 @@ module _ (all old new : PlaceMap) (count from j : ℕ) (group part : List Pointe
       at_layout new all.layout i (same ∙ so_far.layout) ∙ ap (λ g. pointer_in (get nat_cmp new.groups g) (i % fan_out all.layout)) at
       ∙ ap (λ o. pointer_in o (i % fan_out all.layout)) updates.1 ∙ elim (cases_lt i count) [
         | inl lt ↦
-            below (i % fan_out all.layout) (part_within all.layout i j count at lt) (part_small all.layout i)
+            below (i % fan_out all.layout) (part_within all.layout i j count at lt) (pointer_low all.layout i)
             ∙ sym (in_group all i j group is at) ∙ cond_below i count (place_at all i) Hole lt
         | inr ge ↦ behind (i % fan_out all.layout) (part_past all.layout i j count at ge) ∙ cond_above i count (place_at all i) Hole Hole ge refl
       ]

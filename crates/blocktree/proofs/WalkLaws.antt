@@ -11,8 +11,7 @@ use Rattle.layout.specs.declared.pointer.Pointer.{Pointer}
 use Rattle.layout.specs.declared.pointer.Pointer.TheVariants.{Hole, Block}
 use Rattle.blocktree.specs.PlaceMaps.{place_at}
 use Rattle.blocktree.specs.Places.{follow, place, IsStoredNode, IsPath}
-use Rattle.layout.proofs.FanLaws.{up_from, up_below, up_is, node_is, pointer_within, first_of, group_low}
-use Rattle.blocktree.proofs.FanLemmas.{fan_most}
+use Rattle.layout.proofs.FanLaws.{up_from, up_below, up_is, node_is, pointer_within, first_of, group_low, fan_most}
 use Rattle.blocktree.proofs.PlaceLaws.{node_of_path}
 use Rattle.blocktree.specs.declared.place_map.PlaceMap.{PlaceMap}
 

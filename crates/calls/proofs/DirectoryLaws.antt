@@ -3,6 +3,7 @@ use Rattle.std.proofs.Common.{◌≡◌, ◌↔◌, ℕ, List, [], ◌∷◌, �
 use Rattle.std.proofs.lemmas.Cmp.{nat_list_eq_equiv}
 use Rattle.std.proofs.lemmas.Map.Views.{list_any-from_Contains, Contains-from_any}
 use Rattle.std.proofs.lemmas.Slice.Eq.{bytes_eq-Decides}
+use Rattle.model.specs.declared.limits.Limits.{Limits}
 use Rattle.model.specs.Counting.{Counts}
 use Rattle.model.specs.Outcomes.{IsListing}
 use Rattle.model.specs.Paths.{Name, Path}
@@ -12,7 +13,7 @@ use Rattle.calls.proofs.CountedLists.{counted_list}
 use Rattle.model.proofs.ObjectLaws.{node_object}
 use Rattle.model.proofs.WalkLemmas.{number_at-push}
 
-module _ (inodes : ℕ) (v : Volume) (table : ℕ → Option Description) (volume : IsVolume inodes v) where
+module _ (limits : Limits) (v : Volume) (table : ℕ → Option Description) (volume : IsVolume limits v) where
   -- a name stands in a directory where it leads to an object
   named_object : (d : ℕ) (x : Name) (o : Option ℕ) → entries v d x ≡ o → IsSome (object_at v o) ↔ IsSome o
   named_object d x None is = (λ some. some, λ some. some)
@@ -27,7 +28,7 @@ module _ (inodes : ℕ) (v : Volume) (table : ℕ → Option Description) (volum
         let both = named_object d x (entries v d x) refl in
         (λ some. both.0 (subst (λ (o : Option Object). IsSome o) (child x) some), λ some. subst (λ (o : Option Object). IsSome o) (sym (child x)) (both.1 some))
 
-module _ (inodes : ℕ) (v : Volume) (table : ℕ → Option Description) (volume : IsVolume inodes v) (mounted : IsMounted v table) (tree : IsTree inodes (tree_of v table)) where
+module _ (limits : Limits) (v : Volume) (table : ℕ → Option Description) (volume : IsVolume limits v) (mounted : IsMounted v table) (tree : IsTree limits (tree_of v table)) where
   abbrev t : Tree
   t = tree_of v table
 
@@ -40,8 +41,8 @@ module _ (inodes : ℕ) (v : Volume) (table : ℕ → Option Description) (volum
           record {
             sorted = are.sorted;
             whole = λ x. (
-              λ in_list. (child_some inodes v table volume p d at x).1 ((are.whole x).0 (list_any-from_Contains nat_list_eq_equiv x names in_list)),
-              λ there. Contains-from_any (λ a b. (bytes_eq-Decides a b).0) x names ((are.whole x).1 ((child_some inodes v table volume p d at x).0 there)),
+              λ in_list. (child_some limits v table volume p d at x).1 ((are.whole x).0 (list_any-from_Contains nat_list_eq_equiv x names in_list)),
+              λ there. Contains-from_any (λ a b. (bytes_eq-Decides a b).0) x names ((are.whole x).1 ((child_some limits v table volume p d at x).0 there)),
             );
           },
           are.many,

@@ -5,6 +5,7 @@ use Rattle.std.specs.Prelude.{IsFalse, IsTrue}
 use Rattle.std.specs.List.{AllZip}
 use Rattle.std.proofs.lemmas.Bool.{cond-true, cases_Bool, cond-false, eqb-false, false≢true}
 use Rattle.std.proofs.lemmas.List.Elements.{All-contains, All-head, All-tail}
+use Rattle.model.specs.declared.limits.Limits.{Limits}
 use Rattle.model.specs.Entries.{TellsEntries, TellsEntry, with_part}
 use Rattle.model.specs.Laws.{VolumesTellLinks}
 use Rattle.model.specs.Outcomes.{HasLinks, IsListing, Outcome, answers, refuses, with_names}
@@ -55,10 +56,10 @@ PartsNumber v n after count (Err errno) = IsFalse (is_directory_node (v n)) × (
 pub part_refused : (after : ℤ) (count : ℕ) → (is_negative after || count == 0 || nat_lt ENTRIES_TOLD count) ≡ true → first_refusal (part_tests after count) ≡ Some EINVAL
 part_refused after count is = cond-true (is_negative after || count == 0 || nat_lt ENTRIES_TOLD count) (Some EINVAL) None is
 
-pub part_passed : (text : List ℕ) (after : ℤ) (count : ℕ) → first_refusal (text_tests text) ≡ None → (is_negative after || count == 0 || nat_lt ENTRIES_TOLD count) ≡ false
-    → first_refusal (text_tests_then (part_tests after count) text) ≡ None
-part_passed text after count none within =
-    text_before text (part_tests after count) none ∙ cond-false (is_negative after || count == 0 || nat_lt ENTRIES_TOLD count) (Some EINVAL) None within
+pub part_passed : (limits : Limits) (text : List ℕ) (after : ℤ) (count : ℕ) → first_refusal (text_tests limits text) ≡ None → (is_negative after || count == 0 || nat_lt ENTRIES_TOLD count) ≡ false
+    → first_refusal (text_tests_then limits (part_tests after count) text) ≡ None
+part_passed limits text after count none within =
+    text_before limits text (part_tests after count) none ∙ cond-false (is_negative after || count == 0 || nat_lt ENTRIES_TOLD count) (Some EINVAL) None within
 
 pub some_asked : (after : ℤ) (count : ℕ) → (is_negative after || count == 0 || nat_lt ENTRIES_TOLD count) ≡ false → 1 ≤ count
 some_asked after count within =
@@ -72,9 +73,9 @@ some_asked after count within =
     asked false true z is out = false≢true (sym out)
     asked false false z is out = false≢true is
 
-pub entries_refused : (v : Volume) (table : ℕ → Option Description) (text : List ℕ) (after : ℤ) (count : ℕ) (errno : Errno) → first_refusal (text_tests_then (part_tests after count) text) ≡ Some errno
-    → tells_entries (tree_of v table) text after count (replies.Refused errno) (tree_of v table) nothing
-entries_refused v table text after count errno is = tested_some (tree_of v table) (text_tests_then (part_tests after count) text) _ errno is
+pub entries_refused : (limits : Limits) (v : Volume) (table : ℕ → Option Description) (text : List ℕ) (after : ℤ) (count : ℕ) (errno : Errno) → first_refusal (text_tests_then limits (part_tests after count) text) ≡ Some errno
+    → tells_entries limits (tree_of v table) text after count (replies.Refused errno) (tree_of v table) nothing
+entries_refused limits v table text after count errno is = tested_some (tree_of v table) (text_tests_then limits (part_tests after count) text) _ errno is
 
 -- ---- what is told of an object
 
@@ -91,14 +92,14 @@ some_object None some = absurd (false≢true some)
 some_object (Some x) some = (x, refl)
 
 -- each name that is listed has an object
-pub objects_there : (inodes : ℕ) (v : Volume) → IsVolume inodes v → (n : ℕ) (listed : List NumberedName) → IsNumberedListing (entries v n) listed → (names : List ToldName) → All (IsMarked listed) names
+pub objects_there : (limits : Limits) (v : Volume) → IsVolume limits v → (n : ℕ) (listed : List NumberedName) → IsNumberedListing (entries v n) listed → (names : List ToldName) → All (IsMarked listed) names
     → All (λ name. IsSome (v name.numbered.number)) names
-objects_there inodes v volume n listed listing names marked k d low =
+objects_there limits v volume n listed listing names marked k d low =
     let m = marked k d low in
     let is = All-contains (λ (x : NumberedName). entries v n x.name.items ≡ Some x.number) listed _ listing.numbers m.named in
     volume.graph.naming.used n _ _ is
 
-module _ (inodes : ℕ) (v : Volume) (table : ℕ → Option Description) (volume : IsVolume inodes v) (tell_links : VolumesTellLinks) where
+module _ (limits : Limits) (v : Volume) (table : ℕ → Option Description) (volume : IsVolume limits v) (tell_links : VolumesTellLinks) where
   abbrev t : Tree
   t = tree_of v table
 
@@ -109,14 +110,14 @@ module _ (inodes : ℕ) (v : Volume) (table : ℕ → Option Description) (volum
         let x = name.numbered.name.items in
         let number = All-contains (λ (y : NumberedName). entries v d y.name.items ≡ Some y.number) listed name.numbered listing.numbers marked.named in
         let object = some_object (object_of k (v k)) (node_object k (v k) (ap_some (sym is.told.1))) in
-        let tells = told v table inodes volume tell_links k is.told.0 object.0 is.told.1 object.1 in
+        let tells = told v table limits volume tell_links k is.told.0 object.0 is.told.1 object.1 in
         let same : e.stat ≡ stat_of t object.0 tells.0 = is.told.2 ∙ same_stat (stat_in k is.told.0) (stat_of t object.0 tells.0) tells.2.0 in
         let links : e.stat.links ≡ tells.0 = ap (λ (s : Stat). s.links) same ∙ links_told t object.0 tells.0 in
         record {
           name = is.named;
           cookie = is.marked ∙ marked.cookie;
           object = object.0;
-          there = child inodes v table volume p d at x ∙ ap (object_at v) number ∙ object.1;
+          there = child limits v table volume p d at x ∙ ap (object_at v) number ∙ object.1;
           links = subst (HasLinks t object.0) (sym links) tells.1;
           stat = same ∙ ap (stat_of t object.0) (sym links);
         }
@@ -135,8 +136,8 @@ module _ (inodes : ℕ) (v : Volume) (table : ℕ → Option Description) (volum
     is_listing = record {
       sorted = listing.listing.sorted;
       whole = λ x. (
-        λ in_list. (child_some inodes v table volume p d at x).1 ((listing.listing.whole x).0 in_list),
-        λ stands. (listing.listing.whole x).1 ((child_some inodes v table volume p d at x).0 stands),
+        λ in_list. (child_some limits v table volume p d at x).1 ((listing.listing.whole x).0 in_list),
+        λ stands. (listing.listing.whole x).1 ((child_some limits v table volume p d at x).0 stands),
       );
     }
 
@@ -172,11 +173,11 @@ module _ (inodes : ℕ) (v : Volume) (table : ℕ → Option Description) (volum
     comes p o at r found (Some (link_node attributes link)) is made =
         subst (λ (x : Object). there p x (entries_reply r) t nothing) (some_same made) (in_other r (ap is_directory_node is) found)
 
-    pub entries_answered : (text : List ℕ) (r : Result (List Entry) Errno) → IsLed (text_tests_then (part_tests after count) text) t v true text (Ok n) → PartsNumber v n (nat_abs after) count r
-        → tells_entries t text after count (entries_reply r) t nothing
+    pub entries_answered : (text : List ℕ) (r : Result (List Entry) Errno) → IsLed (text_tests_then limits (part_tests after count) text) t v true text (Ok n) → PartsNumber v n (nat_abs after) count r
+        → tells_entries limits t text after count (entries_reply r) t nothing
     entries_answered text r led found =
-        led_there v table true text there n (entries_reply r) t nothing (λ p o stands. comes p o stands.at r found (v n) refl stands.here) (text_tests_then (part_tests after count) text) led
+        led_there v table true text there n (entries_reply r) t nothing (λ p o stands. comes p o stands.at r found (v n) refl stands.here) (text_tests_then limits (part_tests after count) text) led
 
-    pub entries_nowhere : (text : List ℕ) (errno : Errno) → IsLed (text_tests_then (part_tests after count) text) t v true text (Err errno)
-        → tells_entries t text after count (replies.Refused errno) t nothing
-    entries_nowhere text errno led = led_refused v table true text there (text_tests_then (part_tests after count) text) errno led
+    pub entries_nowhere : (text : List ℕ) (errno : Errno) → IsLed (text_tests_then limits (part_tests after count) text) t v true text (Err errno)
+        → tells_entries limits t text after count (replies.Refused errno) t nothing
+    entries_nowhere text errno led = led_refused v table true text there (text_tests_then limits (part_tests after count) text) errno led

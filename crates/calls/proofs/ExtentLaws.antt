@@ -3,6 +3,7 @@
 use Rattle.std.proofs.Common.{◌≡◌, ◌≢◌, ℕ, ℤ, Bool, nat_abs, List, [], true, false, Option, Some, None, Result, Ok, Err, length, unwrap_or, refl, sym, ap, subst, ◌∙◌}
 use Rattle.std.specs.Prelude.{IsFalse, IsTrue}
 use Rattle.std.proofs.lemmas.Bool.{cond-true, cond-false, false≢true}
+use Rattle.model.specs.declared.limits.Limits.{Limits}
 use Rattle.model.specs.Edits.{contents}
 use Rattle.model.specs.Holes.{TellsExtent}
 use Rattle.model.specs.Outcomes.{Outcome, answers, refuses}
@@ -37,17 +38,17 @@ TellsOrRefuses v stored n offset (Err errno) = IsFalse (is_file_node (v n)) × (
 pub offset_refused : (offset : ℤ) → is_negative offset ≡ true → first_refusal (offset_tests offset) ≡ Some EINVAL
 offset_refused offset is = cond-true (is_negative offset) (Some EINVAL) None is
 
-pub extent_passed : (text : List ℕ) (offset : ℤ) → first_refusal (text_tests text) ≡ None → is_negative offset ≡ false → first_refusal (text_tests_then (offset_tests offset) text) ≡ None
-extent_passed text offset none within = text_before text (offset_tests offset) none ∙ cond-false (is_negative offset) (Some EINVAL) None within
+pub extent_passed : (limits : Limits) (text : List ℕ) (offset : ℤ) → first_refusal (text_tests limits text) ≡ None → is_negative offset ≡ false → first_refusal (text_tests_then limits (offset_tests offset) text) ≡ None
+extent_passed limits text offset none within = text_before limits text (offset_tests offset) none ∙ cond-false (is_negative offset) (Some EINVAL) None within
 
-module _ (stored : ℕ → ℕ → Bool) (v : Volume) (table : ℕ → Option Description) (text : List ℕ) (offset : ℤ) where
+module _ (limits : Limits) (stored : ℕ → ℕ → Bool) (v : Volume) (table : ℕ → Option Description) (text : List ℕ) (offset : ℤ) where
   abbrev t : Tree
   t = tree_of v table
 
   abbrev tests : Tests
-  tests = text_tests_then (offset_tests offset) text
+  tests = text_tests_then limits (offset_tests offset) text
 
-  pub extent_refused : (errno : Errno) → first_refusal tests ≡ Some errno → tells_extent t stored text offset (Refused errno) t nothing
+  pub extent_refused : (errno : Errno) → first_refusal tests ≡ Some errno → tells_extent limits t stored text offset (Refused errno) t nothing
   extent_refused errno is = tested_some t tests _ errno is
 
   -- ---- where a path leads
@@ -71,9 +72,9 @@ module _ (stored : ℕ → ℕ → Bool) (v : Volume) (table : ℕ → Option De
   at_object n (Some (link_node attributes link)) is plain p x object r told = absurd (plain refl)
 
   pub extent_led : (n : ℕ) (r : Result Extent Errno) → IsLed tests t v true text (Ok n) → found_in (v n) ≢ found.Link → TellsOrRefuses v (stored n) n (nat_abs offset) r
-      → tells_extent t stored text offset (extent_reply r) t nothing
+      → tells_extent limits t stored text offset (extent_reply r) t nothing
   extent_led n r led plain told =
       led_there v table true text there n (extent_reply r) t nothing (λ p x stands. at_object n (v n) refl plain p x stands.here r told) tests led
 
-  pub extent_led_nowhere : (errno : Errno) → IsLed tests t v true text (Err errno) → tells_extent t stored text offset (Refused errno) t nothing
+  pub extent_led_nowhere : (errno : Errno) → IsLed tests t v true text (Err errno) → tells_extent limits t stored text offset (Refused errno) t nothing
   extent_led_nowhere errno led = led_refused v table true text there tests errno led

@@ -2,6 +2,7 @@
 use Rattle.std.proofs.Common.{◌≡◌, ◌≢◌, ℕ, ℤ, nat_abs, ◌||◌, List, [], true, false, Option, Some, None, Result, Ok, Err, unwrap_or, refl, sym, ap, subst, ◌∙◌}
 use Rattle.std.specs.Prelude.{IsFalse, IsTrue}
 use Rattle.std.proofs.lemmas.Bool.{cond-true, cond-false, false≢true}
+use Rattle.model.specs.declared.limits.Limits.{Limits}
 use Rattle.model.specs.Edits.{read_at}
 use Rattle.model.specs.Outcomes.{Outcome, answers, refuses}
 use Rattle.model.specs.Paths.{Path, Tests, first_refusal, text_tests, text_tests_then}
@@ -31,11 +32,11 @@ GetsNumber v n offset count (Err errno) = IsFalse (is_file_node (v n)) × (errno
 
 -- ---- a refusal of what is asked
 
-pub text_first : (text : List ℕ) (more : Tests) (e : Errno) → first_refusal (text_tests text) ≡ Some e → first_refusal (text_tests_then more text) ≡ Some e
-text_first text more e is = first_in_front (text_tests text) more e is
+pub text_first : (limits : Limits) (text : List ℕ) (more : Tests) (e : Errno) → first_refusal (text_tests limits text) ≡ Some e → first_refusal (text_tests_then limits more text) ≡ Some e
+text_first limits text more e is = first_in_front (text_tests limits text) more e is
 
-pub text_before : (text : List ℕ) (more : Tests) → first_refusal (text_tests text) ≡ None → first_refusal (text_tests_then more text) ≡ first_refusal more
-text_before text more is = first_append (text_tests text) more is
+pub text_before : (limits : Limits) (text : List ℕ) (more : Tests) → first_refusal (text_tests limits text) ≡ None → first_refusal (text_tests_then limits more text) ≡ first_refusal more
+text_before limits text more is = first_append (text_tests limits text) more is
 
 pub range_refused : (offset : ℤ) (count : ℕ) → (is_negative offset || is_too_many count) ≡ true → first_refusal (range_tests offset count) ≡ Some EINVAL
 range_refused offset count is = cond-true (is_negative offset || is_too_many count) (Some EINVAL) None is
@@ -43,22 +44,22 @@ range_refused offset count is = cond-true (is_negative offset || is_too_many cou
 pub range_passed : (offset : ℤ) (count : ℕ) → (is_negative offset || is_too_many count) ≡ false → first_refusal (range_tests offset count) ≡ None
 range_passed offset count is = cond-false (is_negative offset || is_too_many count) (Some EINVAL) None is
 
-pub get_passed : (text : List ℕ) (offset : ℤ) (count : ℕ) → first_refusal (text_tests text) ≡ None → (is_negative offset || is_too_many count) ≡ false
-    → first_refusal (text_tests_then (range_tests offset count) text) ≡ None
-get_passed text offset count none within = text_before text (range_tests offset count) none ∙ range_passed offset count within
+pub get_passed : (limits : Limits) (text : List ℕ) (offset : ℤ) (count : ℕ) → first_refusal (text_tests limits text) ≡ None → (is_negative offset || is_too_many count) ≡ false
+    → first_refusal (text_tests_then limits (range_tests offset count) text) ≡ None
+get_passed limits text offset count none within = text_before limits text (range_tests offset count) none ∙ range_passed offset count within
 
-pub get_refused : (v : Volume) (table : ℕ → Option Description) (text : List ℕ) (offset : ℤ) (count : ℕ) (errno : Errno) → first_refusal (text_tests_then (range_tests offset count) text) ≡ Some errno
-    → gets (tree_of v table) text offset count (Refused errno) (tree_of v table) nothing
-get_refused v table text offset count errno is = tested_some (tree_of v table) (text_tests_then (range_tests offset count) text) _ errno is
+pub get_refused : (limits : Limits) (v : Volume) (table : ℕ → Option Description) (text : List ℕ) (offset : ℤ) (count : ℕ) (errno : Errno) → first_refusal (text_tests_then limits (range_tests offset count) text) ≡ Some errno
+    → gets limits (tree_of v table) text offset count (Refused errno) (tree_of v table) nothing
+get_refused limits v table text offset count errno is = tested_some (tree_of v table) (text_tests_then limits (range_tests offset count) text) _ errno is
 
 -- ---- where a path leads
 
-module _ (v : Volume) (table : ℕ → Option Description) (text : List ℕ) (offset : ℤ) (count : ℕ) where
+module _ (limits : Limits) (v : Volume) (table : ℕ → Option Description) (text : List ℕ) (offset : ℤ) (count : ℕ) where
   abbrev t : Tree
   t = tree_of v table
 
   abbrev tests : Tests
-  tests = text_tests_then (range_tests offset count) text
+  tests = text_tests_then limits (range_tests offset count) text
 
   abbrev there : Path → Object → Outcome
   there p o = elim o as (λ _. Outcome) [
@@ -79,9 +80,9 @@ module _ (v : Volume) (table : ℕ → Option Description) (text : List ℕ) (of
   at_object n (Some (link_node attributes link)) is plain p x object r got = absurd (plain refl)
 
   pub get_led : (n : ℕ) (r : Result (List ℕ) Errno) → IsLed tests t v true text (Ok n) → found_in (v n) ≢ found.Link → GetsNumber v n (nat_abs offset) count r
-      → gets t text offset count (data_reply r) t nothing
+      → gets limits t text offset count (data_reply r) t nothing
   get_led n r led plain got =
       led_there v table true text there n (data_reply r) t nothing (λ p x stands. at_object n (v n) refl plain p x stands.here r got) tests led
 
-  pub get_led_nowhere : (errno : Errno) → IsLed tests t v true text (Err errno) → gets t text offset count (Refused errno) t nothing
+  pub get_led_nowhere : (errno : Errno) → IsLed tests t v true text (Err errno) → gets limits t text offset count (Refused errno) t nothing
   get_led_nowhere errno led = led_refused v table true text there tests errno led

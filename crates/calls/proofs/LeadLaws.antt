@@ -2,6 +2,7 @@
 use Rattle.std.proofs.Common.{◌≡◌, ◌≢◌, inl, inr, ℕ, Bool, true, false, List, [], ◌∷◌, ◌++◌, length, Option, Some, None, IsSome, Result, Ok, Err, refl, sym, ap, subst, ◌∙◌, arith}
 use Rattle.std.proofs.lemmas.Bool.{false≢true}
 use Rattle.std.proofs.lemmas.List.{take_all}
+use Rattle.model.specs.declared.limits.Limits.{Limits}
 use Rattle.model.specs.Finding.{IsPlaceAt, Trails, at_directory, at_entry, at_missing, at_refusal, here}
 use Rattle.model.specs.Outcomes.{Outcome, either, goes_along, goes_to, leads, leads_from, leads_to, refuses, tested, with_number}
 use Rattle.model.specs.Paths.{Name, Path, Tests, first_refusal, is_empty, parts_behind, start_number}
@@ -36,7 +37,7 @@ trail_end v p trail trails =
 pub entry_from : (v : Volume) (p : Path) (d : ℕ) (x : Name) (to : Option ℕ) → number_at (entries v) p ≡ Some d → entries v d x ≡ to → number_at (entries v) (p ++ x ∷ []) ≡ to
 entry_from v p d x to at is = number_at-push (entries v) p x ∙ ap (λ (o : Option ℕ). enter (entries v) o x) at ∙ is
 
-module _ (inodes : ℕ) (v : Volume) (volume : IsVolume inodes v) where
+module _ (limits : Limits) (v : Volume) (volume : IsVolume limits v) where
   -- what a path leads to is there
   pub some_at : (p : Path) (n : ℕ) → number_at (entries v) p ≡ Some n → IsSome (v n)
   some_at p n at =

@@ -1,5 +1,6 @@
 pub mod CountedLists
 pub mod TestedLaws
+pub mod LimitLaws
 pub mod DirectoryLaws
 pub mod MakeLaws
 pub mod ListLaws

@@ -3,6 +3,7 @@ use Rattle.std.proofs.Common.{◌≡◌, ◌≢◌, inl, inr, ℕ, ◌+◌, ◌<
 use Rattle.std.specs.Prelude.{nat_le}
 use Rattle.std.proofs.Math.Path.{fun_ext}
 use Rattle.std.proofs.lemmas.Bool.{cases_eq, false≢true, lt-leb, le-leb}
+use Rattle.model.specs.declared.limits.Limits.{Limits}
 use Rattle.model.specs.declared.attributes.Attributes.{Attributes}
 use Rattle.model.specs.Changes.{ChangesTree}
 use Rattle.model.specs.Changing.{links, links_object}
@@ -19,7 +20,7 @@ use Rattle.model.specs.Trees as trees
 use Rattle.model.specs.Volumes.{Node, directory_node, file_node, link_node, Volume, object_at, object_of, is_directory_node, is_file_node, is_open, set_name, swept, swept_node, tree_of, with_name_more, with_node, IsMounted, IsVolume}
 use Rattle.model.specs.declared.errno.Errno.{Errno}
 use Rattle.model.specs.declared.errno.Errno.TheVariants.{DIRFULL, EEXIST, EMLINK, ENAMETOOLONG, EPERM}
-use Rattle.model.specs.declared.limits.TheConstants.{FILE_NAMES, OPEN_FILES}
+use Rattle.model.specs.declared.limits.TheConstants.{OPEN_FILES}
 use Rattle.model.specs.declared.reply.Reply.{Reply}
 use Rattle.model.specs.declared.reply.Reply.TheVariants.{Done, Refused}
 use Rattle.model.proofs.LooseLemmas.{some_same}
@@ -38,9 +39,9 @@ use Rattle.model.proofs.ObjectLaws.{node_here, node_object, node_other}
 use Rattle.model.proofs.OptionLaws.{none_some, some_none}
 
 -- texts that don't pass their tests
-pub link_tests_refused : (v : Volume) (table : ℕ → Option Description) (old path : List ℕ) (errno : Errno) → first_refusal (text_tests old ++ new_text_tests path) ≡ Some errno
-    → links (tree_of v table) old path (Refused errno) (tree_of v table) nothing
-link_tests_refused v table old path errno is = tested_some (tree_of v table) (text_tests old ++ new_text_tests path) _ errno is
+pub link_tests_refused : (limits : Limits) (v : Volume) (table : ℕ → Option Description) (old path : List ℕ) (errno : Errno) → first_refusal (text_tests limits old ++ new_text_tests limits path) ≡ Some errno
+    → links limits (tree_of v table) old path (Refused errno) (tree_of v table) nothing
+link_tests_refused limits v table old path errno is = tested_some (tree_of v table) (text_tests limits old ++ new_text_tests limits path) _ errno is
 
 -- a file that has names isn't swept
 file_stays : (open_now : Bool) (attributes : Attributes) (links : ℕ) (bytes : List ℕ) → swept_node open_now (Some (file_node attributes (links + 1) bytes)) ≡ Some (file_node attributes (links + 1) bytes)
@@ -73,56 +74,56 @@ file_found (Some (link_node attributes text)) is = other is
     other : {X : Type 0} → found.Link ≡ found.File → X
     other e = cc
 
-module _ (inodes : ℕ) (v : Volume) (table : ℕ → Option Description) (volume : IsVolume inodes v) (mounted : IsMounted v table) (tree : IsTree inodes (tree_of v table)) where
+module _ (limits : Limits) (v : Volume) (table : ℕ → Option Description) (volume : IsVolume limits v) (mounted : IsMounted v table) (tree : IsTree limits (tree_of v table)) where
   abbrev t : Tree
   t = tree_of v table
 
-  module _ (old path : List ℕ) (passed : first_refusal (text_tests old ++ new_text_tests path) ≡ None) where
+  module _ (old path : List ℕ) (passed : first_refusal (text_tests limits old ++ new_text_tests limits path) ≡ None) where
     abbrev gone : ℕ → Path → Name → Outcome
     gone n q x =
         with_links t (trees.file n)
-        (λ count. tested t ((nat_le FILE_NAMES count, EMLINK) ∷ []) (with_place t q (changes Done (with_object (q ++ x ∷ []) (trees.file n) t) (logs adds_name))))
+        (λ count. tested t ((nat_le limits.file_names count, EMLINK) ∷ []) (with_place limits t q (changes Done (with_object (q ++ x ∷ []) (trees.file n) t) (logs adds_name))))
 
     abbrev exists : Path → Object → Outcome
     exists q r = refuses t EEXIST
 
     abbrev there : Path → Object → Outcome
-    there p o = links_object t o path
+    there p o = links_object limits t o path
 
-    led : (reply : Reply) (new : Tree) (need : Need) → goes_to t false old there reply new need → links t old path reply new need
-    led reply new need done = tested_none t (text_tests old ++ new_text_tests path) (goes_to t false old there) reply new need passed done
+    led : (reply : Reply) (new : Tree) (need : Need) → goes_to t false old there reply new need → links limits t old path reply new need
+    led reply new need done = tested_none t (text_tests limits old ++ new_text_tests limits path) (goes_to t false old there) reply new need passed done
 
-    pub link_nowhere : (errno : Errno) → LeadsAlong t v false old (Err errno) → links t old path (Refused errno) t nothing
+    pub link_nowhere : (errno : Errno) → LeadsAlong t v false old (Err errno) → links limits t old path (Refused errno) t nothing
     link_nowhere errno is = led (Refused errno) t nothing (along_refused v table false old there errno is)
 
-    no_file : (n : ℕ) (o : Option Node) (y : Object) → is_file_node o ≡ false → object_of n o ≡ Some y → links_object t y path (Refused EPERM) t nothing
+    no_file : (n : ℕ) (o : Option Node) (y : Object) → is_file_node o ≡ false → object_of n o ≡ Some y → links_object limits t y path (Refused EPERM) t nothing
     no_file n None y other object = none_some object
-    no_file n (Some (directory_node attributes names)) y other object = subst (λ (z : Object). links_object t z path (Refused EPERM) t nothing) (some_same object) (refl, refl, refl)
+    no_file n (Some (directory_node attributes names)) y other object = subst (λ (z : Object). links_object limits t z path (Refused EPERM) t nothing) (some_same object) (refl, refl, refl)
     no_file n (Some (file_node attributes count bytes)) y other object = absurd (false≢true (sym other))
-    no_file n (Some (link_node attributes text)) y other object = subst (λ (z : Object). links_object t z path (Refused EPERM) t nothing) (some_same object) (refl, refl, refl)
+    no_file n (Some (link_node attributes text)) y other object = subst (λ (z : Object). links_object limits t z path (Refused EPERM) t nothing) (some_same object) (refl, refl, refl)
 
-    pub link_no_file : (n : ℕ) → LeadsAlong t v false old (Ok n) → is_file_node (v n) ≡ false → links t old path (Refused EPERM) t nothing
+    pub link_no_file : (n : ℕ) → LeadsAlong t v false old (Ok n) → is_file_node (v n) ≡ false → links limits t old path (Refused EPERM) t nothing
     link_no_file n leads other =
         led (Refused EPERM) t nothing (along_there v table false old there n (Refused EPERM) t nothing (λ p y is. no_file n (v n) y other is.here) leads)
 
     -- the file is found, and where the new path leads
     module _ (n : ℕ) (attributes : Attributes) (count : ℕ) (bytes : List ℕ) (is : v n ≡ Some (file_node attributes count bytes)) (leads_from : LeadsAlong t v false old (Ok n))
         (target : Resolution) (reaches : Reaches t false path target) where
-      at_target : (reply : Reply) (new : Tree) (need : Need) → leads t target exists (gone n) reply new need → links t old path reply new need
+      at_target : (reply : Reply) (new : Tree) (need : Need) → leads t target exists (gone n) reply new need → links limits t old path reply new need
       at_target reply new need done =
           led reply new need
           (along_there v table false old there n reply new need (λ p y here.
-          subst (λ (z : Object). links_object t z path reply new need) (object_file n (v n) y attributes count bytes is here.here)
+          subst (λ (z : Object). links_object limits t z path reply new need) (object_file n (v n) y attributes count bytes is here.here)
           (along_reached t false path exists (gone n) reply new need target reaches done)) leads_from)
 
-      pub link_target_refused : (errno : Errno) → IsPlaceAt v (at_refusal errno) target → links t old path (Refused errno) t nothing
+      pub link_target_refused : (errno : Errno) → IsPlaceAt v (at_refusal errno) target → links limits t old path (Refused errno) t nothing
       link_target_refused errno place = at_target (Refused errno) t nothing (refused_at v table exists (gone n) errno target place)
 
-      pub link_exists : (m : ℕ) → LeadsTo v target (Ok m) → links t old path (Refused EEXIST) t nothing
+      pub link_exists : (m : ℕ) → LeadsTo v target (Ok m) → links limits t old path (Refused EEXIST) t nothing
       link_exists m leads_target = at_target (Refused EEXIST) t nothing (there_at v table exists (gone n) m (Refused EEXIST) t nothing (λ q r there. (refl, refl, refl)) target leads_target)
 
-      module _ (law : RecordsChangeTrees) (tell : VolumesTellLinks) (d : ℕ) (x : Name) (gap : FindsGap inodes v table volume mounted tree target d x) where
-        in_gap : (reply : Reply) (new : Tree) (need : Need) → gone n gap.path x reply new need → links t old path reply new need
+      module _ (law : RecordsChangeTrees) (tell : VolumesTellLinks) (d : ℕ) (x : Name) (gap : FindsGap limits v table volume mounted tree target d x) where
+        in_gap : (reply : Reply) (new : Tree) (need : Need) → gone n gap.path x reply new need → links limits t old path reply new need
         in_gap reply new need done =
             at_target reply new need (subst (λ (r : Resolution). leads t r exists (gone n) reply new need) (sym gap.is) done)
 
@@ -170,11 +171,11 @@ module _ (inodes : ℕ) (v : Volume) (table : ℕ → Option Description) (volum
           still_mounted : IsMounted new table
           gives : tree_of new table ≡ made
 
-        gives : Applies inodes v change → Gives
+        gives : Applies limits v change → Gives
         gives applies =
-            let told = subst (λ (w : Volume). IsMounted w table × ChangesTree change t (tree_of w table)) unswept (law inodes v table change volume mounted applies tt) in
+            let told = subst (λ (w : Volume). IsMounted w table × ChangesTree change t (tree_of w table)) unswept (law limits v table change volume mounted applies tt) in
             let same : told.1.0 ≡ gap.path =
-            elim (tree.single told.1.0 gap.path (trees.directory d) (trees.directory d) told.1.1 (gap_parent inodes v table volume mounted tree d x target gap) refl)
+            elim (tree.single told.1.0 gap.path (trees.directory d) (trees.directory d) told.1.1 (gap_parent limits v table volume mounted tree d x target gap) refl)
             [ inl e ↦ e | inr other ↦ is_no_file other.0 ] in
             record {
               still_mounted = told.0;
@@ -185,36 +186,36 @@ module _ (inodes : ℕ) (v : Volume) (table : ℕ → Option Description) (volum
             is_no_file e = cc
 
         -- a file with room for a name more
-        few_names : (k : ℕ) → k < FILE_NAMES → (rest : Outcome) (reply : Reply) (after : Tree) (need : Need) → rest reply after need
-            → tested t ((nat_le FILE_NAMES k, EMLINK) ∷ []) rest reply after need
+        few_names : (k : ℕ) → k < limits.file_names → (rest : Outcome) (reply : Reply) (after : Tree) (need : Need) → rest reply after need
+            → tested t ((nat_le limits.file_names k, EMLINK) ∷ []) rest reply after need
         few_names k few rest reply after need done =
-            subst (λ (b : Bool). tested t ((b, EMLINK) ∷ []) rest reply after need) (sym (lt-leb FILE_NAMES k few)) done
+            subst (λ (b : Bool). tested t ((b, EMLINK) ∷ []) rest reply after need) (sym (lt-leb limits.file_names k few)) done
 
-        pub link_comes : (c : Result Changing Errno) → Decides inodes v (link n d x) c → Comes (links t old path) inodes v table c
+        pub link_comes : (c : Result Changing Errno) → Decides limits v (link n d x) c → Comes (links limits t old path) limits v table c
         link_comes (Ok c) (says, applies) =
             let after = tree_of new table in
             let here = gives applies in
-            subst (ComesBy (links t old path) inodes v table) (sym says) (
+            subst (ComesBy (links limits t old path) limits v table) (sym says) (
               applies,
               here.still_mounted,
               in_gap Done after (logs adds_name) (
                 applies.links,
-                tell inodes v table n applies.attributes applies.links applies.bytes volume applies.file,
+                tell limits v table n applies.attributes applies.links applies.bytes volume applies.file,
                 few_names applies.links applies.few _ Done after (logs adds_name)
-                    (place_free inodes v table volume mounted tree d x target gap applies.takes (changes Done made (logs adds_name)) Done after (logs adds_name) (refl, here.gives, refl)),
+                    (place_free limits v table volume mounted tree d x target gap applies.takes (changes Done made (logs adds_name)) Done after (logs adds_name) (refl, here.gives, refl)),
               ),
             )
         link_comes (Err ENAMETOOLONG) bad = absurd (bad gap.good)
         link_comes (Err EPERM) other = absurd (false≢true (sym other ∙ ap is_file_node is))
         link_comes (Err EMLINK) (k, file, many) = in_gap (Refused EMLINK) t nothing (
           k,
-          tell inodes v table n file.0 k file.1 volume file.2,
-          subst (λ (b : Bool). tested t ((b, EMLINK) ∷ []) (with_place t gap.path (changes Done made (logs adds_name))) (Refused EMLINK) t nothing)
-              (sym (le-leb FILE_NAMES k many)) (refl, refl, refl),
+          tell limits v table n file.0 k file.1 volume file.2,
+          subst (λ (b : Bool). tested t ((b, EMLINK) ∷ []) (with_place limits t gap.path (changes Done made (logs adds_name))) (Refused EMLINK) t nothing)
+              (sym (le-leb limits.file_names k many)) (refl, refl, refl),
         )
         link_comes (Err DIRFULL) (k, file, few, not) = in_gap (Refused DIRFULL) t nothing (
           k,
-          tell inodes v table n file.0 k file.1 volume file.2,
-          few_names k few _ (Refused DIRFULL) t nothing (place_full inodes v table volume mounted tree d x target gap (changes Done made (logs adds_name)) not),
+          tell limits v table n file.0 k file.1 volume file.2,
+          few_names k few _ (Refused DIRFULL) t nothing (place_full limits v table volume mounted tree d x target gap (changes Done made (logs adds_name)) not),
         )
         link_comes (Err _) told = absurd told

@@ -2,6 +2,7 @@
 use Rattle.std.proofs.Common.{◌≡◌, ℕ, List, true, Option, Some, None, Result, Ok, Err, refl, sym, ap, subst, ◌∙◌}
 use Rattle.std.specs.Prelude.{IsFalse, IsTrue}
 use Rattle.std.proofs.lemmas.Bool.{false≢true}
+use Rattle.model.specs.declared.limits.Limits.{Limits}
 use Rattle.model.specs.Outcomes.{Outcome, answers, refuses, with_names}
 use Rattle.model.specs.Paths.{Name, Path, text_tests}
 use Rattle.model.specs.Reading.{lists}
@@ -25,7 +26,7 @@ abbrev pub ListsNumber : Volume → ℕ → Result (List Name) Errno → Type 0
 ListsNumber v n (Ok names) = IsTrue (is_directory_node (v n)) × IsListingOfNames (entries v n) names
 ListsNumber v n (Err errno) = IsFalse (is_directory_node (v n)) × (errno ≡ ENOTDIR)
 
-module _ (inodes : ℕ) (v : Volume) (table : ℕ → Option Description) (volume : IsVolume inodes v) where
+module _ (limits : Limits) (v : Volume) (table : ℕ → Option Description) (volume : IsVolume limits v) where
   abbrev t : Tree
   t = tree_of v table
 
@@ -44,8 +45,8 @@ module _ (inodes : ℕ) (v : Volume) (table : ℕ → Option Description) (volum
       record {
         sorted = told.1.sorted;
         whole = λ x. (
-          λ in_list. (child_some inodes v table volume p n at x).1 ((told.1.whole x).0 in_list),
-          λ stands. (told.1.whole x).1 ((child_some inodes v table volume p n at x).0 stands),
+          λ in_list. (child_some limits v table volume p n at x).1 ((told.1.whole x).0 in_list),
+          λ stands. (told.1.whole x).1 ((child_some limits v table volume p n at x).0 stands),
         );
       },
       (refl, refl, refl),
@@ -66,11 +67,11 @@ module _ (inodes : ℕ) (v : Volume) (table : ℕ → Option Description) (volum
     comes p o at r told (Some (link_node attributes link)) is made =
         subst (λ (x : Object). there p x (names_reply r) t nothing) (some_same made) (in_other r (ap is_directory_node is) told)
 
-    pub list_answers : (text : List ℕ) (r : Result (List Name) Errno) → IsLed (text_tests text) t v true text (Ok n) → ListsNumber v n r
-        → lists t text (names_reply r) t nothing
+    pub list_answers : (text : List ℕ) (r : Result (List Name) Errno) → IsLed (text_tests limits text) t v true text (Ok n) → ListsNumber v n r
+        → lists limits t text (names_reply r) t nothing
     list_answers text r led told =
-        led_there v table true text there n (names_reply r) t nothing (λ p o stands. comes p o stands.at r told (v n) refl stands.here) (text_tests text) led
+        led_there v table true text there n (names_reply r) t nothing (λ p o stands. comes p o stands.at r told (v n) refl stands.here) (text_tests limits text) led
 
-  pub list_refused : (text : List ℕ) (errno : Errno) → IsLed (text_tests text) t v true text (Err errno)
-      → lists t text (Refused errno) t nothing
-  list_refused text errno led = led_refused v table true text there (text_tests text) errno led
+  pub list_refused : (text : List ℕ) (errno : Errno) → IsLed (text_tests limits text) t v true text (Err errno)
+      → lists limits t text (Refused errno) t nothing
+  list_refused text errno led = led_refused v table true text there (text_tests limits text) errno led

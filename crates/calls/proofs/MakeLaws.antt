@@ -2,6 +2,7 @@
 use Rattle.std.proofs.Common.{◌≡◌, inl, inr, ℕ, ◌≤◌, ◌<◌, Bool, List, [], ◌∷◌, ◌++◌, true, false, Option, Some, None, IsSome, is_some, Result, Ok, Err, refl, sym, ap, subst, ◌∙◌}
 use Rattle.std.proofs.Math.Path.{fun_ext}
 use Rattle.std.proofs.lemmas.Bool.{cases_eq, false≢true}
+use Rattle.model.specs.declared.limits.Limits.{Limits}
 use Rattle.model.specs.Changes.{ChangesTree, with_made}
 use Rattle.model.specs.Changing.{creates}
 use Rattle.model.specs.Finding.{IsPlaceAt, at_directory, at_entry, at_missing, at_refusal, here}
@@ -82,34 +83,34 @@ module _ (table : ℕ → Option Description) (v : Volume) (n d : ℕ) (x : Name
 -- ---- a call that makes an object
 
 -- a text that doesn't pass its tests
-pub text_refused : (inodes : ℕ) (v : Volume) (table : ℕ → Option Description) (text : List ℕ) (make : Path → ℕ → Tree → Tree) (errno : Errno) → first_refusal (new_text_tests text) ≡ Some errno
-    → creates inodes (tree_of v table) text make (Refused errno) (tree_of v table) nothing
-text_refused inodes v table text make errno is = tested_some (tree_of v table) (new_text_tests text) _ errno is
+pub text_refused : (limits : Limits) (v : Volume) (table : ℕ → Option Description) (text : List ℕ) (make : Path → ℕ → Tree → Tree) (errno : Errno) → first_refusal (new_text_tests limits text) ≡ Some errno
+    → creates limits (tree_of v table) text make (Refused errno) (tree_of v table) nothing
+text_refused limits v table text make errno is = tested_some (tree_of v table) (new_text_tests limits text) _ errno is
 
-module _ (inodes : ℕ) (v : Volume) (table : ℕ → Option Description) (volume : IsVolume inodes v) (mounted : IsMounted v table) (tree : IsTree inodes (tree_of v table)) where
+module _ (limits : Limits) (v : Volume) (table : ℕ → Option Description) (volume : IsVolume limits v) (mounted : IsMounted v table) (tree : IsTree limits (tree_of v table)) where
   abbrev t : Tree
   t = tree_of v table
 
   module _ (text : List ℕ) (what : Made) where
     abbrev makes : Outcome
-    makes = creates inodes t text (with_made what)
+    makes = creates limits t text (with_made what)
 
     abbrev made_at : Path → ℕ → Tree
     made_at p n = with_made what p n t
 
     abbrev fresh : Path → Name → Outcome
-    fresh p name = with_fresh inodes t (λ n. changes Done (made_at (p ++ name ∷ []) n) (logs adds_name))
+    fresh p name = with_fresh limits t (λ n. changes Done (made_at (p ++ name ∷ []) n) (logs adds_name))
 
     abbrev makes_in : Path → Name → Outcome
-    makes_in p name = with_place t p (fresh p name)
+    makes_in p name = with_place limits t p (fresh p name)
 
     abbrev exists : Path → Object → Outcome
     exists p o = refuses t EEXIST
 
-    module _ (passed : first_refusal (new_text_tests text) ≡ None) (r : Resolution) (reaches : Reaches t false text r) where
+    module _ (passed : first_refusal (new_text_tests limits text) ≡ None) (r : Resolution) (reaches : Reaches t false text r) where
       led : (reply : Reply) (new : Tree) (need : Need) → leads t r exists makes_in reply new need → makes reply new need
       led reply new need done =
-          tested_none t (new_text_tests text) (goes_along t false text exists makes_in) reply new need passed (along_reached t false text exists makes_in reply new need r reaches done)
+          tested_none t (new_text_tests limits text) (goes_along t false text exists makes_in) reply new need passed (along_reached t false text exists makes_in reply new need r reaches done)
 
       pub path_refused : (errno : Errno) → IsPlaceAt v (at_refusal errno) r → makes (Refused errno) t nothing
       path_refused errno is = led (Refused errno) t nothing (refused_at v table exists makes_in errno r is)
@@ -118,10 +119,10 @@ module _ (inodes : ℕ) (v : Volume) (table : ℕ → Option Description) (volum
       object_there n leads = led (Refused EEXIST) t nothing (there_at v table exists makes_in n (Refused EEXIST) t nothing (λ p o is. (refl, refl, refl)) r leads)
 
       pub directory_there : (trail : List ℕ) → IsPlaceAt v (at_directory trail) r → makes (Refused EEXIST) t nothing
-      directory_there trail is = object_there (here trail) (leads_directory inodes v volume trail r is)
+      directory_there trail is = object_there (here trail) (leads_directory limits v volume trail r is)
 
       pub entry_there : (trail : List ℕ) (name : Name) (n : ℕ) → IsPlaceAt v (at_entry trail name n) r → makes (Refused EEXIST) t nothing
-      entry_there trail name n is = object_there n (leads_entry inodes v volume trail name n r is)
+      entry_there trail name n is = object_there n (leads_entry limits v volume trail name n r is)
 
       -- ---- a name that a directory doesn't have
 
@@ -129,20 +130,20 @@ module _ (inodes : ℕ) (v : Volume) (table : ℕ → Option Description) (volum
         abbrev d : ℕ
         d = here trail
 
-        gap : FindsGap inodes v table volume mounted tree r d name
-        gap = finds_gap inodes v table volume mounted tree trail name r (new_text_well inodes t tree text passed r reaches) at
+        gap : FindsGap limits v table volume mounted tree r d name
+        gap = finds_gap limits v table volume mounted tree trail name r (new_text_well limits t tree text passed r reaches) at
 
         in_gap : (reply : Reply) (new : Tree) (need : Need) → makes_in gap.path name reply new need → makes reply new need
         in_gap reply new need done = led reply new need (subst (λ (s : Resolution). leads t s exists makes_in reply new need) (sym gap.is) done)
 
         -- where it doesn't take the name, it is full
-        dir_full : (TakesName v d name → ⊥) → makes (Refused DIRFULL) t nothing
-        dir_full not = in_gap (Refused DIRFULL) t nothing (place_full inodes v table volume mounted tree d name r gap (fresh gap.path name) not)
+        dir_full : (TakesName limits v d name → ⊥) → makes (Refused DIRFULL) t nothing
+        dir_full not = in_gap (Refused DIRFULL) t nothing (place_full limits v table volume mounted tree d name r gap (fresh gap.path name) not)
 
-        with_room : TakesName v d name → (reply : Reply) (new : Tree) (need : Need) → fresh gap.path name reply new need → makes reply new need
-        with_room can reply new need done = in_gap reply new need (place_free inodes v table volume mounted tree d name r gap can (fresh gap.path name) reply new need done)
+        with_room : TakesName limits v d name → (reply : Reply) (new : Tree) (need : Need) → fresh gap.path name reply new need → makes reply new need
+        with_room can reply new need done = in_gap reply new need (place_free limits v table volume mounted tree d name r gap can (fresh gap.path name) reply new need done)
 
-        no_number : TakesName v d name → ((k : ℕ) → FIRST_NUMBER ≤ k → k < inodes → IsSome (v k)) → makes (Refused NONUMBER) t nothing
+        no_number : TakesName limits v d name → ((k : ℕ) → FIRST_NUMBER ≤ k → k < limits.inodes → IsSome (v k)) → makes (Refused NONUMBER) t nothing
         no_number can all_taken =
             with_room can (Refused NONUMBER) t nothing (
               None,
@@ -151,14 +152,14 @@ module _ (inodes : ℕ) (v : Volume) (table : ℕ → Option Description) (volum
             )
 
         module _ (fresh_law : VolumesTellFresh) (change_law : RecordsChangeTrees) where
-          module _ (good : IsMade what) (n : ℕ) (can : TakesName v d name) (free : IsLeastFree inodes v n) where
+          module _ (good : IsMade limits what) (n : ℕ) (can : TakesName limits v d name) (free : IsLeastFree limits.inodes v n) where
             abbrev change : Change
             change = create n d what name
 
             abbrev new : Tree
             new = tree_of (applied change v) table
 
-            applies : Applies inodes v change
+            applies : Applies limits v change
             applies = record {
               low = free.low;
               high = free.high;
@@ -175,23 +176,23 @@ module _ (inodes : ℕ) (v : Volume) (table : ℕ → Option Description) (volum
             unswept = created_unswept table v n d name what gap.parent apart mounted.is_swept
 
             changed : IsMounted (applied change v) table × ChangesTree change t new
-            changed = subst (λ (w : Volume). IsMounted w table × ChangesTree change t (tree_of w table)) unswept (change_law inodes v table change volume mounted applies free.free)
+            changed = subst (λ (w : Volume). IsMounted w table × ChangesTree change t (tree_of w table)) unswept (change_law limits v table change volume mounted applies free.free)
 
             -- the record does what the call does
             made : makes Done new (logs adds_name)
             made =
                 let (p, stands, becomes) = changed.1 in
                 let same : p ≡ gap.path =
-                elim (tree.single p gap.path (trees.directory d) (trees.directory d) stands (gap_parent inodes v table volume mounted tree d name r gap) refl) [ inl e ↦ e | inr other ↦ no_file other.0 ] in
+                elim (tree.single p gap.path (trees.directory d) (trees.directory d) stands (gap_parent limits v table volume mounted tree d name r gap) refl) [ inl e ↦ e | inr other ↦ no_file other.0 ] in
                 with_room can Done new (logs adds_name)
-                (Some n, fresh_law inodes v table n volume mounted free.low free.high free.free free.least, (refl, becomes ∙ ap (λ (q : Path). made_at (q ++ name ∷ []) n) same, refl))
+                (Some n, fresh_law limits v table n volume mounted free.low free.high free.free free.least, (refl, becomes ∙ ap (λ (q : Path). made_at (q ++ name ∷ []) n) same, refl))
               where
                 no_file : {X : Type 0} → trees.directory d ≡ trees.file d → X
                 no_file e = cc
 
-          pub gap_comes : (told : Result Changing Errno) → MakesIn inodes v d name what told → Comes makes inodes v table told
+          pub gap_comes : (told : Result Changing Errno) → MakesIn limits v d name what told → Comes makes limits v table told
           gap_comes (Err errno) (inl (is, not)) = subst (λ e. makes (Refused e) t nothing) (sym is) (dir_full not)
           gap_comes (Err errno) (inr (is, can, none)) = subst (λ e. makes (Refused e) t nothing) (sym is) (no_number can none)
           gap_comes (Ok c) (n, says, good, can, free) =
-              subst (ComesBy makes inodes v table) (sym says)
+              subst (ComesBy makes limits v table) (sym says)
               (applies good n can free, (changed good n can free).0, made good n can free)

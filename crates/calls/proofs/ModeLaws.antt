@@ -2,6 +2,7 @@
 use Rattle.std.proofs.Common.{◌≡◌, ◌≢◌, inl, inr, ℕ, zero, suc, List, Bool, true, false, ◌||◌, Option, Some, None, IsSome, Result, Ok, Err, refl, sym, ap, subst, ◌∙◌}
 use Rattle.std.proofs.Math.Path.{fun_ext}
 use Rattle.std.proofs.lemmas.Bool.{cases_eq, false≢true}
+use Rattle.model.specs.declared.limits.Limits.{Limits}
 use Rattle.model.specs.Changes.{ChangesTree}
 use Rattle.model.specs.Changing.{changes_mode}
 use Rattle.model.specs.Edits.{with_mode}
@@ -46,7 +47,7 @@ has_mode (Some (file_node attributes links bytes)) some other = refl
 has_mode (Some (link_node attributes text)) some other = absurd (other refl)
 
 -- a mode changes at a number
-module _ (inodes : ℕ) (v : Volume) (table : ℕ → Option Description) (mode : ℕ) (volume : IsVolume inodes v) (mounted : IsMounted v table) (law : RecordsChangeTrees) (n : ℕ) where
+module _ (limits : Limits) (v : Volume) (table : ℕ → Option Description) (mode : ℕ) (volume : IsVolume limits v) (mounted : IsMounted v table) (law : RecordsChangeTrees) (n : ℕ) where
   abbrev change : Change
   change = change_mode n mode
 
@@ -68,10 +69,10 @@ module _ (inodes : ℕ) (v : Volume) (table : ℕ → Option Description) (mode 
   unswept : swept table moded ≡ moded
   unswept = fun_ext {f = swept table moded} {g = moded} each
 
-  pub mode_changed : Applies inodes v change → IsMounted moded table × ChangesTree change (tree_of v table) (tree_of moded table)
-  mode_changed applies = subst (λ (w : Volume). IsMounted w table × ChangesTree change (tree_of v table) (tree_of w table)) unswept (law inodes v table change volume mounted applies tt)
+  pub mode_changed : Applies limits v change → IsMounted moded table × ChangesTree change (tree_of v table) (tree_of moded table)
+  mode_changed applies = subst (λ (w : Volume). IsMounted w table × ChangesTree change (tree_of v table) (tree_of w table)) unswept (law limits v table change volume mounted applies tt)
 
-module _ (inodes : ℕ) (v : Volume) (table : ℕ → Option Description) (text : List ℕ) (mode : ℕ) where
+module _ (limits : Limits) (v : Volume) (table : ℕ → Option Description) (text : List ℕ) (mode : ℕ) where
   abbrev t : Tree
   t = tree_of v table
 
@@ -82,10 +83,10 @@ module _ (inodes : ℕ) (v : Volume) (table : ℕ → Option Description) (text 
     | trees.symlink n text ↦ λ _ _ _. ⊥
   ]
 
-  pub mode_refused : (errno : Errno) → IsLed (text_tests text) t v true text (Err errno) → changes_mode t text mode (Refused errno) t nothing
-  mode_refused errno led = led_refused v table true text there (text_tests text) errno led
+  pub mode_refused : (errno : Errno) → IsLed (text_tests limits text) t v true text (Err errno) → changes_mode limits t text mode (Refused errno) t nothing
+  mode_refused errno led = led_refused v table true text there (text_tests limits text) errno led
 
-  module _ (volume : IsVolume inodes v) (mounted : IsMounted v table) (law : RecordsChangeTrees) (n : ℕ) where
+  module _ (volume : IsVolume limits v) (mounted : IsMounted v table) (law : RecordsChangeTrees) (n : ℕ) where
     abbrev new : Volume
     new = applied (change_mode n mode) v
 
@@ -98,13 +99,13 @@ module _ (inodes : ℕ) (v : Volume) (table : ℕ → Option Description) (text 
         subst (λ (y : Object). there p y Done (tree_of new table) (logs changes_bits)) (some_same object) (refl, same, refl)
     done (Some (link_node attributes text)) p x is object same = absurd (false≢true is)
 
-    pub mode_comes : (r : Result Changing Errno) → IsLed (text_tests text) t v true text (Ok n) → found_in (v n) ≢ found.Link → Decides inodes v (change_mode n mode) r
-        → Comes (changes_mode t text mode) inodes v table r
+    pub mode_comes : (r : Result Changing Errno) → IsLed (text_tests limits text) t v true text (Ok n) → found_in (v n) ≢ found.Link → Decides limits v (change_mode n mode) r
+        → Comes (changes_mode limits t text mode) limits v table r
     mode_comes (Ok c) led other (says, applies) =
-        subst (ComesBy (changes_mode t text mode) inodes v table) (sym says) (
+        subst (ComesBy (changes_mode limits t text mode) limits v table) (sym says) (
           applies,
-          (mode_changed inodes v table mode volume mounted law n applies).0,
-          led_there v table true text there n Done (tree_of new table) (logs changes_bits) (λ p x stands. done (v n) p x applies.0 stands.here (mode_changed inodes v table mode volume mounted law n applies).1) (text_tests text) led,
+          (mode_changed limits v table mode volume mounted law n applies).0,
+          led_there v table true text there n Done (tree_of new table) (logs changes_bits) (λ p x stands. done (v n) p x applies.0 stands.here (mode_changed limits v table mode volume mounted law n applies).1) (text_tests limits text) led,
         )
     mode_comes (Err DAMAGED) led other not = absurd (false≢true (sym not ∙ has_mode (v n) (led_some t v true text n led.1) other))
     mode_comes (Err _) led other not = absurd not

@@ -2,6 +2,7 @@
 use Rattle.std.proofs.Common.{◌≡◌, ◌≢◌, ◌≤◌, ◌<◌, ◌==◌, inl, inr, ℕ, List, [], ◌∷◌, ◌++◌, length, Bool, true, false, not, ◌&&◌, Option, Some, None, IsSome, is_some, Result, Ok, Err, unwrap_or, refl, sym, ap, subst, ◌∙◌}
 use Rattle.std.proofs.Math.Path.{fun_ext}
 use Rattle.std.proofs.lemmas.Bool.{cases_eq, cond-true, cond-false, false≢true, ne_eqb, not-true, not-false}
+use Rattle.model.specs.declared.limits.Limits.{Limits}
 use Rattle.model.specs.declared.attributes.Attributes.{Attributes}
 use Rattle.model.specs.Attributes.{new_attributes}
 use Rattle.model.specs.Changes.{ChangesTree}
@@ -54,19 +55,19 @@ use Rattle.model.proofs.OptionLaws.{none_some, some_same}
 
 -- ---- outcomes
 
-module _ (inodes : ℕ) (flags : Flags) (v : Volume) (table : ℕ → Option Description) where
+module _ (limits : Limits) (flags : Flags) (v : Volume) (table : ℕ → Option Description) where
   -- what one outcome allows, another may allow too
   module _ (these others : Opening) (more : (tells : Bool) (fd : ℕ) (reply : Reply) (new : Tree) (need : Need) → these tells fd reply new need → others tells fd reply new need) where
-    over_more : (o : Opened) (changing : Option Changing) → OpensOver these inodes flags v table o changing → OpensOver others inodes flags v table o changing
+    over_more : (o : Opened) (changing : Option Changing) → OpensOver these limits flags v table o changing → OpensOver others limits flags v table o changing
     over_more o None (is, opens) = (is, λ tells fd. more tells fd (opened_reply tells fd o) _ nothing (opens tells fd))
     over_more o (Some c) (applies, mounted, is, opens) = (applies, mounted, is, λ tells fd. more tells fd (opened_reply tells fd o) _ _ (opens tells fd))
 
-    pub opens_more : (r : Result Opened Errno) → OpensAt these inodes flags v table r → OpensAt others inodes flags v table r
+    pub opens_more : (r : Result Opened Errno) → OpensAt these limits flags v table r → OpensAt others limits flags v table r
     opens_more (Ok o) opens = over_more o o.changing opens
     opens_more (Err errno) opens = λ tells fd. more tells fd (Refused errno) (tree_of v table) nothing (opens tells fd)
 
 -- a file is opened over the tree of a volume that has it
-module _ (inodes : ℕ) (v : Volume) (table : ℕ → Option Description) (links_law : VolumesTellLinks) (volume : IsVolume inodes v) (flags : Flags) (o : Opened) where
+module _ (limits : Limits) (v : Volume) (table : ℕ → Option Description) (links_law : VolumesTellLinks) (volume : IsVolume limits v) (flags : Flags) (o : Opened) where
   abbrev over : ℕ → Tree
   over fd = opened_tree flags o fd (tree_of v table)
 
@@ -78,7 +79,7 @@ module _ (inodes : ℕ) (v : Volume) (table : ℕ → Option Description) (links
   file_opened (attributes, bytes, is, mode, size) true fd t need same =
       subst (λ (u : Tree). opens_file true o.number flags fd u need (opened_reply true fd o) (over fd) need) same (
         o.links,
-        links_law inodes v table o.number attributes o.links bytes volume is,
+        links_law limits v table o.number attributes o.links bytes volume is,
         (
           ap (λ (m : ℕ). replies.Opened fd (stat_with m o.size)) (mode ∙ sym (ap (λ (x : Option Node). unwrap_or (mode_of x) 0) is))
               ∙ ap (λ (k : ℕ). replies.Opened fd (stat_with (unwrap_or (mode_of (v o.number)) 0) k)) (size ∙ sym (ap (λ (x : Option Node). length (unwrap_or (bytes_of_node x) [])) is)),
@@ -89,7 +90,7 @@ module _ (inodes : ℕ) (v : Volume) (table : ℕ → Option Description) (links
 
 -- ---- where a path leads
 
-module _ (inodes : ℕ) (v : Volume) (table : ℕ → Option Description) (text : List ℕ) (flags : Flags) (mode : ℕ) where
+module _ (limits : Limits) (v : Volume) (table : ℕ → Option Description) (text : List ℕ) (flags : Flags) (mode : ℕ) where
   abbrev t : Tree
   t = tree_of v table
 
@@ -97,13 +98,13 @@ module _ (inodes : ℕ) (v : Volume) (table : ℕ → Option Description) (text 
   follow = not (flags.creates && flags.exclusive)
 
   abbrev along : Opening
-  along = opens_along inodes t text flags mode
+  along = opens_along limits t text flags mode
 
   abbrev there : Bool → ℕ → Path → Object → Outcome
   there tells fd p o = opens_object tells t o flags fd
 
   abbrev gone : Bool → ℕ → Path → Name → Outcome
-  gone tells fd p name = opens_new tells inodes t p name flags mode fd
+  gone tells fd p name = opens_new tells limits t p name flags mode fd
 
   pub along_nowhere : (errno : Errno) (r : Resolution) → Reaches t follow text r → IsPlaceAt v (at_refusal errno) r → (tells : Bool) (fd : ℕ) → along tells fd (Refused errno) t nothing
   along_nowhere errno r reaches is tells fd =
@@ -111,8 +112,8 @@ module _ (inodes : ℕ) (v : Volume) (table : ℕ → Option Description) (text 
 
   -- the object that a path leads to is opened, or refused
   pub along_object : (n : ℕ) → LeadsAlong t v follow text (Ok n) → (o : Object) → object_of n (v n) ≡ Some o → (told : Result Opened Errno)
-      → OpensAt (λ tells. opens_object tells t o flags) inodes flags v table told → OpensAt along inodes flags v table told
-  along_object n leads o object = opens_more inodes flags v table (λ tells. opens_object tells t o flags) along (λ tells fd reply new need done. by tells fd reply new need leads done)
+      → OpensAt (λ tells. opens_object tells t o flags) limits flags v table told → OpensAt along limits flags v table told
+  along_object n leads o object = opens_more limits flags v table (λ tells. opens_object tells t o flags) along (λ tells fd reply new need done. by tells fd reply new need leads done)
     where
       by : (tells : Bool) (fd : ℕ) (reply : Reply) (new : Tree) (need : Need) → LeadsAlong t v follow text (Ok n) → opens_object tells t o flags fd reply new need → along tells fd reply new need
       by tells fd reply new need (inl (r, reaches, to)) done =
@@ -148,7 +149,7 @@ opens_exclusive t o flags wants tells fd = tested_some t ((flags.creates && flag
 nothing_logs : {X : Type 0} {work : Work} → nothing ≡ logs work → X
 nothing_logs e = cc
 
-module _ (inodes : ℕ) (v : Volume) (table : ℕ → Option Description) (n : ℕ) (y : Object) (object : object_of n (v n) ≡ Some y) (flags : Flags) (old : (flags.creates && flags.exclusive) ≡ false) where
+module _ (limits : Limits) (v : Volume) (table : ℕ → Option Description) (n : ℕ) (y : Object) (object : object_of n (v n) ≡ Some y) (flags : Flags) (old : (flags.creates && flags.exclusive) ≡ false) where
   abbrev tree : Tree
   tree = tree_of v table
 
@@ -220,8 +221,8 @@ module _ (inodes : ℕ) (v : Volume) (table : ℕ → Option Description) (n : �
       abbrev file_case : Bool → Bool → ℕ → Outcome
       file_case truncates tells fd = either truncates (opens_file tells n flags fd (truncated_to n 0 tree) (need_of_truncate n 0 tree)) (opens_file tells n flags fd tree nothing)
 
-      module _ (links_law : VolumesTellLinks) (volume : IsVolume inodes v) where
-        pub opens_whole : not flags.truncates ≡ true → OpensOver opens inodes flags v table (opened stat.size None) None
+      module _ (links_law : VolumesTellLinks) (volume : IsVolume limits v) where
+        pub opens_whole : not flags.truncates ≡ true → OpensOver opens limits flags v table (opened stat.size None) None
         opens_whole keeps =
             let o = opened stat.size None in
             let is : IsOpened v o = (f.attributes, f.bytes, f.is, f.mode, f.size) in (
@@ -229,19 +230,19 @@ module _ (inodes : ℕ) (v : Volume) (table : ℕ → Option Description) (n : �
               λ tells fd.
                   at_file tells fd (opened_reply tells fd o) (opened_tree flags o fd tree) nothing
                   (subst (λ (b : Bool). file_case b tells fd (opened_reply tells fd o) (opened_tree flags o fd tree) nothing) (sym (not-true flags.truncates keeps))
-                  (file_opened inodes v table links_law volume flags o is tells fd tree nothing refl)),
+                  (file_opened limits v table links_law volume flags o is tells fd tree nothing refl)),
             )
 
         module _ (keep_law : RecordsKeepVolumes) (truncates_file : not flags.truncates ≡ false) where
           -- the file of another volume, whose tree is this one with the file truncated
-          truncated_at : (w : Volume) (o : Opened) → o.number ≡ n → IsVolume inodes w → IsOpened w o → (need : Need) → tree_of w table ≡ truncated_to n 0 tree → need ≡ need_of_truncate n 0 tree
+          truncated_at : (w : Volume) (o : Opened) → o.number ≡ n → IsVolume limits w → IsOpened w o → (need : Need) → tree_of w table ≡ truncated_to n 0 tree → need ≡ need_of_truncate n 0 tree
               → IsOpenedOver opens flags o (tree_of w table) need
           truncated_at w o same whole is need becomes needs tells fd =
               at_file tells fd (opened_reply tells fd o) (opened_tree flags o fd (tree_of w table)) need
               (subst (λ (b : Bool). file_case b tells fd (opened_reply tells fd o) (opened_tree flags o fd (tree_of w table)) need) (sym (not-false flags.truncates truncates_file))
               (subst (λ (k : Need). opens_file tells n flags fd (truncated_to n 0 tree) k (opened_reply tells fd o) (opened_tree flags o fd (tree_of w table)) need) needs
               (subst (λ (k : ℕ). opens_file tells k flags fd (truncated_to n 0 tree) need (opened_reply tells fd o) (opened_tree flags o fd (tree_of w table)) need) same
-              (file_opened inodes w table links_law whole flags o is tells fd (truncated_to n 0 tree) need becomes))))
+              (file_opened limits w table links_law whole flags o is tells fd (truncated_to n 0 tree) need becomes))))
 
           abbrev held : ℕ
           held = length (contents tree n)
@@ -269,7 +270,7 @@ module _ (inodes : ℕ) (v : Volume) (table : ℕ → Option Description) (n : �
             sym (length-resized 0 f.bytes),
           )
 
-          pub opens_truncated : (changing : Option Changing) → TruncatesFile inodes v table n 0 changing → OpensOver opens inodes flags v table (opened 0 changing) changing
+          pub opens_truncated : (changing : Option Changing) → TruncatesFile limits v table n 0 changing → OpensOver opens limits flags v table (opened 0 changing) changing
           opens_truncated None (done, is, needs) =
               let now : IsOpened v (opened 0 None) = (f.attributes, f.bytes, f.is, f.mode, no_bytes needs) in
               (now, truncated_at v (opened 0 None) refl volume now nothing is needs)
@@ -278,8 +279,8 @@ module _ (inodes : ℕ) (v : Volume) (table : ℕ → Option Description) (n : �
               let whole : swept table after ≡ after = fun_ext {f = swept table after} {g = after} over.1.is_swept in
               let (still, is_file, all) = subst
               (λ (w : Volume). IsMounted w table × IsOpened w o × IsOpenedOver opens flags o (tree_of w table) (logs (work_of v truncate_change))) (sym whole)
-              (over.1, truncated_now (Some c), truncated_at after o refl (keep_law inodes v truncate_change volume over.0) (truncated_now (Some c)) (logs (work_of v truncate_change)) is needs) in
-              subst (OpensByRecord opens inodes flags v table o) (sym says) (over.0, still, is_file, all)
+              (over.1, truncated_now (Some c), truncated_at after o refl (keep_law limits v truncate_change volume over.0) (truncated_now (Some c)) (logs (work_of v truncate_change)) is needs) in
+              subst (OpensByRecord opens limits flags v table o) (sym says) (over.0, still, is_file, all)
 
 -- ---- a file that is made
 
@@ -293,53 +294,53 @@ created_number _ n d k what x is says = absurd is
 same_number : {n k d : ℕ} {what : Made} {x : Name} → create n d what x ≡ create k d what x → n ≡ k
 same_number e = cc
 
-module _ (inodes : ℕ) (v : Volume) (table : ℕ → Option Description) (volume : IsVolume inodes v) (mounted : IsMounted v table) (tree_is : IsTree inodes (tree_of v table)) where
+module _ (limits : Limits) (v : Volume) (table : ℕ → Option Description) (volume : IsVolume limits v) (mounted : IsMounted v table) (tree_is : IsTree limits (tree_of v table)) where
   abbrev now : Tree
   now = tree_of v table
 
-  module _ (d : ℕ) (x : Name) (r : Resolution) (gap : FindsGap inodes v table volume mounted tree_is r d x) where
+  module _ (d : ℕ) (x : Name) (r : Resolution) (gap : FindsGap limits v table volume mounted tree_is r d x) where
     module _ (fresh_law : VolumesTellFresh) (change_law : RecordsChangeTrees) (flags : Flags) (mode : ℕ) where
       abbrev outcome : Opening
-      outcome tells = opens_new tells inodes now gap.path x flags mode
+      outcome tells = opens_new tells limits now gap.path x flags mode
 
       abbrev fresh : Bool → ℕ → Outcome
-      fresh tells fd = with_fresh inodes now (λ n. opens_file tells n flags fd (with_file (gap.path ++ x ∷ []) n mode now) (logs adds_name))
+      fresh tells fd = with_fresh limits now (λ n. opens_file tells n flags fd (with_file (gap.path ++ x ∷ []) n mode now) (logs adds_name))
 
       none_made : flags.creates ≡ false → (tells : Bool) (fd : ℕ) → outcome tells fd (Refused ENOENT) now nothing
       none_made none tells fd =
-          tested_some now ((not flags.creates, ENOENT) ∷ []) (with_place now gap.path (fresh tells fd)) ENOENT
+          tested_some now ((not flags.creates, ENOENT) ∷ []) (with_place limits now gap.path (fresh tells fd)) ENOENT
           (cond-true (not flags.creates) (Some ENOENT) None (ap not none))
 
       module _ (does : flags.creates ≡ true) where
-        past_tests : (tells : Bool) (fd : ℕ) (reply : Reply) (new : Tree) (need : Need) → with_place now gap.path (fresh tells fd) reply new need → outcome tells fd reply new need
+        past_tests : (tells : Bool) (fd : ℕ) (reply : Reply) (new : Tree) (need : Need) → with_place limits now gap.path (fresh tells fd) reply new need → outcome tells fd reply new need
         past_tests tells fd reply new need done =
-            tested_none now ((not flags.creates, ENOENT) ∷ []) (with_place now gap.path (fresh tells fd)) reply new need
+            tested_none now ((not flags.creates, ENOENT) ∷ []) (with_place limits now gap.path (fresh tells fd)) reply new need
             (cond-false (not flags.creates) (Some ENOENT) None (ap not does)) done
 
-        with_room : TakesName v d x → (tells : Bool) (fd : ℕ) (reply : Reply) (new : Tree) (need : Need) → fresh tells fd reply new need → outcome tells fd reply new need
+        with_room : TakesName limits v d x → (tells : Bool) (fd : ℕ) (reply : Reply) (new : Tree) (need : Need) → fresh tells fd reply new need → outcome tells fd reply new need
         with_room can tells fd reply new need done =
-            past_tests tells fd reply new need (place_free inodes v table volume mounted tree_is d x r gap can (fresh tells fd) reply new need done)
+            past_tests tells fd reply new need (place_free limits v table volume mounted tree_is d x r gap can (fresh tells fd) reply new need done)
 
-        all_used : ((k : ℕ) → FIRST_NUMBER ≤ k → k < inodes → IsSome (v k)) → HasNoFresh inodes now
+        all_used : ((k : ℕ) → FIRST_NUMBER ≤ k → k < limits.inodes → IsSome (v k)) → HasNoFresh limits now
         all_used taken k low below =
             not_unused v volume.graph table mounted.bounded k (λ none. false≢true (sym (ap is_some (sym (mounted.is_swept k) ∙ none)) ∙ taken k low below))
 
-        pub new_refused : (errno : Errno) → MakesIn inodes v d x (file mode) (Err errno) → (tells : Bool) (fd : ℕ) → outcome tells fd (Refused errno) now nothing
+        pub new_refused : (errno : Errno) → MakesIn limits v d x (file mode) (Err errno) → (tells : Bool) (fd : ℕ) → outcome tells fd (Refused errno) now nothing
         new_refused errno (inl (is, not)) tells fd =
             subst (λ (e : Errno). outcome tells fd (Refused e) now nothing) (sym is)
-            (past_tests tells fd (Refused DIRFULL) now nothing (place_full inodes v table volume mounted tree_is d x r gap (fresh tells fd) not))
+            (past_tests tells fd (Refused DIRFULL) now nothing (place_full limits v table volume mounted tree_is d x r gap (fresh tells fd) not))
         new_refused errno (inr (is, can, none)) tells fd =
             subst (λ (e : Errno). outcome tells fd (Refused e) now nothing) (sym is)
             (with_room can tells fd (Refused NONUMBER) now nothing (None, all_used none, (refl, refl, refl)))
 
-        module _ (n : ℕ) (good : IsMade (file mode)) (can : TakesName v d x) (free : IsLeastFree inodes v n) where
+        module _ (n : ℕ) (good : IsMade limits (file mode)) (can : TakesName limits v d x) (free : IsLeastFree limits.inodes v n) where
           abbrev change : Change
           change = create n d (file mode) x
 
           abbrev made : Volume
           made = applied change v
 
-          applies : Applies inodes v change
+          applies : Applies limits v change
           applies = record {
             low = free.low;
             high = free.high;
@@ -355,13 +356,13 @@ module _ (inodes : ℕ) (v : Volume) (table : ℕ → Option Description) (volum
           unswept = created_unswept table v n d x (file mode) gap.parent apart mounted.is_swept
 
           changed : IsMounted (swept table made) table × ChangesTree change now (tree_of (swept table made) table)
-          changed = change_law inodes v table change volume mounted applies free.free
+          changed = change_law limits v table change volume mounted applies free.free
 
           new_tree : tree_of (swept table made) table ≡ with_file (gap.path ++ x ∷ []) n mode now
           new_tree =
               let (p, stands, becomes) = changed.1 in
               let same : p ≡ gap.path =
-              elim (tree_is.single p gap.path (trees.directory d) (trees.directory d) stands (gap_parent inodes v table volume mounted tree_is d x r gap) refl) [ inl e ↦ e | inr other ↦ no_file other.0 ] in
+              elim (tree_is.single p gap.path (trees.directory d) (trees.directory d) stands (gap_parent limits v table volume mounted tree_is d x r gap) refl) [ inl e ↦ e | inr other ↦ no_file other.0 ] in
               becomes ∙ ap (λ (q : Path). with_file (q ++ x ∷ []) n mode now) same
             where
               no_file : {X : Type 0} → trees.directory d ≡ trees.file d → X
@@ -381,16 +382,16 @@ module _ (inodes : ℕ) (v : Volume) (table : ℕ → Option Description) (volum
               let after = swept table made in
               let new = opened_tree flags o fd (tree_of after table) in
               let with_new = with_file (gap.path ++ x ∷ []) n mode now in
-              let whole = sweep_law inodes made table (keep_law inodes v change volume applies) in
+              let whole = sweep_law limits made table (keep_law limits v change volume applies) in
               with_room can tells fd (opened_reply tells fd o) new (logs adds_name) (
                 Some n,
-                fresh_law inodes v table n volume mounted free.low free.high free.free free.least,
+                fresh_law limits v table n volume mounted free.low free.high free.free free.least,
                 subst (λ (k : ℕ). opens_file tells k flags fd with_new (logs adds_name) (opened_reply tells fd o) new (logs adds_name)) same
-                    (file_opened inodes after table links_law whole flags o is tells fd with_new (logs adds_name) new_tree),
+                    (file_opened limits after table links_law whole flags o is tells fd with_new (logs adds_name) new_tree),
               )
 
         module _ (links_law : VolumesTellLinks) (keep_law : RecordsKeepVolumes) (sweep_law : SweepsKeepVolumes) where
-          pub new_made : (o : Opened) (changing : Option Changing) → OpensMade inodes v mode d x o changing → OpensOver outcome inodes flags v table o changing
+          pub new_made : (o : Opened) (changing : Option Changing) → OpensMade limits v mode d x o changing → OpensOver outcome limits flags v table o changing
           new_made o None is = absurd is
           new_made o (Some c) ((n, says, good, can, free), told, one, own, empty) =
               let same : n ≡ o.number = same_number (sym says ∙ told) in
@@ -401,19 +402,19 @@ module _ (inodes : ℕ) (v : Volume) (table : ℕ → Option Description) (volum
                 own,
                 empty,
               ) in
-              subst (OpensByRecord outcome inodes flags v table o) (sym says)
+              subst (OpensByRecord outcome limits flags v table o) (sym says)
               (applies n good can free, (changed n good can free).0, is, opens_made n good can free links_law keep_law sweep_law o (sym same) is)
 
       module _ (links_law : VolumesTellLinks) (keep_law : RecordsKeepVolumes) (sweep_law : SweepsKeepVolumes) where
-        pub new_opens : (told : Result Opened Errno) → OpensNew inodes v flags mode d x told → OpensAt outcome inodes flags v table told
+        pub new_opens : (told : Result Opened Errno) → OpensNew limits v flags mode d x told → OpensAt outcome limits flags v table told
         new_opens (Err errno) (inl (none, is)) = λ tells fd. subst (λ (e : Errno). outcome tells fd (Refused e) now nothing) (sym is) (none_made none tells fd)
         new_opens (Err errno) (inr (does, told)) = new_refused does errno told
         new_opens (Ok o) (does, told) = new_made does links_law keep_law sweep_law o o.changing told
 
         -- what opening comes to where a path leads to that name
-        pub along_gap : (text : List ℕ) → Reaches now (not (flags.creates && flags.exclusive)) text r → (told : Result Opened Errno) → OpensNew inodes v flags mode d x told
-            → OpensAt (opens_along inodes now text flags mode) inodes flags v table told
+        pub along_gap : (text : List ℕ) → Reaches now (not (flags.creates && flags.exclusive)) text r → (told : Result Opened Errno) → OpensNew limits v flags mode d x told
+            → OpensAt (opens_along limits now text flags mode) limits flags v table told
         along_gap text reaches told made =
-            opens_more inodes flags v table outcome (opens_along inodes now text flags mode) (λ tells fd reply new need done.
-            along_reached now (not (flags.creates && flags.exclusive)) text (there inodes v table text flags mode tells fd) (gone inodes v table text flags mode tells fd) reply new need r reaches
-            (subst (λ (q : Resolution). leads now q (there inodes v table text flags mode tells fd) (gone inodes v table text flags mode tells fd) reply new need) (sym gap.is) done)) told (new_opens told made)
+            opens_more limits flags v table outcome (opens_along limits now text flags mode) (λ tells fd reply new need done.
+            along_reached now (not (flags.creates && flags.exclusive)) text (there limits v table text flags mode tells fd) (gone limits v table text flags mode tells fd) reply new need r reaches
+            (subst (λ (q : Resolution). leads now q (there limits v table text flags mode tells fd) (gone limits v table text flags mode tells fd) reply new need) (sym gap.is) done)) told (new_opens told made)

@@ -2,6 +2,8 @@
 use Rattle.std.proofs.Common.{◌≡◌, ℕ, Bool, List, Option, Some, Result, Ok, Err, IfErr, IfOk, IfSome, IsTrue, ap, refl, sym, subst}
 use Rattle.std.specs.Result.{IsErrAnd}
 use Rattle.std.proofs.lemmas.Result.{IfOk-weaker}
+use Rattle.model.specs.declared.limits.Limits.{Limits}
+use Rattle.layout.specs.StateLimits.{limits_of}
 use Rattle.layout.specs.Limits.{Sizes}
 use Rattle.layout.specs.declared.inode.Inode.{Inode}
 use Rattle.model.specs.Records.{Applies, Change}
@@ -45,7 +47,7 @@ carried Q (Err g) is so = subst (λ (x : Failure). Q (Err x)) (sym is) so
 module _ {B T : Type 0} {changes : T → Option Changing} {G : Ghosts B} {a b : B} {s t : InodeFile} {P : Answer T} where
   -- the call is refused by an errno
   pub refuses : {X : Type 0} {x : X} {e : Errno} → Looks {T = X} {E = BlockError} G IsFault a b s t (Ok x) → IsTrue (is_path_refusal e)
-      → OnMounted G a s (λ v table. P s.geometry.inodes v table (Err e)) → PreparesWith changes G a b s t P (Err (Refused e))
+      → OnMounted G a s (λ v table. P (limits_of s.geometry) v table (Err e)) → PreparesWith changes G a b s t P (Err (Refused e))
   refuses looks own answers = record {
     looks = looks_ok looks;
     own = own;
@@ -58,7 +60,7 @@ module _ {B T : Type 0} {changes : T → Option Changing} {G : Ghosts B} {a b : 
   -- the call isn't refused
   pub grants : {X : Type 0} {x : X} {y : T} → Looks {T = X} {E = BlockError} G IsFault a b s t (Ok x) → IfSome (changes y) (λ c. IsReady t c.prepared)
       → OnVolumes G a s (λ disk settled v. IfSome (changes y) (λ c. Does disk settled t v c.prepared (said_by c.change)))
-      → OnMounted G a s (λ v table. P s.geometry.inodes v table (Ok y)) → PreparesWith changes G a b s t P (Ok y)
+      → OnMounted G a s (λ v table. P (limits_of s.geometry) v table (Ok y)) → PreparesWith changes G a b s t P (Ok y)
   grants looks ready does answers = record {
     looks = looks_ok looks;
     own = tt;
@@ -83,7 +85,7 @@ module _ {B T : Type 0} {changes : T → Option Changing} {G : Ghosts B} {a b : 
   -- another call has failed: a block isn't read, or that call is refused
   pub fails : {X : Type 0} (f : Failure) (q : Result T Failure) → IsErrAnd q (λ g. g ≡ f) → Looks G IsFault a b s t (read_outcome {T = X} (Err f))
       → IfOk (read_outcome {T = X} (Err f)) (λ r. IfErr r (λ e. IsTrue (is_path_refusal e))) → NeverDamaged G a s (read_outcome {T = X} (Err f))
-      → OnMounted G a s (λ v table. (errno : Errno) → f ≡ Refused errno → P s.geometry.inodes v table (Err errno)) → PreparesWith changes G a b s t P q
+      → OnMounted G a s (λ v table. (errno : Errno) → f ≡ Refused errno → P (limits_of s.geometry) v table (Err errno)) → PreparesWith changes G a b s t P q
   fails (Refused errno) q is looks own sound answers =
       carried (PreparesWith changes G a b s t P) q is
       (refuses looks own (λ disk settled v table stands volume mounted. answers disk settled v table stands volume mounted errno refl))
@@ -92,7 +94,7 @@ module _ {B T : Type 0} {changes : T → Option Changing} {G : Ghosts B} {a b : 
   -- the same where that call is refused by one errno alone
   pub fails_by : {X : Type 0} (code : Errno) → IsTrue (is_path_refusal code) → (f : Failure) (q : Result T Failure) → IsErrAnd q (λ g. g ≡ f)
       → Looks G IsFault a b s t (read_outcome {T = X} (Err f)) → IfOk (read_outcome {T = X} (Err f)) (λ r. IfErr r (λ e. e ≡ code)) → NeverDamaged G a s (read_outcome {T = X} (Err f))
-      → OnMounted G a s (λ v table. f ≡ Refused code → P s.geometry.inodes v table (Err code)) → PreparesWith changes G a b s t P q
+      → OnMounted G a s (λ v table. f ≡ Refused code → P (limits_of s.geometry) v table (Err code)) → PreparesWith changes G a b s t P q
   fails_by code own (Refused errno) q is looks by sound answers =
       carried (PreparesWith changes G a b s t P) q is
       (subst (λ (e : Errno). PreparesWith changes G a b s t P (Err (Refused e))) (sym by)
@@ -100,9 +102,9 @@ module _ {B T : Type 0} {changes : T → Option Changing} {G : Ghosts B} {a b : 
   fails_by code own (Read e) q is looks by sound answers = stops q is looks sound
 
   -- nothing stands where a path leads: a block isn't read, or this is refused
-  pub passes : {follow : Bool} {Q : Tree → Volume → Result ℕ Errno → Type 0} (f : Failure) (q : Result T Failure)
+  pub passes : {follow : Bool} {Q : Limits → Tree → Volume → Result ℕ Errno → Type 0} (f : Failure) (q : Result T Failure)
       → IsErrAnd q (λ g. g ≡ f) → TellsWhere G a b s t follow Q (Err f)
-      → OnMounted G a s (λ v table. (errno : Errno) → Q (tree_of v table) v (Err errno) → P s.geometry.inodes v table (Err errno))
+      → OnMounted G a s (λ v table. (errno : Errno) → Q (limits_of s.geometry) (tree_of v table) v (Err errno) → P (limits_of s.geometry) v table (Err errno))
       → PreparesWith changes G a b s t P q
   passes (Refused errno) q is led answers =
       carried (PreparesWith changes G a b s t P) q is
@@ -122,7 +124,7 @@ module _ {B T : Type 0} {changes : T → Option Changing} {G : Ghosts B} {a b c 
   -- another function goes on behind a look
   pub follows : {X : Type 0} {x : X} {r : Result T Failure} → Looks {T = X} {E = BlockError} G IsFault a b s t (Ok x)
       → PreparesWith changes G b c t u Q r
-      → OnMounted G a s (λ v table. (y : Result T Errno) → Q s.geometry.inodes v table y → P s.geometry.inodes v table y)
+      → OnMounted G a s (λ v table. (y : Result T Errno) → Q (limits_of s.geometry) v table y → P (limits_of s.geometry) v table y)
       → PreparesWith changes G a c s u P r
   follows {r = r} looks then leads = record {
     looks = looks_more looks then.looks;
@@ -131,15 +133,15 @@ module _ {B T : Type 0} {changes : T → Option Changing} {G : Ghosts B} {a b c 
     does = λ disk settled v stands. then.does disk settled v (looks.kept disk settled v stands);
     answers = λ disk settled v table stands volume mounted.
         IfOk-weaker (read_outcome r) _ _ (leads disk settled v table stands volume mounted)
-        (subst (λ (z : Sizes). IfOk (read_outcome r) (Q z.inodes v table)) looks.geometry
-        (then.answers disk settled v table (looks.kept disk settled v stands) (subst (λ (z : Sizes). IsVolume z.inodes v) (sym looks.geometry) volume) mounted));
+        (subst (λ (z : Sizes). IfOk (read_outcome r) (Q (limits_of z) v table)) looks.geometry
+        (then.answers disk settled v table (looks.kept disk settled v stands) (subst (λ (z : Sizes). IsVolume (limits_of z) v) (sym looks.geometry) volume) mounted));
     damaged = λ disk settled v stands is. then.damaged disk settled v (looks.kept disk settled v stands) is;
   }
 
 module _ {B T : Type 0} {changes : T → Option Changing} {G : Ghosts B} {a b : B} {s t : InodeFile} {P Q : Answer T} where
   -- another function does it all, and its answer is this one
   pub leaves : {r : Result T Failure} → PreparesWith changes G a b s t Q r
-      → OnMounted G a s (λ v table. (y : Result T Errno) → Q s.geometry.inodes v table y → P s.geometry.inodes v table y)
+      → OnMounted G a s (λ v table. (y : Result T Errno) → Q (limits_of s.geometry) v table y → P (limits_of s.geometry) v table y)
       → PreparesWith changes G a b s t P r
   leaves {r = r} all leads = record {
     looks = all.looks;
@@ -154,7 +156,7 @@ module _ {B T : Type 0} {changes : T → Option Changing} {G : Ghosts B} {a b : 
 -- a part of a call, where so much is known of a volume
 module _ {B : Type 0} {Known : Volume → Type 0} {G : Ghosts B} {a b : B} {s t : InodeFile} {P : Answer (Option Changing)} where
   -- what is prepared whatever is known
-  pub whatever : {r : Result (Option Changing) Failure} → PreparesAny G a b s t (λ inodes v table y. Known v → P inodes v table y) r → PreparesKnowing Known G a b s t P r
+  pub whatever : {r : Result (Option Changing) Failure} → PreparesAny G a b s t (λ limits v table y. Known v → P limits v table y) r → PreparesKnowing Known G a b s t P r
   whatever {r = r} all = record {
     looks = all.looks;
     own = all.own;
@@ -179,8 +181,8 @@ module _ {B : Type 0} {Known : Volume → Type 0} {G : Ghosts B} {a b : B} {s t 
   -- what a record decides is the answer
   pub granted_knowing : {Over Sure : Premise} {change : Change} (c : Changing) → DecidesOn Over Sure G a b s t change (Ok c.prepared) → said_by c.change ≡ change
       → OnVolumes G a s (λ disk settled v. Known v → Over by_bytes disk settled v)
-      → ((disk : ℕ → List ℕ) (settled : ℕ → Inode) (v : Volume) (table : ℕ → Option Description) → Stands G disk settled v a s → IsVolume s.geometry.inodes v → Known v
-      → (Sure by_bytes disk settled v → Applies s.geometry.inodes v change) → P s.geometry.inodes v table (Ok (Some c)))
+      → ((disk : ℕ → List ℕ) (settled : ℕ → Inode) (v : Volume) (table : ℕ → Option Description) → Stands G disk settled v a s → IsVolume (limits_of s.geometry) v → Known v
+      → (Sure by_bytes disk settled v → Applies (limits_of s.geometry) v change) → P (limits_of s.geometry) v table (Ok (Some c)))
       → PreparesKnowing Known G a b s t P (Ok (Some c))
   granted_knowing c decides says over answers = record {
     looks = looks_ok decides.looks;
@@ -195,7 +197,7 @@ module _ {B : Type 0} {Known : Volume → Type 0} {G : Ghosts B} {a b : B} {s t 
 -- it goes on behind a look
 pub follows_knowing : {B X : Type 0} {Known Then : Volume → Type 0} {G : Ghosts B} {a b c : B} {s t u : InodeFile} {P Q : Answer (Option Changing)} {x : X} {r : Result (Option Changing) Failure}
     → Looks {T = X} {E = BlockError} G IsFault a b s t (Ok x) → PreparesKnowing Then G b c t u Q r → OnVolumes G a s (λ disk settled v. Known v → Then v)
-    → OnMounted G a s (λ v table. Known v → (y : Result (Option Changing) Errno) → Q s.geometry.inodes v table y → P s.geometry.inodes v table y)
+    → OnMounted G a s (λ v table. Known v → (y : Result (Option Changing) Errno) → Q (limits_of s.geometry) v table y → P (limits_of s.geometry) v table y)
     → PreparesKnowing Known G a c s u P r
 follows_knowing {Q = Q} {r = r} looks then knows leads = record {
   looks = looks_more looks then.looks;
@@ -204,8 +206,8 @@ follows_knowing {Q = Q} {r = r} looks then knows leads = record {
   does = λ disk settled v stands know. then.does disk settled v (looks.kept disk settled v stands) (knows disk settled v stands know);
   answers = λ disk settled v table stands volume mounted know.
       IfOk-weaker (read_outcome r) _ _ (leads disk settled v table stands volume mounted know)
-      (subst (λ (z : Sizes). IfOk (read_outcome r) (Q z.inodes v table)) looks.geometry
-      (then.answers disk settled v table (looks.kept disk settled v stands) (subst (λ (z : Sizes). IsVolume z.inodes v) (sym looks.geometry) volume) mounted (knows disk settled v stands know)));
+      (subst (λ (z : Sizes). IfOk (read_outcome r) (Q (limits_of z) v table)) looks.geometry
+      (then.answers disk settled v table (looks.kept disk settled v stands) (subst (λ (z : Sizes). IsVolume (limits_of z) v) (sym looks.geometry) volume) mounted (knows disk settled v stands know)));
   damaged = λ disk settled v stands is. then.damaged disk settled v (looks.kept disk settled v stands) is;
 }
 
@@ -214,8 +216,8 @@ module _ {B T : Type 0} {changes : T → Option Changing} {G : Ghosts B} {a b : 
   -- it is prepared
   pub granted : {p : Prepared} {y : T} {owned : OwnedChange} → DecidesOn Over Sure G a b s t change (Ok p) → changes y ≡ Some (record { change = owned; prepared = p })
       → said_by owned ≡ change → OnVolumes G a s (Over by_bytes)
-      → ((disk : ℕ → List ℕ) (settled : ℕ → Inode) (v : Volume) (table : ℕ → Option Description) → Stands G disk settled v a s → IsVolume s.geometry.inodes v
-      → (Sure by_bytes disk settled v → Applies s.geometry.inodes v change) → P s.geometry.inodes v table (Ok y))
+      → ((disk : ℕ → List ℕ) (settled : ℕ → Inode) (v : Volume) (table : ℕ → Option Description) → Stands G disk settled v a s → IsVolume (limits_of s.geometry) v
+      → (Sure by_bytes disk settled v → Applies (limits_of s.geometry) v change) → P (limits_of s.geometry) v table (Ok y))
       → PreparesWith changes G a b s t P (Ok y)
   granted {p = p} decides same says over answers =
       grants decides.looks
@@ -227,8 +229,8 @@ module _ {B T : Type 0} {changes : T → Option Changing} {G : Ghosts B} {a b : 
 
   -- there is an obstacle, or a block isn't read
   pub hindered : (f : Failure) (q : Result T Failure) → IsErrAnd q (λ g. g ≡ f) → DecidesOn Over Sure G a b s t change (Err f)
-      → ((disk : ℕ → List ℕ) (settled : ℕ → Inode) (v : Volume) (table : ℕ → Option Description) → Stands G disk settled v a s → IsVolume s.geometry.inodes v
-      → (errno : Errno) → (Sure by_bytes disk settled v → IsObstacle s.geometry.inodes v change errno) → P s.geometry.inodes v table (Err errno))
+      → ((disk : ℕ → List ℕ) (settled : ℕ → Inode) (v : Volume) (table : ℕ → Option Description) → Stands G disk settled v a s → IsVolume (limits_of s.geometry) v
+      → (errno : Errno) → (Sure by_bytes disk settled v → IsObstacle (limits_of s.geometry) v change errno) → P (limits_of s.geometry) v table (Err errno))
       → PreparesWith changes G a b s t P q
   hindered (Refused errno) q is decides answers =
       carried (PreparesWith changes G a b s t P) q is

@@ -1,6 +1,7 @@
 -- Refusals of calls by a path are their own.
 use Rattle.std.proofs.Common.{◌≡◌, inl, inr, ℕ, ℤ, List, [], ◌∷◌, Option, None, Some, IsTrue, refl, sym, subst, ◌∙◌}
 use Rattle.std.proofs.lemmas.Bool.{cases_Bool, cond-true, cond-false, false≢true}
+use Rattle.model.specs.declared.limits.Limits.{Limits}
 use Rattle.model.specs.Changing.{given_size_tests, link_text_tests, size_tests}
 use Rattle.model.specs.Paths.{Tests, first_refusal, text_tests, new_text_tests}
 use Rattle.model.specs.Records.{Change, change_mode, set_file, create, truncate, link, rename, remove_name, write}
@@ -33,21 +34,21 @@ first_own (test ∷ tests) e own is =
       | inr f ↦ first_own tests e own.1 (sym (cond-false test.0 (Some test.1) (first_refusal tests) f) ∙ is)
     ]
 
-pub text_own : (text : List ℕ) (e : Errno) → first_refusal (text_tests text) ≡ Some e → IsTrue (is_path_refusal e)
-text_own text e is = first_own (text_tests text) e (refl, (refl, (refl, (refl, (refl, (refl, (refl, tt))))))) is
+pub text_own : (limits : Limits) (text : List ℕ) (e : Errno) → first_refusal (text_tests limits text) ≡ Some e → IsTrue (is_path_refusal e)
+text_own limits text e is = first_own (text_tests limits text) e (refl, (refl, (refl, (refl, (refl, (refl, (refl, tt))))))) is
 
-pub new_text_own : (text : List ℕ) (e : Errno) → first_refusal (new_text_tests text) ≡ Some e → IsTrue (is_path_refusal e)
-new_text_own text e is = first_own (new_text_tests text) e (refl, (refl, (refl, (refl, (refl, (refl, (refl, (refl, tt)))))))) is
+pub new_text_own : (limits : Limits) (text : List ℕ) (e : Errno) → first_refusal (new_text_tests limits text) ≡ Some e → IsTrue (is_path_refusal e)
+new_text_own limits text e is = first_own (new_text_tests limits text) e (refl, (refl, (refl, (refl, (refl, (refl, (refl, (refl, tt)))))))) is
 
-pub link_text_own : (text : List ℕ) (e : Errno) → first_refusal (link_text_tests text) ≡ Some e → IsTrue (is_path_refusal e)
-link_text_own text e is = first_own (link_text_tests text) e (refl, (refl, (refl, tt))) is
+pub link_text_own : (limits : Limits) (text : List ℕ) (e : Errno) → first_refusal (link_text_tests limits text) ≡ Some e → IsTrue (is_path_refusal e)
+link_text_own limits text e is = first_own (link_text_tests limits text) e (refl, (refl, (refl, tt))) is
 
-pub size_own : (size : ℤ) (e : Errno) → first_refusal (size_tests size) ≡ Some e → IsTrue (is_path_refusal e)
-size_own size e is = first_own (size_tests size) e (refl, (refl, tt)) is
+pub size_own : (limits : Limits) (size : ℤ) (e : Errno) → first_refusal (size_tests limits size) ≡ Some e → IsTrue (is_path_refusal e)
+size_own limits size e is = first_own (size_tests limits size) e (refl, (refl, tt)) is
 
-pub given_size_own : (size : Option ℤ) (e : Errno) → first_refusal (given_size_tests size) ≡ Some e → IsTrue (is_path_refusal e)
-given_size_own None e is = none_some is
-given_size_own (Some size) e is = size_own size e is
+pub given_size_own : (limits : Limits) (size : Option ℤ) (e : Errno) → first_refusal (given_size_tests limits size) ≡ Some e → IsTrue (is_path_refusal e)
+given_size_own limits None e is = none_some is
+given_size_own limits (Some size) e is = size_own limits size e is
 
 -- an obstacle to a record is told by an errno of paths
 pub obstacle_own : (change : Change) (e : Errno) → IsTrue (tells_obstacle change e) → IsTrue (is_path_refusal e)

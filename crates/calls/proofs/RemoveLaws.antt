@@ -2,6 +2,7 @@
 use Rattle.std.proofs.Common.{◌≡◌, ◌≢◌, ◌↔◌, inl, inr, ℕ, List, [], ◌∷◌, ◌++◌, length, Bool, true, false, not, Option, Some, None, IsSome, Result, Ok, Err, refl, sym, ap, subst, ◌∙◌, arith}
 use Rattle.std.specs.List.Sorted.{IsStrictlySortedBy}
 use Rattle.std.proofs.lemmas.Bool.{false≢true, ne_eqb}
+use Rattle.model.specs.declared.limits.Limits.{Limits}
 use Rattle.model.specs.Changing.{removes, removes_directory, unlinks}
 use Rattle.model.specs.Edits.{without_object, IsSwept}
 use Rattle.model.specs.Finding.{at_entry, here, IsPlaceAt}
@@ -86,23 +87,23 @@ finds_entry v trail x n (refused errno) is = absurd is
 
 -- ---- texts that are refused
 
-module _ (v : Volume) (table : ℕ → Option Description) (text : List ℕ) where
+module _ (limits : Limits) (v : Volume) (table : ℕ → Option Description) (text : List ℕ) where
   abbrev of_volume : Tree
   of_volume = tree_of v table
 
-  pub unlink_text_refused : (errno : Errno) → first_refusal (new_text_tests text) ≡ Some errno → unlinks of_volume text (Refused errno) of_volume nothing
-  unlink_text_refused errno is = tested_some of_volume (new_text_tests text) _ errno is
+  pub unlink_text_refused : (errno : Errno) → first_refusal (new_text_tests limits text) ≡ Some errno → unlinks limits of_volume text (Refused errno) of_volume nothing
+  unlink_text_refused errno is = tested_some of_volume (new_text_tests limits text) _ errno is
 
-  pub remove_refused : (errno : Errno) → first_refusal (new_text_tests text) ≡ Some errno → removes_directory of_volume text (Refused errno) of_volume nothing
+  pub remove_refused : (errno : Errno) → first_refusal (new_text_tests limits text) ≡ Some errno → removes_directory limits of_volume text (Refused errno) of_volume nothing
   remove_refused errno is =
-      tested_some of_volume (new_text_tests text ++ (is_root_text text, EBUSY) ∷ []) _ errno (first_in_front (new_text_tests text) ((is_root_text text, EBUSY) ∷ []) errno is)
+      tested_some of_volume (new_text_tests limits text ++ (is_root_text text, EBUSY) ∷ []) _ errno (first_in_front (new_text_tests limits text) ((is_root_text text, EBUSY) ∷ []) errno is)
 
-  pub remove_root : first_refusal (new_text_tests text) ≡ None → is_root_text text ≡ true → removes_directory of_volume text (Refused EBUSY) of_volume nothing
+  pub remove_root : first_refusal (new_text_tests limits text) ≡ None → is_root_text text ≡ true → removes_directory limits of_volume text (Refused EBUSY) of_volume nothing
   remove_root passed is =
-      tested_some of_volume (new_text_tests text ++ (is_root_text text, EBUSY) ∷ []) _ EBUSY
-      (first_append (new_text_tests text) ((is_root_text text, EBUSY) ∷ []) passed ∙ ap (λ (b : Bool). first_refusal ((b, EBUSY) ∷ [])) is)
+      tested_some of_volume (new_text_tests limits text ++ (is_root_text text, EBUSY) ∷ []) _ EBUSY
+      (first_append (new_text_tests limits text) ((is_root_text text, EBUSY) ∷ []) passed ∙ ap (λ (b : Bool). first_refusal ((b, EBUSY) ∷ [])) is)
 
-module _ (inodes : ℕ) (v : Volume) (table : ℕ → Option Description) (volume : IsVolume inodes v) (mounted : IsMounted v table) (tree : IsTree inodes (tree_of v table)) (law : RecordsChangeTrees) where
+module _ (limits : Limits) (v : Volume) (table : ℕ → Option Description) (volume : IsVolume limits v) (mounted : IsMounted v table) (tree : IsTree limits (tree_of v table)) (law : RecordsChangeTrees) where
   abbrev t : Tree
   t = tree_of v table
 
@@ -127,9 +128,9 @@ module _ (inodes : ℕ) (v : Volume) (table : ℕ → Option Description) (volum
       still_mounted : IsMounted (swept table (applied change v)) table
       swept : IsSwept (without_object q t) after
 
-    is_removed : Applies inodes v change → IsRemoved
+    is_removed : Applies limits v change → IsRemoved
     is_removed applies =
-        let told = law inodes v table change volume mounted applies tt in
+        let told = law limits v table change volume mounted applies tt in
         let same : told.1.0 ≡ finds.path =
         elim (tree.single told.1.0 finds.path (trees.directory d) (trees.directory d) told.1.1 parent_is refl) [ inl e ↦ e | inr other ↦ no_file other.0 ] in
         record {
@@ -140,7 +141,7 @@ module _ (inodes : ℕ) (v : Volume) (table : ℕ → Option Description) (volum
         no_file : {X : Type 0} → trees.directory d ≡ trees.file d → X
         no_file e = cc
 
-    removed : Applies inodes v change → removes t q Done after (logs removes_name)
+    removed : Applies limits v change → removes t q Done after (logs removes_name)
     removed applies = (refl, (is_removed applies).swept, refl)
 
     -- what comes of the object there
@@ -163,14 +164,14 @@ module _ (inodes : ℕ) (v : Volume) (table : ℕ → Option Description) (volum
 
   -- ---- unlink
 
-  module _ (text : List ℕ) (passed : first_refusal (new_text_tests text) ≡ None) where
+  module _ (text : List ℕ) (passed : first_refusal (new_text_tests limits text) ≡ None) where
     abbrev unlinked : Path → Object → Outcome
     unlinked p o = tested t ((is_directory (Some o), EPERM) ∷ []) (removes t p)
 
-    unlink_led : (reply : Reply) (new : Tree) (need : Need) → goes_to t false text unlinked reply new need → unlinks t text reply new need
-    unlink_led reply new need done = tested_none t (new_text_tests text) (goes_to t false text unlinked) reply new need passed done
+    unlink_led : (reply : Reply) (new : Tree) (need : Need) → goes_to t false text unlinked reply new need → unlinks limits t text reply new need
+    unlink_led reply new need done = tested_none t (new_text_tests limits text) (goes_to t false text unlinked) reply new need passed done
 
-    pub unlink_refused : (errno : Errno) → LeadsAlong t v false text (Err errno) → unlinks t text (Refused errno) t nothing
+    pub unlink_refused : (errno : Errno) → LeadsAlong t v false text (Err errno) → unlinks limits t text (Refused errno) t nothing
     unlink_refused errno is = unlink_led (Refused errno) t nothing (along_refused v table false text unlinked errno is)
 
     -- a directory isn't unlinked
@@ -178,7 +179,7 @@ module _ (inodes : ℕ) (v : Volume) (table : ℕ → Option Description) (volum
     unlink_no_directory n p o is object =
         subst (λ (y : Object). unlinked p y (Refused EPERM) t nothing) (sym (object_is n (v n) o is object)) (refl, refl, refl)
 
-    pub unlink_directory : (n : ℕ) → LeadsAlong t v false text (Ok n) → found_in (v n) ≡ found.Directory → unlinks t text (Refused EPERM) t nothing
+    pub unlink_directory : (n : ℕ) → LeadsAlong t v false text (Ok n) → found_in (v n) ≡ found.Directory → unlinks limits t text (Refused EPERM) t nothing
     unlink_directory n leads is =
         unlink_led (Refused EPERM) t nothing (along_there v table false text unlinked n (Refused EPERM) t nothing (λ p o here. unlink_no_directory n p o is here.here) leads)
 
@@ -187,14 +188,14 @@ module _ (inodes : ℕ) (v : Volume) (table : ℕ → Option Description) (volum
       not_directory p o reply new need not done =
           subst (λ (b : Bool). tested t ((b, EPERM) ∷ []) (removes t p) reply new need) (sym not) done
 
-      pub unlink_comes : (c : Result Changing Errno) → UnlinksEntry inodes v d x n c → ComesSwept (unlinks t text) inodes v table c
+      pub unlink_comes : (c : Result Changing Errno) → UnlinksEntry limits v d x n c → ComesSwept (unlinks limits t text) limits v table c
       unlink_comes c (inl (directory, is)) =
-          subst (ComesSwept (unlinks t text) inodes v table) (sym is)
+          subst (ComesSwept (unlinks limits t text) limits v table) (sym is)
           (unlink_led (Refused EPERM) t nothing
           (entry_comes d x n r finds text reaches unlinked (Refused EPERM) t nothing (λ o object. unlink_no_directory n (finds.path ++ x ∷ []) o directory object)))
       unlink_comes (Ok c) (inr (other, (says, applies))) =
           let new = tree_of (swept table (applied (remove_name d x) v)) table in
-          subst (ComesSweptBy (unlinks t text) inodes v table) (sym says) (
+          subst (ComesSweptBy (unlinks limits t text) limits v table) (sym says) (
             applies,
             (is_removed d x n r finds applies).still_mounted,
             unlink_led Done new (logs removes_name)
@@ -214,7 +215,7 @@ module _ (inodes : ℕ) (v : Volume) (table : ℕ → Option Description) (volum
 
   module _ (text : List ℕ) where
     abbrev tests : Tests
-    tests = new_text_tests text ++ (is_root_text text, EBUSY) ∷ []
+    tests = new_text_tests limits text ++ (is_root_text text, EBUSY) ∷ []
 
     abbrev taken_away : Path → Object → Outcome
     taken_away p o = elim o as (λ _. Outcome) [
@@ -223,13 +224,13 @@ module _ (inodes : ℕ) (v : Volume) (table : ℕ → Option Description) (volum
       | trees.file n ↦ refuses t ENOTDIR
     ]
 
-    module _ (passed : first_refusal (new_text_tests text) ≡ None) (not_root : is_root_text text ≡ false) where
-      remove_led : (reply : Reply) (new : Tree) (need : Need) → goes_to t false text taken_away reply new need → removes_directory t text reply new need
+    module _ (passed : first_refusal (new_text_tests limits text) ≡ None) (not_root : is_root_text text ≡ false) where
+      remove_led : (reply : Reply) (new : Tree) (need : Need) → goes_to t false text taken_away reply new need → removes_directory limits t text reply new need
       remove_led reply new need done =
           tested_none t tests (goes_to t false text taken_away) reply new need
-          (first_append (new_text_tests text) ((is_root_text text, EBUSY) ∷ []) passed ∙ ap (λ (b : Bool). first_refusal ((b, EBUSY) ∷ [])) not_root) done
+          (first_append (new_text_tests limits text) ((is_root_text text, EBUSY) ∷ []) passed ∙ ap (λ (b : Bool). first_refusal ((b, EBUSY) ∷ [])) not_root) done
 
-      pub remove_led_nowhere : (errno : Errno) → LeadsAlong t v false text (Err errno) → removes_directory t text (Refused errno) t nothing
+      pub remove_led_nowhere : (errno : Errno) → LeadsAlong t v false text (Err errno) → removes_directory limits t text (Refused errno) t nothing
       remove_led_nowhere errno is = remove_led (Refused errno) t nothing (along_refused v table false text taken_away errno is)
 
       module _ (r : Resolution) (reaches : Reaches t false text r) (d : ℕ) (x : Name) (n : ℕ) (finds : FindsEntry v r d x n) where
@@ -244,7 +245,7 @@ module _ (inodes : ℕ) (v : Volume) (table : ℕ → Option Description) (volum
 
         -- the names in it
         child : (y : Name) → IsSome (t.objects (at ++ y ∷ [])) ↔ IsSome (entries v n y)
-        child y = child_some inodes v table volume at n (at_name d x n r finds) y
+        child y = child_some limits v table volume at n (at_name d x n r finds) y
 
         empty_listing : IsEmpty v n → IsListing t at []
         unfolding IsStrictlySortedBy
@@ -269,15 +270,15 @@ module _ (inodes : ℕ) (v : Volume) (table : ℕ → Option Description) (volum
             not_of : Bool → Bool
             not_of b = not b
 
-        pub remove_comes : (c : Result Changing Errno) → RemovesDirectory inodes v d x n c → ComesSwept (removes_directory t text) inodes v table c
+        pub remove_comes : (c : Result Changing Errno) → RemovesDirectory limits v d x n c → ComesSwept (removes_directory limits t text) limits v table c
         remove_comes c (inl (other, is)) =
-            subst (ComesSwept (removes_directory t text) inodes v table) (sym is)
+            subst (ComesSwept (removes_directory limits t text) limits v table) (sym is)
             (remove_led (Refused ENOTDIR) t nothing (entry_comes d x n r finds text reaches taken_away (Refused ENOTDIR) t nothing (λ o object. no_directory (v n) o other object)))
         remove_comes (Ok c) (inr (is, (says, applies))) =
             let new = tree_of (swept table (applied (remove_name d x) v)) table in
             let same : applies.number ≡ n = same_number applies.number n (sym applies.there ∙ finds.edge) in
             let empty = subst (λ (k : ℕ). IsEmpty v k) same applies.empty in
-            subst (ComesSweptBy (removes_directory t text) inodes v table) (sym says) (
+            subst (ComesSweptBy (removes_directory limits t text) limits v table) (sym says) (
               applies,
               (is_removed d x n r finds applies).still_mounted,
               remove_led Done new (logs removes_name)
@@ -287,8 +288,8 @@ module _ (inodes : ℕ) (v : Volume) (table : ℕ → Option Description) (volum
             )
         remove_comes (Err ENOENT) (inr (is, none)) = none_some (sym none ∙ finds.edge)
         remove_comes (Err ENOTEMPTY) (inr (directory, (m, there, not))) =
-            let (count, counts, most) = volume.limits.children n in
-            let (names, are, many) = listing inodes v table volume mounted tree at n (at_name d x n r finds) count counts in
+            let (count, counts, most) = volume.keeps.children n in
+            let (names, are, many) = listing limits v table volume mounted tree at n (at_name d x n r finds) count counts in
             let cannot = subst (λ (k : ℕ). IsEmpty v k → ⊥) (some_same (sym there ∙ finds.edge)) not in
             remove_led (Refused ENOTEMPTY) t nothing
             (entry_comes d x n r finds text reaches taken_away (Refused ENOTEMPTY) t nothing (λ o object.

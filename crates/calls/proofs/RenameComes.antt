@@ -2,6 +2,7 @@
 use Rattle.std.proofs.Common.{◌≡◌, ◌≢◌, ◌↔◌, inl, inr, ◌⊎◌, IsTrue, ℕ, List, [], ◌∷◌, ◌++◌, Bool, false, true, ◌||◌, Option, Some, None, IsSome, is_some, Result, Ok, Err, refl, sym, ap, subst, ◌∙◌, arith, length-append}
 use Rattle.std.specs.List.{Contains}
 use Rattle.std.proofs.lemmas.Bool.{cond-false, cond-true, false≢true}
+use Rattle.model.specs.declared.limits.Limits.{Limits}
 use Rattle.model.specs.Changing.{move_tests, moves, renames}
 use Rattle.model.specs.Finding.{at_entry, at_missing, at_refusal, here, IsPlaceAt, IsPlaceOf, Trails}
 use Rattle.model.specs.Laws.{BelowIsByPaths, RecordsChangeTrees, TrailsTellBelow}
@@ -42,29 +43,29 @@ use Rattle.model.proofs.TestLaws.{first_append, first_in_front}
 abbrev root_test : List ℕ → List ℕ → Tests
 root_test old path = (is_root_text old || is_root_text path, EBUSY) ∷ []
 
-module _ (v : Volume) (table : ℕ → Option Description) (only_new : Bool) (old path : List ℕ) where
+module _ (limits : Limits) (v : Volume) (table : ℕ → Option Description) (only_new : Bool) (old path : List ℕ) where
   abbrev of_volume : Tree
   of_volume = tree_of v table
 
   abbrev tests : Tests
-  tests = new_text_tests old ++ new_text_tests path ++ root_test old path
+  tests = new_text_tests limits old ++ new_text_tests limits path ++ root_test old path
 
-  pub old_text_refused : (errno : Errno) → first_refusal (new_text_tests old) ≡ Some errno → renames of_volume only_new old path (Refused errno) of_volume nothing
+  pub old_text_refused : (errno : Errno) → first_refusal (new_text_tests limits old) ≡ Some errno → renames limits of_volume only_new old path (Refused errno) of_volume nothing
   old_text_refused errno is =
       tested_some of_volume tests _ errno
-      (first_in_front (new_text_tests old ++ new_text_tests path) (root_test old path) errno (first_in_front (new_text_tests old) (new_text_tests path) errno is))
+      (first_in_front (new_text_tests limits old ++ new_text_tests limits path) (root_test old path) errno (first_in_front (new_text_tests limits old) (new_text_tests limits path) errno is))
 
-  pub new_text_refused : (errno : Errno) → first_refusal (new_text_tests old) ≡ None → first_refusal (new_text_tests path) ≡ Some errno → renames of_volume only_new old path (Refused errno) of_volume nothing
+  pub new_text_refused : (errno : Errno) → first_refusal (new_text_tests limits old) ≡ None → first_refusal (new_text_tests limits path) ≡ Some errno → renames limits of_volume only_new old path (Refused errno) of_volume nothing
   new_text_refused errno passed is =
       tested_some of_volume tests _ errno
-      (first_in_front (new_text_tests old ++ new_text_tests path) (root_test old path) errno (first_append (new_text_tests old) (new_text_tests path) passed ∙ is))
+      (first_in_front (new_text_tests limits old ++ new_text_tests limits path) (root_test old path) errno (first_append (new_text_tests limits old) (new_text_tests limits path) passed ∙ is))
 
-  pub at_root_test : first_refusal (new_text_tests old) ≡ None → first_refusal (new_text_tests path) ≡ None → first_refusal tests ≡ first_refusal (root_test old path)
+  pub at_root_test : first_refusal (new_text_tests limits old) ≡ None → first_refusal (new_text_tests limits path) ≡ None → first_refusal tests ≡ first_refusal (root_test old path)
   at_root_test old_passed passed =
-      first_append (new_text_tests old ++ new_text_tests path) (root_test old path) (first_append (new_text_tests old) (new_text_tests path) old_passed ∙ passed)
+      first_append (new_text_tests limits old ++ new_text_tests limits path) (root_test old path) (first_append (new_text_tests limits old) (new_text_tests limits path) old_passed ∙ passed)
 
-  pub root_refused : first_refusal (new_text_tests old) ≡ None → first_refusal (new_text_tests path) ≡ None → (is_root_text old || is_root_text path) ≡ true
-      → renames of_volume only_new old path (Refused EBUSY) of_volume nothing
+  pub root_refused : first_refusal (new_text_tests limits old) ≡ None → first_refusal (new_text_tests limits path) ≡ None → (is_root_text old || is_root_text path) ≡ true
+      → renames limits of_volume only_new old path (Refused EBUSY) of_volume nothing
   root_refused old_passed passed is =
       tested_some of_volume tests _ EBUSY (at_root_test old_passed passed ∙ ap (λ (b : Bool). first_refusal ((b, EBUSY) ∷ [])) is)
 
@@ -72,7 +73,7 @@ neither_root : (a b : Bool) → a ≡ false → b ≡ false → (a || b) ≡ fal
 neither_root true b is also = absurd (false≢true (sym is))
 neither_root false b is also = also
 
-module _ (inodes : ℕ) (v : Volume) (table : ℕ → Option Description) (volume : IsVolume inodes v) (mounted : IsMounted v table) (tree : IsTree inodes (tree_of v table)) where
+module _ (limits : Limits) (v : Volume) (table : ℕ → Option Description) (volume : IsVolume limits v) (mounted : IsMounted v table) (tree : IsTree limits (tree_of v table)) where
   abbrev t : Tree
   t = tree_of v table
 
@@ -100,7 +101,7 @@ module _ (inodes : ℕ) (v : Volume) (table : ℕ → Option Description) (volum
 
   pub ends_gap : (only_new : Bool) (trail : List ℕ) (y : Name) (r : Resolution) → AnswersWell t r → IsPlaceAt v (at_missing trail y) r → EndsAt only_new r (here trail) y
   ends_gap only_new trail y r well place =
-      let gap = finds_gap inodes v table volume mounted tree trail y r well place in
+      let gap = finds_gap limits v table volume mounted tree trail y r well place in
       record { path = gap.path; is = inl gap.is; at = gap.at; good = gap.good; directory = gap.parent }
 
   module _ (only_new : Bool) (r : Resolution) (k : ℕ) (y : Name) (ends : EndsAt only_new r k y) (there : Path → Outcome) (reply : Reply) (new : Tree) (need : Need) where
@@ -144,8 +145,8 @@ module _ (inodes : ℕ) (v : Volume) (table : ℕ → Option Description) (volum
           let p = finds.path ++ x ∷ [] in
           let is = above_directory v n (here trail) under.0 under.1 directory in
           let at = number_at-push (entries v) finds.path x ∙ ap (λ (o : Option ℕ). enter (entries v) o x) finds.at ∙ finds.edge in
-          let on = by_trails inodes v p w trail n volume trails at (directory_no_file (v n) is) (omega (arith, length-append finds.path (x ∷ []))) in
-          on.1 ((by_paths inodes v p w n (here trail) volume at (trail_end v w trail trails) (directory_no_file (v (here trail)) directory)).0 under),
+          let on = by_trails limits v p w trail n volume trails at (directory_no_file (v n) is) (omega (arith, length-append finds.path (x ∷ []))) in
+          on.1 ((by_paths limits v p w n (here trail) volume at (trail_end v w trail trails) (directory_no_file (v (here trail)) directory)).0 under),
     )
 
     entry_tells : (trail : List ℕ) (y : Name) (m : ℕ) (s : Resolution) → is_directory_node (v (here trail)) ≡ true → IsPlaceOf v (at_entry trail y m) s → Contains trail n ↔ IsBelow (entries v) n (here trail)
@@ -176,15 +177,15 @@ module _ (inodes : ℕ) (v : Volume) (table : ℕ → Option Description) (volum
 
   -- ---- the call
 
-  module _ (only_new : Bool) (old path : List ℕ) (passed : PassTests old path) where
+  module _ (only_new : Bool) (old path : List ℕ) (passed : PassTests limits old path) where
     abbrev renamed : Outcome
-    renamed = renames t only_new old path
+    renamed = renames limits t only_new old path
 
     abbrev onto : Path → Object → Path → Object → Outcome
-    onto p o q r = tested t ((only_new, EEXIST) ∷ []) (moves t p o q)
+    onto p o q r = tested t ((only_new, EEXIST) ∷ []) (moves limits t p o q)
 
     abbrev into_gap : Path → Object → Path → Name → Outcome
-    into_gap p o q name = moves t p o (q ++ name ∷ [])
+    into_gap p o q name = moves limits t p o (q ++ name ∷ [])
 
     abbrev there : Path → Object → Outcome
     there p o = goes_along t false path (onto p o) (into_gap p o)
@@ -206,7 +207,7 @@ module _ (inodes : ℕ) (v : Volume) (table : ℕ → Option Description) (volum
       found : (reply : Reply) (new : Tree) (need : Need) → ((o : Object) → object_of n (v n) ≡ Some o → leads t to (onto p o) (into_gap p o) reply new need) → renamed reply new need
       found reply new need comes =
           led reply new need
-          (entry_comes inodes v table volume mounted tree law d x n from finds old begins there reply new need
+          (entry_comes limits v table volume mounted tree law d x n from finds old begins there reply new need
           (λ o object. along_reached t false path (onto p o) (into_gap p o) reply new need to reaches (comes o object)))
 
       pub target_refused : (errno : Errno) → IsPlaceAt v (at_refusal errno) to → renamed (Refused errno) t nothing
@@ -217,11 +218,11 @@ module _ (inodes : ℕ) (v : Volume) (table : ℕ → Option Description) (volum
       rename_exists one m leads_to =
           found (Refused EEXIST) t nothing (λ o object.
           there_at v table (onto p o) (into_gap p o) m (Refused EEXIST) t nothing
-          (λ q r is. tested_some t ((only_new, EEXIST) ∷ []) (moves t p o q) EEXIST (cond-true only_new (Some EEXIST) None one)) to leads_to)
+          (λ q r is. tested_some t ((only_new, EEXIST) ∷ []) (moves limits t p o q) EEXIST (cond-true only_new (Some EEXIST) None one)) to leads_to)
 
       module _ (below : BelowIsByPaths) (k : ℕ) (y : Name) (ends : EndsAt only_new to k y) where
-        at_end : (reply : Reply) (new : Tree) (need : Need) → ((o : Object) → object_of n (v n) ≡ Some o → moves t p o (ends.path ++ y ∷ []) reply new need) → renamed reply new need
-        at_end reply new need comes = found reply new need (λ o object. goes_on only_new to k y ends (moves t p o) reply new need (comes o object))
+        at_end : (reply : Reply) (new : Tree) (need : Need) → ((o : Object) → object_of n (v n) ≡ Some o → moves limits t p o (ends.path ++ y ∷ []) reply new need) → renamed reply new need
+        at_end reply new need comes = found reply new need (λ o object. goes_on only_new to k y ends (moves limits t p o) reply new need (comes o object))
 
         abbrev change : Change
         change = rename d x k y
@@ -230,16 +231,16 @@ module _ (inodes : ℕ) (v : Volume) (table : ℕ → Option Description) (volum
         pub rename_stays : entries v k y ≡ Some n → renamed Done t nothing
         rename_stays same =
             at_end Done t nothing (λ o object.
-            move_stays inodes v table volume mounted tree finds.path d x n finds.at finds.edge ends.path k y ends.at o object same)
+            move_stays limits v table volume mounted tree finds.path d x n finds.at finds.edge ends.path k y ends.at o object same)
 
         module _ (other : entries v k y ≢ Some n) where
-          obstructed : (errno : Errno) → BarsMove v d n k y (entries v k y) errno → renamed (Refused errno) t nothing
+          obstructed : (errno : Errno) → BarsMove limits v d n k y (entries v k y) errno → renamed (Refused errno) t nothing
           obstructed errno bars =
               at_end (Refused errno) t nothing (λ o object.
-              move_barred inodes v table volume mounted tree finds.path d x n finds.at finds.edge ends.path k y ends.at o object below ends.directory other ends.good errno bars)
+              move_barred limits v table volume mounted tree finds.path d x n finds.at finds.edge ends.path k y ends.at o object below ends.directory other ends.good errno bars)
 
           -- the tests pass where the record applies
-          module _ (can : CanRename v d x k y) where
+          module _ (can : CanRename limits v d x k y) where
             same_number : can.number ≡ n
             same_number = some_same (sym can.there ∙ finds.edge)
 
@@ -247,25 +248,25 @@ module _ (inodes : ℕ) (v : Volume) (table : ℕ → Option Description) (volum
             outside = subst (λ (j : ℕ). IsBelow (entries v) j k → ⊥) same_number can.outside
 
             passes : (o : Object) (object : object_of n (v n) ≡ Some o) → first_refusal (move_tests p o (ends.path ++ y ∷ []) (t.objects (ends.path ++ y ∷ []))) ≡ None
-            passes o object = by (entries v k y) refl (subst (λ (j : ℕ). CanReplace v d k y j (entries v k y)) same_number can.replaces)
+            passes o object = by (entries v k y) refl (subst (λ (j : ℕ). CanReplace limits v d k y j (entries v k y)) same_number can.replaces)
               where
-                by : (a : Option ℕ) → entries v k y ≡ a → CanReplace v d k y n a → first_refusal (move_tests p o (ends.path ++ y ∷ []) (t.objects (ends.path ++ y ∷ []))) ≡ None
+                by : (a : Option ℕ) → entries v k y ≡ a → CanReplace limits v d k y n a → first_refusal (move_tests p o (ends.path ++ y ∷ []) (t.objects (ends.path ++ y ∷ []))) ≡ None
                 by None is may =
-                    passes_none inodes v table volume mounted tree finds.path d x n finds.at finds.edge ends.path k y ends.at o object below ends.directory other outside is
+                    passes_none limits v table volume mounted tree finds.path d x n finds.at finds.edge ends.path k y ends.at o object below ends.directory other outside is
                 by (Some m) is may =
-                    passes_some inodes v table volume mounted tree finds.path d x n finds.at finds.edge ends.path k y ends.at o object below ends.directory other outside m is may.1
+                    passes_some limits v table volume mounted tree finds.path d x n finds.at finds.edge ends.path k y ends.at o object below ends.directory other outside m is may.1
 
-          pub rename_comes : (c : Result (Option Changing) Errno) → MovesName inodes v d x k y c → ComesOrStays renamed inodes v table c
+          pub rename_comes : (c : Result (Option Changing) Errno) → MovesName limits v d x k y c → ComesOrStays renamed limits v table c
           rename_comes (Ok None) told = absurd told
           rename_comes (Ok (Some c)) (says, applies) =
               let after = tree_of (swept table (applied change v)) table in
-              subst (ComesSweptBy renamed inodes v table) (sym says) (
+              subst (ComesSweptBy renamed limits v table) (sym says) (
                 applies,
-                (law inodes v table change volume mounted applies tt).0,
+                (law limits v table change volume mounted applies tt).0,
                 at_end Done after (logs adds_name) (λ o object.
-                    move_done inodes v table volume mounted tree finds.path d x n finds.at finds.edge ends.path k y ends.at o object below ends.directory other applies (passes applies o object)
-                    (λ rest. target_takes inodes v table volume mounted tree finds.path d x n finds.at finds.edge ends.path k y ends.at o object below ends.directory other applies rest Done after (logs adds_name))),
+                    move_done limits v table volume mounted tree finds.path d x n finds.at finds.edge ends.path k y ends.at o object below ends.directory other applies (passes applies o object)
+                    (λ rest. target_takes limits v table volume mounted tree finds.path d x n finds.at finds.edge ends.path k y ends.at o object below ends.directory other applies rest Done after (logs adds_name))),
               )
           rename_comes (Err ENAMETOOLONG) bad = absurd (bad ends.good)
           rename_comes (Err ENOENT) none = none_some (sym none ∙ finds.edge)
-          rename_comes (Err errno) (m, there, bars) = obstructed errno (subst (λ (j : ℕ). BarsMove v d j k y (entries v k y) errno) (some_same (sym there ∙ finds.edge)) bars)
+          rename_comes (Err errno) (m, there, bars) = obstructed errno (subst (λ (j : ℕ). BarsMove limits v d j k y (entries v k y) errno) (some_same (sym there ∙ finds.edge)) bars)

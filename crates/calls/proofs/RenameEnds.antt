@@ -1,6 +1,7 @@
 -- What the definitions say of moving a name whose tests pass, where the target can't take it.
 use Rattle.std.proofs.Common.{◌≡◌, ◌≢◌, ℕ, List, [], ◌∷◌, ◌++◌, length, Bool, true, false, not, Option, Some, None, IsSome, refl, sym, ap, subst, ◌∙◌, arith}
 use Rattle.std.proofs.lemmas.Bool.{false≢true, ne_eqb}
+use Rattle.model.specs.declared.limits.Limits.{Limits}
 use Rattle.model.specs.Changing.{moves, with_target}
 use Rattle.model.specs.Edits.{moved}
 use Rattle.model.specs.Laws.{BelowIsByPaths}
@@ -27,7 +28,7 @@ none_if : (o : Option ℕ) → (IsSome o → ⊥) → o ≡ None
 none_if None nothing_there = refl
 none_if (Some n) nothing_there = absurd (nothing_there refl)
 
-module _ (inodes : ℕ) (v : Volume) (table : ℕ → Option Description) (volume : IsVolume inodes v) (mounted : IsMounted v table) (tree : IsTree inodes (tree_of v table)) where
+module _ (limits : Limits) (v : Volume) (table : ℕ → Option Description) (volume : IsVolume limits v) (mounted : IsMounted v table) (tree : IsTree limits (tree_of v table)) where
   abbrev t : Tree
   t = tree_of v table
 
@@ -36,7 +37,7 @@ module _ (inodes : ℕ) (v : Volume) (table : ℕ → Option Description) (volum
     not_empty : (names : List Name) → IsListing t q names → tested t ((not (is_empty names), ENOTEMPTY) ∷ []) rest (Refused ENOTEMPTY) t nothing
     not_empty [] lists =
         absurd (filled (λ y. none_if (entries v m y) (λ there.
-        let is = (lists.whole y).1 ((child_some inodes v table volume q m at y).1 there) in omega (arith, is.1))))
+        let is = (lists.whole y).1 ((child_some limits v table volume q m at y).1 there) in omega (arith, is.1))))
     not_empty (y ∷ names) lists =
         subst (λ (b : Bool). tested t ((b, ENOTEMPTY) ∷ []) rest (Refused ENOTEMPTY) t nothing)
         (sym (ap not_of (ne_eqb (length (y ∷ names)) 0 (λ (z : length (y ∷ names) ≡ 0). omega (arith, z))))) (refl, refl, refl)
@@ -60,15 +61,15 @@ module _ (inodes : ℕ) (v : Volume) (table : ℕ → Option Description) (volum
     rest = changes_swept Done (moved p q t) (logs adds_name)
 
     -- nothing has the name: its directory is full
-    no_place : target ≡ None → d ≢ k → (TakesName v k y → ⊥) → IsName y → (a : Bool) → path_eq (parent p) (parent q) ≡ a → either a rest (with_place t (parent q) rest) (Refused DIRFULL) t nothing
+    no_place : target ≡ None → d ≢ k → (TakesName limits v k y → ⊥) → IsName y → (a : Bool) → path_eq (parent p) (parent q) ≡ a → either a rest (with_place limits t (parent q) rest) (Refused DIRFULL) t nothing
     no_place is apart full name true same = absurd (apart (same_some (sym at_old ∙ ap (number_at (entries v)) one ∙ at_new)))
       where
         one : front ≡ w
         one = sym (parent-push front x) ∙ same_path (parent p) (parent q) same ∙ parent-push w y
     no_place is apart full name false differ =
-        let gap : FindsGap inodes v table volume mounted tree (missing w y) k y = record { path = w; is = refl; at = at_new; free = is; good = name; parent = directory } in
-        subst (λ (a : Path). with_place t a rest (Refused DIRFULL) t nothing) (sym (parent-push w y))
-        (place_full inodes v table volume mounted tree k y (missing w y) gap rest full)
+        let gap : FindsGap limits v table volume mounted tree (missing w y) k y = record { path = w; is = refl; at = at_new; free = is; good = name; parent = directory } in
+        subst (λ (a : Path). with_place limits t a rest (Refused DIRFULL) t nothing) (sym (parent-push w y))
+        (place_full limits v table volume mounted tree k y (missing w y) gap rest full)
 
     -- something has it: it is a directory with names
     module _ (m : ℕ) (is : target ≡ Some m) (filled : IsEmpty v m → ⊥) where
@@ -81,42 +82,42 @@ module _ (inodes : ℕ) (v : Volume) (table : ℕ → Option Description) (volum
           by (Some (file_node attributes links bytes)) is_not z = refl
           by (Some (link_node attributes text)) is_not z = refl
 
-      not_replaced : (a : Option Node) → IsSome a → v m ≡ a → with_target t p q (object_of m a) rest (Refused ENOTEMPTY) t nothing
+      not_replaced : (a : Option Node) → IsSome a → v m ≡ a → with_target limits t p q (object_of m a) rest (Refused ENOTEMPTY) t nothing
       not_replaced None some at = absurd (false≢true some)
       not_replaced (Some (directory_node attributes names)) some at =
-          let (count, counts, most) = volume.limits.children m in
-          let here = at_q inodes v table volume mounted tree front d x n at_old edge w k y at_new o object ∙ is in
-          let (all, are, many) = listing inodes v table volume mounted tree q m here count counts in
+          let (count, counts, most) = volume.keeps.children m in
+          let here = at_q limits v table volume mounted tree front d x n at_old edge w k y at_new o object ∙ is in
+          let (all, are, many) = listing limits v table volume mounted tree q m here count counts in
           (all, are, not_empty q m here filled rest all are)
       not_replaced (Some (file_node attributes links bytes)) some at = absurd (no_names (Some (file_node attributes links bytes)) refl at)
       not_replaced (Some (link_node attributes text)) some at = absurd (no_names (Some (link_node attributes text)) refl at)
 
     -- the target as it stands in the tree
-    at_target : (a : Option ℕ) → target ≡ a → (reply : Reply) → with_target t p q (object_at v a) rest reply t nothing → with_target t p q (t.objects q) rest reply t nothing
+    at_target : (a : Option ℕ) → target ≡ a → (reply : Reply) → with_target limits t p q (object_at v a) rest reply t nothing → with_target limits t p q (t.objects q) rest reply t nothing
     at_target a is reply done =
-        subst (λ (b : Option Object). with_target t p q b rest reply t nothing)
-        (sym (stands_q inodes v table volume mounted tree front d x n at_old edge w k y at_new o object ∙ ap (object_at v) is)) done
+        subst (λ (b : Option Object). with_target limits t p q b rest reply t nothing)
+        (sym (stands_q limits v table volume mounted tree front d x n at_old edge w k y at_new o object ∙ ap (object_at v) is)) done
 
     -- what keeps the object from the name is what the move is refused by
     module _ (outside : IsBelow (entries v) n k → ⊥) where
-      replacing_barred : (m : ℕ) → target ≡ Some m → (errno : Errno) → BarsReplacing v n m errno → moves t p o q (Refused errno) t nothing
-      replacing_barred m is ENOTDIR (one, isnt) = refused_directory inodes v table volume mounted tree front d x n at_old edge w k y at_new o object law directory other outside m is one isnt
-      replacing_barred m is EISDIR (isnt, one) = refused_other inodes v table volume mounted tree front d x n at_old edge w k y at_new o object law directory other outside m is isnt one
+      replacing_barred : (m : ℕ) → target ≡ Some m → (errno : Errno) → BarsReplacing v n m errno → moves limits t p o q (Refused errno) t nothing
+      replacing_barred m is ENOTDIR (one, isnt) = refused_directory limits v table volume mounted tree front d x n at_old edge w k y at_new o object law directory other outside m is one isnt
+      replacing_barred m is EISDIR (isnt, one) = refused_other limits v table volume mounted tree front d x n at_old edge w k y at_new o object law directory other outside m is isnt one
       replacing_barred m is ENOTEMPTY (same, filled) =
-          past_tests inodes v table volume mounted tree front d x n at_old edge w k y at_new o object law directory other
-          (passes_some inodes v table volume mounted tree front d x n at_old edge w k y at_new o object law directory other outside m is same) (Refused ENOTEMPTY) t nothing
+          past_tests limits v table volume mounted tree front d x n at_old edge w k y at_new o object law directory other
+          (passes_some limits v table volume mounted tree front d x n at_old edge w k y at_new o object law directory other outside m is same) (Refused ENOTEMPTY) t nothing
           (at_target (Some m) is (Refused ENOTEMPTY) (not_replaced m is filled (v m) (volume.graph.naming.used k m y is) refl))
       replacing_barred m is _ bars = absurd bars
 
-      target_barred : IsName y → (a : Option ℕ) → target ≡ a → (errno : Errno) → BarsTarget v d n k y a errno → moves t p o q (Refused errno) t nothing
+      target_barred : IsName y → (a : Option ℕ) → target ≡ a → (errno : Errno) → BarsTarget limits v d n k y a errno → moves limits t p o q (Refused errno) t nothing
       target_barred name (Some m) is errno bars = replacing_barred m is errno bars
       target_barred name None is DIRFULL (apart, full) =
-          past_tests inodes v table volume mounted tree front d x n at_old edge w k y at_new o object law directory other
-          (passes_none inodes v table volume mounted tree front d x n at_old edge w k y at_new o object law directory other outside is) (Refused DIRFULL) t nothing
+          past_tests limits v table volume mounted tree front d x n at_old edge w k y at_new o object law directory other
+          (passes_none limits v table volume mounted tree front d x n at_old edge w k y at_new o object law directory other outside is) (Refused DIRFULL) t nothing
           (at_target None is (Refused DIRFULL) (no_place is apart full name (path_eq (parent p) (parent q)) refl))
       target_barred name None is _ bars = absurd bars
 
-    pub move_barred : IsName y → (errno : Errno) → BarsMove v d n k y target errno → moves t p o q (Refused errno) t nothing
+    pub move_barred : IsName y → (errno : Errno) → BarsMove limits v d n k y target errno → moves limits t p o q (Refused errno) t nothing
     move_barred name EEXIST bars = absurd (other bars)
-    move_barred name EINVAL bars = refused_below inodes v table volume mounted tree front d x n at_old edge w k y at_new o object law directory other bars.1
+    move_barred name EINVAL bars = refused_below limits v table volume mounted tree front d x n at_old edge w k y at_new o object law directory other bars.1
     move_barred name errno bars = target_barred bars.1 name target refl errno bars.2

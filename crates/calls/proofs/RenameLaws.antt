@@ -6,6 +6,7 @@ use Rattle.std.specs.Cmp.Lexicographic.{slice_cmp}
 use Rattle.std.specs.List.Sorted.{IsStrictlySortedBy}
 use Rattle.std.proofs.lemmas.Bool.{cases_Bool, false≢true, lt-leb, ne_eqb}
 use Rattle.std.proofs.lemmas.Bool.Decides.{nat_tests}
+use Rattle.model.specs.declared.limits.Limits.{Limits}
 use Rattle.model.specs.Changing.{is_same_file, move_tests, moves, with_target}
 use Rattle.model.specs.Laws.{BelowIsByPaths}
 use Rattle.model.specs.Edits.{moved}
@@ -19,7 +20,6 @@ use Rattle.model.specs.Trees as trees
 use Rattle.model.specs.Volumes.{Node, directory_node, file_node, link_node, Volume, enter, entries, is_directory_node, number_at, object_at, object_of, swept, tree_of, IsMounted, IsVolume}
 use Rattle.model.specs.declared.errno.Errno.{Errno}
 use Rattle.model.specs.declared.errno.Errno.TheVariants.{ENOTDIR, EISDIR, EINVAL, DIRFULL}
-use Rattle.model.specs.declared.limits.TheConstants.{DIRECTORY_NAMES}
 use Rattle.model.specs.declared.reply.Reply.{Reply}
 use Rattle.model.specs.declared.reply.Reply.TheVariants.{Done, Refused}
 use Rattle.model.proofs.KeptLemmas.{is_apart}
@@ -85,7 +85,7 @@ pub not_either : (this that : Outcome) (a : Bool) → a ≡ false → (reply : R
 not_either this that true is reply new need done = absurd (false≢true (sym is))
 not_either this that false is reply new need done = done
 
-module _ (inodes : ℕ) (v : Volume) (table : ℕ → Option Description) (volume : IsVolume inodes v) (mounted : IsMounted v table) (tree : IsTree inodes (tree_of v table)) where
+module _ (limits : Limits) (v : Volume) (table : ℕ → Option Description) (volume : IsVolume limits v) (mounted : IsMounted v table) (tree : IsTree limits (tree_of v table)) where
   abbrev t : Tree
   t = tree_of v table
 
@@ -175,7 +175,7 @@ module _ (inodes : ℕ) (v : Volume) (table : ℕ → Option Description) (volum
     -- the directory of the new name lies below the object just where its path does
     module _ (law : BelowIsByPaths) (directory : is_directory_node (v k) ≡ true) (other : target ≢ Some n) where
       below_paths : IsBelow (entries v) n k ↔ IsTrue (begins_with w p)
-      below_paths = law inodes v p w n k volume at_p at_new (directory_no_file (v k) directory)
+      below_paths = law limits v p w n k volume at_p at_new (directory_no_file (v k) directory)
 
       outside_paths : (IsBelow (entries v) n k → ⊥) → begins_with w p ≡ false
       outside_paths never = elim (cases_Bool (begins_with w p)) [ inl begins ↦ absurd (never (below_paths.1 begins)) | inr none ↦ none ]
@@ -204,7 +204,7 @@ module _ (inodes : ℕ) (v : Volume) (table : ℕ → Option Description) (volum
       -- ---- what a move comes to
 
       abbrev outcome : Outcome
-      outcome = moves t p o q
+      outcome = moves limits t p o q
 
       first_refused : (errno : Errno) → refusal ≡ Some errno → outcome (Refused errno) t nothing
       first_refused errno is =
@@ -227,18 +227,18 @@ module _ (inodes : ℕ) (v : Volume) (table : ℕ → Option Description) (volum
 
       -- the target decides where the tests pass
       pub past_tests : refusal ≡ None → (reply : Reply) (new : Tree) (need : Need)
-          → with_target t p q (t.objects q) (changes_swept Done (moved p q t) (logs adds_name)) reply new need → outcome reply new need
+          → with_target limits t p q (t.objects q) (changes_swept Done (moved p q t) (logs adds_name)) reply new need → outcome reply new need
       past_tests passed reply new need done =
           not_either _ _ (path_eq p q || is_same_file o (t.objects q)) (other_there other) reply new need
           (tested_none t (move_tests p o q (t.objects q)) _ reply new need passed done)
 
       -- the record, where it applies, does what the call does
-      module _ (can : CanRename v d x k y) where
+      module _ (can : CanRename limits v d x k y) where
         same_number : can.number ≡ n
         same_number = same_some (sym can.there ∙ edge)
 
         emptied : (m : ℕ) (z : Name) → entries v k y ≡ Some m → entries v m z ≡ None
-        emptied m z is = (subst (λ (a : Option ℕ). CanReplace v d k y can.number a) is can.replaces).2 z
+        emptied m z is = (subst (λ (a : Option ℕ). CanReplace limits v d k y can.number a) is can.replaces).2 z
 
         above_only : behind p w ≡ None
         above_only = by (behind p w) refl
@@ -250,7 +250,7 @@ module _ (inodes : ℕ) (v : Volume) (table : ℕ → Option Description) (volum
         -- where its target can take it
         pub move_done : refusal ≡ None
             → ((rest : Outcome) → rest Done (tree_of (swept table (applied (rename d x k y) v)) table) (logs adds_name)
-            → with_target t p q (t.objects q) rest Done (tree_of (swept table (applied (rename d x k y) v)) table) (logs adds_name))
+            → with_target limits t p q (t.objects q) rest Done (tree_of (swept table (applied (rename d x k y) v)) table) (logs adds_name))
             → outcome Done (tree_of (swept table (applied (rename d x k y) v)) table) (logs adds_name)
         move_done passed takes =
             rename_done v volume.graph table mounted.bounded mounted.files front w x y d k n at_old at_new edge
@@ -258,11 +258,11 @@ module _ (inodes : ℕ) (v : Volume) (table : ℕ → Option Description) (volum
             o (other_there other) passed takes
 
         -- its target can take it
-        pub target_takes : (rest : Outcome) (reply : Reply) (new : Tree) (need : Need) → rest reply new need → with_target t p q (t.objects q) rest reply new need
+        pub target_takes : (rest : Outcome) (reply : Reply) (new : Tree) (need : Need) → rest reply new need → with_target limits t p q (t.objects q) rest reply new need
         target_takes rest reply new need done =
-            subst (λ (a : Option Object). with_target t p q a rest reply new need) (sym stands_q) (by target refl)
+            subst (λ (a : Option Object). with_target limits t p q a rest reply new need) (sym stands_q) (by target refl)
           where
-            at_node : (m : ℕ) (a : Option Node) → IsSome a → v m ≡ a → target ≡ Some m → with_target t p q (object_of m a) rest reply new need
+            at_node : (m : ℕ) (a : Option Node) → IsSome a → v m ≡ a → target ≡ Some m → with_target limits t p q (object_of m a) rest reply new need
             at_node m None some is at = absurd (false≢true some)
             at_node m (Some (directory_node attributes names)) some is at = (
               [],
@@ -270,7 +270,7 @@ module _ (inodes : ℕ) (v : Volume) (table : ℕ → Option Description) (volum
                 sorted = none_sorted;
                 whole = λ z. (
                   λ there. absurd (omega (arith, there.1)),
-                  λ there. absurd (false≢true (subst (λ (a : Option ℕ). IsSome a) (emptied m z at) ((child_some inodes v table volume q m (at_q ∙ at) z).0 there))),
+                  λ there. absurd (false≢true (subst (λ (a : Option ℕ). IsSome a) (emptied m z at) ((child_some limits v table volume q m (at_q ∙ at) z).0 there))),
                 );
               },
               done,
@@ -278,10 +278,10 @@ module _ (inodes : ℕ) (v : Volume) (table : ℕ → Option Description) (volum
             at_node m (Some (file_node attributes links bytes)) some is at = done
             at_node m (Some (link_node attributes text)) some is at = done
 
-            free : CanReplace v d k y can.number None → with_target t p q None rest reply new need
+            free : CanReplace limits v d k y can.number None → with_target limits t p q None rest reply new need
             free may = place (path_eq (parent p) (parent q)) refl
               where
-                place : (a : Bool) → path_eq (parent p) (parent q) ≡ a → either a rest (with_place t (parent q) rest) reply new need
+                place : (a : Bool) → path_eq (parent p) (parent q) ≡ a → either a rest (with_place limits t (parent q) rest) reply new need
                 place true is = done
                 place false is = elim may [
                   | inl same ↦ absurd (false≢true (sym is ∙ same_parents same))
@@ -306,22 +306,22 @@ module _ (inodes : ℕ) (v : Volume) (table : ℕ → Option Description) (volum
                         no_file : {X : Type 0} → trees.directory d ≡ trees.file d → X
                         no_file e = cc
 
-                    with_room : TakesName v k y → with_place t (parent q) rest reply new need
+                    with_room : TakesName limits v k y → with_place limits t (parent q) rest reply new need
                     with_room takes =
-                        let (names, are, many) = listing inodes v table volume mounted tree w k at_new takes.count takes.counts in
-                        subst (λ (a : Path). with_place t a rest reply new need) (sym (parent-push w y)) (
+                        let (names, are, many) = listing limits v table volume mounted tree w k at_new takes.count takes.counts in
+                        subst (λ (a : Path). with_place limits t a rest reply new need) (sym (parent-push w y)) (
                           names,
                           are,
-                          tested_none t ((nat_le DIRECTORY_NAMES (length names), DIRFULL) ∷ []) rest reply new need
-                              (ap (λ (b : Bool). first_refusal ((b, DIRFULL) ∷ [])) (lt-leb DIRECTORY_NAMES (length names) (subst (λ (j : ℕ). j < DIRECTORY_NAMES) (sym many) takes.room)))
+                          tested_none t ((nat_le limits.directory_names (length names), DIRFULL) ∷ []) rest reply new need
+                              (ap (λ (b : Bool). first_refusal ((b, DIRFULL) ∷ [])) (lt-leb limits.directory_names (length names) (subst (λ (j : ℕ). j < limits.directory_names) (sym many) takes.room)))
                               done,
                         )
 
-            by : (a : Option ℕ) → target ≡ a → with_target t p q (object_at v a) rest reply new need
-            by None is = free (subst (CanReplace v d k y can.number) is can.replaces)
+            by : (a : Option ℕ) → target ≡ a → with_target limits t p q (object_at v a) rest reply new need
+            by None is = free (subst (CanReplace limits v d k y can.number) is can.replaces)
             by (Some m) is = at_node m (v m) (volume.graph.naming.used k m y is) refl is
 
-    pub move_stays : target ≡ Some n → moves t p o q Done t nothing
+    pub move_stays : target ≡ Some n → moves limits t p o q Done t nothing
     move_stays is = by _ (path_eq p q || is_same_file o (t.objects q)) (same_there is)
       where
         by : (that : Outcome) (a : Bool) → a ≡ true → either a (answers t Done) that Done t nothing

@@ -2,6 +2,8 @@
 use Rattle.std.proofs.Common.{◌≡◌, ℕ, Bool, Result, Ok, Err, IsTrue, refl}
 use Rattle.std.specs.Result.{IsErrAnd}
 use Rattle.std.proofs.lemmas.Result.{IfOk-weaker}
+use Rattle.model.specs.declared.limits.Limits.{Limits}
+use Rattle.layout.specs.StateLimits.{limits_of}
 use Rattle.model.specs.Outcomes.{Outcome}
 use Rattle.model.specs.Room.{nothing}
 use Rattle.model.specs.Trees.{Tree}
@@ -53,10 +55,10 @@ module _ {B T : Type 0} {G : Ghosts B} {a b : B} {s t : InodeFile} {P : Volume �
     damaged = never_damaged e sound;
   })
 
-module _ {B T : Type 0} {G : Ghosts B} {a b : B} {s t : InodeFile} {outcome : Tree → Outcome} {reply : Result T Errno → Reply} where
+module _ {B T : Type 0} {G : Ghosts B} {a b : B} {s t : InodeFile} {outcome : Limits → Tree → Outcome} {reply : Result T Errno → Reply} where
   -- the call is refused by an errno
   pub refuses : {X : Type 0} {x : X} {e : Errno} → Looks {T = X} {E = BlockError} G IsFault a b s t (Ok x) → IsTrue (is_path_refusal e)
-      → OnTrees G a s (λ v table. outcome (tree_of v table) (reply (Err e)) (tree_of v table) nothing) → Answers G a b s t outcome reply (Err (Refused e))
+      → OnTrees G a s (λ v table. outcome (limits_of s.geometry) (tree_of v table) (reply (Err e)) (tree_of v table) nothing) → Answers G a b s t outcome reply (Err (Refused e))
   refuses looks own answers = record {
     looks = looks_ok looks;
     own = own;
@@ -66,7 +68,7 @@ module _ {B T : Type 0} {G : Ghosts B} {a b : B} {s t : InodeFile} {outcome : Tr
 
   -- the call isn't refused
   pub grants : {X : Type 0} {x : X} {y : T} → Looks {T = X} {E = BlockError} G IsFault a b s t (Ok x)
-      → OnTrees G a s (λ v table. outcome (tree_of v table) (reply (Ok y)) (tree_of v table) nothing) → Answers G a b s t outcome reply (Ok y)
+      → OnTrees G a s (λ v table. outcome (limits_of s.geometry) (tree_of v table) (reply (Ok y)) (tree_of v table) nothing) → Answers G a b s t outcome reply (Ok y)
   grants looks answers = record {
     looks = looks_ok looks;
     own = tt;
@@ -85,26 +87,26 @@ module _ {B T : Type 0} {G : Ghosts B} {a b : B} {s t : InodeFile} {outcome : Tr
   })
 
   -- nothing stands where a path leads: a block isn't read, or this is refused
-  pub passes : {follow : Bool} {Q : Tree → Volume → Result ℕ Errno → Type 0} (f : Failure) (q : Result T Failure)
+  pub passes : {follow : Bool} {Q : Limits → Tree → Volume → Result ℕ Errno → Type 0} (f : Failure) (q : Result T Failure)
       → IsErrAnd q (λ g. g ≡ f) → TellsWhere G a b s t follow Q (Err f)
-      → OnTrees G a s (λ v table. (errno : Errno) → Q (tree_of v table) v (Err errno)
-      → outcome (tree_of v table) (reply (Err errno)) (tree_of v table) nothing) → Answers G a b s t outcome reply q
+      → OnTrees G a s (λ v table. (errno : Errno) → Q (limits_of s.geometry) (tree_of v table) v (Err errno)
+      → outcome (limits_of s.geometry) (tree_of v table) (reply (Err errno)) (tree_of v table) nothing) → Answers G a b s t outcome reply q
   passes (Refused errno) q is led answers =
       carried (Answers G a b s t outcome reply) q is
       (refuses led.looks led.own (λ disk settled v table stands volume. answers disk settled v table stands volume errno (led.leads disk settled v table stands volume)))
   passes (Read e) q is led answers = stops q is led.looks led.damaged
 
-module _ {B T : Type 0} {G : Ghosts B} {a b c : B} {s t u : InodeFile} {outcome : Tree → Outcome} {reply : Result T Errno → Reply} where
+module _ {B T : Type 0} {G : Ghosts B} {a b c : B} {s t u : InodeFile} {outcome : Limits → Tree → Outcome} {reply : Result T Errno → Reply} where
   -- a step behind a look has failed
   pub stops_later : {X Y : Type 0} {x : X} {e : BlockError} (q : Result T Failure) → IsErrAnd q (λ f. f ≡ Read e)
       → Looks {T = X} G IsFault a b s t (Ok x) → Looks {T = Y} G IsFault b c t u (Err e) → NeverDamaged {T = Y} G b t (Err e) → Answers G a c s u outcome reply q
   stops_later q is looks then sound =
       stops q is (looks_more looks then) (λ disk settled v stands. sound disk settled v (looks.kept disk settled v stands))
 
-module _ {B T : Type 0} {G : Ghosts B} {a b c : B} {s t u : InodeFile} {outcome : Tree → Outcome} {reply : Result T Errno → Reply} {P : Volume → Result T Errno → Type 0} where
+module _ {B T : Type 0} {G : Ghosts B} {a b c : B} {s t u : InodeFile} {outcome : Limits → Tree → Outcome} {reply : Result T Errno → Reply} {P : Volume → Result T Errno → Type 0} where
   -- the answer is told behind a look
   pub follows : {X : Type 0} {x : X} {r : Result T Failure} → Looks {T = X} {E = BlockError} G IsFault a b s t (Ok x) → Tells G b c t u P r
-      → OnTrees G a s (λ v table. (y : Result T Errno) → P v y → outcome (tree_of v table) (reply y) (tree_of v table) nothing) → Answers G a c s u outcome reply r
+      → OnTrees G a s (λ v table. (y : Result T Errno) → P v y → outcome (limits_of s.geometry) (tree_of v table) (reply y) (tree_of v table) nothing) → Answers G a c s u outcome reply r
   follows {r = r} looks then leads = record {
     looks = looks_more looks then.looks;
     own = then.own;

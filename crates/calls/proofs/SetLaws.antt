@@ -3,6 +3,7 @@ use Rattle.std.proofs.Common.{◌≡◌, ◌≢◌, ◌∙◌, ◌||◌, inl, in
 use Rattle.std.specs.Result.{IsOkAnd}
 use Rattle.std.proofs.Math.Path.{fun_ext}
 use Rattle.std.proofs.lemmas.Bool.{false≢true}
+use Rattle.model.specs.declared.limits.Limits.{Limits}
 use Rattle.model.specs.Changing.{given_size_tests, sets, sets_both, sets_mode, sets_object, truncates_file}
 use Rattle.model.specs.Edits.{contents, with_mode}
 use Rattle.model.specs.Laws.{RecordsChangeTrees}
@@ -35,9 +36,9 @@ use Rattle.model.proofs.OptionLaws.{none_some}
 
 -- ---- where a path leads
 
-pub set_refused : (v : Volume) (table : ℕ → Option Description) (text : List ℕ) (settings : Settings) (errno : Errno) → first_refusal (text_tests_then (given_size_tests settings.size) text) ≡ Some errno
-    → sets (tree_of v table) text settings (Refused errno) (tree_of v table) nothing
-set_refused v table text settings errno is = tested_some (tree_of v table) (text_tests_then (given_size_tests settings.size) text) _ errno is
+pub set_refused : (limits : Limits) (v : Volume) (table : ℕ → Option Description) (text : List ℕ) (settings : Settings) (errno : Errno) → first_refusal (text_tests_then limits (given_size_tests limits settings.size) text) ≡ Some errno
+    → sets limits (tree_of v table) text settings (Refused errno) (tree_of v table) nothing
+set_refused limits v table text settings errno is = tested_some (tree_of v table) (text_tests_then limits (given_size_tests limits settings.size) text) _ errno is
 
 -- what is there is an object
 object_there : (n : ℕ) (o : Option Node) → IsSome o → (x : Object) × (object_of n o ≡ Some x)
@@ -46,22 +47,22 @@ object_there n (Some (directory_node attributes names)) some = (trees.directory 
 object_there n (Some (file_node attributes links bytes)) some = (trees.file n, refl)
 object_there n (Some (link_node attributes text)) some = (trees.symlink n text, refl)
 
-module _ (inodes : ℕ) (v : Volume) (table : ℕ → Option Description) (text : List ℕ) (settings : Settings) where
+module _ (limits : Limits) (v : Volume) (table : ℕ → Option Description) (text : List ℕ) (settings : Settings) where
   abbrev t : Tree
   t = tree_of v table
 
   abbrev tests : Tests
-  tests = text_tests_then (given_size_tests settings.size) text
+  tests = text_tests_then limits (given_size_tests limits settings.size) text
 
   abbrev there : Path → Object → Outcome
   there p o = sets_object t settings o
 
-  pub set_nowhere : (errno : Errno) → IsLed tests t v true text (Err errno) → sets t text settings (Refused errno) t nothing
+  pub set_nowhere : (errno : Errno) → IsLed tests t v true text (Err errno) → sets limits t text settings (Refused errno) t nothing
   set_nowhere errno led = led_refused v table true text there tests errno led
 
   -- what is given to the object there is what the call comes to
   pub set_comes : (n : ℕ) → IsLed tests t v true text (Ok n) → (r : Result (Option Changing) Errno)
-      → ((o : Object) → object_of n (v n) ≡ Some o → ComesOrStays (sets_object t settings o) inodes v table r) → ComesOrStays (sets t text settings) inodes v table r
+      → ((o : Object) → object_of n (v n) ≡ Some o → ComesOrStays (sets_object t settings o) limits v table r) → ComesOrStays (sets limits t text settings) limits v table r
   set_comes n led (Err errno) given = led_there v table true text there n (Refused errno) t nothing (λ p x stands. given x stands.here) tests led
   set_comes n led (Ok None) given = led_there v table true text there n Done t nothing (λ p x stands. given x stands.here) tests led
   set_comes n led (Ok (Some c)) given =
@@ -97,20 +98,20 @@ file_has_mode o is = ap (λ (b : Bool). b || is_directory_node o) is
 -- ---- a mode
 
 -- a record that changes a mode applies, and this is it, or there is an obstacle
-abbrev pub DecidesMode : ℕ → Volume → ℕ → ℕ → Result (Option Changing) Errno → Type 0
-DecidesMode inodes v n mode (Ok (Some c)) = (said_by c.change ≡ change_mode n mode) × Applies inodes v (change_mode n mode)
-DecidesMode inodes v n mode (Ok None) = ⊥
-DecidesMode inodes v n mode (Err errno) = IsObstacle inodes v (change_mode n mode) errno
+abbrev pub DecidesMode : Limits → Volume → ℕ → ℕ → Result (Option Changing) Errno → Type 0
+DecidesMode limits v n mode (Ok (Some c)) = (said_by c.change ≡ change_mode n mode) × Applies limits v (change_mode n mode)
+DecidesMode limits v n mode (Ok None) = ⊥
+DecidesMode limits v n mode (Err errno) = IsObstacle limits v (change_mode n mode) errno
 
-pub sets_mode_comes : (inodes : ℕ) (v : Volume) (table : ℕ → Option Description) (volume : IsVolume inodes v) (mounted : IsMounted v table) (law : RecordsChangeTrees) (n mode : ℕ) (r : Result (Option Changing) Errno)
-    → IsTrue (is_file_node (v n) || is_directory_node (v n)) → DecidesMode inodes v n mode r → ComesOrStays (sets_mode (tree_of v table) n (Some mode)) inodes v table r
-sets_mode_comes inodes v table volume mounted law n mode (Ok None) is decides = absurd decides
-sets_mode_comes inodes v table volume mounted law n mode (Err DAMAGED) is decides = absurd (false≢true (sym decides ∙ is))
-sets_mode_comes inodes v table volume mounted law n mode (Err _) is decides = absurd decides
-sets_mode_comes inodes v table volume mounted law n mode (Ok (Some c)) is (says, applies) =
-    let changed = mode_changed inodes v table mode volume mounted law n applies in
-    comes_swept (sets_mode (tree_of v table) n (Some mode)) inodes v table (Ok c)
-    (subst (ComesBy (sets_mode (tree_of v table) n (Some mode)) inodes v table) (sym says) (applies, changed.0, (refl, changed.1, refl)))
+pub sets_mode_comes : (limits : Limits) (v : Volume) (table : ℕ → Option Description) (volume : IsVolume limits v) (mounted : IsMounted v table) (law : RecordsChangeTrees) (n mode : ℕ) (r : Result (Option Changing) Errno)
+    → IsTrue (is_file_node (v n) || is_directory_node (v n)) → DecidesMode limits v n mode r → ComesOrStays (sets_mode (tree_of v table) n (Some mode)) limits v table r
+sets_mode_comes limits v table volume mounted law n mode (Ok None) is decides = absurd decides
+sets_mode_comes limits v table volume mounted law n mode (Err DAMAGED) is decides = absurd (false≢true (sym decides ∙ is))
+sets_mode_comes limits v table volume mounted law n mode (Err _) is decides = absurd decides
+sets_mode_comes limits v table volume mounted law n mode (Ok (Some c)) is (says, applies) =
+    let changed = mode_changed limits v table mode volume mounted law n applies in
+    comes_swept (sets_mode (tree_of v table) n (Some mode)) limits v table (Ok c)
+    (subst (ComesBy (sets_mode (tree_of v table) n (Some mode)) limits v table) (sym says) (applies, changed.0, (refl, changed.1, refl)))
 
 -- ---- a size
 
@@ -119,31 +120,31 @@ whole : (w : Volume) (table : ℕ → Option Description) → IsMounted w table 
 whole w table mounted = fun_ext {f = swept table w} {g = w} mounted.is_swept
 
 -- what a record does where nothing is swept
-unswept : (outcome : Outcome) (inodes : ℕ) (v : Volume) (table : ℕ → Option Description) (change : Change) (c : Changing) → said_by c.change ≡ change → GoesOver inodes v table change
-    → outcome Done (tree_of (applied change v) table) (logs (work_of v change)) → ComesOrStays outcome inodes v table (Ok (Some c))
-unswept outcome inodes v table change c says over done =
+unswept : (outcome : Outcome) (limits : Limits) (v : Volume) (table : ℕ → Option Description) (change : Change) (c : Changing) → said_by c.change ≡ change → GoesOver limits v table change
+    → outcome Done (tree_of (applied change v) table) (logs (work_of v change)) → ComesOrStays outcome limits v table (Ok (Some c))
+unswept outcome limits v table change c says over done =
     let same = sym (whole (applied change v) table over.1) in
-    subst (ComesSweptBy outcome inodes v table) (sym says) (
+    subst (ComesSweptBy outcome limits v table) (sym says) (
       over.0,
       subst (λ (w : Volume). IsMounted w table) same over.1,
       subst (λ (w : Volume). outcome Done (tree_of w table) (logs (work_of v change))) same done,
     )
 
-pub truncate_file_comes : (inodes : ℕ) (v : Volume) (table : ℕ → Option Description) (n size : ℕ) (r : Result (Option Changing) Errno) → IsOkAnd r (TruncatesFile inodes v table n size)
-    → ComesOrStays (truncates_file (tree_of v table) n size) inodes v table r
-truncate_file_comes inodes v table n size (Err errno) truncates = absurd truncates
-truncate_file_comes inodes v table n size (Ok None) truncates = truncates
-truncate_file_comes inodes v table n size (Ok (Some c)) (says, (over, done)) = unswept (truncates_file (tree_of v table) n size) inodes v table (truncate n size) c says over done
+pub truncate_file_comes : (limits : Limits) (v : Volume) (table : ℕ → Option Description) (n size : ℕ) (r : Result (Option Changing) Errno) → IsOkAnd r (TruncatesFile limits v table n size)
+    → ComesOrStays (truncates_file (tree_of v table) n size) limits v table r
+truncate_file_comes limits v table n size (Err errno) truncates = absurd truncates
+truncate_file_comes limits v table n size (Ok None) truncates = truncates
+truncate_file_comes limits v table n size (Ok (Some c)) (says, (over, done)) = unswept (truncates_file (tree_of v table) n size) limits v table (truncate n size) c says over done
 
 -- ---- both
 
-pub sets_both_comes : (inodes : ℕ) (v : Volume) (table : ℕ → Option Description) (n mode size : ℕ) (c : Changing) → said_by c.change ≡ set_file n mode size
-    → SetsBoth inodes v table n mode size (Ok (Some c.prepared)) → ComesOrStays (sets_both (tree_of v table) n mode size) inodes v table (Ok (Some c))
-sets_both_comes inodes v table n mode size c says (over, done) = unswept (sets_both (tree_of v table) n mode size) inodes v table (set_file n mode size) c says over done
+pub sets_both_comes : (limits : Limits) (v : Volume) (table : ℕ → Option Description) (n mode size : ℕ) (c : Changing) → said_by c.change ≡ set_file n mode size
+    → SetsBoth limits v table n mode size (Ok (Some c.prepared)) → ComesOrStays (sets_both (tree_of v table) n mode size) limits v table (Ok (Some c))
+sets_both_comes limits v table n mode size c says (over, done) = unswept (sets_both (tree_of v table) n mode size) limits v table (set_file n mode size) c says over done
 
 -- the mode alone, where the size is the old one
-pub sets_mode_alone : (inodes : ℕ) (v : Volume) (table : ℕ → Option Description) (n mode size : ℕ) (r : Result (Option Changing) Errno) → size ≡ length (contents (tree_of v table) n)
-    → ComesOrStays (sets_mode (tree_of v table) n (Some mode)) inodes v table r → ComesOrStays (sets_both (tree_of v table) n mode size) inodes v table r
-sets_mode_alone inodes v table n mode size r same comes =
+pub sets_mode_alone : (limits : Limits) (v : Volume) (table : ℕ → Option Description) (n mode size : ℕ) (r : Result (Option Changing) Errno) → size ≡ length (contents (tree_of v table) n)
+    → ComesOrStays (sets_mode (tree_of v table) n (Some mode)) limits v table r → ComesOrStays (sets_both (tree_of v table) n mode size) limits v table r
+sets_mode_alone limits v table n mode size r same comes =
     let test : (size == length (contents (tree_of v table) n)) ≡ true = eq-eqb size (length (contents (tree_of v table) n)) same in
     rw test comes

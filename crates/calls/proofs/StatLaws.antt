@@ -3,6 +3,7 @@ use Rattle.std.proofs.Common.{◌≡◌, ◌≢◌, ℕ, List, [], length, Bool,
 use Rattle.std.specs.Prelude.{unwrap_or}
 use Rattle.std.proofs.lemmas.Bool.{false≢true}
 use Rattle.std.proofs.lemmas.List.FromFn.{length-map-range_with_len}
+use Rattle.model.specs.declared.limits.Limits.{Limits}
 use Rattle.layout.specs.FileBytes.{byte_in}
 use Rattle.layout.specs.Inode.{FitsKind}
 use Rattle.layout.specs.Limits.{Sizes}
@@ -58,7 +59,7 @@ module _ (v : Volume) (table : ℕ → Option Description) where
   abbrev t : Tree
   t = tree_of v table
 
-  module _ (inodes : ℕ) (volume : IsVolume inodes v) (tell_links : VolumesTellLinks) (n : ℕ) where
+  module _ (limits : Limits) (volume : IsVolume limits v) (tell_links : VolumesTellLinks) (n : ℕ) where
     pub told : (o : Node) (x : Object) → v n ≡ Some o → object_of n (v n) ≡ Some x → tells_stat t x (replies.Stat (stat_in n o)) t nothing
     told (directory_node attributes names) x is object =
         subst (λ (y : Object). tells_stat t y (replies.Stat (stat_in n (directory_node attributes names))) t nothing)
@@ -68,7 +69,7 @@ module _ (v : Volume) (table : ℕ → Option Description) where
         subst (λ (y : Object). tells_stat t y (replies.Stat (stat_in n (file_node attributes links bytes))) t nothing)
         (object_by n v (file_node attributes links bytes) (trees.file n) x is refl object) (
           links,
-          tell_links inodes v table n attributes links bytes volume is,
+          tell_links limits v table n attributes links bytes volume is,
           (
             ap (λ (o : Option Node). replies.Stat (record { number = n; kind = File; mode = unwrap_or (mode_of o) 0; links = links; size = length (unwrap_or (bytes_of_node o) []) })) (sym is),
             refl,
@@ -80,17 +81,17 @@ module _ (v : Volume) (table : ℕ → Option Description) where
         (object_by n v (link_node attributes text) (trees.symlink n text) x is refl object)
         (1, refl, (refl, refl, refl))
 
-    pub stat_answers : (follow : Bool) (text : List ℕ) (r : Result Stat Errno) → IsLed (text_tests text) t v follow text (Ok n) → TellsStat v n r
-        → stats t follow text (stat_reply r) t nothing
+    pub stat_answers : (follow : Bool) (text : List ℕ) (r : Result Stat Errno) → IsLed (text_tests limits text) t v follow text (Ok n) → TellsStat v n r
+        → stats limits t follow text (stat_reply r) t nothing
     stat_answers follow text (Ok stat) led (o, is, same) =
         led_there v table follow text (λ p o. tells_stat t o) n (replies.Stat stat) t nothing
         (λ p x stands. subst (λ (s : Stat). tells_stat t x (replies.Stat s) t nothing) (sym same) (told o x is stands.here))
-        (text_tests text) led
+        (text_tests limits text) led
     stat_answers follow text (Err errno) led none = nothing_there (v n) (led_some t v follow text n led.1) none
 
-  pub stat_refused : (follow : Bool) (text : List ℕ) (errno : Errno) → IsLed (text_tests text) t v follow text (Err errno)
-      → stats t follow text (replies.Refused errno) t nothing
-  stat_refused follow text errno led = led_refused v table follow text (λ p o. tells_stat t o) (text_tests text) errno led
+  pub stat_refused : (limits : Limits) (follow : Bool) (text : List ℕ) (errno : Errno) → IsLed (text_tests limits text) t v follow text (Err errno)
+      → stats limits t follow text (replies.Refused errno) t nothing
+  stat_refused limits follow text errno led = led_refused v table follow text (λ p o. tells_stat t o) (text_tests limits text) errno led
 
   -- ---- links
 
@@ -107,20 +108,20 @@ module _ (v : Volume) (table : ℕ → Option Description) where
   no_link n (Some (file_node attributes links bytes)) p x other is = subst (λ (y : Object). there p y (replies.Refused EINVAL) t nothing) (some_same is) (refl, refl, refl)
   no_link n (Some (link_node attributes text)) p x other is = absurd (other refl)
 
-  pub link_answers : (text : List ℕ) (n : ℕ) (r : Result (List ℕ) Errno) → IsLed (text_tests text) t v false text (Ok n) → TellsText v n r
-      → reads_link t text (text_reply r) t nothing
-  link_answers text n (Ok told) led (attributes, is) =
+  pub link_answers : (limits : Limits) (text : List ℕ) (n : ℕ) (r : Result (List ℕ) Errno) → IsLed (text_tests limits text) t v false text (Ok n) → TellsText v n r
+      → reads_link limits t text (text_reply r) t nothing
+  link_answers limits text n (Ok told) led (attributes, is) =
       led_there v table false text there n (replies.Text told) t nothing
       (λ p x stands. subst (λ (y : Object). there p y (replies.Text told) t nothing) (object_by n v (link_node attributes told) (trees.symlink n told) x is refl stands.here) (refl, refl, refl))
-      (text_tests text) led
-  link_answers text n (Err errno) led (other, is) =
+      (text_tests limits text) led
+  link_answers limits text n (Err errno) led (other, is) =
       led_there v table false text there n (replies.Refused errno) t nothing
       (λ p x stands. subst (λ (e : Errno). there p x (replies.Refused e) t nothing) (sym is) (no_link n (v n) p x other stands.here))
-      (text_tests text) led
+      (text_tests limits text) led
 
-  pub link_refused : (text : List ℕ) (errno : Errno) → IsLed (text_tests text) t v false text (Err errno)
-      → reads_link t text (replies.Refused errno) t nothing
-  link_refused text errno led = led_refused v table false text there (text_tests text) errno led
+  pub link_refused : (limits : Limits) (text : List ℕ) (errno : Errno) → IsLed (text_tests limits text) t v false text (Err errno)
+      → reads_link limits t text (replies.Refused errno) t nothing
+  link_refused limits text errno led = led_refused v table false text there (text_tests limits text) errno led
 
 -- a number that nothing has
 pub none_there : (o : Option Node) → o ≡ None → (x : Node) → o ≡ Some x → ⊥

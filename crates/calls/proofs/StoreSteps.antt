@@ -2,6 +2,8 @@
 use Rattle.std.proofs.Common.{◌≡◌, ℕ, Bool, List, Option, Result, Ok, Err, IfErr, IfOk, IfSome, IsTrue, refl, sym, subst}
 use Rattle.std.specs.Result.{IsErrAnd}
 use Rattle.std.proofs.lemmas.Result.{IfOk-weaker}
+use Rattle.model.specs.declared.limits.Limits.{Limits}
+use Rattle.layout.specs.StateLimits.{limits_of}
 use Rattle.layout.specs.Limits.{Sizes}
 use Rattle.model.specs.Trees.{Tree}
 use Rattle.model.specs.Volumes.{IsVolume, Volume, tree_of}
@@ -28,7 +30,7 @@ use Rattle.calls.proofs.PrepareSteps.{carried, never_damaged}
 module _ {B : Type 0} {bytes : List ℕ} {G : Ghosts B} {a b : B} {s t : InodeFile} {P : Answer (Option Storing)} where
   -- the call is refused by an errno
   pub refuses : {X : Type 0} {x : X} {e : Errno} → Looks {T = X} {E = BlockError} G IsFault a b s t (Ok x) → IsTrue (is_path_refusal e)
-      → OnMounted G a s (λ v table. P s.geometry.inodes v table (Err e)) → PreparesStoring bytes G a b s t P (Err (Refused e))
+      → OnMounted G a s (λ v table. P (limits_of s.geometry) v table (Err e)) → PreparesStoring bytes G a b s t P (Err (Refused e))
   refuses looks own answers = record {
     looks = looks_ok looks;
     own = own;
@@ -41,7 +43,7 @@ module _ {B : Type 0} {bytes : List ℕ} {G : Ghosts B} {a b : B} {s t : InodeFi
 
   -- the call isn't refused
   pub grants : {X : Type 0} {x : X} {o : Option Storing} → Looks {T = X} {E = BlockError} G IsFault a b s t (Ok x) → IsTransfer bytes o → IfSome o (λ w. IsReady t w.prepared)
-      → OnVolumes G a s (λ disk settled v. IfSome o (λ w. Does disk settled t v w.prepared (change_of_store w bytes))) → OnMounted G a s (λ v table. P s.geometry.inodes v table (Ok o))
+      → OnVolumes G a s (λ disk settled v. IfSome o (λ w. Does disk settled t v w.prepared (change_of_store w bytes))) → OnMounted G a s (λ v table. P (limits_of s.geometry) v table (Ok o))
       → PreparesStoring bytes G a b s t P (Ok o)
   grants looks within ready does answers = record {
     looks = looks_ok looks;
@@ -67,9 +69,9 @@ module _ {B : Type 0} {bytes : List ℕ} {G : Ghosts B} {a b : B} {s t : InodeFi
   })
 
   -- nothing stands where a path leads: a block isn't read, or this is refused
-  pub passes : {follow : Bool} {Q : Tree → Volume → Result ℕ Errno → Type 0} (f : Failure) (q : Result (Option Storing) Failure)
+  pub passes : {follow : Bool} {Q : Limits → Tree → Volume → Result ℕ Errno → Type 0} (f : Failure) (q : Result (Option Storing) Failure)
       → IsErrAnd q (λ g. g ≡ f) → TellsWhere G a b s t follow Q (Err f)
-      → OnMounted G a s (λ v table. (errno : Errno) → Q (tree_of v table) v (Err errno) → P s.geometry.inodes v table (Err errno))
+      → OnMounted G a s (λ v table. (errno : Errno) → Q (limits_of s.geometry) (tree_of v table) v (Err errno) → P (limits_of s.geometry) v table (Err errno))
       → PreparesStoring bytes G a b s t P q
   passes (Refused errno) q is led answers =
       carried (PreparesStoring bytes G a b s t P) q is
@@ -80,7 +82,7 @@ module _ {B : Type 0} {bytes : List ℕ} {G : Ghosts B} {a b : B} {s t : InodeFi
   -- bytes aren't put into a file: it would be too great, or a block isn't read
   pub fails : {X : Type 0} (f : Failure) (q : Result (Option Storing) Failure) → IsErrAnd q (λ g. g ≡ f) → Looks G IsFault a b s t (read_outcome {T = X} (Err f))
       → IfOk (read_outcome {T = X} (Err f)) (λ r. IfErr r (λ e. e ≡ EFBIG)) → NeverDamaged G a s (read_outcome {T = X} (Err f))
-      → OnMounted G a s (λ v table. (errno : Errno) → f ≡ Refused errno → P s.geometry.inodes v table (Err errno)) → PreparesStoring bytes G a b s t P q
+      → OnMounted G a s (λ v table. (errno : Errno) → f ≡ Refused errno → P (limits_of s.geometry) v table (Err errno)) → PreparesStoring bytes G a b s t P q
   fails (Refused errno) q is looks big sound answers =
       carried (PreparesStoring bytes G a b s t P) q is
       (refuses looks (subst (λ (e : Errno). IsTrue (is_path_refusal e)) (sym big) refl) (λ disk settled v table stands volume mounted. answers disk settled v table stands volume mounted errno refl))
@@ -97,7 +99,7 @@ module _ {B : Type 0} {bytes : List ℕ} {G : Ghosts B} {a b c : B} {s t u : Ino
   -- another function goes on behind a look
   pub follows : {X : Type 0} {Q : Answer (Option Storing)} {x : X} {r : Result (Option Storing) Failure} → Looks {T = X} {E = BlockError} G IsFault a b s t (Ok x)
       → PreparesStoring bytes G b c t u Q r
-      → OnMounted G a s (λ v table. (y : Result (Option Storing) Errno) → Q s.geometry.inodes v table y → P s.geometry.inodes v table y)
+      → OnMounted G a s (λ v table. (y : Result (Option Storing) Errno) → Q (limits_of s.geometry) v table y → P (limits_of s.geometry) v table y)
       → PreparesStoring bytes G a c s u P r
   follows {Q = Q} {r = r} looks then leads = record {
     looks = looks_more looks then.looks;
@@ -107,7 +109,7 @@ module _ {B : Type 0} {bytes : List ℕ} {G : Ghosts B} {a b c : B} {s t u : Ino
     does = λ disk settled v stands. then.does disk settled v (looks.kept disk settled v stands);
     answers = λ disk settled v table stands volume mounted.
         IfOk-weaker (read_outcome r) _ _ (leads disk settled v table stands volume mounted)
-        (subst (λ (z : Sizes). IfOk (read_outcome r) (Q z.inodes v table)) looks.geometry
-        (then.answers disk settled v table (looks.kept disk settled v stands) (subst (λ (z : Sizes). IsVolume z.inodes v) (sym looks.geometry) volume) mounted));
+        (subst (λ (z : Sizes). IfOk (read_outcome r) (Q (limits_of z) v table)) looks.geometry
+        (then.answers disk settled v table (looks.kept disk settled v stands) (subst (λ (z : Sizes). IsVolume (limits_of z) v) (sym looks.geometry) volume) mounted));
     damaged = λ disk settled v stands is. then.damaged disk settled v (looks.kept disk settled v stands) is;
   }

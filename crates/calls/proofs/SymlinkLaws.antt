@@ -1,5 +1,6 @@
 -- What the definitions say of making a symbolic link over a path.
 use Rattle.std.proofs.Common.{◌≡◌, ℕ, List, Option, Some, None, Result, Ok, Err}
+use Rattle.model.specs.declared.limits.Limits.{Limits}
 use Rattle.model.specs.Changes.{with_made}
 use Rattle.model.specs.Changing.{creates, link_text_tests, makes_symlink}
 use Rattle.model.specs.Paths.{first_refusal}
@@ -13,17 +14,17 @@ use Rattle.calls.specs.Changing.{Comes}
 use Rattle.calls.specs.declared.changed.Changing.{Changing}
 use Rattle.calls.proofs.TestedLaws.{tested_some, tested_none}
 
-module _ (inodes : ℕ) (v : Volume) (table : ℕ → Option Description) (text path : List ℕ) where
+module _ (limits : Limits) (v : Volume) (table : ℕ → Option Description) (text path : List ℕ) where
   abbrev t : Tree
   t = tree_of v table
 
   -- a text that doesn't pass its tests
-  pub link_text_refused : (errno : Errno) → first_refusal (link_text_tests text) ≡ Some errno → makes_symlink inodes t text path (Refused errno) t nothing
-  link_text_refused errno is = tested_some t (link_text_tests text) _ errno is
+  pub link_text_refused : (errno : Errno) → first_refusal (link_text_tests limits text) ≡ Some errno → makes_symlink limits t text path (Refused errno) t nothing
+  link_text_refused errno is = tested_some t (link_text_tests limits text) _ errno is
 
   -- one that passes them: what comes of making the object
-  pub symlink_comes : first_refusal (link_text_tests text) ≡ None → (told : Result Changing Errno) → Comes (creates inodes t path (with_made (symbolic_link text))) inodes v table told
-      → Comes (makes_symlink inodes t text path) inodes v table told
-  symlink_comes passed (Err errno) refused = tested_none t (link_text_tests text) (creates inodes t path (with_made (symbolic_link text))) (Refused errno) t nothing passed refused
+  pub symlink_comes : first_refusal (link_text_tests limits text) ≡ None → (told : Result Changing Errno) → Comes (creates limits t path (with_made (symbolic_link text))) limits v table told
+      → Comes (makes_symlink limits t text path) limits v table told
+  symlink_comes passed (Err errno) refused = tested_none t (link_text_tests limits text) (creates limits t path (with_made (symbolic_link text))) (Refused errno) t nothing passed refused
   symlink_comes passed (Ok c) (applies, mounted, made) =
-      (applies, mounted, tested_none t (link_text_tests text) (creates inodes t path (with_made (symbolic_link text))) Done _ _ passed made)
+      (applies, mounted, tested_none t (link_text_tests limits text) (creates limits t path (with_made (symbolic_link text))) Done _ _ passed made)

@@ -2,6 +2,8 @@
 use Rattle.std.proofs.Common.{◌≡◌, ◌≢◌, ◌<◌, ◌-◌, ℕ, Bool, List, [], ◌∷◌, length, inr, Option, Result, Ok, Err, IfErr, IfOk, IsTrue, arith, refl, subst}
 use Rattle.std.proofs.lemmas.List.Elements.{All-get_or}
 use Rattle.std.specs.Result.{IsErrAnd}
+use Rattle.layout.specs.StateLimits.{limits_of}
+use Rattle.model.specs.declared.limits.Limits.{Limits}
 use Rattle.model.specs.Finding.{IsPlaceAt, here}
 use Rattle.model.specs.Resolution.{Resolution}
 use Rattle.model.specs.Trees.{Tree}
@@ -41,11 +43,11 @@ use Rattle.calls.proofs.RefusalLaws.{walk_refusal}
 abbrev Told : Type 0
 Told = Result (Result ℕ Errno) BlockError
 
-leads_at : (inodes : ℕ) (v : Volume) → IsVolume inodes v → (p : Place) (r : Resolution) → IsPlaceAt v (model_place_of p) r → LeadsTo v r (led_of p)
-leads_at inodes v volume (Directory trail) r at = leads_directory inodes v volume trail r at
-leads_at inodes v volume (Entry trail name number) r at = leads_entry inodes v volume trail name.items number r at
-leads_at inodes v volume (Missing trail name) r at = leads_gap v trail name.items r at
-leads_at inodes v volume (Refusal errno) r at = leads_refusal v errno r at
+leads_at : (limits : Limits) (v : Volume) → IsVolume limits v → (p : Place) (r : Resolution) → IsPlaceAt v (model_place_of p) r → LeadsTo v r (led_of p)
+leads_at limits v volume (Directory trail) r at = leads_directory limits v volume trail r at
+leads_at limits v volume (Entry trail name number) r at = leads_entry limits v volume trail name.items number r at
+leads_at limits v volume (Missing trail name) r at = leads_gap v trail name.items r at
+leads_at limits v volume (Refusal errno) r at = leads_refusal v errno r at
 
 pub number_here : (inodes : ℕ) (trail : List ℕ) → ROOT_NUMBER < inodes → AreInodeNumbers inodes trail → IsInodeNumber inodes (here trail)
 number_here inodes [] root all = (omega arith, root)
@@ -74,9 +76,9 @@ abbrev pub led_to : Target → Result ℕ Errno
 led_to (target.Place p) = led_of p
 led_to (target.Object n) = Ok n
 
-leads_to_target : (inodes : ℕ) (t : Tree) (v : Volume) (follow : Bool) (text : List ℕ) → IsVolume inodes v → (x : Target) → TellsTarget t v follow text x → LeadsAlong t v follow text (led_to x)
-leads_to_target inodes t v follow text volume (target.Place p) (r, reaches, at) = along_by t v follow text r (led_of p) reaches (leads_at inodes v volume p r at)
-leads_to_target inodes t v follow text volume (target.Object n) is = inr is
+leads_to_target : (limits : Limits) (t : Tree) (v : Volume) (follow : Bool) (text : List ℕ) → IsVolume limits v → (x : Target) → TellsTarget t v follow text x → LeadsAlong t v follow text (led_to x)
+leads_to_target limits t v follow text volume (target.Place p) (r, reaches, at) = along_by t v follow text r (led_of p) reaches (leads_at limits v volume p r at)
+leads_to_target limits t v follow text volume (target.Object n) is = inr is
 
 within_target : (inodes : ℕ) (x : Target) → ROOT_NUMBER < inodes → IsTargetWithin inodes x → IfOk (led_to x) (IsInodeNumber inodes)
 within_target inodes (target.Place p) root is = within_at inodes p root is
@@ -90,7 +92,7 @@ followed_target : (v : Volume) (follow : Bool) (x : Target) → TargetEndsWell v
 followed_target v follow (target.Place p) ends is = followed_at v follow p ends is
 followed_target v follow (target.Object n) ends is = ends is
 
-module _ {B : Type 0} {G : Ghosts B} {a b : B} {s t : InodeFile} {follow : Bool} {answer : Tree → Volume → Result ℕ Errno → Type 0} where
+module _ {B : Type 0} {G : Ghosts B} {a b : B} {s t : InodeFile} {follow : Bool} {answer : Limits → Tree → Volume → Result ℕ Errno → Type 0} where
   -- a step before has failed
   pub leads_nowhere : {X : Type 0} {e : BlockError} (q : Result ℕ Failure) → IsErrAnd q (λ f. f ≡ Read e)
       → Looks {T = X} G IsFault a b s t (Err e) → NeverDamaged {T = X} G a s (Err e) → TellsWhere G a b s t follow answer q
@@ -105,14 +107,14 @@ module _ {B : Type 0} {G : Ghosts B} {a b : B} {s t : InodeFile} {follow : Bool}
 
 -- what stands where the text of a path leads
 pub leads_by : {B : Type 0} {G : Ghosts B} {a b : B} {s t : InodeFile} {follow : Bool} {text : List ℕ} {x : Target} {q : Result ℕ Failure} → ROOT_NUMBER < s.geometry.inodes → LeadsUpNowhere text
-    → Resolves G a b s t text follow (Ok x) → Ok (led_to x) ≡ read_outcome q → TellsWhere G a b s t follow (λ tree v. LeadsAlong tree v follow text) q
+    → Resolves G a b s t text follow (Ok x) → Ok (led_to x) ≡ read_outcome q → TellsWhere G a b s t follow (λ limits tree v. LeadsAlong tree v follow text) q
 leads_by {G = G} {a = a} {b = b} {s = s} {t = t} {follow = follow} {text = text} {x = x} root level resolves is = record {
   looks = subst (Looks G IsFault a b s t) is (looks_ok resolves.looks);
   within = subst (λ (x : Told). IfOk x (λ r. IfOk r (IsInodeNumber s.geometry.inodes))) is (within_target s.geometry.inodes x root resolves.within);
   own = subst (λ (x : Told). IfOk x (λ r. IfErr r (λ e. IsTrue (is_path_refusal e)))) is (own_target s.geometry.inodes x resolves.within);
   leads = λ disk settled v table stands volume.
       subst (λ (y : Told). IfOk y (LeadsAlong (tree_of v table) v follow text)) is
-      (leads_to_target s.geometry.inodes (tree_of v table) v follow text volume x (resolves.found disk settled v table stands volume level));
+      (leads_to_target (limits_of s.geometry) (tree_of v table) v follow text volume x (resolves.found disk settled v table stands volume level));
   followed = λ disk settled v stands volume follows.
       subst (λ (y : Told). IfOk y (λ r. IfOk r (λ n. found_in (v n) ≢ found.Link))) is (followed_target v follow x (resolves.ends disk settled v stands volume) follows);
   damaged = subst (NeverDamaged G a s) is (λ disk settled v stands bad. cc);
@@ -121,11 +123,11 @@ leads_by {G = G} {a = a} {b = b} {s = s} {t = t} {follow = follow} {text = text}
 -- a place tells why nothing stands where a path leads, and the call is refused so
 pub finds_none : {B T : Type 0} {changes : T → Option Changing} {G : Ghosts B} {a b : B} {s t : InodeFile} {P : Answer T} {follow : Bool} {text : List ℕ} {p : Place} {errno : Errno}
     → ResolvesPlace G a b s t text follow (Ok p) → LeadsUpNowhere text → led_of p ≡ Err errno
-    → OnMounted G a s (λ v table. LeadsAlong (tree_of v table) v follow text (Err errno) → P s.geometry.inodes v table (Err errno))
+    → OnMounted G a s (λ v table. LeadsAlong (tree_of v table) v follow text (Err errno) → P (limits_of s.geometry) v table (Err errno))
     → PreparesWith changes G a b s t P (Err (Refused errno))
 finds_none {s = s} {follow = follow} {text = text} {p = p} resolves level is answers =
     refuses resolves.looks (subst (λ (r : Result ℕ Errno). IfErr r (λ e. IsTrue (is_path_refusal e))) is (own_at s.geometry.inodes p resolves.within))
     (λ disk settled v table stands volume mounted.
     answers disk settled v table stands volume mounted
     (subst (LeadsAlong (tree_of v table) v follow text) is
-    (leads_to_target s.geometry.inodes (tree_of v table) v follow text volume (target.Place p) (resolves.found disk settled v table stands volume level))))
+    (leads_to_target (limits_of s.geometry) (tree_of v table) v follow text volume (target.Place p) (resolves.found disk settled v table stands volume level))))

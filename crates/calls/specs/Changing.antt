@@ -1,5 +1,6 @@
 -- What calls by a path that change something come to.
 use Rattle.std.specs.Prelude.{ℕ, ◌≡◌, Option, Some, None, Result, Ok, Err}
+use Rattle.model.specs.declared.limits.Limits.{Limits}
 use Rattle.model.specs.Outcomes.{Outcome}
 use Rattle.model.specs.Records.{Change, Made, Applies, applied, create, file, directory, symbolic_link, link, remove_name, rename, truncate, change_mode, set_file, work_of}
 use Rattle.model.specs.Room.{nothing, logs}
@@ -37,33 +38,33 @@ said_by (owned.SetFile number mode size) = set_file number mode size
 
 -- A call comes to what this record, which applies, does on the tree of a volume with these
 -- descriptors, and needs room for it. Behind it nothing is to be swept.
-abbrev pub ComesBy : Outcome → ℕ → Volume → (ℕ → Option Description) → Change → Type 0
-ComesBy outcome inodes v table change =
-    Applies inodes v change × IsMounted (applied change v) table × outcome Done (tree_of (applied change v) table) (logs (work_of v change))
+abbrev pub ComesBy : Outcome → Limits → Volume → (ℕ → Option Description) → Change → Type 0
+ComesBy outcome limits v table change =
+    Applies limits v change × IsMounted (applied change v) table × outcome Done (tree_of (applied change v) table) (logs (work_of v change))
 
 -- The same, but that a file may be left with neither name nor descriptor, which is then dropped.
-abbrev pub ComesSweptBy : Outcome → ℕ → Volume → (ℕ → Option Description) → Change → Type 0
-ComesSweptBy outcome inodes v table change =
-    Applies inodes v change × IsMounted (swept table (applied change v)) table
+abbrev pub ComesSweptBy : Outcome → Limits → Volume → (ℕ → Option Description) → Change → Type 0
+ComesSweptBy outcome limits v table change =
+    Applies limits v change × IsMounted (swept table (applied change v)) table
     × outcome Done (tree_of (swept table (applied change v)) table) (logs (work_of v change))
 
 -- what a call comes to: a refusal, or what its record does
-abbrev pub Comes : Outcome → ℕ → Volume → (ℕ → Option Description) → Result Changing Errno → Type 0
-Comes outcome inodes v table (Err errno) = outcome (Refused errno) (tree_of v table) nothing
-Comes outcome inodes v table (Ok c) = ComesBy outcome inodes v table (said_by c.change)
+abbrev pub Comes : Outcome → Limits → Volume → (ℕ → Option Description) → Result Changing Errno → Type 0
+Comes outcome limits v table (Err errno) = outcome (Refused errno) (tree_of v table) nothing
+Comes outcome limits v table (Ok c) = ComesBy outcome limits v table (said_by c.change)
 
 -- the same of a call that may leave a file to be dropped
-abbrev pub ComesSwept : Outcome → ℕ → Volume → (ℕ → Option Description) → Result Changing Errno → Type 0
-ComesSwept outcome inodes v table (Err errno) = outcome (Refused errno) (tree_of v table) nothing
-ComesSwept outcome inodes v table (Ok c) = ComesSweptBy outcome inodes v table (said_by c.change)
+abbrev pub ComesSwept : Outcome → Limits → Volume → (ℕ → Option Description) → Result Changing Errno → Type 0
+ComesSwept outcome limits v table (Err errno) = outcome (Refused errno) (tree_of v table) nothing
+ComesSwept outcome limits v table (Ok c) = ComesSweptBy outcome limits v table (said_by c.change)
 
 -- the same of a call that may find nothing to change
-abbrev pub ComesOrStays : Outcome → ℕ → Volume → (ℕ → Option Description) → Result (Option Changing) Errno → Type 0
-ComesOrStays outcome inodes v table (Err errno) = outcome (Refused errno) (tree_of v table) nothing
-ComesOrStays outcome inodes v table (Ok None) = outcome Done (tree_of v table) nothing
-ComesOrStays outcome inodes v table (Ok (Some c)) = ComesSwept outcome inodes v table (Ok c)
+abbrev pub ComesOrStays : Outcome → Limits → Volume → (ℕ → Option Description) → Result (Option Changing) Errno → Type 0
+ComesOrStays outcome limits v table (Err errno) = outcome (Refused errno) (tree_of v table) nothing
+ComesOrStays outcome limits v table (Ok None) = outcome Done (tree_of v table) nothing
+ComesOrStays outcome limits v table (Ok (Some c)) = ComesSwept outcome limits v table (Ok c)
 
 -- a call's record applies, and this is it; or this is the first obstacle to it
-abbrev pub Decides : ℕ → Volume → Change → Result Changing Errno → Type 0
-Decides inodes v change (Ok c) = (said_by c.change ≡ change) × Applies inodes v change
-Decides inodes v change (Err errno) = IsObstacle inodes v change errno
+abbrev pub Decides : Limits → Volume → Change → Result Changing Errno → Type 0
+Decides limits v change (Ok c) = (said_by c.change ≡ change) × Applies limits v change
+Decides limits v change (Err errno) = IsObstacle limits v change errno

@@ -1,5 +1,6 @@
 -- What telling the stored blocks of a file over a path comes to.
 use Rattle.std.specs.Prelude.{ℕ, ℤ, Bool, Result, Ok, Err, List, [], ◌∷◌}
+use Rattle.model.specs.declared.limits.Limits.{Limits}
 use Rattle.buffers.specs.declared.blocks.Blocks.{Ghosts}
 use Rattle.inofile.specs.declared.inode_file.InodeFile.{InodeFile}
 use Rattle.model.specs.Outcomes.{Outcome}
@@ -24,7 +25,7 @@ extent_reply (Err errno) = reply.Refused errno
 
 -- what the call comes to on a tree, by whatever tells right of the files in memory which blocks are
 -- stored
-abbrev pub shows_extent : {B : Type 0} → Ghosts B → B → InodeFile → List ℕ → ℤ → Tree → Outcome
-shows_extent G blocks s path offset t answer new need =
+abbrev pub shows_extent : {B : Type 0} → Ghosts B → B → InodeFile → List ℕ → ℤ → Limits → Tree → Outcome
+shows_extent G blocks s path offset limits t answer new need =
     (disk : ℕ → List ℕ) (stored : ℕ → ℕ → Bool) → G.Shows blocks disk → TellsStored disk s stored
-    → tells_extent t stored path offset answer new need
+    → tells_extent limits t stored path offset answer new need

@@ -1,5 +1,7 @@
 -- What a call by a path is told of where the path leads.
 use Rattle.std.specs.Prelude.{ℕ, ◌≡◌, ◌≢◌, ◌⊎◌, Bool, IsSome, IsTrue, IfErr, IfOk, List, Option, Some, None, Result, Ok, Err}
+use Rattle.model.specs.declared.limits.Limits.{Limits}
+use Rattle.layout.specs.StateLimits.{limits_of}
 use Rattle.layout.specs.declared.inode.Inode.{Inode}
 use Rattle.model.specs.Finding.{here}
 use Rattle.model.specs.Paths.{Path, Tests, first_refusal, parts_behind, start_number}
@@ -62,13 +64,13 @@ pub record IsFoundAs (v : Volume) (n : ℕ) (p : Path) (o : Object) : Type 0 whe
 -- that stands for a volume this is told of where the text leads, a last link isn't told where it is
 -- followed, and no damage is found.
 pub record TellsWhere {B : Type 0} (G : Ghosts B) (blocks after : B) (s t : InodeFile) (follow : Bool)
-    (answer : Tree → Volume → Result ℕ Errno → Type 0) (result : Result ℕ Failure) : Type 0 where
+    (answer : Limits → Tree → Volume → Result ℕ Errno → Type 0) (result : Result ℕ Failure) : Type 0 where
   pub looks : Looks G IsFault blocks after s t (read_outcome result)
   pub within : IfOk (read_outcome result) (λ r. IfOk r (IsInodeNumber s.geometry.inodes))
   pub own : IfOk (read_outcome result) (λ r. IfErr r (λ e. IsTrue (is_path_refusal e)))
   pub leads : (disk : ℕ → List ℕ) (settled : ℕ → Inode) (v : Volume) (table : ℕ → Option Description)
-      → Stands G disk settled v blocks s → IsVolume s.geometry.inodes v
-      → IfOk (read_outcome result) (answer (tree_of v table) v)
-  pub followed : OnVolumes G blocks s (λ disk settled v. IsVolume s.geometry.inodes v → IsTrue follow
+      → Stands G disk settled v blocks s → IsVolume (limits_of s.geometry) v
+      → IfOk (read_outcome result) (answer (limits_of s.geometry) (tree_of v table) v)
+  pub followed : OnVolumes G blocks s (λ disk settled v. IsVolume (limits_of s.geometry) v → IsTrue follow
       → IfOk (read_outcome result) (λ r. IfOk r (λ n. found_in (v n) ≢ found.Link)))
   pub damaged : NeverDamaged G blocks s (read_outcome result)

@@ -1,5 +1,6 @@
 -- What making an object over a path comes to.
 use Rattle.std.specs.Prelude.{ℕ, ◌≡◌, ◌⊎◌, ◌≤◌, ◌<◌, None, IsSome, Result, Ok, Err}
+use Rattle.model.specs.declared.limits.Limits.{Limits}
 use Rattle.model.specs.Paths.{Name}
 use Rattle.model.specs.Records.{Made, IsMade, TakesName, create}
 use Rattle.model.specs.Volumes.{Volume}
@@ -24,11 +25,11 @@ pub record IsLeastFree (inodes : ℕ) (v : Volume) (n : ℕ) : Type 0 where
   pub least : (k : ℕ) → FIRST_NUMBER ≤ k → k < n → IsSome (v k)
 
 -- what is told of a name that a directory of a volume doesn't have
-abbrev pub MakesIn : ℕ → Volume → ℕ → Name → Made → Result Changing Errno → Type 0
-MakesIn inodes v parent name made (Err errno) =
-    ((errno ≡ DIRFULL) × (TakesName v parent name → ⊥)) ⊎ ((errno ≡ NONUMBER) × TakesName v parent name × HasNoNumber inodes v)
-MakesIn inodes v parent name made (Ok c) =
-    (n : ℕ) × (said_by c.change ≡ create n parent made name) × IsMade made × TakesName v parent name × IsLeastFree inodes v n
+abbrev pub MakesIn : Limits → Volume → ℕ → Name → Made → Result Changing Errno → Type 0
+MakesIn limits v parent name made (Err errno) =
+    ((errno ≡ DIRFULL) × (TakesName limits v parent name → ⊥)) ⊎ ((errno ≡ NONUMBER) × TakesName limits v parent name × HasNoNumber limits.inodes v)
+MakesIn limits v parent name made (Ok c) =
+    (n : ℕ) × (said_by c.change ≡ create n parent made name) × IsMade limits made × TakesName limits v parent name × IsLeastFree limits.inodes v n
 
 -- what is changed is that an object of this number is made
 abbrev pub CreatesNumber : ℕ → OwnedChange → Type 0

@@ -1,5 +1,6 @@
 -- What opening a file over a path comes to.
 use Rattle.std.specs.Prelude.{ℕ, ◌≡◌, ◌⊎◌, ◌≤◌, not, ◌&&◌, Bool, false, true, IsFalse, IsTrue, List, length, Option, Some, None, Result, Ok, Err}
+use Rattle.model.specs.declared.limits.Limits.{Limits}
 use Rattle.model.specs.declared.attributes.Attributes.{Attributes}
 use Rattle.model.specs.Descriptors.{described_by, opens_new, opens_object}
 use Rattle.model.specs.Edits.{with_descriptor}
@@ -25,11 +26,11 @@ use Rattle.calls.specs.declared.preparing.open.Opened.{Opened}
 
 -- `open` behind its tests, at each descriptor, and `openstat`, which tells of the file too: the
 -- file that a path leads to, or a new one
-abbrev pub opens_along : ℕ → Tree → List ℕ → Flags → ℕ → Bool → ℕ → Outcome
-opens_along inodes t path flags mode tells fd =
+abbrev pub opens_along : Limits → Tree → List ℕ → Flags → ℕ → Bool → ℕ → Outcome
+opens_along limits t path flags mode tells fd =
     goes_along t (not (flags.creates && flags.exclusive)) path
     (λ p o. opens_object tells t o flags fd)
-    (λ p name. opens_new tells inodes t p name flags mode fd)
+    (λ p name. opens_new tells limits t p name flags mode fd)
 
 -- the number, the names, the mode and the size are those of a file of the volume
 abbrev pub IsOpened : Volume → Opened → Type 0
@@ -72,41 +73,41 @@ IsOpenedOver outcome flags o t need =
     → outcome tells fd (opened_reply tells fd o) (opened_tree flags o fd t) need
 
 -- what opening a file comes to where this record, which applies, makes or truncates it
-abbrev pub OpensByRecord : Opening → ℕ → Flags → Volume → (ℕ → Option Description) → Opened
+abbrev pub OpensByRecord : Opening → Limits → Flags → Volume → (ℕ → Option Description) → Opened
     → Change → Type 0
-OpensByRecord outcome inodes flags v table o change =
+OpensByRecord outcome limits flags v table o change =
     let after = swept table (applied change v) in
-    Applies inodes v change × IsMounted after table × IsOpened after o
+    Applies limits v change × IsMounted after table × IsOpened after o
     × IsOpenedOver outcome flags o (tree_of after table) (logs (work_of v change))
 
 -- what opening a file comes to that changes nothing beside, or does what a record says
-abbrev pub OpensOver : Opening → ℕ → Flags → Volume → (ℕ → Option Description) → Opened
+abbrev pub OpensOver : Opening → Limits → Flags → Volume → (ℕ → Option Description) → Opened
     → Option Changing → Type 0
-OpensOver outcome inodes flags v table o None =
+OpensOver outcome limits flags v table o None =
     IsOpened v o × IsOpenedOver outcome flags o (tree_of v table) nothing
-OpensOver outcome inodes flags v table o (Some c) =
-    OpensByRecord outcome inodes flags v table o (said_by c.change)
+OpensOver outcome limits flags v table o (Some c) =
+    OpensByRecord outcome limits flags v table o (said_by c.change)
 
 -- what opening a file comes to, at whatever descriptor: a refusal, or the file
-abbrev pub OpensAt : Opening → ℕ → Flags → Volume → (ℕ → Option Description)
+abbrev pub OpensAt : Opening → Limits → Flags → Volume → (ℕ → Option Description)
     → Result Opened Errno → Type 0
-OpensAt outcome inodes flags v table (Err errno) =
+OpensAt outcome limits flags v table (Err errno) =
     (tells : Bool) (fd : ℕ) → outcome tells fd (replies.Refused errno) (tree_of v table) nothing
-OpensAt outcome inodes flags v table (Ok o) =
-    OpensOver outcome inodes flags v table o o.changing
+OpensAt outcome limits flags v table (Ok o) =
+    OpensOver outcome limits flags v table o o.changing
 
 -- a file of this number is made, with this name
-abbrev pub OpensMade : ℕ → Volume → ℕ → ℕ → Name → Opened → Option Changing → Type 0
-OpensMade inodes v mode parent name o None = ⊥
-OpensMade inodes v mode parent name o (Some c) =
-    MakesIn inodes v parent name (file mode) (Ok c)
+abbrev pub OpensMade : Limits → Volume → ℕ → ℕ → Name → Opened → Option Changing → Type 0
+OpensMade limits v mode parent name o None = ⊥
+OpensMade limits v mode parent name o (Some c) =
+    MakesIn limits v parent name (file mode) (Ok c)
     × (said_by c.change ≡ create o.number parent (file mode) name)
     × (o.links ≡ 1) × (o.mode ≡ mode) × (o.size ≡ 0)
 
 -- what opening comes to at a name that a directory doesn't have
-abbrev pub OpensNew : ℕ → Volume → Flags → ℕ → ℕ → Name → Result Opened Errno → Type 0
-OpensNew inodes v flags mode parent name (Ok o) =
-    IsTrue flags.creates × OpensMade inodes v mode parent name o o.changing
-OpensNew inodes v flags mode parent name (Err errno) =
+abbrev pub OpensNew : Limits → Volume → Flags → ℕ → ℕ → Name → Result Opened Errno → Type 0
+OpensNew limits v flags mode parent name (Ok o) =
+    IsTrue flags.creates × OpensMade limits v mode parent name o o.changing
+OpensNew limits v flags mode parent name (Err errno) =
     (IsFalse flags.creates × (errno ≡ ENOENT))
-    ⊎ (IsTrue flags.creates × MakesIn inodes v parent name (file mode) (Err errno))
+    ⊎ (IsTrue flags.creates × MakesIn limits v parent name (file mode) (Err errno))

@@ -1,5 +1,7 @@
 -- What a function promises that prepares the change of a call.
 use Rattle.std.specs.Prelude.{ℕ, Option, Some, Result, IfOk, IfErr, IfSome, IsTrue}
+use Rattle.model.specs.declared.limits.Limits.{Limits}
+use Rattle.layout.specs.StateLimits.{limits_of}
 use Rattle.model.specs.Trees.{Description}
 use Rattle.model.specs.Volumes.{Volume}
 use Rattle.model.specs.declared.errno.Errno.{Errno}
@@ -16,9 +18,9 @@ use Rattle.calls.specs.Refusals.{is_path_refusal}
 use Rattle.calls.specs.declared.changed.Changing.{Changing}
 use Rattle.calls.specs.declared.preparing.open.Opened.{Opened}
 
--- what a call comes to on a volume of so many inodes, with these descriptors
+-- what a call comes to on a volume within limits, with these descriptors
 abbrev pub Answer : Type 0 → Type 1
-Answer T = ℕ → Volume → (ℕ → Option Description) → Result T Errno → Type 0
+Answer T = Limits → Volume → (ℕ → Option Description) → Result T Errno → Type 0
 
 -- memory has room for what is to be changed, if anything is
 abbrev pub Readies : {T : Type 0} → (T → Option Changing) → InodeFile → Result T Failure → Type 0
@@ -39,7 +41,7 @@ pub record PreparesWith {B T : Type 0} (changes : T → Option Changing) (G : Gh
   pub own : IfOk (read_outcome result) (λ r. IfErr r (λ e. IsTrue (is_path_refusal e)))
   pub ready : Readies changes t result
   pub does : WillDo changes G blocks s t result
-  pub answers : OnMounted G blocks s (λ v table. IfOk (read_outcome result) (answer s.geometry.inodes v table))
+  pub answers : OnMounted G blocks s (λ v table. IfOk (read_outcome result) (answer (limits_of s.geometry) v table))
   pub damaged : NeverDamaged G blocks s (read_outcome result)
 
 -- this of a call that changes something where it isn't refused
@@ -58,7 +60,7 @@ pub record PreparesKnowing {B : Type 0} (Known : Volume → Type 0) (G : Ghosts 
   pub ready : Readies (λ o. o) t result
   pub does : OnVolumes G blocks s
       (λ disk settled v. Known v → IfOk result (λ x. IfSome x (λ c. Does disk settled t v c.prepared (said_by c.change))))
-  pub answers : OnMounted G blocks s (λ v table. Known v → IfOk (read_outcome result) (answer s.geometry.inodes v table))
+  pub answers : OnMounted G blocks s (λ v table. Known v → IfOk (read_outcome result) (answer (limits_of s.geometry) v table))
   pub damaged : NeverDamaged G blocks s (read_outcome result)
 
 -- this of opening a file, where it may be made or truncated

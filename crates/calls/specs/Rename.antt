@@ -1,5 +1,6 @@
 -- What moving a name comes to.
 use Rattle.std.specs.Prelude.{ℕ, ◌≡◌, ◌≢◌, ◌↔◌, Bool, Contains, IsFalse, IsTrue, List, Option, Some, None, Result, Ok, Err}
+use Rattle.model.specs.declared.limits.Limits.{Limits}
 use Rattle.model.specs.Finding.{here}
 use Rattle.model.specs.Paths.{IsName, Name, first_refusal, is_root_text, new_text_tests}
 use Rattle.model.specs.Records.{IsBelow, rename}
@@ -9,9 +10,9 @@ use Rattle.calls.specs.Changing.{Decides}
 use Rattle.calls.specs.declared.changed.Changing.{Changing}
 
 -- the texts of two paths that passed the tests of a move
-pub record PassTests (old path : List ℕ) : Type 0 where
-  pub old_passed : first_refusal (new_text_tests old) ≡ None
-  pub passed : first_refusal (new_text_tests path) ≡ None
+pub record PassTests (limits : Limits) (old path : List ℕ) : Type 0 where
+  pub old_passed : first_refusal (new_text_tests limits old) ≡ None
+  pub passed : first_refusal (new_text_tests limits path) ≡ None
   pub old_below : IsFalse (is_root_text old)
   pub below : IsFalse (is_root_text path)
 
@@ -27,7 +28,7 @@ pub record MovesAlong (v : Volume) (n : ℕ) (rooted : Bool) (trail : List ℕ) 
   pub tells : TellsBelow v n rooted trail
 
 -- what comes of a name that an object moves to: its record decides
-abbrev pub MovesName : ℕ → Volume → ℕ → Name → ℕ → Name → Result (Option Changing) Errno → Type 0
-MovesName inodes v d x k y (Ok None) = ⊥
-MovesName inodes v d x k y (Ok (Some c)) = Decides inodes v (rename d x k y) (Ok c)
-MovesName inodes v d x k y (Err errno) = Decides inodes v (rename d x k y) (Err errno)
+abbrev pub MovesName : Limits → Volume → ℕ → Name → ℕ → Name → Result (Option Changing) Errno → Type 0
+MovesName limits v d x k y (Ok None) = ⊥
+MovesName limits v d x k y (Ok (Some c)) = Decides limits v (rename d x k y) (Ok c)
+MovesName limits v d x k y (Err errno) = Decides limits v (rename d x k y) (Err errno)

@@ -1,5 +1,7 @@
 -- What writing bytes into a file over a path comes to.
 use Rattle.std.specs.Prelude.{ℕ, ◌≡◌, ◌≤◌, IfErr, IfOk, IfSome, IsTrue, List, length, Option, Some, None, Result, Ok, Err}
+use Rattle.model.specs.declared.limits.Limits.{Limits}
+use Rattle.layout.specs.StateLimits.{limits_of}
 use Rattle.model.specs.Outcomes.{Outcome}
 use Rattle.model.specs.Records.{Change, applied, work_of, write}
 use Rattle.model.specs.Room.{logs, nothing}
@@ -30,25 +32,25 @@ abbrev pub IsTransfer : List ℕ → Option Storing → Type 0
 IsTransfer bytes o = IfSome o (λ _. (1 ≤ length bytes) × (length bytes ≤ TRANSFER_BYTES))
 
 -- what bytes that go to the file with this number come to, whatever else changes by the call
-abbrev pub PutsInto : ℕ → Volume → (ℕ → Option Description) → ℕ → ℕ → List ℕ
+abbrev pub PutsInto : Limits → Volume → (ℕ → Option Description) → ℕ → ℕ → List ℕ
     → Result (Option Storing) Errno → Type 0
-PutsInto inodes v table n offset bytes (Err errno) =
-    PutsBytes inodes v table n offset bytes (Err errno)
-PutsInto inodes v table n offset bytes (Ok None) =
-    PutsBytes inodes v table n offset bytes (Ok None)
-PutsInto inodes v table n offset bytes (Ok (Some w)) =
+PutsInto limits v table n offset bytes (Err errno) =
+    PutsBytes limits v table n offset bytes (Err errno)
+PutsInto limits v table n offset bytes (Ok None) =
+    PutsBytes limits v table n offset bytes (Ok None)
+PutsInto limits v table n offset bytes (Ok (Some w)) =
     (w.number ≡ n) × (w.offset ≡ offset)
-    × PutsBytes inodes v table n offset bytes (Ok (Some w.prepared))
+    × PutsBytes limits v table n offset bytes (Ok (Some w.prepared))
 
 -- what the call comes to: a refusal, nothing where there are no bytes, or what their record does
-abbrev pub StoresFile : Outcome → ℕ → Volume → (ℕ → Option Description) → List ℕ
+abbrev pub StoresFile : Outcome → Limits → Volume → (ℕ → Option Description) → List ℕ
     → Result (Option Storing) Errno → Type 0
-StoresFile outcome inodes v table bytes (Err errno) =
+StoresFile outcome limits v table bytes (Err errno) =
     outcome (Refused errno) (tree_of v table) nothing
-StoresFile outcome inodes v table bytes (Ok None) = outcome (Wrote 0) (tree_of v table) nothing
-StoresFile outcome inodes v table bytes (Ok (Some w)) =
+StoresFile outcome limits v table bytes (Ok None) = outcome (Wrote 0) (tree_of v table) nothing
+StoresFile outcome limits v table bytes (Ok (Some w)) =
     let change = change_of_store w bytes in
-    GoesOver inodes v table change
+    GoesOver limits v table change
     × outcome (Wrote (length bytes)) (tree_of (applied change v) table) (logs (work_of v change))
 
 -- Nothing is done but looking; the call is refused by an errno of paths, or the record of the bytes
@@ -63,5 +65,5 @@ pub record PreparesStoring {B : Type 0} (bytes : List ℕ) (G : Ghosts B) (block
   pub does : OnVolumes G blocks s (λ disk settled v. IfOk result
       (λ o. IfSome o (λ w. Does disk settled t v w.prepared (change_of_store w bytes))))
   pub answers : OnMounted G blocks s
-      (λ v table. IfOk (read_outcome result) (answer s.geometry.inodes v table))
+      (λ v table. IfOk (read_outcome result) (answer (limits_of s.geometry) v table))
   pub damaged : NeverDamaged G blocks s (read_outcome result)

@@ -1,5 +1,6 @@
 -- What taking a name away comes to, of anything but a directory.
 use Rattle.std.specs.Prelude.{ℕ, ◌≡◌, ◌≢◌, ◌⊎◌, Result, Err}
+use Rattle.model.specs.declared.limits.Limits.{Limits}
 use Rattle.model.specs.Paths.{Name}
 use Rattle.model.specs.Records.{remove_name}
 use Rattle.model.specs.Volumes.{Volume}
@@ -11,6 +12,6 @@ use Rattle.calls.specs.Changing.{Decides}
 use Rattle.calls.specs.declared.changed.Changing.{Changing}
 
 -- this number is a directory's; or it isn't, and the record decides
-abbrev pub UnlinksEntry : ℕ → Volume → ℕ → Name → ℕ → Result Changing Errno → Type 0
-UnlinksEntry inodes v parent name number r =
-    ((found_in (v number) ≡ found.Directory) × (r ≡ Err EPERM)) ⊎ ((found_in (v number) ≢ found.Directory) × Decides inodes v (remove_name parent name) r)
+abbrev pub UnlinksEntry : Limits → Volume → ℕ → Name → ℕ → Result Changing Errno → Type 0
+UnlinksEntry limits v parent name number r =
+    ((found_in (v number) ≡ found.Directory) × (r ≡ Err EPERM)) ⊎ ((found_in (v number) ≢ found.Directory) × Decides limits v (remove_name parent name) r)

@@ -6,11 +6,12 @@ ghost use Rattle.paths.specs.Resolves.{LeadsUpNowhere};
 ghost use Rattle.records.specs.Failures.{read_outcome};
 ghost use Rattle.calls.specs.Leading.{IsLed, LeadsAlong, TellsWhere, led_of};
 
+use crate::texts::refusal_of_path;
 use buffers::Blocks;
 use inofile::InodeFile;
 use layout::InodeNumber;
 use model::Errno;
-use paths::{Parts, Place, Target, refusal_of_text, resolve};
+use paths::{Parts, Place, Target, resolve};
 use records::Failure;
 use std::alloc::Global;
 
@@ -27,7 +28,7 @@ pub(crate) fn find_object<B: Blocks>(
     requires parts { parts ≡ parts_of path.now }
     requires level { LeadsUpNowhere path.now }
     ensures { TellsWhere B.Blocks blocks.old blocks.new inodes.old inodes.new follow
-        (λ t v. LeadsAlong t v follow path.now) result }
+        (λ limits t v. LeadsAlong t v follow path.now) result }
 {
     let target = resolve(alloc, inodes, blocks, path, parts, follow)?;
     match target {
@@ -64,10 +65,10 @@ pub(crate) fn lead<B: Blocks>(
     follow: bool,
 ) -> Result<InodeNumber, Failure>
     ensures { TellsWhere B.Blocks blocks.old blocks.new inodes.old inodes.new follow
-        (λ t v. IsLed (text_tests path.now) t v follow path.now) result }
+        (λ limits t v. IsLed (text_tests limits path.now) t v follow path.now) result }
 {
     let parts = Parts::of(alloc, path)?;
-    if let Some(errno) = refusal_of_text(path, &parts) {
+    if let Some(errno) = refusal_of_path(inodes, path, &parts) {
         return Err(Failure::Refused(errno));
     }
     find_object(alloc, inodes, blocks, path, parts, follow)

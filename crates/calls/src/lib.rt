@@ -11,6 +11,7 @@ mod preparing;
 mod reading;
 mod root;
 mod seeing;
+mod texts;
 
 pub use changed::{Changing, EntryName, OwnedChange};
 pub use made::{Creation, LinkText, OwnedObject};
@@ -32,3 +33,4 @@ pub use reading::readlink::readlink;
 pub use reading::stat::{lstat, stat, stat_number};
 pub use reading::tell_entries::entries;
 pub use seeing::reading_forgets_open_files;
+pub use texts::refusal_of_path;

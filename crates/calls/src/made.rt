@@ -1,6 +1,7 @@
 //! An object that is to be made.
 
 ghost use Rattle.std.specs.Prelude.{◌≡◌, IfNone, IfSome};
+ghost use Rattle.layout.specs.declared.limits.TheConstants.{PATH_BYTES};
 ghost use Rattle.model.specs.Paths.{IsLinkText};
 
 use crate::EntryName;
@@ -11,14 +12,14 @@ use model::Mode;
 #[derive(Drop)]
 pub struct LinkText {
     pub(crate) bytes: Vec<u8>,
-    ghost said: { IsLinkText bytes.items },
+    ghost said: { IsLinkText PATH_BYTES bytes.items },
 }
 
 impl LinkText {
     /// The text of these bytes; None where no link has it.
     pub(crate) fn new(bytes: Vec<u8>) -> Option<LinkText>
         ensures some { IfSome result (λ text. text.bytes.items ≡ bytes.items) }
-        ensures none { IfNone result (IsLinkText bytes.items → ⊥) }
+        ensures none { IfNone result (IsLinkText PATH_BYTES bytes.items → ⊥) }
     {
         if !is_link_text(&bytes) {
             return None;
@@ -37,6 +38,8 @@ pub enum OwnedObject {
 
 impl OwnedObject {
     ghost use Rattle.std.specs.Prelude.{◌≡◌, ◌≤◌, length};
+    ghost use Rattle.layout.specs.Limits.{Sizes};
+    ghost use Rattle.layout.specs.StateLimits.{limits_of};
     ghost use Rattle.layout.specs.Record.{KeepsMadeLimits, made_of, mode_of_made, text_bytes};
     ghost use Rattle.model.specs.Records.{IsMade};
     ghost use Rattle.model.specs.declared.limits.TheConstants.{MODE_BITS};
@@ -45,7 +48,7 @@ impl OwnedObject {
     /// The same, as a record has it.
     pub(crate) fn as_new(&self) -> NewObject<'_>
         ensures says { made_of result ≡ made_by self.now }
-        ensures good { IsMade (made_of result) }
+        ensures good { (sizes : Sizes) → IsMade (limits_of sizes) (made_of result) }
         ensures limits { KeepsMadeLimits (made_of result) }
         ensures mode { mode_of_made (made_of result) ≤ MODE_BITS }
         ensures short { length (text_bytes (made_of result)) ≤ 1025 }

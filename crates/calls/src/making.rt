@@ -9,13 +9,14 @@ ghost use Rattle.calls.specs.Changing.{Comes, made_by};
 ghost use Rattle.calls.specs.Making.{CreatesObject, HasNoNumber, MakesIn};
 ghost use Rattle.calls.specs.Preparing.{Prepares};
 
+use crate::texts::refusal_of_new_path;
 use crate::{Changing, Creation, EntryName, OwnedChange, OwnedObject};
 use buffers::{BlockError, Blocks};
 use inode::Object;
 use inofile::InodeFile;
 use layout::{FIRST_NUMBER, InodeNumber};
 use model::{Errno, records_change_trees, volumes_are_trees, volumes_tell_fresh_numbers};
-use paths::{Parts, Place, refusal_of_new_text, resolve_place};
+use paths::{Parts, Place, resolve_place};
 use records::{Failure, is_vacant, new_object, prepare_new};
 use std::alloc::Global;
 
@@ -30,14 +31,14 @@ pub(crate) fn make<B: Blocks>(
     object: OwnedObject,
 ) -> Result<Changing, Failure>
     ensures { Prepares B.Blocks blocks.old blocks.new inodes.old inodes.new
-        (λ inodes v table. Comes (creates inodes (tree_of v table) path.now (with_made (made_by
-        object))) inodes v table) result }
+        (λ limits v table. Comes (creates limits (tree_of v table) path.now (with_made (made_by
+        object))) limits v table) result }
 {
     volumes_are_trees();
     volumes_tell_fresh_numbers();
     records_change_trees();
     let parts = Parts::of(alloc, path)?;
-    if let Some(errno) = refusal_of_new_text(path, &parts) {
+    if let Some(errno) = refusal_of_new_path(inodes, path, &parts) {
         return Err(Failure::Refused(errno));
     }
     let place = resolve_place(alloc, inodes, blocks, path, parts, false)?;
@@ -65,7 +66,7 @@ pub(crate) fn make_in<B: Blocks>(
 ) -> Result<Changing, Failure>
     ensures creates { IfOk result (λ c. CreatesObject inodes.old.geometry.inodes c.change) }
     ensures prepares { Prepares B.Blocks blocks.old blocks.new inodes.old inodes.new
-        (λ inodes v table. MakesIn inodes v parent name.items (made_by object)) result }
+        (λ limits v table. MakesIn limits v parent name.items (made_by object)) result }
 {
     let layout = inodes.geometry().layout();
     let new = new_object(alloc, layout, blocks, &object.as_new())?;
@@ -121,8 +122,8 @@ fn refuse_in<B: Blocks>(
 ) -> Result<Changing, Failure>
     ensures creates { IfOk result (λ c. CreatesObject inodes.old.geometry.inodes c.change) }
     ensures prepares { Prepares B.Blocks blocks.old blocks.new inodes.old inodes.new
-        (λ inodes v table r. (made : Made) → HasNoNumber inodes v → MakesIn inodes v parent name.now
-        made r) result }
+        (λ limits v table r. (made : Made) → HasNoNumber limits.inodes v → MakesIn limits v parent
+        name.now made r) result }
 {
     // An image has more inode numbers than the first.
     let _ = inodes.geometry().inodes();

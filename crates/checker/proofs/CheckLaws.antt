@@ -7,7 +7,7 @@ use Rattle.layout.specs.Places.{blocks_of}
 use Rattle.layout.specs.declared.TheConstants.{SLOT_A, SLOT_B}
 use Rattle.layout.specs.declared.pointer.Pointer.TheVariants.{Block, Hole}
 use Rattle.layout.specs.declared.root.Root.{Root}
-use Rattle.model.specs.Room.{fixed_of}
+use Rattle.layout.specs.StateLimits.{fixed_of}
 use Rattle.images.specs.Faults.{HasRoots, IsFaultless}
 use Rattle.images.specs.Roots.{Whole, slot, whole}
 use Rattle.images.specs.Snapshots.{AreSnapshots}

@@ -3,6 +3,7 @@ use Rattle.std.proofs.Common.{◌≡◌, ◌⊎◌, ◌∙◌, ◌<◌, ◌≤�
 use Rattle.std.specs.Prelude.{All, IfErr, IsSome, MatchResult}
 use Rattle.std.specs.Result.{IsErrAnd}
 use Rattle.std.proofs.lemmas.List.Elements.{All-cons, All-head, All-tail}
+use Rattle.layout.specs.StateLimits.{limits_of, costs_of}
 use Rattle.buffers.specs.declared.error.BlockError.{BlockError}
 use Rattle.buffers.specs.declared.error.BlockError.TheVariants as errors
 use Rattle.layout.specs.Limits.{Sizes}
@@ -10,7 +11,8 @@ use Rattle.layout.specs.Places.{Blocks}
 use Rattle.layout.specs.Log.{HoldsBodies, LogHolds, record_of}
 use Rattle.layout.specs.Record.{Change, IsChange}
 use Rattle.layout.specs.declared.root.Root.{Root}
-use Rattle.model.specs.Records.{applied, costs, count_orphans, pledged_for}
+use Rattle.model.specs.declared.limits.Limits.{Limits}
+use Rattle.model.specs.Records.{applied, cost_of_all, count_orphans, pledged_for}
 use Rattle.model.specs.Volumes.{IsGraph, Volume}
 use Rattle.images.specs.Contents.{tree_contents}
 use Rattle.images.specs.Faults.{HasLog, IsFaultless}
@@ -39,9 +41,9 @@ use Rattle.checker.specs.declared.fault.TreeName.TheVariants.{Image}
 use Rattle.checker.specs.declared.log.Logged.{Logged}
 
 -- a record in front of others that lead on
-pub in_front : (inodes : ℕ) (rest body after : List ℕ) (change : Change) (more : List Change) (now w : Volume) → length body < 2 ^ 32 → rest ≡ record_of body ++ after → SpellsRecord body change
-    → AppliesIn by_sizes inodes now change → LeadTo by_sizes inodes after more (applied change now) w → LeadTo by_sizes inodes rest (change ∷ more) now w
-in_front inodes rest body after change more now w short is spells applies leads = record {
+pub in_front : (limits : Limits) (rest body after : List ℕ) (change : Change) (more : List Change) (now w : Volume) → length body < 2 ^ 32 → rest ≡ record_of body ++ after → SpellsRecord body change
+    → AppliesIn by_sizes limits now change → LeadTo by_sizes limits after more (applied change now) w → LeadTo by_sizes limits rest (change ∷ more) now w
+in_front limits rest body after change more now w short is spells applies leads = record {
   are = All-cons IsChange change more spells.is leads.are;
   held = (after, subst (λ (b : List ℕ). length b < 2 ^ 32) spells.spelled short, is ∙ ap (λ (b : List ℕ). record_of b ++ after) spells.spelled, leads.held);
   replays = (applies, leads.replays);
@@ -55,12 +57,12 @@ leaving (body ∷ bodies) records (after, short, is, held) =
     (more.0, one_in_front body records after bodies more.0 short is more.1)
 
 -- records one after the other
-within_more : (inodes : ℕ) (one two : List Change) (v mid w : Volume) → ReplaysIn by_sizes inodes v one mid → ReplaysIn by_sizes inodes mid two w → ReplaysWithin inodes v (one ++ two) w
-within_more inodes [] [] v mid w first second = second ∙ first
-within_more inodes [] (c ∷ two) v mid w first second =
-    let on = subst (λ (u : Volume). ReplaysIn by_sizes inodes u (c ∷ two) w) first second in
-    (on.0, within_more inodes [] two (applied c v) (applied c v) w refl on.1)
-within_more inodes (c ∷ one) two v mid w first second = (first.0, within_more inodes one two (applied c v) mid w first.1 second)
+within_more : (limits : Limits) (one two : List Change) (v mid w : Volume) → ReplaysIn by_sizes limits v one mid → ReplaysIn by_sizes limits mid two w → ReplaysWithin limits v (one ++ two) w
+within_more limits [] [] v mid w first second = second ∙ first
+within_more limits [] (c ∷ two) v mid w first second =
+    let on = subst (λ (u : Volume). ReplaysIn by_sizes limits u (c ∷ two) w) first second in
+    (on.0, within_more limits [] two (applied c v) (applied c v) w refl on.1)
+within_more limits (c ∷ one) two v mid w first second = (first.0, within_more limits one two (applied c v) mid w first.1 second)
 
 all_more : (one two : List Change) → All IsChange one → All IsChange two → All IsChange (one ++ two)
 all_more [] two first second = second
@@ -69,7 +71,7 @@ all_more (c ∷ one) two first second = All-cons IsChange c (one ++ two) (All-he
 -- what was saved, over a root
 module _ (r : Root) (w : Whole) (nvram : List ℕ) (saved : Saved) (half : saved.half ≡ r.geometry.half) (generation : saved.generation ≡ r.generation) (tells : TellsLog nvram saved)
     (v : Volume) (holds : HoldsVolumeIn by_sizes r.geometry.inodes (tree_contents w.active) v) where
-  pub has_log : (one two : List Change) (mid last : Volume) → LeadTo by_sizes r.geometry.inodes saved.first.records one v mid → LeadTo by_sizes r.geometry.inodes saved.second.records two mid last
+  pub has_log : (one two : List Change) (mid last : Volume) → LeadTo by_sizes (limits_of r.geometry) saved.first.records one v mid → LeadTo by_sizes (limits_of r.geometry) saved.second.records two mid last
       → (log : HasLog r w nvram (one ++ two)) × (log.first ≡ v)
   has_log one two mid last leads leads_on =
       let first = leaving (bodies_of one) saved.first.records leads.held in
@@ -86,36 +88,36 @@ module _ (r : Root) (w : Whole) (nvram : List ℕ) (saved : Saved) (half : saved
                 (subst (λ (n : ℕ). LogHolds (end_of saved first.0 second.0).half n nvram (bodies_of (one ++ two))) generation
                 (subst (LogHolds (end_of saved first.0 second.0).half saved.generation nvram) all stands.stands.holds));
           };
-          replays = within_more r.geometry.inodes one two v mid last leads.replays leads_on.replays;
+          replays = within_more (limits_of r.geometry) one two v mid last leads.replays leads_on.replays;
         },
         refl,
       )
 
   -- what both halves tell is told of the log
   pub is_logged : (one two : List Change) (mid last : Volume) (orphans : ℕ) (l a b : Logged)
-      → LeadTo by_sizes r.geometry.inodes saved.first.records one v mid
-      → LeadTo by_sizes r.geometry.inodes saved.second.records two mid last
+      → LeadTo by_sizes (limits_of r.geometry) saved.first.records one v mid
+      → LeadTo by_sizes (limits_of r.geometry) saved.second.records two mid last
       → orphans ≡ count_orphans r.geometry.inodes v
       → a.records ≡ length one → b.records ≡ length two
-      → a.pledged ≡ costs v one → b.pledged ≡ costs mid two
+      → a.pledged ≡ cost_of_all (costs_of r.geometry.blocks) v one → b.pledged ≡ cost_of_all (costs_of r.geometry.blocks) mid two
       → l.records ≡ a.records + b.records → l.pledged ≡ 4 * orphans + a.pledged + b.pledged
       → IsLogged r w nvram l
   is_logged one two mid last orphans l a b leads leads_on counted few more cost other records pledged =
       let has = has_log one two mid last leads leads_on in
-      let all = costs_joined by_sizes r.geometry.inodes one two v mid leads.replays in record {
+      let all = costs_joined by_sizes (limits_of r.geometry) (costs_of r.geometry.blocks) one two v mid leads.replays in record {
         changes = one ++ two;
         log = has.0;
         records_are = omega (arith, records, few, more, length-append one two);
         pledged_is =
-            let is : l.pledged ≡ pledged_for r.geometry.inodes v (one ++ two) =
+            let is : l.pledged ≡ pledged_for (limits_of r.geometry) v (one ++ two) =
             omega (arith, pledged, counted, cost, other, all) in
-            subst (λ (u : Volume). l.pledged ≡ pledged_for r.geometry.inodes u (one ++ two))
+            subst (λ (u : Volume). l.pledged ≡ pledged_for (limits_of r.geometry) u (one ++ two))
             (sym has.1) is;
       }
 
 pub log_leads : (r : Root) (w : Whole) (nvram : List ℕ) (saved : Saved) → saved.half ≡ r.geometry.half → saved.generation ≡ r.generation → TellsLog nvram saved
-    → (changes : List Change) (log : HasLog r w nvram changes) → LeadOn by_sizes r.geometry.inodes saved.first.records saved.second.records changes log.first log.last
-log_leads r w nvram saved half generation tells changes log = lead_on by_sizes r.geometry.inodes nvram saved changes log.first log.last tells (record {
+    → (changes : List Change) (log : HasLog r w nvram changes) → LeadOn by_sizes (limits_of r.geometry) saved.first.records saved.second.records changes log.first log.last
+log_leads r w nvram saved half generation tells changes log = lead_on by_sizes (limits_of r.geometry) nvram saved changes log.first log.last tells (record {
   are = log.log.are;
   held = subst (λ (n : ℕ). LogHolds n saved.generation nvram (bodies_of changes)) (sym half)
       (subst (λ (n : ℕ). LogHolds r.geometry.half n nvram (bodies_of changes)) (sym generation) log.log.log);
@@ -174,9 +176,9 @@ failed r w nvram (Err (halts.Fault fault)) h faultless passed faults refutes =
     (faultless, λ changes log. subst (λ (e : CheckEnd). Passes {T = Logged} (λ _. Unit {0}) (λ _. ⊥) (Err e)) (sym passed) (refutes changes log))
 
 -- records by the sizes and the bytes that they are read by
-pub lead_over : (s t : Sizes) (records bytes : List ℕ) (changes : List Change) (v w : Volume) → s ≡ t → records ≡ bytes → LeadTo by_sizes t.inodes bytes changes v w → LeadTo by_sizes s.inodes records changes v w
+pub lead_over : (s t : Sizes) (records bytes : List ℕ) (changes : List Change) (v w : Volume) → s ≡ t → records ≡ bytes → LeadTo by_sizes (limits_of t) bytes changes v w → LeadTo by_sizes (limits_of s) records changes v w
 lead_over s t records bytes changes v w sizes same leads =
-    subst (λ (x : Sizes). LeadTo by_sizes x.inodes records changes v w) (sym sizes) (subst (λ (b : List ℕ). LeadTo by_sizes t.inodes b changes v w) (sym same) leads)
+    subst (λ (x : Sizes). LeadTo by_sizes (limits_of x) records changes v w) (sym sizes) (subst (λ (b : List ℕ). LeadTo by_sizes (limits_of t) b changes v w) (sym same) leads)
 
 -- what is true of a fault's answer says nothing of other ones
 pub refuted : (Is : Logged → Type 0) (h : CheckEnd) → Passes Is (λ _. ⊥) (Err h)

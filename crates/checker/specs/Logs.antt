@@ -1,5 +1,6 @@
 -- Faults of the log.
 use Rattle.std.specs.Prelude.{ℕ, ◌≡◌, List, length, Result}
+use Rattle.layout.specs.StateLimits.{limits_of}
 use Rattle.layout.specs.Record.{Change}
 use Rattle.layout.specs.declared.root.Root.{Root}
 use Rattle.model.specs.Records.{pledged_for}
@@ -23,7 +24,7 @@ pub record IsLogged (r : Root) (w : Whole) (nvram : List ℕ) (logged : Logged) 
   pub changes : List Change
   pub log : HasLog r w nvram changes
   pub records_are : logged.records ≡ length changes
-  pub pledged_is : logged.pledged ≡ pledged_for r.geometry.inodes log.first changes
+  pub pledged_is : logged.pledged ≡ pledged_for (limits_of r.geometry) log.first changes
 
 -- so much is told of it, or that it has a fault
 abbrev pub TellsRecords : Root → Whole → List ℕ → Result Logged CheckEnd → Type 0

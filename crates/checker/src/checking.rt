@@ -6,9 +6,9 @@ ghost use Rattle.station.specs.Images.{Unchanged};
 ghost use Rattle.station.specs.Moments.{Goes, HasGrown, IsSameStation, LeavesJust};
 ghost use Rattle.layout.specs.Opens.{IsNewest};
 ghost use Rattle.layout.specs.Root.{IsRoot};
+ghost use Rattle.layout.specs.StateLimits.{fixed_of};
 ghost use Rattle.layout.specs.declared.TheConstants.{INODES_PER_BLOCK, SLOT_A, SLOT_B};
 ghost use Rattle.layout.specs.declared.root.Root.{Root};
-ghost use Rattle.model.specs.Room.{fixed_of};
 ghost use Rattle.model.specs.States.{State};
 ghost use Rattle.buffers.specs.Disks.{ReadsOn, ShowsDisk};
 ghost use Rattle.images.specs.Faults.{IsFaultless};
@@ -49,7 +49,6 @@ use images::{
 };
 use layout::{Geometry, Root, SNAPSHOT_SLOTS};
 use loading::{RootError, newest_root};
-use model::fixed_cost;
 use station::Station;
 use std::alloc::Global;
 
@@ -190,7 +189,7 @@ fn check_image<S: Station, W: Watch>(
             snapshots: count_snapshots(root),
             records: logged.records,
             free,
-            has_reserve: has_reserve(&logged, root.geometry.blocks(), free),
+            has_reserve: has_reserve(&logged, root.geometry, free),
         })),
         Ok(_) => Ok(None),
         Err(CheckEnd::Fault(fault)) => {
@@ -204,10 +203,10 @@ fn check_image<S: Station, W: Watch>(
 
 /// Whether so many free blocks are as many as the next consistency point may store: for what the
 /// log has, and whatever changed.
-fn has_reserve(logged: &Logged, blocks: u32, free: u32) -> bool
-    ensures { IsTrue result ↔ (logged.now.pledged + fixed_of blocks ≤ free) }
+fn has_reserve(logged: &Logged, geometry: Geometry, free: u32) -> bool
+    ensures { IsTrue result ↔ (logged.now.pledged + fixed_of geometry.blocks ≤ free) }
 {
-    let fixed = fixed_cost(blocks);
+    let fixed = u64::from(geometry.limits().costs.point);
     let free = u64::from(free);
     fixed <= free && logged.pledged <= free - fixed
 }

@@ -4,9 +4,10 @@ ghost use Rattle.std.specs.Prelude.{◌≡◌, ◌≤◌, ◌*◌, ℕ, Err, Lis
 ghost use Rattle.station.specs.Moments.{HasGrown};
 ghost use Rattle.layout.specs.Record.{Change};
 ghost use Rattle.layout.specs.Root.{IsRoot};
+ghost use Rattle.layout.specs.StateLimits.{limits_of};
 ghost use Rattle.layout.specs.declared.geometry.TheConstants.{MOST_HALF};
 ghost use Rattle.layout.specs.declared.inode.Inode.{Inode};
-ghost use Rattle.model.specs.Records.{costs};
+ghost use Rattle.model.specs.Records.{cost_of_all};
 ghost use Rattle.model.specs.Volumes.{Volume};
 ghost use Rattle.buffers.specs.Disks.{ReadsOn, ShowsDisk};
 ghost use Rattle.images.specs.Faults.{IsFaultless};
@@ -25,9 +26,8 @@ use crate::{Fault, LogFault, TreeFault, UncachedReads};
 use buffers::{BlockError, Buffers};
 use images::faultless_trees_hold_graphs;
 use inofile::InodeFile;
-use layout::{FIRST_GATE, Gate, Root, read_gate};
+use layout::{FIRST_GATE, Gate, Geometry, Root, read_gate};
 use loading::load_inodes;
-use model::ORPHAN_COST;
 use oplog::{SavedLog, SavedLogError};
 use replay::{count_orphans, replay_record};
 use station::Station;
@@ -99,8 +99,15 @@ fn replay_saved<B: UncachedReads>(
     let second = replay_half(alloc, &mut inodes, blocks, saved.second_records(), 1 - half)?;
     Ok(Logged {
         records: first.records + second.records,
-        pledged: ORPHAN_COST * u64::from(orphans) + first.pledged + second.pledged,
+        pledged: cost_of_orphans(root.geometry, orphans) + first.pledged + second.pledged,
     })
+}
+
+/// What a consistency point may store for so many orphans of a root.
+fn cost_of_orphans(geometry: Geometry, orphans: u32) -> u64
+    ensures { result ≡ (limits_of geometry).costs.orphan * orphans }
+{
+    u64::from(geometry.limits().costs.orphan) * u64::from(orphans)
 }
 
 /// Replays the records of a half over the inodes in memory, and counts them and what they cost.
@@ -120,17 +127,17 @@ fn replay_half<B: UncachedReads>(
     ensures replays { (disk : ℕ → List ℕ) (settled : ℕ → Inode) (v w : Volume)
         (changes : List Change) → B.Shows blocks.old disk
         → HasVolumeIn by_sizes (B.count blocks.old) disk settled inodes.old v
-        → LeadTo by_sizes inodes.old.geometry.inodes records.now changes v w
+        → LeadTo by_sizes (limits_of inodes.old.geometry) records.now changes v w
         → Passes (λ _. HasVolumeIn by_sizes (B.count blocks.old) disk settled inodes.new w)
         (λ _. ⊥) result }
     ensures applies { (disk : ℕ → List ℕ) (settled : ℕ → Inode) (v : Volume)
         → B.Shows blocks.old disk
         → HasVolumeIn by_sizes (B.count blocks.old) disk settled inodes.old v
         → IfOk result (λ l. (changes : List Change) × (w : Volume)
-        × LeadTo by_sizes inodes.old.geometry.inodes records.now changes v w
+        × LeadTo by_sizes (limits_of inodes.old.geometry) records.now changes v w
         × (l.records ≡ length changes)
         × HasVolumeIn by_sizes (B.count blocks.old) disk settled inodes.new w
-        × (l.pledged ≡ costs v changes)) }
+        × (l.pledged ≡ cost_of_all (limits_of inodes.old.geometry).costs v changes)) }
 {
     let mut rest = records;
     let mut count = 0;

@@ -7,6 +7,7 @@ use Rattle.std.proofs.lemmas.Map.Keys.{IsDistinct-head, IsDistinct-tail}
 use Rattle.std.specs.List.{AllByRecursion, IsDistinct}
 use Rattle.std.specs.Map.{keys_of, lookup, values_of}
 use Rattle.model.specs.Records.{count_orphans}
+use Rattle.model.specs.declared.limits.Limits.{Limits}
 use Rattle.model.specs.Volumes.{IsMounted, IsVolume, Node, Volume, directory_node, file_node, link_node, is_directory_node, is_open, is_orphan, swept_node}
 use Rattle.model.specs.declared.limits.TheConstants.{OPEN_FILES}
 use Rattle.descriptors.specs.Counts.{count_below, one_if}
@@ -149,14 +150,14 @@ module _ (t : Descriptors) (apart : IsDistinct nat_eq (keys_of t.files.files.ent
   orphans_few =
       omega (arith, few_files, count_by-le-length (λ (f : SharedFile). f.links == 0) (values_of t.files.files.entries), length-map t.files.files.entries (λ (e : ℕ × SharedFile). e.1))
 
-  module _ (inodes : ℕ) (v : Volume) (volume : IsVolume inodes v) (mounted : IsMounted v (table_of t)) (fits : FitsVolume t v) where
+  module _ (limits : Limits) (v : Volume) (volume : IsVolume limits v) (mounted : IsMounted v (table_of t)) (fits : FitsVolume t v) where
     -- an open file has a number below the bound
-    below : (n : ℕ) → IsSome (shared_at t.files n) → n < inodes
+    below : (n : ℕ) → IsSome (shared_at t.files n) → n < limits.inodes
     below n some =
         let s = shared_some (shared_at t.files n) some in
         let at = open_somewhere t n s.0 s.1 in
         let is : node_figures (v n) ≡ Some (figures_of at.2) = ap (λ k. node_figures (v k)) (sym at.4) ∙ fits.files at.0 at.2 at.3 in
-        elim (volume.limits.numbers n (figured_there (v n) (figures_of at.2) is)) [
+        elim (volume.keeps.numbers n (figured_there (v n) (figures_of at.2) is)) [
           | inl root ↦ absurd (false≢true (sym (figured_some (v n) (figures_of at.2) is) ∙ ap (λ (k : ℕ). is_directory_node (v k)) root ∙ volume.graph.naming.root))
           | inr within ↦ within.1
         ]
@@ -173,7 +174,7 @@ module _ (t : Descriptors) (apart : IsDistinct nat_eq (keys_of t.files.files.ent
             let is : node_figures (v n) ≡ Some (figures_of at.2) = ap (λ k. node_figures (v k)) (sym at.4) ∙ fits.files at.0 at.2 at.3 in
             ap (λ k. k == 0) (sym at.5) ∙ sym (figured_orphans (v n) (figures_of at.2) is)
 
-    pub orphans_counted : count_by (λ (f : SharedFile). f.links == 0) (values_of t.files.files.entries) ≡ count_orphans inodes v
+    pub orphans_counted : count_by (λ (f : SharedFile). f.links == 0) (values_of t.files.files.entries) ≡ count_orphans limits.inodes v
     orphans_counted =
-        count_values t.files.files.entries inodes apart below
-        ∙ count_same (λ n. has_no_name (shared_at t.files n)) (λ n. is_orphan (v n)) inodes (λ n lt. orphan_is n) ∙ orphans_count inodes v
+        count_values t.files.files.entries limits.inodes apart below
+        ∙ count_same (λ n. has_no_name (shared_at t.files n)) (λ n. is_orphan (v n)) limits.inodes (λ n lt. orphan_is n) ∙ orphans_count limits.inodes v

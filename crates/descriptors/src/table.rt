@@ -7,6 +7,7 @@ ghost use Rattle.model.specs.Records.{count_orphans};
 ghost use Rattle.model.specs.Steps.{has_open_below};
 ghost use Rattle.model.specs.Trees.{Tree};
 ghost use Rattle.model.specs.Volumes.{IsMounted, IsVolume, Volume, is_open};
+ghost use Rattle.model.specs.declared.limits.Limits.{Limits};
 ghost use Rattle.model.specs.declared.limits.TheConstants.{GREATEST_OFFSET, OPEN_FILES};
 ghost use Rattle.descriptors.specs.Consistency.{AreConsistent, AreConsistent-prop};
 ghost use Rattle.descriptors.specs.Files.{KeepsBounds, description_of, refigured_file, relinked_file, resized_file, with_figure_links, with_size};
@@ -73,9 +74,9 @@ impl Descriptors {
     /// that have no name.
     pub fn open_orphans(&self) -> u32
         ensures few { result ≤ OPEN_FILES }
-        ensures counted { (inodes : ℕ) (v : Volume) → IsVolume inodes v
+        ensures counted { (limits : Limits) (v : Volume) → IsVolume limits v
             → IsMounted v (table_of self.now) → FitsVolume self.now v
-            → result ≡ count_orphans inodes v }
+            → result ≡ count_orphans limits.inodes v }
     {
         self.files.orphans() as u32
     }

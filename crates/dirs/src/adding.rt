@@ -5,7 +5,6 @@ ghost use Rattle.layout.specs.Directory.{Named, HoldsEntries, IsEntry, named_of,
 ghost use Rattle.buffers.specs.Reads.{ReadsBlocks};
 ghost use Rattle.buffers.specs.Errors.{IsFault};
 ghost use Rattle.dirs.specs.Errors.{IsAddFault};
-ghost use Rattle.model.specs.declared.limits.TheConstants.{DIRECTORY_NAMES};
 ghost use Rattle.dirs.specs.declared.TheConstants.{GROWN_BLOCKS};
 
 use crate::survey::survey_of;
@@ -14,7 +13,6 @@ use buffers::{BlockError, Blocks};
 use entries::{Known, add};
 use inode::File;
 use layout::{BLOCK_BYTES, Entry};
-use model::DIRECTORY_NAMES;
 use std::alloc::{AllocError, Global};
 
 impl Edit {
@@ -30,7 +28,7 @@ impl Edit {
 
     /// Prepares that a name is added, in the first block with room for it, else in a new last one;
     /// or answers that it isn't, where it stands in the directory already. DirFull where the
-    /// directory has as many names as it may have.
+    /// directory has `most` names.
     pub fn prepare_add<B: Blocks>(
         &mut self,
         alloc: Global,
@@ -38,6 +36,7 @@ impl Edit {
         known: &mut Known,
         blocks: &mut B,
         inodes: u32,
+        most: u32,
         entry: &Entry<'_>,
     ) -> Result<bool, AddError>
         requires { IsEntry inodes (named_of entry.now) }
@@ -81,12 +80,12 @@ impl Edit {
         ensures room { (disk : ℕ → List ℕ) (names : NameMap) → B.Shows blocks.old disk →
             Knows inodes (edited_block disk file.old self.old) known.old →
             HasEditedNames inodes disk file.old self.old names → IfOk result
-            (λ added. IsTrue added → (n : ℕ) × HasCount names n × (n < DIRECTORY_NAMES)) }
+            (λ added. IsTrue added → (n : ℕ) × HasCount names n × (n < most)) }
         ensures full { (disk : ℕ → List ℕ) (names : NameMap) → B.Shows blocks.old disk →
             Knows inodes (edited_block disk file.old self.old) known.old →
             HasEditedNames inodes disk file.old self.old names →
             IsErrOf result AddError.DirFull → (names entry.now.name.now ≡ None)
-            × (n : ℕ) × HasCount names n × (DIRECTORY_NAMES ≤ n) }
+            × (n : ℕ) × HasCount names n × (most ≤ n) }
         ensures damaged { (disk : ℕ → List ℕ) → B.Shows blocks.old disk →
             IsErrOf result AddError.Damaged →
             IsReached (B.count blocks.old) disk file.old self.old.count →
@@ -97,7 +96,7 @@ impl Edit {
         if survey.place.is_some() {
             return Ok(false);
         }
-        let is_full = survey.names >= DIRECTORY_NAMES as u64;
+        let is_full = survey.names >= u64::from(most);
         if is_full {
             return Err(AddError::DirFull);
         }

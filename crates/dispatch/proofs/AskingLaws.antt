@@ -1,6 +1,8 @@
 -- Calls that only read, as they are answered.
 use Rattle.std.proofs.Common.{◌≡◌, ℕ, ℤ, List, Result, Ok, Err, refl, sym, subst}
 use Rattle.std.specs.Result.{IsErrAnd}
+use Rattle.model.specs.declared.limits.Limits.{Limits}
+use Rattle.layout.specs.StateLimits.{limits_of}
 use Rattle.model.specs.Reading.{gets, tells_entries}
 use Rattle.model.specs.Outcomes.{Outcome}
 use Rattle.model.specs.Room.{nothing}
@@ -27,41 +29,41 @@ use Rattle.dispatch.specs.Answering.{asks, answered_reply}
 
 -- an offset as a number
 pub gets_at : {B T : Type 0} {G : Ghosts B} {a b : B} {s t : InodeFile} {reply : Result T Errno → Reply} {r : Result T Failure} (path : List ℕ) (count : ℕ) {offset place : ℤ} → offset ≡ place
-    → Answers G a b s t (λ u. gets u path offset count) reply r → Answers G a b s t (λ u. gets u path place count) reply r
-gets_at {G = G} {a = a} {b = b} {s = s} {t = t} {reply = reply} {r = r} path count is all = subst (λ (z : ℤ). Answers G a b s t (λ u. gets u path z count) reply r) is all
+    → Answers G a b s t (λ limits u. gets limits u path offset count) reply r → Answers G a b s t (λ limits u. gets limits u path place count) reply r
+gets_at {G = G} {a = a} {b = b} {s = s} {t = t} {reply = reply} {r = r} path count is all = subst (λ (z : ℤ). Answers G a b s t (λ limits u. gets limits u path z count) reply r) is all
 
 -- a cookie as a number
 pub entries_behind : {B T : Type 0} {G : Ghosts B} {a b : B} {s t : InodeFile} {reply : Result T Errno → Reply} {r : Result T Failure} (path : List ℕ) (count : ℕ) {after cookie : ℤ} → after ≡ cookie
-    → Answers G a b s t (λ u. tells_entries u path after count) reply r → Answers G a b s t (λ u. tells_entries u path cookie count) reply r
-entries_behind {G = G} {a = a} {b = b} {s = s} {t = t} {reply = reply} {r = r} path count is all = subst (λ (z : ℤ). Answers G a b s t (λ u. tells_entries u path z count) reply r) is all
+    → Answers G a b s t (λ limits u. tells_entries limits u path after count) reply r → Answers G a b s t (λ limits u. tells_entries limits u path cookie count) reply r
+entries_behind {G = G} {a = a} {b = b} {s = s} {t = t} {reply = reply} {r = r} path count is all = subst (λ (z : ℤ). Answers G a b s t (λ limits u. tells_entries limits u path z count) reply r) is all
 
 module _ {B T : Type 0} {G : Ghosts B} {a b : B} {s t : InodeFile} {reply : Result T Errno → Reply} (call words : PathCall) (is : call ≡ words) where
   -- it is answered
-  pub gives : {x : T} → ((n : ℕ) → Answers G a b s t (λ u. calls n u words) reply (Ok x)) → Answers G a b s t (asks call) answered_reply (Ok (reply (Ok x)))
+  pub gives : {x : T} → Answers G a b s t (λ limits u. calls limits u words) reply (Ok x) → Answers G a b s t (asks call) answered_reply (Ok (reply (Ok x)))
   gives {x} all = record {
-    looks = looks_ok (all 0).looks;
+    looks = looks_ok all.looks;
     own = tt;
-    answers = λ disk settled v table stands volume n.
-        subst (λ (k : PathCall). calls n (tree_of v table) k (reply (Ok x)) (tree_of v table) nothing) (sym is) ((all n).answers disk settled v table stands volume);
+    answers = λ disk settled v table stands volume.
+        subst (λ (k : PathCall). calls (limits_of s.geometry) (tree_of v table) k (reply (Ok x)) (tree_of v table) nothing) (sym is) (all.answers disk settled v table stands volume);
     damaged = λ disk settled v stands bad. cc;
   }
 
   -- it isn't
   pub fails : (f : Failure) (q : Result Reply Failure) → IsErrAnd q (λ g. g ≡ f) → ((errno : Errno) → reply (Err errno) ≡ replies.Refused errno)
-      → ((n : ℕ) → Answers G a b s t (λ u. calls n u words) reply (Err f)) → Answers G a b s t (asks call) answered_reply q
+      → Answers G a b s t (λ limits u. calls limits u words) reply (Err f) → Answers G a b s t (asks call) answered_reply q
   fails (Refused errno) q so same all = carried (Answers G a b s t (asks call) answered_reply) q so (record {
-    looks = looks_ok (all 0).looks;
-    own = (all 0).own;
-    answers = λ disk settled v table stands volume n.
-        let here = subst (λ (r : Reply). calls n (tree_of v table) words r (tree_of v table) nothing) (same errno) ((all n).answers disk settled v table stands volume) in
-        subst (λ (k : PathCall). calls n (tree_of v table) k (replies.Refused errno) (tree_of v table) nothing) (sym is) here;
+    looks = looks_ok all.looks;
+    own = all.own;
+    answers = λ disk settled v table stands volume.
+        let here = subst (λ (r : Reply). calls (limits_of s.geometry) (tree_of v table) words r (tree_of v table) nothing) (same errno) (all.answers disk settled v table stands volume) in
+        subst (λ (k : PathCall). calls (limits_of s.geometry) (tree_of v table) k (replies.Refused errno) (tree_of v table) nothing) (sym is) here;
     damaged = λ disk settled v stands bad. cc;
   })
   fails (Read e) q so same all = carried (Answers G a b s t (asks call) answered_reply) q so (record {
-    looks = looks_err (Err e) refl (all 0).looks;
+    looks = looks_err (Err e) refl all.looks;
     own = tt;
     answers = λ disk settled v table stands volume. tt;
-    damaged = never_damaged e (all 0).damaged;
+    damaged = never_damaged e all.damaged;
   })
 
 -- ---- a call with any outcome on a tree
@@ -71,7 +73,7 @@ pub extent_at : {B T : Type 0} {G : Ghosts B} {a b : B} {s t : InodeFile} {reply
     → Answers G a b s t (shows_extent G a t path offset) reply r → Answers G a b s t (shows_extent G a t path place) reply r
 extent_at {G = G} {a = a} {b = b} {s = s} {t = t} {reply = reply} {r = r} path is all = subst (λ (z : ℤ). Answers G a b s t (shows_extent G a t path z) reply r) is all
 
-module _ {B T : Type 0} {G : Ghosts B} {a b : B} {s t : InodeFile} {reply : Result T Errno → Reply} {outcome : Tree → Outcome} where
+module _ {B T : Type 0} {G : Ghosts B} {a b : B} {s t : InodeFile} {reply : Result T Errno → Reply} {outcome : Limits → Tree → Outcome} where
   -- it is answered
   pub grants : {x : T} → Answers G a b s t outcome reply (Ok x) → Answers G a b s t outcome answered_reply (Ok (reply (Ok x)))
   grants all = record {
@@ -88,7 +90,7 @@ module _ {B T : Type 0} {G : Ghosts B} {a b : B} {s t : InodeFile} {reply : Resu
     looks = looks_ok all.looks;
     own = all.own;
     answers = λ disk settled v table stands volume.
-        subst (λ (r : Reply). outcome (tree_of v table) r (tree_of v table) nothing) (same errno) (all.answers disk settled v table stands volume);
+        subst (λ (r : Reply). outcome (limits_of s.geometry) (tree_of v table) r (tree_of v table) nothing) (same errno) (all.answers disk settled v table stands volume);
     damaged = λ disk settled v stands bad. cc;
   })
   grants_none (Read e) q so same all = carried (Answers G a b s t outcome answered_reply) q so (record {

@@ -2,6 +2,7 @@
 use Rattle.std.proofs.Common.{◌≡◌, ◌≢◌, ℕ, ℤ, refl, List, Option, Result, Err, ap, sym, subst, ◌∙◌}
 use Rattle.std.specs.Prelude.{IsFalse}
 use Rattle.std.specs.Result.{IsErrAnd}
+use Rattle.model.specs.declared.limits.Limits.{Limits}
 use Rattle.model.specs.Steps.{calls}
 use Rattle.model.specs.Trees.{Description}
 use Rattle.model.specs.Volumes.{Volume, tree_of}
@@ -22,17 +23,17 @@ use Rattle.dispatch.specs.Changing.{CallComes, RecordComes, is_writing_call}
 -- ---- what a call asks for
 
 -- a call that was asked in these words
-pub asked_swept : (n : ℕ) (call asked : PathCall) (v : Volume) (table : ℕ → Option Description) (r : Result Changing Errno) → call ≡ asked
-    → ComesSwept (calls n (tree_of v table) asked) n v table r → RecordComes call n v table r
-asked_swept n call asked v table r is here = subst (λ (k : PathCall). RecordComes k n v table r) (sym is) here
+pub asked_swept : (limits : Limits) (call asked : PathCall) (v : Volume) (table : ℕ → Option Description) (r : Result Changing Errno) → call ≡ asked
+    → ComesSwept (calls limits (tree_of v table) asked) limits v table r → RecordComes call limits v table r
+asked_swept limits call asked v table r is here = subst (λ (k : PathCall). RecordComes k limits v table r) (sym is) here
 
-pub asked : (n : ℕ) (call asked : PathCall) (v : Volume) (table : ℕ → Option Description) (r : Result Changing Errno) → call ≡ asked
-    → Comes (calls n (tree_of v table) asked) n v table r → RecordComes call n v table r
-asked n call words v table r is here = asked_swept n call words v table r is (comes_swept (calls n (tree_of v table) words) n v table r here)
+pub asked : (limits : Limits) (call asked : PathCall) (v : Volume) (table : ℕ → Option Description) (r : Result Changing Errno) → call ≡ asked
+    → Comes (calls limits (tree_of v table) asked) limits v table r → RecordComes call limits v table r
+asked limits call words v table r is here = asked_swept limits call words v table r is (comes_swept (calls limits (tree_of v table) words) limits v table r here)
 
-pub asked_or_stays : (n : ℕ) (call asked : PathCall) (v : Volume) (table : ℕ → Option Description) (r : Result (Option Changing) Errno) → call ≡ asked
-    → ComesOrStays (calls n (tree_of v table) asked) n v table r → CallComes call n v table r
-asked_or_stays n call asked v table r is here = subst (λ (k : PathCall). CallComes k n v table r) (sym is) here
+pub asked_or_stays : (limits : Limits) (call asked : PathCall) (v : Volume) (table : ℕ → Option Description) (r : Result (Option Changing) Errno) → call ≡ asked
+    → ComesOrStays (calls limits (tree_of v table) asked) limits v table r → CallComes call limits v table r
+asked_or_stays limits call asked v table r is here = subst (λ (k : PathCall). CallComes k limits v table r) (sym is) here
 
 -- the same of one that failed
 pub passes_on : {B : Type 0} {G : blocks.Ghosts B} {a b : B} {s t : InodeFile} (call : PathCall) (f : Failure) (q : Result (Option Changing) Failure) → IsErrAnd q (λ g. g ≡ f)

@@ -3,6 +3,8 @@ use Rattle.std.proofs.Common.{◌≡◌, ℕ, ℤ, Bool, false, true, List, Opti
 use Rattle.std.specs.Prelude.{IfSome, IsFalse}
 use Rattle.std.specs.Result.{IsErrAnd}
 use Rattle.std.proofs.Math.Path.{fun_ext}
+use Rattle.model.specs.declared.limits.Limits.{Limits}
+use Rattle.layout.specs.StateLimits.{limits_of}
 use Rattle.layout.specs.Record.{Change}
 use Rattle.model.specs.Descriptors.{opens, stores, writes_to}
 use Rattle.model.specs.Outcomes.{Outcome}
@@ -52,31 +54,31 @@ use Rattle.dispatch.specs.declared.table_move.TableMove.TheVariants.{Opens, Stay
 use Rattle.dispatch.proofs.ServingLaws.{done_is_reply}
 
 -- a record that applies and needs no sweep
-pub goes_beside : (n : ℕ) (v : Volume) (table : ℕ → Option Description) (call : Command) (reply : Reply) (move : TableMove) (c : PreparedChange)
-    → GoesOver n v table (recorded c.record) → ((w : Volume) → FitsMove w move)
-    → WouldLead n v table call reply (applied (recorded c.record) v) (moved_table move table) (logs (work_of v (recorded c.record))) → DoesBeside n v table call reply move (Some c)
-goes_beside n v table call reply move c goes fits told =
+pub goes_beside : (limits : Limits) (v : Volume) (table : ℕ → Option Description) (call : Command) (reply : Reply) (move : TableMove) (c : PreparedChange)
+    → GoesOver limits v table (recorded c.record) → ((w : Volume) → FitsMove w move)
+    → WouldLead limits v table call reply (applied (recorded c.record) v) (moved_table move table) (logs (work_of v (recorded c.record))) → DoesBeside limits v table call reply move (Some c)
+goes_beside limits v table call reply move c goes fits told =
     let w = applied (recorded c.record) v in
     let same : w ≡ swept table w = sym (fun_ext {f = swept table w} {g = w} goes.1.is_swept) in (
       goes.0,
       subst (λ (x : Volume). IsMounted x table) same goes.1,
       fits (swept table w),
-      subst (λ (x : Volume). WouldLead n v table call reply x (moved_table move table) (logs (work_of v (recorded c.record)))) same told,
+      subst (λ (x : Volume). WouldLead limits v table call reply x (moved_table move table) (logs (work_of v (recorded c.record)))) same told,
     )
 
 module _ {B T : Type 0} {changes : Changes T} {W : T → Type 0} {G : Ghosts B} {a b : B} {s t : InodeFile} {files : Descriptors} {answer : Volume → Result T Errno → Type 0} (call : Command) where
   -- it isn't refused
   pub does : {x : T} {d : PreparedCall} → PreparesOpen changes W G a b s t files answer (Ok x) → (W x → MayDo s.geometry.inodes files call d)
-      → ((P : Prepared → Change → Type 0) → changes x P → of_prepared d P) → ((v : Volume) → answer v (Ok x) → DoesCall s.geometry.inodes v (table_of files) call (Ok d))
+      → ((P : Prepared → Change → Type 0) → changes x P → of_prepared d P) → ((v : Volume) → answer v (Ok x) → DoesCall (limits_of s.geometry) v (table_of files) call (Ok d))
       → PreparesCall G a b s t files call (Ok d)
   does told may changed leads =
       grants told.looks (may told.within) (changed (λ p change. IsReady t p) told.ready) (λ disk settled v stands. changed (λ p change. Does disk settled t v p change) (told.does disk settled v stands))
       (λ disk settled v stands volume mounted fits. leads v (told.answers disk settled v stands volume mounted fits))
 
 -- what a write at an offset comes to
-pub writes_at : (n : ℕ) (v : Volume) (files : Descriptors) (fd : ℕ) (bytes : List ℕ) (r : Result (Option Writing) Errno) {offset place : ℤ} → offset ≡ place
-    → WritesFile (writes_to (tree_with files v) fd offset bytes) n v files bytes (λ w. table_of files) r → WritesFile (writes_to (tree_with files v) fd place bytes) n v files bytes (λ w. table_of files) r
-writes_at n v files fd bytes r is told = subst (λ (z : ℤ). WritesFile (writes_to (tree_with files v) fd z bytes) n v files bytes (λ w. table_of files) r) is told
+pub writes_at : (limits : Limits) (v : Volume) (files : Descriptors) (fd : ℕ) (bytes : List ℕ) (r : Result (Option Writing) Errno) {offset place : ℤ} → offset ≡ place
+    → WritesFile (writes_to limits (tree_with files v) fd offset bytes) limits v files bytes (λ w. table_of files) r → WritesFile (writes_to limits (tree_with files v) fd place bytes) limits v files bytes (λ w. table_of files) r
+writes_at limits v files fd bytes r is told = subst (λ (z : ℤ). WritesFile (writes_to limits (tree_with files v) fd z bytes) limits v files bytes (λ w. table_of files) r) is told
 
 -- ---- a change whose record says what it does
 
@@ -89,36 +91,36 @@ said_within None = tt
 said_within (Some c) = tt
 
 -- a call that is answered by this reply where its record, if it has one, does what it does
-pub comes_so : (n : ℕ) (v : Volume) (table : ℕ → Option Description) (call : Command) (outcome : Outcome) (o : Option Changing)
-    → ((reply : Reply) (w : Volume) (need : Need) → outcome reply (tree_of w table) need → WouldLead n v table call reply w table need)
-    → ComesOrStays outcome n v table (Ok o) → DoesBeside n v table call Done Stays (said_change o)
-comes_so n v table call outcome None leads told = (tt, leads Done v nothing told)
-comes_so n v table call outcome (Some c) leads told =
+pub comes_so : (limits : Limits) (v : Volume) (table : ℕ → Option Description) (call : Command) (outcome : Outcome) (o : Option Changing)
+    → ((reply : Reply) (w : Volume) (need : Need) → outcome reply (tree_of w table) need → WouldLead limits v table call reply w table need)
+    → ComesOrStays outcome limits v table (Ok o) → DoesBeside limits v table call Done Stays (said_change o)
+comes_so limits v table call outcome None leads told = (tt, leads Done v nothing told)
+comes_so limits v table call outcome (Some c) leads told =
     (told.0, told.1, tt, leads Done (swept table (applied (said_by c.change) v)) (logs (work_of v (said_by c.change))) told.2)
 
 -- ---- a file that is opened
 
 module _ (path : List ℕ) (flags : Flags) (mode below : ℕ) where
   -- what `open` and `openstat` come to is what they lead to
-  pub opens_leads : (n : ℕ) (v : Volume) (table : ℕ → Option Description) (tells : Bool) (reply : Reply) (w : Volume) (after : ℕ → Option Description) (need : Need)
-      → opens tells below n (tree_of v table) path flags mode reply (tree_of w after) need → WouldLead n v table (opening_call tells path flags mode below) reply w after need
-  opens_leads n v table false reply w after need told snapshots room = (told, refl)
-  opens_leads n v table true reply w after need told snapshots room = (told, refl)
+  pub opens_leads : (limits : Limits) (v : Volume) (table : ℕ → Option Description) (tells : Bool) (reply : Reply) (w : Volume) (after : ℕ → Option Description) (need : Need)
+      → opens tells below limits (tree_of v table) path flags mode reply (tree_of w after) need → WouldLead limits v table (opening_call tells path flags mode below) reply w after need
+  opens_leads limits v table false reply w after need told snapshots room = (told, refl)
+  opens_leads limits v table true reply w after need told snapshots room = (told, refl)
 
   pub opening_kind : (tells : Bool) (o : Opening) → IsReplyTo (opening_call tells path flags mode below) (opening_reply tells o)
   opening_kind false o = tt
   opening_kind true o = tt
 
-  pub opens_so : (n : ℕ) (v : Volume) (files : Descriptors) (tells : Bool) (o : Opening) (c : Option Changing)
-      → OpensDescriptorOver (λ t. opens t below n (tree_with files v) path flags mode) n v files o c
-      → DoesBeside n v (table_of files) (opening_call tells path flags mode below) (opening_reply tells o) (Opens o.fd o.file) (said_change c)
-  opens_so n v files tells o None told = (told.0, opens_leads n v (table_of files) tells (opening_reply tells o) v (with_opened o files) nothing (told.1 tells))
-  opens_so n v files tells o (Some c) told =
+  pub opens_so : (limits : Limits) (v : Volume) (files : Descriptors) (tells : Bool) (o : Opening) (c : Option Changing)
+      → OpensDescriptorOver (λ t. opens t below limits (tree_with files v) path flags mode) limits v files o c
+      → DoesBeside limits v (table_of files) (opening_call tells path flags mode below) (opening_reply tells o) (Opens o.fd o.file) (said_change c)
+  opens_so limits v files tells o None told = (told.0, opens_leads limits v (table_of files) tells (opening_reply tells o) v (with_opened o files) nothing (told.1 tells))
+  opens_so limits v files tells o (Some c) told =
       let w = swept (table_of files) (applied (said_by c.change) v) in (
         told.0,
         told.1,
         told.2,
-        opens_leads n v (table_of files) tells (opening_reply tells o) w (with_opened o files) (logs (work_of v (said_by c.change))) (told.3 tells),
+        opens_leads limits v (table_of files) tells (opening_reply tells o) w (with_opened o files) (logs (work_of v (said_by c.change))) (told.3 tells),
       )
 
 pub opening_accepted : (tells : Bool) (o : Opening) → IsAccepted (opening_reply tells o)
@@ -127,9 +129,9 @@ opening_accepted true o errno is = cc
 
 -- ---- a call by a path
 
-pub path_leads : (call : PathCall) (n : ℕ) (v : Volume) (table : ℕ → Option Description) (reply : Reply) (w : Volume) (need : Need) → calls n (tree_of v table) call reply (tree_of w table) need
-    → WouldLead n v table (command.Path call) reply w table need
-path_leads call n v table reply w need told snapshots room = (told, refl)
+pub path_leads : (call : PathCall) (limits : Limits) (v : Volume) (table : ℕ → Option Description) (reply : Reply) (w : Volume) (need : Need) → calls limits (tree_of v table) call reply (tree_of w table) need
+    → WouldLead limits v table (command.Path call) reply w table need
+path_leads call limits v table reply w need told snapshots room = (told, refl)
 
 module _ {B : Type 0} {G : Ghosts B} {a b : B} {s t : InodeFile} (call : PathCall) where
   -- it isn't refused
@@ -139,7 +141,7 @@ module _ {B : Type 0} {G : Ghosts B} {a b : B} {s t : InodeFile} (call : PathCal
       grants told.looks (record { kind = done_is_reply call changes writes; accepted = λ errno is. cc; moves = tt; numbered = tt; limits = said_within o }) (said_so o (λ p change. IsReady t p) told.ready)
       (λ disk settled v stands. said_so o (λ p change. Does disk settled t v p change) (told.does disk settled v stands))
       (λ disk settled v stands volume mounted fits.
-      comes_so s.geometry.inodes v (table_of files) (command.Path call) (calls s.geometry.inodes (tree_of v (table_of files)) call) o (path_leads call s.geometry.inodes v (table_of files))
+      comes_so (limits_of s.geometry) v (table_of files) (command.Path call) (calls (limits_of s.geometry) (tree_of v (table_of files)) call) o (path_leads call (limits_of s.geometry) v (table_of files))
       (told.answers disk settled v (table_of files) stands volume mounted))
 
   -- it is
@@ -147,7 +149,7 @@ module _ {B : Type 0} {G : Ghosts B} {a b : B} {s t : InodeFile} (call : PathCal
       → PreparesCall G a b s t files (command.Path call) q
   path_refused (failures.Refused errno) q is told files = carried (PreparesCall G a b s t files (command.Path call)) q is
       (refuses told.looks told.own (λ disk settled v stands volume mounted fits.
-      path_leads call s.geometry.inodes v (table_of files) (Refused errno) v nothing (told.answers disk settled v (table_of files) stands volume mounted)))
+      path_leads call (limits_of s.geometry) v (table_of files) (Refused errno) v nothing (told.answers disk settled v (table_of files) stands volume mounted)))
   path_refused (failures.Read e) q is told files = carried (PreparesCall G a b s t files (command.Path call)) q is
       (stops told.looks told.damaged (λ disk settled v stands volume mounted fits. tt))
 
@@ -159,7 +161,7 @@ of_storing bytes o P = IfSome o (λ w. P w.prepared (change_of_store w bytes))
 
 -- as a call that is prepared beside a table of open files
 pub stores_beside : {B : Type 0} {G : Ghosts B} {a b : B} {s t : InodeFile} {bytes : List ℕ} {answer : Answer (Option Storing)} {r : Result (Option Storing) Failure} → PreparesStoring bytes G a b s t answer r → (files : Descriptors)
-    → PreparesOpen (of_storing bytes) (IsTransfer bytes) G a b s t files (λ v. answer s.geometry.inodes v (table_of files)) r
+    → PreparesOpen (of_storing bytes) (IsTransfer bytes) G a b s t files (λ v. answer (limits_of s.geometry) v (table_of files)) r
 stores_beside told files = record {
   looks = told.looks;
   own = told.own;
@@ -171,6 +173,6 @@ stores_beside told files = record {
 }
 
 -- an offset as a number
-pub stores_at : (n : ℕ) (v : Volume) (table : ℕ → Option Description) (path bytes : List ℕ) (r : Result (Option Storing) Errno) {offset place : ℤ} → offset ≡ place
-    → StoresFile (stores (tree_of v table) path offset bytes) n v table bytes r → StoresFile (stores (tree_of v table) path place bytes) n v table bytes r
-stores_at n v table path bytes r is told = subst (λ (z : ℤ). StoresFile (stores (tree_of v table) path z bytes) n v table bytes r) is told
+pub stores_at : (limits : Limits) (v : Volume) (table : ℕ → Option Description) (path bytes : List ℕ) (r : Result (Option Storing) Errno) {offset place : ℤ} → offset ≡ place
+    → StoresFile (stores limits (tree_of v table) path offset bytes) limits v table bytes r → StoresFile (stores limits (tree_of v table) path place bytes) limits v table bytes r
+stores_at limits v table path bytes r is told = subst (λ (z : ℤ). StoresFile (stores limits (tree_of v table) path z bytes) limits v table bytes r) is told

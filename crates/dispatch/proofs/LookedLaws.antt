@@ -1,6 +1,7 @@
 -- What the layers below tell of blocks and of objects in memory, on a system that shows a state.
 use Rattle.std.proofs.Common.{◌≡◌, ◌*◌, ◌^◌, ◌<◌, ◌≤◌, ◌∙◌, ℕ, List, Option, Result, arith, sym, subst}
 use Rattle.std.specs.Prelude.{IsErrOf}
+use Rattle.layout.specs.StateLimits.{limits_of}
 use Rattle.station.specs.Moments.{Meaning}
 use Rattle.station.specs.declared.station.Station.{Ghosts}
 use Rattle.layout.specs.Limits.{Sizes}
@@ -95,8 +96,8 @@ module _ {S : Type 0} {G : Ghosts S} (f : System S G) where
       volume = subst (λ (n : ℕ). IsVolumeOf n disk_under inodes_under f.inodes shown.running) (sym its_count) shown.memory.stands;
     }
 
-    its_volume : IsVolume f.inodes.geometry.inodes shown.running
-    its_volume = subst (λ (g : Sizes). IsVolume g.inodes shown.running) (sym f.sizes) shown.memory.volume
+    its_volume : IsVolume (limits_of f.inodes.geometry) shown.running
+    its_volume = subst (λ (g : Sizes). IsVolume (limits_of g) shown.running) (sym f.sizes) shown.memory.volume
 
     -- with the open files
     pub its_table : IsMounted shown.running (table_of f.files)

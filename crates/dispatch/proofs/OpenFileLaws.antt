@@ -1,6 +1,8 @@
 -- What a call on descriptors comes to on a system that shows a state.
 use Rattle.std.proofs.Common.{◌≡◌, ℕ, List, Option, Some, Result, Err, ap, arith, sym, subst, ◌∙◌}
 use Rattle.std.specs.Prelude.{IfSome, IsFalse, IsTrue}
+use Rattle.model.specs.declared.limits.Limits.{Limits}
+use Rattle.layout.specs.StateLimits.{limits_of}
 use Rattle.station.specs.Moments.{Meaning}
 use Rattle.station.specs.declared.station.Station.{Ghosts}
 use Rattle.layout.specs.Record.{Change, IsChange}
@@ -66,26 +68,26 @@ changing_not_sure f _ is = cc
 
 module _ {m : Meaning} {k : Parts} {table : ℕ → Option Description} {s : State} (shown : IsShowing m k table s) where
   -- what is told of a system's volume and its open files is told of the state that it shows
-  pub led_to : (call : Command) (reply : Reply) (after : ℕ → Option Description) → WouldLead k.root.geometry.inodes shown.running (table_of k.files) call reply shown.running after nothing
-      → WouldCall s call reply (state_with k.root.geometry.inodes shown.running after shown.snapshots) nothing
+  pub led_to : (call : Command) (reply : Reply) (after : ℕ → Option Description) → WouldLead (limits_of k.root.geometry) shown.running (table_of k.files) call reply shown.running after nothing
+      → WouldCall s call reply (state_with (limits_of k.root.geometry) shown.running after shown.snapshots) nothing
   led_to call reply after told =
-      let n = k.root.geometry.inodes in
-      let is = shown.state ∙ ap (λ (t : ℕ → Option Description). state_with n shown.running t shown.snapshots) shown.opened in
-      subst (λ (u : State). WouldCall u call reply (state_with n shown.running after shown.snapshots) nothing) (sym is) (told shown.snapshots)
+      let limits = limits_of k.root.geometry in
+      let is = shown.state ∙ ap (λ (t : ℕ → Option Description). state_with limits shown.running t shown.snapshots) shown.opened in
+      subst (λ (u : State). WouldCall u call reply (state_with limits shown.running after shown.snapshots) nothing) (sym is) (told shown.snapshots)
 
   -- a refusal
-  pub refused_to : (call : Command) (errno : Errno) → DoesCall k.root.geometry.inodes shown.running (table_of k.files) call (Err errno) → WouldCall s call (Refused errno) s nothing
+  pub refused_to : (call : Command) (errno : Errno) → DoesCall (limits_of k.root.geometry) shown.running (table_of k.files) call (Err errno) → WouldCall s call (Refused errno) s nothing
   refused_to call errno told =
-      let n = k.root.geometry.inodes in
-      let same : state_with n shown.running (table_of k.files) shown.snapshots ≡ s = sym (shown.state ∙ ap (λ (t : ℕ → Option Description). state_with n shown.running t shown.snapshots) shown.opened) in
+      let limits = limits_of k.root.geometry in
+      let same : state_with limits shown.running (table_of k.files) shown.snapshots ≡ s = sym (shown.state ∙ ap (λ (t : ℕ → Option Description). state_with limits shown.running t shown.snapshots) shown.opened) in
       subst (λ (u : State). WouldCall s call (Refused errno) u nothing) same (led_to call (Refused errno) (table_of k.files) told)
 
 -- a call that leaves the image as it is, and perhaps another table of open files
 pub table_leads : {S : Type 0} {G : Ghosts S} (f new : System S G) {s : State} (shown : ShowsState f s) (call : Command) (reply : Reply) → StandsStill f new.inodes shown
     → (after : ℕ → Option Description) → after ≡ table_of new.files → FitsVolume new.files shown.running → IsMounted shown.running after
-    → WouldLead f.root.geometry.inodes shown.running (table_of f.files) call reply shown.running after nothing → IsAnswered f new shown call reply
+    → WouldLead (limits_of f.root.geometry) shown.running (table_of f.files) call reply shown.running after nothing → IsAnswered f new shown call reply
 table_leads f new shown call reply stands after opened fits mounted told = record {
-  next = state_with f.root.geometry.inodes shown.running after shown.snapshots;
+  next = state_with (limits_of f.root.geometry) shown.running after shown.snapshots;
   step = λ room stored. led_to shown call reply after told room;
   shows = moved_shown f new shown stands after opened fits mounted;
 }
@@ -94,25 +96,25 @@ table_leads f new shown call reply stands after opened fits mounted told = recor
 
 -- What is told of a call whose record is to be logged, or to wait, by a system that shows a state.
 pub record IsLogged {m : Meaning} {k : Parts} {table : ℕ → Option Description} {s : State} (shown : IsShowing m k table s) (call : Command) (reply : Reply) (move : TableMove) (change : Change) : Type 0 where
-  pub applies : Applies k.root.geometry.inodes shown.running change
+  pub applies : Applies (limits_of k.root.geometry) shown.running change
   pub mounted : IsMounted (swept table (applied change shown.running)) table
   pub fits : FitsMove (swept table (applied change shown.running)) move
-  pub step : WouldCall s call reply (state_with k.root.geometry.inodes (swept table (applied change shown.running)) (moved_table move table) shown.snapshots) (logs (work_of shown.running change))
+  pub step : WouldCall s call reply (state_with (limits_of k.root.geometry) (swept table (applied change shown.running)) (moved_table move table) shown.snapshots) (logs (work_of shown.running change))
 
 module _ {m : Meaning} {k : Parts} {table : ℕ → Option Description} {s : State} (shown : IsShowing m k table s) {disk : ℕ → List ℕ} (call : Command) (p : PreparedCall) (c : PreparedChange) (change : Change)
     (some : p.change ≡ Some c) (says : change ≡ recorded c.record) (prepared : IsPreparedAt k disk shown.running call p) where
   pub told_logged : IsLogged shown call p.reply p.table change
   told_logged =
       let v = shown.running in
-      let n = k.root.geometry.inodes in
-      let with_files : DoesBeside n v (table_of k.files) call p.reply p.table (Some c) = subst (λ (o : Option PreparedChange). DoesBeside n v (table_of k.files) call p.reply p.table o) some prepared.comes in
-      let of_record = subst (λ (t : ℕ → Option Description). DoesRecord n v t call p.reply p.table (recorded c.record)) (sym shown.opened) with_files in
-      let here = subst (DoesRecord n v table call p.reply p.table) (sym says) of_record in
+      let limits = limits_of k.root.geometry in
+      let with_files : DoesBeside limits v (table_of k.files) call p.reply p.table (Some c) = subst (λ (o : Option PreparedChange). DoesBeside limits v (table_of k.files) call p.reply p.table o) some prepared.comes in
+      let of_record = subst (λ (t : ℕ → Option Description). DoesRecord limits v t call p.reply p.table (recorded c.record)) (sym shown.opened) with_files in
+      let here = subst (DoesRecord limits v table call p.reply p.table) (sym says) of_record in
       record {
         applies = here.0;
         mounted = here.1;
         fits = here.2;
-        step = subst (λ (u : State). WouldCall u call p.reply (state_with n (swept table (applied change v)) (moved_table p.table table) shown.snapshots) (logs (work_of v change))) (sym shown.state) (here.3 shown.snapshots);
+        step = subst (λ (u : State). WouldCall u call p.reply (state_with limits (swept table (applied change v)) (moved_table p.table table) shown.snapshots) (logs (work_of v change))) (sym shown.state) (here.3 shown.snapshots);
       }
 
   -- put in force, its change does what the record says
@@ -123,17 +125,17 @@ module _ {m : Meaning} {k : Parts} {table : ℕ → Option Description} {s : Sta
       (subst (λ (o : Option PreparedChange). IfSome o (λ c. Does disk settled k.inodes shown.running c.prepared (recorded c.record))) some prepared.does)
 
   -- and it applies
-  pub may_advance : IsChange change → Advances k.root.geometry.inodes shown.running table change
+  pub may_advance : IsChange change → Advances (limits_of k.root.geometry) shown.running table change
   may_advance is = record { is = is; applies = told_logged.applies; mounted = told_logged.mounted }
 
 -- behind a record, with another table of open files
-pub moved_on : {m : Meaning} {k : Parts} {table : ℕ → Option Description} (n : ℕ) {v : Volume} (snapshots : List (Name × Tree)) {changes : List Change}
-    (behind : IsServingWith m k table (state_with n v table snapshots) v changes) (now_files : Descriptors) (after : ℕ → Option Description)
-    → after ≡ table_of now_files → FitsVolume now_files v → IsMounted v after → IsServingWith m (record k { files = now_files }) after (state_with n v after snapshots) v changes
-moved_on {k = k} n {v} snapshots behind now_files after opened fits mounted =
+pub moved_on : {m : Meaning} {k : Parts} {table : ℕ → Option Description} (limits : Limits) {v : Volume} (snapshots : List (Name × Tree)) {changes : List Change}
+    (behind : IsServingWith m k table (state_with limits v table snapshots) v changes) (now_files : Descriptors) (after : ℕ → Option Description)
+    → after ≡ table_of now_files → FitsVolume now_files v → IsMounted v after → IsServingWith m (record k { files = now_files }) after (state_with limits v after snapshots) v changes
+moved_on {k = k} limits {v} snapshots behind now_files after opened fits mounted =
     let serves = behind.serves in
     record {
-      serves = led serves k.inodes now_files serves.running after (state_with n v after snapshots) (λ last extends. extends) serves.memory (omega arith)
+      serves = led serves k.inodes now_files serves.running after (state_with limits v after snapshots) (λ last extends. extends) serves.memory (omega arith)
           (subst (λ (w : Volume). IsMounted w after) (sym behind.volume) mounted) opened (subst (λ (w : Volume). FitsVolume now_files w) (sym behind.volume) fits)
           (ap (λ (u : State). record u { tree = record u.tree { descriptors = after } }) serves.state);
       volume = behind.volume;

@@ -1,6 +1,7 @@
 -- A call that was prepared on a system, at the state that this shows.
 use Rattle.std.proofs.Common.{◌≡◌, ◌∙◌, ℕ, List, Option, Result, Ok, Err, ap, refl, subst, sym}
 use Rattle.std.specs.Prelude.{IfErr, IfOk, IfSome}
+use Rattle.layout.specs.StateLimits.{limits_of}
 use Rattle.station.specs.declared.station.Station.{Ghosts}
 use Rattle.layout.specs.Limits.{Sizes}
 use Rattle.layout.specs.Places.{blocks_of}
@@ -66,7 +67,7 @@ prepared_at f mid call p prepares shown =
     let v = shown.running in
     let root : mid.root ≡ f.root = ap (λ (k : Parts). k.root) parts in
     let DoesOver = λ (d : ℕ → List ℕ) (r : Root). IfSome p.change (λ c. Does (blocks_of d) (inodes_of (whole (blocks_of d) r).active) mid.inodes v c.prepared (recorded c.record)) in
-    let Comes = λ (g : Sizes) (t : ℕ → Option Description). DoesBeside g.inodes v t call p.reply p.table p.change in
+    let Comes = λ (g : Sizes) (t : ℕ → Option Description). DoesBeside (limits_of g) v t call p.reply p.table p.change in
     record {
       does = subst (λ (r : Root). DoesOver (disk_of mid) r) (sym root) (subst (λ (d : ℕ → List ℕ). DoesOver d f.root) (same_disk told.looks.reads shown.honest) (on_volumes f shown told.does));
       comes = subst (λ (t : ℕ → Option Description). Comes mid.root.geometry t) (sym prepares.table)
@@ -81,12 +82,12 @@ refused_on {S} {G} f mid call not_sure e prepares =
     let stays = λ (s : State) (shown : ShowsState f s). still_prepared f mid call prepares shown in
     failed_by f mid call (prepared_parts f mid call prepares) (same_views f mid call prepares) {T = PreparedCall} e (answer_to (Err e)) refl not_sure looks.reads told.own stays (λ s shown. refused e told.answers s shown (stays s shown)) (λ s shown. never_damaged f shown told.damaged)
   where
-    refused : (e : Failure) → OnOpen (blocks_with G) f.blocks f.inodes f.files (λ v. IfOk (read_outcome {T = PreparedCall} (Err e)) (DoesCall f.inodes.geometry.inodes v (table_of f.files) call)) → (s : State) (shown : ShowsState f s)
+    refused : (e : Failure) → OnOpen (blocks_with G) f.blocks f.inodes f.files (λ v. IfOk (read_outcome {T = PreparedCall} (Err e)) (DoesCall (limits_of f.inodes.geometry) v (table_of f.files) call)) → (s : State) (shown : ShowsState f s)
         → ShowsNext f mid shown s → IfOk (read_outcome {T = PreparedCall} (Err e)) (λ r. IfErr r (λ errno. IsAnswered f mid shown call (Refused errno)))
     refused (failures.Read e) answers s shown stays = tt
     refused (failures.Refused errno) answers s shown stays = record {
       next = s;
-      step = λ room stored. refused_to shown call errno (subst (λ (g : Sizes). DoesCall g.inodes shown.running (table_of f.files) call (Err errno)) f.sizes (on_open f shown answers)) room;
+      step = λ room stored. refused_to shown call errno (subst (λ (g : Sizes). DoesCall (limits_of g) shown.running (table_of f.files) call (Err errno)) f.sizes (on_open f shown answers)) room;
       shows = stays;
     }
 

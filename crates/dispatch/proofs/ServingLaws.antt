@@ -2,6 +2,8 @@
 use Rattle.std.proofs.Common.{◌≡◌, ◌⊎◌, ℕ, ℤ, inr, List, Option, Result, Ok, Err, refl, ap, sym, subst}
 use Rattle.std.specs.Prelude.{IsErrOf, IsFalse, IsTrue, IfErr, IfOk, OnErr, false}
 use Rattle.std.proofs.lemmas.Result.{IfOk-weaker}
+use Rattle.layout.specs.Limits.{Sizes}
+use Rattle.layout.specs.StateLimits.{limits_of}
 use Rattle.station.specs.Moments.{Meaning}
 use Rattle.station.specs.declared.station.Station.{Ghosts}
 use Rattle.model.specs.Circumstances.{IsSure}
@@ -38,17 +40,23 @@ use Rattle.system.specs.declared.system.System.{System}
 use Rattle.dispatch.proofs.ShowingLaws.{KeepsViews}
 
 module _ {m : Meaning} {k : Parts} {table : ℕ → Option Description} {s : State} (shown : IsShowing m k table s) where
-  tree : s.tree ≡ tree_of shown.running table
-  tree = ap (λ (u : State). u.tree) shown.state
-
   -- what is told of a system's volume is told of the state that it shows
-  pub told_of : (call : PathCall) (reply : Reply) → calls s.inodes (tree_of shown.running table) call reply (tree_of shown.running table) nothing → WouldCall s (command.Path call) reply s nothing
-  told_of call reply told room = (subst (λ (t : Tree). calls s.inodes t call reply t nothing) (sym tree) told, refl)
+  pub told_of : (call : PathCall) (reply : Reply) {sizes : Sizes} → sizes ≡ k.root.geometry
+      → calls (limits_of sizes) (tree_of shown.running table) call reply (tree_of shown.running table) nothing → WouldCall s (command.Path call) reply s nothing
+  told_of call reply same told room = (
+    subst (λ (u : State). calls u.limits u.tree call reply u.tree nothing) (sym shown.state)
+        (subst (λ (z : Sizes). calls (limits_of z) (tree_of shown.running table) call reply (tree_of shown.running table) nothing) same told),
+    refl,
+  )
 
   -- the same of what of a file is stored
-  pub extent_told : (room : Room) (path : List ℕ) (offset : ℤ) (reply : Reply) → tells_extent (tree_of shown.running table) room.stored path offset reply (tree_of shown.running table) nothing
-      → WouldStep room s (command.Extent path offset) reply s nothing
-  extent_told room path offset reply told = (subst (λ (t : Tree). tells_extent t room.stored path offset reply t nothing) (sym tree) told, refl)
+  pub extent_told : (room : Room) (path : List ℕ) (offset : ℤ) (reply : Reply) {sizes : Sizes} → sizes ≡ k.root.geometry
+      → tells_extent (limits_of sizes) (tree_of shown.running table) room.stored path offset reply (tree_of shown.running table) nothing → WouldStep room s (command.Extent path offset) reply s nothing
+  extent_told room path offset reply same told = (
+    subst (λ (u : State). tells_extent u.limits u.tree room.stored path offset reply u.tree nothing) (sym shown.state)
+        (subst (λ (z : Sizes). tells_extent (limits_of z) (tree_of shown.running table) room.stored path offset reply (tree_of shown.running table) nothing) same told),
+    refl,
+  )
 
 -- a refusal of the call's own
 pub own_refusal : {T : Type 0} (r : Result T Errno) (errno : Errno) → r ≡ Err errno → IfErr r (λ e. IsTrue (is_path_refusal e)) → TellsNoFault (Refused errno)

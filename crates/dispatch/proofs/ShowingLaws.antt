@@ -1,5 +1,6 @@
 -- A system of which a call looked: what it shows then, and that it serves that, or is ahead by it.
 use Rattle.std.proofs.Common.{◌≡◌, ◌≤◌, ◌∙◌, ℕ, List, Option, Result, arith, refl, sym, subst}
+use Rattle.layout.specs.StateLimits.{limits_of}
 use Rattle.station.specs.Moments.{Meaning}
 use Rattle.station.specs.declared.station.Station.{Ghosts}
 use Rattle.layout.specs.Places.{blocks_of}
@@ -67,7 +68,7 @@ module _ {S : Type 0} {G : Ghosts S} (f new : System S G) {s : State} (shown : S
 
   -- or one with other open files
   pub moved_shown : (after : ℕ → Option Description) → after ≡ table_of new.files → FitsVolume new.files shown.running → IsMounted shown.running after
-      → ShowsNext f new shown (state_with f.root.geometry.inodes shown.running after shown.snapshots)
+      → ShowsNext f new shown (state_with (limits_of f.root.geometry) shown.running after shown.snapshots)
   moved_shown after opened fits mounted = record {
     running = shown.running;
     replays = λ last extends. extends;
@@ -83,8 +84,8 @@ module _ {S : Type 0} {G : Ghosts S} (f new : System S G) {s : State} (shown : S
 
 module _ {m : Meaning} {k : Parts} {waits : Waits} {table : ℕ → Option Description} {s kept : State} (ahead : IsAhead m k waits table s kept) where
   -- with another view of a snapshot
-  abbrev viewed_ahead : (view : Option View) → ShowsSnapshot (blocks_of (disk_over k m.seen.disk)) k.root.geometry.blocks ahead.served.snapshots view
-      → ShowsSnapshot (blocks_of (disk_over k m.seen.disk)) k.root.geometry.blocks ahead.shown.snapshots view → IsAhead m (record k { view = view }) waits table s kept
+  abbrev viewed_ahead : (view : Option View) → ShowsSnapshot (blocks_of (disk_over k m.seen.disk)) k.root.geometry ahead.served.snapshots view
+      → ShowsSnapshot (blocks_of (disk_over k m.seen.disk)) k.root.geometry ahead.shown.snapshots view → IsAhead m (record k { view = view }) waits table s kept
   viewed_ahead view there here = record {
     waiting = ahead.waiting;
     batch = ahead.batch;
@@ -101,7 +102,7 @@ module _ {m : Meaning} {k : Parts} {waits : Waits} {table : ℕ → Option Descr
   abbrev pub led_ahead : (now_inodes : InodeFile) (now_files : Descriptors) (running : Volume) (after : ℕ → Option Description) (next : State)
       → ((last : Volume) → Extends ahead.shown.running last → Extends running last) → IsInMemory (blocks_of (disk_over k m.seen.disk)) k.root now_inodes running
       → memory_room ahead.shown.first now_inodes running ≤ memory_room ahead.shown.first k.inodes ahead.shown.running
-      → IsMounted running after → after ≡ table_of now_files → FitsVolume now_files running → next ≡ state_with k.root.geometry.inodes running after ahead.shown.snapshots
+      → IsMounted running after → after ≡ table_of now_files → FitsVolume now_files running → next ≡ state_with (limits_of k.root.geometry) running after ahead.shown.snapshots
       → IsAhead m (record k { inodes = now_inodes; files = now_files }) waits after next kept
   led_ahead now_inodes now_files running after next replays memory stores mounted opened fits state = record {
     waiting = ahead.waiting;
@@ -140,11 +141,11 @@ pub record AheadOn {S : Type 0} {G : Ghosts S} (old new : System S G) {waits : W
 
 -- where the view that a system keeps is of a snapshot, this one is
 abbrev pub KeepsViews : {S : Type 0} {G : Ghosts S} → System S G → Option View → Type 0
-KeepsViews {G = G} f view = OnShown (blocks_with G) f.blocks f.root f.view (λ disk snapshots. ShowsSnapshot disk f.root.geometry.blocks snapshots view)
+KeepsViews {G = G} f view = OnShown (blocks_with G) f.blocks f.root f.view (λ disk snapshots. ShowsSnapshot disk f.root.geometry snapshots view)
 
 -- so is the same one
 pub views_same : {S : Type 0} {G : Ghosts S} (f : System S G) {view : Option View} → view ≡ f.view → KeepsViews f view
-views_same f same disk shows v snapshots holds shown = subst (λ (o : Option View). ShowsSnapshot disk f.root.geometry.blocks snapshots o) (sym same) shown
+views_same f same disk shows v snapshots holds shown = subst (λ (o : Option View). ShowsSnapshot disk f.root.geometry snapshots o) (sym same) shown
 
 module _ {S : Type 0} {G : Ghosts S} (old new : System S G)
     (parts : system_parts new ≡ record (system_parts old) { kept = new.blocks.buffers.kept; pending = new.blocks.pending; inodes = new.inodes; view = new.view; files = new.files })

@@ -1,10 +1,12 @@
 -- A call whose record waits, on a system that is ahead of what a cut leaves.
 use Rattle.std.proofs.Common.{◌≡◌, ◌+◌, ◌≤◌, ◌∙◌, ℕ, List, Option, ap, arith, subst, sym}
+use Rattle.model.specs.declared.limits.Limits.{Limits}
+use Rattle.layout.specs.StateLimits.{limits_of}
 use Rattle.station.specs.Moments.{Meaning}
 use Rattle.station.specs.declared.station.Station.{Ghosts}
 use Rattle.layout.specs.declared.root.Root.{Root}
 use Rattle.model.specs.Paths.{Name}
-use Rattle.model.specs.Room.{cost, fixed_of, headroom}
+use Rattle.model.specs.Room.{cost, headroom}
 use Rattle.model.specs.States.{State}
 use Rattle.model.specs.Trees.{Description, Tree}
 use Rattle.model.specs.Volumes.{IsMounted, Volume}
@@ -22,11 +24,11 @@ use Rattle.dispatch.specs.Waiting.{IfLogs, IsDoneAhead}
 use Rattle.dispatch.proofs.ShowingLaws.{AheadOn, led_ahead}
 
 -- behind a record, with other open files of the same volume
-pub moved_behind : {m : Meaning} {k : Parts} {waits : Waits} {table : ℕ → Option Description} (n : ℕ) {v : Volume} (snapshots : List (Name × Tree)) {kept : State}
-    (ahead : IsAhead m k waits table (state_with n v table snapshots) kept) → ahead.shown.running ≡ v → (now_files : Descriptors) (after : ℕ → Option Description)
-    → after ≡ table_of now_files → FitsVolume now_files v → IsMounted v after → IsAhead m (record k { files = now_files }) waits after (state_with n v after snapshots) kept
-moved_behind {k = k} n {v} snapshots ahead running now_files after opened fits mounted =
-    led_ahead ahead k.inodes now_files ahead.shown.running after (state_with n v after snapshots) (λ last extends. extends) ahead.shown.memory (omega arith)
+pub moved_behind : {m : Meaning} {k : Parts} {waits : Waits} {table : ℕ → Option Description} (limits : Limits) {v : Volume} (snapshots : List (Name × Tree)) {kept : State}
+    (ahead : IsAhead m k waits table (state_with limits v table snapshots) kept) → ahead.shown.running ≡ v → (now_files : Descriptors) (after : ℕ → Option Description)
+    → after ≡ table_of now_files → FitsVolume now_files v → IsMounted v after → IsAhead m (record k { files = now_files }) waits after (state_with limits v after snapshots) kept
+moved_behind {k = k} limits {v} snapshots ahead running now_files after opened fits mounted =
+    led_ahead ahead k.inodes now_files ahead.shown.running after (state_with limits v after snapshots) (λ last extends. extends) ahead.shown.memory (omega arith)
     (subst (λ (w : Volume). IsMounted w after) (sym running) mounted) opened (subst (λ (w : Volume). FitsVolume now_files w) (sym running) fits)
     (ap (λ (u : State). record u { tree = record u.tree { descriptors = after } }) ahead.shown.state)
 
@@ -40,7 +42,7 @@ same_free {G = G} f mid {s = s} {kept = kept} ahead on =
 pub done_from : {S : Type 0} {G : Ghosts S} (old mid new : System S G) (before after : Waits) (s kept : State) (call : Command) → mid.pledged ≡ old.pledged → mid.root ≡ old.root → mid.free ≡ old.free
     → (reply : Reply) → IsDoneAhead mid new before after s kept call reply → IsDoneAhead old new before after s kept call reply
 done_from old mid new before after s kept call pledged root free reply done =
-    let Room = λ (p : ℕ) (r : Root) (n : ℕ). IfLogs done.need (λ work. p + before.pledged + cost work + fixed_of r.geometry.blocks + headroom work ≤ n) in
+    let Room = λ (p : ℕ) (r : Root) (n : ℕ). IfLogs done.need (λ work. p + before.pledged + cost (limits_of r.geometry).costs work + (limits_of r.geometry).costs.point + headroom (limits_of r.geometry).costs work ≤ n) in
     record {
       next = done.next;
       need = done.need;

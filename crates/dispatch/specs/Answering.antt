@@ -1,5 +1,6 @@
 -- What calls are answered that log nothing.
 use Rattle.std.specs.Prelude.{ℕ, ◌≡◌, ◌⊎◌, Result, Ok, Err, IfOk, IsErrOf, MatchResult}
+use Rattle.model.specs.declared.limits.Limits.{Limits}
 use Rattle.station.specs.declared.station.Station.{Ghosts}
 use Rattle.model.specs.Circumstances.{IsSure}
 use Rattle.model.specs.Outcomes.{Outcome}
@@ -28,9 +29,9 @@ use Rattle.system.specs.declared.system.System.{System}
 use Rattle.dispatch.specs.Serving.{AnswersAtOnce, IsAtOnce, IsSureOn, TellsNoFault, WouldCallOn}
 use Rattle.dispatch.specs.Showing.{ShowsNext, ShowsState}
 
--- what a call by a path comes to on a tree, for however many inodes
-abbrev pub asks : PathCall → Tree → Outcome
-asks call t reply new need = (inodes : ℕ) → calls inodes t call reply new need
+-- what a call by a path comes to on a tree within limits
+abbrev pub asks : PathCall → Limits → Tree → Outcome
+asks call limits t = calls limits t call
 
 -- a reply, or a refusal, as it is answered
 abbrev pub answered_reply : Result Reply Errno → Reply
@@ -75,7 +76,7 @@ pub record Answers {S : Type 0} {G : Ghosts S} (old new : System S G) (call : Co
   }
   pub reads : ReadsBlocks (blocks_with G) IsFault old.blocks new.blocks result
   pub view : OnShown (blocks_with G) old.blocks old.root old.view
-      (λ disk snapshots. ShowsSnapshot disk old.root.geometry.blocks snapshots new.view)
+      (λ disk snapshots. ShowsSnapshot disk old.root.geometry snapshots new.view)
   pub no_fault : IfOk result TellsNoFault
   pub kind : IfOk result (IsReplyTo call)
   pub at : (s : State) (shown : ShowsState old s)

@@ -8,13 +8,13 @@ use Rattle.calls.specs.Changing.{ComesOrStays, ComesSwept}
 use Rattle.calls.specs.Preparing.{Answer}
 use Rattle.calls.specs.declared.changed.Changing.{Changing}
 
--- what a call by a path comes to on a volume of so many inodes
+-- what a call by a path comes to on a volume within limits
 abbrev pub CallComes : PathCall → Answer (Option Changing)
-CallComes c inodes v table r = ComesOrStays (calls inodes (tree_of v table) c) inodes v table r
+CallComes c limits v table r = ComesOrStays (calls limits (tree_of v table) c) limits v table r
 
 -- the same of one that has a record where it isn't refused
 abbrev pub RecordComes : PathCall → Answer Changing
-RecordComes c inodes v table r = ComesSwept (calls inodes (tree_of v table) c) inodes v table r
+RecordComes c limits v table r = ComesSwept (calls limits (tree_of v table) c) limits v table r
 
 -- the call writes bytes: it is `store`
 abbrev pub is_writing_call : PathCall → Bool

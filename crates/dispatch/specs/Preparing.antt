@@ -1,5 +1,7 @@
 -- Calls that are prepared: what they are to do, of which nothing is seen yet.
 use Rattle.std.specs.Prelude.{ℕ, ◌≡◌, ◌≤◌, Bool, true, false, List, length, IfOk, IfSome, Option, Some, None, Result, Ok, Err}
+use Rattle.model.specs.declared.limits.Limits.{Limits}
+use Rattle.layout.specs.StateLimits.{limits_of}
 use Rattle.station.specs.declared.station.Station.{Ghosts}
 use Rattle.layout.specs.Record.{Change, write}
 use Rattle.model.specs.Records.{Applies, applied, work_of}
@@ -65,23 +67,23 @@ KeepsRecord (Writes number offset bytes) = (1 ≤ length bytes.now) × (length b
 
 -- What a call with this reply comes to that does what this record says, behind which a file may
 -- have to be swept, and this to the table: it applies, and needs room for its work.
-abbrev pub DoesRecord : ℕ → Volume → (ℕ → Option Description) → Command → Reply → TableMove → Change → Type 0
-DoesRecord inodes v table call reply move change =
+abbrev pub DoesRecord : Limits → Volume → (ℕ → Option Description) → Command → Reply → TableMove → Change → Type 0
+DoesRecord limits v table call reply move change =
     let after = swept table (applied change v) in
-    Applies inodes v change × IsMounted after table × FitsMove after move
-    × WouldLead inodes v table call reply after (moved_table move table) (logs (work_of v change))
+    Applies limits v change × IsMounted after table × FitsMove after move
+    × WouldLead limits v table call reply after (moved_table move table) (logs (work_of v change))
 
 -- the same of a call that may do nothing else
-abbrev pub DoesBeside : ℕ → Volume → (ℕ → Option Description) → Command → Reply → TableMove → Option PreparedChange → Type 0
-DoesBeside inodes v table call reply move None =
-    FitsMove v move × WouldLead inodes v table call reply v (moved_table move table) nothing
-DoesBeside inodes v table call reply move (Some c) =
-    DoesRecord inodes v table call reply move (recorded c.record)
+abbrev pub DoesBeside : Limits → Volume → (ℕ → Option Description) → Command → Reply → TableMove → Option PreparedChange → Type 0
+DoesBeside limits v table call reply move None =
+    FitsMove v move × WouldLead limits v table call reply v (moved_table move table) nothing
+DoesBeside limits v table call reply move (Some c) =
+    DoesRecord limits v table call reply move (recorded c.record)
 
 -- what a call comes to: a refusal, or what is to be done
-abbrev pub DoesCall : ℕ → Volume → (ℕ → Option Description) → Command → Result PreparedCall Errno → Type 0
-DoesCall inodes v table call (Err errno) = WouldLead inodes v table call (Refused errno) v table nothing
-DoesCall inodes v table call (Ok p) = DoesBeside inodes v table call p.reply p.table p.change
+abbrev pub DoesCall : Limits → Volume → (ℕ → Option Description) → Command → Result PreparedCall Errno → Type 0
+DoesCall limits v table call (Err errno) = WouldLead limits v table call (Refused errno) v table nothing
+DoesCall limits v table call (Ok p) = DoesBeside limits v table call p.reply p.table p.change
 
 -- a change whose record says what it does, if there is one
 abbrev pub said_change : Option Changing → Option PreparedChange
@@ -105,7 +107,7 @@ pub record MayDo (inodes : ℕ) (files : Descriptors) (call : Command) (p : Prep
 -- why it is refused.
 abbrev pub PreparesCall : {B : Type 0} → blocks.Ghosts B → B → B → InodeFile → InodeFile → Descriptors → Command → Result PreparedCall Failure → Type 0
 PreparesCall G blocks after s t files call result =
-    PreparesOpen of_prepared (MayDo s.geometry.inodes files call) G blocks after s t files (λ v. DoesCall s.geometry.inodes v (table_of files) call) result
+    PreparesOpen of_prepared (MayDo s.geometry.inodes files call) G blocks after s t files (λ v. DoesCall (limits_of s.geometry) v (table_of files) call) result
 
 -- what is prepared can be done to what a system has: the log takes its record, and memory has room
 -- for its change, and for what it opens
@@ -133,4 +135,4 @@ pub record PreparesOn {S : Type 0} {G : Ghosts S} (old new : System S G) (call :
 -- where memory stands for this volume over this disk, it does what the call does
 pub record IsPreparedAt (k : Parts) (disk : ℕ → List ℕ) (v : Volume) (call : Command) (p : PreparedCall) : Type 0 where
   pub does : IfSome p.change (λ c. Does disk (inodes_of (whole disk k.root).active) k.inodes v c.prepared (recorded c.record))
-  pub comes : DoesBeside k.root.geometry.inodes v (table_of k.files) call p.reply p.table p.change
+  pub comes : DoesBeside (limits_of k.root.geometry) v (table_of k.files) call p.reply p.table p.change

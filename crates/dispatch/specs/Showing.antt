@@ -1,5 +1,6 @@
 -- What a system shows to a call that only looks, whatever a cut leaves of it.
 use Rattle.std.specs.Prelude.{ℕ, ◌≡◌, ◌≤◌, List, Option}
+use Rattle.layout.specs.StateLimits.{limits_of}
 use Rattle.station.specs.Moments.{Meaning}
 use Rattle.station.specs.declared.station.Station.{Ghosts}
 use Rattle.layout.specs.Places.{blocks_of}
@@ -32,11 +33,11 @@ pub record IsShowing (m : Meaning) (k : Parts) (table : ℕ → Option Descripti
   pub running : Volume
   pub mounted : IsMounted running table
   pub memory : IsInMemory (blocks_of (disk_over k m.seen.disk)) k.root k.inodes running
-  pub view : ShowsSnapshot (blocks_of (disk_over k m.seen.disk)) k.root.geometry.blocks snapshots
+  pub view : ShowsSnapshot (blocks_of (disk_over k m.seen.disk)) k.root.geometry snapshots
       k.view
   pub opened : table ≡ table_of k.files
   pub fits : FitsVolume k.files running
-  pub state : s ≡ state_with k.root.geometry.inodes running table snapshots
+  pub state : s ≡ state_with (limits_of k.root.geometry) running table snapshots
 
 -- so does a system
 abbrev pub ShowsState : {S : Type 0} {G : Ghosts S} → System S G → State → Type 0
@@ -55,4 +56,4 @@ pub record ShowsNext {S : Type 0} {G : Ghosts S} (old new : System S G) {s : Sta
   pub opened : next.tree.descriptors ≡ table_of new.files
   pub fits : FitsVolume new.files running
   pub state : next
-      ≡ state_with old.root.geometry.inodes running next.tree.descriptors shown.snapshots
+      ≡ state_with (limits_of old.root.geometry) running next.tree.descriptors shown.snapshots

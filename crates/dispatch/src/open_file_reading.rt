@@ -1,6 +1,7 @@
 //! Calls on descriptors that log nothing.
 
 ghost use Rattle.std.specs.Prelude.{ℕ, IfOk, IsTrue};
+ghost use Rattle.model.specs.declared.limits.Limits.{Limits};
 ghost use Rattle.model.specs.Replies.{IsReplyTo};
 ghost use Rattle.model.specs.Room.{nothing};
 ghost use Rattle.model.specs.Volumes.{IsMounted, Volume};
@@ -26,8 +27,8 @@ pub(crate) fn answer_from_table(files: &mut Descriptors, call: &Command<'_>) -> 
     ensures no_fault { TellsNoFault result }
     ensures kind { IsReplyTo call.now result }
     ensures no_want { TellsNoWant result }
-    ensures answers { (inodes : ℕ) (v : Volume) → FitsVolume files.old v
-        → WouldLead inodes v (table_of files.old) call.now result v (table_of files.new) nothing }
+    ensures answers { (limits : Limits) (v : Volume) → FitsVolume files.old v
+        → WouldLead limits v (table_of files.old) call.now result v (table_of files.new) nothing }
     ensures fits { (v : Volume) → FitsVolume files.old v → FitsVolume files.new v }
     ensures mounted { (v : Volume) → IsMounted v (table_of files.old)
         → IsMounted v (table_of files.new) }
@@ -63,8 +64,8 @@ pub(crate) fn read_open_file<B: Blocks>(
     ensures no_fault { IfOk result TellsNoFault }
     ensures kind { IfOk result (IsReplyTo call.now) }
     ensures tells { AnswersMoving B.Blocks blocks.old blocks.new inodes.old inodes.new files.old
-        files.new (λ v r. (n : ℕ) → WouldLead n v (table_of files.old) call.now (answered_reply r) v
-        (table_of files.new) nothing) result }
+        files.new (λ v r. (limits : Limits) → WouldLead limits v (table_of files.old) call.now
+        (answered_reply r) v (table_of files.new) nothing) result }
 {
     match call {
         Command::Read { fd, count } => {

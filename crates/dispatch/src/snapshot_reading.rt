@@ -1,6 +1,7 @@
 //! Calls on the snapshots that change nothing.
 
 ghost use Rattle.std.specs.Prelude.{◌≡◌, IfErr, IfOk, IsErrOf, IsFalse, IsTrue};
+ghost use Rattle.layout.specs.StateLimits.{limits_of};
 ghost use Rattle.layout.specs.Root.{IsRoot};
 ghost use Rattle.model.specs.Replies.{IsReplyTo};
 ghost use Rattle.model.specs.Room.{nothing};
@@ -67,9 +68,10 @@ fn read_within<B: Blocks>(
     ensures no_fault { IfOk result TellsNoFault }
     ensures kind { IfOk result (IsReplyTo (Command.Path call.now)) }
     ensures shows { OnShown B.Blocks blocks.old root.now kept.old (λ disk pairs.
-        ShowsSnapshot disk root.now.geometry.blocks pairs kept.new) }
+        ShowsSnapshot disk root.now.geometry pairs kept.new) }
     ensures views { OnShown B.Blocks blocks.old root.now kept.old (λ disk pairs. (s : State)
-        → s.snapshots ≡ pairs → IfOk (read_outcome result) (λ r.
+        → s.limits ≡ limits_of root.now.geometry → s.snapshots ≡ pairs → IfOk (read_outcome result)
+        (λ r.
         views s name.now call.now (answered_reply r) s nothing)) }
     ensures damaged { OnShown B.Blocks blocks.old root.now kept.old (λ disk pairs.
         IsErrOf (read_outcome result) BlockError.Damaged → ⊥) }

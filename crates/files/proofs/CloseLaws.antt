@@ -3,6 +3,7 @@ use Rattle.std.proofs.Common.{◌≡◌, ◌≢◌, ◌<◌, ◌≤◌, ◌==◌
 use Rattle.std.proofs.Math.Path.{fun_ext}
 use Rattle.std.proofs.lemmas.Bool.{cases_Bool, cases_eq, cases_lt, cond-true, cond-false, eq-eqb, ne_eqb}
 use Rattle.std.specs.Option.{option_map}
+use Rattle.model.specs.declared.limits.Limits.{Limits}
 use Rattle.model.specs.Descriptors.{closes}
 use Rattle.model.specs.Edits.{IsSwept, with_descriptor}
 use Rattle.model.specs.Outcomes.{Outcome, changes_swept}
@@ -73,8 +74,8 @@ module _ (old new : Descriptors) (fd : ℕ) (freed : table_of new ≡ put_open f
     abbrev left : Volume
     left = swept (table_of new) v
 
-    pub close_done : (inodes : ℕ) (f : OpenFile) → IsVolume inodes v → open_at old fd ≡ Some f → closes t fd Done (tree_with new left) nothing
-    close_done inodes f volume some = laws.is_open old v fd rest f Done (tree_with new left) nothing some (refl, is_swept, refl)
+    pub close_done : (limits : Limits) (f : OpenFile) → IsVolume limits v → open_at old fd ≡ Some f → closes t fd Done (tree_with new left) nothing
+    close_done limits f volume some = laws.is_open old v fd rest f Done (tree_with new left) nothing some (refl, is_swept, refl)
       where
         whole : IsSwept (tree_of v (table_of new)) (tree_of left (table_of new))
         whole = swept_from v volume.graph (table_of new) (past_end new) (tree_of v (table_of new)) refl refl (λ n used. (refl, refl))

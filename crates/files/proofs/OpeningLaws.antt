@@ -1,6 +1,7 @@
 -- What the definitions say of opening a file, by what its path leads to and which descriptor is free.
 use Rattle.std.proofs.Common.{◌≡◌, ℕ, Bool, true, false, List, Option, Some, None, Ok, Err, refl, sym, ap, subst, ◌∙◌}
 use Rattle.std.specs.Prelude.{min}
+use Rattle.model.specs.declared.limits.Limits.{Limits}
 use Rattle.model.specs.Descriptors.{described_by, open_tests, opens}
 use Rattle.model.specs.Outcomes.{Outcome, lowest_free, refuses}
 use Rattle.model.specs.Paths.{Tests, first_refusal, text_tests, text_tests_then}
@@ -32,18 +33,18 @@ use Rattle.files.specs.Opening.{OpensDescriptor, OpensDescriptorOver, opening_re
 use Rattle.files.specs.declared.opening.Opening.{Opening}
 use Rattle.files.proofs.OpenLaws.{passes, refused_by}
 
-module _ (below inodes : ℕ) (v : Volume) (table : Descriptors) (text : List ℕ) (flags : Flags) (mode : ℕ) where
+module _ (below : ℕ) (limits : Limits) (v : Volume) (table : Descriptors) (text : List ℕ) (flags : Flags) (mode : ℕ) where
   abbrev t : Tree
   t = tree_with table v
 
   abbrev tests : Tests
-  tests = text_tests_then (open_tests flags) text
+  tests = text_tests_then limits (open_tests flags) text
 
   abbrev along : Bool → ℕ → Outcome
-  along = opens_along inodes t text flags mode
+  along = opens_along limits t text flags mode
 
   abbrev outcome : Bool → Outcome
-  outcome tells = opens tells below inodes t text flags mode
+  outcome tells = opens tells below limits t text flags mode
 
   abbrev free_fd : Option ℕ
   free_fd = lowest_free (table_of table) (min below OPEN_FILES)
@@ -55,9 +56,9 @@ module _ (below inodes : ℕ) (v : Volume) (table : Descriptors) (text : List �
   pub open_refused : (errno : Errno) → first_refusal tests ≡ Some errno → (tells : Bool) → outcome tells (Refused errno) t nothing
   open_refused errno is tells = refused_by t tests (at_free tells free_fd) errno is
 
-  module _ (good_text : first_refusal (text_tests text) ≡ None) (good_flags : first_refusal (open_tests flags) ≡ None) where
+  module _ (good_text : first_refusal (text_tests limits text) ≡ None) (good_flags : first_refusal (open_tests flags) ≡ None) where
     passed : (tells : Bool) (reply : Reply) (new : Tree) (need : Need) → at_free tells free_fd reply new need → outcome tells reply new need
-    passed tells reply new need done = passes t tests (at_free tells free_fd) reply new need (text_before text (open_tests flags) good_text ∙ good_flags) done
+    passed tells reply new need done = passes t tests (at_free tells free_fd) reply new need (text_before limits text (open_tests flags) good_text ∙ good_flags) done
 
     -- no such descriptor is free
     pub open_full : free_fd ≡ None → (tells : Bool) → outcome tells (Refused EMFILE) t nothing
@@ -67,7 +68,7 @@ module _ (below inodes : ℕ) (v : Volume) (table : Descriptors) (text : List �
       at_fd : (tells : Bool) (reply : Reply) (new : Tree) (need : Need) → along tells fd reply new need → outcome tells reply new need
       at_fd tells reply new need done = passed tells reply new need (subst (λ (o : Option ℕ). at_free tells o reply new need) (sym free) done)
 
-      pub open_nowhere : (errno : Errno) → OpensAt along inodes flags v (table_of table) (Err errno) → (tells : Bool) → outcome tells (Refused errno) t nothing
+      pub open_nowhere : (errno : Errno) → OpensAt along limits flags v (table_of table) (Err errno) → (tells : Bool) → outcome tells (Refused errno) t nothing
       open_nowhere errno told tells = at_fd tells (Refused errno) t nothing (told tells fd)
 
       module _ (o : Opened) (f : OpenFile) (stat : Stat) (described : description_of f ≡ described_by o.number flags) (figures : figures_of f ≡ record { links = o.links; size = o.size })
@@ -94,11 +95,11 @@ module _ (below inodes : ℕ) (v : Volume) (table : Descriptors) (text : List �
             subst (λ (d : Description). along tells fd (opened_reply tells fd o) (tree_of w (put_open fd (Some d) (table_of table))) need) (sym described) done in
             at_fd tells (opening_reply tells opening) after need (subst (λ (r : Reply). along tells fd r after need) (same_reply tells) here)
 
-        over : (changing : Option Changing) → FindsOver along inodes flags v (table_of table) o changing → OpensDescriptorOver outcome inodes v table opening changing
+        over : (changing : Option Changing) → FindsOver along limits flags v (table_of table) o changing → OpensDescriptorOver outcome limits v table opening changing
         over None (is, opened) = (is_file v is, λ tells. opens_at v nothing tells (opened tells fd))
         over (Some c) (applies, mounted, is, opened) =
             let w = swept (table_of table) (applied (said_by c.change) v) in
             (applies, mounted, is_file w is, λ tells. opens_at w (logs (work_of v (said_by c.change))) tells (opened tells fd))
 
-        pub open_told : OpensAt along inodes flags v (table_of table) (Ok o) → OpensDescriptor outcome inodes v table (Ok opening)
+        pub open_told : OpensAt along limits flags v (table_of table) (Ok o) → OpensDescriptor outcome limits v table (Ok opening)
         open_told told = over o.changing told

@@ -3,6 +3,7 @@ use Rattle.std.proofs.Common.{rules, Option, Result, Ok, Err, IsTrue, refl}
 use Rattle.std.specs.Prelude.{◌≡◌, IfOk}
 use Rattle.std.specs.Result.{IsErrAnd}
 use Rattle.std.proofs.lemmas.Result.{IfOk-weaker}
+use Rattle.layout.specs.StateLimits.{limits_of}
 use Rattle.model.specs.Volumes.{Volume}
 use Rattle.model.specs.declared.errno.Errno.{Errno}
 use Rattle.buffers.specs.Errors.{IsFault}
@@ -92,7 +93,7 @@ module _ {B T : Type 0} {G : Ghosts B} {a b : B} {s t : InodeFile} {table : Desc
 
   -- another call does it all, and its answer is this one
   pub leaves : {changes : T → Option Changing} {Q : Answer T} {r : Result T Failure} → PreparesWith changes G a b s t Q r
-      → OnOpen G a s table (λ v. (y : Result T Errno) → Q s.geometry.inodes v (table_of table) y → P v y) → PreparesOpen (λ x. of_changing (changes x)) IsAny G a b s t table P r
+      → OnOpen G a s table (λ v. (y : Result T Errno) → Q (limits_of s.geometry) v (table_of table) y → P v y) → PreparesOpen (λ x. of_changing (changes x)) IsAny G a b s t table P r
   leaves {r = r} all gives = record {
     looks = all.looks;
     own = all.own;

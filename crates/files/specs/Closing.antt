@@ -1,5 +1,6 @@
 -- What freeing a descriptor comes to.
 use Rattle.std.specs.Prelude.{ℕ, ◌≡◌, ◌≢◌, ◌≤◌, List, IfErr, IsTrue, OnErr, OnOk, Option, Some, Result}
+use Rattle.model.specs.declared.limits.Limits.{Limits}
 use Rattle.layout.specs.declared.inode.Inode.{Inode}
 use Rattle.model.specs.Descriptors.{closes}
 use Rattle.model.specs.Room.{nothing}
@@ -56,7 +57,7 @@ pub record PreparesClose {B T : Type 0} (G : Ghosts B) (blocks after : B) (s t :
 -- refusal changes nothing.
 pub record Closes {T : Type 0} (s t : InodeFile) (table after : Descriptors) (fd : ℕ) (result : Result T Errno) : Type 0 where
   pub geometry : t.geometry ≡ s.geometry
-  pub answers : (n : ℕ) (v : Volume) → IsVolume n v → IsMounted v (table_of table)
+  pub answers : (limits : Limits) (v : Volume) → IsVolume limits v → IsMounted v (table_of table)
       → closes (tree_with table v) fd (done_reply result) (tree_with after (swept (table_of after) v)) nothing
   pub volume : (count : ℕ) (disk : ℕ → List ℕ) (settled : ℕ → Inode) (v : Volume) → IsVolumeOf count disk settled s v
       → IsMounted v (table_of table) → FitsVolume table v → IsVolumeOf count disk settled t (swept (table_of after) v)

@@ -1,6 +1,7 @@
 -- What calls on descriptors promise over memory that stands for a volume, beside the table of open
 -- files.
 use Rattle.std.specs.Prelude.{ℕ, List}
+use Rattle.layout.specs.StateLimits.{limits_of}
 use Rattle.layout.specs.declared.inode.Inode.{Inode}
 use Rattle.model.specs.Trees.{Tree}
 use Rattle.model.specs.Volumes.{Volume, IsMounted, IsVolume, tree_of}
@@ -18,5 +19,5 @@ tree_with table v = tree_of v (table_of table)
 -- this holds of each mounted volume that memory stands for and that the table fits
 abbrev pub OnOpen : {B : Type 0} → Ghosts B → B → InodeFile → Descriptors → (Volume → Type 0) → Type 0
 OnOpen G blocks s table P =
-    (disk : ℕ → List ℕ) (settled : ℕ → Inode) (v : Volume) → Stands G disk settled v blocks s → IsVolume s.geometry.inodes v
+    (disk : ℕ → List ℕ) (settled : ℕ → Inode) (v : Volume) → Stands G disk settled v blocks s → IsVolume (limits_of s.geometry) v
     → IsMounted v (table_of table) → FitsVolume table v → P v

@@ -1,5 +1,6 @@
 -- What opening a file comes to.
 use Rattle.std.specs.Prelude.{ℕ, ◌≡◌, ◌<◌, Bool, false, true, Option, Some, None, Result, Ok, Err}
+use Rattle.model.specs.declared.limits.Limits.{Limits}
 use Rattle.model.specs.Outcomes.{Outcome}
 use Rattle.model.specs.Records.{Applies, applied, work_of}
 use Rattle.model.specs.Room.{Need, logs, nothing}
@@ -43,15 +44,15 @@ IsOpenedOver outcome v table o need =
     (tells : Bool) → outcome tells (opening_reply tells o) (tree_of v (with_opened o table)) need
 
 -- what opening a file comes to that changes nothing beside, or does what a record says
-abbrev pub OpensDescriptorOver : (Bool → Outcome) → ℕ → Volume → Descriptors → Opening → Option Changing → Type 0
-OpensDescriptorOver outcome inodes v table o None = IsFileOf v o.file × IsOpenedOver outcome v table o nothing
-OpensDescriptorOver outcome inodes v table o (Some c) =
-    Applies inodes v (said_by c.change)
+abbrev pub OpensDescriptorOver : (Bool → Outcome) → Limits → Volume → Descriptors → Opening → Option Changing → Type 0
+OpensDescriptorOver outcome limits v table o None = IsFileOf v o.file × IsOpenedOver outcome v table o nothing
+OpensDescriptorOver outcome limits v table o (Some c) =
+    Applies limits v (said_by c.change)
     × IsMounted (swept (table_of table) (applied (said_by c.change) v)) (table_of table)
     × IsFileOf (swept (table_of table) (applied (said_by c.change) v)) o.file
     × IsOpenedOver outcome (swept (table_of table) (applied (said_by c.change) v)) table o (logs (work_of v (said_by c.change)))
 
 -- what opening comes to, whether the file is told of or not: a refusal, or a file at a descriptor
-abbrev pub OpensDescriptor : (Bool → Outcome) → ℕ → Volume → Descriptors → Result Opening Errno → Type 0
-OpensDescriptor outcome inodes v table (Err errno) = (tells : Bool) → outcome tells (Refused errno) (tree_with table v) nothing
-OpensDescriptor outcome inodes v table (Ok o) = OpensDescriptorOver outcome inodes v table o o.changing
+abbrev pub OpensDescriptor : (Bool → Outcome) → Limits → Volume → Descriptors → Result Opening Errno → Type 0
+OpensDescriptor outcome limits v table (Err errno) = (tells : Bool) → outcome tells (Refused errno) (tree_with table v) nothing
+OpensDescriptor outcome limits v table (Ok o) = OpensDescriptorOver outcome limits v table o o.changing

@@ -1,5 +1,6 @@
 -- What writing through a descriptor comes to.
 use Rattle.std.specs.Prelude.{ℕ, ◌≡◌, ◌≤◌, ◌+◌, IfSome, IsSome, Bool, not, List, [], ◌∷◌, length, Option, Some, None, Result, Ok, Err, if◌then◌else◌}
+use Rattle.model.specs.declared.limits.Limits.{Limits}
 use Rattle.model.specs.Outcomes.{Outcome}
 use Rattle.model.specs.Paths.{Tests}
 use Rattle.model.specs.Records.{Change, applied, work_of, write}
@@ -51,18 +52,18 @@ pub record IsBehindWritten (f : OpenFile) (offset : ℕ) (bytes : List ℕ) (w :
   pub behind_is : w.behind ≡ offset + length bytes
 
 -- what bytes that go to an open file come to, whatever else changes by the call
-abbrev pub PutsFile : ℕ → Volume → (ℕ → Option Description) → OpenFile → ℕ → List ℕ → Result (Option Writing) Errno → Type 0
-PutsFile inodes v table f offset bytes (Err errno) = PutsBytes inodes v table f.number offset bytes (Err errno)
-PutsFile inodes v table f offset bytes (Ok None) = PutsBytes inodes v table f.number offset bytes (Ok None)
-PutsFile inodes v table f offset bytes (Ok (Some w)) =
-    IsBehindWritten f offset bytes w.written × PutsBytes inodes v table f.number offset bytes (Ok (Some w.prepared))
+abbrev pub PutsFile : Limits → Volume → (ℕ → Option Description) → OpenFile → ℕ → List ℕ → Result (Option Writing) Errno → Type 0
+PutsFile limits v table f offset bytes (Err errno) = PutsBytes limits v table f.number offset bytes (Err errno)
+PutsFile limits v table f offset bytes (Ok None) = PutsBytes limits v table f.number offset bytes (Ok None)
+PutsFile limits v table f offset bytes (Ok (Some w)) =
+    IsBehindWritten f offset bytes w.written × PutsBytes limits v table f.number offset bytes (Ok (Some w.prepared))
 
 -- what a write comes to: a refusal, nothing where there are no bytes, or what its record does, with
 -- these descriptors then
-abbrev pub WritesFile : Outcome → ℕ → Volume → Descriptors → List ℕ → (Written → ℕ → Option Description) → Result (Option Writing) Errno → Type 0
-WritesFile outcome inodes v table bytes after (Err errno) = outcome (Refused errno) (tree_with table v) nothing
-WritesFile outcome inodes v table bytes after (Ok None) = outcome (Wrote 0) (tree_with table v) nothing
-WritesFile outcome inodes v table bytes after (Ok (Some w)) =
-    GoesOver inodes v (table_of table) (change_of_write w.written bytes)
+abbrev pub WritesFile : Outcome → Limits → Volume → Descriptors → List ℕ → (Written → ℕ → Option Description) → Result (Option Writing) Errno → Type 0
+WritesFile outcome limits v table bytes after (Err errno) = outcome (Refused errno) (tree_with table v) nothing
+WritesFile outcome limits v table bytes after (Ok None) = outcome (Wrote 0) (tree_with table v) nothing
+WritesFile outcome limits v table bytes after (Ok (Some w)) =
+    GoesOver limits v (table_of table) (change_of_write w.written bytes)
     × IsMounted (applied (change_of_write w.written bytes) v) (after w.written)
     × outcome (Wrote (length bytes)) (tree_of (applied (change_of_write w.written bytes) v) (after w.written)) (logs (work_of v (change_of_write w.written bytes)))

@@ -1,8 +1,8 @@
 //! Changing the size of a descriptor's file.
 
 ghost use Rattle.std.specs.Prelude.{◌≤◌, IfErr, IfOk, IsTrue, nat_abs};
+ghost use Rattle.layout.specs.StateLimits.{limits_of};
 ghost use Rattle.model.specs.Descriptors.{truncates_open};
-ghost use Rattle.model.specs.declared.limits.TheConstants.{GREATEST_FILE};
 ghost use Rattle.paths.specs.Loads.{IsAny};
 ghost use Rattle.calls.specs.Refusals.{is_path_refusal};
 ghost use Rattle.records.specs.Opened.{HasNumbers};
@@ -19,7 +19,7 @@ use calls::{Changing, refusal_of_size, truncate_file};
 use descriptors::{Descriptors, OpenFile};
 use inofile::InodeFile;
 use layout::InodeNumber;
-use model::Errno;
+use model::{Errno, Limits};
 use records::Failure;
 use std::alloc::Global;
 
@@ -38,18 +38,23 @@ pub fn prepare_ftruncate<B: Blocks>(
 ) -> Result<Option<Changing>, Failure>
     requires { HasNumbers inodes.old.geometry.inodes table.now }
     ensures { PreparesOpen of_changing IsAny B.Blocks blocks.old blocks.new inodes.old inodes.new
-        table.now (λ v. ComesOrStays (truncates_open (tree_with table.now v) fd size)
-        inodes.old.geometry.inodes v (table_of table.now)) result }
+        table.now (λ v. ComesOrStays (truncates_open (limits_of inodes.old.geometry) (tree_with
+        table.now v) fd size) (limits_of inodes.old.geometry) v (table_of table.now)) result }
 {
-    let file = file_to_truncate(table, fd, size)?;
+    let file = file_to_truncate(inodes.limits(), table, fd, size)?;
     let number = InodeNumber::new(file.number);
     truncate_file(alloc, inodes, blocks, number, size.unsigned_abs())
 }
 
 // The file of a descriptor that may get this size; the refusal of the first test that holds.
-fn file_to_truncate(table: &Descriptors, fd: u32, size: i64) -> Result<OpenFile, Errno>
-    ensures passes { PassesOpen (truncate_tests size) table.now fd result }
-    ensures within { IfOk result (λ _. nat_abs size ≤ GREATEST_FILE) }
+fn file_to_truncate(
+    limits: Limits,
+    table: &Descriptors,
+    fd: u32,
+    size: i64,
+) -> Result<OpenFile, Errno>
+    ensures passes { PassesOpen (truncate_tests limits size) table.now fd result }
+    ensures within { IfOk result (λ _. nat_abs size ≤ limits.file_bytes) }
     ensures own { IfErr result (λ e. IsTrue (is_path_refusal e)) }
 {
     let Some(file) = table.get(fd) else {
@@ -58,7 +63,7 @@ fn file_to_truncate(table: &Descriptors, fd: u32, size: i64) -> Result<OpenFile,
     if !is_writing(file.access) {
         return Err(Errno::EINVAL);
     }
-    if let Some(errno) = refusal_of_size(size) {
+    if let Some(errno) = refusal_of_size(limits, size) {
         return Err(errno);
     }
     Ok(file)

@@ -1,6 +1,7 @@
 //! Opening a file.
 
 ghost use Rattle.std.specs.Prelude.{◌≡◌, IfSome, IsTrue};
+ghost use Rattle.layout.specs.StateLimits.{limits_of};
 ghost use Rattle.model.specs.Descriptors.{open_tests, opens};
 ghost use Rattle.model.specs.Paths.{first_refusal};
 ghost use Rattle.calls.specs.Refusals.{is_path_refusal};
@@ -10,11 +11,11 @@ ghost use Rattle.files.specs.Preparing.{PreparesOpen};
 
 use crate::writing::is_writing;
 use buffers::Blocks;
-use calls::{Changing, open_along};
+use calls::{Changing, open_along, refusal_of_path};
 use descriptors::{Descriptors, OpenFile};
 use inofile::InodeFile;
 use model::{Errno, FileType, Flags, Mode, Stat};
-use paths::{Parts, refusal_of_text};
+use paths::Parts;
 use records::Failure;
 use std::alloc::Global;
 
@@ -52,11 +53,12 @@ pub fn prepare_open<B: Blocks>(
 ) -> Result<Opening, Failure>
     ensures { PreparesOpen of_opening (CanOpen table.now inodes.old.geometry.inodes) B.Blocks
         blocks.old blocks.new inodes.old inodes.new table.now
-        (λ v. OpensDescriptor (λ tells. opens tells below inodes.old.geometry.inodes
-        (tree_with table.now v) path.now flags mode) inodes.old.geometry.inodes v table.now) result }
+        (λ v. OpensDescriptor (λ tells. opens tells below (limits_of inodes.old.geometry)
+        (tree_with table.now v) path.now flags mode) (limits_of inodes.old.geometry) v table.now)
+        result }
 {
     let parts = Parts::of(alloc, path)?;
-    if let Some(errno) = refusal_of_text(path, &parts) {
+    if let Some(errno) = refusal_of_path(inodes, path, &parts) {
         return Err(Failure::Refused(errno));
     }
     if let Some(errno) = refusal_of_flags(flags) {

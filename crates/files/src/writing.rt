@@ -1,6 +1,7 @@
 //! Writing through a descriptor: prepared, with all memory taken and all blocks read.
 
 ghost use Rattle.std.specs.Prelude.{◌≡◌, ◌||◌, ◌≤◌, ◌^◌, IfErr, IfOk, IsTrue, length};
+ghost use Rattle.layout.specs.StateLimits.{limits_of};
 ghost use Rattle.model.specs.Descriptors.{is_writing, writes, writes_to};
 ghost use Rattle.model.specs.Reading.{is_negative, is_too_many};
 ghost use Rattle.model.specs.declared.limits.TheConstants.{TRANSFER_BYTES};
@@ -38,7 +39,8 @@ pub fn prepare_write<B: Blocks>(
 ) -> Result<Option<Writing>, Failure>
     ensures { PreparesOpen (of_writing bytes.now) (IsWrite table.now fd bytes.now) B.Blocks blocks.old
         blocks.new inodes.old inodes.new table.now
-        (λ v. WritesFile (writes (tree_with table.now v) fd bytes.now) inodes.old.geometry.inodes v
+        (λ v. WritesFile (writes (limits_of inodes.old.geometry) (tree_with table.now v) fd
+        bytes.now) (limits_of inodes.old.geometry) v
         table.now bytes.now (λ w. moved_to fd w.behind (table_of table.now))) result }
 {
     let file = file_to_write(table, fd, bytes.len() > TRANSFER_BYTES)?;
@@ -61,8 +63,9 @@ pub fn prepare_pwrite<B: Blocks>(
 ) -> Result<Option<Writing>, Failure>
     ensures { PreparesOpen (of_writing bytes.now) (IsWrite table.now fd bytes.now) B.Blocks blocks.old
         blocks.new inodes.old inodes.new table.now
-        (λ v. WritesFile (writes_to (tree_with table.now v) fd offset bytes.now)
-        inodes.old.geometry.inodes v table.now bytes.now (λ _. table_of table.now)) result }
+        (λ v. WritesFile (writes_to (limits_of inodes.old.geometry) (tree_with table.now v) fd
+        offset bytes.now) (limits_of inodes.old.geometry) v table.now bytes.now (λ _. table_of
+        table.now)) result }
 {
     let file = file_to_write(table, fd, is_no_range(offset, bytes))?;
     write_file(alloc, inodes, blocks, &file, offset.unsigned_abs(), bytes)
@@ -111,6 +114,7 @@ pub(crate) fn is_writing(access: Access) -> bool
 }
 
 // Prepares that bytes go to an open file, at an offset.
+#[tactic(auto, using(layout::proofs::LimitLaws::greatest_most))]
 fn write_file<B: Blocks>(
     alloc: Global,
     inodes: &mut InodeFile,
@@ -124,8 +128,8 @@ fn write_file<B: Blocks>(
     requires within { offset ≤ 2 ^ 63 }
     ensures { PreparesTold (of_writing bytes.now) (IsTransfer bytes.now) B.Blocks blocks.old
         blocks.new inodes.old inodes.new (λ r. OnMounted B.Blocks blocks.old inodes.old (λ v table.
-        IsFileOf v file.now → IfOk r
-        (PutsFile inodes.old.geometry.inodes v table file.now offset bytes.now))) result }
+        IsFileOf v file.now → IfOk r (PutsFile (limits_of inodes.old.geometry) v table file.now
+        offset bytes.now))) result }
 {
     let number = InodeNumber::new(file.number);
     let planned = write_bytes(alloc, inodes, blocks, number, offset, bytes)?;

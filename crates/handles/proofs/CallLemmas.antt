@@ -1,12 +1,13 @@
 -- The numbers in use behind each call come from before, or are such as it may give.
 use Rattle.std.proofs.Common.{◌≡◌, inr, ℕ, ℤ, pos, ◌+◌, List, [], ◌∷◌, ◌++◌, length, Bool, true, false, not, ◌&&◌, ◌||◌, is_some, Option, Some, None, refl, sym, subst}
 use Rattle.std.specs.Prelude.{◌==◌, if◌then◌else◌, ◌+ℤ◌, nat_abs, nat_le, nat_lt, min}
-use Rattle.model.specs.declared.limits.TheConstants.{ENTRIES_TOLD, FILE_NAMES, GREATEST_FILE, GREATEST_OFFSET, OPEN_FILES}
+use Rattle.model.specs.declared.limits.TheConstants.{ENTRIES_TOLD, GREATEST_OFFSET, OPEN_FILES}
 use Rattle.model.specs.declared.errno.Errno.TheVariants.{ENOENT, ENOTDIR, EISDIR, EEXIST, EINVAL, EPERM, EBUSY, EBADF, EMFILE, EMLINK, ENOTEMPTY, EFBIG, EOVERFLOW}
 use Rattle.model.specs.declared.reply.Reply.TheVariants as reply
 use Rattle.model.specs.declared.command.Flags.{Flags}
 use Rattle.model.specs.declared.command.Settings.{Settings}
 use Rattle.model.specs.declared.command.Whence.{Whence}
+use Rattle.model.specs.declared.limits.Limits.{Limits}
 use Rattle.model.specs.Paths.{Name, Path, text_tests, text_tests_then, new_text_tests, is_empty, is_root_text, path_eq}
 use Rattle.model.specs.Trees.{Tree, Object, directory, symlink, file, is_directory, Description, number_of_object}
 use Rattle.model.specs.Edits.{contents, resized, written, read_at, with_object, without_object, with_mode, with_bytes, with_descriptor, with_directory, with_file, moved}
@@ -19,37 +20,37 @@ use Rattle.model.specs.Descriptors as descriptors
 use Rattle.model.proofs.LeadLemmas.{all_passed}
 use Rattle.handles.proofs.ComeLemmas.{Comes, AllCome, GivesOnly, come_same, come_placed, come_taken, come_moved, come_opened, come_moved_offset, come_resized, gives_same, gives_refused, gives_changed, gives_swept, gives_tested, gives_either, gives_names, gives_place, gives_fresh, gives_links, gives_never, gives_described, gives_by_kind, gives_along, gives_at}
 
-module _ (t : Tree) (Given : ℕ → Type 0) where
+module _ (limits : Limits) (t : Tree) (Given : ℕ → Type 0) where
   -- the calls that change nothing
 
   gives_tells : (o : Object) → GivesOnly t Given (reading.tells_stat t o)
   gives_tells o = gives_links t Given t o _ (λ links. gives_same t Given _)
 
-  pub gives_stat : (follow : Bool) (path : List ℕ) → GivesOnly t Given (reading.stats t follow path)
-  gives_stat follow path = gives_at t Given (text_tests path) follow path _ (λ p o comes. gives_tells o)
+  pub gives_stat : (follow : Bool) (path : List ℕ) → GivesOnly t Given (reading.stats limits t follow path)
+  gives_stat follow path = gives_at t Given (text_tests limits path) follow path _ (λ p o comes. gives_tells o)
 
-  pub gives_list : (path : List ℕ) → GivesOnly t Given (reading.lists t path)
+  pub gives_list : (path : List ℕ) → GivesOnly t Given (reading.lists limits t path)
   gives_list path =
-      gives_at t Given (text_tests path) true path _ (λ p o comes. gives_by_kind t Given o _ _ _ (λ n. gives_names t Given p _ (λ names. gives_same t Given _)) (λ n text. gives_refused t Given ENOTDIR) (λ n is. gives_refused t Given ENOTDIR))
+      gives_at t Given (text_tests limits path) true path _ (λ p o comes. gives_by_kind t Given o _ _ _ (λ n. gives_names t Given p _ (λ names. gives_same t Given _)) (λ n text. gives_refused t Given ENOTDIR) (λ n is. gives_refused t Given ENOTDIR))
 
-  pub gives_entries : (path : List ℕ) (after : ℤ) (count : ℕ) → GivesOnly t Given (reading.tells_entries t path after count)
+  pub gives_entries : (path : List ℕ) (after : ℤ) (count : ℕ) → GivesOnly t Given (reading.tells_entries limits t path after count)
   gives_entries path after count =
-      gives_at t Given (text_tests_then ((reading.is_negative after || count == 0 || nat_lt ENTRIES_TOLD count, EINVAL) ∷ []) path) true path _ (λ p o comes. gives_by_kind t Given o _ _ _
+      gives_at t Given (text_tests_then limits ((reading.is_negative after || count == 0 || nat_lt ENTRIES_TOLD count, EINVAL) ∷ []) path) true path _ (λ p o comes. gives_by_kind t Given o _ _ _
       (λ n. gives_names t Given p _ (λ names answer new need (told, entries, part, each, done). gives_same t Given _ answer new need done))
       (λ n text. gives_refused t Given ENOTDIR)
       (λ n is. gives_refused t Given ENOTDIR))
 
-  pub gives_readlink : (path : List ℕ) → GivesOnly t Given (reading.reads_link t path)
+  pub gives_readlink : (path : List ℕ) → GivesOnly t Given (reading.reads_link limits t path)
   gives_readlink path =
-      gives_at t Given (text_tests path) false path _ (λ p o comes. gives_by_kind t Given o _ _ _ (λ n. gives_refused t Given EINVAL) (λ n text. gives_same t Given _) (λ n is. gives_refused t Given EINVAL))
+      gives_at t Given (text_tests limits path) false path _ (λ p o comes. gives_by_kind t Given o _ _ _ (λ n. gives_refused t Given EINVAL) (λ n text. gives_same t Given _) (λ n is. gives_refused t Given EINVAL))
 
-  pub gives_get : (path : List ℕ) (offset : ℤ) (count : ℕ) → GivesOnly t Given (reading.gets t path offset count)
+  pub gives_get : (path : List ℕ) (offset : ℤ) (count : ℕ) → GivesOnly t Given (reading.gets limits t path offset count)
   gives_get path offset count =
-      gives_at t Given (text_tests_then ((reading.is_negative offset || reading.is_too_many count, EINVAL) ∷ []) path) true path _ (λ p o comes. gives_by_kind t Given o _ _ _ (λ n. gives_refused t Given EISDIR) (λ n text. gives_never t Given) (λ n is. gives_same t Given _))
+      gives_at t Given (text_tests_then limits ((reading.is_negative offset || reading.is_too_many count, EINVAL) ∷ []) path) true path _ (λ p o comes. gives_by_kind t Given o _ _ _ (λ n. gives_refused t Given EISDIR) (λ n text. gives_never t Given) (λ n is. gives_same t Given _))
 
-  pub gives_extent : (stored : ℕ → ℕ → Bool) (path : List ℕ) (offset : ℤ) → GivesOnly t Given (reading.tells_extent t stored path offset)
+  pub gives_extent : (stored : ℕ → ℕ → Bool) (path : List ℕ) (offset : ℤ) → GivesOnly t Given (reading.tells_extent limits t stored path offset)
   gives_extent stored path offset =
-      gives_at t Given (text_tests_then ((reading.is_negative offset, EINVAL) ∷ []) path) true path _ (λ p o comes. gives_by_kind t Given o _ _ _
+      gives_at t Given (text_tests_then limits ((reading.is_negative offset, EINVAL) ∷ []) path) true path _ (λ p o comes. gives_by_kind t Given o _ _ _
       (λ n. gives_refused t Given EISDIR)
       (λ n text. gives_never t Given)
       (λ n is answer new need (extent, tells, done). gives_same t Given _ answer new need done))
@@ -59,13 +60,13 @@ module _ (t : Tree) (Given : ℕ → Type 0) where
   gives_sized : (n size : ℕ) → GivesOnly t Given (changing.truncates_file t n size)
   gives_sized n size = gives_changed t Given reply.Done (changing.truncated_to n size t) (changing.need_of_truncate n size t) (come_resized t Given n size)
 
-  pub gives_truncate : (path : List ℕ) (size : ℤ) → GivesOnly t Given (changing.truncates t path size)
+  pub gives_truncate : (path : List ℕ) (size : ℤ) → GivesOnly t Given (changing.truncates limits t path size)
   gives_truncate path size =
-      gives_at t Given (text_tests_then (changing.size_tests size) path) true path _ (λ p o comes. gives_by_kind t Given o _ _ _ (λ n. gives_refused t Given EISDIR) (λ n text. gives_never t Given) (λ n is. gives_sized n (nat_abs size)))
+      gives_at t Given (text_tests_then limits (changing.size_tests limits size) path) true path _ (λ p o comes. gives_by_kind t Given o _ _ _ (λ n. gives_refused t Given EISDIR) (λ n text. gives_never t Given) (λ n is. gives_sized n (nat_abs size)))
 
-  pub gives_chmod : (path : List ℕ) (mode : ℕ) → GivesOnly t Given (changing.changes_mode t path mode)
+  pub gives_chmod : (path : List ℕ) (mode : ℕ) → GivesOnly t Given (changing.changes_mode limits t path mode)
   gives_chmod path mode =
-      gives_at t Given (text_tests path) true path _ (λ p o comes. gives_by_kind t Given o _ _ _
+      gives_at t Given (text_tests limits path) true path _ (λ p o comes. gives_by_kind t Given o _ _ _
       (λ n. gives_changed t Given _ (with_mode n mode t) _ (come_same t Given))
       (λ n text. gives_never t Given)
       (λ n is. gives_changed t Given _ (with_mode n mode t) _ (come_same t Given)))
@@ -84,20 +85,20 @@ module _ (t : Tree) (Given : ℕ → Type 0) where
   gives_set_file n None (Some size) = gives_sized n (nat_abs size)
   gives_set_file n (Some mode) (Some size) = gives_both n mode (nat_abs size)
 
-  pub gives_set : (path : List ℕ) (settings : Settings) → GivesOnly t Given (changing.sets t path settings)
+  pub gives_set : (path : List ℕ) (settings : Settings) → GivesOnly t Given (changing.sets limits t path settings)
   gives_set path settings =
-      gives_at t Given (text_tests_then (changing.given_size_tests settings.size) path) true path _ (λ p o comes. gives_by_kind t Given o _ _ _
+      gives_at t Given (text_tests_then limits (changing.given_size_tests limits settings.size) path) true path _ (λ p o comes. gives_by_kind t Given o _ _ _
       (λ n. gives_tested t Given ((is_some settings.size, EISDIR) ∷ []) _ (λ e. gives_mode n settings.mode))
       (λ n text. gives_never t Given)
       (λ n is. gives_set_file n settings.mode settings.size))
 
-  gives_puts : (n offset : ℕ) (given : List ℕ) (also : Tree → Tree) → AllCome t Given (also (with_bytes n (written offset given (contents t n)) t)) → GivesOnly t Given (descriptors.puts t n offset given also)
+  gives_puts : (n offset : ℕ) (given : List ℕ) (also : Tree → Tree) → AllCome t Given (also (with_bytes n (written offset given (contents t n)) t)) → GivesOnly t Given (descriptors.puts limits t n offset given also)
   gives_puts n offset given also comes =
-      gives_either t Given (is_empty given) _ _ (gives_same t Given (reply.Wrote 0)) (gives_tested t Given ((nat_lt GREATEST_FILE (offset + length given), EFBIG) ∷ []) _ (λ e. gives_changed t Given (reply.Wrote (length given)) (also (with_bytes n (written offset given (contents t n)) t)) (logs (puts_bytes (length (contents t n)) offset (length given))) comes))
+      gives_either t Given (is_empty given) _ _ (gives_same t Given (reply.Wrote 0)) (gives_tested t Given ((nat_lt limits.file_bytes (offset + length given), EFBIG) ∷ []) _ (λ e. gives_changed t Given (reply.Wrote (length given)) (also (with_bytes n (written offset given (contents t n)) t)) (logs (puts_bytes (length (contents t n)) offset (length given))) comes))
 
-  pub gives_store : (path : List ℕ) (offset : ℤ) (given : List ℕ) → GivesOnly t Given (descriptors.stores t path offset given)
+  pub gives_store : (path : List ℕ) (offset : ℤ) (given : List ℕ) → GivesOnly t Given (descriptors.stores limits t path offset given)
   gives_store path offset given =
-      gives_at t Given (text_tests_then ((reading.is_negative offset || reading.is_too_many (length given), EINVAL) ∷ []) path) true path _ (λ p o comes. gives_by_kind t Given o _ _ _
+      gives_at t Given (text_tests_then limits ((reading.is_negative offset || reading.is_too_many (length given), EINVAL) ∷ []) path) true path _ (λ p o comes. gives_by_kind t Given o _ _ _
       (λ n. gives_refused t Given EISDIR)
       (λ n text. gives_never t Given)
       (λ n is. gives_puts n (nat_abs offset) given (λ after. after) (come_same t Given)))
@@ -107,41 +108,41 @@ module _ (t : Tree) (Given : ℕ → Type 0) where
   gives_removed : (p : Path) → GivesOnly t Given (changing.removes t p)
   gives_removed p = gives_swept t Given reply.Done (without_object p t) (logs removes_name) (come_taken t Given p)
 
-  pub gives_rmdir : (path : List ℕ) → GivesOnly t Given (changing.removes_directory t path)
+  pub gives_rmdir : (path : List ℕ) → GivesOnly t Given (changing.removes_directory limits t path)
   gives_rmdir path =
-      gives_at t Given (new_text_tests path ++ (is_root_text path, EBUSY) ∷ []) false path _ (λ p o comes. gives_by_kind t Given o _ _ _
+      gives_at t Given (new_text_tests limits path ++ (is_root_text path, EBUSY) ∷ []) false path _ (λ p o comes. gives_by_kind t Given o _ _ _
       (λ n. gives_names t Given p _ (λ names. gives_tested t Given ((not (is_empty names), ENOTEMPTY) ∷ []) _ (λ e. gives_removed p)))
       (λ n text. gives_refused t Given ENOTDIR)
       (λ n is. gives_refused t Given ENOTDIR))
 
-  pub gives_unlink : (path : List ℕ) → GivesOnly t Given (changing.unlinks t path)
-  gives_unlink path = gives_at t Given (new_text_tests path) false path _ (λ p o comes. gives_tested t Given ((is_directory (Some o), EPERM) ∷ []) _ (λ e. gives_removed p))
+  pub gives_unlink : (path : List ℕ) → GivesOnly t Given (changing.unlinks limits t path)
+  gives_unlink path = gives_at t Given (new_text_tests limits path) false path _ (λ p o comes. gives_tested t Given ((is_directory (Some o), EPERM) ∷ []) _ (λ e. gives_removed p))
 
-  gives_linked : (o : Object) (path : List ℕ) → Comes t Given (number_of_object o) → GivesOnly t Given (changing.links_object t o path)
+  gives_linked : (o : Object) (path : List ℕ) → Comes t Given (number_of_object o) → GivesOnly t Given (changing.links_object limits t o path)
   gives_linked (directory n) path comes = gives_refused t Given EPERM
   gives_linked (symlink n text) path comes = gives_refused t Given EPERM
   gives_linked (file n) path comes =
       gives_along t Given false path _ _ (λ q r there. gives_refused t Given EEXIST)
-      (λ q name. gives_links t Given t (file n) _ (λ count. gives_tested t Given ((nat_le FILE_NAMES count, EMLINK) ∷ []) _ (λ e.
-      gives_place t Given q _ (gives_changed t Given reply.Done (with_object (q ++ name ∷ []) (file n) t) (logs adds_name) (come_placed t Given (q ++ name ∷ []) (file n) comes)))))
+      (λ q name. gives_links t Given t (file n) _ (λ count. gives_tested t Given ((nat_le limits.file_names count, EMLINK) ∷ []) _ (λ e.
+      gives_place t Given limits q _ (gives_changed t Given reply.Done (with_object (q ++ name ∷ []) (file n) t) (logs adds_name) (come_placed t Given (q ++ name ∷ []) (file n) comes)))))
 
-  pub gives_link : (old path : List ℕ) → GivesOnly t Given (changing.links t old path)
-  gives_link old path = gives_at t Given (text_tests old ++ new_text_tests path) false old _ (λ p o comes. gives_linked o path comes)
+  pub gives_link : (old path : List ℕ) → GivesOnly t Given (changing.links limits t old path)
+  gives_link old path = gives_at t Given (text_tests limits old ++ new_text_tests limits path) false old _ (λ p o comes. gives_linked o path comes)
 
-  gives_target : (p q : Path) (r : Option Object) (rest : Outcome) → GivesOnly t Given rest → GivesOnly t Given (changing.with_target t p q r rest)
-  gives_target p q None rest gives = gives_either t Given (path_eq (parent p) (parent q)) _ _ gives (gives_place t Given (parent q) rest gives)
+  gives_target : (p q : Path) (r : Option Object) (rest : Outcome) → GivesOnly t Given rest → GivesOnly t Given (changing.with_target limits t p q r rest)
+  gives_target p q None rest gives = gives_either t Given (path_eq (parent p) (parent q)) _ _ gives (gives_place t Given limits (parent q) rest gives)
   gives_target p q (Some (directory n)) rest gives = gives_names t Given q _ (λ names. gives_tested t Given ((not (is_empty names), ENOTEMPTY) ∷ []) rest (λ e. gives))
   gives_target p q (Some (symlink n text)) rest gives = gives
   gives_target p q (Some (file n)) rest gives = gives
 
-  gives_moves : (p : Path) (o : Object) (q : Path) → GivesOnly t Given (changing.moves t p o q)
+  gives_moves : (p : Path) (o : Object) (q : Path) → GivesOnly t Given (changing.moves limits t p o q)
   gives_moves p o q =
       gives_either t Given (path_eq p q || changing.is_same_file o (t.objects q)) _ _ (gives_same t Given reply.Done)
       (gives_tested t Given (changing.move_tests p o q (t.objects q)) _ (λ e. gives_target p q (t.objects q) _ (gives_swept t Given reply.Done (moved p q t) (logs adds_name) (come_moved t Given p q))))
 
-  pub gives_rename : (only_new : Bool) (old path : List ℕ) → GivesOnly t Given (changing.renames t only_new old path)
+  pub gives_rename : (only_new : Bool) (old path : List ℕ) → GivesOnly t Given (changing.renames limits t only_new old path)
   gives_rename only_new old path =
-      gives_at t Given (new_text_tests old ++ new_text_tests path ++ (is_root_text old || is_root_text path, EBUSY) ∷ []) false old _ (λ p o comes. gives_along t Given false path _ _
+      gives_at t Given (new_text_tests limits old ++ new_text_tests limits path ++ (is_root_text old || is_root_text path, EBUSY) ∷ []) false old _ (λ p o comes. gives_along t Given false path _ _
       (λ q r there. gives_tested t Given ((only_new, EEXIST) ∷ []) _ (λ e. gives_moves p o q))
       (λ q name. gives_moves p o (q ++ name ∷ [])))
 
@@ -159,17 +160,17 @@ module _ (t : Tree) (Given : ℕ → Type 0) where
   pub gives_pread : (fd : ℕ) (offset : ℤ) (count : ℕ) → GivesOnly t Given (descriptors.reads_from t fd offset count)
   gives_pread fd offset count = gives_described t Given fd _ (λ f at_fd. gives_tested t Given ((not f.reads, EBADF) ∷ (reading.is_negative offset || reading.is_too_many count, EINVAL) ∷ []) _ (λ e. gives_same t Given _))
 
-  pub gives_write : (fd : ℕ) (given : List ℕ) → GivesOnly t Given (descriptors.writes t fd given)
+  pub gives_write : (fd : ℕ) (given : List ℕ) → GivesOnly t Given (descriptors.writes limits t fd given)
   gives_write fd given =
       gives_described t Given fd _ (λ f at_fd.
       let offset : ℕ = if f.appends then length (contents t f.number) else f.offset in
-      gives_tested t Given ((not f.writes, EBADF) ∷ (reading.is_too_many (length given), EINVAL) ∷ []) (descriptors.puts t f.number offset given (descriptors.with_offset fd f (offset + length given))) (λ e.
+      gives_tested t Given ((not f.writes, EBADF) ∷ (reading.is_too_many (length given), EINVAL) ∷ []) (descriptors.puts limits t f.number offset given (descriptors.with_offset fd f (offset + length given))) (λ e.
       gives_puts f.number offset given (descriptors.with_offset fd f (offset + length given))
       (come_moved_offset t Given (with_bytes f.number (written offset given (contents t f.number)) t) fd f (offset + length given) (come_same t Given) at_fd)))
 
-  pub gives_pwrite : (fd : ℕ) (offset : ℤ) (given : List ℕ) → GivesOnly t Given (descriptors.writes_to t fd offset given)
+  pub gives_pwrite : (fd : ℕ) (offset : ℤ) (given : List ℕ) → GivesOnly t Given (descriptors.writes_to limits t fd offset given)
   gives_pwrite fd offset given =
-      gives_described t Given fd _ (λ f at_fd. gives_tested t Given ((not f.writes, EBADF) ∷ (reading.is_negative offset || reading.is_too_many (length given), EINVAL) ∷ []) (descriptors.puts t f.number (nat_abs offset) given (λ after. after)) (λ e. gives_puts f.number (nat_abs offset) given (λ after. after) (come_same t Given)))
+      gives_described t Given fd _ (λ f at_fd. gives_tested t Given ((not f.writes, EBADF) ∷ (reading.is_negative offset || reading.is_too_many (length given), EINVAL) ∷ []) (descriptors.puts limits t f.number (nat_abs offset) given (λ after. after)) (λ e. gives_puts f.number (nat_abs offset) given (λ after. after) (come_same t Given)))
 
   pub gives_seek : (fd : ℕ) (from : Whence) (offset : ℤ) → GivesOnly t Given (descriptors.seeks t fd from offset)
   gives_seek fd from offset =
@@ -178,8 +179,8 @@ module _ (t : Tree) (Given : ℕ → Type 0) where
       gives_tested t Given ((reading.is_negative place, EINVAL) ∷ (nat_lt GREATEST_OFFSET (nat_abs place), EOVERFLOW) ∷ []) _ (λ e.
       gives_changed t Given _ (descriptors.with_offset fd f (nat_abs place) t) _ (come_moved_offset t Given t fd f (nat_abs place) (come_same t Given) at_fd)))
 
-  pub gives_ftruncate : (fd : ℕ) (size : ℤ) → GivesOnly t Given (descriptors.truncates_open t fd size)
-  gives_ftruncate fd size = gives_described t Given fd _ (λ f at_fd. gives_tested t Given ((not f.writes, EINVAL) ∷ changing.size_tests size) _ (λ e. gives_sized f.number (nat_abs size)))
+  pub gives_ftruncate : (fd : ℕ) (size : ℤ) → GivesOnly t Given (descriptors.truncates_open limits t fd size)
+  gives_ftruncate fd size = gives_described t Given fd _ (λ f at_fd. gives_tested t Given ((not f.writes, EINVAL) ∷ changing.size_tests limits size) _ (λ e. gives_sized f.number (nat_abs size)))
 
   pub gives_fstat : (fd : ℕ) → GivesOnly t Given (descriptors.stats_open t fd)
   gives_fstat fd = gives_described t Given fd _ (λ f at_fd. gives_tells (file f.number))
@@ -189,58 +190,57 @@ module _ (t : Tree) (Given : ℕ → Type 0) where
 
   -- new objects
 
-  module _ (inodes : ℕ) where
-    gives_creates : (path : List ℕ) (make : Path → ℕ → Tree → Tree) → ((p : Path) (n : ℕ) → IsFresh inodes t n → AllCome t Given (make p n t)) → GivesOnly t Given (changing.creates inodes t path make)
-    gives_creates path make makes =
-        gives_tested t Given (new_text_tests path) _ (λ e. gives_along t Given false path _ _ (λ p o comes. gives_refused t Given EEXIST)
-        (λ p name. gives_place t Given p _ (gives_fresh t Given inodes _ (λ n fresh. gives_changed t Given reply.Done (make (p ++ name ∷ []) n t) (logs adds_name) (makes (p ++ name ∷ []) n fresh)))))
+  gives_creates : (path : List ℕ) (make : Path → ℕ → Tree → Tree) → ((p : Path) (n : ℕ) → IsFresh limits t n → AllCome t Given (make p n t)) → GivesOnly t Given (changing.creates limits t path make)
+  gives_creates path make makes =
+      gives_tested t Given (new_text_tests limits path) _ (λ e. gives_along t Given false path _ _ (λ p o comes. gives_refused t Given EEXIST)
+      (λ p name. gives_place t Given limits p _ (gives_fresh t Given limits _ (λ n fresh. gives_changed t Given reply.Done (make (p ++ name ∷ []) n t) (logs adds_name) (makes (p ++ name ∷ []) n fresh)))))
 
-    pub gives_mkdir : (path : List ℕ) (mode : ℕ) → ((n : ℕ) → IsFresh inodes t n → Given n) → GivesOnly t Given (changing.makes_directory inodes t path mode)
-    gives_mkdir path mode given = gives_creates path (λ p n. with_directory p n mode) (λ p n fresh. come_placed t Given p (directory n) (inr (given n fresh)))
+  pub gives_mkdir : (path : List ℕ) (mode : ℕ) → ((n : ℕ) → IsFresh limits t n → Given n) → GivesOnly t Given (changing.makes_directory limits t path mode)
+  gives_mkdir path mode given = gives_creates path (λ p n. with_directory p n mode) (λ p n fresh. come_placed t Given p (directory n) (inr (given n fresh)))
 
-    pub gives_symlink : (text path : List ℕ) → ((n : ℕ) → IsFresh inodes t n → Given n) → GivesOnly t Given (changing.makes_symlink inodes t text path)
-    gives_symlink text path given =
-        gives_tested t Given (changing.link_text_tests text) (changing.creates inodes t path (λ p n. with_object p (symlink n text))) (λ e.
-        gives_creates path (λ p n. with_object p (symlink n text)) (λ p n fresh. come_placed t Given p (symlink n text) (inr (given n fresh))))
+  pub gives_symlink : (text path : List ℕ) → ((n : ℕ) → IsFresh limits t n → Given n) → GivesOnly t Given (changing.makes_symlink limits t text path)
+  gives_symlink text path given =
+      gives_tested t Given (changing.link_text_tests limits text) (changing.creates limits t path (λ p n. with_object p (symlink n text))) (λ e.
+      gives_creates path (λ p n. with_object p (symlink n text)) (λ p n fresh. come_placed t Given p (symlink n text) (inr (given n fresh))))
 
-    gives_opened : (tells : Bool) (n : ℕ) (flags : Flags) (fd : ℕ) (u : Tree) (need : Need) → AllCome t Given u → Comes t Given n → GivesOnly t Given (descriptors.opens_file tells n flags fd u need)
-    gives_opened tells n flags fd u need comes named =
-        let opened : Tree = with_descriptor fd (Some (descriptors.described_by n flags)) u in
-        let all : AllCome t Given opened = come_opened t Given u fd (Some (descriptors.described_by n flags)) comes (λ g same. subst (λ (o : Option Description). number_comes o) same named) in
-        gives_either t Given tells _ _ (gives_links t Given opened (file n) _ (λ links. gives_changed t Given _ opened need all)) (gives_changed t Given _ opened need all)
-      where
-        number_comes : Option Description → Type 0
-        number_comes None = Unit {0}
-        number_comes (Some f) = Comes t Given f.number
+  gives_opened : (tells : Bool) (n : ℕ) (flags : Flags) (fd : ℕ) (u : Tree) (need : Need) → AllCome t Given u → Comes t Given n → GivesOnly t Given (descriptors.opens_file tells n flags fd u need)
+  gives_opened tells n flags fd u need comes named =
+      let opened : Tree = with_descriptor fd (Some (descriptors.described_by n flags)) u in
+      let all : AllCome t Given opened = come_opened t Given u fd (Some (descriptors.described_by n flags)) comes (λ g same. subst (λ (o : Option Description). number_comes o) same named) in
+      gives_either t Given tells _ _ (gives_links t Given opened (file n) _ (λ links. gives_changed t Given _ opened need all)) (gives_changed t Given _ opened need all)
+    where
+      number_comes : Option Description → Type 0
+      number_comes None = Unit {0}
+      number_comes (Some f) = Comes t Given f.number
 
-    gives_opens_object : (tells : Bool) (o : Object) (flags : Flags) (fd : ℕ) → Comes t Given (number_of_object o) → GivesOnly t Given (descriptors.opens_object tells t o flags fd)
-    gives_opens_object tells o flags fd comes =
-        gives_tested t Given ((flags.creates && flags.exclusive, EEXIST) ∷ []) _ (λ e. gives_by_kind t Given o _ _ _ (λ n. gives_refused t Given EISDIR) (λ n text. gives_never t Given) (λ n kind.
-        let named : Comes t Given n = subst (λ r. Comes t Given (number_of_object r)) kind comes in
-        gives_either t Given flags.truncates _ _
-        (gives_opened tells n flags fd (changing.truncated_to n 0 t) (changing.need_of_truncate n 0 t) (come_resized t Given n 0) named)
-        (gives_opened tells n flags fd t nothing (come_same t Given) named)))
+  gives_opens_object : (tells : Bool) (o : Object) (flags : Flags) (fd : ℕ) → Comes t Given (number_of_object o) → GivesOnly t Given (descriptors.opens_object tells t o flags fd)
+  gives_opens_object tells o flags fd comes =
+      gives_tested t Given ((flags.creates && flags.exclusive, EEXIST) ∷ []) _ (λ e. gives_by_kind t Given o _ _ _ (λ n. gives_refused t Given EISDIR) (λ n text. gives_never t Given) (λ n kind.
+      let named : Comes t Given n = subst (λ r. Comes t Given (number_of_object r)) kind comes in
+      gives_either t Given flags.truncates _ _
+      (gives_opened tells n flags fd (changing.truncated_to n 0 t) (changing.need_of_truncate n 0 t) (come_resized t Given n 0) named)
+      (gives_opened tells n flags fd t nothing (come_same t Given) named)))
 
-    gives_opens_new : (tells : Bool) (p : Path) (name : Name) (flags : Flags) (mode fd : ℕ) → (flags.creates ≡ true → (n : ℕ) → IsFresh inodes t n → Given n) → GivesOnly t Given (descriptors.opens_new tells inodes t p name flags mode fd)
-    gives_opens_new tells p name flags mode fd given =
-        gives_tested t Given ((not flags.creates, ENOENT) ∷ []) _ (λ e.
-        let creates = not_false flags.creates (all_passed ((not flags.creates, ENOENT) ∷ []) e).0 in
-        gives_place t Given p _ (gives_fresh t Given inodes _ (λ n fresh.
-        let named : Comes t Given n = inr (given creates n fresh) in
-        gives_opened tells n flags fd (with_file (p ++ name ∷ []) n mode t) (logs adds_name) (come_placed t Given (p ++ name ∷ []) (file n) named) named)))
-      where
-        not_false : (b : Bool) → not b ≡ false → b ≡ true
-        not_false true e = refl
-        not_false false e = sym e
+  gives_opens_new : (tells : Bool) (p : Path) (name : Name) (flags : Flags) (mode fd : ℕ) → (flags.creates ≡ true → (n : ℕ) → IsFresh limits t n → Given n) → GivesOnly t Given (descriptors.opens_new tells limits t p name flags mode fd)
+  gives_opens_new tells p name flags mode fd given =
+      gives_tested t Given ((not flags.creates, ENOENT) ∷ []) _ (λ e.
+      let creates = not_false flags.creates (all_passed ((not flags.creates, ENOENT) ∷ []) e).0 in
+      gives_place t Given limits p _ (gives_fresh t Given limits _ (λ n fresh.
+      let named : Comes t Given n = inr (given creates n fresh) in
+      gives_opened tells n flags fd (with_file (p ++ name ∷ []) n mode t) (logs adds_name) (come_placed t Given (p ++ name ∷ []) (file n) named) named)))
+    where
+      not_false : (b : Bool) → not b ≡ false → b ≡ true
+      not_false true e = refl
+      not_false false e = sym e
 
-    pub gives_open : (tells : Bool) (below : ℕ) (path : List ℕ) (flags : Flags) (mode : ℕ) → (flags.creates ≡ true → (n : ℕ) → IsFresh inodes t n → Given n) → GivesOnly t Given (descriptors.opens tells below inodes t path flags mode)
-    gives_open tells below path flags mode given =
-        let follow : Bool = not (flags.creates && flags.exclusive) in
-        gives_tested t Given (text_tests_then (descriptors.open_tests flags) path) _ (λ e.
-        elim (lowest_free t.descriptors (min below OPEN_FILES)) as (λ o. GivesOnly t Given (elim o as (λ _. Outcome) [
-          | None ↦ refuses t EMFILE
-          | Some fd ↦ goes_along t follow path (λ p o. descriptors.opens_object tells t o flags fd) (λ p name. descriptors.opens_new tells inodes t p name flags mode fd)
-        ])) [
-          | None ↦ gives_refused t Given EMFILE
-          | Some fd ↦ gives_along t Given follow path _ _ (λ p o comes. gives_opens_object tells o flags fd comes) (λ p name. gives_opens_new tells p name flags mode fd given)
-        ])
+  pub gives_open : (tells : Bool) (below : ℕ) (path : List ℕ) (flags : Flags) (mode : ℕ) → (flags.creates ≡ true → (n : ℕ) → IsFresh limits t n → Given n) → GivesOnly t Given (descriptors.opens tells below limits t path flags mode)
+  gives_open tells below path flags mode given =
+      let follow : Bool = not (flags.creates && flags.exclusive) in
+      gives_tested t Given (text_tests_then limits (descriptors.open_tests flags) path) _ (λ e.
+      elim (lowest_free t.descriptors (min below OPEN_FILES)) as (λ o. GivesOnly t Given (elim o as (λ _. Outcome) [
+        | None ↦ refuses t EMFILE
+        | Some fd ↦ goes_along t follow path (λ p o. descriptors.opens_object tells t o flags fd) (λ p name. descriptors.opens_new tells limits t p name flags mode fd)
+      ])) [
+        | None ↦ gives_refused t Given EMFILE
+        | Some fd ↦ gives_along t Given follow path _ _ (λ p o comes. gives_opens_object tells o flags fd comes) (λ p name. gives_opens_new tells p name flags mode fd given)
+      ])

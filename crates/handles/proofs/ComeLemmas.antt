@@ -3,7 +3,7 @@
 use Rattle.std.proofs.Common.{◌≡◌, ◌⊎◌, inl, inr, ℕ, List, [], ◌∷◌, ◌++◌, length, Bool, true, false, Option, Some, None, refl, sym, ap, subst, ◌∙◌}
 use Rattle.std.specs.Prelude.{◌==◌, nat_le}
 use Rattle.std.proofs.lemmas.Bool.{cond_both}
-use Rattle.model.specs.declared.limits.TheConstants.{DIRECTORY_NAMES}
+use Rattle.model.specs.declared.limits.Limits.{Limits}
 use Rattle.model.specs.declared.errno.Errno.{Errno}
 use Rattle.model.specs.declared.errno.Errno.TheVariants.{ENOENT, ENOTDIR, ELOOP, EBADF, DIRFULL, NONUMBER, ESTALE}
 use Rattle.model.specs.declared.reply.Reply.{Reply}
@@ -121,12 +121,12 @@ module _ (t : Tree) (Given : ℕ → Type 0) where
   pub gives_names : (p : Path) (rest : List Name → Outcome) → ((names : List Name) → GivesOnly (rest names)) → GivesOnly (with_names t p rest)
   gives_names p rest gives answer new need (names, listing, done) = gives names answer new need done
 
-  pub gives_place : (p : Path) (rest : Outcome) → GivesOnly rest → GivesOnly (with_place t p rest)
-  gives_place p rest gives = gives_names p _ (λ names. gives_tested ((nat_le DIRECTORY_NAMES (length names), DIRFULL) ∷ []) rest (λ e. gives))
+  pub gives_place : (limits : Limits) (p : Path) (rest : Outcome) → GivesOnly rest → GivesOnly (with_place limits t p rest)
+  gives_place limits p rest gives = gives_names p _ (λ names. gives_tested ((nat_le limits.directory_names (length names), DIRFULL) ∷ []) rest (λ e. gives))
 
-  pub gives_fresh : (inodes : ℕ) (rest : ℕ → Outcome) → ((n : ℕ) → IsFresh inodes t n → GivesOnly (rest n)) → GivesOnly (with_fresh inodes t rest)
-  gives_fresh inodes rest gives answer new need (None, is, done) = gives_refused NONUMBER answer new need done
-  gives_fresh inodes rest gives answer new need (Some n, is, done) = gives n is answer new need done
+  pub gives_fresh : (limits : Limits) (rest : ℕ → Outcome) → ((n : ℕ) → IsFresh limits t n → GivesOnly (rest n)) → GivesOnly (with_fresh limits t rest)
+  gives_fresh limits rest gives answer new need (None, is, done) = gives_refused NONUMBER answer new need done
+  gives_fresh limits rest gives answer new need (Some n, is, done) = gives n is answer new need done
 
   pub gives_links : (u : Tree) (o : Object) (rest : ℕ → Outcome) → ((n : ℕ) → GivesOnly (rest n)) → GivesOnly (with_links u o rest)
   gives_links u o rest gives answer new need (count, is, done) = gives count answer new need done

@@ -24,31 +24,31 @@ use Rattle.handles.proofs.ComeLemmas.{GivesOnly}
 module _ (s : State) where
   -- the number that a command gives to a new object
   abbrev Given : Command → ℕ → Type 0
-  Given asked n = IsTrue (may_make asked) × IsFresh s.inodes s.tree n
+  Given asked n = IsTrue (may_make asked) × IsFresh s.limits s.tree n
 
   -- the calls by path
-  gives_path : (c : PathCall) → GivesOnly s.tree (Given (command.Path c)) (calls s.inodes s.tree c)
-  gives_path (call.List path) = from.gives_list s.tree _ path
-  gives_path (call.Entries path after count) = from.gives_entries s.tree _ path after count
-  gives_path (call.Stat path) = from.gives_stat s.tree _ true path
-  gives_path (call.Lstat path) = from.gives_stat s.tree _ false path
-  gives_path (call.Readlink path) = from.gives_readlink s.tree _ path
-  gives_path (call.Get path offset count) = from.gives_get s.tree _ path offset count
-  gives_path (call.Mkdir path mode) = from.gives_mkdir s.tree _ s.inodes path mode (λ n fresh. (refl, fresh))
-  gives_path (call.Rmdir path) = from.gives_rmdir s.tree _ path
-  gives_path (call.Unlink path) = from.gives_unlink s.tree _ path
-  gives_path (call.Link old path) = from.gives_link s.tree _ old path
-  gives_path (call.Symlink text path) = from.gives_symlink s.tree _ s.inodes text path (λ n fresh. (refl, fresh))
-  gives_path (call.Rename old path) = from.gives_rename s.tree _ false old path
-  gives_path (call.RenameNew old path) = from.gives_rename s.tree _ true old path
-  gives_path (call.Chmod path mode) = from.gives_chmod s.tree _ path mode
-  gives_path (call.Truncate path size) = from.gives_truncate s.tree _ path size
-  gives_path (call.Store path offset given) = from.gives_store s.tree _ path offset given
-  gives_path (call.Set path settings) = from.gives_set s.tree _ path settings
+  gives_path : (c : PathCall) → GivesOnly s.tree (Given (command.Path c)) (calls s.limits s.tree c)
+  gives_path (call.List path) = from.gives_list s.limits s.tree _ path
+  gives_path (call.Entries path after count) = from.gives_entries s.limits s.tree _ path after count
+  gives_path (call.Stat path) = from.gives_stat s.limits s.tree _ true path
+  gives_path (call.Lstat path) = from.gives_stat s.limits s.tree _ false path
+  gives_path (call.Readlink path) = from.gives_readlink s.limits s.tree _ path
+  gives_path (call.Get path offset count) = from.gives_get s.limits s.tree _ path offset count
+  gives_path (call.Mkdir path mode) = from.gives_mkdir s.limits s.tree _ path mode (λ n fresh. (refl, fresh))
+  gives_path (call.Rmdir path) = from.gives_rmdir s.limits s.tree _ path
+  gives_path (call.Unlink path) = from.gives_unlink s.limits s.tree _ path
+  gives_path (call.Link old path) = from.gives_link s.limits s.tree _ old path
+  gives_path (call.Symlink text path) = from.gives_symlink s.limits s.tree _ text path (λ n fresh. (refl, fresh))
+  gives_path (call.Rename old path) = from.gives_rename s.limits s.tree _ false old path
+  gives_path (call.RenameNew old path) = from.gives_rename s.limits s.tree _ true old path
+  gives_path (call.Chmod path mode) = from.gives_chmod s.limits s.tree _ path mode
+  gives_path (call.Truncate path size) = from.gives_truncate s.limits s.tree _ path size
+  gives_path (call.Store path offset given) = from.gives_store s.limits s.tree _ path offset given
+  gives_path (call.Set path settings) = from.gives_set s.limits s.tree _ path settings
 
-  -- a step keeps the inodes and the mark, and a number in use behind it was in use or is given
+  -- a step keeps the limits and the mark, and a number in use behind it was in use or is given
   record Keeps (asked : Command) (answer : Reply) (new : State) : Type 0 where
-    inodes : new.inodes ≡ s.inodes
+    limits : new.limits ≡ s.limits
     mark : new.mark ≡ s.mark
     used : IsFalse (has_restored asked answer) → (n : ℕ) → IsUsed new.tree n → IsUsed s.tree n ⊎ Given asked n
 
@@ -57,14 +57,14 @@ module _ (s : State) where
 
   module _ (asked : Command) where
     same_keeps : (answer : Reply) → Keeps asked answer s
-    same_keeps answer = record { inodes = refl; mark = refl; used = λ plain n used. inl used }
+    same_keeps answer = record { limits = refl; mark = refl; used = λ plain n used. inl used }
 
     keeps_same : (r : Reply) → StepKeeps asked (says s r)
     keeps_same r answer new need done = subst (λ t. Keeps asked answer t) (sym done.1) (same_keeps answer)
 
     keeps_on_tree : (outcome : Outcome) → GivesOnly s.tree (Given asked) outcome → StepKeeps asked (on_tree s outcome)
     keeps_on_tree outcome gives answer new need done = record {
-      inodes = ap (λ (t : State). t.inodes) done.1;
+      limits = ap (λ (t : State). t.limits) done.1;
       mark = ap (λ (t : State). t.mark) done.1;
       used = λ plain n used. gives answer new.tree need done.0 n used;
     }
@@ -79,7 +79,7 @@ module _ (s : State) where
     -- the tree stays where the snapshots alone are others
     keeps_snapshots : (pairs : List (Name × Tree)) (answer : Reply) (new : State) → new ≡ with_snapshots pairs s → Keeps asked answer new
     keeps_snapshots pairs answer new is =
-        subst (λ t. Keeps asked answer t) (sym is) (record { inodes = refl; mark = refl; used = λ plain n used. inl used })
+        subst (λ t. Keeps asked answer t) (sym is) (record { limits = refl; mark = refl; used = λ plain n used. inl used })
 
   keeps_take : (name : Name) → StepKeeps (command.SnapTake name) (takes s name)
   keeps_take name =
@@ -92,7 +92,7 @@ module _ (s : State) where
   keeps_restore : (room : Room) (name : Name) → StepKeeps (command.SnapRestore name) (restores room s name)
   keeps_restore room name =
       keeps_passing (command.SnapRestore name) ((is_none (frozen s name), NOSNAP) ∷ (has_open_below s.tree OPEN_FILES, EBUSY) ∷ []) _ (λ answer new need done. record {
-        inodes = ap (λ (t : State). t.inodes) done.1.2;
+        limits = ap (λ (t : State). t.limits) done.1.2;
         mark = ap (λ (t : State). t.mark) done.1.2;
         used = λ plain n used. absurd (false≢true (sym plain ∙ ap (has_restored (command.SnapRestore name)) done.0));
       })
@@ -101,7 +101,7 @@ module _ (s : State) where
   keeps_view name c =
       elim (frozen s name) as (λ o. StepKeeps (command.Within name c) (elim o as (λ _. Step) [
         | None ↦ says s (reply.Refused NOSNAP)
-        | Some pair ↦ passing s ((not (is_reading_call c), EROFS) ∷ []) (λ answer new need. calls s.inodes pair.1 c answer pair.1 need × (new ≡ s))
+        | Some pair ↦ passing s ((not (is_reading_call c), EROFS) ∷ []) (λ answer new need. calls s.limits pair.1 c answer pair.1 need × (new ≡ s))
       ])) [
         | None ↦ keeps_same (command.Within name c) (reply.Refused NOSNAP)
         | Some pair ↦ keeps_passing (command.Within name c) ((not (is_reading_call c), EROFS) ∷ []) _ (λ answer new need done.
@@ -111,19 +111,19 @@ module _ (s : State) where
   keeps_step : (room : Room) (asked : Command) → StepKeeps asked (WouldStep room s asked)
   keeps_step room (command.Path c) = keeps_on_tree (command.Path c) _ (gives_path c)
   keeps_step room (command.Open path flags mode below) =
-      keeps_on_tree (command.Open path flags mode below) _ (from.gives_open s.tree _ s.inodes false below path flags mode (λ creates n fresh. (creates, fresh)))
+      keeps_on_tree (command.Open path flags mode below) _ (from.gives_open s.limits s.tree _ false below path flags mode (λ creates n fresh. (creates, fresh)))
   keeps_step room (command.OpenStat path flags mode below) =
-      keeps_on_tree (command.OpenStat path flags mode below) _ (from.gives_open s.tree _ s.inodes true below path flags mode (λ creates n fresh. (creates, fresh)))
-  keeps_step room (command.Close fd) = keeps_on_tree (command.Close fd) _ (from.gives_close s.tree _ fd)
-  keeps_step room (command.Read fd count) = keeps_on_tree (command.Read fd count) _ (from.gives_read s.tree _ fd count)
-  keeps_step room (command.Write fd given) = keeps_on_tree (command.Write fd given) _ (from.gives_write s.tree _ fd given)
-  keeps_step room (command.Pread fd offset count) = keeps_on_tree (command.Pread fd offset count) _ (from.gives_pread s.tree _ fd offset count)
-  keeps_step room (command.Pwrite fd offset given) = keeps_on_tree (command.Pwrite fd offset given) _ (from.gives_pwrite s.tree _ fd offset given)
-  keeps_step room (command.Lseek fd whence offset) = keeps_on_tree (command.Lseek fd whence offset) _ (from.gives_seek s.tree _ fd whence offset)
-  keeps_step room (command.Ftruncate fd size) = keeps_on_tree (command.Ftruncate fd size) _ (from.gives_ftruncate s.tree _ fd size)
-  keeps_step room (command.Fstat fd) = keeps_on_tree (command.Fstat fd) _ (from.gives_fstat s.tree _ fd)
-  keeps_step room (command.Fsync fd) = keeps_on_tree (command.Fsync fd) _ (from.gives_fsync s.tree _ fd)
-  keeps_step room (command.Extent path offset) = keeps_on_tree (command.Extent path offset) _ (from.gives_extent s.tree _ room.stored path offset)
+      keeps_on_tree (command.OpenStat path flags mode below) _ (from.gives_open s.limits s.tree _ true below path flags mode (λ creates n fresh. (creates, fresh)))
+  keeps_step room (command.Close fd) = keeps_on_tree (command.Close fd) _ (from.gives_close s.limits s.tree _ fd)
+  keeps_step room (command.Read fd count) = keeps_on_tree (command.Read fd count) _ (from.gives_read s.limits s.tree _ fd count)
+  keeps_step room (command.Write fd given) = keeps_on_tree (command.Write fd given) _ (from.gives_write s.limits s.tree _ fd given)
+  keeps_step room (command.Pread fd offset count) = keeps_on_tree (command.Pread fd offset count) _ (from.gives_pread s.limits s.tree _ fd offset count)
+  keeps_step room (command.Pwrite fd offset given) = keeps_on_tree (command.Pwrite fd offset given) _ (from.gives_pwrite s.limits s.tree _ fd offset given)
+  keeps_step room (command.Lseek fd whence offset) = keeps_on_tree (command.Lseek fd whence offset) _ (from.gives_seek s.limits s.tree _ fd whence offset)
+  keeps_step room (command.Ftruncate fd size) = keeps_on_tree (command.Ftruncate fd size) _ (from.gives_ftruncate s.limits s.tree _ fd size)
+  keeps_step room (command.Fstat fd) = keeps_on_tree (command.Fstat fd) _ (from.gives_fstat s.limits s.tree _ fd)
+  keeps_step room (command.Fsync fd) = keeps_on_tree (command.Fsync fd) _ (from.gives_fsync s.limits s.tree _ fd)
+  keeps_step room (command.Extent path offset) = keeps_on_tree (command.Extent path offset) _ (from.gives_extent s.limits s.tree _ room.stored path offset)
   keeps_step room command.Sync = keeps_same command.Sync reply.Done
   keeps_step room command.Df = keeps_same command.Df (reply.Space room.blocks room.free room.pledged)
   keeps_step room command.Statfs = λ answer new need done. keeps_same command.Statfs _ answer new need done.2
@@ -135,10 +135,10 @@ module _ (s : State) where
 
 module _ (c : Circumstances) (s : State) (asked : Command) (answer : Reply) where
   same_gives : GivesFresh s s asked answer
-  same_gives = record { inodes = refl; rests = λ e. e; stays = λ e. refl; used = λ plain n used. inl used }
+  same_gives = record { limits = refl; rests = λ e. e; stays = λ e. refl; used = λ plain n used. inl used }
 
   failed_gives : GivesFresh s (as_failed s) asked answer
-  failed_gives = record { inodes = refl; rests = λ e. refl; stays = λ e. refl; used = λ plain n used. inl used }
+  failed_gives = record { limits = refl; rests = λ e. refl; stays = λ e. refl; used = λ plain n used. inl used }
 
   not_failed : {Y : Type 0} (mark : Mark) → mark ≡ going → mark ≡ failed → Y
   not_failed mark goes fails = cc
@@ -146,7 +146,7 @@ module _ (c : Circumstances) (s : State) (asked : Command) (answer : Reply) wher
   done_gives : (t : State) → s.mark ≡ going → IsDone c s asked answer t → GivesFresh s t asked answer
   done_gives t goes (need, done) =
       let keeps = keeps_step s c.room asked answer t need done in
-      record { inodes = keeps.inodes; rests = λ fails. not_failed s.mark goes fails; stays = λ fails. not_failed t.mark (keeps.mark ∙ goes) fails; used = keeps.used }
+      record { limits = keeps.limits; rests = λ fails. not_failed s.mark goes fails; stays = λ fails. not_failed t.mark (keeps.mark ∙ goes) fails; used = keeps.used }
 
   answered_gives : (t : State) → s.mark ≡ going → IsAnswered c s asked answer t → GivesFresh s t asked answer
   answered_gives t goes =

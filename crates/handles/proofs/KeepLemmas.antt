@@ -16,7 +16,7 @@ full_where A B P None full = λ premise. full
 full_where A B P (Some n) fresh = fresh
 
 module _ (s t : State) (asked : Command) (answer : Reply) (gives : GivesFresh s t asked answer) (plain : IsFalse (has_restored asked answer)) where
-  one_fresh : (k n : ℕ) → IsFresh s.inodes s.tree k → IsFresh s.inodes s.tree n → n ≡ k
+  one_fresh : (k n : ℕ) → IsFresh s.limits s.tree k → IsFresh s.limits s.tree n → n ≡ k
   one_fresh k n one other =
       elim (cases_lt n k) [
         | inl below ↦ absurd (other.free (one.least n other.low below))
@@ -27,13 +27,13 @@ module _ (s t : State) (asked : Command) (answer : Reply) (gives : GivesFresh s 
       ]
 
   -- where it may give none
-  pub kept_by_full : (g : ℕ → ℕ) → (IsTrue (may_make asked) → HasNoFresh s.inodes s.tree) → GivesNumbers s.tree t.tree g g
+  pub kept_by_full : (g : ℕ → ℕ) → (IsTrue (may_make asked) → HasNoFresh s.limits s.tree) → GivesNumbers s.tree t.tree g g
   kept_by_full g full = record {
     given = λ n unused used. elim (gives.used plain n used) [ inl was ↦ absurd (unused was) | inr fresh ↦ absurd (unused (full fresh.0 n fresh.1.low fresh.1.high)) ];
     kept = λ n known. refl;
   }
 
-  module _ (k : ℕ) (fresh : IsFresh s.inodes s.tree k) where
+  module _ (k : ℕ) (fresh : IsFresh s.limits s.tree k) where
     -- what isn't in use before and is behind is this number
     only : (n : ℕ) → ¬ IsUsed s.tree n → IsUsed t.tree n → n ≡ k
     only n unused used = elim (gives.used plain n used) [ inl was ↦ absurd (unused was) | inr new ↦ one_fresh k n fresh new.1 ]

@@ -23,14 +23,14 @@ abbrev pub has_restored : Command → Reply → Bool
 has_restored (command.SnapRestore name) Done = true
 has_restored _ _ = false
 
--- What a command with this reply does to the numbers in use: the file system has as many as before;
+-- What a command with this reply does to the numbers in use: the file system has the same limits;
 -- where the system failed it stays so, and the tree too; and but for `snap restore` a number in use
 -- was in use, or it is the one that a new object gets.
 pub record GivesFresh (s t : State) (asked : Command) (answer : Reply) : Type 0 where
-  pub inodes : t.inodes ≡ s.inodes
+  pub limits : t.limits ≡ s.limits
   pub rests : s.mark ≡ failed → t.mark ≡ failed
   pub stays : t.mark ≡ failed → t.tree ≡ s.tree
-  pub used : IsFalse (has_restored asked answer) → (n : ℕ) → IsUsed t.tree n → IsUsed s.tree n ⊎ (IsTrue (may_make asked) × IsFresh s.inodes s.tree n)
+  pub used : IsFalse (has_restored asked answer) → (n : ℕ) → IsUsed t.tree n → IsUsed s.tree n ⊎ (IsTrue (may_make asked) × IsFresh s.limits s.tree n)
 
 -- so does each command that is allowed
 abbrev pub FreshNumbersAreGiven : Type 0

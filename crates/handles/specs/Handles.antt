@@ -28,7 +28,7 @@ count_of_numbers numbered = length numbered.generations.given.items
 -- the number that a command would give to a new object on a state, as far as it may make one
 abbrev pub WouldGive : Command → State → Option ℕ → Type 0
 WouldGive asked s number =
-    MatchOption number (IsTrue (may_make asked) → HasNoFresh s.inodes s.tree) (IsFresh s.inodes s.tree)
+    MatchOption number (IsTrue (may_make asked) → HasNoFresh s.limits s.tree) (IsFresh s.limits s.tree)
 
 -- The file system shows this state, whether what was done waits or not, and each number that an
 -- object may have has a count of its own.
@@ -36,7 +36,7 @@ pub record Names {S : Type 0} {G : Ghosts S} (numbered : Numbered S G) (s : Stat
   -- the state that a cut leaves
   pub kept : State
   pub shows : Shows numbered.files s kept
-  pub wide : s.inodes ≤ count_of_numbers numbered
+  pub wide : s.limits.inodes ≤ count_of_numbers numbered
 
 -- from one tree to the other, the generations are those that the numbers have then
 abbrev pub GenerationsGo : State → State → (ℕ → ℕ) → (ℕ → ℕ) → Type 0

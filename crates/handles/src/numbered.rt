@@ -122,7 +122,7 @@ impl<S: Station> Numbered<S> {
         ensures files { self.new.files ≡ self.old.files }
         ensures numbers { count_of_numbers self.new ≡ count_of_numbers self.old }
         ensures goes { (s t kept : State) → WouldGive command.now s number
-            → s.inodes ≤ count_of_numbers self.old
+            → s.limits.inodes ≤ count_of_numbers self.old
             → GivesFresh s t command.now reply.now → Shows self.old.files t kept
             → GenerationsGo s t (generations_of self.old) (generations_of self.new) }
     {

@@ -1,6 +1,8 @@
 -- The volume of a root directory alone.
 use Rattle.std.proofs.Common.{◌≡◌, ◌≢◌, inl, ℕ, zero, suc, true, false, eqb, List, [], ◌∷◌, fold, Option, Some, None, IsSome, IfSome, refl, ap, sym, subst, ◌∙◌, arith}
 use Rattle.std.proofs.lemmas.Bool.Decides.{nat_tests}
+use Rattle.model.specs.Limits.{AreLimits}
+use Rattle.model.specs.declared.limits.Limits.{Limits}
 use Rattle.layout.specs.DirectoryNames.{HoldNames}
 use Rattle.model.specs.declared.attributes.Attributes.{Attributes}
 use Rattle.model.specs.Paths.{Name, Path}
@@ -48,18 +50,19 @@ no_file (suc (suc zero)) attributes links bytes e = none_some e
 no_file (suc (suc (suc zero))) attributes links bytes e = absurd (cc)
 no_file (suc (suc (suc (suc n)))) attributes links bytes e = none_some e
 
-good_node : (n : ℕ) → IfSome (alone n) IsNode
-good_node zero = tt
-good_node (suc zero) = tt
-good_node (suc (suc zero)) = tt
-good_node (suc (suc (suc zero))) = new_fit 0o755 (omega arith)
-good_node (suc (suc (suc (suc n)))) = tt
+good_node : (limits : Limits) (n : ℕ) → IfSome (alone n) (IsNode limits)
+good_node limits zero = tt
+good_node limits (suc zero) = tt
+good_node limits (suc (suc zero)) = tt
+good_node limits (suc (suc (suc zero))) = new_fit 0o755 (omega arith)
+good_node limits (suc (suc (suc (suc n)))) = tt
 
 some_not_none : {o : Option ℕ} → IsSome o → o ≡ None → ⊥
 some_not_none some none = absurd (cc)
 
-pub alone_volume : (inodes : ℕ) → IsVolume inodes alone
-alone_volume inodes = record {
+pub alone_volume : (limits : Limits) → AreLimits limits → IsVolume limits alone
+alone_volume limits can_be = record {
+  can_be = can_be;
   graph = record {
     naming = record {
       root = refl;
@@ -71,8 +74,8 @@ alone_volume inodes = record {
     };
     counts = λ n attributes links bytes e. absurd (no_file n attributes links bytes e);
   };
-  limits = record {
-    nodes = good_node;
+  keeps = record {
+    nodes = good_node limits;
     numbers = λ n some. inl (is_root n some);
     children = λ d. (0, λ x some. some_not_none some (no_entry d x), omega arith);
   };
@@ -114,9 +117,9 @@ tree_alone = λ i. record {
 }
 
 -- a mount finds it so
-pub alone_forgets : (inodes : ℕ) → ForgetsOpenFiles (root_alone 0o755) (tree_of (without_orphans alone) (λ d. None))
-alone_forgets inodes = subst (λ t. ForgetsOpenFiles t (tree_of (without_orphans alone) (λ d. None))) tree_alone
-    (mounts_forget inodes alone alone (λ d. None) (alone_volume inodes) (record { kept = λ n some. refl; rest = λ n none. vacant n none }))
+pub alone_forgets : (limits : Limits) → AreLimits limits → ForgetsOpenFiles (root_alone 0o755) (tree_of (without_orphans alone) (λ d. None))
+alone_forgets limits can_be = subst (λ t. ForgetsOpenFiles t (tree_of (without_orphans alone) (λ d. None))) tree_alone
+    (mounts_forget limits alone alone (λ d. None) (alone_volume limits can_be) (record { kept = λ n some. refl; rest = λ n none. vacant n none }))
   where
     vacant : (n : ℕ) → alone n ≡ None → is_vacant (alone n) ≡ true
     vacant n none = ap is_vacant none

@@ -3,6 +3,7 @@ use Rattle.std.proofs.Common.{◌≡◌, inl, inr, ℕ, zero, suc, ◌/◌, ◌%
 use Rattle.std.specs.Prelude.{slice_index_or}
 use Rattle.std.proofs.lemmas.Bool.{cases_lt, cases_eq}
 use Rattle.std.proofs.lemmas.List.{get_or_past}
+use Rattle.layout.proofs.FanLaws.{pointer_low}
 use Rattle.layout.specs.Inode.{FitsBody}
 use Rattle.layout.specs.Limits.{Sizes}
 use Rattle.layout.specs.Maps.{indirect_pointer}
@@ -22,7 +23,6 @@ use Rattle.images.specs.Roots.{HeldTree, whole, Reach, Needs, active, frozen, he
 use Rattle.images.specs.Soundness.{IsSoundFile, IsSoundTree}
 use Rattle.images.specs.States.{IsSound}
 use Rattle.images.specs.Cuts.{IsOfDisk}
-use Rattle.images.proofs.FanLemmas.{pointer_low}
 use Rattle.images.proofs.Frames.{frozen_none}
 use Rattle.images.proofs.PointLaws.{active_base, frozen_read}
 use Rattle.images.proofs.OverlayLaws.{held_up}

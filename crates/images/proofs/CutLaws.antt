@@ -1,6 +1,7 @@
 -- What a cut may leave of a consistency point.
+use Rattle.layout.specs.StateLimits.{limits_of}
 use Rattle.model.specs.Records.{Change, Replays, pledged_for}
-use Rattle.model.specs.Room.{fixed_of}
+use Rattle.layout.specs.StateLimits.{fixed_of}
 use Rattle.std.specs.Prelude.{slice_index}
 use Rattle.std.proofs.Common.{[], ◌≡◌, ◌≢◌, ◌⊎◌, inl, inr, ℕ, ◌+◌, ◌*◌, ◌/◌, ◌<◌, ◌≤◌, List, All, refl, ap, sym, subst, ◌∙◌, arith}
 use Rattle.layout.specs.Limits.{Sizes}
@@ -139,9 +140,9 @@ module _ (sectors : ℕ) (d e : ℕ → List ℕ) (nvram : List ℕ) (s : State)
         (newest_first o.root new (d SLOT_B) a.1 point.root point.later point.geometry))
   ]
 
-  pub new_opens : (rest : List Change) (last : Volume) → LogHoldsChanges new nvram rest → Replays o.root.geometry.inodes v rest last
-      → (t : State) → Forgets t (state_of o.root.geometry.inodes last (kept_after step o.first o.snapshots)) → (spent : ℕ) → LeavesFree spent o.root (blocks_of d) writes new
-      → pledged_for o.root.geometry.inodes v rest + fixed_of o.root.geometry.blocks + spent ≤ free_under (whole (blocks_of d) o.root).active o.root.geometry.blocks
+  pub new_opens : (rest : List Change) (last : Volume) → LogHoldsChanges new nvram rest → Replays (limits_of o.root.geometry) v rest last
+      → (t : State) → Forgets t (state_of (limits_of o.root.geometry) last (kept_after step o.first o.snapshots)) → (spent : ℕ) → LeavesFree spent o.root (blocks_of d) writes new
+      → pledged_for (limits_of o.root.geometry) v rest + fixed_of o.root.geometry.blocks + spent ≤ free_under (whole (blocks_of d) o.root).active o.root.geometry.blocks
       → OpensBy sectors e nvram t rest
   new_opens rest last log replays t forgets spent leaves enough = record {
     opens = record {
@@ -155,10 +156,10 @@ module _ (sectors : ℕ) (d e : ℕ → List ℕ) (nvram : List ℕ) (s : State)
       log = log;
       room =
           let left = leaves (blocks_of e) written needs_stay in
-          subst (λ (g : Sizes). pledged_for g.inodes v rest + fixed_of g.blocks ≤ free_under (whole (blocks_of e) new).active g.blocks) (sym point.geometry) (omega (arith, left, enough));
+          subst (λ (g : Sizes). pledged_for (limits_of g) v rest + fixed_of g.blocks ≤ free_under (whole (blocks_of e) new).active g.blocks) (sym point.geometry) (omega (arith, left, enough));
       last = last;
-      replays = subst (λ (g : Sizes). Replays g.inodes v rest last) (sym point.geometry) replays;
-      state = subst (λ (g : Sizes). Forgets t (state_of g.inodes last (kept_after step o.first o.snapshots))) (sym point.geometry) forgets;
+      replays = subst (λ (g : Sizes). Replays (limits_of g) v rest last) (sym point.geometry) replays;
+      state = subst (λ (g : Sizes). Forgets t (state_of (limits_of g) last (kept_after step o.first o.snapshots))) (sym point.geometry) forgets;
     };
     these = refl;
   }

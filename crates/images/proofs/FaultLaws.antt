@@ -3,6 +3,8 @@ use Rattle.std.proofs.Common.{◌≡◌, ◌≢◌, ◌⊎◌, inl, inr, ℕ, ze
 use Rattle.std.proofs.lemmas.Bool.{cases_eq, cases_lt, false≢true}
 use Rattle.std.proofs.lemmas.List.Elements.{All-head, All-tail}
 use Rattle.std.proofs.Math.Nat.{eq-or-lt_of_le}
+use Rattle.layout.specs.StateLimits.{limits_of}
+use Rattle.model.specs.declared.limits.Limits.{Limits}
 use Rattle.layout.specs.Limits.{Sizes}
 use Rattle.layout.specs.Places.{Blocks, blocks_of}
 use Rattle.layout.specs.Record.{IsChange}
@@ -26,7 +28,7 @@ use Rattle.model.specs.Paths.{Name}
 use Rattle.model.specs.States.{State}
 use Rattle.model.specs.Trees.{Tree}
 use Rattle.model.specs.Volumes.{IsGraph, IsVolume, Node, Volume, entries}
-use Rattle.model.specs.declared.limits.TheConstants.{DIRECTORY_NAMES, FIRST_NUMBER, ROOT_NUMBER}
+use Rattle.model.specs.declared.limits.TheConstants.{FIRST_NUMBER, ROOT_NUMBER}
 use Rattle.images.specs.Contents.{Content, HoldsVolume, StandsAs, content_of, tree_contents}
 use Rattle.images.specs.Faults.{HasNoFault, HasRoots, HoldsGraph, IsFaultless, IsFaultlessUnder, IsMapGrammar}
 use Rattle.images.specs.Nodes.{Held, held}
@@ -58,7 +60,7 @@ map_grammar : (s : Sizes) (h : Held) → IsSoundFile s h → HasNoHole h → IsM
 map_grammar s h sound stored = record { stored = stored; last = sound.bytes.readable (h.inode.size / 4096); ends = sound.bytes.ends }
 
 -- a tree in its grammar that holds a volume has no fault
-faultless : (s : Sizes) (t : HeldTree) (v : Volume) → FIRST_NUMBER ≤ s.inodes → EndsFree s.inodes t → IsSoundTree s t → HoldsVolume s.inodes (tree_contents t) v → IsVolume s.inodes v → IsFaultless s t
+faultless : (s : Sizes) (t : HeldTree) (v : Volume) → FIRST_NUMBER ≤ s.inodes → EndsFree s.inodes t → IsSoundTree s t → HoldsVolume s.inodes (tree_contents t) v → IsVolume (limits_of s) v → IsFaultless s t
 unfolding EndsFree
 faultless s t v many ends sound holds is = record {
   grammar = record {
@@ -86,12 +88,12 @@ faultless s t v many ends sound holds is = record {
 }
 
 -- the tree of each snapshot holds a volume
-kept_tree : (r : Root) (w : Whole) (above : ℕ) (pairs : List (Name × Tree)) → AreSnapshots r w → AreKeptAbove r w above pairs → (k : ℕ) (s : Snapshot) → HasSnapshot r w k s → above < s.order → (kept : Tree) × IsFrozenTree r.geometry.inodes (w.frozen k) kept
+kept_tree : (r : Root) (w : Whole) (above : ℕ) (pairs : List (Name × Tree)) → AreSnapshots r w → AreKeptAbove r w above pairs → (k : ℕ) (s : Snapshot) → HasSnapshot r w k s → above < s.order → (kept : Tree) × IsFrozenTree (limits_of r.geometry) (w.frozen k) kept
 kept_tree r w above [] are kept k s has later = absurd (omega (arith, kept k s has, later))
 kept_tree r w above (p ∷ ps) are kept k s has later =
     elim (eq-or-lt_of_le (kept.2.least k s has later)) [
       | inl same ↦
-          (p.1, subst (λ (l : ℕ). IsFrozenTree r.geometry.inodes (w.frozen l) p.1) (are.orders kept.0 k kept.1 s kept.2.has has same) kept.4)
+          (p.1, subst (λ (l : ℕ). IsFrozenTree (limits_of r.geometry) (w.frozen l) p.1) (are.orders kept.0 k kept.1 s kept.2.has has same) kept.4)
       | inr more ↦ kept_tree r w kept.1.order ps are kept.5 k s has more
     ]
 
@@ -111,7 +113,7 @@ some_same : {m n : ℕ} → Some m ≡ Some n → m ≡ n
 some_same e = cc
 
 -- a directory of a volume has place for what is moved there
-module _ (inodes : ℕ) (v : Volume) (volume : IsVolume inodes v) (d : ℕ) (x : Name) (k : ℕ) (y : Name) (can : CanRename v d x k y) where
+module _ (limits : Limits) (v : Volume) (volume : IsVolume limits v) (d : ℕ) (x : Name) (k : ℕ) (y : Name) (can : CanRename limits v d x k y) where
   abbrev Has : Name → Type 0
   Has z = IsSome (entries v k z)
 
@@ -119,7 +121,7 @@ module _ (inodes : ℕ) (v : Volume) (volume : IsVolume inodes v) (d : ℕ) (x :
   Stays z = IsSome (entries v k z) × (z ≢ y) × (d ≡ k → z ≢ x)
 
   -- beside the new name there are so many, and one fewer without the old one
-  inside : (count : ℕ) → d ≡ k → x ≢ y → Counts (λ (z : Name). Has z × (z ≢ y)) count → count ≤ DIRECTORY_NAMES → LeavesPlace v (rename d x k y)
+  inside : (count : ℕ) → d ≡ k → x ≢ y → Counts (λ (z : Name). Has z × (z ≢ y)) count → count ≤ limits.directory_names → LeavesPlace limits v (rename d x k y)
   inside count same apart counts most =
       let there : entries v k x ≡ Some can.number = ap (λ (j : ℕ). entries v j x) (sym same) ∙ can.there in
       let less = one_less (λ (z : Name). Has z × (z ≢ y)) x count names_apart (subst (λ (o : Option ℕ). IsSome o) (sym there) refl, apart) counts in
@@ -132,7 +134,7 @@ module _ (inodes : ℕ) (v : Volume) (volume : IsVolume inodes v) (d : ℕ) (x :
         omega (arith, fewer, most),
       )
 
-  across : (count : ℕ) → (d ≡ k → ⊥) → Counts (λ (z : Name). Has z × (z ≢ y)) count → count < DIRECTORY_NAMES → LeavesPlace v (rename d x k y)
+  across : (count : ℕ) → (d ≡ k → ⊥) → Counts (λ (z : Name). Has z × (z ≢ y)) count → count < limits.directory_names → LeavesPlace limits v (rename d x k y)
   across count other counts room = (
     count,
     same_count (λ (z : Name). Has z × (z ≢ y)) Stays count (λ z. (
@@ -150,12 +152,12 @@ module _ (inodes : ℕ) (v : Volume) (volume : IsVolume inodes v) (d : ℕ) (x :
         (λ both. both.0),
       )) counts
 
-  pub move_leaves_place : LeavesPlace v (rename d x k y)
+  pub move_leaves_place : LeavesPlace limits v (rename d x k y)
   move_leaves_place = by (entries v k y) refl can.replaces
     where
-      by : (o : Option ℕ) → entries v k y ≡ o → CanReplace v d k y can.number o → LeavesPlace v (rename d x k y)
+      by : (o : Option ℕ) → entries v k y ≡ o → CanReplace limits v d k y can.number o → LeavesPlace limits v (rename d x k y)
       by (Some m) is may =
-          let (count, counts, most) = volume.limits.children k in
+          let (count, counts, most) = volume.keeps.children k in
           let less = one_less Has y count names_apart (subst (λ (o : Option ℕ). IsSome o) (sym is) refl) counts in
           let fewer = less.1 in
           elim (cases_eq d k) [
@@ -164,7 +166,7 @@ module _ (inodes : ℕ) (v : Volume) (volume : IsVolume inodes v) (d : ℕ) (x :
           ]
       by None none may = elim (cases_eq d k) [
         | inl same ↦
-            let (count, counts, most) = volume.limits.children k in
+            let (count, counts, most) = volume.keeps.children k in
             inside count same (λ equal. none_some (sym none ∙ ap (entries v k) (sym equal) ∙ ap (λ (j : ℕ). entries v j x) (sym same) ∙ can.there)) (all_stay count none counts) most
         | inr other ↦ elim may [
           | inl same ↦ absurd (other same)
@@ -172,23 +174,23 @@ module _ (inodes : ℕ) (v : Volume) (volume : IsVolume inodes v) (d : ℕ) (x :
         ]
       ]
 
-leaves_place : (inodes : ℕ) (v : Volume) (change : Change) → IsVolume inodes v → Applies inodes v change → LeavesPlace v change
-leaves_place inodes v (create number parent made name) volume can = tt
-leaves_place inodes v (link number parent name) volume can = tt
-leaves_place inodes v (remove_name parent name) volume can = tt
-leaves_place inodes v (rename d x k y) volume can = move_leaves_place inodes v volume d x k y can
-leaves_place inodes v (write number offset bytes) volume can = tt
-leaves_place inodes v (truncate number size) volume can = tt
-leaves_place inodes v (change_mode number mode) volume can = tt
-leaves_place inodes v (set_file number mode size) volume can = tt
+leaves_place : (limits : Limits) (v : Volume) (change : Change) → IsVolume limits v → Applies limits v change → LeavesPlace limits v change
+leaves_place limits v (create number parent made name) volume can = tt
+leaves_place limits v (link number parent name) volume can = tt
+leaves_place limits v (remove_name parent name) volume can = tt
+leaves_place limits v (rename d x k y) volume can = move_leaves_place limits v volume d x k y can
+leaves_place limits v (write number offset bytes) volume can = tt
+leaves_place limits v (truncate number size) volume can = tt
+leaves_place limits v (change_mode number mode) volume can = tt
+leaves_place limits v (set_file number mode size) volume can = tt
 
 -- over a volume no limit is passed, and over that of its lowest bytes all that is changed in part can be read
-within : (inodes : ℕ) (changes : List Change) (v w : Volume) → All IsChange changes → IsVolume inodes v → Replays inodes v changes w → ReplaysWithin inodes (low v) changes (low w)
-within inodes [] v w are volume replays = ap low replays
-within inodes (change ∷ changes) v w are volume replays = (
-  record { can = low_applies v inodes change replays.0; place = low_place v change (leaves_place inodes v change volume replays.0); reads = low_reads v change },
-  subst (λ (x : Volume). ReplaysWithin inodes x changes (low w)) (low_applied change v (All-head IsChange change changes are))
-      (within inodes changes (applied change v) w (All-tail IsChange change changes are) (records_keep_volumes inodes v change volume replays.0) replays.1),
+within : (limits : Limits) (changes : List Change) (v w : Volume) → All IsChange changes → IsVolume limits v → Replays limits v changes w → ReplaysWithin limits (low v) changes (low w)
+within limits [] v w are volume replays = ap low replays
+within limits (change ∷ changes) v w are volume replays = (
+  record { can = low_applies v limits change replays.0; place = low_place v limits change (leaves_place limits v change volume replays.0); reads = low_reads v change },
+  subst (λ (x : Volume). ReplaysWithin limits x changes (low w)) (low_applied change v (All-head IsChange change changes are))
+      (within limits changes (applied change v) w (All-tail IsChange change changes are) (records_keep_volumes limits v change volume replays.0) replays.1),
 )
 
 pub opens_faultless : (sectors : ℕ) (disk : ℕ → List ℕ) (nvram : List ℕ) (s : State) → (o : Opens sectors disk nvram s) → HasRoots o.root sectors disk nvram × IsFaultlessUnder o.root (whole (blocks_of disk) o.root) nvram o.changes
@@ -216,7 +218,7 @@ opens_faultless sectors disk nvram s o =
           last = low o.last;
           holds = low_holds (blocks_of disk) r o.first o.holds.sound.active.files o.holds.holds;
           log = o.log;
-          replays = within r.geometry.inodes o.changes o.first o.last o.log.are o.holds.volume o.replays;
+          replays = within (limits_of r.geometry) o.changes o.first o.last o.log.are o.holds.volume o.replays;
         };
       },
     )

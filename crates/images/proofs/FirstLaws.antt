@@ -3,6 +3,8 @@ use Rattle.std.proofs.Common.{◌≡◌, ◌≢◌, inl, inr, ◌↔◌, ℕ, ze
 use Rattle.std.proofs.Math.Path.{fun_ext}
 use Rattle.std.proofs.lemmas.Bool.{cases_lt}
 use Rattle.std.proofs.lemmas.List.Elements.{All-nil}
+use Rattle.layout.proofs.LimitLaws.{limits_can_be}
+use Rattle.layout.specs.StateLimits.{limits_of}
 use Rattle.layout.specs.Inode.{IsInode, inode_bytes}
 use Rattle.layout.specs.Limits.{Sizes, AreSizes}
 use Rattle.layout.specs.Log.{LogHolds}
@@ -172,14 +174,14 @@ module _ (r : Root) (e : Blocks) (numbers map : Inode) (is : IsFirst r e numbers
       };
     };
     holds = subst (λ (u : HeldTree). HoldsVolume r.geometry.inodes (tree_contents u) root_alone_volume) (sym active_is) objects;
-    volume = alone_volume r.geometry.inodes;
+    volume = alone_volume (limits_of r.geometry) (limits_can_be r.geometry);
     kept = none_kept r (whole e r) is.slots;
   }
 
 -- ---- the state
 
 pub first_opens : (sectors : ℕ) (disk : ℕ → List ℕ) (nvram : List ℕ) (r : Root) → IsNewest r (disk SLOT_A) (disk SLOT_B) → sectors ≡ 8 * r.geometry.blocks
-    → Holds r (whole (blocks_of disk) r) root_alone_volume [] → HasReserve r (whole (blocks_of disk) r) root_alone_volume [] → LogHolds r.geometry.half r.generation nvram [] → OpensBy sectors disk nvram (empty r.geometry.inodes) []
+    → Holds r (whole (blocks_of disk) r) root_alone_volume [] → HasReserve r (whole (blocks_of disk) r) root_alone_volume [] → LogHolds r.geometry.half r.generation nvram [] → OpensBy sectors disk nvram (empty (limits_of r.geometry)) []
 first_opens sectors disk nvram r newest size holds room log = record {
   opens = record {
     root = r;
@@ -193,7 +195,7 @@ first_opens sectors disk nvram r newest size holds room log = record {
     room = room;
     last = root_alone_volume;
     replays = refl;
-    state = record { tree = alone_forgets r.geometry.inodes; rest = refl };
+    state = record { tree = alone_forgets (limits_of r.geometry) (limits_can_be r.geometry); rest = refl };
   };
   these = refl;
 }

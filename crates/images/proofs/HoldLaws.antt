@@ -1,6 +1,8 @@
 -- A point whose plan is in its grammar leaves a root that holds the planned volume.
 use Rattle.std.proofs.Common.{◌≡◌, inl, inr, ℕ, zero, suc, false, ◌<◌, ◌≤◌, List, [], ◌∷◌, slice_index_or, Option, None, refl, ap, sym, subst, ◌∙◌, arith}
 use Rattle.std.proofs.lemmas.Bool.{cases_lt, cases_Bool}
+use Rattle.layout.specs.StateLimits.{limits_of}
+use Rattle.model.specs.declared.limits.Limits.{Limits}
 use Rattle.layout.specs.Inode.{IsInode}
 use Rattle.layout.specs.Limits.{Sizes}
 use Rattle.layout.specs.Places.{Blocks}
@@ -98,18 +100,18 @@ module _ (r new : Root) (w now : Whole) (slots : (k : ℕ) → slot new k ≡ sl
         kept.1,
         record { has = has_is kept.0 kept.1 next.has; above_it = next.above_it; least = λ l q has. next.least l q (has_was l q has) },
         kept.3,
-        subst (λ (t : HeldTree). IsFrozenTree new.geometry.inodes t pair.1) (sym (trees kept.0))
-            (subst (λ (g : Sizes). IsFrozenTree g.inodes (w.frozen kept.0) pair.1) (sym geometry) kept.4),
+        subst (λ (t : HeldTree). IsFrozenTree (limits_of new.geometry) t pair.1) (sym (trees kept.0))
+            (subst (λ (g : Sizes). IsFrozenTree (limits_of g) (w.frozen kept.0) pair.1) (sym geometry) kept.4),
         kept_stay trees kept.1.order pairs kept.5,
       )
 
 -- ---- the objects
 
 -- the file system's own files are no objects
-own_none : (inodes n : ℕ) (v : Volume) → IsVolume inodes v → n < 3 → v n ≡ None
-own_none inodes n v volume low = elim (some_or_none (v n)) [
+own_none : (limits : Limits) (n : ℕ) (v : Volume) → IsVolume limits v → n < 3 → v n ≡ None
+own_none limits n v volume low = elim (some_or_none (v n)) [
   | inr none ↦ none
-  | inl some ↦ elim (volume.limits.numbers n some) [ inl is ↦ absurd (omega (arith, is)) | inr high ↦ absurd (omega (arith, high.0)) ]
+  | inl some ↦ elim (volume.keeps.numbers n some) [ inl is ↦ absurd (omega (arith, is)) | inr high ↦ absurd (omega (arith, high.0)) ]
 ]
 
 own_stands : (inodes n : ℕ) (c : Content) (o : Option Node) → n < 3 → FitsNumber n c.kind → o ≡ None → StandsAs c.kind inodes c o
@@ -119,9 +121,9 @@ own_stands inodes (suc (suc zero)) c o low fits none = subst (λ kind. StandsAs 
 own_stands inodes (suc (suc (suc n))) c o low fits none = absurd (omega arith)
 
 objects_held : (s : Sizes) (t : HeldTree) (files : ℕ → Content) (v : Volume) → IsSoundTree s t → ((n : ℕ) → 3 ≤ n → tree_contents t n ≡ files n)
-    → HoldObjects s.inodes files v → IsVolume s.inodes v → HoldsVolume s.inodes (tree_contents t) v
+    → HoldObjects s.inodes files v → IsVolume (limits_of s) v → HoldsVolume s.inodes (tree_contents t) v
 objects_held s t files v sound content objects volume n = elim (cases_lt n 3) [
-  | inl low ↦ own_stands s.inodes n (tree_contents t n) (v n) low (sound.kinds n) (own_none s.inodes n v volume low)
+  | inl low ↦ own_stands s.inodes n (tree_contents t n) (v n) low (sound.kinds n) (own_none (limits_of s) n v volume low)
   | inr ordinary ↦ subst (λ (c : Content). StandsAs c.kind s.inodes c (v n)) (sym (content n ordinary)) (objects n ordinary)
 ]
 
@@ -132,7 +134,7 @@ module _ (d e : Blocks) (r new : Root) (t : HeldTree) (plane : ℕ) (files : ℕ
     (root : IsRoot r) (holds : Holds r (whole d r) first snapshots) (base : IsBase d r t plane) (old : IsSoundTree r.geometry t)
     (same : Agrees (Needs r (whole d r)) d e) (plan : IsPlannedOn (whole d r) t plane r e new files)
     (good : IsSoundPlan r.geometry e plan.inode plan.changed) (own : KeepsOwn new (whole e new)) (newest : new.version ≡ VERSION)
-    (objects : HoldObjects r.geometry.inodes files v) (volume : IsVolume r.geometry.inodes v) where
+    (objects : HoldObjects r.geometry.inodes files v) (volume : IsVolume (limits_of r.geometry) v) where
   pub point_with : ((k block : ℕ) → slot new k ≡ Block block → IsSoundTree r.geometry ((whole e new).frozen k))
       → AreSnapshots new (whole e new) → (pairs : List (Name × Tree)) → AreKept new (whole e new) pairs → Holds new (whole e new) v pairs
   point_with frozen are pairs kept =
@@ -150,7 +152,7 @@ module _ (d e : Blocks) (r new : Root) (t : HeldTree) (plane : ℕ) (files : ℕ
         };
         holds = subst (λ (g : Sizes). HoldsVolume g.inodes (tree_contents (whole e new).active) v) (sym plan.geometry)
             (objects_held r.geometry (whole e new).active files v tree settled.content objects volume);
-        volume = subst (λ (g : Sizes). IsVolume g.inodes v) (sym plan.geometry) volume;
+        volume = subst (λ (g : Sizes). IsVolume (limits_of g) v) (sym plan.geometry) volume;
         kept = kept;
       }
 

@@ -3,6 +3,7 @@
 use Rattle.std.proofs.Common.{◌≡◌, inl, inr, ℕ, zero, suc, ◌+◌, ◌-◌, ◌*◌, ◌/◌, ◌%◌, ◌<◌, ◌≢◌, List, [], ◌∷◌, ◌++◌, length, map, take, drop, replicate, slice_index, Option, Some, None, Bool, true, false, IsSome, ◌||◌, ◌==◌, if◌then◌else◌, refl, ap, sym, subst, ◌∙◌, arith}
 use Rattle.std.proofs.Math.Path.{fun_ext}
 use Rattle.std.proofs.lemmas.List.{map-append, take-map, drop-map, length-map}
+use Rattle.model.specs.declared.limits.Limits.{Limits}
 use Rattle.layout.specs.Bytes.{IsBytes}
 use Rattle.layout.specs.Record.{IsChange}
 use Rattle.model.specs.declared.attributes.Attributes.{Attributes}
@@ -11,7 +12,6 @@ use Rattle.model.specs.Edits.{resized, written}
 use Rattle.model.specs.Paths.{Name}
 use Rattle.model.specs.Records.{Applies, CanReplace, Change, IsBelow, IsEmpty, Made, TakesName, applied, change_mode, create, truncate, directory, file, is_vacant, link, node_of, rename, set_file, symbolic_link, remove_name, with_bits, with_file_bytes, with_node_mode, with_size, write}
 use Rattle.model.specs.Volumes.{Entries, Node, Volume, directory_node, entries, file_node, is_directory_node, is_file_node, link_node, released, set_name, with_entry, with_name_less, with_name_more, with_node}
-use Rattle.model.specs.declared.limits.TheConstants.{DIRECTORY_NAMES}
 use Rattle.model.proofs.MoveLemmas.{bytes_by, bytes_names}
 use Rattle.images.specs.Replaying.{LeavesPlace, ReadsParts, bytes_of_node}
 
@@ -170,8 +170,8 @@ module _ (v : Volume) where
   is_file : (n : ℕ) → is_file_node (low v n) ≡ is_file_node (v n)
   is_file n = bytes_by is_file_node (λ attributes links a b. refl) low_bytes (v n)
 
-  takes : (d : ℕ) (x : Name) → TakesName v d x → TakesName (low v) d x
-  takes d x t = record {
+  takes : (limits : Limits) (d : ℕ) (x : Name) → TakesName limits v d x → TakesName limits (low v) d x
+  takes limits d x t = record {
     directory = is_directory d ∙ t.directory;
     missing = by_entries (λ e. e d x ≡ None) t.missing;
     name = t.name;
@@ -183,42 +183,42 @@ module _ (v : Volume) where
   empty : (n : ℕ) → IsEmpty v n → IsEmpty (low v) n
   empty n = by_entries (λ e. (x : Name) → e n x ≡ None)
 
-  replaces : (d k : ℕ) (y : Name) (n : ℕ) (o : Option ℕ) → CanReplace v d k y n o → CanReplace (low v) d k y n o
-  replaces d k y n None (inl same) = inl same
-  replaces d k y n None (inr t) = inr (takes k y t)
-  replaces d k y n (Some m) (other, kinds, none) = (other, is_directory m ∙ kinds ∙ sym (is_directory n), empty m none)
+  replaces : (limits : Limits) (d k : ℕ) (y : Name) (n : ℕ) (o : Option ℕ) → CanReplace limits v d k y n o → CanReplace limits (low v) d k y n o
+  replaces limits d k y n None (inl same) = inl same
+  replaces limits d k y n None (inr t) = inr (takes limits k y t)
+  replaces limits d k y n (Some m) (other, kinds, none) = (other, is_directory m ∙ kinds ∙ sym (is_directory n), empty m none)
 
-  pub low_applies : (inodes : ℕ) (change : Change) → Applies inodes v change → Applies inodes (low v) change
-  low_applies inodes (create number parent made name) c =
-      record { low = c.low; high = c.high; vacant = bytes_by is_vacant vacant_alike low_bytes (v number) ∙ c.vacant; takes = takes parent name c.takes; good = c.good }
-  low_applies inodes (link number parent name) c =
-      record { attributes = c.attributes; links = c.links; bytes = low_bytes c.bytes; file = ap low_node c.file; few = c.few; takes = takes parent name c.takes }
-  low_applies inodes (remove_name parent name) c =
+  pub low_applies : (limits : Limits) (change : Change) → Applies limits v change → Applies limits (low v) change
+  low_applies limits (create number parent made name) c =
+      record { low = c.low; high = c.high; vacant = bytes_by is_vacant vacant_alike low_bytes (v number) ∙ c.vacant; takes = takes limits parent name c.takes; good = c.good }
+  low_applies limits (link number parent name) c =
+      record { attributes = c.attributes; links = c.links; bytes = low_bytes c.bytes; file = ap low_node c.file; few = c.few; takes = takes limits parent name c.takes }
+  low_applies limits (remove_name parent name) c =
       record { number = c.number; there = by_entries (λ e. e parent name ≡ Some c.number) c.there; empty = empty c.number c.empty }
-  low_applies inodes (rename d x k y) c = record {
+  low_applies limits (rename d x k y) c = record {
     number = c.number;
     there = by_entries (λ e. e d x ≡ Some c.number) c.there;
     directory = is_directory k ∙ c.directory;
     name = c.name;
     outside = by_entries (λ e. ¬ IsBelow e c.number k) c.outside;
-    replaces = by_entries (λ e. CanReplace (low v) d k y c.number (e k y)) (replaces d k y c.number (entries v k y) c.replaces);
+    replaces = by_entries (λ e. CanReplace limits (low v) d k y c.number (e k y)) (replaces limits d k y c.number (entries v k y) c.replaces);
   }
-  low_applies inodes (write number offset bytes) can = (is_file number ∙ can.0, can.1, can.2, can.3)
-  low_applies inodes (truncate number size) can = (is_file number ∙ can.0, can.1)
-  low_applies inodes (set_file number mode size) can = (is_file number ∙ can.0, can.1, can.2)
-  low_applies inodes (change_mode number mode) can =
+  low_applies limits (write number offset bytes) can = (is_file number ∙ can.0, can.1, can.2, can.3)
+  low_applies limits (truncate number size) can = (is_file number ∙ can.0, can.1)
+  low_applies limits (set_file number mode size) can = (is_file number ∙ can.0, can.1, can.2)
+  low_applies limits (change_mode number mode) can =
       (bytes_by (λ o. is_file_node o || is_directory_node o) (λ attributes links a b. refl) low_bytes (v number) ∙ can.0, can.1)
 
-  pub low_place : (change : Change) → LeavesPlace v change → LeavesPlace (low v) change
-  low_place (create number parent made name) place = tt
-  low_place (link number parent name) place = tt
-  low_place (remove_name parent name) place = tt
-  low_place (rename d x k y) place = by_entries
-      (λ e. (count : ℕ) × Counts (λ (z : Name). IsSome (e k z) × (z ≢ y) × (d ≡ k → z ≢ x)) count × (count < DIRECTORY_NAMES)) place
-  low_place (write number offset bytes) place = tt
-  low_place (truncate number size) place = tt
-  low_place (change_mode number mode) place = tt
-  low_place (set_file number mode size) place = tt
+  pub low_place : (limits : Limits) (change : Change) → LeavesPlace limits v change → LeavesPlace limits (low v) change
+  low_place limits (create number parent made name) place = tt
+  low_place limits (link number parent name) place = tt
+  low_place limits (remove_name parent name) place = tt
+  low_place limits (rename d x k y) place = by_entries
+      (λ e. (count : ℕ) × Counts (λ (z : Name). IsSome (e k z) × (z ≢ y) × (d ≡ k → z ≢ x)) count × (count < limits.directory_names)) place
+  low_place limits (write number offset bytes) place = tt
+  low_place limits (truncate number size) place = tt
+  low_place limits (change_mode number mode) place = tt
+  low_place limits (set_file number mode size) place = tt
 
   read : (o : Option Node) (k : ℕ) → slice_index (bytes_of_node (low_node o)) k < 256
   read None k = omega arith

@@ -18,13 +18,12 @@ use Rattle.layout.specs.declared.inode.Inode.{Inode}
 use Rattle.layout.specs.declared.pointer.Pointer.{Pointer}
 use Rattle.layout.specs.declared.pointer.Pointer.TheVariants.{Hole, Block}
 use Rattle.layout.specs.declared.trees.Layout.{Layout}
-use Rattle.layout.proofs.FanLaws.{node_is}
+use Rattle.layout.proofs.FanLaws.{node_is, pointer_low}
 use Rattle.layout.proofs.InodeLaws.{inode_read}
 use Rattle.layout.proofs.SnapshotLaws.{snapshot_read}
 use Rattle.images.specs.Nodes.{held, body_block, file_block, place_at_height, pointers_of}
 use Rattle.images.specs.Roots.{free_inode, or_free, inode_from, inode_bytes_at, inode_under, tree, frozen_inode_file, inode_file_or_free}
 use Rattle.images.specs.Soundness.{Detail, IsHeldFile, nodes_of_size}
-use Rattle.images.proofs.FanLemmas.{pointer_low}
 use Rattle.images.proofs.OverlayLaws.{held_up}
 use Rattle.layout.proofs.SizeLaws.{level_some}
 pub use Rattle.layout.proofs.SizeLaws.{level_one, level_two, used_is}

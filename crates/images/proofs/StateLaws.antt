@@ -1,6 +1,8 @@
 -- No images open to two states.
 use Rattle.std.proofs.Common.{◌≡◌, inl, inr, ℕ, ◌≤◌, ◌^◌, List, [], ◌∷◌, None, map, All, refl, ap, sym, subst, ◌∙◌, arith}
 use Rattle.std.proofs.lemmas.List.Elements.{All-head, All-tail}
+use Rattle.layout.specs.StateLimits.{limits_of}
+use Rattle.model.specs.declared.limits.Limits.{Limits}
 use Rattle.layout.specs.Opens.{IsNewest}
 use Rattle.layout.specs.Places.{blocks_of}
 use Rattle.layout.specs.Record.{Change, IsChange, change_bytes}
@@ -23,9 +25,9 @@ use Rattle.images.specs.States.{Holds, LogHoldsChanges, Opens}
 use Rattle.images.proofs.VolumeLaws.{volume_once}
 
 -- records lead to one volume
-replays_once : (inodes : ℕ) (v : Volume) (changes : List Change) (w x : Volume) → Replays inodes v changes w → Replays inodes v changes x → w ≡ x
-replays_once inodes v [] w x one other = one ∙ sym other
-replays_once inodes v (change ∷ changes) w x one other = replays_once inodes (applied change v) changes w x one.1 other.1
+replays_once : (limits : Limits) (v : Volume) (changes : List Change) (w x : Volume) → Replays limits v changes w → Replays limits v changes x → w ≡ x
+replays_once limits v [] w x one other = one ∙ sym other
+replays_once limits v (change ∷ changes) w x one other = replays_once limits (applied change v) changes w x one.1 other.1
 
 -- bodies spell one list of records
 changes_once : (changes others : List Change) → All IsChange changes → All IsChange others → map change_bytes changes ≡ map change_bytes others → changes ≡ others
@@ -47,9 +49,9 @@ changes_once (c ∷ cs) (d ∷ ds) are are_too same =
 snapshot_once : (r : Root) (w : Whole) (k l : ℕ) (s q : Snapshot) → HasSnapshot r w k s → HasSnapshot r w l q → k ≡ l → s ≡ q
 snapshot_once r w k l s q one other same = some_is s q (sym one.read ∙ ap (λ k. snapshot_in r.geometry.layout (w.head k)) same ∙ other.read)
 
-frozen_once : (inodes : ℕ) (t : HeldTree) (tree other : Tree) → inodes ≤ 2 ^ 32 → IsFrozenTree inodes t tree → IsFrozenTree inodes t other → tree ≡ other
-frozen_once inodes t tree other limit one two =
-    one.3 ∙ ap (λ (v : Volume). tree_of (without_orphans v) (λ d. None)) (volume_once inodes (tree_contents t) one.0 two.0 limit one.1 two.1) ∙ sym two.3
+frozen_once : (limits : Limits) (t : HeldTree) (tree other : Tree) → limits.inodes ≤ 2 ^ 32 → IsFrozenTree limits t tree → IsFrozenTree limits t other → tree ≡ other
+frozen_once limits t tree other limit one two =
+    one.3 ∙ ap (λ (v : Volume). tree_of (without_orphans v) (λ d. None)) (volume_once limits.inodes (tree_contents t) one.0 two.0 limit one.1 two.1) ∙ sym two.3
 
 -- a root has one list of snapshots
 kept_once : (r : Root) (w : Whole) (above : ℕ) (pairs others : List (Name × Tree)) → r.geometry.inodes ≤ 2 ^ 32 → AreSnapshots r w
@@ -64,8 +66,8 @@ kept_once r w above (p ∷ ps) (q ∷ qs) limit are one two =
     let slot_is : one.0 ≡ two.0 = are.orders one.0 two.0 one.1 two.1 one.2.has two.2.has orders in
     let snapshot_is : one.1 ≡ two.1 = snapshot_once r w one.0 two.0 one.1 two.1 one.2.has two.2.has slot_is in
     let name_is : p.0 ≡ q.0 = one.3 ∙ ap (λ (s : Snapshot). s.name) snapshot_is ∙ sym two.3 in
-    let tree_is : p.1 ≡ q.1 = frozen_once r.geometry.inodes (w.frozen one.0) p.1 q.1 limit one.4
-    (subst (λ (k : ℕ). IsFrozenTree r.geometry.inodes (w.frozen k) q.1) (sym slot_is) two.4) in
+    let tree_is : p.1 ≡ q.1 = frozen_once (limits_of r.geometry) (w.frozen one.0) p.1 q.1 limit one.4
+    (subst (λ (k : ℕ). IsFrozenTree (limits_of r.geometry) (w.frozen k) q.1) (sym slot_is) two.4) in
     let rest = kept_once r w one.1.order ps qs limit are one.5 (subst (λ (o : ℕ). AreKeptAbove r w o qs) (sym orders) two.5) in
     λ i. (name_is i, tree_is i) ∷ rest i
 
@@ -76,7 +78,7 @@ newest_is_root r a b (inr second) = second.0.root
 
 abbrev found : Root → Volume → List (Name × Tree) → State
 found r last snapshots =
-    record { inodes = r.geometry.inodes; tree = tree_of (without_orphans last) (λ d. None); snapshots = snapshots; mark = going }
+    record { limits = limits_of r.geometry; tree = tree_of (without_orphans last) (λ d. None); snapshots = snapshots; mark = going }
 
 -- what images open to is one state, once open files are forgotten
 pub opens_once : (sectors : ℕ) (disk : ℕ → List ℕ) (nvram : List ℕ) (s t : State) → Opens sectors disk nvram s → Opens sectors disk nvram t → (u : State) × Forgets s u × Forgets t u
@@ -92,7 +94,7 @@ opens_once sectors disk nvram s t one two =
     let holds = subst (λ (r : Root). Holds r (whole (blocks_of disk) r) two.first two.snapshots) root two.holds in
     let first : two.first ≡ one.first = volume_once r.geometry.inodes (tree_contents w.active) two.first one.first limit holds.holds one.holds.holds in
     let snapshots : two.snapshots ≡ one.snapshots = kept_once r w 0 two.snapshots one.snapshots limit one.holds.sound.snapshots holds.kept one.holds.kept in
-    let replays = subst (λ (r : Root). Replays r.geometry.inodes two.first two.changes two.last) root two.replays in
-    let last : two.last ≡ one.last = replays_once r.geometry.inodes one.first one.changes two.last one.last
-    (subst (λ (c : List Change). Replays r.geometry.inodes one.first c two.last) changes (subst (λ (v : Volume). Replays r.geometry.inodes v two.changes two.last) first replays)) one.replays in
+    let replays = subst (λ (r : Root). Replays (limits_of r.geometry) two.first two.changes two.last) root two.replays in
+    let last : two.last ≡ one.last = replays_once (limits_of r.geometry) one.first one.changes two.last one.last
+    (subst (λ (c : List Change). Replays (limits_of r.geometry) one.first c two.last) changes (subst (λ (v : Volume). Replays (limits_of r.geometry) v two.changes two.last) first replays)) one.replays in
     (found r one.last one.snapshots, one.state, subst (Forgets t) (λ i. found (root i) (last i) (snapshots i)) two.state)

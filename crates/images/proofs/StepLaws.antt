@@ -3,6 +3,7 @@ use Rattle.std.proofs.Common.{◌≡◌, ◌≢◌, ◌⊎◌, inl, inr, ℕ, No
 use Rattle.std.specs.Prelude.{bytes_eq}
 use Rattle.std.proofs.lemmas.Bool.{cases_lt, cases_eq, cond-true, cond-false, cases_Bool}
 use Rattle.std.proofs.lemmas.Slice.Eq.{bytes_eq-Decides}
+use Rattle.layout.specs.StateLimits.{limits_of}
 use Rattle.layout.specs.Inode.{IsInode}
 use Rattle.layout.specs.Limits.{Sizes}
 use Rattle.layout.specs.Places.{Blocks, pointed}
@@ -105,7 +106,7 @@ module _ (r new : Root) (w now : Whole) (k : ℕ) (slots : (l : ℕ) → l ≢ k
       ];
     }
 
-    module _ (trees : (l : ℕ) → l ≢ k → now.frozen l ≡ w.frozen l) (tree : Tree) (frozen : IsFrozenTree new.geometry.inodes (now.frozen k) tree) where
+    module _ (trees : (l : ℕ) → l ≢ k → now.frozen l ≡ w.frozen l) (tree : Tree) (frozen : IsFrozenTree (limits_of new.geometry) (now.frozen k) tree) where
       pub taken_kept : (above : ℕ) (pairs : List (Name × Tree)) → above < s.order → AreKeptAbove r w above pairs → AreKeptAbove new now above (pairs ++ (s.name, tree) ∷ [])
       taken_kept above [] low kept = (
         k,
@@ -139,8 +140,8 @@ module _ (r new : Root) (w now : Whole) (k : ℕ) (slots : (l : ℕ) → l ≢ k
               ];
             },
             kept.3,
-            subst (λ (t : HeldTree). IsFrozenTree new.geometry.inodes t pair.1) (sym (trees kept.0 other))
-                (subst (λ (g : Sizes). IsFrozenTree g.inodes (w.frozen kept.0) pair.1) (sym geometry) kept.4),
+            subst (λ (t : HeldTree). IsFrozenTree (limits_of new.geometry) t pair.1) (sym (trees kept.0 other))
+                (subst (λ (g : Sizes). IsFrozenTree (limits_of g) (w.frozen kept.0) pair.1) (sym geometry) kept.4),
             taken_kept kept.1.order pairs (can.newest kept.0 kept.1 next.has) kept.5,
           )
 
@@ -210,8 +211,8 @@ module _ (r new : Root) (w now : Whole) (k : ℕ) (slots : (l : ℕ) → l ≢ k
                   kept.1,
                   record { has = has_is kept.0 kept.1 other next.has; above_it = next.above_it; least = λ l q there lt. next.least l q (was l q there) lt },
                   kept.3,
-                  subst (λ (t : HeldTree). IsFrozenTree new.geometry.inodes t pair.1) (sym (trees kept.0 other))
-                      (subst (λ (g : Sizes). IsFrozenTree g.inodes (w.frozen kept.0) pair.1) (sym geometry) kept.4),
+                  subst (λ (t : HeldTree). IsFrozenTree (limits_of new.geometry) t pair.1) (sym (trees kept.0 other))
+                      (subst (λ (g : Sizes). IsFrozenTree (limits_of g) (w.frozen kept.0) pair.1) (sym geometry) kept.4),
                   deleted_kept kept.1.order pairs kept.5,
                 ))
           ]
@@ -226,7 +227,7 @@ module _ (d e : Blocks) (r new : Root) (files : ℕ → Content) (first v : Volu
     (root : IsRoot r) (holds : Holds r (whole d r) first snapshots) (same : Agrees (Needs r (whole d r)) d e) (step : SnapshotStep)
     (plan : IsPlannedOn (whole d r) (base_tree step (whole d r)) (base_plane step) r e new files) (good : IsSoundPlan r.geometry e plan.inode plan.changed)
     (own : KeepsOwn new (whole e new)) (later : r.generation < new.generation) (newest : new.version ≡ VERSION)
-    (objects : HoldObjects r.geometry.inodes files v) (volume : IsVolume r.geometry.inodes v) (may : CanStep step r (whole d r)) where
+    (objects : HoldObjects r.geometry.inodes files v) (volume : IsVolume (limits_of r.geometry) v) (may : CanStep step r (whole d r)) where
   abbrev Keeps : List (Name × Tree) → Type 0
   Keeps pairs = Holds new (whole e new) v pairs
 
@@ -279,7 +280,7 @@ module _ (d e : Blocks) (r new : Root) (files : ℕ → Content) (first v : Volu
         first,
         subst (λ (t : HeldTree). HoldsVolume new.geometry.inodes (tree_contents t) first) (sym tree_is)
             (subst (λ (g : Sizes). HoldsVolume g.inodes (tree_contents (whole d r).active) first) (sym plan.geometry) holds.holds),
-        subst (λ (g : Sizes). IsVolume g.inodes first) (sym plan.geometry) holds.volume,
+        subst (λ (g : Sizes). IsVolume (limits_of g) first) (sym plan.geometry) holds.volume,
         refl,
       )
       0 snapshots (omega (arith, can.is.first)) holds.kept)

@@ -1,5 +1,6 @@
 -- What the writes of a consistency point leave on the disk, before its root and with it.
 use Rattle.std.specs.Prelude.{ℕ, ◌≡◌, ◌≢◌, ◌⊎◌, ◌+◌, ◌/◌, ◌<◌, ◌≤◌, List, [], length, All}
+use Rattle.layout.specs.StateLimits.{limits_of}
 use Rattle.layout.specs.Opens.{HoldsRoot}
 use Rattle.layout.specs.Places.{Blocks, blocks_of}
 use Rattle.layout.specs.Root.{IsRoot}
@@ -93,4 +94,4 @@ pub record IsPointWith (step : SnapshotStep) (r : Root) (d : ℕ → List ℕ) (
   pub files : ℕ → Content
   pub plans : Plans step (blocks_of d) r writes new files
   pub objects : HoldObjects r.geometry.inodes files v
-  pub volume : IsVolume r.geometry.inodes v
+  pub volume : IsVolume (limits_of r.geometry) v

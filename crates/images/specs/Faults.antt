@@ -1,5 +1,6 @@
 -- The nine faults that images may have: of each, that it doesn't stand in them.
 use Rattle.std.specs.Prelude.{ℕ, ◌≡◌, ◌*◌, ◌/◌, ◌<◌, ◌≤◌, List, length}
+use Rattle.layout.specs.StateLimits.{limits_of}
 use Rattle.layout.specs.FileBytes.{byte_in, EndsAt}
 use Rattle.layout.specs.Limits.{Sizes}
 use Rattle.layout.specs.Maps.{IsTaken}
@@ -90,7 +91,7 @@ pub record HasLog (r : Root) (w : Whole) (nvram : List ℕ) (changes : List Chan
   pub last : Volume
   pub holds : HoldsVolumeIn by_sizes r.geometry.inodes (tree_contents w.active) first
   pub log : LogHoldsChanges r nvram changes
-  pub replays : ReplaysWithin r.geometry.inodes first changes last
+  pub replays : ReplaysWithin (limits_of r.geometry) first changes last
 
 -- ---- all
 

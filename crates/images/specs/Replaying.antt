@@ -6,17 +6,17 @@ use Rattle.model.specs.Counting.{Counts}
 use Rattle.model.specs.Paths.{Name}
 use Rattle.model.specs.Records.{Applies, Change, applied, truncate, rename, set_file, write}
 use Rattle.model.specs.Volumes.{Node, Volume, entries, file_node}
-use Rattle.model.specs.declared.limits.TheConstants.{DIRECTORY_NAMES}
+use Rattle.model.specs.declared.limits.Limits.{Limits}
 use Rattle.images.specs.Edges.{TruncatesBlock, IsPartlyWritten}
 use Rattle.images.specs.Sizes.{IsReadBlock}
 use Rattle.images.specs.Soundness.{Detail, by_bytes, by_sizes}
 
 -- no limit is passed by a move: the directory that gets the name has place for it, when the names
 -- are gone that the move takes away
-abbrev pub LeavesPlace : Volume → Change → Type 0
-LeavesPlace v (rename d x k y) =
-    (count : ℕ) × Counts (λ (z : Name). IsSome (entries v k z) × (z ≢ y) × (d ≡ k → z ≢ x)) count × (count < DIRECTORY_NAMES)
-LeavesPlace v change = Unit {0}
+abbrev pub LeavesPlace : Limits → Volume → Change → Type 0
+LeavesPlace limits v (rename d x k y) =
+    (count : ℕ) × Counts (λ (z : Name). IsSome (entries v k z) × (z ≢ y) × (d ≡ k → z ≢ x)) count × (count < limits.directory_names)
+LeavesPlace limits v change = Unit {0}
 
 -- the bytes of a file; other objects have none
 abbrev pub bytes_of_node : Option Node → List ℕ
@@ -36,13 +36,13 @@ ReadsIn by_bytes v change = Unit {0}
 ReadsIn by_sizes v change = ReadsParts v change
 
 -- a record applies to a volume of which no more is known
-pub record AppliesWithin (inodes : ℕ) (v : Volume) (change : Change) : Type 0 where
-  pub can : Applies inodes v change
-  pub place : LeavesPlace v change
+pub record AppliesWithin (limits : Limits) (v : Volume) (change : Change) : Type 0 where
+  pub can : Applies limits v change
+  pub place : LeavesPlace limits v change
   pub reads : ReadsParts v change
 
 -- records that apply one after the other lead from one volume to another
-abbrev pub ReplaysWithin : ℕ → Volume → List Change → Volume → Type 0
-ReplaysWithin inodes v [] w = w ≡ v
-ReplaysWithin inodes v (change ∷ changes) w =
-    AppliesWithin inodes v change × ReplaysWithin inodes (applied change v) changes w
+abbrev pub ReplaysWithin : Limits → Volume → List Change → Volume → Type 0
+ReplaysWithin limits v [] w = w ≡ v
+ReplaysWithin limits v (change ∷ changes) w =
+    AppliesWithin limits v change × ReplaysWithin limits (applied change v) changes w

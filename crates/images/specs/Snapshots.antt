@@ -1,5 +1,7 @@
 -- The snapshots of a root.
 use Rattle.std.specs.Prelude.{ℕ, ◌≡◌, ◌≤◌, ◌<◌, List, [], ◌∷◌, Some, None}
+use Rattle.layout.specs.StateLimits.{limits_of}
+use Rattle.model.specs.declared.limits.Limits.{Limits}
 use Rattle.layout.specs.Inode.{IsInode}
 use Rattle.layout.specs.SnapRoot.{Snapshot, IsSnapshot, snapshot_in, snapshot_bytes}
 use Rattle.layout.specs.declared.pointer.Pointer.TheVariants.{Block}
@@ -40,9 +42,9 @@ pub record IsNext (r : Root) (w : Whole) (above k : ℕ) (s : Snapshot) : Type 0
   pub least : (l : ℕ) (q : Snapshot) → HasSnapshot r w l q → above < q.order → s.order ≤ q.order
 
 -- the tree of a snapshot: that of its volume, without the files that had no name
-abbrev pub IsFrozenTree : ℕ → HeldTree → Tree → Type 0
-IsFrozenTree inodes t tree =
-    (v : Volume) × HoldsVolume inodes (tree_contents t) v × IsVolume inodes v
+abbrev pub IsFrozenTree : Limits → HeldTree → Tree → Type 0
+IsFrozenTree limits t tree =
+    (v : Volume) × HoldsVolume limits.inodes (tree_contents t) v × IsVolume limits v
     × (tree ≡ tree_of (without_orphans v) (λ d. None))
 
 -- the names and trees of the snapshots with order numbers above this one, oldest first
@@ -50,7 +52,7 @@ abbrev pub AreKeptAbove : Root → Whole → ℕ → List (Name × Tree) → Typ
 AreKeptAbove r w above [] = (k : ℕ) (s : Snapshot) → HasSnapshot r w k s → s.order ≤ above
 AreKeptAbove r w above (pair ∷ pairs) =
     (k : ℕ) × (s : Snapshot) × IsNext r w above k s × (pair.0 ≡ s.name)
-    × IsFrozenTree r.geometry.inodes (w.frozen k) pair.1 × AreKeptAbove r w s.order pairs
+    × IsFrozenTree (limits_of r.geometry) (w.frozen k) pair.1 × AreKeptAbove r w s.order pairs
 
 -- the names and trees of all snapshots, oldest first
 abbrev pub AreKept : Root → Whole → List (Name × Tree) → Type 0

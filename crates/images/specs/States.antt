@@ -1,5 +1,7 @@
 -- Which state a disk and an NVRAM open to.
 use Rattle.std.specs.Prelude.{ℕ, ◌≡◌, ◌≢◌, ◌+◌, ◌*◌, ◌/◌, ◌≤◌, List, map, All, None}
+use Rattle.layout.specs.StateLimits.{fixed_of, limits_of}
+use Rattle.model.specs.declared.limits.Limits.{Limits}
 use Rattle.layout.specs.Log.{LogHolds}
 use Rattle.layout.specs.Opens.{IsNewest}
 use Rattle.layout.specs.Places.{blocks_of}
@@ -9,7 +11,6 @@ use Rattle.layout.specs.declared.pointer.Pointer.TheVariants.{Block}
 use Rattle.layout.specs.declared.root.Root.{Root}
 use Rattle.model.specs.Paths.{Name}
 use Rattle.model.specs.Records.{Replays, pledged_for, without_orphans}
-use Rattle.model.specs.Room.{fixed_of}
 use Rattle.model.specs.States.{State, Forgets, going}
 use Rattle.model.specs.Trees.{Tree}
 use Rattle.model.specs.Volumes.{Volume, IsVolume, tree_of}
@@ -35,7 +36,7 @@ pub record IsSound (r : Root) (w : Whole) : Type 0 where
 pub record Holds (r : Root) (w : Whole) (v : Volume) (snapshots : List (Name × Tree)) : Type 0 where
   pub sound : IsSound r w
   pub holds : HoldsVolume r.geometry.inodes (tree_contents w.active) v
-  pub volume : IsVolume r.geometry.inodes v
+  pub volume : IsVolume (limits_of r.geometry) v
   pub kept : AreKept r w snapshots
 
 -- The log holds these records, which a root doesn't cover: those of the next epoch, and then those
@@ -48,13 +49,13 @@ pub record LogHoldsChanges (r : Root) (nvram : List ℕ) (changes : List Change)
 -- every point stores
 abbrev pub HasReserve : Root → Whole → Volume → List Change → Type 0
 HasReserve r w first changes =
-    pledged_for r.geometry.inodes first changes + fixed_of r.geometry.blocks
+    pledged_for (limits_of r.geometry) first changes + fixed_of r.geometry.blocks
     ≤ free_under w.active r.geometry.blocks
 
 -- the state of these objects, orphans aside, and of these snapshots
-abbrev pub state_of : ℕ → Volume → List (Name × Tree) → State
-state_of inodes v snapshots = record {
-  inodes = inodes;
+abbrev pub state_of : Limits → Volume → List (Name × Tree) → State
+state_of limits v snapshots = record {
+  limits = limits;
   tree = tree_of (without_orphans v) (λ d. None);
   snapshots = snapshots;
   mark = going;
@@ -74,8 +75,8 @@ pub record Opens (sectors : ℕ) (disk : ℕ → List ℕ) (nvram : List ℕ) (s
   pub log : LogHoldsChanges root nvram changes
   pub room : HasReserve root (whole (blocks_of disk) root) first changes
   pub last : Volume
-  pub replays : Replays root.geometry.inodes first changes last
-  pub state : Forgets s (state_of root.geometry.inodes last snapshots)
+  pub replays : Replays (limits_of root.geometry) first changes last
+  pub state : Forgets s (state_of (limits_of root.geometry) last snapshots)
 
 -- The disk and the NVRAM stand for this state by just these records.
 pub record OpensBy (sectors : ℕ) (disk : ℕ → List ℕ) (nvram : List ℕ) (s : State)

@@ -1,13 +1,14 @@
 //! What a cut may leave of a consistency point.
 
 ghost use Rattle.std.specs.Prelude.{ℕ, ◌+◌, ◌≤◌, List};
+ghost use Rattle.layout.specs.StateLimits.{limits_of};
 ghost use Rattle.layout.specs.Opens.{IsNewest};
 ghost use Rattle.layout.specs.Places.{Blocks, blocks_of};
 ghost use Rattle.layout.specs.Root.{IsRoot, root_bytes};
 ghost use Rattle.layout.specs.declared.TheConstants.{SLOT_A, SLOT_B};
 ghost use Rattle.layout.specs.declared.root.Root.{Root};
 ghost use Rattle.model.specs.Records.{Change, Replays, pledged_for};
-ghost use Rattle.model.specs.Room.{fixed_of};
+ghost use Rattle.layout.specs.StateLimits.{fixed_of};
 ghost use Rattle.model.specs.States.{Forgets, State};
 ghost use Rattle.model.specs.Volumes.{Volume};
 ghost use Rattle.images.specs.Cuts.{AreFree, HasRootWritten, IsOfDisk, IsOtherSlot, IsPointWith, LeavesFree, LosesSlot, PlansOn, StaysOutsideWrites, Write};
@@ -74,12 +75,12 @@ pub fn finished_points_open()
         (rest : List Change) (last : Volume)
         → (o : Opens sectors d nvram s) → IsPointWith step o.root d writes sector new v
         → HasRootWritten writes sector (root_bytes new) d e → LogHoldsChanges new nvram rest
-        → Replays o.root.geometry.inodes v rest last
+        → Replays (limits_of o.root.geometry) v rest last
         → (t : State)
-        → Forgets t (state_of o.root.geometry.inodes last (kept_after step o.first o.snapshots))
+        → Forgets t (state_of (limits_of o.root.geometry) last (kept_after step o.first o.snapshots))
         → (spent : ℕ)
         → LeavesFree spent o.root (blocks_of d) writes new
-        → pledged_for o.root.geometry.inodes v rest + fixed_of o.root.geometry.blocks + spent
+        → pledged_for (limits_of o.root.geometry) v rest + fixed_of o.root.geometry.blocks + spent
         ≤ free_under (whole (blocks_of d) o.root).active o.root.geometry.blocks
         → OpensBy sectors e nvram t rest }
 {}

@@ -1,6 +1,7 @@
 //! What a first root holds.
 
 ghost use Rattle.std.specs.Prelude.{◌≡◌, ◌*◌, ℕ, List, []};
+ghost use Rattle.layout.specs.StateLimits.{limits_of};
 ghost use Rattle.layout.specs.Limits.{Sizes};
 ghost use Rattle.layout.specs.Log.{LogHolds};
 ghost use Rattle.layout.specs.Opens.{IsNewest};
@@ -39,5 +40,5 @@ pub fn first_images_open_to_the_empty_state()
         → Holds r (whole (blocks_of disk) r) root_alone_volume []
         → HasReserve r (whole (blocks_of disk) r) root_alone_volume []
         → LogHolds r.geometry.half r.generation nvram []
-        → OpensBy sectors disk nvram (empty r.geometry.inodes) [] }
+        → OpensBy sectors disk nvram (empty (limits_of r.geometry)) [] }
 {}

@@ -1,6 +1,7 @@
 //! What a consistency point that was planned comes to.
 
 ghost use Rattle.std.specs.Prelude.{ℕ, ◌≡◌, ◌≢◌, ◌<◌, ◌≤◌, ◌⊎◌, Bool, List, true};
+ghost use Rattle.layout.specs.StateLimits.{limits_of};
 ghost use Rattle.layout.specs.Places.{Blocks};
 ghost use Rattle.layout.specs.Root.{IsRoot};
 ghost use Rattle.layout.specs.declared.inode.Inode.{Inode};
@@ -88,7 +89,7 @@ pub fn planned_points_hold()
         → StoresOwn (base_plane step) (λ n. held e (plan.inode n)) r new plan.taken
         → r.generation < new.generation
         → new.version ≡ VERSION
-        → HoldObjects r.geometry.inodes files v → IsVolume r.geometry.inodes v
+        → HoldObjects r.geometry.inodes files v → IsVolume (limits_of r.geometry) v
         → CanStep step r (whole d r) → StepsSlots step r new
         → HasHead step new e → Holds new (whole e new) v (kept_after step first snapshots) }
 {}

@@ -2,23 +2,13 @@
 use Rattle.std.proofs.Common.{ℕ, ◌-◌, ◌*◌, ◌/◌, ◌%◌, ◌<◌, ◌≤◌, arith}
 use Rattle.std.specs.Prelude.{min}
 use Rattle.layout.specs.Trees.{fan_out, greatest_size}
-use Rattle.layout.specs.declared.TheConstants.{BLOCK_POINTERS}
 use Rattle.layout.specs.declared.trees.Layout.{Layout}
 use Rattle.layout.specs.declared.trees.Layout.TheVariants.{Plain, Summed}
-
--- no file of either is greater than that
-pub greatest_most : (l : Layout) → greatest_size l ≤ 8796093022208
-greatest_most Plain = omega arith
-greatest_most Summed = omega arith
 
 -- and each allows that
 pub greatest_least : (l : Layout) → 68719476736 ≤ greatest_size l
 greatest_least Plain = omega arith
 greatest_least Summed = omega arith
-
-pub pointer_low : (l : Layout) (i : ℕ) → i % fan_out l < BLOCK_POINTERS
-pointer_low Plain i = omega arith
-pointer_low Summed i = omega arith
 
 -- past so many nodes, the node above has no more pointers
 pub past_used : (l : Layout) (count i : ℕ) → count ≤ i → min (count - fan_out l * (i / fan_out l)) (fan_out l) ≤ i % fan_out l

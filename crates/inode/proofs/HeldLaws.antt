@@ -5,6 +5,7 @@ use Rattle.std.specs.Prelude.{nat_lt, slice_index}
 use Rattle.std.specs.Int.{div_ceil}
 use Rattle.std.proofs.lemmas.Bool.{cases_lt, cond_above, cond_below}
 use Rattle.std.proofs.lemmas.List.{length-take}
+use Rattle.layout.proofs.FanLaws.{pointer_low}
 use Rattle.layout.specs.Bytes.{zeros}
 use Rattle.layout.specs.FileBytes.{byte_in, EndsAt}
 use Rattle.layout.specs.Inode.{IsInode, FitsBody, FitsPointers, pointers_used}
@@ -29,7 +30,7 @@ use Rattle.inode.specs.Bases.{IsBased, anew, over, StartsFrom}
 use Rattle.inode.specs.Bodies.{body_block, inode_block}
 use Rattle.inode.specs.Edges.{filled}
 use Rattle.inode.proofs.EdgeLaws.{filled_short}
-use Rattle.inode.proofs.FanLemmas.{past_used, pointer_low}
+use Rattle.inode.proofs.FanLemmas.{past_used}
 use Rattle.layout.proofs.PointerLaws.{points_below}
 pub use Rattle.layout.proofs.SizeLaws.{used_is}
 use Rattle.layout.proofs.ZeroLaws.{length-zeros}

@@ -4,10 +4,9 @@ use Rattle.std.specs.Prelude.{ℕ, zero, suc, ◌+◌, ◌-◌, ◌*◌, ◌/◌
 use Rattle.std.specs.Ordering.{nat_cmp}
 use Rattle.std.specs.BTreeMap as tree
 use Rattle.layout.specs.Trees.{greatest_size, level_of}
-use Rattle.layout.specs.declared.TheConstants.{BLOCK_POINTERS, BODY_POINTERS}
+use Rattle.layout.specs.declared.TheConstants.{BLOCK_POINTERS, BODY_POINTERS, SINGLE_BYTES}
 use Rattle.layout.specs.declared.trees.Layout.TheVariants.{Plain}
 use Rattle.model.specs.Room.{touched}
-use Rattle.model.specs.declared.limits.TheConstants.{SINGLE_FILE}
 use Rattle.blocktree.specs.Places.{block_count, depth_of}
 use Rattle.blocktree.specs.Trees.{slot_stores}
 use Rattle.blocktree.specs.declared.tree.BlockTree.{BlockTree}
@@ -72,7 +71,7 @@ StoresMore f w k = (new : File) → IsCommitted f w new → file_room new ≤ fi
 -- third height over its blocks then.
 abbrev pub write_room : ℕ → ℕ → ℕ → ℕ
 write_room size offset count =
-    2 * touched offset count + (if nat_lt SINGLE_FILE (max size (offset + count)) then 6 else 3)
+    2 * touched offset count + (if nat_lt SINGLE_BYTES (max size (offset + count)) then 6 else 3)
 
 -- and so much another size
 abbrev pub size_room : ℕ → ℕ → ℕ

@@ -7,6 +7,7 @@ use crate::{Numbers, ParentHint};
 use buffers::{BlockError, Blocks};
 use inode::{File, Object};
 use layout::{Geometry, INODES_PER_BLOCK, Inode, Kind};
+use model::Limits;
 use std::alloc::{AllocError, Global};
 use std::collections::BTreeMap;
 
@@ -46,6 +47,7 @@ ghost use Rattle.std.specs.Ordering.{nat_cmp};
 ghost use Rattle.std.specs.BTreeMap as tree;
 ghost use Rattle.layout.specs.Inode.{IsInode};
 ghost use Rattle.layout.specs.Limits.{Sizes};
+ghost use Rattle.layout.specs.StateLimits.{limits_of};
 ghost use Rattle.layout.specs.Trees.{greatest_size};
 ghost use Rattle.layout.specs.Version.{greatest_under};
 ghost use Rattle.layout.specs.declared.inode.Inode.{Inode};
@@ -270,11 +272,18 @@ impl InodeFile {
         self.numbers.next_free()
     }
 
+    /// The limits of its file system.
+    pub fn limits(&self) -> Limits
+        ensures { result ≡ limits_of self.now.geometry }
+    {
+        self.geometry.limits()
+    }
+
     /// How many numbers have an object, the root's among them.
     pub fn count_taken(&self) -> u32
         ensures { (detail : Detail) (count : ℕ) (disk : ℕ → List ℕ) (settled : ℕ → Inode)
             (v : Volume) → IsVolumeIn detail count disk settled self.now v
-            → IsVolume self.now.geometry.inodes v → Counts (λ n. IsSome (v n)) result }
+            → IsVolume (limits_of self.now.geometry) v → Counts (λ n. IsSome (v n)) result }
     {
         self.numbers.count_taken() + 1
     }

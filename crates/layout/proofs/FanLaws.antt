@@ -56,3 +56,12 @@ groups_all Summed count = omega arith
 pub fewer : (l : Layout) (m count : ℕ) → count ≤ 16 * (fan_out l * m) → div_ceil count (fan_out l) ≤ 16 * m
 fewer Plain m count le = omega (arith, le)
 fewer Summed m count le = omega (arith, le)
+
+-- a block has place for each pointer
+pub fan_most : (l : Layout) → fan_out l ≤ 1024
+fan_most Plain = omega arith
+fan_most Summed = omega arith
+
+pub pointer_low : (l : Layout) (i : ℕ) → i % fan_out l < 1024
+pointer_low Plain i = omega arith
+pointer_low Summed i = omega arith

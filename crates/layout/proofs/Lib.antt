@@ -2,6 +2,7 @@ pub mod ZeroLaws
 pub mod PartLaws
 pub mod PointerLaws
 pub mod FanLaws
+pub mod LimitLaws
 pub mod SizeLaws
 pub mod NumberLaws
 pub mod Formats

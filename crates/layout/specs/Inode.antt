@@ -3,13 +3,14 @@ use Rattle.std.specs.Prelude.{ℕ, zero, suc, ◌≡◌, ◌-◌, ◌*◌, ◌%�
 use Rattle.std.specs.Int.{div_ceil}
 use Rattle.model.specs.Attributes.{AreAttributes, no_attributes}
 use Rattle.model.specs.declared.attributes.Attributes.{Attributes}
-use Rattle.model.specs.declared.limits.TheConstants.{FILE_NAMES, LINK_MODE, PATH_BYTES}
+use Rattle.model.specs.declared.limits.TheConstants.{LINK_MODE}
 use Rattle.layout.specs.Bytes.{zeros}
 use Rattle.layout.specs.Format.{Format, num, part, blank, mode_bits, ◌▸◌}
 use Rattle.layout.specs.Limits.{Sizes, AreSizes}
 use Rattle.layout.specs.Trees.{fan_out, greatest_size, level_of}
 use Rattle.layout.specs.Pointer.{PointsBelow, pointers_bytes}
 use Rattle.layout.specs.declared.TheConstants.{BLOCK_BYTES, BODY_POINTERS, INLINE_BYTES, INODES_PER_BLOCK}
+use Rattle.layout.specs.declared.limits.TheConstants.{FILE_NAMES, PATH_BYTES}
 use Rattle.layout.specs.declared.kind.Kind.{Kind}
 use Rattle.layout.specs.declared.kind.Kind.TheVariants as kinds
 use Rattle.layout.specs.declared.inode.Body.{Body}

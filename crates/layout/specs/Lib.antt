@@ -16,6 +16,7 @@ pub mod Directory
 pub mod Maps
 pub mod Trees
 pub mod Version
+pub mod StateLimits
 pub mod SnapRoot
 pub mod Opens
 pub mod Places

@@ -5,6 +5,7 @@ use Rattle.layout.specs.Format.{Format, num, counted, mode_bits, ◌▸◌}
 use Rattle.model.specs.Paths.{IsName}
 pub use Rattle.model.specs.Records.{Made, file, directory, symbolic_link, Change, create, link, remove_name, rename, write, truncate, change_mode, set_file}
 use Rattle.layout.specs.LinkText.{IsLinkText}
+use Rattle.layout.specs.declared.limits.TheConstants.{PATH_BYTES}
 use Rattle.model.specs.declared.limits.TheConstants.{LINK_MODE, MODE_BITS, TRANSFER_BYTES}
 use Rattle.layout.specs.declared.record.NewObject.{NewObject}
 use Rattle.layout.specs.declared.record.NewObject.TheVariants as objects
@@ -73,7 +74,7 @@ change_bytes (set_file number mode size) = 8 ∷ set_file_fields.text (number, (
 abbrev pub KeepsMadeLimits : Made → Type 0
 KeepsMadeLimits (file mode) = Unit {0}
 KeepsMadeLimits (directory mode) = Unit {0}
-KeepsMadeLimits (symbolic_link text) = IsLinkText text
+KeepsMadeLimits (symbolic_link text) = IsLinkText PATH_BYTES text
 
 abbrev pub KeepsLimits : Change → Type 0
 KeepsLimits (create number parent made name) = KeepsMadeLimits made × IsName name

@@ -11,6 +11,7 @@ mod geometry;
 mod indirect;
 mod inode;
 mod kind;
+mod limits;
 mod log;
 mod maps;
 mod name;
@@ -33,6 +34,10 @@ pub use geometry::{
 };
 pub use inode::{Body, Inode};
 pub use kind::Kind;
+pub use limits::{
+    DIRECTORY_NAMES, FILE_COST, FILE_NAMES, GREAT_FILE_COST, HEADROOM_BLOCKS, MODE_COST, NAMES_COST,
+    ORPHAN_COST, PATH_BYTES, POINT_COST, costs_of,
+};
 pub use log::{
     CLOSED, EPOCH_AT, FIRST_GATE, Gate, HEADER_BYTES, HEADER_GATE, Header, LENGTH_BYTES, OPEN,
     RECORD_HEAD_BYTES, read_gate,

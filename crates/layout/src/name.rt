@@ -3,8 +3,10 @@
 ghost use Rattle.std.specs.Prelude.{◌↔◌, IsTrue};
 ghost use Rattle.model.specs.Paths.{IsName};
 ghost use Rattle.layout.specs.LinkText.{IsLinkText};
+ghost use Rattle.layout.specs.declared.limits.TheConstants.{PATH_BYTES};
 
-use model::{NAME_BYTES, PATH_BYTES};
+use crate::PATH_BYTES;
+use model::NAME_BYTES;
 
 /// Whether these bytes are a name in a directory: 1 to 255 bytes, none of them `/` or zero, and not
 /// `.` or `..`.
@@ -18,9 +20,9 @@ pub fn is_name(name: &[u8]) -> bool
         && name != b"..".as_slice()
 }
 
-/// Whether these bytes are the text of a symbolic link: 1 to 1,023 bytes, none of them zero.
+/// Whether these bytes may be the text of a symbolic link: 1 to 1,023 bytes, none of them zero.
 pub fn is_link_text(text: &[u8]) -> bool
-    ensures { IsTrue result ↔ IsLinkText text.now }
+    ensures { IsTrue result ↔ IsLinkText PATH_BYTES text.now }
 {
-    !text.is_empty() && text.len() <= PATH_BYTES && text.iter().all(|byte| *byte != 0)
+    !text.is_empty() && text.len() <= PATH_BYTES as usize && text.iter().all(|byte| *byte != 0)
 }

@@ -4,7 +4,6 @@ ghost use Rattle.std.specs.Prelude.{◌≡◌, ◌↔◌, IsTrue};
 ghost use Rattle.layout.specs.Version.{IsVersion, greatest_under, layout_of, snapshot_slots};
 
 use crate::{Layout, SINGLE_BYTES};
-use model::SNAPSHOTS;
 
 /// The first version, which is read only: the first consistency point over such a root writes the
 /// newest version.
@@ -21,7 +20,7 @@ pub const FIRST_SLOTS: usize = 20;
 
 /// The slots of snapshots in a root of the newest version: one for each that there may be. Those
 /// that a version doesn't have are free in it.
-pub const SNAPSHOT_SLOTS: usize = SNAPSHOTS;
+pub const SNAPSHOT_SLOTS: usize = 30;
 
 /// Whether this is a version that is read.
 pub fn is_version(version: u32) -> bool

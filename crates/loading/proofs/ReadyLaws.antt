@@ -1,6 +1,7 @@
 -- Images that hold a volume are readable.
 use Rattle.std.proofs.Common.{◌≡◌, ℕ, ap, sym, subst, ◌∙◌}
 use Rattle.std.specs.Prelude.{List}
+use Rattle.layout.specs.StateLimits.{limits_of}
 use Rattle.layout.specs.Places.{Blocks, pointed}
 use Rattle.layout.specs.SnapRoot.{Snapshot, snapshot_in}
 use Rattle.layout.specs.declared.kind.Kind.TheVariants as kinds
@@ -32,7 +33,7 @@ frozen_is disk r k s has =
     ∙ ap (tree disk r.geometry.inodes) (ap (inode_file_or_free r.geometry.layout) (ap (λ p. snapshot_in r.geometry.layout (pointed disk p)) (sym has.there) ∙ has.read)))
 
 pub frozen_readable : (disk : Blocks) (r : Root) (first : Volume) (snapshots : List (Name × Tree)) (k : ℕ) (s : Snapshot) (kept : Tree) → Holds r (whole disk r) first snapshots
-    → HasSnapshot r (whole disk r) k s → IsFrozenTree r.geometry.inodes ((whole disk r).frozen k) kept → IsReadable disk (record r { inode_file = s.inode_file })
+    → HasSnapshot r (whole disk r) k s → IsFrozenTree (limits_of r.geometry) ((whole disk r).frozen k) kept → IsReadable disk (record r { inode_file = s.inode_file })
 frozen_readable disk r first snapshots k s kept holds has frozen =
     let same = frozen_is disk r k s has in
     let t = (whole disk r).frozen k in

@@ -1,6 +1,7 @@
 //! A settled file as the layers below read it, and as images hold it.
 
 ghost use Rattle.std.specs.Prelude.{ℕ, ◌≡◌, List};
+ghost use Rattle.layout.specs.StateLimits.{limits_of};
 ghost use Rattle.layout.specs.Places.{Blocks};
 ghost use Rattle.layout.specs.Root.{IsRoot};
 ghost use Rattle.layout.specs.SnapRoot.{Snapshot};
@@ -68,7 +69,7 @@ pub fn snapshots_are_readable()
     ensures readable { (disk : Blocks) (r : Root) (first : Volume)
         (snapshots : List (Name × Tree)) (k : ℕ) (s : Snapshot) (tree : Tree)
         → Holds r (whole disk r) first snapshots → HasSnapshot r (whole disk r) k s
-        → IsFrozenTree r.geometry.inodes ((whole disk r).frozen k) tree
+        → IsFrozenTree (limits_of r.geometry) ((whole disk r).frozen k) tree
         → IsReadable disk (record r { inode_file = s.inode_file }) }
 {}
 

@@ -1,6 +1,7 @@
 -- A new image opens to an empty state.
 use Rattle.std.proofs.Common.{◌≡◌, inl, inr, ℕ, ◌*◌, ◌<◌, List, [], ◌∷◌, length, refl, ap, sym, ◌∙◌, subst, arith}
 use Rattle.std.specs.Prelude.{replicate, slice_index}
+use Rattle.layout.specs.StateLimits.{limits_of}
 use Rattle.station.specs.Images.{Images}
 use Rattle.model.specs.States.{empty}
 use Rattle.layout.specs.Limits.{Sizes}
@@ -76,9 +77,9 @@ module _ (s : Sizes) (p : Planned) (r : Root) (is : IsFirstPoint s p r) (c : Ima
 
     pub opens : sectors ≡ 8 * s.blocks → length c.nvram ≡ 2 * s.half
         → ((n : ℕ) (disk : ℕ → List ℕ) (nvram : List ℕ) (q : Root) → IsNewest q (disk SLOT_A) (disk SLOT_B) → n ≡ 8 * q.geometry.blocks → Holds q (whole (blocks_of disk) q) root_alone_volume []
-        → HasReserve q (whole (blocks_of disk) q) root_alone_volume [] → LogHolds q.geometry.half q.generation nvram [] → OpensBy n disk nvram (empty q.geometry.inodes) [])
-        → OpensBy sectors c.disk c.nvram (empty s.inodes) []
+        → HasReserve q (whole (blocks_of disk) q) root_alone_volume [] → LogHolds q.geometry.half q.generation nvram [] → OpensBy n disk nvram (empty (limits_of q.geometry)) [])
+        → OpensBy sectors c.disk c.nvram (empty (limits_of s)) []
     opens size nvram law =
-        subst (λ (t : Sizes). OpensBy sectors c.disk c.nvram (empty t.inodes) []) is.geometry
+        subst (λ (t : Sizes). OpensBy sectors c.disk c.nvram (empty (limits_of t)) []) is.geometry
         (law sectors c.disk c.nvram r newest (size ∙ ap (λ (t : Sizes). 8 * t.blocks) (sym is.geometry)) (is.holds (blocks_of c.disk) has_all) (is.room (blocks_of c.disk) has_all)
         (subst (λ (t : Sizes). LogHolds t.half r.generation c.nvram []) (sym is.geometry) (empty_log s.half r.generation c.nvram is.generation nvram closed)))

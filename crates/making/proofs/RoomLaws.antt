@@ -11,7 +11,7 @@ use Rattle.layout.specs.Trees.{single_bytes}
 use Rattle.layout.specs.declared.trees.Layout.{Layout}
 use Rattle.layout.specs.declared.trees.Layout.TheVariants.{Plain, Summed}
 use Rattle.layout.proofs.SizeLaws.{level_low}
-use Rattle.model.specs.Room.{fixed_of}
+use Rattle.layout.specs.StateLimits.{fixed_of}
 use Rattle.images.specs.Sums.{sum_below}
 use Rattle.images.proofs.SumLaws.{gap_counts, sum_of_none}
 use Rattle.blocktree.specs.Names.{nodes_at}

@@ -15,7 +15,7 @@ use Rattle.layout.specs.declared.root.Root.{Root}
 use Rattle.layout.specs.Version.{layout_of, snapshot_slots}
 use Rattle.layout.specs.declared.version.TheConstants.{SNAPSHOT_SLOTS, VERSION}
 use Rattle.model.specs.Records.{count_orphans}
-use Rattle.model.specs.Room.{fixed_of}
+use Rattle.layout.specs.StateLimits.{fixed_of}
 use Rattle.model.specs.Volumes.{is_orphan}
 use Rattle.conspoint.specs.Drafts.{HasAll}
 use Rattle.conspoint.specs.declared.draft.Draft.{Draft}

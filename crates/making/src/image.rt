@@ -1,6 +1,7 @@
 //! Making an image.
 
 ghost use Rattle.std.specs.Prelude.{◌≡◌, IfOk, IfErr, MatchResult};
+ghost use Rattle.layout.specs.StateLimits.{limits_of};
 ghost use Rattle.station.specs.Moments.{IsSameStation, HasGrown, EachCut};
 ghost use Rattle.model.specs.States.{empty};
 ghost use Rattle.conspoint.specs.Cuts.{HasNewRoot};
@@ -42,8 +43,8 @@ pub fn make<S: Station>(
         (λ e. IsSameStation (S.meaning station) (S.meaning e.1)) }
     ensures made { IfOk result (λ made. EachCut
         (S.meaning made) (HoldsMade (new_sizes blocks inodes half))) }
-    ensures opens { IfOk result (λ made. EachCut
-        (S.meaning made) (OpensAlone (S.meaning made) (empty inodes))) }
+    ensures opens { let limits = limits_of (new_sizes blocks inodes half) in IfOk result
+        (λ made. EachCut (S.meaning made) (OpensAlone (S.meaning made) (empty limits))) }
 {
     first_images_open_to_the_empty_state();
     let Some(geometry) = Geometry::new(layout_of(VERSION), blocks, inodes, half) else {

@@ -14,6 +14,7 @@ use Rattle.model.specs.Reading.{stats, lists}
 use Rattle.model.specs.Changing.{makes_directory, makes_symlink, removes_directory, links, renames}
 use Rattle.model.specs.Descriptors.{opens, closes, stats_open}
 use Rattle.model.proofs.ToldLemmas.{Told, told_root, told_object, told_descriptor, told_directory, told_file, told_moved, moved_paths, told_dropped, dropped, listing_told, fresh_told, swept_told, links_told, used_below}
+use Rattle.model.proofs.ExampleLimits.{limits}
 
 abbrev pub fresh : Tree
 fresh = root_alone 0o755
@@ -62,17 +63,17 @@ with_a = with_directory at_a 4 0o755 fresh
 pub with_a_is : Told with_a (at_a ∷ [] ∷ []) [] (4 ∷ 3 ∷ [])
 with_a_is = told_directory fresh_is at_a 4 0o755
 
-makes_a : makes_directory 32 fresh (codes "/a") 0o755 reply.Done with_a (logs adds_name)
-makes_a = ([], listing_told fresh_is [] [] refl, (Some 4, fresh_told fresh_is 32 0 (lit≤ tt) refl refl, (refl, refl, refl)))
+makes_a : makes_directory limits fresh (codes "/a") 0o755 reply.Done with_a (logs adds_name)
+makes_a = ([], listing_told fresh_is [] [] refl, (Some 4, fresh_told fresh_is limits 0 (lit≤ tt) refl refl, (refl, refl, refl)))
 
-lists_a : lists with_a (codes "/") (reply.Names (codes "a" ∷ [])) with_a nothing
+lists_a : lists limits with_a (codes "/") (reply.Names (codes "a" ∷ [])) with_a nothing
 lists_a = (codes "a" ∷ [], listing_told with_a_is [] (codes "a" ∷ []) refl, (refl, refl, refl))
 
-makes_a_again : makes_directory 32 with_a (codes "/a") 0o755 (reply.Refused EEXIST) with_a nothing
+makes_a_again : makes_directory limits with_a (codes "/a") 0o755 (reply.Refused EEXIST) with_a nothing
 makes_a_again = (refl, refl, refl)
 
-a_name_of_255_bytes : makes_directory 32 fresh (codes "/" ++ replicate 255 97) 0o755 reply.Done (with_directory (replicate 255 97 ∷ []) 4 0o755 fresh) (logs adds_name)
-a_name_of_255_bytes = ([], listing_told fresh_is [] [] refl, (Some 4, fresh_told fresh_is 32 0 (lit≤ tt) refl refl, (refl, refl, refl)))
+a_name_of_255_bytes : makes_directory limits fresh (codes "/" ++ replicate 255 97) 0o755 reply.Done (with_directory (replicate 255 97 ∷ []) 4 0o755 fresh) (logs adds_name)
+a_name_of_255_bytes = ([], listing_told fresh_is [] [] refl, (Some 4, fresh_told fresh_is limits 0 (lit≤ tt) refl refl, (refl, refl, refl)))
 
 -- `mkdir /d04` to `/d31`: the last takes the last number, and the next finds none
 
@@ -99,10 +100,10 @@ abbrev names_from : ℕ → ℕ → List Name
 names_from n zero = []
 names_from n (suc k) = numbered n ∷ names_from (n + 1) k
 
-the_last_number : makes_directory 32 (many 27) (codes "/d31") 0o755 reply.Done (many 28) (logs adds_name)
-the_last_number = (names_from 4 27, listing_told (many_are 27) [] (names_from 4 27) refl, (Some 31, fresh_told (many_are 27) 32 27 (lit≤ tt) refl refl, (refl, refl, refl)))
+the_last_number : makes_directory limits (many 27) (codes "/d31") 0o755 reply.Done (many 28) (logs adds_name)
+the_last_number = (names_from 4 27, listing_told (many_are 27) [] (names_from 4 27) refl, (Some 31, fresh_told (many_are 27) limits 27 (lit≤ tt) refl refl, (refl, refl, refl)))
 
-no_number_is_left : makes_directory 32 (many 28) (codes "/d32") 0o755 (reply.Refused NONUMBER) (many 28) nothing
+no_number_is_left : makes_directory limits (many 28) (codes "/d32") 0o755 (reply.Refused NONUMBER) (many 28) nothing
 no_number_is_left = (names_from 4 28, listing_told (many_are 28) [] (names_from 4 28) refl, (None, used_below (many 28) (many_paths 28) [] 28 refl, (refl, refl, refl)))
 
 -- `mkdir /a`, `mkdir /a/b`, `mkdir /c`, `rename /a /c`: `/a` replaces the empty directory, whose number is free again
@@ -116,7 +117,7 @@ three_are = told_directory (told_directory with_a_is at_a_b 5 0o755) at_c 6 0o75
 abbrev replaced : Tree
 replaced = dropped 6 (moved at_a at_c three)
 
-replaces : renames three false (codes "/a") (codes "/c") reply.Done replaced (logs adds_name)
+replaces : renames limits three false (codes "/a") (codes "/c") reply.Done replaced (logs adds_name)
 replaces = ([], listing_told three_are at_c [] refl, (refl, swept_told (told_moved three_are at_a at_c) 6 refl refl, refl))
 
 abbrev replaced_paths : List Path
@@ -125,29 +126,29 @@ replaced_paths = moved_paths at_a at_c (at_c ∷ at_a_b ∷ at_a ∷ [] ∷ [])
 replaced_is : Told replaced replaced_paths [] (6 ∷ 5 ∷ 4 ∷ 3 ∷ [])
 replaced_is = told_dropped (told_moved three_are at_a at_c) 6
 
-lists_the_root : lists replaced (codes "/") (reply.Names (codes "c" ∷ [])) replaced nothing
+lists_the_root : lists limits replaced (codes "/") (reply.Names (codes "c" ∷ [])) replaced nothing
 lists_the_root = (codes "c" ∷ [], listing_told replaced_is [] (codes "c" ∷ []) refl, (refl, refl, refl))
 
-lists_what_moved : lists replaced (codes "/c") (reply.Names (codes "b" ∷ [])) replaced nothing
+lists_what_moved : lists limits replaced (codes "/c") (reply.Names (codes "b" ∷ [])) replaced nothing
 lists_what_moved = (codes "b" ∷ [], listing_told replaced_is at_c (codes "b" ∷ []) refl, (refl, refl, refl))
 
 abbrev with_e : Tree
 with_e = with_directory at_e 6 0o755 replaced
 
-number_again : makes_directory 32 replaced (codes "/e") 0o755 reply.Done with_e (logs adds_name)
-number_again = (codes "c" ∷ [], listing_told replaced_is [] (codes "c" ∷ []) refl, (Some 6, fresh_told replaced_is 32 2 (lit≤ tt) refl refl, (refl, refl, refl)))
+number_again : makes_directory limits replaced (codes "/e") 0o755 reply.Done with_e (logs adds_name)
+number_again = (codes "c" ∷ [], listing_told replaced_is [] (codes "c" ∷ []) refl, (Some 6, fresh_told replaced_is limits 2 (lit≤ tt) refl refl, (refl, refl, refl)))
 
 with_e_is : Told with_e (at_e ∷ replaced_paths) [] (6 ∷ 6 ∷ 5 ∷ 4 ∷ 3 ∷ [])
 with_e_is = told_directory replaced_is at_e 6 0o755
 
-onto_what_isn't_empty : renames with_e false (codes "/e") (codes "/c") (reply.Refused ENOTEMPTY) with_e nothing
+onto_what_isn't_empty : renames limits with_e false (codes "/e") (codes "/c") (reply.Refused ENOTEMPTY) with_e nothing
 onto_what_isn't_empty = (codes "b" ∷ [], listing_told with_e_is at_c (codes "b" ∷ []) refl, (refl, refl, refl))
 
 abbrev with_l : Tree
 with_l = with_object at_l (symlink 7 (codes "c/../c/b")) with_e
 
-makes_l : makes_symlink 32 with_e (codes "c/../c/b") (codes "/l") reply.Done with_l (logs adds_name)
-makes_l = (codes "c" ∷ codes "e" ∷ [], listing_told with_e_is [] (codes "c" ∷ codes "e" ∷ []) refl, (Some 7, fresh_told with_e_is 32 3 (lit≤ tt) refl refl, (refl, refl, refl)))
+makes_l : makes_symlink limits with_e (codes "c/../c/b") (codes "/l") reply.Done with_l (logs adds_name)
+makes_l = (codes "c" ∷ codes "e" ∷ [], listing_told with_e_is [] (codes "c" ∷ codes "e" ∷ []) refl, (Some 7, fresh_told with_e_is limits 3 (lit≤ tt) refl refl, (refl, refl, refl)))
 
 with_l_is : Told with_l (at_l ∷ at_e ∷ replaced_paths) [] (6 ∷ 6 ∷ 5 ∷ 4 ∷ 3 ∷ [])
 with_l_is = told_object with_e_is at_l (Some (symlink 7 (codes "c/../c/b")))
@@ -155,10 +156,10 @@ with_l_is = told_object with_e_is at_l (Some (symlink 7 (codes "c/../c/b")))
 abbrev without_b : Tree
 without_b = dropped 5 (without_object at_c_b with_l)
 
-removes_b : removes_directory with_l (codes "/c/b") reply.Done without_b (logs removes_name)
+removes_b : removes_directory limits with_l (codes "/c/b") reply.Done without_b (logs removes_name)
 removes_b = ([], listing_told with_l_is at_c_b [] refl, (refl, swept_told (told_object with_l_is at_c_b None) 5 refl refl, refl))
 
-the_link_dangles : stats without_b true (codes "/l") (reply.Refused ENOENT) without_b nothing
+the_link_dangles : stats limits without_b true (codes "/l") (reply.Refused ENOENT) without_b nothing
 the_link_dangles = (refl, refl, refl)
 
 -- `mkdir /d`, `open /x wc`, `link /x /y`, `list /`, `fstat 0`
@@ -178,8 +179,8 @@ with_x = with_descriptor 0 (Some (written_by 5)) (with_file at_x 5 0o644 with_d)
 with_d_is : Told with_d (at_d ∷ [] ∷ []) [] (4 ∷ 3 ∷ [])
 with_d_is = told_directory fresh_is at_d 4 0o755
 
-opens_x : opens false 32 32 with_d (codes "/x") writing 0o644 (reply.Fd 0) with_x (logs adds_name)
-opens_x = (codes "d" ∷ [], listing_told with_d_is [] (codes "d" ∷ []) refl, (Some 5, fresh_told with_d_is 32 1 (lit≤ tt) refl refl, (refl, refl, refl)))
+opens_x : opens false 32 limits with_d (codes "/x") writing 0o644 (reply.Fd 0) with_x (logs adds_name)
+opens_x = (codes "d" ∷ [], listing_told with_d_is [] (codes "d" ∷ []) refl, (Some 5, fresh_told with_d_is limits 1 (lit≤ tt) refl refl, (refl, refl, refl)))
 
 with_x_is : Told with_x (at_x ∷ at_d ∷ [] ∷ []) (0 ∷ []) (5 ∷ 5 ∷ 4 ∷ 3 ∷ [])
 with_x_is = told_descriptor (told_file with_d_is at_x 5 0o644) 0 (Some (written_by 5))
@@ -187,13 +188,13 @@ with_x_is = told_descriptor (told_file with_d_is at_x 5 0o644) 0 (Some (written_
 abbrev with_y : Tree
 with_y = with_object at_y (file 5) with_x
 
-links_y : links with_x (codes "/x") (codes "/y") reply.Done with_y (logs adds_name)
+links_y : links limits with_x (codes "/x") (codes "/y") reply.Done with_y (logs adds_name)
 links_y = (1, links_told with_x_is 5 (at_x ∷ []) refl refl refl, (codes "d" ∷ codes "x" ∷ [], listing_told with_x_is [] (codes "d" ∷ codes "x" ∷ []) refl, (refl, refl, refl)))
 
 with_y_is : Told with_y (at_y ∷ at_x ∷ at_d ∷ [] ∷ []) (0 ∷ []) (5 ∷ 5 ∷ 4 ∷ 3 ∷ [])
 with_y_is = told_object with_x_is at_y (Some (file 5))
 
-lists_both : lists with_y (codes "/") (reply.Names (codes "d" ∷ codes "x" ∷ codes "y" ∷ [])) with_y nothing
+lists_both : lists limits with_y (codes "/") (reply.Names (codes "d" ∷ codes "x" ∷ codes "y" ∷ [])) with_y nothing
 lists_both = (codes "d" ∷ codes "x" ∷ codes "y" ∷ [], listing_told with_y_is [] (codes "d" ∷ codes "x" ∷ codes "y" ∷ []) refl, (refl, refl, refl))
 
 two_links : stats_open with_y 0 (reply.Stat (record { number = 5; kind = kind.File; mode = 0o644; links = 2; size = 0 })) with_y nothing
@@ -210,8 +211,8 @@ used_by n = record { number = n; offset = 0; reads = true; writes = true; append
 abbrev with_f : Tree
 with_f = with_descriptor 0 (Some (used_by 4)) (with_file at_f 4 0o644 fresh)
 
-opens_f : opens false 32 32 fresh (codes "/f") both_ways_new 0o644 (reply.Fd 0) with_f (logs adds_name)
-opens_f = ([], listing_told fresh_is [] [] refl, (Some 4, fresh_told fresh_is 32 0 (lit≤ tt) refl refl, (refl, refl, refl)))
+opens_f : opens false 32 limits fresh (codes "/f") both_ways_new 0o644 (reply.Fd 0) with_f (logs adds_name)
+opens_f = ([], listing_told fresh_is [] [] refl, (Some 4, fresh_told fresh_is limits 0 (lit≤ tt) refl refl, (refl, refl, refl)))
 
 abbrev without_f : Tree
 without_f = without_object at_f with_f
@@ -222,8 +223,8 @@ without_f_is = told_object (told_descriptor (told_file fresh_is at_f 4 0o644) 0 
 abbrev with_g : Tree
 with_g = with_descriptor 1 (Some (used_by 5)) (with_file at_g 5 0o644 without_f)
 
-opens_g : opens false 32 32 without_f (codes "/g") both_ways_new 0o644 (reply.Fd 1) with_g (logs adds_name)
-opens_g = ([], listing_told without_f_is [] [] refl, (Some 5, fresh_told without_f_is 32 1 (lit≤ tt) refl refl, (refl, refl, refl)))
+opens_g : opens false 32 limits without_f (codes "/g") both_ways_new 0o644 (reply.Fd 1) with_g (logs adds_name)
+opens_g = ([], listing_told without_f_is [] [] refl, (Some 5, fresh_told without_f_is limits 1 (lit≤ tt) refl refl, (refl, refl, refl)))
 
 with_g_is : Told with_g (at_g ∷ at_f ∷ at_f ∷ [] ∷ []) (1 ∷ 0 ∷ []) (5 ∷ 5 ∷ 4 ∷ 4 ∷ 3 ∷ [])
 with_g_is = told_descriptor (told_file without_f_is at_g 5 0o644) 1 (Some (used_by 5))

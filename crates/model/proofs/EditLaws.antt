@@ -1,7 +1,6 @@
 -- How many bytes a file has behind an edit.
 use Rattle.std.proofs.Common.{◌≡◌, ℕ, ◌+◌, ◌-◌, ◌≤◌, List, ◌++◌, length, take, drop, replicate, sym, ap, subst, ◌∙◌, length-append, length-take, length-drop, arith}
 use Rattle.std.proofs.lemmas.List.{length-replicate}
-use Rattle.model.specs.declared.limits.TheConstants.{GREATEST_FILE}
 use Rattle.model.specs.Edits.{resized, written}
 
 pub length-resized : (size : ℕ) (bytes : List ℕ) → length (resized size bytes) ≡ size
@@ -14,5 +13,5 @@ length-written offset given bytes =
     ∙ ap (λ k. k + length rest) (length-append (resized offset bytes) given ∙ ap (λ k. k + length given) (length-resized offset bytes))
     ∙ ap (λ k. (offset + length given) + k) (length-drop (offset + length given) bytes)
 
-pub written_short : (offset : ℕ) (given bytes : List ℕ) → offset + length given ≤ GREATEST_FILE → length bytes ≤ GREATEST_FILE → length (written offset given bytes) ≤ GREATEST_FILE
-written_short offset given bytes few short = subst (λ k. k ≤ GREATEST_FILE) (sym (length-written offset given bytes)) (omega (arith, few, short))
+pub written_short : {most : ℕ} (offset : ℕ) (given bytes : List ℕ) → offset + length given ≤ most → length bytes ≤ most → length (written offset given bytes) ≤ most
+written_short {most} offset given bytes few short = subst (λ k. k ≤ most) (sym (length-written offset given bytes)) (omega (arith, few, short))

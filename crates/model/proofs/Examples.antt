@@ -24,6 +24,7 @@ use Rattle.model.specs.Descriptors.{opens, reads, writes, writes_to, reads_from,
 use Rattle.model.specs.Reading.{reads_link, lists}
 use Rattle.model.specs.States.{State, empty}
 use Rattle.model.specs.Steps.{WouldStep}
+use Rattle.model.proofs.ExampleLimits.{costs, limits}
 
 abbrev name_a : Name
 name_a = codes "a"
@@ -51,28 +52,28 @@ small =
 moved_with_it : ((moved (name_a ∷ []) (name_c ∷ []) small).objects (name_c ∷ name_b ∷ []) ≡ Some (directory 5)) × ((moved (name_a ∷ []) (name_c ∷ []) small).objects (name_a ∷ name_b ∷ []) ≡ None)
 moved_with_it = (refl, refl)
 
-below_itself : renames small false (codes "/a") (codes "/a/b/c") (reply.Refused EINVAL) small nothing
+below_itself : renames limits small false (codes "/a") (codes "/a/b/c") (reply.Refused EINVAL) small nothing
 below_itself = (refl, refl, refl)
 
-onto_itself : renames small false (codes "/a") (codes "/a/../a") reply.Done small nothing
+onto_itself : renames limits small false (codes "/a") (codes "/a/../a") reply.Done small nothing
 onto_itself = (refl, refl, refl)
 
-file_onto_directory : renames small false (codes "/f") (codes "/a/b") (reply.Refused EISDIR) small nothing
+file_onto_directory : renames limits small false (codes "/f") (codes "/a/b") (reply.Refused EISDIR) small nothing
 file_onto_directory = (refl, refl, refl)
 
-directory_onto_file : renames small false (codes "/a") (codes "/f") (reply.Refused ENOTDIR) small nothing
+directory_onto_file : renames limits small false (codes "/a") (codes "/f") (reply.Refused ENOTDIR) small nothing
 directory_onto_file = (refl, refl, refl)
 
-rename_of_root : renames small false (codes "/") (codes "/a") (reply.Refused EBUSY) small nothing
+rename_of_root : renames limits small false (codes "/") (codes "/a") (reply.Refused EBUSY) small nothing
 rename_of_root = (refl, refl, refl)
 
-unlink_directory : unlinks small (codes "/a") (reply.Refused EPERM) small nothing
+unlink_directory : unlinks limits small (codes "/a") (reply.Refused EPERM) small nothing
 unlink_directory = (refl, refl, refl)
 
-rmdir_of_file : removes_directory small (codes "/f") (reply.Refused ENOTDIR) small nothing
+rmdir_of_file : removes_directory limits small (codes "/f") (reply.Refused ENOTDIR) small nothing
 rmdir_of_file = (refl, refl, refl)
 
-link_over_name : links small (codes "/f") (codes "/a") (reply.Refused EEXIST) small nothing
+link_over_name : links limits small (codes "/f") (codes "/a") (reply.Refused EEXIST) small nothing
 link_over_name = (refl, refl, refl)
 
 -- bytes
@@ -95,32 +96,32 @@ reads_on = (refl, refl, refl)
 reads_from_start : reads_from small 0 (pos 0) 2 (reply.Data (97 ∷ 98 ∷ [])) small nothing
 reads_from_start = (refl, refl, refl)
 
-writes_nothing : writes small 0 [] (reply.Wrote 0) small nothing
+writes_nothing : writes limits small 0 [] (reply.Wrote 0) small nothing
 writes_nothing = (refl, refl, refl)
 
-writes_on : writes small 0 (1 ∷ 2 ∷ []) (reply.Wrote 2) (with_descriptor 0 (Some (opened 4)) (with_bytes 6 (97 ∷ 98 ∷ 1 ∷ 2 ∷ []) small)) (logs (puts_bytes 3 2 2))
+writes_on : writes limits small 0 (1 ∷ 2 ∷ []) (reply.Wrote 2) (with_descriptor 0 (Some (opened 4)) (with_bytes 6 (97 ∷ 98 ∷ 1 ∷ 2 ∷ []) small)) (logs (puts_bytes 3 2 2))
 writes_on = (refl, refl, refl)
 
 abbrev appends : Tree
 appends = with_descriptor 0 (Some (record (opened 0) { appends = true })) small
 
 -- under append: behind the last byte, wherever the offset is
-writes_behind : writes appends 0 (1 ∷ []) (reply.Wrote 1) (with_descriptor 0 (Some (record (opened 4) { appends = true })) (with_bytes 6 (97 ∷ 98 ∷ 99 ∷ 1 ∷ []) appends)) (logs (puts_bytes 3 3 1))
+writes_behind : writes limits appends 0 (1 ∷ []) (reply.Wrote 1) (with_descriptor 0 (Some (record (opened 4) { appends = true })) (with_bytes 6 (97 ∷ 98 ∷ 99 ∷ 1 ∷ []) appends)) (logs (puts_bytes 3 3 1))
 writes_behind = (refl, refl, refl)
 
-too_far : writes_to small 0 (pos 68719476735) (0 ∷ 0 ∷ []) (reply.Refused EFBIG) small nothing
+too_far : writes_to limits small 0 (pos 68719476735) (0 ∷ 0 ∷ []) (reply.Refused EFBIG) small nothing
 too_far = (refl, refl, refl)
 
-before_the_start : writes_to small 0 (negsuc 0) [] (reply.Refused EINVAL) small nothing
+before_the_start : writes_to limits small 0 (negsuc 0) [] (reply.Refused EINVAL) small nothing
 before_the_start = (refl, refl, refl)
 
-truncates_to_two : truncates small (codes "/f") (pos 2) reply.Done (with_bytes 6 (97 ∷ 98 ∷ []) small) (logs (changes_size 3 2))
+truncates_to_two : truncates limits small (codes "/f") (pos 2) reply.Done (with_bytes 6 (97 ∷ 98 ∷ []) small) (logs (changes_size 3 2))
 truncates_to_two = (refl, refl, refl)
 
-truncates_to_five : truncates_open small 0 (pos 5) reply.Done (with_bytes 6 (97 ∷ 98 ∷ 99 ∷ 0 ∷ 0 ∷ []) small) (logs (changes_size 3 5))
+truncates_to_five : truncates_open limits small 0 (pos 5) reply.Done (with_bytes 6 (97 ∷ 98 ∷ 99 ∷ 0 ∷ 0 ∷ []) small) (logs (changes_size 3 5))
 truncates_to_five = (refl, refl, refl)
 
-truncates_to_same : truncates_open small 0 (pos 3) reply.Done small nothing
+truncates_to_same : truncates_open limits small 0 (pos 3) reply.Done small nothing
 truncates_to_same = (refl, refl, refl)
 
 seeks_to_the_end : seeks small 0 whence.End (negsuc 0) (reply.At 2) (with_descriptor 0 (Some (opened 2)) small) nothing
@@ -139,30 +140,30 @@ abbrev plainly : Flags
 plainly = record { access = access.Both; creates = false; exclusive = false; truncates = false; appends = false }
 
 -- the lowest free descriptor
-opens_again : opens false 32 32 small (codes "/f") plainly 0o644 (reply.Fd 1) (with_descriptor 1 (Some (opened 0)) small) nothing
+opens_again : opens false 32 limits small (codes "/f") plainly 0o644 (reply.Fd 1) (with_descriptor 1 (Some (opened 0)) small) nothing
 opens_again = (refl, refl, refl)
 
-opens_directory : opens false 32 32 small (codes "/a") plainly 0o644 (reply.Refused EISDIR) small nothing
+opens_directory : opens false 32 limits small (codes "/a") plainly 0o644 (reply.Refused EISDIR) small nothing
 opens_directory = (refl, refl, refl)
 
-truncates_what_it_reads : opens false 32 32 small (codes "/x") (record plainly { access = access.Reading; truncates = true }) 0o644 (reply.Refused EINVAL) small nothing
+truncates_what_it_reads : opens false 32 limits small (codes "/x") (record plainly { access = access.Reading; truncates = true }) 0o644 (reply.Refused EINVAL) small nothing
 truncates_what_it_reads = (refl, refl, refl)
 
-opens_exclusively : opens false 32 32 small (codes "/f") (record plainly { creates = true; exclusive = true }) 0o644 (reply.Refused EEXIST) small nothing
+opens_exclusively : opens false 32 limits small (codes "/f") (record plainly { creates = true; exclusive = true }) 0o644 (reply.Refused EEXIST) small nothing
 opens_exclusively = (refl, refl, refl)
 
-opens_and_truncates : opens false 32 32 small (codes "/f") (record plainly { truncates = true }) 0o644 (reply.Fd 1) (with_descriptor 1 (Some (opened 0)) (with_bytes 6 [] small)) (logs (changes_size 3 0))
+opens_and_truncates : opens false 32 limits small (codes "/f") (record plainly { truncates = true }) 0o644 (reply.Fd 1) (with_descriptor 1 (Some (opened 0)) (with_bytes 6 [] small)) (logs (changes_size 3 0))
 opens_and_truncates = (refl, refl, refl)
 
 abbrev full : Room
-full = record { blocks = 64; free = 60; pledged = 0; is_covered = true; orphans_of = λ name. 0; stored = λ n k. false }
+full = record { costs = costs; blocks = 64; free = 60; pledged = 0; is_covered = true; orphans_of = λ name. 0; stored = λ n k. false }
 
 -- states
-no_snapshot : WouldStep full (empty 32) (command.Within (codes "t") (call.Mkdir (codes "/x") 0o755)) (reply.Refused NOSNAP) (empty 32) nothing
+no_snapshot : WouldStep full (empty limits) (command.Within (codes "t") (call.Mkdir (codes "/x") 0o755)) (reply.Refused NOSNAP) (empty limits) nothing
 no_snapshot = (refl, refl, refl)
 
 abbrev kept : State
-kept = record (empty 32) { snapshots = (codes "s", small) ∷ [] }
+kept = record (empty limits) { snapshots = (codes "s", small) ∷ [] }
 
 view_is_read_only : WouldStep full kept (command.Within (codes "s") (call.Mkdir (codes "x") 0o755)) (reply.Refused EROFS) kept nothing
 view_is_read_only = (refl, refl, refl)
@@ -176,7 +177,7 @@ bad_name = (refl, refl, refl)
 free_room : WouldStep full kept command.Df (reply.Space 64 60 0) kept nothing
 free_room = (refl, refl, refl)
 
-deleted : WouldStep full kept (command.SnapDelete (codes "s")) reply.Done (empty 32) nothing
+deleted : WouldStep full kept (command.SnapDelete (codes "s")) reply.Done (empty limits) nothing
 deleted = (refl, refl, refl)
 
 -- `/a`, and links `/x` to `/a`, `/xx` to `x`, and so on: nine of them
@@ -190,10 +191,10 @@ eight_links = refl
 nine_links : resolve (chain 9) true (codes "/" ++ replicate 9 120) ≡ refused ELOOP
 nine_links = refl
 
-chmod_of_nine : changes_mode (chain 9) (codes "/" ++ replicate 9 120) 0o700 (reply.Refused ELOOP) (chain 9) nothing
+chmod_of_nine : changes_mode limits (chain 9) (codes "/" ++ replicate 9 120) 0o700 (reply.Refused ELOOP) (chain 9) nothing
 chmod_of_nine = (refl, refl, refl)
 
-reads_the_ninth : reads_link (chain 9) (codes "/" ++ replicate 9 120) (reply.Text (replicate 8 120)) (chain 9) nothing
+reads_the_ninth : reads_link limits (chain 9) (codes "/" ++ replicate 9 120) (reply.Text (replicate 8 120)) (chain 9) nothing
 reads_the_ninth = (refl, refl, refl)
 
 -- the file `/f`, number 4, is open
@@ -224,7 +225,7 @@ file_used : IsUsed orphans 4
 file_used = inr (0, record (opened 0) { number = 4 }, refl, refl)
 
 -- an orphan that is open keeps its bytes
-unlink_open : unlinks tiny (codes "/f") reply.Done orphans (logs removes_name)
+unlink_open : unlinks limits tiny (codes "/f") reply.Done orphans (logs removes_name)
 unlink_open = (
   refl,
   record {
@@ -244,7 +245,7 @@ used_number n (inl (p, o, is, same)) = inl (sym same ∙ ap number_of_object (on
 used_number n (inr (d, g, is, same)) = inr (sym same ∙ open_is d g is)
 
 -- its number isn't given again while it is open
-next_number : IsFresh 32 orphans 5
+next_number : IsFresh limits orphans 5
 next_number = record {
   low = lit≤ tt;
   high = lit≤ tt;
@@ -271,7 +272,7 @@ close_last = (
 )
 
 -- and its number is given again
-number_again : IsFresh 32 closed 4
+number_again : IsFresh limits closed 4
 number_again = record {
   low = lit≤ tt;
   high = lit≤ tt;
@@ -298,5 +299,5 @@ root_names : IsListing small [] in_root
 unfolding IsStrictlySortedBy
 root_names = record { sorted = ((refl, tt), (tt, tt)); whole = λ name. ((λ (k, below, is). listed_there name k below is), there_listed name) }
 
-lists_root : lists small (codes "/") (reply.Names in_root) small nothing
+lists_root : lists limits small (codes "/") (reply.Names in_root) small nothing
 lists_root = (in_root, root_names, (refl, refl, refl))

@@ -3,6 +3,7 @@ use Rattle.std.proofs.Common.{◌≡◌, ◌⊎◌, inl, inr, ℕ, zero, suc, �
 use Rattle.std.specs.Prelude.{[], length, unwrap_or, if◌then◌else◌, IsTrue, IsFalse}
 use Rattle.std.proofs.Math.Path.{fun_ext}
 use Rattle.std.proofs.lemmas.Bool.{false≢true}
+use Rattle.model.specs.declared.limits.Limits.{Limits}
 use Rattle.model.specs.declared.limits.TheConstants.{OPEN_FILES}
 use Rattle.model.specs.Counting.{Counts}
 use Rattle.model.specs.Paths.{Name}
@@ -52,8 +53,8 @@ module _ (v w : Volume) (extends : Extends v w) where
   still_directory : (n : ℕ) → IsTrue (is_directory_node (v n)) → IsTrue (is_directory_node (w n))
   still_directory n is = ap is_directory_node (directory_kept n is) ∙ is
 
-  takes_too : (d : ℕ) (x : Name) → TakesName v d x → TakesName w d x
-  takes_too d x takes = record {
+  takes_too : (limits : Limits) (d : ℕ) (x : Name) → TakesName limits v d x → TakesName limits w d x
+  takes_too limits d x takes = record {
     directory = still_directory d takes.directory;
     missing = same_names d x ∙ takes.missing;
     name = takes.name;
@@ -142,40 +143,40 @@ module _ (v w : Volume) (extends : Extends v w) where
       vacant_kind (Some (file_node attributes links bytes)) vacant = refl
       vacant_kind (Some (link_node attributes text)) vacant = refl
 
-  replaces_too : (d k : ℕ) (y : Name) (n : ℕ) (o : Option ℕ) → CanReplace v d k y n o → CanReplace w d k y n o
-  replaces_too d k y n None (inl same) = inl same
-  replaces_too d k y n None (inr takes) = inr (takes_too k y takes)
-  replaces_too d k y n (Some m) (other, kind, empty) = (other, same_kind m ∙ kind ∙ sym (same_kind n), empty_too m empty)
+  replaces_too : (limits : Limits) (d k : ℕ) (y : Name) (n : ℕ) (o : Option ℕ) → CanReplace limits v d k y n o → CanReplace limits w d k y n o
+  replaces_too limits d k y n None (inl same) = inl same
+  replaces_too limits d k y n None (inr takes) = inr (takes_too limits k y takes)
+  replaces_too limits d k y n (Some m) (other, kind, empty) = (other, same_kind m ∙ kind ∙ sym (same_kind n), empty_too m empty)
 
-  pub applies_too : (inodes : ℕ) (change : Change) → Applies inodes v change → Applies inodes w change
-  applies_too inodes (create number parent made name) can = record {
+  pub applies_too : (limits : Limits) (change : Change) → Applies limits v change → Applies limits w change
+  applies_too limits (create number parent made name) can = record {
     low = can.low;
     high = can.high;
     vacant = vacant_too number can.vacant;
-    takes = takes_too parent name can.takes;
+    takes = takes_too limits parent name can.takes;
     good = can.good;
   }
-  applies_too inodes (link number parent name) can = record {
+  applies_too limits (link number parent name) can = record {
     attributes = can.attributes;
     links = can.links;
     bytes = can.bytes;
     file = extends.kept number (ap is_some can.file) ∙ can.file;
     few = can.few;
-    takes = takes_too parent name can.takes;
+    takes = takes_too limits parent name can.takes;
   }
-  applies_too inodes (remove_name parent name) can = record { number = can.number; there = same_names parent name ∙ can.there; empty = empty_too can.number can.empty }
-  applies_too inodes (rename parent name new_parent new_name) can = record {
+  applies_too limits (remove_name parent name) can = record { number = can.number; there = same_names parent name ∙ can.there; empty = empty_too can.number can.empty }
+  applies_too limits (rename parent name new_parent new_name) can = record {
     number = can.number;
     there = same_names parent name ∙ can.there;
     directory = still_directory new_parent can.directory;
     name = can.name;
     outside = subst (λ e. ¬ IsBelow e can.number new_parent) (sym same_entries) can.outside;
-    replaces = subst (CanReplace w parent new_parent new_name can.number) (sym (same_names new_parent new_name)) (replaces_too parent new_parent new_name can.number (entries v new_parent new_name) can.replaces);
+    replaces = subst (CanReplace limits w parent new_parent new_name can.number) (sym (same_names new_parent new_name)) (replaces_too limits parent new_parent new_name can.number (entries v new_parent new_name) can.replaces);
   }
-  applies_too inodes (write number offset bytes) can = (ap is_file_node (file_kept number can.0) ∙ can.0, can.1, can.2, can.3)
-  applies_too inodes (truncate number size) can = (ap is_file_node (file_kept number can.0) ∙ can.0, can.1)
-  applies_too inodes (set_file number mode size) can = (ap is_file_node (file_kept number can.0) ∙ can.0, can.1, can.2)
-  applies_too inodes (change_mode number mode) can = (ap (λ o. is_file_node o || is_directory_node o) (kept_by (λ o. is_file_node o || is_directory_node o) refl number can.0) ∙ can.0, can.1)
+  applies_too limits (write number offset bytes) can = (ap is_file_node (file_kept number can.0) ∙ can.0, can.1, can.2, can.3)
+  applies_too limits (truncate number size) can = (ap is_file_node (file_kept number can.0) ∙ can.0, can.1)
+  applies_too limits (set_file number mode size) can = (ap is_file_node (file_kept number can.0) ∙ can.0, can.1, can.2)
+  applies_too limits (change_mode number mode) can = (ap (λ o. is_file_node o || is_directory_node o) (kept_by (λ o. is_file_node o || is_directory_node o) refl number can.0) ∙ can.0, can.1)
 
   -- behind the last record, both are the same
   pub same_in_the_end : without_orphans w ≡ without_orphans v
@@ -235,40 +236,40 @@ with_edges : (v w : Volume) → Extends v w → (d : ℕ) (x : Name) (to other :
 with_edges v w extends d x to other same = subst (λ (o : Option ℕ). Extends (with_entry d x to v) (with_entry d x o w)) (sym same) (with_name v w extends d x to)
 
 -- the running volume drops at once what the replayed one keeps
-applied_too : (v w : Volume) → Extends v w → (inodes : ℕ) (change : Change) → Applies inodes v change → Extends (applied change v) (applied change w)
-applied_too v w extends inodes (create number parent made name) can =
+applied_too : (v w : Volume) → Extends v w → (limits : Limits) (change : Change) → Applies limits v change → Extends (applied change v) (applied change w)
+applied_too v w extends limits (create number parent made name) can =
     with_name (with_node number (Some (node_of made)) v) (with_node number (Some (node_of made)) w) (with_same v w extends number (Some (node_of made)) (Some (node_of made)) refl) parent name (Some number)
-applied_too v w extends inodes (link number parent name) can =
+applied_too v w extends limits (link number parent name) can =
     with_name (with_node number (with_name_more (v number)) v) (with_node number (with_name_more (w number)) w)
     (with_same v w extends number (with_name_more (v number)) (with_name_more (w number)) (ap with_name_more (extends.kept number (ap is_some can.file)))) parent name (Some number)
-applied_too v w extends inodes (remove_name parent name) can =
+applied_too v w extends limits (remove_name parent name) can =
     with_name (released (entries v parent name) v) (released (entries w parent name) w) (with_less v w extends (entries v parent name) (entries w parent name) (same_names v w extends parent name)) parent name None
-applied_too v w extends inodes (rename parent name new_parent new_name) can =
+applied_too v w extends limits (rename parent name new_parent new_name) can =
     let less = with_less v w extends (entries v new_parent new_name) (entries w new_parent new_name) (same_names v w extends new_parent new_name) in
     with_edges (with_entry parent name None (released (entries v new_parent new_name) v)) (with_entry parent name None (released (entries w new_parent new_name) w))
     (with_name (released (entries v new_parent new_name) v) (released (entries w new_parent new_name) w) less parent name None)
     new_parent new_name (entries v parent name) (entries w parent name) (same_names v w extends parent name)
-applied_too v w extends inodes (write number offset bytes) can = with_both v w extends number (with_file_bytes (written offset bytes)) refl (bytes_vacant (written offset bytes))
-applied_too v w extends inodes (truncate number size) can = with_both v w extends number (with_file_bytes (resized size)) refl (bytes_vacant (resized size))
-applied_too v w extends inodes (change_mode number mode) can = with_both v w extends number (with_node_mode mode) refl (mode_vacant mode)
-applied_too v w extends inodes (set_file number mode size) can =
+applied_too v w extends limits (write number offset bytes) can = with_both v w extends number (with_file_bytes (written offset bytes)) refl (bytes_vacant (written offset bytes))
+applied_too v w extends limits (truncate number size) can = with_both v w extends number (with_file_bytes (resized size)) refl (bytes_vacant (resized size))
+applied_too v w extends limits (change_mode number mode) can = with_both v w extends number (with_node_mode mode) refl (mode_vacant mode)
+applied_too v w extends limits (set_file number mode size) can =
     with_both (with_size number size v) (with_size number size w) (with_both v w extends number (with_file_bytes (resized size)) refl (bytes_vacant (resized size))) number (with_node_mode mode) refl (mode_vacant mode)
 
 pub extends_on : ReplayFollows
-extends_on inodes v w table change extends can = (
-  applies_too v w extends inodes change can,
-  sweeps (applied change v) (applied change w) (applied_too v w extends inodes change can) table,
+extends_on limits v w table change extends can = (
+  applies_too v w extends limits change can,
+  sweeps (applied change v) (applied change w) (applied_too v w extends limits change can) table,
 )
 
 pub ends_same : ReplayEndsSame
 ends_same v w extends = same_in_the_end v w extends
 
 pub costs_the_same : ReplaysCostTheSame
-costs_the_same inodes v w (create number parent made name) extends can = refl
-costs_the_same inodes v w (link number parent name) extends can = refl
-costs_the_same inodes v w (remove_name parent name) extends can = refl
-costs_the_same inodes v w (rename parent name new_parent new_name) extends can = refl
-costs_the_same inodes v w (write number offset bytes) extends can = ap (λ o. puts_bytes (length (unwrap_or (bytes_of_node o) [])) offset (length bytes)) (file_kept v w extends number can.0)
-costs_the_same inodes v w (truncate number size) extends can = ap (λ o. changes_size (length (unwrap_or (bytes_of_node o) [])) size) (file_kept v w extends number can.0)
-costs_the_same inodes v w (change_mode number mode) extends can = refl
-costs_the_same inodes v w (set_file number mode size) extends can = ap (λ o. changes_size (length (unwrap_or (bytes_of_node o) [])) size) (file_kept v w extends number can.0)
+costs_the_same limits v w (create number parent made name) extends can = refl
+costs_the_same limits v w (link number parent name) extends can = refl
+costs_the_same limits v w (remove_name parent name) extends can = refl
+costs_the_same limits v w (rename parent name new_parent new_name) extends can = refl
+costs_the_same limits v w (write number offset bytes) extends can = ap (λ o. puts_bytes (length (unwrap_or (bytes_of_node o) [])) offset (length bytes)) (file_kept v w extends number can.0)
+costs_the_same limits v w (truncate number size) extends can = ap (λ o. changes_size (length (unwrap_or (bytes_of_node o) [])) size) (file_kept v w extends number can.0)
+costs_the_same limits v w (change_mode number mode) extends can = refl
+costs_the_same limits v w (set_file number mode size) extends can = ap (λ o. changes_size (length (unwrap_or (bytes_of_node o) [])) size) (file_kept v w extends number can.0)

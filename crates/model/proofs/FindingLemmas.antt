@@ -300,7 +300,7 @@ module _ (e : Entries) (w p : Path) (trail : List ℕ) (n : ℕ) (trails : Trail
       (length p - 1, below, sym (here-take (length p - 1) below) ∙ ap (λ j. here (take j trail)) (omega (arith, some)) ∙ some_same at)
 
 pub resolves_by_numbers : ResolvesByNumbers
-resolves_by_numbers inodes v table follow text volume = finds_from_root v volume.graph.naming.used table follow text
+resolves_by_numbers limits v table follow text volume = finds_from_root v volume.graph.naming.used table follow text
 
 directory_facts : (n : ℕ) (o : Option Node) → is_directory_node o ≡ true → IsSome o × (is_file_node o ≡ false) × (object_of n o ≡ Some (directory n))
 directory_facts n None is = absurd (false≢true is)
@@ -309,7 +309,7 @@ directory_facts n (Some (file_node attributes links bytes)) is = absurd (false�
 directory_facts n (Some (link_node attributes text)) is = absurd (false≢true is)
 
 pub resolves_from_numbers : ResolvesFromNumbers
-resolves_from_numbers inodes v table follow n names volume is plain =
+resolves_from_numbers limits v table follow n names volume is plain =
     let facts = directory_facts n (v n) is in
     let reached = volume.graph.naming.reached n facts.0 facts.1 in
     let along = trails_along (entries v) [] [] reached.0 n (trails_root (entries v)) reached.1 in (
@@ -326,13 +326,13 @@ some_behind None some = absurd (false≢true some)
 some_behind (Some s) some = (s, refl)
 
 pub trails_tell_below : TrailsTellBelow
-trails_tell_below inodes v p w trail n volume trails at_p other longer = (
+trails_tell_below limits v p w trail n volume trails at_p other longer = (
   λ on_trail. let below = below_from (entries v) w p trail n trails at_p (λ q at_q. alone v volume.graph q p n at_q at_p other) on_trail in ap is_some below.1,
   λ begins. let rest = some_behind (behind p w) begins in below_to (entries v) w p trail n trails at_p rest.0 longer rest.1,
 )
 
 pub below_is_by_paths : BelowIsByPaths
-below_is_by_paths inodes v p w n k volume at_p at_w other = (
+below_is_by_paths limits v p w n k volume at_p at_w other = (
   λ (s, is).
       let there : number_at (entries v) (p ++ s) ≡ Some k = fold-append (enter (entries v)) (Some ROOT_NUMBER) p s ∙ ap (λ o. fold (enter (entries v)) o s) at_p ∙ is in
       let same : p ++ s ≡ w = alone v volume.graph (p ++ s) w k there at_w other in

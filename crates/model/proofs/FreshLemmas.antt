@@ -1,6 +1,7 @@
 -- The numbers that an object has are used, and the least other one is the number of a new object.
 use Rattle.std.proofs.Common.{◌≡◌, inl, inr, ℕ, ◌≤◌, ◌<◌, true, Option, Some, None, is_some, IsSome, refl, sym, ap, ◌∙◌}
 use Rattle.std.proofs.lemmas.Bool.{false≢true}
+use Rattle.model.specs.declared.limits.Limits.{Limits}
 use Rattle.model.specs.declared.limits.TheConstants.{OPEN_FILES}
 use Rattle.model.specs.Trees.{Object, Description, IsUsed}
 use Rattle.model.specs.Outcomes.{IsFresh}
@@ -26,8 +27,8 @@ module _ (v : Volume) (volume : IsGraph v) (table : ℕ → Option Description) 
   pub some_used : (n : ℕ) → IsSome (v n) → IsUsed (tree_of v table) n
   some_used n some = not_unused v volume table bounded n (λ none. false≢true (sym (ap is_some (sym (is_swept n) ∙ none)) ∙ some))
 
-  pub fresh_from : (inodes n : ℕ) → 4 ≤ n → n < inodes → v n ≡ None → ((k : ℕ) → 4 ≤ k → k < n → IsSome (v k)) → IsFresh inodes (tree_of v table) n
-  fresh_from inodes n low high free least = record {
+  pub fresh_from : (limits : Limits) (n : ℕ) → 4 ≤ n → n < limits.inodes → v n ≡ None → ((k : ℕ) → 4 ≤ k → k < n → IsSome (v k)) → IsFresh limits (tree_of v table) n
+  fresh_from limits n low high free least = record {
     low = low;
     high = high;
     free = λ used. false≢true (sym (ap is_some free) ∙ used_some n used);
@@ -35,11 +36,11 @@ module _ (v : Volume) (volume : IsGraph v) (table : ℕ → Option Description) 
   }
 
 pub volumes_tell_fresh : VolumesTellFresh
-volumes_tell_fresh inodes v table n volume mounted low high free least =
-    fresh_from v volume.graph table mounted.bounded mounted.files mounted.is_swept inodes n low high free least
+volumes_tell_fresh limits v table n volume mounted low high free least =
+    fresh_from v volume.graph table mounted.bounded mounted.files mounted.is_swept limits n low high free least
 
 pub volumes_tell_used : VolumesTellUsed
-volumes_tell_used inodes v table n volume mounted =
+volumes_tell_used limits v table n volume mounted =
     let used_some_here = used_some v volume.graph table mounted.bounded mounted.files mounted.is_swept n in
     let some_used_here = some_used v volume.graph table mounted.bounded mounted.files mounted.is_swept n in
     (used_some_here, some_used_here)

@@ -16,6 +16,7 @@ use Rattle.model.specs.States.{State, empty, with_tree}
 use Rattle.model.specs.Circumstances.{IsShortFor}
 use Rattle.model.proofs.ToldLemmas.{Told, told_root, told_bytes, told_descriptor, told_file, listing_told, fresh_told, links_told}
 use Rattle.model.proofs.EditLaws.{length-written}
+use Rattle.model.proofs.ExampleLimits.{costs, limits}
 
 abbrev at_f : Path
 at_f = codes "f" ∷ []
@@ -32,10 +33,10 @@ file_of_is bytes offset = told_descriptor (told_bytes (told_file (told_root 0o75
 
 -- `write 0` of 128 bytes, and of one more
 
-writes_128_bytes : writes (file_of [] 0) 0 (replicate 128 0x61) (reply.Wrote 128) (with_descriptor 0 (Some (at_offset 128)) (with_bytes 4 (replicate 128 0x61) (file_of [] 0))) (logs (puts_bytes 0 0 128))
+writes_128_bytes : writes limits (file_of [] 0) 0 (replicate 128 0x61) (reply.Wrote 128) (with_descriptor 0 (Some (at_offset 128)) (with_bytes 4 (replicate 128 0x61) (file_of [] 0))) (logs (puts_bytes 0 0 128))
 writes_128_bytes = (refl, refl, refl)
 
-writes_one_more : writes (file_of (replicate 128 0x61) 128) 0 (0x62 ∷ []) (reply.Wrote 1) (with_descriptor 0 (Some (at_offset 129)) (with_bytes 4 (replicate 128 0x61 ++ 0x62 ∷ []) (file_of (replicate 128 0x61) 128))) (logs (puts_bytes 128 128 1))
+writes_one_more : writes limits (file_of (replicate 128 0x61) 128) 0 (0x62 ∷ []) (reply.Wrote 1) (with_descriptor 0 (Some (at_offset 129)) (with_bytes 4 (replicate 128 0x61 ++ 0x62 ∷ []) (file_of (replicate 128 0x61) 128))) (logs (puts_bytes 128 128 1))
 writes_one_more = (refl, refl, refl)
 
 -- `pwrite 0 65536 ff`, `pread 0 65534 4`, `fstat 0`
@@ -43,7 +44,7 @@ writes_one_more = (refl, refl, refl)
 abbrev behind_a_hole : List ℕ
 behind_a_hole = replicate 65536 0 ++ 0xff ∷ []
 
-writes_behind_a_hole : writes_to (file_of [] 0) 0 (pos 65536) (0xff ∷ []) (reply.Wrote 1) (with_bytes 4 behind_a_hole (file_of [] 0)) (logs (puts_bytes 0 65536 1))
+writes_behind_a_hole : writes_to limits (file_of [] 0) 0 (pos 65536) (0xff ∷ []) (reply.Wrote 1) (with_bytes 4 behind_a_hole (file_of [] 0)) (logs (puts_bytes 0 65536 1))
 writes_behind_a_hole = (refl, refl, refl)
 
 reads_over_its_end : reads_from (file_of behind_a_hole 0) 0 (pos 65534) 4 (reply.Data (0 ∷ 0 ∷ 0xff ∷ [])) (file_of behind_a_hole 0) nothing
@@ -57,13 +58,13 @@ stat_of_65537_bytes = (1, links_told (file_of_is behind_a_hole 0) 4 (at_f ∷ []
 abbrev full : List ℕ
 full = replicate 65536 0x61
 
-writes_65536_bytes : writes (file_of [] 0) 0 full (reply.Wrote 65536) (with_descriptor 0 (Some (at_offset 65536)) (with_bytes 4 full (file_of [] 0))) (logs (puts_bytes 0 0 65536))
+writes_65536_bytes : writes limits (file_of [] 0) 0 full (reply.Wrote 65536) (with_descriptor 0 (Some (at_offset 65536)) (with_bytes 4 full (file_of [] 0))) (logs (puts_bytes 0 0 65536))
 writes_65536_bytes = (refl, refl, refl)
 
-writes_65463_more : writes (file_of full 65536) 0 (replicate 65463 0x61) (reply.Wrote 65463) (with_descriptor 0 (Some (at_offset 130999)) (with_bytes 4 (replicate 130999 0x61) (file_of full 65536))) (logs (puts_bytes 65536 65536 65463))
+writes_65463_more : writes limits (file_of full 65536) 0 (replicate 65463 0x61) (reply.Wrote 65463) (with_descriptor 0 (Some (at_offset 130999)) (with_bytes 4 (replicate 130999 0x61) (file_of full 65536))) (logs (puts_bytes 65536 65536 65463))
 writes_65463_more = (refl, refl, refl)
 
-gets_the_last : gets (file_of full 0) (codes "/f") (pos 65535) 9 (reply.Data (0x61 ∷ [])) (file_of full 0) nothing
+gets_the_last : gets limits (file_of full 0) (codes "/f") (pos 65535) 9 (reply.Data (0x61 ∷ [])) (file_of full 0) nothing
 gets_the_last = (refl, refl, refl)
 
 -- `pwrite 0 68719476735 00` makes the greatest file: no list so long is computed, so its size is told of every offset
@@ -71,16 +72,16 @@ gets_the_last = (refl, refl, refl)
 size_after_one_byte : (offset : ℕ) → length (written offset (0 ∷ []) []) ≡ offset + 1
 size_after_one_byte offset = omega (arith, length-written offset (0 ∷ []) [])
 
-stat_of_any_bytes : (bytes : List ℕ) → stats (file_of bytes 0) true (codes "/f") (reply.Stat (record { number = 4; kind = kind.File; mode = 0o644; links = 1; size = length bytes })) (file_of bytes 0) nothing
+stat_of_any_bytes : (bytes : List ℕ) → stats limits (file_of bytes 0) true (codes "/f") (reply.Stat (record { number = 4; kind = kind.File; mode = 0o644; links = 1; size = length bytes })) (file_of bytes 0) nothing
 stat_of_any_bytes bytes = (1, links_told (file_of_is bytes 0) 4 (at_f ∷ []) refl refl refl, (refl, refl, refl))
 
-past_the_greatest_file : writes_to (file_of [] 0) 0 (pos 68719476735) (0 ∷ 0 ∷ []) (reply.Refused EFBIG) (file_of [] 0) nothing
+past_the_greatest_file : writes_to limits (file_of [] 0) 0 (pos 68719476735) (0 ∷ 0 ∷ []) (reply.Refused EFBIG) (file_of [] 0) nothing
 past_the_greatest_file = (refl, refl, refl)
 
 -- room on a disk of 64 blocks: a file of 65,536 bytes, and a directory that finds none until the file is gone
 
 abbrev room_of : ℕ → ℕ → Room
-room_of free pledged = record { blocks = 64; free = free; pledged = pledged; is_covered = true; orphans_of = λ name. 0; stored = λ n k. false }
+room_of free pledged = record { costs = costs; blocks = 64; free = free; pledged = pledged; is_covered = true; orphans_of = λ name. 0; stored = λ n k. false }
 
 first_test_is_short : IsShort (room_of 60 24) (logs (puts_bytes 0 0 65536))
 first_test_is_short = (refl, lit≤ tt)
@@ -89,14 +90,14 @@ second_test_is_not : ¬ IsShort (room_of 59 0) (logs (puts_bytes 0 0 65536))
 second_test_is_not short = absurd (omega (arith, short.1))
 
 abbrev with_file_full : State
-with_file_full = with_tree (file_of full 65536) (empty 32)
+with_file_full = with_tree (file_of full 65536) (empty limits)
 
 short_for_a_directory : IsShortFor (room_of 43 0) with_file_full (command.Path (call.Mkdir (codes "/a") 0o755))
 short_for_a_directory = (
   reply.Done,
   with_tree (with_directory (codes "a" ∷ []) 5 0o755 (file_of full 65536)) with_file_full,
   logs adds_name,
-  ((codes "f" ∷ [], listing_told (file_of_is full 65536) [] (codes "f" ∷ []) refl, (Some 5, fresh_told (file_of_is full 65536) 32 1 (lit≤ tt) refl refl, (refl, refl, refl))), refl),
+  ((codes "f" ∷ [], listing_told (file_of_is full 65536) [] (codes "f" ∷ []) refl, (Some 5, fresh_told (file_of_is full 65536) limits 1 (lit≤ tt) refl refl, (refl, refl, refl))), refl),
   (refl, lit≤ tt),
 )
 

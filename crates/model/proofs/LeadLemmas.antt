@@ -5,6 +5,7 @@ use Rattle.std.specs.List.{AllByRecursion, slice_split, onto_first, filter}
 use Rattle.std.proofs.lemmas.Bool.{cases_Bool, cond_both, cond-true, cond-false, false≢true, ne_eqb, eqb-true, lt-ltb, or_parts}
 use Rattle.std.proofs.Math.Seq.{take-append_seam}
 use Rattle.std.proofs.lemmas.Slice.Eq.{bytes_eq-Decides}
+use Rattle.model.specs.declared.limits.Limits.{Limits}
 use Rattle.model.specs.declared.limits.TheConstants.{LINKS_FOLLOWED}
 use Rattle.model.specs.declared.errno.Errno.TheVariants.{ENOENT, ENOTDIR, ENAMETOOLONG, ELOOP, EINVAL}
 use Rattle.model.specs.Paths.{Name, Path, IsName, IsLinkText, Tests, first_refusal, text_tests_then, new_text_tests, parts, is_slash, is_empty, is_dot, is_dot_dot, is_too_long, last_part, starts_with_slash, ends_with_slash, is_number_alone, is_root_text, number_named, parts_behind, starts_at_number}
@@ -63,16 +64,16 @@ pub record FromNumber (t : Tree) (follow : Bool) (text : List ℕ) (r : Resoluti
 abbrev pub IsReached : Tree → Bool → List ℕ → Resolution → Type 0
 IsReached t follow text r = (r ≡ resolve t follow text) ⊎ FromNumber t follow text r
 
-abbrev StopsWell : Tree → Stop → Type 0
-StopsWell t (at r) = AnswersWell t r
-StopsWell t (at_link p text rest) = (is_directory (t.objects p) ≡ true) × IsLinkText text × AllByRecursion IsPart rest
+abbrev StopsWell : (limits : Limits) → Tree → Stop → Type 0
+StopsWell limits t (at r) = AnswersWell t r
+StopsWell limits t (at_link p text rest) = (is_directory (t.objects p) ≡ true) × IsLinkText limits.path_bytes text × AllByRecursion IsPart rest
 
-abbrev GoesWell : Tree → Path → Name → Next → Type 0
-GoesWell t p part (into q) = is_directory (t.objects q) ≡ true
-GoesWell t p part (over q) = IsSome (t.objects q)
-GoesWell t p part (link text) = IsLinkText text × IsSome (t.objects (p ++ part ∷ []))
-GoesWell t p part absent = Misses t p part
-GoesWell t p part too_long = Unit {0}
+abbrev GoesWell : (limits : Limits) → Tree → Path → Name → Next → Type 0
+GoesWell limits t p part (into q) = is_directory (t.objects q) ≡ true
+GoesWell limits t p part (over q) = IsSome (t.objects q)
+GoesWell limits t p part (link text) = IsLinkText limits.path_bytes text × IsSome (t.objects (p ++ part ∷ []))
+GoesWell limits t p part absent = Misses t p part
+GoesWell limits t p part too_long = Unit {0}
 
 abbrev after : Tree → Bool → Path → Name → List Name → Next → Stop
 after t follow p part rest (into q) = walk t follow q rest
@@ -95,38 +96,38 @@ pushed_some : (p : Path) (x : Name) (y : List Name) → x ∷ y ≢ []
 pushed_some p x y e = cc
 
 -- the directory that something stands in
-pub stands_in : (inodes : ℕ) (t : Tree) → IsTree inodes t → (p : Path) (x : Name) → IsSome (t.objects (p ++ x ∷ [])) → is_directory (t.objects p) ≡ true
-stands_in inodes t tree p x some = tree.above p (x ∷ []) (pushed_some p x []) some
+pub stands_in : (limits : Limits) (t : Tree) → IsTree limits t → (p : Path) (x : Name) → IsSome (t.objects (p ++ x ∷ [])) → is_directory (t.objects p) ≡ true
+stands_in limits t tree p x some = tree.above p (x ∷ []) (pushed_some p x []) some
 
-module _ (inodes : ℕ) (t : Tree) (tree : IsTree inodes t) where
+module _ (limits : Limits) (t : Tree) (tree : IsTree limits t) where
   up_well : (p : Path) → is_directory (t.objects p) ≡ true → is_directory (t.objects (parent p)) ≡ true
   up_well p here =
       elim (ends p) [
         | inl e ↦ subst (λ q. is_directory (t.objects (parent q)) ≡ true) (sym e) (ap is_directory tree.root)
         | inr (u, x, e) ↦
             subst (λ q. is_directory (t.objects q) ≡ true) (sym (ap parent e ∙ parent-push u x))
-            (stands_in inodes t tree u x (subst (λ q. IsSome (t.objects q)) e (directory_some (t.objects p) here)))
+            (stands_in limits t tree u x (subst (λ q. IsSome (t.objects q)) e (directory_some (t.objects p) here)))
       ]
 
-  found_well : (p : Path) (part : Name) → IsName part → is_directory (t.objects p) ≡ true → (o : Option Object) → t.objects (p ++ part ∷ []) ≡ o → GoesWell t p part (found (p ++ part ∷ []) o)
+  found_well : (p : Path) (part : Name) → IsName part → is_directory (t.objects p) ≡ true → (o : Option Object) → t.objects (p ++ part ∷ []) ≡ o → GoesWell limits t p part (found (p ++ part ∷ []) o)
   found_well p part name here None is = record { directory = here; free = is; good = name }
   found_well p part name here (Some (directory n)) is = ap is_directory is
   found_well p part name here (Some (symlink n text)) is = (tree.texts (p ++ part ∷ []) n text is, ap is_some is)
   found_well p part name here (Some (file n)) is = ap is_some is
 
-  goes_well : (p : Path) (part : Name) → IsPart part → is_directory (t.objects p) ≡ true → GoesWell t p part (next t p part)
+  goes_well : (p : Path) (part : Name) → IsPart part → is_directory (t.objects p) ≡ true → GoesWell limits t p part (next t p part)
   goes_well p part plain here =
-      cond_both (is_dot part) _ _ (GoesWell t p part) (λ e. here) (λ e.
-      cond_both (is_dot_dot part) _ _ (GoesWell t p part) (λ f. up_well p here) (λ f.
-      cond_both (is_too_long part) _ _ (GoesWell t p part) (λ g. tt) (λ g. found_well p part (part_is_name part plain e f g) here (t.objects (p ++ part ∷ [])) refl)))
+      cond_both (is_dot part) _ _ (GoesWell limits t p part) (λ e. here) (λ e.
+      cond_both (is_dot_dot part) _ _ (GoesWell limits t p part) (λ f. up_well p here) (λ f.
+      cond_both (is_too_long part) _ _ (GoesWell limits t p part) (λ g. tt) (λ g. found_well p part (part_is_name part plain e f g) here (t.objects (p ++ part ∷ [])) refl)))
 
-  walk_well : (follow : Bool) (names : List Name) (p : Path) → AllByRecursion IsPart names → is_directory (t.objects p) ≡ true → StopsWell t (walk t follow p names)
+  walk_well : (follow : Bool) (names : List Name) (p : Path) → AllByRecursion IsPart names → is_directory (t.objects p) ≡ true → StopsWell limits t (walk t follow p names)
   walk_well follow [] p plain here = directory_some (t.objects p) here
   walk_well follow (part ∷ rest) p plain here =
-      elim (next t p part) as (λ n. GoesWell t p part n → StopsWell t (after t follow p part rest n)) [
+      elim (next t p part) as (λ n. GoesWell limits t p part n → StopsWell limits t (after t follow p part rest n)) [
         | into q ↦ λ well. walk_well follow rest q plain.1 well
         | over q ↦ λ well. cond_both (is_empty rest) (named q) (refused ENOTDIR) (AnswersWell t) (λ e. well) (λ e. tt)
-        | link text ↦ λ well. cond_both (is_empty rest && not follow) (at (named (p ++ part ∷ []))) (at_link p text rest) (StopsWell t) (λ e. well.1) (λ e. (here, well.0, plain.1))
+        | link text ↦ λ well. cond_both (is_empty rest && not follow) (at (named (p ++ part ∷ []))) (at_link p text rest) (StopsWell limits t) (λ e. well.1) (λ e. (here, well.0, plain.1))
         | absent ↦ λ well. cond_both (is_empty rest) (missing p part) (refused ENOENT) (AnswersWell t) (λ e. well) (λ e. tt)
         | too_long ↦ λ well. tt
       ] (goes_well p part plain.0 here)
@@ -135,10 +136,10 @@ module _ (inodes : ℕ) (t : Tree) (tree : IsTree inodes t) where
   all_append [] b one other = other
   all_append (x ∷ a) b one other = (one.0, all_append a b one.1 other)
 
-  go_well : (f : Path → List Name → Resolution) → ((p : Path) (names : List Name) → AllByRecursion IsPart names → is_directory (t.objects p) ≡ true → AnswersWell t (f p names)) → (s : Stop) → StopsWell t s → AnswersWell t (go_on f s)
+  go_well : (f : Path → List Name → Resolution) → ((p : Path) (names : List Name) → AllByRecursion IsPart names → is_directory (t.objects p) ≡ true → AnswersWell t (f p names)) → (s : Stop) → StopsWell limits t s → AnswersWell t (go_on f s)
   go_well f well (at r) stops = stops
   go_well f well (at_link p text rest) stops =
-      well (if starts_with_slash text then [] else p) (parts text ++ rest) (all_append (parts text) rest (linked_parts text stops.1) stops.2)
+      well (if starts_with_slash text then [] else p) (parts text ++ rest) (all_append (parts text) rest (linked_parts limits text stops.1) stops.2)
       (cond_both (starts_with_slash text) [] p (λ q. is_directory (t.objects q) ≡ true) (λ e. ap is_directory tree.root) (λ e. stops.0))
 
   within_well : (links : ℕ) (follow : Bool) (p : Path) (names : List Name) → AllByRecursion IsPart names → is_directory (t.objects p) ≡ true → AnswersWell t (resolve_within links t follow p names)
@@ -146,8 +147,8 @@ module _ (inodes : ℕ) (t : Tree) (tree : IsTree inodes t) where
   within_well (suc links) follow p names plain here = go_well (resolve_within links t follow) (within_well links follow) (walk t follow p names) (walk_well follow names p plain here)
 
   -- where a text that passed its tests leads from the root
-  pub resolves_well : (more : Tests) (follow : Bool) (text : List ℕ) → first_refusal (text_tests_then more text) ≡ None → AnswersWell t (resolve t follow text)
-  resolves_well more follow text e = within_well LINKS_FOLLOWED follow [] (parts text) (passed_parts more text e) (ap is_directory tree.root)
+  pub resolves_well : (more : Tests) (follow : Bool) (text : List ℕ) → first_refusal (text_tests_then limits more text) ≡ None → AnswersWell t (resolve t follow text)
+  resolves_well more follow text e = within_well LINKS_FOLLOWED follow [] (parts text) (passed_parts limits more text e) (ap is_directory tree.root)
 
   behind_plain : (b : Bool) (names : List Name) → AllByRecursion IsPart names → AllByRecursion IsPart (if b then drop 1 names else names)
   behind_plain true [] plain = tt
@@ -155,10 +156,10 @@ module _ (inodes : ℕ) (t : Tree) (tree : IsTree inodes t) where
   behind_plain false names plain = plain
 
   -- and where it may lead
-  pub reached_well : (more : Tests) (follow : Bool) (text : List ℕ) → first_refusal (text_tests_then more text) ≡ None → (r : Resolution) → IsReached t follow text r → AnswersWell t r
+  pub reached_well : (more : Tests) (follow : Bool) (text : List ℕ) → first_refusal (text_tests_then limits more text) ≡ None → (r : Resolution) → IsReached t follow text r → AnswersWell t r
   reached_well more follow text e r (inl is) = subst (AnswersWell t) (sym is) (resolves_well more follow text e)
   reached_well more follow text e r (inr from) =
-      subst (AnswersWell t) (sym from.is) (within_well 0 follow from.path (parts_behind text) (behind_plain (starts_at_number text) (parts text) (passed_parts more text e)) (ap is_directory from.stands.stands))
+      subst (AnswersWell t) (sym from.is) (within_well 0 follow from.path (parts_behind text) (behind_plain (starts_at_number text) (parts text) (passed_parts limits more text e)) (ap is_directory from.stands.stands))
 
 -- a last part that is a name
 
@@ -269,9 +270,9 @@ number_parts text starts none =
     cond_both (starts_with_slash text) None (number_named []) (λ o. is_some o ≡ true → ⊥) (λ e f. false≢true f) (λ e f. false≢true f) part
 
 -- a text that passed its tests and isn't `/` has parts
-has_parts : (more : Tests) (text : List ℕ) → first_refusal (text_tests_then more text) ≡ None → is_root_text text ≡ false → parts text ≢ []
-has_parts more text e other =
-    let pass = all_passed (text_tests_then more text) e in
+has_parts : (limits : Limits) (more : Tests) (text : List ℕ) → first_refusal (text_tests_then limits more text) ≡ None → is_root_text text ≡ false → parts text ≢ []
+has_parts limits more text e other =
+    let pass = all_passed (text_tests_then limits more text) e in
     elim (cases_Bool (starts_at_number text)) [
       | inl starts ↦ number_parts text starts
       | inr rooted ↦ by_text text pass.0 (ap not (sym (or_false (starts_with_slash text) (starts_at_number text) rooted)) ∙ pass.1.1.1.0) pass.1.1.1.1.0 other
@@ -289,16 +290,16 @@ has_parts more text e other =
         (and_false (ends_with_slash (x ∷ (y ∷ text))) (nat_lt 1 (length (x ∷ (y ∷ text)))) (lt-ltb 1 (length (x ∷ (y ∷ text))) (omega arith)) ending)
 
 -- the last part of a text that passed its tests is a name
-last_names : (text : List ℕ) → first_refusal (new_text_tests text) ≡ None → is_root_text text ≡ false → EndsPlain (parts text)
-last_names text e other =
-    let last = or_parts (is_dot (last_part text) || is_dot_dot (last_part text)) (is_number_alone text) (all_passed (new_text_tests text) e).1.1.1.1.1.1.1.0 in
+last_names : (limits : Limits) (text : List ℕ) → first_refusal (new_text_tests limits text) ≡ None → is_root_text text ≡ false → EndsPlain (parts text)
+last_names limits text e other =
+    let last = or_parts (is_dot (last_part text) || is_dot_dot (last_part text)) (is_number_alone text) (all_passed (new_text_tests limits text) e).1.1.1.1.1.1.1.0 in
     let dots = or_parts (is_dot (last_part text)) (is_dot_dot (last_part text)) last.0 in
-    last_plain (parts text) (has_parts ((is_dot (last_part text) || is_dot_dot (last_part text) || is_number_alone text, EINVAL) ∷ []) text e other) dots.0 dots.1
+    last_plain (parts text) (has_parts limits ((is_dot (last_part text) || is_dot_dot (last_part text) || is_number_alone text, EINVAL) ∷ []) text e other) dots.0 dots.1
 
 -- such a text isn't a number alone
-pub not_alone : (text : List ℕ) → first_refusal (new_text_tests text) ≡ None → is_number_alone text ≡ true → ⊥
-not_alone text e alone =
-    false≢true (sym (or_parts (is_dot (last_part text) || is_dot_dot (last_part text)) (is_number_alone text) (all_passed (new_text_tests text) e).1.1.1.1.1.1.1.0).1 ∙ alone)
+pub not_alone : (limits : Limits) (text : List ℕ) → first_refusal (new_text_tests limits text) ≡ None → is_number_alone text ≡ true → ⊥
+not_alone limits text e alone =
+    false≢true (sym (or_parts (is_dot (last_part text) || is_dot_dot (last_part text)) (is_number_alone text) (all_passed (new_text_tests limits text) e).1.1.1.1.1.1.1.0).1 ∙ alone)
 
 -- so is that of the parts behind its number
 behind_ends : (b : Bool) (names : List Name) → b ≡ true → (b && is_empty (if b then drop 1 names else names)) ≡ false → EndsPlain names → EndsPlain (if b then drop 1 names else names)
@@ -308,12 +309,12 @@ behind_ends true (x ∷ []) starts some plain = absurd (false≢true (sym some))
 behind_ends true (x ∷ (y ∷ rest)) starts some plain = plain
 
 -- where a text that passed its tests, with a name for its last part, leads to something, it isn't the root
-pub resolves_below_root : (t : Tree) (text : List ℕ) → first_refusal (new_text_tests text) ≡ None → is_root_text text ≡ false → AnswersBelowRoot (resolve t false text)
-resolves_below_root t text e other =
-    within_low t LINKS_FOLLOWED [] (parts text) (last_names text e other)
+pub resolves_below_root : (limits : Limits) (t : Tree) (text : List ℕ) → first_refusal (new_text_tests limits text) ≡ None → is_root_text text ≡ false → AnswersBelowRoot (resolve t false text)
+resolves_below_root limits t text e other =
+    within_low t LINKS_FOLLOWED [] (parts text) (last_names limits text e other)
 
-pub reached_below_root : (t : Tree) (text : List ℕ) → first_refusal (new_text_tests text) ≡ None → is_root_text text ≡ false → (r : Resolution) → IsReached t false text r → AnswersBelowRoot r
-reached_below_root t text e other r (inl is) = subst AnswersBelowRoot (sym is) (resolves_below_root t text e other)
-reached_below_root t text e other r (inr from) =
-    let last = or_parts (is_dot (last_part text) || is_dot_dot (last_part text)) (is_number_alone text) (all_passed (new_text_tests text) e).1.1.1.1.1.1.1.0 in
-    subst AnswersBelowRoot (sym from.is) (within_low t 0 from.path (parts_behind text) (behind_ends (starts_at_number text) (parts text) from.starts last.1 (last_names text e other)))
+pub reached_below_root : (limits : Limits) (t : Tree) (text : List ℕ) → first_refusal (new_text_tests limits text) ≡ None → is_root_text text ≡ false → (r : Resolution) → IsReached t false text r → AnswersBelowRoot r
+reached_below_root limits t text e other r (inl is) = subst AnswersBelowRoot (sym is) (resolves_below_root limits t text e other)
+reached_below_root limits t text e other r (inr from) =
+    let last = or_parts (is_dot (last_part text) || is_dot_dot (last_part text)) (is_number_alone text) (all_passed (new_text_tests limits text) e).1.1.1.1.1.1.1.0 in
+    subst AnswersBelowRoot (sym from.is) (within_low t 0 from.path (parts_behind text) (behind_ends (starts_at_number text) (parts text) from.starts last.1 (last_names limits text e other)))

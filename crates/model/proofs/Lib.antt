@@ -1,3 +1,4 @@
+mod ExampleLimits
 mod Examples
 mod RowExamples
 mod DirectoryExamples

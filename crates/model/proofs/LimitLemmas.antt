@@ -1,7 +1,8 @@
 -- The limits of a volume, through a change of a name and of an object.
 use Rattle.std.proofs.Common.{◌≡◌, ◌≢◌, ◌⊎◌, inl, inr, ℕ, zero, suc, ◌≤◌, ◌<◌, Bool, true, false, ◌==◌, Option, Some, None, is_some, IsSome, IfSome, refl, sym, ap, subst, ◌∙◌, arith}
 use Rattle.std.proofs.lemmas.Bool.{cases_Bool, cases_eq, cond_both, false≢true}
-use Rattle.model.specs.declared.limits.TheConstants.{OPEN_FILES, ROOT_NUMBER, FIRST_NUMBER, DIRECTORY_NAMES}
+use Rattle.model.specs.declared.limits.Limits.{Limits}
+use Rattle.model.specs.declared.limits.TheConstants.{OPEN_FILES, ROOT_NUMBER, FIRST_NUMBER}
 use Rattle.model.specs.Counting.{Counts, CountsUpTo}
 use Rattle.model.specs.Paths.{Name}
 use Rattle.model.specs.Trees.{Description}
@@ -12,42 +13,42 @@ use Rattle.model.proofs.ListingLemmas.{names_apart}
 use Rattle.model.proofs.KeptLemmas.{node-here}
 use Rattle.model.proofs.ObjectLaws.{node_other}
 
-abbrev pub HasGoodNodes : Volume → Type 0
-HasGoodNodes v = (n : ℕ) → IfSome (v n) IsNode
+abbrev pub HasGoodNodes : Limits → Volume → Type 0
+HasGoodNodes limits v = (n : ℕ) → IfSome (v n) (IsNode limits)
 
-abbrev pub HasGoodNumbers : ℕ → Volume → Type 0
-HasGoodNumbers inodes v = (n : ℕ) → IsSome (v n) → (n ≡ ROOT_NUMBER) ⊎ ((FIRST_NUMBER ≤ n) × (n < inodes))
+abbrev pub HasGoodNumbers : Limits → Volume → Type 0
+HasGoodNumbers limits v = (n : ℕ) → IsSome (v n) → (n ≡ ROOT_NUMBER) ⊎ ((FIRST_NUMBER ≤ n) × (n < limits.inodes))
 
 -- the nodes
 
-pub good_node : (v : Volume) (n : ℕ) (o : Option Node) → HasGoodNodes v → IfSome o IsNode → HasGoodNodes (with_node n o v)
-good_node v n o good here = λ k. cond_both (k == n) o (v k) (λ r. IfSome r IsNode) (λ e. here) (λ e. good k)
+pub good_node : (limits : Limits) (v : Volume) (n : ℕ) (o : Option Node) → HasGoodNodes limits v → IfSome o (IsNode limits) → HasGoodNodes limits (with_node n o v)
+good_node limits v n o good here = λ k. cond_both (k == n) o (v k) (λ r. IfSome r (IsNode limits)) (λ e. here) (λ e. good k)
 
-set_good : (x : Name) (to : Option ℕ) (o : Option Node) → IfSome o IsNode → IfSome (set_name x to o) IsNode
-set_good x to None good = tt
-set_good x to (Some (directory_node attributes names)) good = good
-set_good x to (Some (file_node attributes links bytes)) good = good
-set_good x to (Some (link_node attributes text)) good = good
+set_good : (limits : Limits) (x : Name) (to : Option ℕ) (o : Option Node) → IfSome o (IsNode limits) → IfSome (set_name x to o) (IsNode limits)
+set_good limits x to None good = tt
+set_good limits x to (Some (directory_node attributes names)) good = good
+set_good limits x to (Some (file_node attributes links bytes)) good = good
+set_good limits x to (Some (link_node attributes text)) good = good
 
-pub good_entry : (v : Volume) (d : ℕ) (x : Name) (to : Option ℕ) → HasGoodNodes v → HasGoodNodes (with_entry d x to v)
-good_entry v d x to good = good_node v d (set_name x to (v d)) good (set_good x to (v d) (good d))
+pub good_entry : (limits : Limits) (v : Volume) (d : ℕ) (x : Name) (to : Option ℕ) → HasGoodNodes limits v → HasGoodNodes limits (with_entry d x to v)
+good_entry limits v d x to good = good_node limits v d (set_name x to (v d)) good (set_good limits x to (v d) (good d))
 
-less_good : (o : Option Node) → IfSome o IsNode → IfSome (with_name_less o) IsNode
-less_good None good = tt
-less_good (Some (directory_node attributes names)) good = tt
-less_good (Some (file_node attributes links bytes)) good = (good.0, omega (arith, good.1), good.2)
-less_good (Some (link_node attributes text)) good = tt
+less_good : (limits : Limits) (o : Option Node) → IfSome o (IsNode limits) → IfSome (with_name_less o) (IsNode limits)
+less_good limits None good = tt
+less_good limits (Some (directory_node attributes names)) good = tt
+less_good limits (Some (file_node attributes links bytes)) good = (good.0, omega (arith, good.1), good.2)
+less_good limits (Some (link_node attributes text)) good = tt
 
-pub good_released : (o : Option ℕ) (v : Volume) → HasGoodNodes v → HasGoodNodes (released o v)
-good_released None v good = good
-good_released (Some n) v good = good_node v n (with_name_less (v n)) good (less_good (v n) (good n))
+pub good_released : (limits : Limits) (o : Option ℕ) (v : Volume) → HasGoodNodes limits v → HasGoodNodes limits (released o v)
+good_released limits None v good = good
+good_released limits (Some n) v good = good_node limits v n (with_name_less (v n)) good (less_good limits (v n) (good n))
 
 -- the numbers
 
-pub numbers_node : (inodes : ℕ) (v : Volume) (n : ℕ) (o : Option Node) → HasGoodNumbers inodes v → (IsSome o → (n ≡ ROOT_NUMBER) ⊎ ((FIRST_NUMBER ≤ n) × (n < inodes))) → HasGoodNumbers inodes (with_node n o v)
-numbers_node inodes v n o numbers here k some =
+pub numbers_node : (limits : Limits) (v : Volume) (n : ℕ) (o : Option Node) → HasGoodNumbers limits v → (IsSome o → (n ≡ ROOT_NUMBER) ⊎ ((FIRST_NUMBER ≤ n) × (n < limits.inodes))) → HasGoodNumbers limits (with_node n o v)
+numbers_node limits v n o numbers here k some =
     elim (cases_eq k n) [
-      | inl is ↦ subst (λ j. (j ≡ ROOT_NUMBER) ⊎ ((FIRST_NUMBER ≤ j) × (j < inodes))) (sym is) (here (sym (ap is_some (ap (with_node n o v) is ∙ node-here n o v)) ∙ some))
+      | inl is ↦ subst (λ j. (j ≡ ROOT_NUMBER) ⊎ ((FIRST_NUMBER ≤ j) × (j < limits.inodes))) (sym is) (here (sym (ap is_some (ap (with_node n o v) is ∙ node-here n o v)) ∙ some))
       | inr other ↦ numbers k (sym (ap is_some (node_other n k o v other)) ∙ some)
     ]
 
@@ -57,21 +58,21 @@ set_some x to (Some (directory_node attributes names)) = refl
 set_some x to (Some (file_node attributes links bytes)) = refl
 set_some x to (Some (link_node attributes text)) = refl
 
-pub numbers_entry : (inodes : ℕ) (v : Volume) (d : ℕ) (x : Name) (to : Option ℕ) → HasGoodNumbers inodes v → HasGoodNumbers inodes (with_entry d x to v)
-numbers_entry inodes v d x to numbers = numbers_node inodes v d (set_name x to (v d)) numbers (λ some. numbers d (sym (set_some x to (v d)) ∙ some))
+pub numbers_entry : (limits : Limits) (v : Volume) (d : ℕ) (x : Name) (to : Option ℕ) → HasGoodNumbers limits v → HasGoodNumbers limits (with_entry d x to v)
+numbers_entry limits v d x to numbers = numbers_node limits v d (set_name x to (v d)) numbers (λ some. numbers d (sym (set_some x to (v d)) ∙ some))
 
 less_some : (o : Option Node) → IsSome (with_name_less o) → IsSome o
 less_some None some = some
 less_some (Some o) some = refl
 
-pub numbers_released : (inodes : ℕ) (o : Option ℕ) (v : Volume) → HasGoodNumbers inodes v → HasGoodNumbers inodes (released o v)
-numbers_released inodes None v numbers = numbers
-numbers_released inodes (Some n) v numbers = numbers_node inodes v n (with_name_less (v n)) numbers (λ some. numbers n (less_some (v n) some))
+pub numbers_released : (limits : Limits) (o : Option ℕ) (v : Volume) → HasGoodNumbers limits v → HasGoodNumbers limits (released o v)
+numbers_released limits None v numbers = numbers
+numbers_released limits (Some n) v numbers = numbers_node limits v n (with_name_less (v n)) numbers (λ some. numbers n (less_some (v n) some))
 
 -- the names in a directory
 
-abbrev pub HasFew : Entries → Type 0
-HasFew e = (d : ℕ) → CountsUpTo DIRECTORY_NAMES (λ x. IsSome (e d x))
+abbrev pub HasFew : Limits → Entries → Type 0
+HasFew limits e = (d : ℕ) → CountsUpTo limits.directory_names (λ x. IsSome (e d x))
 
 module _ (e : Entries) (k : ℕ) (b : Name) (to : Option ℕ) where
   -- another directory has the same names
@@ -111,38 +112,38 @@ module _ (e : Entries) (k : ℕ) (b : Name) (to : Option ℕ) where
       )
 
   -- each directory has few names, where this one has
-  pub few_after : HasFew e → CountsUpTo DIRECTORY_NAMES (λ x. IsSome (with_edge k b to e k x)) → HasFew (with_edge k b to e)
-  few_after few here d =
+  pub few_after : (limits : Limits) → HasFew limits e → CountsUpTo limits.directory_names (λ x. IsSome (with_edge k b to e k x)) → HasFew limits (with_edge k b to e)
+  few_after limits few here d =
       elim (cases_eq d k) [
-        | inl is ↦ subst (λ j. CountsUpTo DIRECTORY_NAMES (λ x. IsSome (with_edge k b to e j x))) (sym is) here
+        | inl is ↦ subst (λ j. CountsUpTo limits.directory_names (λ x. IsSome (with_edge k b to e j x))) (sym is) here
         | inr other ↦ let counts = few d in (counts.0, same_in_other d counts.0 other counts.1, counts.2)
       ]
 
-  pub few_more : HasFew e → IsSome to → e k b ≡ None → (count : ℕ) → Counts (λ x. IsSome (e k x)) count → count < DIRECTORY_NAMES → HasFew (with_edge k b to e)
-  few_more few some free count counts room = few_after few (suc count, one_added count some free counts, omega (arith, room))
+  pub few_more : (limits : Limits) → HasFew limits e → IsSome to → e k b ≡ None → (count : ℕ) → Counts (λ x. IsSome (e k x)) count → count < limits.directory_names → HasFew limits (with_edge k b to e)
+  few_more limits few some free count counts room = few_after limits few (suc count, one_added count some free counts, omega (arith, room))
 
-  pub few_same : HasFew e → is_some to ≡ is_some (e k b) → HasFew (with_edge k b to e)
-  few_same few alike = few_after few (let counts = few k in (counts.0, same_there counts.0 alike counts.1, counts.2))
+  pub few_same : (limits : Limits) → HasFew limits e → is_some to ≡ is_some (e k b) → HasFew limits (with_edge k b to e)
+  few_same limits few alike = few_after limits few (let counts = few k in (counts.0, same_there counts.0 alike counts.1, counts.2))
 
-  pub few_less : HasFew e → to ≡ None → HasFew (with_edge k b to e)
-  few_less few none =
+  pub few_less : (limits : Limits) → HasFew limits e → to ≡ None → HasFew limits (with_edge k b to e)
+  few_less limits few none =
       elim (cases_Bool (is_some (e k b))) [
         | inl some ↦
             let counts = few k in
             let less = one_removed counts.0 none some counts.1 in
-            few_after few (less.0, less.2, omega (arith, counts.2, less.1))
-        | inr free ↦ few_same few (ap is_some none ∙ sym free)
+            few_after limits few (less.0, less.2, omega (arith, counts.2, less.1))
+        | inr free ↦ few_same limits few (ap is_some none ∙ sym free)
       ]
 
 -- a sweep keeps the limits
-pub limits_swept : (inodes : ℕ) (v : Volume) (table : ℕ → Option Description) → entries (swept table v) ≡ entries v → KeepsNodeLimits inodes v → KeepsNodeLimits inodes (swept table v)
-limits_swept inodes v table same limits = record {
-  nodes = λ n. swept_good (is_open table OPEN_FILES n) (v n) (limits.nodes n);
-  numbers = λ n some. limits.numbers n (swept_some (is_open table OPEN_FILES n) (v n) some);
-  children = subst HasFew (sym same) limits.children;
+pub limits_swept : (limits : Limits) (v : Volume) (table : ℕ → Option Description) → entries (swept table v) ≡ entries v → KeepsNodeLimits limits v → KeepsNodeLimits limits (swept table v)
+limits_swept limits v table same kept = record {
+  nodes = λ n. swept_good (is_open table OPEN_FILES n) (v n) (kept.nodes n);
+  numbers = λ n some. kept.numbers n (swept_some (is_open table OPEN_FILES n) (v n) some);
+  children = subst (HasFew limits) (sym same) kept.children;
 }
   where
-    swept_good : (b : Bool) (o : Option Node) → IfSome o IsNode → IfSome (swept_node b o) IsNode
+    swept_good : (b : Bool) (o : Option Node) → IfSome o (IsNode limits) → IfSome (swept_node b o) (IsNode limits)
     swept_good b None good = tt
     swept_good b (Some (directory_node attributes names)) good = good
     swept_good true (Some (file_node attributes zero bytes)) good = good

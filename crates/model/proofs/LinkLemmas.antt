@@ -92,5 +92,5 @@ module _ (v : Volume) (volume : IsGraph v) (table : ℕ → Option Description) 
       ]
 
 pub volumes_tell_links : VolumesTellLinks
-volumes_tell_links inodes v table n attributes links bytes volume is =
+volumes_tell_links limits v table n attributes links bytes volume is =
     links_are v volume.graph table n (ap is_file_node is) links (volume.graph.counts n attributes links bytes is)

@@ -1,8 +1,10 @@
 -- Trees in which bytes and modes may be left over until they are swept.
 use Rattle.std.proofs.Common.{◌≡◌, ◌≢◌, ◌⊎◌, inl, inr, ℕ, zero, suc, ◌≤◌, ◌<◌, ◌==◌, List, [], ◌∷◌, ◌++◌, length, true, Option, Some, None, is_some, IsSome, IfSome, All, refl, sym, ap, subst, ◌∙◌, arith}
 use Rattle.std.proofs.lemmas.Bool.{cases_Bool, cases_eq, cases_lt, cond_both, cond-true, cond-false, false≢true, eq-eqb, ne_eqb}
-use Rattle.model.specs.declared.limits.TheConstants.{ROOT_NUMBER, FIRST_NUMBER, MODE_BITS, GREATEST_FILE, GREATEST_OFFSET, OPEN_FILES, FILE_NAMES, DIRECTORY_NAMES}
+use Rattle.model.specs.declared.limits.Limits.{Limits}
+use Rattle.model.specs.declared.limits.TheConstants.{ROOT_NUMBER, FIRST_NUMBER, MODE_BITS, GREATEST_OFFSET, OPEN_FILES}
 use Rattle.model.specs.Counting.{Counts, CountsUpTo}
+use Rattle.model.specs.Limits.{AreLimits}
 use Rattle.model.specs.Paths.{Path, IsName, IsLinkText}
 use Rattle.model.specs.Trees.{Tree, Object, directory, symlink, file, number_of_object, is_directory, Description, StandsAtPath, IsOpen, IsUsed, IsTree}
 use Rattle.model.specs.Edits.{with_mode, with_bytes, with_descriptor, IsSwept}
@@ -12,7 +14,8 @@ use Rattle.model.proofs.OnceLemmas.{trees_same}
 pub use Rattle.model.proofs.OptionLaws.{absent, some_or_none, some_same, none_some}
 
 -- a tree but that bytes and modes may stand for numbers that aren't used
-pub record IsLooseTree (inodes : ℕ) (t : Tree) : Type 0 where
+pub record IsLooseTree (limits : Limits) (t : Tree) : Type 0 where
+  pub can_be : AreLimits limits
   pub root : t.objects [] ≡ Some (directory ROOT_NUMBER)
   pub above : (p q : Path) → q ≢ [] → IsSome (t.objects (p ++ q)) → is_directory (t.objects p) ≡ true
   pub names : (p : Path) → IsSome (t.objects p) → All IsName p
@@ -22,17 +25,18 @@ pub record IsLooseTree (inodes : ℕ) (t : Tree) : Type 0 where
   pub loose_bytes : (n : ℕ) → IsSome (t.bytes n) → (StandsAtPath t file n ⊎ IsOpen t n) ⊎ (¬ IsUsed t n)
   pub loose_mode : (n : ℕ) → IsSome (t.mode n) → (StandsAtPath t directory n ⊎ StandsAtPath t file n ⊎ IsOpen t n) ⊎ (¬ IsUsed t n)
   pub opened : (n : ℕ) (p : Path) (o : Object) → IsOpen t n → t.objects p ≡ Some o → number_of_object o ≡ n → o ≡ file n
-  pub numbers : (n : ℕ) → IsUsed t n → (n ≡ ROOT_NUMBER) ⊎ ((FIRST_NUMBER ≤ n) × (n < inodes))
-  pub texts : (p : Path) (n : ℕ) (text : List ℕ) → t.objects p ≡ Some (symlink n text) → IsLinkText text
-  pub children : (p : Path) → is_directory (t.objects p) ≡ true → CountsUpTo DIRECTORY_NAMES (λ name. IsSome (t.objects (p ++ name ∷ [])))
-  pub links : (n : ℕ) → CountsUpTo FILE_NAMES (λ p. t.objects p ≡ Some (file n))
-  pub sizes : (n : ℕ) → IfSome (t.bytes n) (λ bytes. length bytes ≤ GREATEST_FILE)
+  pub numbers : (n : ℕ) → IsUsed t n → (n ≡ ROOT_NUMBER) ⊎ ((FIRST_NUMBER ≤ n) × (n < limits.inodes))
+  pub texts : (p : Path) (n : ℕ) (text : List ℕ) → t.objects p ≡ Some (symlink n text) → IsLinkText limits.path_bytes text
+  pub children : (p : Path) → is_directory (t.objects p) ≡ true → CountsUpTo limits.directory_names (λ name. IsSome (t.objects (p ++ name ∷ [])))
+  pub links : (n : ℕ) → CountsUpTo limits.file_names (λ p. t.objects p ≡ Some (file n))
+  pub sizes : (n : ℕ) → IfSome (t.bytes n) (λ bytes. length bytes ≤ limits.file_bytes)
   pub bits : (n : ℕ) → IfSome (t.mode n) (λ mode. mode ≤ MODE_BITS)
   pub table : (d : ℕ) → OPEN_FILES ≤ d → t.descriptors d ≡ None
   pub offsets : (d : ℕ) (f : Description) → t.descriptors d ≡ Some f → f.offset ≤ GREATEST_OFFSET
 
-pub tree_is_loose : (inodes : ℕ) (t : Tree) → IsTree inodes t → IsLooseTree inodes t
-tree_is_loose inodes t tree = record {
+pub tree_is_loose : (limits : Limits) (t : Tree) → IsTree limits t → IsLooseTree limits t
+tree_is_loose limits t tree = record {
+  can_be = tree.can_be;
   root = tree.root;
   above = tree.above;
   names = tree.names;
@@ -70,7 +74,7 @@ used_either t n (inl (p, is)) = inl (p, directory n, is, refl)
 used_either t n (inr others) = used_file t n others
 
 -- what a sweep leaves is a tree
-module _ (inodes : ℕ) (old new : Tree) (loose : IsLooseTree inodes old) (swept : IsSwept old new) where
+module _ (limits : Limits) (old new : Tree) (loose : IsLooseTree limits old) (swept : IsSwept old new) where
   abbrev left : Tree
   left = record old { bytes = new.bytes; mode = new.mode }
 
@@ -88,8 +92,9 @@ module _ (inodes : ℕ) (old new : Tree) (loose : IsLooseTree inodes old) (swept
         | inr none ↦ absent (new.mode n) (swept.gone n (λ used. absent (new.mode n) ((swept.kept n used).1 ∙ none) some)).1 some
       ]
 
-  left_is_tree : IsTree inodes left
+  left_is_tree : IsTree limits left
   left_is_tree = record {
+    can_be = loose.can_be;
     root = loose.root;
     above = loose.above;
     names = loose.names;
@@ -102,8 +107,8 @@ module _ (inodes : ℕ) (old new : Tree) (loose : IsLooseTree inodes old) (swept
     children = loose.children;
     links = loose.links;
     sizes = λ n. elim (some_or_none (new.bytes n)) [
-      | inl some ↦ if_some (λ (bytes : List ℕ). length bytes ≤ GREATEST_FILE) (new.bytes n) (old.bytes n) (swept.kept n (used_file old n (bytes_left n some))).0 (loose.sizes n)
-      | inr none ↦ if_none (λ (bytes : List ℕ). length bytes ≤ GREATEST_FILE) (new.bytes n) none
+      | inl some ↦ if_some (λ (bytes : List ℕ). length bytes ≤ limits.file_bytes) (new.bytes n) (old.bytes n) (swept.kept n (used_file old n (bytes_left n some))).0 (loose.sizes n)
+      | inr none ↦ if_none (λ (bytes : List ℕ). length bytes ≤ limits.file_bytes) (new.bytes n) none
     ];
     bits = λ n. elim (some_or_none (new.mode n)) [
       | inl some ↦ if_some (λ (mode : ℕ). mode ≤ MODE_BITS) (new.mode n) (old.mode n) (swept.kept n (used_either old n (mode_left n some))).1 (loose.bits n)
@@ -113,8 +118,8 @@ module _ (inodes : ℕ) (old new : Tree) (loose : IsLooseTree inodes old) (swept
     offsets = loose.offsets;
   }
 
-  pub swept_is_tree : IsTree inodes new
-  swept_is_tree = subst (IsTree inodes) (trees_same left new (sym swept.objects) refl refl (sym swept.descriptors)) left_is_tree
+  pub swept_is_tree : IsTree limits new
+  swept_is_tree = subst (IsTree limits) (trees_same left new (sym swept.objects) refl refl (sym swept.descriptors)) left_is_tree
 
 -- whether a number is that of a file at a path, or open, can be found out
 find_open : (table : ℕ → Option Description) → ((d : ℕ) → OPEN_FILES ≤ d → table d ≡ None) → (n : ℕ) → ((d : ℕ) × (f : Description) × (table d ≡ Some f) × (f.number ≡ n)) ⊎ ((d : ℕ) (f : Description) → table d ≡ Some f → f.number ≢ n)
@@ -131,8 +136,8 @@ find_file : (t : Tree) (n count : ℕ) → Counts (λ p. t.objects p ≡ Some (f
 find_file t n zero none = inr none
 find_file t n (suc count) (p, is, rest) = inl (p, is)
 
-pub decided : (t : Tree) (n : ℕ) → CountsUpTo FILE_NAMES (λ p. t.objects p ≡ Some (file n)) → ((d : ℕ) → OPEN_FILES ≤ d → t.descriptors d ≡ None) → ((p : Path) (o : Object) → t.objects p ≡ Some o → number_of_object o ≡ n → o ≡ file n) → (StandsAtPath t file n ⊎ IsOpen t n) ⊎ (¬ IsUsed t n)
-decided t n counts past files =
+pub decided : (limits : Limits) (t : Tree) (n : ℕ) → CountsUpTo limits.file_names (λ p. t.objects p ≡ Some (file n)) → ((d : ℕ) → OPEN_FILES ≤ d → t.descriptors d ≡ None) → ((p : Path) (o : Object) → t.objects p ≡ Some o → number_of_object o ≡ n → o ≡ file n) → (StandsAtPath t file n ⊎ IsOpen t n) ⊎ (¬ IsUsed t n)
+decided limits t n counts past files =
     elim (find_file t n counts.0 counts.1) [
       | inl stands ↦ inl (inl stands)
       | inr nowhere ↦ elim (find_open t.descriptors past n) [
@@ -145,16 +150,16 @@ decided t n counts past files =
     ]
 
 -- of a file or an open file, all that has its number is that file
-pub all_files : (inodes : ℕ) (t : Tree) → IsLooseTree inodes t → (n : ℕ) → StandsAtPath t file n ⊎ IsOpen t n → (p : Path) (o : Object) → t.objects p ≡ Some o → number_of_object o ≡ n → o ≡ file n
-all_files inodes t loose n (inl (q, is)) p o at_p same =
+pub all_files : (limits : Limits) (t : Tree) → IsLooseTree limits t → (n : ℕ) → StandsAtPath t file n ⊎ IsOpen t n → (p : Path) (o : Object) → t.objects p ≡ Some o → number_of_object o ≡ n → o ≡ file n
+all_files limits t loose n (inl (q, is)) p o at_p same =
     elim (loose.single q p (file n) o is at_p (sym same)) [
       | inl one ↦ some_same (sym at_p ∙ ap t.objects (sym one) ∙ is)
       | inr both ↦ both.1
     ]
-all_files inodes t loose n (inr open_file) p o at_p same = loose.opened n p o open_file at_p same
+all_files limits t loose n (inr open_file) p o at_p same = loose.opened n p o open_file at_p same
 
 -- some files are closed
-module _ (inodes : ℕ) (old : Tree) (tree : IsTree inodes old) (table : ℕ → Option Description) (fewer : (d : ℕ) (f : Description) → table d ≡ Some f → old.descriptors d ≡ Some f) where
+module _ (limits : Limits) (old : Tree) (tree : IsTree limits old) (table : ℕ → Option Description) (fewer : (d : ℕ) (f : Description) → table d ≡ Some f → old.descriptors d ≡ Some f) where
   abbrev closed : Tree
   closed = record old { descriptors = table }
 
@@ -177,14 +182,15 @@ module _ (inodes : ℕ) (old : Tree) (tree : IsTree inodes old) (table : ℕ →
       none_by (Some f) is = none_some (sym (tree.table d beyond) ∙ fewer d f is)
 
   still : (n : ℕ) → StandsAtPath old file n ⊎ IsOpen old n → (StandsAtPath closed file n ⊎ IsOpen closed n) ⊎ (¬ IsUsed closed n)
-  still n stands = decided closed n (tree.links n) past (λ p o at_p same. all_files inodes old (tree_is_loose inodes old tree) n stands p o at_p same)
+  still n stands = decided limits closed n (tree.links n) past (λ p o at_p same. all_files limits old (tree_is_loose limits old tree) n stands p o at_p same)
 
   mode_still : (n : ℕ) → StandsAtPath old directory n ⊎ StandsAtPath old file n ⊎ IsOpen old n → (StandsAtPath closed directory n ⊎ StandsAtPath closed file n ⊎ IsOpen closed n) ⊎ (¬ IsUsed closed n)
   mode_still n (inl stands) = inl (inl stands)
   mode_still n (inr others) = elim (still n others) [ inl stands ↦ inl (inr stands) | inr unused ↦ inr unused ]
 
-  pub closed_is_loose : IsLooseTree inodes closed
+  pub closed_is_loose : IsLooseTree limits closed
   closed_is_loose = record {
+    can_be = tree.can_be;
     root = tree.root;
     above = tree.above;
     names = tree.names;
@@ -205,8 +211,9 @@ module _ (inodes : ℕ) (old : Tree) (tree : IsTree inodes old) (table : ℕ →
   }
 
 -- a tree stays one where a file that is used gets other bytes, or an object that has a mode another mode
-pub bytes_keep : (inodes : ℕ) (t : Tree) (n : ℕ) (given : List ℕ) → IsTree inodes t → StandsAtPath t file n ⊎ IsOpen t n → length given ≤ GREATEST_FILE → IsTree inodes (with_bytes n given t)
-bytes_keep inodes t n given tree stands few = record {
+pub bytes_keep : (limits : Limits) (t : Tree) (n : ℕ) (given : List ℕ) → IsTree limits t → StandsAtPath t file n ⊎ IsOpen t n → length given ≤ limits.file_bytes → IsTree limits (with_bytes n given t)
+bytes_keep limits t n given tree stands few = record {
+  can_be = tree.can_be;
   root = tree.root;
   above = tree.above;
   names = tree.names;
@@ -224,14 +231,15 @@ bytes_keep inodes t n given tree stands few = record {
   texts = tree.texts;
   children = tree.children;
   links = tree.links;
-  sizes = λ k. cond_both (k == n) (Some given) (t.bytes k) (λ o. IfSome o (λ bytes. length bytes ≤ GREATEST_FILE)) (λ e. few) (λ e. tree.sizes k);
+  sizes = λ k. cond_both (k == n) (Some given) (t.bytes k) (λ o. IfSome o (λ bytes. length bytes ≤ limits.file_bytes)) (λ e. few) (λ e. tree.sizes k);
   bits = tree.bits;
   table = tree.table;
   offsets = tree.offsets;
 }
 
-pub mode_keeps : (inodes : ℕ) (t : Tree) (n mode : ℕ) → IsTree inodes t → StandsAtPath t directory n ⊎ StandsAtPath t file n ⊎ IsOpen t n → mode ≤ MODE_BITS → IsTree inodes (with_mode n mode t)
-mode_keeps inodes t n mode tree stands few = record {
+pub mode_keeps : (limits : Limits) (t : Tree) (n mode : ℕ) → IsTree limits t → StandsAtPath t directory n ⊎ StandsAtPath t file n ⊎ IsOpen t n → mode ≤ MODE_BITS → IsTree limits (with_mode n mode t)
+mode_keeps limits t n mode tree stands few = record {
+  can_be = tree.can_be;
   root = tree.root;
   above = tree.above;
   names = tree.names;
@@ -256,7 +264,7 @@ mode_keeps inodes t n mode tree stands few = record {
 }
 
 -- a file that is used is opened at a free descriptor, or the offset of an open one moves
-module _ (inodes : ℕ) (t : Tree) (tree : IsTree inodes t) (fd : ℕ) (f : Description) (below : fd < OPEN_FILES) (stands : StandsAtPath t file f.number ⊎ IsOpen t f.number) (few : f.offset ≤ GREATEST_OFFSET) (was : (g : Description) → t.descriptors fd ≡ Some g → g.number ≡ f.number) where
+module _ (limits : Limits) (t : Tree) (tree : IsTree limits t) (fd : ℕ) (f : Description) (below : fd < OPEN_FILES) (stands : StandsAtPath t file f.number ⊎ IsOpen t f.number) (few : f.offset ≤ GREATEST_OFFSET) (was : (g : Description) → t.descriptors fd ≡ Some g → g.number ≡ f.number) where
   abbrev held : Tree
   held = with_descriptor fd (Some f) t
 
@@ -293,8 +301,9 @@ module _ (inodes : ℕ) (t : Tree) (tree : IsTree inodes t) (fd : ℕ) (f : Desc
         | inr other ↦ inr (d, g, held_other d other ∙ is, same)
       ]
 
-  pub held_is_tree : IsTree inodes held
+  pub held_is_tree : IsTree limits held
   held_is_tree = record {
+    can_be = tree.can_be;
     root = tree.root;
     above = tree.above;
     names = tree.names;
@@ -304,7 +313,7 @@ module _ (inodes : ℕ) (t : Tree) (tree : IsTree inodes t) (fd : ℕ) (f : Desc
       λ some. elim ((tree.mode n).0 some) [ inl there ↦ inl there | inr others ↦ inr (file_stays n others) ],
       λ there. (tree.mode n).1 (elim there [ inl here ↦ inl here | inr others ↦ inr (file_was n others) ]),
     );
-    opened = λ n p o open_file at_p same. all_files inodes t (tree_is_loose inodes t tree) n (opened_was n open_file) p o at_p same;
+    opened = λ n p o open_file at_p same. all_files limits t (tree_is_loose limits t tree) n (opened_was n open_file) p o at_p same;
     numbers = λ n used. tree.numbers n (elim used [ inl path ↦ inl path | inr open_file ↦ used_file t n (opened_was n open_file) ]);
     texts = tree.texts;
     children = tree.children;

@@ -12,16 +12,16 @@ use Rattle.model.proofs.MoveLemmas.{records_keep_volumes, volume-swept}
 use Rattle.model.proofs.OptionLaws.{none_some}
 
 pub replays_keep_volumes : ReplaysKeepVolumes
-replays_keep_volumes inodes v [] w volume replays = subst (IsVolume inodes) (sym replays) volume
-replays_keep_volumes inodes v (change ∷ changes) w volume replays =
-    replays_keep_volumes inodes (applied change v) changes w (records_keep_volumes inodes v change volume replays.0) replays.1
+replays_keep_volumes limits v [] w volume replays = subst (IsVolume limits) (sym replays) volume
+replays_keep_volumes limits v (change ∷ changes) w volume replays =
+    replays_keep_volumes limits (applied change v) changes w (records_keep_volumes limits v change volume replays.0) replays.1
 
 abbrev closed : ℕ → Option Description
 closed d = None
 
 pub mounts_find : MountsFind
-mounts_find inodes w volume = (
-  volume-swept inodes w closed volume,
+mounts_find limits w volume = (
+  volume-swept limits w closed volume,
   record {
     files = λ d f is. none_some is;
     is_swept = λ n. swept_twice false (w n);
@@ -36,7 +36,7 @@ path_of_used v n (inl there) = there
 path_of_used v n (inr (d, f, is, same)) = none_some is
 
 pub mounts_forget : MountsForget
-mounts_forget inodes running replayed table volume extends =
+mounts_forget limits running replayed table volume extends =
     subst (λ (w : Volume). ForgetsOpenFiles (tree_of running table) (tree_of w closed)) (sym (same_in_the_end running replayed extends))
     record {
       objects = objects-swept running volume.graph closed (λ d past. refl);

@@ -3,8 +3,9 @@ use Rattle.std.proofs.Common.{◌≡◌, ◌≢◌, ◌⊎◌, inl, inr, ◌↔�
 use Rattle.std.proofs.lemmas.Bool.{cases_Bool, false≢true}
 use Rattle.std.proofs.lemmas.List.Sums.{fold-append}
 use Rattle.std.proofs.lemmas.List.Elements.{All-nil, All-push}
+use Rattle.model.specs.declared.limits.Limits.{Limits}
 use Rattle.model.specs.declared.attributes.Attributes.{Attributes}
-use Rattle.model.specs.declared.limits.TheConstants.{ROOT_NUMBER, FILE_NAMES, DIRECTORY_NAMES, GREATEST_FILE, MODE_BITS}
+use Rattle.model.specs.declared.limits.TheConstants.{ROOT_NUMBER, MODE_BITS}
 use Rattle.model.specs.Counting.{CountsUpTo}
 use Rattle.model.specs.Paths.{Name, Path, IsName, IsLinkText}
 use Rattle.model.specs.Trees.{Tree, Object, directory, symlink, file, number_of_object, is_directory, Description, StandsAtPath, IsOpen, IsUsed, IsTree}
@@ -77,24 +78,24 @@ file_some None e = e
 file_some (Some o) e = refl
 
 -- the limits of one object
-size_kept : (o : Option Node) → IfSome o IsNode → IfSome (bytes_of_node o) (λ bytes. length bytes ≤ GREATEST_FILE)
-size_kept None good = tt
-size_kept (Some (directory_node attributes names)) good = tt
-size_kept (Some (file_node attributes links bytes)) good = good.2
-size_kept (Some (link_node attributes text)) good = tt
+size_kept : (limits : Limits) (o : Option Node) → IfSome o (IsNode limits) → IfSome (bytes_of_node o) (λ bytes. length bytes ≤ limits.file_bytes)
+size_kept limits None good = tt
+size_kept limits (Some (directory_node attributes names)) good = tt
+size_kept limits (Some (file_node attributes links bytes)) good = good.2
+size_kept limits (Some (link_node attributes text)) good = tt
 
-bits_kept : (o : Option Node) → IfSome o IsNode → IfSome (mode_of o) (λ mode. mode ≤ MODE_BITS)
-bits_kept None good = tt
-bits_kept (Some (directory_node attributes names)) good = good.mode
-bits_kept (Some (file_node attributes links bytes)) good = good.0.mode
-bits_kept (Some (link_node attributes text)) good = tt
+bits_kept : (limits : Limits) (o : Option Node) → IfSome o (IsNode limits) → IfSome (mode_of o) (λ mode. mode ≤ MODE_BITS)
+bits_kept limits None good = tt
+bits_kept limits (Some (directory_node attributes names)) good = good.mode
+bits_kept limits (Some (file_node attributes links bytes)) good = good.0.mode
+bits_kept limits (Some (link_node attributes text)) good = tt
 
 -- a walk that got nowhere stays there
 pub nowhere : (e : Entries) (q : Path) → fold (enter e) None q ≡ None
 nowhere e [] = refl
 nowhere e (x ∷ q) = nowhere e q
 
-module _ (inodes : ℕ) (v : Volume) (volume : IsVolume inodes v) (table : ℕ → Option Description) (mounted : IsMounted v table) where
+module _ (limits : Limits) (v : Volume) (volume : IsVolume limits v) (table : ℕ → Option Description) (mounted : IsMounted v table) where
   abbrev t : Tree
   t = tree_of v table
 
@@ -189,23 +190,23 @@ module _ (inodes : ℕ) (v : Volume) (volume : IsVolume inodes v) (table : ℕ �
       sym (object_some n (v n)) ∙ ap is_some (sym (object_is there.0 n (found_number v (number_at (entries v) there.0) there.1 n there.2 there.3)) ∙ there.2)
   used_some n (inr open_file) = file_some (v n) (used_file n (inr open_file))
 
-  texts_are : (p : Path) (n : ℕ) (text : List ℕ) → t.objects p ≡ Some (symlink n text) → IsLinkText text
+  texts_are : (p : Path) (n : ℕ) (text : List ℕ) → t.objects p ≡ Some (symlink n text) → IsLinkText limits.path_bytes text
   texts_are p n text is =
       let link = object_link n (v n) n text (sym (object_is p n (at_path p (symlink n text) is)) ∙ is) in
-      let good : IfSome (Some (link_node link.0 text)) IsNode = subst (λ o. IfSome o IsNode) link.1 (volume.limits.nodes n) in
+      let good : IfSome (Some (link_node link.0 text)) (IsNode limits) = subst (λ o. IfSome o (IsNode limits)) link.1 (volume.keeps.nodes n) in
       good
 
   entry_some : (o : Option ℕ) → ((n : ℕ) → o ≡ Some n → IsSome (v n)) → is_some (object_at v o) ≡ is_some o
   entry_some None used = refl
   entry_some (Some n) used = object_some n (v n) ∙ used n refl
 
-  children_are : (p : Path) → is_directory (t.objects p) ≡ true → CountsUpTo DIRECTORY_NAMES (λ x. IsSome (t.objects (p ++ x ∷ [])))
+  children_are : (p : Path) → is_directory (t.objects p) ≡ true → CountsUpTo limits.directory_names (λ x. IsSome (t.objects (p ++ x ∷ [])))
   children_are p is = by_number (number_at (entries v) p) refl
     where
-      by_number : (o : Option ℕ) → number_at (entries v) p ≡ o → CountsUpTo DIRECTORY_NAMES (λ x. IsSome (t.objects (p ++ x ∷ [])))
+      by_number : (o : Option ℕ) → number_at (entries v) p ≡ o → CountsUpTo limits.directory_names (λ x. IsSome (t.objects (p ++ x ∷ [])))
       by_number None at_p = absurd (false≢true (sym (ap (λ o. is_directory (object_at v o)) at_p) ∙ is))
       by_number (Some d) at_p =
-          let counts = volume.limits.children d in (
+          let counts = volume.keeps.children d in (
             counts.0,
             same_count (λ x. IsSome (entries v d x)) (λ x. IsSome (t.objects (p ++ x ∷ []))) counts.0
                 (λ x. let same : is_some (t.objects (p ++ x ∷ [])) ≡ is_some (entries v d x) = ap (λ o. is_some (object_at v o)) (number_at-push (entries v) p x ∙ ap (λ o. enter (entries v) o x) at_p) ∙ entry_some (entries v d x) (λ n there. volume.graph.naming.used d n x there) in
@@ -213,19 +214,20 @@ module _ (inodes : ℕ) (v : Volume) (volume : IsVolume inodes v) (table : ℕ �
             counts.2,
           )
 
-  no_links : (n : ℕ) → is_file_node (v n) ≡ false → CountsUpTo FILE_NAMES (λ p. t.objects p ≡ Some (file n))
-  no_links n other = (0, (λ p is. false≢true (sym other ∙ used_file n (inl (p, is)))), lit≤ tt)
+  no_links : (n : ℕ) → is_file_node (v n) ≡ false → CountsUpTo limits.file_names (λ p. t.objects p ≡ Some (file n))
+  no_links n other = (0, (λ p is. false≢true (sym other ∙ used_file n (inl (p, is)))), omega arith)
 
-  links_of : (n : ℕ) (o : Option Node) → v n ≡ o → CountsUpTo FILE_NAMES (λ p. t.objects p ≡ Some (file n))
+  links_of : (n : ℕ) (o : Option Node) → v n ≡ o → CountsUpTo limits.file_names (λ p. t.objects p ≡ Some (file n))
   links_of n (Some (file_node attributes links bytes)) is =
-      let good : IfSome (Some (file_node attributes links bytes)) IsNode = subst (λ o. IfSome o IsNode) is (volume.limits.nodes n) in
+      let good : IfSome (Some (file_node attributes links bytes)) (IsNode limits) = subst (λ o. IfSome o (IsNode limits)) is (volume.keeps.nodes n) in
       (links, links_are v volume.graph table n (ap is_file_node is) links (volume.graph.counts n attributes links bytes is), good.1)
   links_of n None is = no_links n (ap is_file_node is)
   links_of n (Some (directory_node attributes names)) is = no_links n (ap is_file_node is)
   links_of n (Some (link_node attributes text)) is = no_links n (ap is_file_node is)
 
-  pub tree_of_is_tree : IsTree inodes t
+  pub tree_of_is_tree : IsTree limits t
   tree_of_is_tree = record {
+    can_be = volume.can_be;
     root = directory_object ROOT_NUMBER (v ROOT_NUMBER) volume.graph.naming.root;
     above = above_is;
     names = names_are;
@@ -233,12 +235,12 @@ module _ (inodes : ℕ) (v : Volume) (volume : IsVolume inodes v) (table : ℕ �
     bytes = bytes_are;
     mode = modes_are;
     opened = opened_is;
-    numbers = λ n used. volume.limits.numbers n (used_some n used);
+    numbers = λ n used. volume.keeps.numbers n (used_some n used);
     texts = texts_are;
     children = children_are;
     links = λ n. links_of n (v n) refl;
-    sizes = λ n. size_kept (v n) (volume.limits.nodes n);
-    bits = λ n. bits_kept (v n) (volume.limits.nodes n);
+    sizes = λ n. size_kept limits (v n) (volume.keeps.nodes n);
+    bits = λ n. bits_kept limits (v n) (volume.keeps.nodes n);
     table = mounted.bounded;
     offsets = mounted.offsets;
   }

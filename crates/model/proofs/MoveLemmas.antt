@@ -3,9 +3,11 @@ use Rattle.std.proofs.Common.{◌≡◌, ◌≢◌, inl, inr, ℕ, ◌≤◌, �
 use Rattle.std.proofs.lemmas.Bool.{cases_eq}
 use Rattle.std.proofs.lemmas.List.{same_from_push}
 use Rattle.std.proofs.lemmas.List.Sums.{fold-append}
+use Rattle.model.specs.declared.limits.Limits.{Limits}
 use Rattle.model.specs.declared.attributes.Attributes.{Attributes}
-use Rattle.model.specs.declared.limits.TheConstants.{ROOT_NUMBER, FILE_NAMES, GREATEST_FILE, MODE_BITS}
+use Rattle.model.specs.declared.limits.TheConstants.{ROOT_NUMBER, MODE_BITS}
 use Rattle.model.specs.Counting.{Counts}
+use Rattle.model.specs.Limits.{AreLimits}
 use Rattle.model.specs.Paths.{Name, Path, IsName, behind}
 use Rattle.model.specs.Trees.{Description}
 use Rattle.model.specs.Edits.{written, resized}
@@ -39,7 +41,7 @@ pub record IsMove (v : Volume) (u w : Path) (a b : Name) (d k n : ℕ) : Type 0 
   pub distinct : entries v k b ≢ Some n
   pub name : IsName b
 
-module _ (v : Volume) (graph : IsGraph v) (d : ℕ) (a : Name) (k : ℕ) (b : Name) (can : CanRename v d a k b) where
+module _ {limits : Limits} (v : Volume) (graph : IsGraph v) (d : ℕ) (a : Name) (k : ℕ) (b : Name) (can : CanRename limits v d a k b) where
   abbrev n : ℕ
   n = can.number
 
@@ -52,11 +54,11 @@ module _ (v : Volume) (graph : IsGraph v) (d : ℕ) (a : Name) (k : ℕ) (b : Na
   pub to_path : (p : Path) × (number_at (entries v) p ≡ Some k)
   to_path = path_to v graph k can.directory
 
-  replaced_empty : (o : Option ℕ) → CanReplace v d k b n o → (m : ℕ) (x : Name) → o ≡ Some m → entries v m x ≡ None
+  replaced_empty : (o : Option ℕ) → CanReplace limits v d k b n o → (m : ℕ) (x : Name) → o ≡ Some m → entries v m x ≡ None
   replaced_empty None replaces m x is = cc
   replaced_empty (Some t) replaces m x is = let same : t ≡ m = cc in subst (λ j. entries v j x ≡ None) same (replaces.2 x)
 
-  replaced_other : (o : Option ℕ) → CanReplace v d k b n o → o ≢ Some n
+  replaced_other : (o : Option ℕ) → CanReplace limits v d k b n o → o ≢ Some n
   replaced_other None replaces is = cc
   replaced_other (Some t) replaces is = replaces.0 (cc)
 
@@ -100,12 +102,12 @@ module _ (v : Volume) (graph : IsGraph v) (d : ℕ) (a : Name) (k : ℕ) (b : Na
       let m = is_move in
       entries-renamed v graph from_path.0 to_path.0 a b d k n m.at_d m.at_k m.there m.d_is m.k_is m.empty m.outside m.other
 
-  module _ (few : HasFew (entries v)) where
+  module _ (few : HasFew limits (entries v)) where
     abbrev without : Entries
     without = with_edge d a None (entries v)
 
-    few_without : HasFew without
-    few_without = few_less (entries v) d a None few refl
+    few_without : HasFew limits without
+    few_without = few_less (entries v) d a None limits few refl
 
     -- the place of the new name, once the old one is gone
     still_target : (m : ℕ) → entries v k b ≡ Some m → without k b ≡ Some m
@@ -116,31 +118,31 @@ module _ (v : Volume) (graph : IsGraph v) (d : ℕ) (a : Name) (k : ℕ) (b : Na
     still_free is =
         edge_other d k a b None (entries v) (λ in_d name. let there : None ≡ Some n = sym is ∙ ap (λ i. entries v i b) in_d ∙ ap (entries v d) name ∙ can.there in cc) ∙ is
 
-    room_for : (o : Option ℕ) → entries v k b ≡ o → CanReplace v d k b n o → HasFew (with_edge k b (Some n) without)
-    room_for (Some m) is replaces = few_same without k b (Some n) few_without (sym (ap is_some (still_target m is)))
+    room_for : (o : Option ℕ) → entries v k b ≡ o → CanReplace limits v d k b n o → HasFew limits (with_edge k b (Some n) without)
+    room_for (Some m) is replaces = few_same without k b (Some n) limits few_without (sym (ap is_some (still_target m is)))
     room_for None is (inl same) =
         let counts = few d in
         let less = one_removed (entries v) d a None counts.0 refl (ap is_some can.there) counts.1 in
-        few_more without k b (Some n) few_without refl (still_free is) less.0 (subst (λ j. Counts (λ x. IsSome (without j x)) less.0) same less.2) (omega (arith, counts.2, less.1))
+        few_more without k b (Some n) limits few_without refl (still_free is) less.0 (subst (λ j. Counts (λ x. IsSome (without j x)) less.0) same less.2) (omega (arith, counts.2, less.1))
     room_for None is (inr takes) =
         let free : without k b ≡ None = still_free is in
         elim (cases_eq d k) [
           | inl same ↦
               let less = one_removed (entries v) d a None takes.count refl (ap is_some can.there) (subst (λ j. Counts (λ x. IsSome (entries v j x)) takes.count) (sym same) takes.counts) in
-              few_more without k b (Some n) few_without refl free less.0 (subst (λ j. Counts (λ x. IsSome (without j x)) less.0) same less.2) (omega (arith, takes.room, less.1))
+              few_more without k b (Some n) limits few_without refl free less.0 (subst (λ j. Counts (λ x. IsSome (without j x)) less.0) same less.2) (omega (arith, takes.room, less.1))
           | inr apart ↦
-              few_more without k b (Some n) few_without refl free takes.count
+              few_more without k b (Some n) limits few_without refl free takes.count
               (same_in_other (entries v) d a None k takes.count (λ same. apart (sym same)) takes.counts) takes.room
         ]
 
-    pub few-moved : HasFew (entries (renamed d a k b v))
-    few-moved = subst HasFew (sym edges-moved) (room_for (entries v k b) refl can.replaces)
+    pub few-moved : HasFew limits (entries (renamed d a k b v))
+    few-moved = subst (HasFew limits) (sym edges-moved) (room_for (entries v k b) refl can.replaces)
 
 -- the limits of what is made and of what changes
-made_good : (made : Made) → IsMade made → IsNode (node_of made)
-made_good (file mode) good = (new_fit mode good, lit≤ tt, lit≤ tt)
-made_good (directory mode) good = new_fit mode good
-made_good (symbolic_link text) good = good
+made_good : (limits : Limits) → AreLimits limits → (made : Made) → IsMade limits made → IsNode limits (node_of made)
+made_good limits can_be (file mode) good = (new_fit mode good, can_be.named, omega arith)
+made_good limits can_be (directory mode) good = new_fit mode good
+made_good limits can_be (symbolic_link text) good = good
 
 pub made_bare : (made : Made) (x : Name) → names_in (Some (node_of made)) x ≡ None
 made_bare (file mode) x = refl
@@ -152,21 +154,22 @@ made_links (file m) attributes links bytes is = cc
 made_links (directory m) attributes links bytes is = cc
 made_links (symbolic_link text) attributes links bytes is = cc
 
-more_good : (o : Option Node) (attributes : Attributes) (links : ℕ) (bytes : List ℕ) → o ≡ Some (file_node attributes links bytes) → links < FILE_NAMES → IfSome o IsNode → IfSome (with_name_more o) IsNode
-more_good None attributes links bytes is few good = tt
-more_good (Some (directory_node m names)) attributes links bytes is few good = good
-more_good (Some (file_node m l b)) attributes links bytes is few good = let same : l ≡ links = cc in (good.0, omega (arith, few, same), good.2)
-more_good (Some (link_node a text)) attributes links bytes is few good = good
+more_good : (limits : Limits) (o : Option Node) (attributes : Attributes) (links : ℕ) (bytes : List ℕ) → o ≡ Some (file_node attributes links bytes) → links < limits.file_names → IfSome o (IsNode limits) → IfSome (with_name_more o) (IsNode limits)
+more_good limits None attributes links bytes is few good = tt
+more_good limits (Some (directory_node m names)) attributes links bytes is few good = good
+more_good limits (Some (file_node m l b)) attributes links bytes is few good = let same : l ≡ links = cc in (good.0, omega (arith, few, same), good.2)
+more_good limits (Some (link_node a text)) attributes links bytes is few good = good
 
 -- one object changes but for its kind, its names and its links
-module _ (inodes : ℕ) (v : Volume) (volume : IsVolume inodes v) (n : ℕ) (o : Option Node) (names : (x : Name) → names_in o x ≡ names_in (v n) x) (file : is_file_node o ≡ is_file_node (v n)) (directory : is_directory_node o ≡ is_directory_node (v n)) (some : is_some o ≡ is_some (v n)) (same_links : SameLinks (v n) o) (good : IfSome o IsNode) where
-  pub volume-altered : IsVolume inodes (with_node n o v)
+module _ (limits : Limits) (v : Volume) (volume : IsVolume limits v) (n : ℕ) (o : Option Node) (names : (x : Name) → names_in o x ≡ names_in (v n) x) (file : is_file_node o ≡ is_file_node (v n)) (directory : is_directory_node o ≡ is_directory_node (v n)) (some : is_some o ≡ is_some (v n)) (same_links : SameLinks (v n) o) (good : IfSome o (IsNode limits)) where
+  pub volume-altered : IsVolume limits (with_node n o v)
   volume-altered = record {
+    can_be = volume.can_be;
     graph = graph-altered v volume.graph n o names file directory some same_links;
-    limits = record {
-      nodes = good_node v n o volume.limits.nodes good;
-      numbers = numbers_node inodes v n o volume.limits.numbers (λ is. volume.limits.numbers n (sym some ∙ is));
-      children = subst HasFew (sym (entries-node n o v names)) volume.limits.children;
+    keeps = record {
+      nodes = good_node limits v n o volume.keeps.nodes good;
+      numbers = numbers_node limits v n o volume.keeps.numbers (λ is. volume.keeps.numbers n (sym some ∙ is));
+      children = subst (HasFew limits) (sym (entries-node n o v names)) volume.keeps.children;
     };
   }
 
@@ -188,15 +191,15 @@ bytes_links f (Some (directory_node m names)) attributes links bytes is = cc
 bytes_links f (Some (file_node m l b)) attributes links bytes is = let same : l ≡ links = cc in (m, b, ap (λ c. Some (file_node m c b)) same)
 bytes_links f (Some (link_node a text)) attributes links bytes is = cc
 
-bytes_good : (f : List ℕ → List ℕ) (o : Option Node) → ((bytes : List ℕ) → length bytes ≤ GREATEST_FILE → length (f bytes) ≤ GREATEST_FILE) → IfSome o IsNode → IfSome (with_file_bytes f o) IsNode
-bytes_good f None short good = tt
-bytes_good f (Some (directory_node attributes names)) short good = good
-bytes_good f (Some (file_node attributes links bytes)) short good = (good.0, good.1, short bytes good.2)
-bytes_good f (Some (link_node attributes text)) short good = good
+bytes_good : (limits : Limits) (f : List ℕ → List ℕ) (o : Option Node) → ((bytes : List ℕ) → length bytes ≤ limits.file_bytes → length (f bytes) ≤ limits.file_bytes) → IfSome o (IsNode limits) → IfSome (with_file_bytes f o) (IsNode limits)
+bytes_good limits f None short good = tt
+bytes_good limits f (Some (directory_node attributes names)) short good = good
+bytes_good limits f (Some (file_node attributes links bytes)) short good = (good.0, good.1, short bytes good.2)
+bytes_good limits f (Some (link_node attributes text)) short good = good
 
-volume-bytes : (inodes : ℕ) (v : Volume) → IsVolume inodes v → (n : ℕ) (f : List ℕ → List ℕ) → ((bytes : List ℕ) → length bytes ≤ GREATEST_FILE → length (f bytes) ≤ GREATEST_FILE) → IsVolume inodes (with_node n (with_file_bytes f (v n)) v)
-volume-bytes inodes v volume n f short =
-    volume-altered inodes v volume n (with_file_bytes f (v n)) (bytes_names f (v n)) (bytes_by is_file_node (λ attributes links a b. refl) f (v n)) (bytes_by is_directory_node (λ attributes links a b. refl) f (v n)) (bytes_by is_some (λ attributes links a b. refl) f (v n)) (bytes_links f (v n)) (bytes_good f (v n) short (volume.limits.nodes n))
+volume-bytes : (limits : Limits) (v : Volume) → IsVolume limits v → (n : ℕ) (f : List ℕ → List ℕ) → ((bytes : List ℕ) → length bytes ≤ limits.file_bytes → length (f bytes) ≤ limits.file_bytes) → IsVolume limits (with_node n (with_file_bytes f (v n)) v)
+volume-bytes limits v volume n f short =
+    volume-altered limits v volume n (with_file_bytes f (v n)) (bytes_names f (v n)) (bytes_by is_file_node (λ attributes links a b. refl) f (v n)) (bytes_by is_directory_node (λ attributes links a b. refl) f (v n)) (bytes_by is_some (λ attributes links a b. refl) f (v n)) (bytes_links f (v n)) (bytes_good limits f (v n) short (volume.keeps.nodes n))
 
 pub mode_names : (bits : ℕ) (o : Option Node) (x : Name) → names_in (with_node_mode bits o) x ≡ names_in o x
 mode_names bits None x = refl
@@ -228,86 +231,91 @@ mode_links bits (Some (directory_node m names)) attributes links bytes is = cc
 mode_links bits (Some (file_node m l b)) attributes links bytes is = let same : l ≡ links = cc in (m, b, ap (λ c. Some (file_node m c b)) same)
 mode_links bits (Some (link_node a text)) attributes links bytes is = cc
 
-mode_good : (bits : ℕ) (o : Option Node) → bits ≤ MODE_BITS → IfSome o IsNode → IfSome (with_node_mode bits o) IsNode
-mode_good bits None few good = tt
-mode_good bits (Some (directory_node attributes names)) few good = set_fit bits attributes few good
-mode_good bits (Some (file_node attributes links bytes)) few good = (set_fit bits attributes few good.0, good.1, good.2)
-mode_good bits (Some (link_node attributes text)) few good = good
+mode_good : (limits : Limits) (bits : ℕ) (o : Option Node) → bits ≤ MODE_BITS → IfSome o (IsNode limits) → IfSome (with_node_mode bits o) (IsNode limits)
+mode_good limits bits None few good = tt
+mode_good limits bits (Some (directory_node attributes names)) few good = set_fit bits attributes few good
+mode_good limits bits (Some (file_node attributes links bytes)) few good = (set_fit bits attributes few good.0, good.1, good.2)
+mode_good limits bits (Some (link_node attributes text)) few good = good
 
-resized_short : (size : ℕ) (bytes : List ℕ) → size ≤ GREATEST_FILE → length bytes ≤ GREATEST_FILE → length (resized size bytes) ≤ GREATEST_FILE
-resized_short size bytes fits short = subst (λ k. k ≤ GREATEST_FILE) (sym (length-resized size bytes)) fits
+resized_short : (limits : Limits) (size : ℕ) (bytes : List ℕ) → size ≤ limits.file_bytes → length bytes ≤ limits.file_bytes → length (resized size bytes) ≤ limits.file_bytes
+resized_short limits size bytes fits short = subst (λ k. k ≤ limits.file_bytes) (sym (length-resized size bytes)) fits
 
 -- a file's size changes, or a mode
-volume-size : (inodes : ℕ) (v : Volume) → IsVolume inodes v → (number size : ℕ) → size ≤ GREATEST_FILE → IsVolume inodes (with_size number size v)
-volume-size inodes v volume number size fits = volume-bytes inodes v volume number (resized size) (λ old short. resized_short size old fits short)
+volume-size : (limits : Limits) (v : Volume) → IsVolume limits v → (number size : ℕ) → size ≤ limits.file_bytes → IsVolume limits (with_size number size v)
+volume-size limits v volume number size fits = volume-bytes limits v volume number (resized size) (λ old short. resized_short limits size old fits short)
 
-volume-bits : (inodes : ℕ) (v : Volume) → IsVolume inodes v → (number mode : ℕ) → mode ≤ MODE_BITS → IsVolume inodes (with_bits number mode v)
-volume-bits inodes v volume number mode few =
-    volume-altered inodes v volume number (with_node_mode mode (v number)) (mode_names mode (v number)) (mode_file mode (v number)) (mode_directory mode (v number)) (mode_some mode (v number)) (mode_links mode (v number)) (mode_good mode (v number) few (volume.limits.nodes number))
+volume-bits : (limits : Limits) (v : Volume) → IsVolume limits v → (number mode : ℕ) → mode ≤ MODE_BITS → IsVolume limits (with_bits number mode v)
+volume-bits limits v volume number mode few =
+    volume-altered limits v volume number (with_node_mode mode (v number)) (mode_names mode (v number)) (mode_file mode (v number)) (mode_directory mode (v number)) (mode_some mode (v number)) (mode_links mode (v number)) (mode_good limits mode (v number) few (volume.keeps.nodes number))
 
 -- a record that applies keeps a volume
 pub records_keep_volumes : RecordsKeepVolumes
-records_keep_volumes inodes v (create number parent made name) volume can =
+records_keep_volumes limits v (create number parent made name) volume can =
     let path = path_to v volume.graph parent can.takes.directory in
-    let limits = volume.limits in
+    let kept = volume.keeps in
     let edges : entries (created number parent name (node_of made) v) ≡ with_edge parent name (Some number) (entries v) =
     edges-created v volume.graph parent name number (node_of made) can.takes.directory can.vacant (made_bare made) in
     record {
+      can_be = volume.can_be;
       graph = graph-created v volume.graph path.0 name parent number (node_of made) path.1 can.takes.directory can.takes.missing can.takes.name can.vacant (made_bare made) (made_links made);
-      limits = record {
-        nodes = good_entry (with_node number (Some (node_of made)) v) parent name (Some number) (good_node v number (Some (node_of made)) limits.nodes (made_good made can.good));
-        numbers = numbers_entry inodes (with_node number (Some (node_of made)) v) parent name (Some number) (numbers_node inodes v number (Some (node_of made)) limits.numbers (λ some. inr (can.low, can.high)));
-        children = subst HasFew (sym edges) (few_more (entries v) parent name (Some number) limits.children refl can.takes.missing can.takes.count can.takes.counts can.takes.room);
+      keeps = record {
+        nodes = good_entry limits (with_node number (Some (node_of made)) v) parent name (Some number) (good_node limits v number (Some (node_of made)) kept.nodes (made_good limits volume.can_be made can.good));
+        numbers = numbers_entry limits (with_node number (Some (node_of made)) v) parent name (Some number) (numbers_node limits v number (Some (node_of made)) kept.numbers (λ some. inr (can.low, can.high)));
+        children = subst (HasFew limits) (sym edges) (few_more (entries v) parent name (Some number) limits kept.children refl can.takes.missing can.takes.count can.takes.counts can.takes.room);
       };
     }
-records_keep_volumes inodes v (link number parent name) volume can =
+records_keep_volumes limits v (link number parent name) volume can =
     let path = path_to v volume.graph parent can.takes.directory in
-    let limits = volume.limits in
+    let kept = volume.keeps in
     let edges : entries (linked number parent name v) ≡ with_edge parent name (Some number) (entries v) =
     edges-linked v parent name number can.takes.directory in
     record {
+      can_be = volume.can_be;
       graph = graph-linked v volume.graph path.0 name parent number can.attributes can.links can.bytes path.1 can.takes.directory can.takes.missing can.takes.name can.file;
-      limits = record {
-        nodes = good_entry (with_node number (with_name_more (v number)) v) parent name (Some number) (good_node v number (with_name_more (v number)) limits.nodes (more_good (v number) can.attributes can.links can.bytes can.file can.few (limits.nodes number)));
-        numbers = numbers_entry inodes (with_node number (with_name_more (v number)) v) parent name (Some number) (numbers_node inodes v number (with_name_more (v number)) limits.numbers (λ some. limits.numbers number (ap is_some can.file)));
-        children = subst HasFew (sym edges) (few_more (entries v) parent name (Some number) limits.children refl can.takes.missing can.takes.count can.takes.counts can.takes.room);
+      keeps = record {
+        nodes = good_entry limits (with_node number (with_name_more (v number)) v) parent name (Some number) (good_node limits v number (with_name_more (v number)) kept.nodes (more_good limits (v number) can.attributes can.links can.bytes can.file can.few (kept.nodes number)));
+        numbers = numbers_entry limits (with_node number (with_name_more (v number)) v) parent name (Some number) (numbers_node limits v number (with_name_more (v number)) kept.numbers (λ some. kept.numbers number (ap is_some can.file)));
+        children = subst (HasFew limits) (sym edges) (few_more (entries v) parent name (Some number) limits kept.children refl can.takes.missing can.takes.count can.takes.counts can.takes.room);
       };
     }
-records_keep_volumes inodes v (remove_name parent name) volume can =
+records_keep_volumes limits v (remove_name parent name) volume can =
     let is = enters_directory (v parent) name can.number can.there in
     let path = path_to v volume.graph parent is in
-    let limits = volume.limits in
+    let kept = volume.keeps in
     let edges : entries (unnamed parent name v) ≡ with_edge parent name None (entries v) = edges-unnamed v parent name can.number is can.there can.empty in
     record {
+      can_be = volume.can_be;
       graph = volume-unnamed v volume.graph path.0 name parent can.number path.1 is can.there can.empty;
-      limits = record {
-        nodes = good_entry (released (entries v parent name) v) parent name None (good_released (entries v parent name) v limits.nodes);
-        numbers = numbers_entry inodes (released (entries v parent name) v) parent name None (numbers_released inodes (entries v parent name) v limits.numbers);
-        children = subst HasFew (sym edges) (few_less (entries v) parent name None limits.children refl);
+      keeps = record {
+        nodes = good_entry limits (released (entries v parent name) v) parent name None (good_released limits (entries v parent name) v kept.nodes);
+        numbers = numbers_entry limits (released (entries v parent name) v) parent name None (numbers_released limits (entries v parent name) v kept.numbers);
+        children = subst (HasFew limits) (sym edges) (few_less (entries v) parent name None limits kept.children refl);
       };
     }
-records_keep_volumes inodes v (rename parent name new_parent new_name) volume can =
-    let limits = volume.limits in
+records_keep_volumes limits v (rename parent name new_parent new_name) volume can =
+    let kept = volume.keeps in
     let target : Option ℕ = entries v new_parent new_name in
     record {
+      can_be = volume.can_be;
       graph = graph-moved v volume.graph parent name new_parent new_name can;
-      limits = record {
-        nodes = good_entry (with_entry parent name None (released target v)) new_parent new_name (entries v parent name) (good_entry (released target v) parent name None (good_released target v limits.nodes));
-        numbers = numbers_entry inodes (with_entry parent name None (released target v)) new_parent new_name (entries v parent name) (numbers_entry inodes (released target v) parent name None (numbers_released inodes target v limits.numbers));
-        children = few-moved v volume.graph parent name new_parent new_name can limits.children;
+      keeps = record {
+        nodes = good_entry limits (with_entry parent name None (released target v)) new_parent new_name (entries v parent name) (good_entry limits (released target v) parent name None (good_released limits target v kept.nodes));
+        numbers = numbers_entry limits (with_entry parent name None (released target v)) new_parent new_name (entries v parent name) (numbers_entry limits (released target v) parent name None (numbers_released limits target v kept.numbers));
+        children = few-moved v volume.graph parent name new_parent new_name can kept.children;
       };
     }
-records_keep_volumes inodes v (write number offset bytes) volume can = volume-bytes inodes v volume number (written offset bytes) (λ old short. written_short offset bytes old can.3 short)
-records_keep_volumes inodes v (truncate number size) volume can = volume-size inodes v volume number size can.1
-records_keep_volumes inodes v (change_mode number mode) volume can = volume-bits inodes v volume number mode can.1
-records_keep_volumes inodes v (set_file number mode size) volume can =
-    volume-bits inodes (with_size number size v) (volume-size inodes v volume number size can.2) number mode can.1
+records_keep_volumes limits v (write number offset bytes) volume can = volume-bytes limits v volume number (written offset bytes) (λ old short. written_short offset bytes old can.3 short)
+records_keep_volumes limits v (truncate number size) volume can = volume-size limits v volume number size can.1
+records_keep_volumes limits v (change_mode number mode) volume can = volume-bits limits v volume number mode can.1
+records_keep_volumes limits v (set_file number mode size) volume can =
+    volume-bits limits (with_size number size v) (volume-size limits v volume number size can.2) number mode can.1
 
 -- and so does a sweep
-pub volume-swept : (inodes : ℕ) (v : Volume) (table : ℕ → Option Description) → IsVolume inodes v → IsVolume inodes (swept table v)
-volume-swept inodes v table volume = record {
+pub volume-swept : (limits : Limits) (v : Volume) (table : ℕ → Option Description) → IsVolume limits v → IsVolume limits (swept table v)
+volume-swept limits v table volume = record {
+  can_be = volume.can_be;
   graph = graph-swept v volume.graph table;
-  limits = limits_swept inodes v table (same_swept v volume.graph table) volume.limits;
+  keeps = limits_swept limits v table (same_swept v volume.graph table) volume.keeps;
 }
 
 pub sweeps_keep_volumes : SweepsKeepVolumes

@@ -2,7 +2,9 @@
 use Rattle.std.proofs.Common.{◌≡◌, inl, inr, ℕ, ◌==◌, ◌≤◌, List, [], ◌∷◌, ◌++◌, arith, Some, None, IsSome, is_some, IfSome, All, refl, sym, ap, subst, ◌∙◌, lit≤}
 use Rattle.std.proofs.lemmas.Bool.{cases_Bool, cond_both, cond-true, cond-false, false≢true, eq-eqb, eqb-true}
 use Rattle.std.proofs.lemmas.List.Elements.{All-nil}
+use Rattle.model.specs.declared.limits.Limits.{Limits}
 use Rattle.model.specs.declared.limits.TheConstants.{MODE_BITS}
+use Rattle.model.specs.Limits.{AreLimits}
 use Rattle.model.specs.Paths.{Name, Path, IsName, path_eq}
 use Rattle.model.specs.Trees.{Tree, Object, directory, symlink, file, number_of_object, IsTree, root_alone}
 use Rattle.model.specs.States.{Mark, IsState, IsFrozen, IsShortName}
@@ -36,8 +38,9 @@ append_empty (x ∷ p) q e = cc
 last_some : (x : Name) (rest : Path) → x ∷ rest ≡ [] → ⊥
 last_some x rest e = cc
 
-pub root_is_tree : (inodes : ℕ) → IsTree inodes (root_alone 0o755)
-root_is_tree inodes = record {
+pub root_is_tree : (limits : Limits) → AreLimits limits → IsTree limits (root_alone 0o755)
+root_is_tree limits can_be = record {
+  can_be = can_be;
   root = refl;
   above = λ p q longer some. absurd (longer (append_empty p q (root_some 0o755 (p ++ q) some)));
   names = λ p some. subst (All IsName) (sym (root_some 0o755 p some)) (All-nil IsName);
@@ -56,8 +59,8 @@ root_is_tree inodes = record {
   opened = λ n p o open_file at_p same. none_some open_file.2;
   numbers = λ n used. elim used [ inl there ↦ inl (sym there.3 ∙ ap number_of_object (root_at 0o755 there.0 there.1 there.2).1) | inr open_file ↦ none_some open_file.2 ];
   texts = λ p n text is. directory_symlink (sym (root_at 0o755 p (symlink n text) is).1);
-  children = λ p is. (0, (λ name some. last_some name [] (append_empty p (name ∷ []) (root_some 0o755 (p ++ name ∷ []) some))), lit≤ tt);
-  links = λ n. (0, (λ p is. directory_file (sym (root_at 0o755 p (file n) is).1)), lit≤ tt);
+  children = λ p is. (0, (λ name some. last_some name [] (append_empty p (name ∷ []) (root_some 0o755 (p ++ name ∷ []) some))), omega arith);
+  links = λ n. (0, (λ p is. directory_file (sym (root_at 0o755 p (file n) is).1)), omega arith);
   sizes = λ n. tt;
   bits = λ n. cond_both (n == 3) (Some 0o755) None (λ o. IfSome o (λ mode. mode ≤ MODE_BITS)) (λ e. lit≤ tt) (λ e. tt);
   table = λ d past. refl;
@@ -65,11 +68,11 @@ root_is_tree inodes = record {
 }
 
 -- a tree without snapshots beside it
-pub tree_is_state : (inodes : ℕ) (t : Tree) (mark : Mark) → IsTree inodes t → IsState (record { inodes = inodes; tree = t; snapshots = []; mark = mark })
-tree_is_state inodes t mark tree = record {
+pub tree_is_state : (limits : Limits) (t : Tree) (mark : Mark) → IsTree limits t → IsState (record { limits = limits; tree = t; snapshots = []; mark = mark })
+tree_is_state limits t mark tree = record {
   tree = tree;
-  frozen = All-nil (λ pair. IsFrozen inodes pair.1);
+  frozen = All-nil (λ pair. IsFrozen limits pair.1);
   names = All-nil (λ pair. IsShortName pair.0);
-  few = lit≤ tt;
+  few = omega arith;
   once = λ i j x less below. absurd (omega arith);
 }

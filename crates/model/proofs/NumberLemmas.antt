@@ -1,6 +1,7 @@
 -- The numbers that stand at paths.
 use Rattle.std.proofs.Common.{◌≡◌, inl, inr, ℕ, zero, suc, [], ◌∷◌, ◌++◌, true, false, Option, Some, None, is_some, IsSome, refl, sym, ap, ◌∙◌}
 use Rattle.std.proofs.lemmas.Bool.{false≢true}
+use Rattle.model.specs.declared.limits.Limits.{Limits}
 use Rattle.model.specs.declared.limits.TheConstants.{ROOT_NUMBER}
 use Rattle.model.specs.Laws.{VolumesTellNumbers}
 use Rattle.model.specs.Paths.{Name, Path}
@@ -19,7 +20,7 @@ named_in (Some (directory_node attributes names)) x n is = (refl, refl)
 named_in (Some (file_node attributes links bytes)) x n is = none_some is
 named_in (Some (link_node attributes text)) x n is = none_some is
 
-module _ (inodes : ℕ) (v : Volume) (table : ℕ → Option Description) (n : ℕ) (volume : IsVolume inodes v) where
+module _ (limits : Limits) (v : Volume) (table : ℕ → Option Description) (n : ℕ) (volume : IsVolume limits v) where
   -- the number at a path is that of what stands there
   at_path : (p : Path) (o : Object) → object_at v (number_at (entries v) p) ≡ Some o → number_of_object o ≡ n → (number_at (entries v) p ≡ Some n) × (object_of n (v n) ≡ Some o)
   at_path p o is number =
@@ -70,4 +71,4 @@ module _ (inodes : ℕ) (v : Volume) (table : ℕ → Option Description) (n : �
       (λ placed_is. (file n, refl, placed path.0 (file n) path.1 (ap (object_of n) is)), λ none. absurd (false≢true (sym none)))
 
 pub volumes_tell_numbers : VolumesTellNumbers
-volumes_tell_numbers inodes v table n volume = tells inodes v table n volume (v n) refl
+volumes_tell_numbers limits v table n volume = tells limits v table n volume (v n) refl

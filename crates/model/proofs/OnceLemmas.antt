@@ -4,7 +4,8 @@ use Rattle.std.specs.Prelude.{ℤ, MatchOption, nat_abs, nat_le, nat_lt, min, �
 use Rattle.std.proofs.Math.Path.{fun_ext}
 use Rattle.std.proofs.lemmas.Bool.{cases_Bool, cases_order, both_ways}
 use Rattle.std.proofs.lemmas.Slice.Eq.{bytes_eq-Decides}
-use Rattle.model.specs.declared.limits.TheConstants.{DIRECTORY_NAMES, ENTRIES_TOLD, OPEN_FILES}
+use Rattle.model.specs.declared.limits.Limits.{Limits}
+use Rattle.model.specs.declared.limits.TheConstants.{ENTRIES_TOLD, OPEN_FILES}
 use Rattle.model.specs.declared.errno.Errno.{Errno}
 use Rattle.model.specs.declared.errno.Errno.TheVariants.{ENOENT, ENOTDIR, EISDIR, EEXIST, EINVAL, EPERM, EBUSY, EBADF, EMFILE, EFBIG, EMLINK, EOVERFLOW, ELOOP, ENOTEMPTY, DIRFULL, NONUMBER, ESTALE}
 use Rattle.model.specs.declared.reply.Reply.{Reply}
@@ -173,29 +174,29 @@ once_names : (t : Tree) (p : Path) (rest : List Name → Outcome) → ((names : 
 once_names t p rest once a b u w m n (names, listing, done) (others, another, again) =
     once names a b u w m n done (subst (λ (l : List Name). rest l b w n) (listing_once t p others names another listing) again)
 
-once_place : (t : Tree) (p : Path) (rest : Outcome) → Once rest → Once (with_place t p rest)
-once_place t p rest once = once_names t p _ (λ names. once_test t (nat_le DIRECTORY_NAMES (length names)) DIRFULL rest once)
+once_place : (limits : Limits) (t : Tree) (p : Path) (rest : Outcome) → Once rest → Once (with_place limits t p rest)
+once_place limits t p rest once = once_names t p _ (λ names. once_test t (nat_le limits.directory_names (length names)) DIRFULL rest once)
 
-fresh_once : (inodes : ℕ) (t : Tree) (k l : ℕ) → IsFresh inodes t k → IsFresh inodes t l → k ≡ l
-fresh_once inodes t k l one other =
+fresh_once : (limits : Limits) (t : Tree) (k l : ℕ) → IsFresh limits t k → IsFresh limits t l → k ≡ l
+fresh_once limits t k l one other =
     elim (cases_order k l) [
       | inl e ↦ e
       | inr apart ↦ elim apart [ inl lt ↦ absurd (one.free (other.least k one.low lt)) | inr lt ↦ absurd (other.free (one.least l other.low lt)) ]
     ]
 
-found_once : (inodes : ℕ) (t : Tree) (o r : Option ℕ) → MatchOption o (HasNoFresh inodes t) (IsFresh inodes t) → MatchOption r (HasNoFresh inodes t) (IsFresh inodes t) → o ≡ r
-found_once inodes t None None one other = refl
-found_once inodes t None (Some l) none other = absurd (other.free (none l other.low other.high))
-found_once inodes t (Some k) None one none = absurd (one.free (none k one.low one.high))
-found_once inodes t (Some k) (Some l) one other = ap (λ n. Some n) (fresh_once inodes t k l one other)
+found_once : (limits : Limits) (t : Tree) (o r : Option ℕ) → MatchOption o (HasNoFresh limits t) (IsFresh limits t) → MatchOption r (HasNoFresh limits t) (IsFresh limits t) → o ≡ r
+found_once limits t None None one other = refl
+found_once limits t None (Some l) none other = absurd (other.free (none l other.low other.high))
+found_once limits t (Some k) None one none = absurd (one.free (none k one.low one.high))
+found_once limits t (Some k) (Some l) one other = ap (λ n. Some n) (fresh_once limits t k l one other)
 
 once_number : (t : Tree) (rest : ℕ → Outcome) (o : Option ℕ) → ((n : ℕ) → Once (rest n)) → Once (at_number t rest o)
 once_number t rest None once = once_refuses t NONUMBER
 once_number t rest (Some n) once = once n
 
-once_fresh : (inodes : ℕ) (t : Tree) (rest : ℕ → Outcome) → ((n : ℕ) → Once (rest n)) → Once (with_fresh inodes t rest)
-once_fresh inodes t rest once a b u w m n (o, is, done) (r, another, again) =
-    once_number t rest o once a b u w m n done (subst (λ (k : Option ℕ). at_number t rest k b w n) (found_once inodes t r o another is) again)
+once_fresh : (limits : Limits) (t : Tree) (rest : ℕ → Outcome) → ((n : ℕ) → Once (rest n)) → Once (with_fresh limits t rest)
+once_fresh limits t rest once a b u w m n (o, is, done) (r, another, again) =
+    once_number t rest o once a b u w m n done (subst (λ (k : Option ℕ). at_number t rest k b w n) (found_once limits t r o another is) again)
 
 links_once : (t : Tree) (o : Object) (k l : ℕ) → HasLinks t o k → HasLinks t o l → k ≡ l
 links_once t (directory n) k l one other = one ∙ sym other
@@ -223,12 +224,12 @@ once_by_kind (file n) a b c once_a once_b once_c = once_c n
 once_tells : (t : Tree) (o : Object) → Once (reading.tells_stat t o)
 once_tells t o = once_links t o _ (λ links. once_answers t _)
 
-once_stat : (t : Tree) (follow : Bool) (path : List ℕ) → Once (reading.stats t follow path)
-once_stat t follow path = once_tested t (text_tests path) _ (once_to t follow path _ (λ p o. once_tells t o))
+once_stat : (limits : Limits) (t : Tree) (follow : Bool) (path : List ℕ) → Once (reading.stats limits t follow path)
+once_stat limits t follow path = once_tested t (text_tests limits path) _ (once_to t follow path _ (λ p o. once_tells t o))
 
-once_list : (t : Tree) (path : List ℕ) → Once (reading.lists t path)
-once_list t path =
-    once_tested t (text_tests path) _
+once_list : (limits : Limits) (t : Tree) (path : List ℕ) → Once (reading.lists limits t path)
+once_list limits t path =
+    once_tested t (text_tests limits path) _
     (once_to t true path _ (λ p o. once_by_kind o _ _ _ (λ n. once_names t p _ (λ names. once_answers t _)) (λ n text. once_refuses t ENOTDIR) (λ n. once_refuses t ENOTDIR)))
 
 -- the part of a directory's names, and what is told of them, is one
@@ -264,73 +265,73 @@ once_part t p names after count rest once a b u w m n (told, entries, part, each
     let one : listed ≡ entries = told_once t p told listed entries (subst (λ (l : List Name). TellsEntries t p l listed) same all) each in
     once entries a b u w m n done (subst (λ (l : List Entry). rest l b w n) one again)
 
-once_entries : (t : Tree) (path : List ℕ) (after : ℤ) (count : ℕ) → Once (reading.tells_entries t path after count)
-once_entries t path after count =
-    once_tested t (text_tests_then ((reading.is_negative after || count == 0 || nat_lt ENTRIES_TOLD count, EINVAL) ∷ []) path) _
+once_entries : (limits : Limits) (t : Tree) (path : List ℕ) (after : ℤ) (count : ℕ) → Once (reading.tells_entries limits t path after count)
+once_entries limits t path after count =
+    once_tested t (text_tests_then limits ((reading.is_negative after || count == 0 || nat_lt ENTRIES_TOLD count, EINVAL) ∷ []) path) _
     (once_to t true path _ (λ p o. once_by_kind o _ _ _ (λ n. once_names t p _ (λ names. once_part t p names (nat_abs after) count _ (λ entries. once_answers t _))) (λ n text. once_refuses t ENOTDIR) (λ n. once_refuses t ENOTDIR)))
 
-once_readlink : (t : Tree) (path : List ℕ) → Once (reading.reads_link t path)
-once_readlink t path =
-    once_tested t (text_tests path) _
+once_readlink : (limits : Limits) (t : Tree) (path : List ℕ) → Once (reading.reads_link limits t path)
+once_readlink limits t path =
+    once_tested t (text_tests limits path) _
     (once_to t false path _ (λ p o. once_by_kind o _ _ _ (λ n. once_refuses t EINVAL) (λ n text. once_answers t _) (λ n. once_refuses t EINVAL)))
 
-once_get : (t : Tree) (path : List ℕ) (offset : ℤ) (count : ℕ) → Once (reading.gets t path offset count)
-once_get t path offset count =
-    once_tested t (text_tests_then ((reading.is_negative offset || reading.is_too_many count, EINVAL) ∷ []) path) _
+once_get : (limits : Limits) (t : Tree) (path : List ℕ) (offset : ℤ) (count : ℕ) → Once (reading.gets limits t path offset count)
+once_get limits t path offset count =
+    once_tested t (text_tests_then limits ((reading.is_negative offset || reading.is_too_many count, EINVAL) ∷ []) path) _
     (once_to t true path _ (λ p o. once_by_kind o _ _ _ (λ n. once_refuses t EISDIR) (λ n text. never_once) (λ n. once_answers t _)))
 
-once_creates : (inodes : ℕ) (t : Tree) (path : List ℕ) (make : Path → ℕ → Tree → Tree) → Once (changing.creates inodes t path make)
-once_creates inodes t path make =
-    once_tested t (new_text_tests path) _
-    (once_along t false path _ _ (λ p o. once_refuses t EEXIST) (λ p name. once_place t p _ (once_fresh inodes t _ (λ n. once_changes _ _ _))))
+once_creates : (limits : Limits) (t : Tree) (path : List ℕ) (make : Path → ℕ → Tree → Tree) → Once (changing.creates limits t path make)
+once_creates limits t path make =
+    once_tested t (new_text_tests limits path) _
+    (once_along t false path _ _ (λ p o. once_refuses t EEXIST) (λ p name. once_place limits t p _ (once_fresh limits t _ (λ n. once_changes _ _ _))))
 
-once_symlink : (inodes : ℕ) (t : Tree) (text path : List ℕ) → Once (changing.makes_symlink inodes t text path)
-once_symlink inodes t text path =
-    once_tested t (changing.link_text_tests text) _ (once_creates inodes t path (λ p n. with_object p (symlink n text)))
+once_symlink : (limits : Limits) (t : Tree) (text path : List ℕ) → Once (changing.makes_symlink limits t text path)
+once_symlink limits t text path =
+    once_tested t (changing.link_text_tests limits text) _ (once_creates limits t path (λ p n. with_object p (symlink n text)))
 
 once_removes : (t : Tree) (p : Path) → Once (changing.removes t p)
 once_removes t p = once_swept _ _ _
 
-once_rmdir : (t : Tree) (path : List ℕ) → Once (changing.removes_directory t path)
-once_rmdir t path =
-    once_tested t (new_text_tests path ++ (is_root_text path, EBUSY) ∷ []) _
+once_rmdir : (limits : Limits) (t : Tree) (path : List ℕ) → Once (changing.removes_directory limits t path)
+once_rmdir limits t path =
+    once_tested t (new_text_tests limits path ++ (is_root_text path, EBUSY) ∷ []) _
     (once_to t false path _ (λ p o. once_by_kind o _ _ _ (λ n. once_names t p _ (λ names. once_test t _ ENOTEMPTY _ (once_removes t p))) (λ n text. once_refuses t ENOTDIR) (λ n. once_refuses t ENOTDIR)))
 
-once_unlink : (t : Tree) (path : List ℕ) → Once (changing.unlinks t path)
-once_unlink t path =
-    once_tested t (new_text_tests path) _
+once_unlink : (limits : Limits) (t : Tree) (path : List ℕ) → Once (changing.unlinks limits t path)
+once_unlink limits t path =
+    once_tested t (new_text_tests limits path) _
     (once_to t false path _ (λ p o. once_test t _ EPERM _ (once_removes t p)))
 
-once_link : (t : Tree) (old path : List ℕ) → Once (changing.links t old path)
-once_link t old path =
-    once_tested t (text_tests old ++ new_text_tests path) _
+once_link : (limits : Limits) (t : Tree) (old path : List ℕ) → Once (changing.links limits t old path)
+once_link limits t old path =
+    once_tested t (text_tests limits old ++ new_text_tests limits path) _
     (once_to t false old _ (λ p o. once_by_kind o _ _ _ (λ n. once_refuses t EPERM) (λ n text. once_refuses t EPERM) (λ n.
     once_along t false path _ _ (λ q r. once_refuses t EEXIST) (λ q name.
-    once_links t (file n) _ (λ count. once_test t _ EMLINK _ (once_place t q _ (once_changes _ _ _)))))))
+    once_links t (file n) _ (λ count. once_test t _ EMLINK _ (once_place limits t q _ (once_changes _ _ _)))))))
 
-once_target : (t : Tree) (p q : Path) (r : Option Object) (rest : Outcome) → Once rest → Once (changing.with_target t p q r rest)
-once_target t p q None rest once = once_either _ rest _ once (once_place t _ rest once)
-once_target t p q (Some (directory n)) rest once = once_names t q _ (λ names. once_test t (not (is_empty names)) ENOTEMPTY rest once)
-once_target t p q (Some (symlink n text)) rest once = once
-once_target t p q (Some (file n)) rest once = once
+once_target : (limits : Limits) (t : Tree) (p q : Path) (r : Option Object) (rest : Outcome) → Once rest → Once (changing.with_target limits t p q r rest)
+once_target limits t p q None rest once = once_either _ rest _ once (once_place limits t _ rest once)
+once_target limits t p q (Some (directory n)) rest once = once_names t q _ (λ names. once_test t (not (is_empty names)) ENOTEMPTY rest once)
+once_target limits t p q (Some (symlink n text)) rest once = once
+once_target limits t p q (Some (file n)) rest once = once
 
-once_moves : (t : Tree) (p : Path) (o : Object) (q : Path) → Once (changing.moves t p o q)
-once_moves t p o q =
-    once_either _ _ _ (once_answers t _) (once_tested t (changing.move_tests p o q (t.objects q)) _ (once_target t p q (t.objects q) _ (once_swept _ _ _)))
+once_moves : (limits : Limits) (t : Tree) (p : Path) (o : Object) (q : Path) → Once (changing.moves limits t p o q)
+once_moves limits t p o q =
+    once_either _ _ _ (once_answers t _) (once_tested t (changing.move_tests p o q (t.objects q)) _ (once_target limits t p q (t.objects q) _ (once_swept _ _ _)))
 
-once_rename : (t : Tree) (only_new : Bool) (old path : List ℕ) → Once (changing.renames t only_new old path)
-once_rename t only_new old path =
-    once_tested t (new_text_tests old ++ new_text_tests path ++ (is_root_text old || is_root_text path, EBUSY) ∷ []) _
-    (once_to t false old _ (λ p o. once_along t false path _ _ (λ q r. once_test t only_new EEXIST _ (once_moves t p o q)) (λ q name. once_moves t p o (q ++ name ∷ []))))
+once_rename : (limits : Limits) (t : Tree) (only_new : Bool) (old path : List ℕ) → Once (changing.renames limits t only_new old path)
+once_rename limits t only_new old path =
+    once_tested t (new_text_tests limits old ++ new_text_tests limits path ++ (is_root_text old || is_root_text path, EBUSY) ∷ []) _
+    (once_to t false old _ (λ p o. once_along t false path _ _ (λ q r. once_test t only_new EEXIST _ (once_moves limits t p o q)) (λ q name. once_moves limits t p o (q ++ name ∷ []))))
 
-once_chmod : (t : Tree) (path : List ℕ) (mode : ℕ) → Once (changing.changes_mode t path mode)
-once_chmod t path mode =
-    once_tested t (text_tests path) _
+once_chmod : (limits : Limits) (t : Tree) (path : List ℕ) (mode : ℕ) → Once (changing.changes_mode limits t path mode)
+once_chmod limits t path mode =
+    once_tested t (text_tests limits path) _
     (once_to t true path _ (λ p o. once_by_kind o _ _ _ (λ n. once_changes _ _ _) (λ n text. never_once) (λ n. once_changes _ _ _)))
 
-once_truncate : (t : Tree) (path : List ℕ) (size : ℤ) → Once (changing.truncates t path size)
-once_truncate t path size =
-    once_tested t (text_tests_then (changing.size_tests size) path) _
+once_truncate : (limits : Limits) (t : Tree) (path : List ℕ) (size : ℤ) → Once (changing.truncates limits t path size)
+once_truncate limits t path size =
+    once_tested t (text_tests_then limits (changing.size_tests limits size) path) _
     (once_to t true path _ (λ p o. once_by_kind o _ _ _ (λ n. once_refuses t EISDIR) (λ n text. never_once) (λ n. once_changes _ _ _)))
 
 once_sets_mode : (t : Tree) (n : ℕ) (mode : Option ℕ) → Once (changing.sets_mode t n mode)
@@ -342,9 +343,9 @@ once_sets_file t n mode None = once_sets_mode t n mode
 once_sets_file t n None (Some size) = once_changes _ _ _
 once_sets_file t n (Some mode) (Some size) = once_either _ _ _ (once_changes _ _ _) (once_changes _ _ _)
 
-once_set : (t : Tree) (path : List ℕ) (settings : Settings) → Once (changing.sets t path settings)
-once_set t path settings =
-    once_tested t (text_tests_then (changing.given_size_tests settings.size) path) _
+once_set : (limits : Limits) (t : Tree) (path : List ℕ) (settings : Settings) → Once (changing.sets limits t path settings)
+once_set limits t path settings =
+    once_tested t (text_tests_then limits (changing.given_size_tests limits settings.size) path) _
     (once_to t true path _ (λ p o. once_by_kind o _ _ _ (λ n. once_test t _ EISDIR _ (once_sets_mode t n settings.mode)) (λ n text. never_once) (λ n. once_sets_file t n settings.mode settings.size)))
 
 once_opens_file : (tells : Bool) (n : ℕ) (flags : Flags) (fd : ℕ) (t : Tree) (need : Need) → Once (descriptors.opens_file tells n flags fd t need)
@@ -356,37 +357,37 @@ once_opens_object : (tells : Bool) (t : Tree) (o : Object) (flags : Flags) (fd :
 once_opens_object tells t o flags fd =
     once_test t _ EEXIST _ (once_by_kind o _ _ _ (λ n. once_refuses t EISDIR) (λ n text. never_once) (λ n. once_either _ _ _ (once_opens_file tells n flags fd _ _) (once_opens_file tells n flags fd _ _)))
 
-once_opens_new : (tells : Bool) (inodes : ℕ) (t : Tree) (p : Path) (name : Name) (flags : Flags) (mode fd : ℕ) → Once (descriptors.opens_new tells inodes t p name flags mode fd)
-once_opens_new tells inodes t p name flags mode fd =
-    once_test t _ ENOENT _ (once_place t p _ (once_fresh inodes t _ (λ n. once_opens_file tells n flags fd _ _)))
+once_opens_new : (tells : Bool) (limits : Limits) (t : Tree) (p : Path) (name : Name) (flags : Flags) (mode fd : ℕ) → Once (descriptors.opens_new tells limits t p name flags mode fd)
+once_opens_new tells limits t p name flags mode fd =
+    once_test t _ ENOENT _ (once_place limits t p _ (once_fresh limits t _ (λ n. once_opens_file tells n flags fd _ _)))
 
-pub once_open : (tells : Bool) (below inodes : ℕ) (t : Tree) (path : List ℕ) (flags : Flags) (mode : ℕ) → Once (descriptors.opens tells below inodes t path flags mode)
-once_open tells below inodes t path flags mode =
-    once_tested t (text_tests_then (descriptors.open_tests flags) path) _
+pub once_open : (tells : Bool) (below : ℕ) (limits : Limits) (t : Tree) (path : List ℕ) (flags : Flags) (mode : ℕ) → Once (descriptors.opens tells below limits t path flags mode)
+once_open tells below limits t path flags mode =
+    once_tested t (text_tests_then limits (descriptors.open_tests flags) path) _
     (elim (lowest_free t.descriptors (min below OPEN_FILES)) as (λ o. Once (elim o as (λ _. Outcome) [
       | None ↦ refuses t EMFILE
-      | Some fd ↦ goes_along t (not (flags.creates && flags.exclusive)) path (λ p o. descriptors.opens_object tells t o flags fd) (λ p name. descriptors.opens_new tells inodes t p name flags mode fd)
+      | Some fd ↦ goes_along t (not (flags.creates && flags.exclusive)) path (λ p o. descriptors.opens_object tells t o flags fd) (λ p name. descriptors.opens_new tells limits t p name flags mode fd)
     ])) [
       | None ↦ once_refuses t EMFILE
-      | Some fd ↦ once_along t (not (flags.creates && flags.exclusive)) path _ _ (λ p o. once_opens_object tells t o flags fd) (λ p name. once_opens_new tells inodes t p name flags mode fd)
+      | Some fd ↦ once_along t (not (flags.creates && flags.exclusive)) path _ _ (λ p o. once_opens_object tells t o flags fd) (λ p name. once_opens_new tells limits t p name flags mode fd)
     ])
 
-once_puts : (t : Tree) (n offset : ℕ) (given : List ℕ) (also : Tree → Tree) → Once (descriptors.puts t n offset given also)
-once_puts t n offset given also = once_either _ _ _ (once_answers t _) (once_test t _ EFBIG _ (once_changes _ _ _))
+once_puts : (limits : Limits) (t : Tree) (n offset : ℕ) (given : List ℕ) (also : Tree → Tree) → Once (descriptors.puts limits t n offset given also)
+once_puts limits t n offset given also = once_either _ _ _ (once_answers t _) (once_test t _ EFBIG _ (once_changes _ _ _))
 
-once_store : (t : Tree) (path : List ℕ) (offset : ℤ) (given : List ℕ) → Once (descriptors.stores t path offset given)
-once_store t path offset given =
-    once_tested t (text_tests_then ((reading.is_negative offset || reading.is_too_many (length given), EINVAL) ∷ []) path) _
-    (once_to t true path _ (λ p o. once_by_kind o _ _ _ (λ n. once_refuses t EISDIR) (λ n text. never_once) (λ n. once_puts t n (nat_abs offset) given (λ after. after))))
+once_store : (limits : Limits) (t : Tree) (path : List ℕ) (offset : ℤ) (given : List ℕ) → Once (descriptors.stores limits t path offset given)
+once_store limits t path offset given =
+    once_tested t (text_tests_then limits ((reading.is_negative offset || reading.is_too_many (length given), EINVAL) ∷ []) path) _
+    (once_to t true path _ (λ p o. once_by_kind o _ _ _ (λ n. once_refuses t EISDIR) (λ n text. never_once) (λ n. once_puts limits t n (nat_abs offset) given (λ after. after))))
 
 once_with_extent : (t : Tree) (stored : ℕ → Bool) (n offset : ℕ) → Once (reading.with_extent t stored n offset)
 once_with_extent t stored n offset a b u v m k (extent, tells, done) (other, again, also) =
     let same : extent ≡ other = extent_once stored (length (contents t n)) offset extent other tells again in
     once_answers t (reply.Extent other) a b u v m k (subst (λ (e : Extent). answers t (reply.Extent e) a u m) same done) also
 
-pub once_extent : (t : Tree) (stored : ℕ → ℕ → Bool) (path : List ℕ) (offset : ℤ) → Once (reading.tells_extent t stored path offset)
-once_extent t stored path offset =
-    once_tested t (text_tests_then ((reading.is_negative offset, EINVAL) ∷ []) path) _
+pub once_extent : (limits : Limits) (t : Tree) (stored : ℕ → ℕ → Bool) (path : List ℕ) (offset : ℤ) → Once (reading.tells_extent limits t stored path offset)
+once_extent limits t stored path offset =
+    once_tested t (text_tests_then limits ((reading.is_negative offset, EINVAL) ∷ []) path) _
     (once_to t true path _ (λ p o. once_by_kind o _ _ _ (λ n. once_refuses t EISDIR) (λ n text. never_once) (λ n. once_with_extent t (stored n) n (nat_abs offset))))
 
 pub once_close : (t : Tree) (fd : ℕ) → Once (descriptors.closes t fd)
@@ -395,27 +396,27 @@ once_close t fd = once_described t fd _ (λ f. once_swept _ _ _)
 pub once_read : (t : Tree) (fd count : ℕ) → Once (descriptors.reads t fd count)
 once_read t fd count = once_described t fd _ (λ f. once_two t _ _ EBADF EINVAL _ (once_changes _ _ _))
 
-pub once_write : (t : Tree) (fd : ℕ) (given : List ℕ) → Once (descriptors.writes t fd given)
-once_write t fd given =
+pub once_write : (limits : Limits) (t : Tree) (fd : ℕ) (given : List ℕ) → Once (descriptors.writes limits t fd given)
+once_write limits t fd given =
     once_described t fd _ (λ f.
     let offset = if f.appends then length (contents t f.number) else f.offset in
-    once_two t (not f.writes) (reading.is_too_many (length given)) EBADF EINVAL (descriptors.puts t f.number offset given (descriptors.with_offset fd f (offset + length given)))
-    (once_puts t f.number offset given (descriptors.with_offset fd f (offset + length given))))
+    once_two t (not f.writes) (reading.is_too_many (length given)) EBADF EINVAL (descriptors.puts limits t f.number offset given (descriptors.with_offset fd f (offset + length given)))
+    (once_puts limits t f.number offset given (descriptors.with_offset fd f (offset + length given))))
 
 pub once_pread : (t : Tree) (fd : ℕ) (offset : ℤ) (count : ℕ) → Once (descriptors.reads_from t fd offset count)
 once_pread t fd offset count = once_described t fd _ (λ f. once_two t _ _ EBADF EINVAL _ (once_answers t _))
 
-pub once_pwrite : (t : Tree) (fd : ℕ) (offset : ℤ) (given : List ℕ) → Once (descriptors.writes_to t fd offset given)
-once_pwrite t fd offset given =
+pub once_pwrite : (limits : Limits) (t : Tree) (fd : ℕ) (offset : ℤ) (given : List ℕ) → Once (descriptors.writes_to limits t fd offset given)
+once_pwrite limits t fd offset given =
     once_described t fd _ (λ f.
-    once_two t (not f.writes) (reading.is_negative offset || reading.is_too_many (length given)) EBADF EINVAL (descriptors.puts t f.number (nat_abs offset) given (λ after. after))
-    (once_puts t f.number (nat_abs offset) given (λ after. after)))
+    once_two t (not f.writes) (reading.is_negative offset || reading.is_too_many (length given)) EBADF EINVAL (descriptors.puts limits t f.number (nat_abs offset) given (λ after. after))
+    (once_puts limits t f.number (nat_abs offset) given (λ after. after)))
 
 pub once_seek : (t : Tree) (fd : ℕ) (from : Whence) (offset : ℤ) → Once (descriptors.seeks t fd from offset)
 once_seek t fd from offset = once_described t fd _ (λ f. once_two t _ _ EINVAL EOVERFLOW _ (once_changes _ _ _))
 
-pub once_ftruncate : (t : Tree) (fd : ℕ) (size : ℤ) → Once (descriptors.truncates_open t fd size)
-once_ftruncate t fd size = once_described t fd _ (λ f. once_tested t ((not f.writes, EINVAL) ∷ changing.size_tests size) (changing.truncates_file t f.number (nat_abs size)) (once_changes _ _ _))
+pub once_ftruncate : (limits : Limits) (t : Tree) (fd : ℕ) (size : ℤ) → Once (descriptors.truncates_open limits t fd size)
+once_ftruncate limits t fd size = once_described t fd _ (λ f. once_tested t ((not f.writes, EINVAL) ∷ changing.size_tests limits size) (changing.truncates_file t f.number (nat_abs size)) (once_changes _ _ _))
 
 pub once_fstat : (t : Tree) (fd : ℕ) → Once (descriptors.stats_open t fd)
 once_fstat t fd = once_described t fd _ (λ f. once_tells t (file f.number))
@@ -423,21 +424,21 @@ once_fstat t fd = once_described t fd _ (λ f. once_tells t (file f.number))
 pub once_fsync : (t : Tree) (fd : ℕ) → Once (descriptors.syncs_open t fd)
 once_fsync t fd = once_described t fd _ (λ f. once_answers t _)
 
-pub once_path : (inodes : ℕ) (t : Tree) (c : PathCall) → Once (calls inodes t c)
-once_path inodes t (call.List path) = once_list t path
-once_path inodes t (call.Entries path after count) = once_entries t path after count
-once_path inodes t (call.Stat path) = once_stat t true path
-once_path inodes t (call.Lstat path) = once_stat t false path
-once_path inodes t (call.Readlink path) = once_readlink t path
-once_path inodes t (call.Get path offset count) = once_get t path offset count
-once_path inodes t (call.Mkdir path mode) = once_creates inodes t path (λ p n. with_directory p n mode)
-once_path inodes t (call.Rmdir path) = once_rmdir t path
-once_path inodes t (call.Unlink path) = once_unlink t path
-once_path inodes t (call.Link old path) = once_link t old path
-once_path inodes t (call.Symlink text path) = once_symlink inodes t text path
-once_path inodes t (call.Rename old path) = once_rename t false old path
-once_path inodes t (call.RenameNew old path) = once_rename t true old path
-once_path inodes t (call.Chmod path mode) = once_chmod t path mode
-once_path inodes t (call.Truncate path size) = once_truncate t path size
-once_path inodes t (call.Store path offset given) = once_store t path offset given
-once_path inodes t (call.Set path settings) = once_set t path settings
+pub once_path : (limits : Limits) (t : Tree) (c : PathCall) → Once (calls limits t c)
+once_path limits t (call.List path) = once_list limits t path
+once_path limits t (call.Entries path after count) = once_entries limits t path after count
+once_path limits t (call.Stat path) = once_stat limits t true path
+once_path limits t (call.Lstat path) = once_stat limits t false path
+once_path limits t (call.Readlink path) = once_readlink limits t path
+once_path limits t (call.Get path offset count) = once_get limits t path offset count
+once_path limits t (call.Mkdir path mode) = once_creates limits t path (λ p n. with_directory p n mode)
+once_path limits t (call.Rmdir path) = once_rmdir limits t path
+once_path limits t (call.Unlink path) = once_unlink limits t path
+once_path limits t (call.Link old path) = once_link limits t old path
+once_path limits t (call.Symlink text path) = once_symlink limits t text path
+once_path limits t (call.Rename old path) = once_rename limits t false old path
+once_path limits t (call.RenameNew old path) = once_rename limits t true old path
+once_path limits t (call.Chmod path mode) = once_chmod limits t path mode
+once_path limits t (call.Truncate path size) = once_truncate limits t path size
+once_path limits t (call.Store path offset given) = once_store limits t path offset given
+once_path limits t (call.Set path settings) = once_set limits t path settings

@@ -4,7 +4,8 @@ use Rattle.std.specs.Prelude.{if◌then◌else◌}
 use Rattle.std.proofs.lemmas.Bool.{cases_eq, cond_both, cond-true, cond-false, false≢true, false_from_ne_true, eq-eqb, ne_eqb}
 use Rattle.std.proofs.lemmas.List.{same_from_push}
 use Rattle.std.proofs.lemmas.List.Elements.{All-push}
-use Rattle.model.specs.declared.limits.TheConstants.{ROOT_NUMBER, FIRST_NUMBER, MODE_BITS, GREATEST_FILE, FILE_NAMES, DIRECTORY_NAMES}
+use Rattle.model.specs.declared.limits.Limits.{Limits}
+use Rattle.model.specs.declared.limits.TheConstants.{ROOT_NUMBER, FIRST_NUMBER, MODE_BITS}
 use Rattle.model.specs.Counting.{Counts, CountsUpTo}
 use Rattle.model.specs.Paths.{Name, Path, IsName, IsLinkText, path_eq}
 use Rattle.model.specs.Trees.{Tree, Object, directory, symlink, file, number_of_object, is_directory, StandsAtPath, IsOpen, IsUsed, IsTree}
@@ -37,9 +38,9 @@ pub put-other : {X : Type 0} (p q : Path) (o : Option X) (f : Path → Option X)
 put-other p q o f other = cond-false (path_eq q p) o (f q) (false_from_ne_true (path_eq q p) (λ e. other (same_path q p e)))
 
 -- nothing stands anywhere below a leaf
-pub below_leaf : (inodes : ℕ) (t : Tree) → IsTree inodes t → (p : Path) → ((x : Name) → t.objects (p ++ x ∷ []) ≡ None) → (x : Name) (rest : Path) → IsSome (t.objects (p ++ x ∷ rest)) → ⊥
-below_leaf inodes t tree p leaf x [] some = absent (t.objects (p ++ x ∷ [])) (leaf x) some
-below_leaf inodes t tree p leaf x (y ∷ rest) some =
+pub below_leaf : (limits : Limits) (t : Tree) → IsTree limits t → (p : Path) → ((x : Name) → t.objects (p ++ x ∷ []) ≡ None) → (x : Name) (rest : Path) → IsSome (t.objects (p ++ x ∷ rest)) → ⊥
+below_leaf limits t tree p leaf x [] some = absent (t.objects (p ++ x ∷ [])) (leaf x) some
+below_leaf limits t tree p leaf x (y ∷ rest) some =
     let here = tree.above (p ++ x ∷ []) (y ∷ rest) (no_more y rest) (subst (λ q. IsSome (t.objects q)) (sym (append_assoc p (x ∷ []) (y ∷ rest))) some) in
     false≢true (ap is_directory (sym (leaf x)) ∙ here)
 
@@ -49,23 +50,23 @@ file_or_not (symlink k text) n = inr (λ e. cc)
 file_or_not (file k) n = elim (cases_eq k n) [ inl e ↦ inl (ap file e) | inr e ↦ inr (λ f. e (ap number_of_object f)) ]
 
 -- an object with its bytes and its mode fits a tree
-pub record Joins (inodes : ℕ) (t : Tree) (o : Object) (bytes : ℕ → Option (List ℕ)) (mode : ℕ → Option ℕ) : Type 0 where
+pub record Joins (limits : Limits) (t : Tree) (o : Object) (bytes : ℕ → Option (List ℕ)) (mode : ℕ → Option ℕ) : Type 0 where
   pub free : (q : Path) (r : Object) → t.objects q ≡ Some r → number_of_object r ≡ number_of_object o → (r ≡ o) × (o ≡ file (number_of_object o))
   pub opened : IsOpen t (number_of_object o) → o ≡ file (number_of_object o)
-  pub numbers : (number_of_object o ≡ ROOT_NUMBER) ⊎ ((FIRST_NUMBER ≤ number_of_object o) × (number_of_object o < inodes))
-  pub text : (n : ℕ) (text : List ℕ) → o ≡ symlink n text → IsLinkText text
-  pub links : (n : ℕ) → o ≡ file n → (count : ℕ) × Counts (λ p. t.objects p ≡ Some (file n)) count × (count < FILE_NAMES)
+  pub numbers : (number_of_object o ≡ ROOT_NUMBER) ⊎ ((FIRST_NUMBER ≤ number_of_object o) × (number_of_object o < limits.inodes))
+  pub text : (n : ℕ) (text : List ℕ) → o ≡ symlink n text → IsLinkText limits.path_bytes text
+  pub links : (n : ℕ) → o ≡ file n → (count : ℕ) × Counts (λ p. t.objects p ≡ Some (file n)) count × (count < limits.file_names)
   pub other_bytes : (n : ℕ) → n ≢ number_of_object o → bytes n ≡ t.bytes n
   pub other_mode : (n : ℕ) → n ≢ number_of_object o → mode n ≡ t.mode n
   pub has_bytes : o ≡ file (number_of_object o) → IsSome (bytes (number_of_object o))
   pub of_bytes : IsSome (bytes (number_of_object o)) → o ≡ file (number_of_object o)
   pub has_mode : (o ≡ directory (number_of_object o)) ⊎ (o ≡ file (number_of_object o)) → IsSome (mode (number_of_object o))
   pub of_mode : IsSome (mode (number_of_object o)) → (o ≡ directory (number_of_object o)) ⊎ (o ≡ file (number_of_object o))
-  pub sizes : (n : ℕ) → IfSome (bytes n) (λ given. length given ≤ GREATEST_FILE)
+  pub sizes : (n : ℕ) → IfSome (bytes n) (λ given. length given ≤ limits.file_bytes)
   pub bits : (n : ℕ) → IfSome (mode n) (λ given. given ≤ MODE_BITS)
 
 -- a number that is free
-module _ (inodes : ℕ) (t : Tree) (tree : IsTree inodes t) (n : ℕ) (low : FIRST_NUMBER ≤ n) (high : n < inodes) (free : ¬ IsUsed t n) where
+module _ (limits : Limits) (t : Tree) (tree : IsTree limits t) (n : ℕ) (low : FIRST_NUMBER ≤ n) (high : n < limits.inodes) (free : ¬ IsUsed t n) where
   no_bytes : ¬ IsSome (t.bytes n)
   no_bytes some = free (used_file t n ((tree.bytes n).0 some))
 
@@ -81,7 +82,7 @@ module _ (inodes : ℕ) (t : Tree) (tree : IsTree inodes t) (n : ℕ) (low : FIR
   bits_with : (mode : ℕ) → mode ≤ MODE_BITS → (k : ℕ) → IfSome ((with_mode n mode t).mode k) (λ bits. bits ≤ MODE_BITS)
   bits_with mode few k = cond_both (k == n) (Some mode) (t.mode k) (λ o. IfSome o (λ bits. bits ≤ MODE_BITS)) (λ e. few) (λ e. tree.bits k)
 
-  pub directory_joins : (mode : ℕ) → mode ≤ MODE_BITS → Joins inodes t (directory n) t.bytes (with_mode n mode t).mode
+  pub directory_joins : (mode : ℕ) → mode ≤ MODE_BITS → Joins limits t (directory n) t.bytes (with_mode n mode t).mode
   directory_joins mode few = record {
     free = λ q r at_q same. absurd (free (inl (q, r, at_q, same)));
     opened = λ open_file. absurd (free (inr open_file));
@@ -98,29 +99,29 @@ module _ (inodes : ℕ) (t : Tree) (tree : IsTree inodes t) (n : ℕ) (low : FIR
     bits = bits_with mode few;
   }
 
-  pub file_joins : (mode : ℕ) → mode ≤ MODE_BITS → Joins inodes t (file n) (with_bytes n [] t).bytes (with_mode n mode t).mode
+  pub file_joins : (mode : ℕ) → mode ≤ MODE_BITS → Joins limits t (file n) (with_bytes n [] t).bytes (with_mode n mode t).mode
   file_joins mode few = record {
     free = λ q r at_q same. absurd (free (inl (q, r, at_q, same)));
     opened = λ open_file. refl;
     numbers = inr (low, high);
     text = λ k text e. cc;
-    links = λ k e. (0, (λ p is. free (inl (p, file k, is, ap number_of_object (sym e)))), lit≤ tt);
+    links = λ k e. (0, (λ p is. free (inl (p, file k, is, ap number_of_object (sym e)))), omega (arith, tree.can_be.named));
     other_bytes = λ k apart. set_other k [] t.bytes apart;
     other_mode = λ k apart. set_other k mode t.mode apart;
     has_bytes = λ e. ap is_some (set_here {X = List ℕ} [] t.bytes);
     of_bytes = λ some. refl;
     has_mode = λ kind. ap is_some (set_here mode t.mode);
     of_mode = λ some. inr refl;
-    sizes = λ k. cond_both (k == n) (Some []) (t.bytes k) (λ o. IfSome o (λ bytes. length bytes ≤ GREATEST_FILE)) (λ e. lit≤ tt) (λ e. tree.sizes k);
+    sizes = λ k. cond_both (k == n) (Some []) (t.bytes k) (λ o. IfSome o (λ bytes. length bytes ≤ limits.file_bytes)) (λ e. omega arith) (λ e. tree.sizes k);
     bits = bits_with mode few;
   }
 
-  pub symlink_joins : (text : List ℕ) → IsLinkText text → Joins inodes t (symlink n text) t.bytes t.mode
+  pub symlink_joins : (text : List ℕ) → IsLinkText limits.path_bytes text → Joins limits t (symlink n text) t.bytes t.mode
   symlink_joins text good = record {
     free = λ q r at_q same. absurd (free (inl (q, r, at_q, same)));
     opened = λ open_file. absurd (free (inr open_file));
     numbers = inr (low, high);
-    text = λ k other e. subst IsLinkText (text_same e) good;
+    text = λ k other e. subst (IsLinkText limits.path_bytes) (text_same e) good;
     links = λ k e. symlink_file e;
     other_bytes = λ k apart. refl;
     other_mode = λ k apart. refl;
@@ -133,8 +134,8 @@ module _ (inodes : ℕ) (t : Tree) (tree : IsTree inodes t) (n : ℕ) (low : FIR
   }
 
 -- one more path of a file
-pub link_joins : (inodes : ℕ) (t : Tree) → IsTree inodes t → (p : Path) (n count : ℕ) → t.objects p ≡ Some (file n) → Counts (λ q. t.objects q ≡ Some (file n)) count → count < FILE_NAMES → Joins inodes t (file n) t.bytes t.mode
-link_joins inodes t tree p n count at_p counts few = record {
+pub link_joins : (limits : Limits) (t : Tree) → IsTree limits t → (p : Path) (n count : ℕ) → t.objects p ≡ Some (file n) → Counts (λ q. t.objects q ≡ Some (file n)) count → count < limits.file_names → Joins limits t (file n) t.bytes t.mode
+link_joins limits t tree p n count at_p counts few = record {
   free = λ q r at_q same. elim (tree.single p q (file n) r at_p at_q (sym same)) [
     | inl one ↦ (some_same (sym at_q ∙ ap t.objects (sym one) ∙ at_p), refl)
     | inr both ↦ (both.1, refl)
@@ -154,7 +155,7 @@ link_joins inodes t tree p n count at_p counts few = record {
 }
 
 -- an object that fits goes to a name that is free in a directory
-module _ (inodes : ℕ) (old : Tree) (tree : IsTree inodes old) (path : Path) (name : Name) (o : Object) (bytes : ℕ → Option (List ℕ)) (mode : ℕ → Option ℕ) (stands : is_directory (old.objects path) ≡ true) (missing : old.objects (path ++ name ∷ []) ≡ None) (good : IsName name) (joins : Joins inodes old o bytes mode) where
+module _ (limits : Limits) (old : Tree) (tree : IsTree limits old) (path : Path) (name : Name) (o : Object) (bytes : ℕ → Option (List ℕ)) (mode : ℕ → Option ℕ) (stands : is_directory (old.objects path) ≡ true) (missing : old.objects (path ++ name ∷ []) ≡ None) (good : IsName name) (joins : Joins limits old o bytes mode) where
   abbrev place : Path
   place = path ++ name ∷ []
 
@@ -284,15 +285,15 @@ module _ (inodes : ℕ) (old : Tree) (tree : IsTree inodes old) (path : Path) (n
         | inr one ↦ tree.opened n p r open_file one same
       ]
 
-  numbers_new : (n : ℕ) → IsUsed new n → (n ≡ ROOT_NUMBER) ⊎ ((FIRST_NUMBER ≤ n) × (n < inodes))
+  numbers_new : (n : ℕ) → IsUsed new n → (n ≡ ROOT_NUMBER) ⊎ ((FIRST_NUMBER ≤ n) × (n < limits.inodes))
   numbers_new n (inl there) =
       elim (found_in there.0 there.1 there.2) [
-        | inl one ↦ subst (λ k. (k ≡ ROOT_NUMBER) ⊎ ((FIRST_NUMBER ≤ k) × (k < inodes))) (sym (ap number_of_object one.1) ∙ there.3) joins.numbers
+        | inl one ↦ subst (λ k. (k ≡ ROOT_NUMBER) ⊎ ((FIRST_NUMBER ≤ k) × (k < limits.inodes))) (sym (ap number_of_object one.1) ∙ there.3) joins.numbers
         | inr one ↦ tree.numbers n (inl (there.0, there.1, one, there.3))
       ]
   numbers_new n (inr open_file) = tree.numbers n (inr open_file)
 
-  texts_new : (p : Path) (n : ℕ) (text : List ℕ) → new.objects p ≡ Some (symlink n text) → IsLinkText text
+  texts_new : (p : Path) (n : ℕ) (text : List ℕ) → new.objects p ≡ Some (symlink n text) → IsLinkText limits.path_bytes text
   texts_new p n text is = elim (found_in p (symlink n text) is) [ inl one ↦ joins.text n text (sym one.1) | inr one ↦ tree.texts p n text one ]
 
   below_place : (x : Name) → ¬ IsSome (new.objects (place ++ x ∷ []))
@@ -313,10 +314,10 @@ module _ (inodes : ℕ) (old : Tree) (tree : IsTree inodes old) (path : Path) (n
       let same = put-other place (p ++ x ∷ []) (Some o) old.objects (λ e. other (same_from_push p path x name e).0) in
       (λ some. ap is_some same ∙ some, λ some. ap is_some (sym same) ∙ some)
 
-  children_new : (names : List Name) → IsListing old path names → length names < DIRECTORY_NAMES → (p : Path) → is_directory (new.objects p) ≡ true → CountsUpTo DIRECTORY_NAMES (λ x. IsSome (new.objects (p ++ x ∷ [])))
+  children_new : (names : List Name) → IsListing old path names → length names < limits.directory_names → (p : Path) → is_directory (new.objects p) ≡ true → CountsUpTo limits.directory_names (λ x. IsSome (new.objects (p ++ x ∷ [])))
   children_new names listing few p is =
       elim (path_apart p place) [
-        | inl e ↦ (0, subst (λ q. (x : Name) → ¬ IsSome (new.objects (q ++ x ∷ []))) (sym e) below_place, lit≤ tt)
+        | inl e ↦ (0, subst (λ q. (x : Name) → ¬ IsSome (new.objects (q ++ x ∷ []))) (sym e) below_place, omega arith)
         | inr e ↦ elim (path_apart p path) [
           | inl f ↦ (
             suc (length names),
@@ -330,7 +331,7 @@ module _ (inodes : ℕ) (old : Tree) (tree : IsTree inodes old) (path : Path) (n
         ]
       ]
 
-  links_new : (n : ℕ) → CountsUpTo FILE_NAMES (λ p. new.objects p ≡ Some (file n))
+  links_new : (n : ℕ) → CountsUpTo limits.file_names (λ p. new.objects p ≡ Some (file n))
   links_new n =
       elim (file_or_not o n) [
         | inl is ↦
@@ -352,8 +353,9 @@ module _ (inodes : ℕ) (old : Tree) (tree : IsTree inodes old) (path : Path) (n
             )
       ]
 
-  pub placed_is_tree : (names : List Name) → IsListing old path names → length names < DIRECTORY_NAMES → IsTree inodes new
+  pub placed_is_tree : (names : List Name) → IsListing old path names → length names < limits.directory_names → IsTree limits new
   placed_is_tree names listing room = record {
+    can_be = tree.can_be;
     root = stays [] (directory 3) tree.root;
     above = above_new;
     names = names_new;

@@ -3,6 +3,7 @@ use Rattle.std.proofs.Common.{◌≡◌, ◌≢◌, ◌⊎◌, inl, inr, ℕ, ze
 use Rattle.std.specs.Prelude.{if◌then◌else◌, unwrap_or}
 use Rattle.std.proofs.Math.Path.{fun_ext}
 use Rattle.std.proofs.lemmas.Bool.{cases_eq, cases_lt, cond_both, eqb-true, false≢true}
+use Rattle.model.specs.declared.limits.Limits.{Limits}
 use Rattle.model.specs.declared.limits.TheConstants.{OPEN_FILES}
 use Rattle.model.specs.Paths.{Name, Path}
 use Rattle.model.specs.Trees as trees
@@ -129,7 +130,7 @@ unswept v new table mounted named =
     ])
 
 -- what one object's change shows of a tree
-module _ (inodes : ℕ) (v : Volume) (volume : IsVolume inodes v) (table : ℕ → Option Description) (mounted : IsMounted v table) where
+module _ (limits : Limits) (v : Volume) (volume : IsVolume limits v) (table : ℕ → Option Description) (mounted : IsMounted v table) where
   abbrev before : Tree
   before = tree_of v table
 
@@ -210,22 +211,22 @@ module _ (inodes : ℕ) (v : Volume) (volume : IsVolume inodes v) (table : ℕ �
         (fun_ext (λ k. chosen mode_of (k == n) (with_node_mode bits (v n)) (v k) ∙ ap (λ b. if k == n then b else before.mode k) (mode_here bits (v n) is))) refl
 
 -- a size changes, and then a mode
-module _ (inodes : ℕ) (v : Volume) (volume : IsVolume inodes v) (table : ℕ → Option Description) (mounted : IsMounted v table) (n mode size : ℕ) (can : Applies inodes v (set_file n mode size)) where
+module _ (limits : Limits) (v : Volume) (volume : IsVolume limits v) (table : ℕ → Option Description) (mounted : IsMounted v table) (n mode size : ℕ) (can : Applies limits v (set_file n mode size)) where
   abbrev sized : Volume
   sized = with_size n size v
 
   sized_file : (k : ℕ) → is_file_node (v k) ≡ true → is_file_node (sized k) ≡ true
   sized_file k is =
-      by_node inodes v volume table mounted n (with_file_bytes (resized size) (v n)) (bytes_names (resized size) (v n)) (bytes_object inodes v volume table mounted (resized size) (v n)) (bytes_orphan (resized size) (v n)) is_file_node (bytes_by is_file_node (λ attributes links a b. refl) (resized size) (v n)) k ∙ is
+      by_node limits v volume table mounted n (with_file_bytes (resized size) (v n)) (bytes_names (resized size) (v n)) (bytes_object limits v volume table mounted (resized size) (v n)) (bytes_orphan (resized size) (v n)) is_file_node (bytes_by is_file_node (λ attributes links a b. refl) (resized size) (v n)) k ∙ is
 
   sized_swept : swept table sized ≡ sized
-  sized_swept = bytes_swept inodes v volume table mounted n (resized size) can.0
+  sized_swept = bytes_swept limits v volume table mounted n (resized size) can.0
 
   sized_mounted : IsMounted sized table
   sized_mounted = subst (λ (w : Volume). IsMounted w table) sized_swept (still_mounted v sized table mounted sized_file)
 
-  sized_volume : IsVolume inodes sized
-  sized_volume = keeps_volumes inodes v (truncate n size) volume (can.0, can.2)
+  sized_volume : IsVolume limits sized
+  sized_volume = keeps_volumes limits v (truncate n size) volume (can.0, can.2)
 
   sized_has : (is_file_node (sized n) || is_directory_node (sized n)) ≡ true
   sized_has = ap (λ b. b || is_directory_node (sized n)) (sized_file n can.0)
@@ -233,16 +234,16 @@ module _ (inodes : ℕ) (v : Volume) (volume : IsVolume inodes v) (table : ℕ �
   set_tree : tree_of (swept table (with_bits n mode sized)) table
       ≡ with_mode n mode (with_bytes n (resized size (contents (tree_of v table) n)) (tree_of v table))
   set_tree =
-      ap (λ w. tree_of w table) (modes_swept inodes sized sized_volume table sized_mounted n mode sized_has)
-      ∙ modes_tree inodes sized sized_volume table sized_mounted n mode sized_has
-      ∙ ap (λ u. with_mode n mode u) (bytes_tree inodes v volume table mounted n (resized size) can.0)
+      ap (λ w. tree_of w table) (modes_swept limits sized sized_volume table sized_mounted n mode sized_has)
+      ∙ modes_tree limits sized sized_volume table sized_mounted n mode sized_has
+      ∙ ap (λ u. with_mode n mode u) (bytes_tree limits v volume table mounted n (resized size) can.0)
 
   set_files : (k : ℕ) → is_file_node (v k) ≡ true → is_file_node (with_bits n mode sized k) ≡ true
   set_files k is =
-      by_node inodes sized sized_volume table sized_mounted n (with_node_mode mode (sized n)) (mode_names mode (sized n)) (mode_object inodes sized sized_volume table sized_mounted mode (sized n)) (mode_orphan mode (sized n)) is_file_node (mode_file mode (sized n)) k
+      by_node limits sized sized_volume table sized_mounted n (with_node_mode mode (sized n)) (mode_names mode (sized n)) (mode_object limits sized sized_volume table sized_mounted mode (sized n)) (mode_orphan mode (sized n)) is_file_node (mode_file mode (sized n)) k
       ∙ sized_file k is
 
-module _ (inodes : ℕ) (v : Volume) (volume : IsVolume inodes v) (table : ℕ → Option Description) (mounted : IsMounted v table) where
+module _ (limits : Limits) (v : Volume) (volume : IsVolume limits v) (table : ℕ → Option Description) (mounted : IsMounted v table) where
   abbrev graph : IsGraph v
   graph = volume.graph
 
@@ -254,7 +255,7 @@ module _ (inodes : ℕ) (v : Volume) (volume : IsVolume inodes v) (table : ℕ �
   is_at p d at_d d_is = ap (object_at v) at_d ∙ directory_object d (v d) d_is
 
   -- a new object
-  module _ (number parent : ℕ) (made : Made) (name : Name) (can : CanCreate inodes v number parent made name) (free : v number ≡ None) where
+  module _ (number parent : ℕ) (made : Made) (name : Name) (can : CanCreate limits v number parent made name) (free : v number ≡ None) where
     abbrev new : Volume
     new = created number parent name (node_of made) v
 
@@ -307,7 +308,7 @@ module _ (inodes : ℕ) (v : Volume) (volume : IsVolume inodes v) (table : ℕ �
         (entry_keeps parent name (Some number) more n).file
         ∙ ap is_file_node (node_other number n (Some (node_of made)) v (λ e. false≢true (sym (ap is_file_node free) ∙ ap (λ k. is_file_node (v k)) (sym e) ∙ is))) ∙ is
 
-  makes_tree : (number parent : ℕ) (made : Made) (name : Name) (can : CanCreate inodes v number parent made name) (free : v number ≡ None) → tree_of (created number parent name (node_of made) v) table ≡ with_made made (q number parent made name can free) number t
+  makes_tree : (number parent : ℕ) (made : Made) (name : Name) (can : CanCreate limits v number parent made name) (free : v number ≡ None) → tree_of (created number parent name (node_of made) v) table ≡ with_made made (q number parent made name can free) number t
   makes_tree number parent (file mode) name can free =
       trees_same (tree_of (created number parent name (node_of (file mode)) v) table) (with_made (file mode) (q number parent (file mode) name can free) number t)
       (objects number parent (file mode) name can free) (fun_ext (bytes number parent (file mode) name can free)) (fun_ext (modes number parent (file mode) name can free)) refl
@@ -320,7 +321,7 @@ module _ (inodes : ℕ) (v : Volume) (volume : IsVolume inodes v) (table : ℕ �
       (fun_ext (λ m. modes number parent (symbolic_link text) name can free m ∙ as_before number parent (symbolic_link text) name can free mode_of refl refl m)) refl
 
   -- one more name
-  module _ (number parent : ℕ) (name : Name) (can : CanLink v number parent name) where
+  module _ (number parent : ℕ) (name : Name) (can : CanLink limits v number parent name) where
     abbrev linked_now : Volume
     linked_now = linked number parent name v
 
@@ -351,7 +352,7 @@ module _ (inodes : ℕ) (v : Volume) (volume : IsVolume inodes v) (table : ℕ �
     linked_swept = unswept v linked_now table mounted linked_named
 
   -- what a record does to the tree
-  changes_tree : (change : Change) → Applies inodes v change → TakesFreeNumber v change → ChangesTree change t (tree_of (swept table (applied change v)) table)
+  changes_tree : (change : Change) → Applies limits v change → TakesFreeNumber v change → ChangesTree change t (tree_of (swept table (applied change v)) table)
   changes_tree (create number parent made name) can free =
       let place = path_to v graph parent can.takes.directory in
       (place.0, is_at place.0 parent place.1 can.takes.directory, ap (λ w. tree_of w table) (created_swept number parent made name can free) ∙ makes_tree number parent made name can free)
@@ -377,13 +378,13 @@ module _ (inodes : ℕ) (v : Volume) (volume : IsVolume inodes v) (table : ℕ �
         is_at to.0 new_parent to.1 m.k_is,
         renamed_swept v graph table mounted.bounded mounted.files from.0 to.0 name new_name parent new_parent can.number m.at_d m.at_k m.there m.d_is m.k_is m.empty m.outside m.other m.distinct m.name,
       )
-  changes_tree (write number offset bytes) can free = ap (λ w. tree_of w table) (bytes_swept inodes v volume table mounted number (written offset bytes) can.0) ∙ bytes_tree inodes v volume table mounted number (written offset bytes) can.0
-  changes_tree (truncate number size) can free = ap (λ w. tree_of w table) (bytes_swept inodes v volume table mounted number (resized size) can.0) ∙ bytes_tree inodes v volume table mounted number (resized size) can.0
-  changes_tree (change_mode number mode) can free = ap (λ w. tree_of w table) (modes_swept inodes v volume table mounted number mode can.0) ∙ modes_tree inodes v volume table mounted number mode can.0
-  changes_tree (set_file number mode size) can free = set_tree inodes v volume table mounted number mode size can
+  changes_tree (write number offset bytes) can free = ap (λ w. tree_of w table) (bytes_swept limits v volume table mounted number (written offset bytes) can.0) ∙ bytes_tree limits v volume table mounted number (written offset bytes) can.0
+  changes_tree (truncate number size) can free = ap (λ w. tree_of w table) (bytes_swept limits v volume table mounted number (resized size) can.0) ∙ bytes_tree limits v volume table mounted number (resized size) can.0
+  changes_tree (change_mode number mode) can free = ap (λ w. tree_of w table) (modes_swept limits v volume table mounted number mode can.0) ∙ modes_tree limits v volume table mounted number mode can.0
+  changes_tree (set_file number mode size) can free = set_tree limits v volume table mounted number mode size can
 
   -- what was a file is one still
-  files_stay : (change : Change) → Applies inodes v change → TakesFreeNumber v change → (n : ℕ) → is_file_node (v n) ≡ true → is_file_node (applied change v n) ≡ true
+  files_stay : (change : Change) → Applies limits v change → TakesFreeNumber v change → (n : ℕ) → is_file_node (v n) ≡ true → is_file_node (applied change v n) ≡ true
   files_stay (create number parent made name) can free n is = created_files number parent made name can free n is
   files_stay (link number parent name) can free n is = (link_kept number parent name can n).file ∙ is
   files_stay (remove_name parent name) can free n is =
@@ -394,18 +395,18 @@ module _ (inodes : ℕ) (v : Volume) (volume : IsVolume inodes v) (table : ℕ �
       let m = is_move v graph parent name new_parent new_name can in
       (keeps v graph from.0 to.0 name new_name parent new_parent can.number m.at_d m.at_k m.there m.d_is m.k_is m.empty m.outside m.other n (λ there. is)).file ∙ is
   files_stay (write number offset bytes) can free n is =
-      by_node inodes v volume table mounted number (with_file_bytes (written offset bytes) (v number)) (bytes_names (written offset bytes) (v number)) (bytes_object inodes v volume table mounted (written offset bytes) (v number)) (bytes_orphan (written offset bytes) (v number)) is_file_node (bytes_by is_file_node (λ attributes links a b. refl) (written offset bytes) (v number)) n ∙ is
+      by_node limits v volume table mounted number (with_file_bytes (written offset bytes) (v number)) (bytes_names (written offset bytes) (v number)) (bytes_object limits v volume table mounted (written offset bytes) (v number)) (bytes_orphan (written offset bytes) (v number)) is_file_node (bytes_by is_file_node (λ attributes links a b. refl) (written offset bytes) (v number)) n ∙ is
   files_stay (truncate number size) can free n is =
-      by_node inodes v volume table mounted number (with_file_bytes (resized size) (v number)) (bytes_names (resized size) (v number)) (bytes_object inodes v volume table mounted (resized size) (v number)) (bytes_orphan (resized size) (v number)) is_file_node (bytes_by is_file_node (λ attributes links a b. refl) (resized size) (v number)) n ∙ is
+      by_node limits v volume table mounted number (with_file_bytes (resized size) (v number)) (bytes_names (resized size) (v number)) (bytes_object limits v volume table mounted (resized size) (v number)) (bytes_orphan (resized size) (v number)) is_file_node (bytes_by is_file_node (λ attributes links a b. refl) (resized size) (v number)) n ∙ is
   files_stay (change_mode number mode) can free n is =
-      by_node inodes v volume table mounted number (with_node_mode mode (v number)) (mode_names mode (v number)) (mode_object inodes v volume table mounted mode (v number)) (mode_orphan mode (v number)) is_file_node (mode_file mode (v number)) n ∙ is
-  files_stay (set_file number mode size) can free n is = set_files inodes v volume table mounted number mode size can n is
+      by_node limits v volume table mounted number (with_node_mode mode (v number)) (mode_names mode (v number)) (mode_object limits v volume table mounted mode (v number)) (mode_orphan mode (v number)) is_file_node (mode_file mode (v number)) n ∙ is
+  files_stay (set_file number mode size) can free n is = set_files limits v volume table mounted number mode size can n is
 
 pub records_change_trees : RecordsChangeTrees
-records_change_trees inodes v table change volume mounted can free = (
-  still_mounted v (applied change v) table mounted (files_stay inodes v volume table mounted change can free),
-  changes_tree inodes v volume table mounted change can free,
+records_change_trees limits v table change volume mounted can free = (
+  still_mounted v (applied change v) table mounted (files_stay limits v volume table mounted change can free),
+  changes_tree limits v volume table mounted change can free,
 )
 
 pub volumes_are_trees : VolumesAreTrees
-volumes_are_trees inodes v table volume mounted = tree_of_is_tree inodes v volume table mounted
+volumes_are_trees limits v table volume mounted = tree_of_is_tree limits v volume table mounted

@@ -5,7 +5,7 @@ use Rattle.std.proofs.Math.Path.{fun_ext}
 use Rattle.std.proofs.lemmas.Bool.{false≢true}
 use Rattle.std.proofs.lemmas.List.{same_from_push}
 use Rattle.std.proofs.lemmas.List.Elements.{All-push, All-append, All-from_recursion, recursion_from_All}
-use Rattle.model.specs.declared.limits.TheConstants.{FILE_NAMES, DIRECTORY_NAMES}
+use Rattle.model.specs.declared.limits.Limits.{Limits}
 use Rattle.model.specs.Counting.{Counts, CountsUpTo}
 use Rattle.model.specs.Paths.{Name, Path, IsName, behind}
 use Rattle.model.specs.Trees.{Tree, Object, directory, symlink, file, number_of_object, is_directory, StandsAtPath, IsOpen, IsUsed}
@@ -45,7 +45,7 @@ behind-same : (p : Path) → behind p p ≡ Some []
 behind-same p = ap (behind p) (sym (append-nil p)) ∙ behind-append p []
 
 -- From p, the name a in the directory at u, to q, the name b in the directory at w.
-module _ (inodes : ℕ) (t : Tree) (tree : IsLooseTree inodes t) (u w : Path) (a b : Name) (o : Object) (at_p : t.objects (u ++ a ∷ []) ≡ Some o) (vacant : t.objects (w ++ b ∷ []) ≡ None) (stands : is_directory (t.objects w) ≡ true) (good : IsName b) (apart : behind (u ++ a ∷ []) (w ++ b ∷ []) ≡ None) where
+module _ (limits : Limits) (t : Tree) (tree : IsLooseTree limits t) (u w : Path) (a b : Name) (o : Object) (at_p : t.objects (u ++ a ∷ []) ≡ Some o) (vacant : t.objects (w ++ b ∷ []) ≡ None) (stands : is_directory (t.objects w) ≡ true) (good : IsName b) (apart : behind (u ++ a ∷ []) (w ++ b ∷ []) ≡ None) where
   abbrev p : Path
   p = u ++ a ∷ []
 
@@ -183,7 +183,7 @@ module _ (inodes : ℕ) (t : Tree) (tree : IsLooseTree inodes t) (u w : Path) (a
       let other = came s y at_s in
       elim (tree.single (from r) (from s) x y one.0 other.0 same) [ inl e ↦ inl (sym one.1 ∙ ap to e ∙ other.1) | inr both ↦ inr both ]
 
-  links_new : (n : ℕ) → CountsUpTo FILE_NAMES (λ r. new.objects r ≡ Some (file n))
+  links_new : (n : ℕ) → CountsUpTo limits.file_names (λ r. new.objects r ≡ Some (file n))
   links_new n =
       let counts = tree.links n in
       (counts.0, count_along (λ r. t.objects r ≡ Some (file n)) (λ r. new.objects r ≡ Some (file n)) to from counts.0 (λ r is. went r (file n) is) (λ r is. came r (file n) is) counts.1, counts.2)
@@ -207,12 +207,12 @@ module _ (inodes : ℕ) (t : Tree) (tree : IsLooseTree inodes t) (u w : Path) (a
   abbrev Names : (Path → Option Object) → Path → Name → Type 0
   Names f r x = IsSome (f (r ++ x ∷ []))
 
-  module _ (room : u ≢ w → (count : ℕ) × Counts (Names t.objects w) count × (count < DIRECTORY_NAMES)) where
+  module _ (room : u ≢ w → (count : ℕ) × Counts (Names t.objects w) count × (count < limits.directory_names)) where
     -- without the name a, where r is the directory at u
     abbrev Fewer : Path → Name → Type 0
     Fewer r x = Names t.objects r x × (r ++ x ∷ [] ≢ p)
 
-    fewer : (r : Path) → is_directory (t.objects r) ≡ true → CountsUpTo DIRECTORY_NAMES (Fewer r) × (r ≡ w → (count : ℕ) × Counts (Fewer r) count × (count < DIRECTORY_NAMES))
+    fewer : (r : Path) → is_directory (t.objects r) ≡ true → CountsUpTo limits.directory_names (Fewer r) × (r ≡ w → (count : ℕ) × Counts (Fewer r) count × (count < limits.directory_names))
     fewer r is =
         let counts = tree.children r is in
         elim (path_apart r u) [
@@ -232,7 +232,7 @@ module _ (inodes : ℕ) (t : Tree) (tree : IsLooseTree inodes t) (u w : Path) (a
               )
         ]
 
-    children_out : (r : Path) → is_directory (new.objects r) ≡ true → behind q r ≡ None → behind p r ≡ None → CountsUpTo DIRECTORY_NAMES (Names new.objects r)
+    children_out : (r : Path) → is_directory (new.objects r) ≡ true → behind q r ≡ None → behind p r ≡ None → CountsUpTo limits.directory_names (Names new.objects r)
     children_out r is out_q out_p =
         let few = fewer r (ap is_directory (sym (is-outside r out_q out_p)) ∙ is) in
         let same : (x : Name) → r ++ x ∷ [] ≢ q → Fewer r x ↔ Names new.objects r x = λ x not_q. (
@@ -259,10 +259,10 @@ module _ (inodes : ℕ) (t : Tree) (tree : IsLooseTree inodes t) (u w : Path) (a
               (counts.0, same_count (Fewer r) (Names new.objects r) counts.0 (λ x. same x (λ e. other (same_from_push r w x b e).0)) counts.1, counts.2)
         ]
 
-    children_new : (r : Path) → is_directory (new.objects r) ≡ true → CountsUpTo DIRECTORY_NAMES (Names new.objects r)
+    children_new : (r : Path) → is_directory (new.objects r) ≡ true → CountsUpTo limits.directory_names (Names new.objects r)
     children_new r is = by (behind q r) (behind p r) refl refl
       where
-        by : (e f : Option Path) → behind q r ≡ e → behind p r ≡ f → CountsUpTo DIRECTORY_NAMES (Names new.objects r)
+        by : (e f : Option Path) → behind q r ≡ e → behind p r ≡ f → CountsUpTo limits.directory_names (Names new.objects r)
         by (Some s) f at_e at_f =
             let counts = tree.children (p ++ s) (ap is_directory (sym (is-inside r s at_e)) ∙ is) in
             let each : (x : Name) → new.objects (r ++ x ∷ []) ≡ t.objects ((p ++ s) ++ x ∷ []) = λ x. is-inside (r ++ x ∷ []) (s ++ x ∷ []) (more x (pushed q r x)) ∙ ap t.objects (sym (append_assoc p s (x ∷ []))) in
@@ -275,8 +275,9 @@ module _ (inodes : ℕ) (t : Tree) (tree : IsLooseTree inodes t) (u w : Path) (a
         by None (Some s) at_e at_f = no_directory (new.objects r) (is-left r s at_e at_f) is
         by None None at_e at_f = children_out r is at_e at_f
 
-    pub moved_is_loose : IsLooseTree inodes new
+    pub moved_is_loose : IsLooseTree limits new
     moved_is_loose = record {
+      can_be = tree.can_be;
       root = is-outside [] (behind-empty w b) (behind-empty u a) ∙ tree.root;
       above = steps_above new.objects step;
       names = names_new;

@@ -1,5 +1,6 @@
 -- `rename` on a volume does what it does on the tree.
 use Rattle.std.proofs.Common.{◌≡◌, ◌≢◌, inl, inr, ℕ, ◌≤◌, [], ◌∷◌, ◌++◌, Bool, true, false, ◌||◌, Option, Some, None, refl, sym, ap, ◌∙◌}
+use Rattle.model.specs.declared.limits.Limits.{Limits}
 use Rattle.model.specs.declared.limits.TheConstants.{OPEN_FILES}
 use Rattle.model.specs.declared.reply.Reply.{Reply}
 use Rattle.model.specs.declared.reply.Reply.TheVariants.{Done}
@@ -51,7 +52,7 @@ module _ (v : Volume) (volume : IsGraph v) (table : ℕ → Option Description) 
       (λ m used. let same = used_kept m used in (same.bytes, same.mode))
 
   -- where its tests pass, `rename` is done by its record and a sweep
-  pub rename_done : (o : Object) → (path_eq p q || is_same_file o (t.objects q)) ≡ false → first_refusal (move_tests p o q (t.objects q)) ≡ None → ((rest : Outcome) → rest Done (tree_of (swept table new) table) (logs adds_name) → with_target t p q (t.objects q) rest Done (tree_of (swept table new) table) (logs adds_name)) → moves t p o q Done (tree_of (swept table new) table) (logs adds_name)
-  rename_done o not_same passed target =
+  pub rename_done : (limits : Limits) (o : Object) → (path_eq p q || is_same_file o (t.objects q)) ≡ false → first_refusal (move_tests p o q (t.objects q)) ≡ None → ((rest : Outcome) → rest Done (tree_of (swept table new) table) (logs adds_name) → with_target limits t p q (t.objects q) rest Done (tree_of (swept table new) table) (logs adds_name)) → moves limits t p o q Done (tree_of (swept table new) table) (logs adds_name)
+  rename_done limits o not_same passed target =
       tests_passed (path_eq p q || is_same_file o (t.objects q)) _ _ not_same Done (tree_of (swept table new) table) (logs adds_name)
       (passed_tests t (move_tests p o q (t.objects q)) _ passed Done (tree_of (swept table new) table) (logs adds_name) (target (changes_swept Done (moved p q t) (logs adds_name)) (refl, renamed_swept, refl)))

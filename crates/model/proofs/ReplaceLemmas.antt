@@ -3,7 +3,7 @@ use Rattle.std.proofs.Common.{◌≡◌, ◌≢◌, ◌⊎◌, inl, inr, ℕ, �
 use Rattle.std.proofs.lemmas.Bool.{or_parts, false≢true}
 use Rattle.std.proofs.lemmas.List.{same_from_push}
 use Rattle.std.proofs.lemmas.List.Elements.{recursion_from_All}
-use Rattle.model.specs.declared.limits.TheConstants.{DIRECTORY_NAMES}
+use Rattle.model.specs.declared.limits.Limits.{Limits}
 use Rattle.model.specs.declared.errno.Errno.TheVariants.{EBUSY, ENOTEMPTY, EEXIST}
 use Rattle.model.specs.declared.reply.Reply.TheVariants as reply
 use Rattle.model.specs.Counting.{Counts}
@@ -26,7 +26,7 @@ use Rattle.model.proofs.RelocateLemmas.{moved_is_loose, moved_over, all_behind}
 use Rattle.model.proofs.StayLemmas.{LeavesTree, stays_same, stays_swept, stays_tested, stays_passed, stays_either, stays_leads, stays_leads_to, stays_along, stays_names, stays_place}
 use Rattle.model.proofs.CallLemmas.{last_tests, no_names, no_directory, low_by}
 
-module _ (inodes : ℕ) (t : Tree) (tree : IsTree inodes t) where
+module _ (limits : Limits) (t : Tree) (tree : IsTree limits t) where
   -- above a directory there are directories
   within : (p s w : Path) → p ++ s ≡ w → is_directory (t.objects w) ≡ true → is_directory (t.objects p) ≡ true
   within p [] w e stands = ap is_directory (ap t.objects (sym (append-nil p) ∙ e)) ∙ stands
@@ -59,18 +59,18 @@ module _ (inodes : ℕ) (t : Tree) (tree : IsTree inodes t) where
     abbrev q : Path
     q = w ++ b ∷ []
 
-    to_nothing : t.objects q ≡ None → (u ≢ w → (count : ℕ) × Counts (λ x. IsSome (t.objects (w ++ x ∷ []))) count × (count < DIRECTORY_NAMES)) → IsLooseTree inodes (moved p q t)
-    to_nothing vacant room = moved_is_loose inodes t (tree_is_loose inodes t tree) u w a b o at_p vacant stands good apart room
+    to_nothing : t.objects q ≡ None → (u ≢ w → (count : ℕ) × Counts (λ x. IsSome (t.objects (w ++ x ∷ []))) count × (count < limits.directory_names)) → IsLooseTree limits (moved p q t)
+    to_nothing vacant room = moved_is_loose limits t (tree_is_loose limits t tree) u w a b o at_p vacant stands good apart room
 
     -- in place of something
-    over_something : (r : Object) → t.objects q ≡ Some r → ((x : Name) → t.objects (q ++ x ∷ []) ≡ None) → p ≢ q → IsLooseTree inodes (moved p q t)
+    over_something : (r : Object) → t.objects q ≡ Some r → ((x : Name) → t.objects (q ++ x ∷ []) ≡ None) → p ≢ q → IsLooseTree limits (moved p q t)
     over_something r at_q leaf other =
         let less : Tree = without_object q t in
         let counts = tree.children w stands in
         let fewer = one_less (λ x. IsSome (t.objects (w ++ x ∷ []))) b counts.0 names_apart (ap is_some at_q) counts.1 in
         let each : (x : Name) → x ≢ b → less.objects (w ++ x ∷ []) ≡ t.objects (w ++ x ∷ []) = λ x apart_x. put-other q (w ++ x ∷ []) None t.objects (λ e. apart_x (same_from_push w w x b e).1) in
-        subst (IsLooseTree inodes) (moved_over t p q apart)
-        (moved_is_loose inodes less (taken_is_loose inodes t tree q r at_q (push_filled w b) leaf) u w a b o
+        subst (IsLooseTree limits) (moved_over t p q apart)
+        (moved_is_loose limits less (taken_is_loose limits t tree q r at_q (push_filled w b) leaf) u w a b o
         (put-other q p None t.objects other ∙ at_p)
         (put-here q None t.objects)
         (ap is_directory (put-other q w None t.objects (not_push w b)) ∙ stands)
@@ -86,55 +86,55 @@ module _ (inodes : ℕ) (t : Tree) (tree : IsTree inodes t) where
           omega (arith, fewer.1, counts.2),
         )))
 
-  stays_target : (u w : Path) (a b : Name) (o : Object) → t.objects (u ++ a ∷ []) ≡ Some o → is_directory (t.objects w) ≡ true → IsName b → behind (u ++ a ∷ []) (w ++ b ∷ []) ≡ None → u ++ a ∷ [] ≢ w ++ b ∷ [] → (r : Option Object) → t.objects (w ++ b ∷ []) ≡ r → LeavesTree inodes (changing.with_target t (u ++ a ∷ []) (w ++ b ∷ []) r (changes_swept reply.Done (moved (u ++ a ∷ []) (w ++ b ∷ []) t) (logs adds_name)))
+  stays_target : (u w : Path) (a b : Name) (o : Object) → t.objects (u ++ a ∷ []) ≡ Some o → is_directory (t.objects w) ≡ true → IsName b → behind (u ++ a ∷ []) (w ++ b ∷ []) ≡ None → u ++ a ∷ [] ≢ w ++ b ∷ [] → (r : Option Object) → t.objects (w ++ b ∷ []) ≡ r → LeavesTree limits (changing.with_target limits t (u ++ a ∷ []) (w ++ b ∷ []) r (changes_swept reply.Done (moved (u ++ a ∷ []) (w ++ b ∷ []) t) (logs adds_name)))
   stays_target u w a b o at_p stands good apart other None at_q =
-      stays_either inodes t tree (path_eq (parent (u ++ a ∷ [])) (parent (w ++ b ∷ []))) _ _
-      (λ e. stays_swept inodes t tree reply.Done _ (logs adds_name) (to_nothing u w a b o at_p stands good apart at_q (λ others. absurd (others (sym (parent-push u a) ∙ same_path (parent (u ++ a ∷ [])) (parent (w ++ b ∷ [])) e ∙ parent-push w b)))))
-      (λ e. stays_place inodes t tree (parent (w ++ b ∷ [])) _ (λ names listing room.
-      stays_swept inodes t tree reply.Done _ (logs adds_name) (to_nothing u w a b o at_p stands good apart at_q (λ others. (length names, listing_counts t w names (subst (λ v. IsListing t v names) (parent-push w b) listing), room)))))
+      stays_either limits t tree (path_eq (parent (u ++ a ∷ [])) (parent (w ++ b ∷ []))) _ _
+      (λ e. stays_swept limits t tree reply.Done _ (logs adds_name) (to_nothing u w a b o at_p stands good apart at_q (λ others. absurd (others (sym (parent-push u a) ∙ same_path (parent (u ++ a ∷ [])) (parent (w ++ b ∷ [])) e ∙ parent-push w b)))))
+      (λ e. stays_place limits t tree (parent (w ++ b ∷ [])) _ (λ names listing room.
+      stays_swept limits t tree reply.Done _ (logs adds_name) (to_nothing u w a b o at_p stands good apart at_q (λ others. (length names, listing_counts t w names (subst (λ v. IsListing t v names) (parent-push w b) listing), room)))))
   stays_target u w a b o at_p stands good apart other (Some (directory n)) at_q =
-      stays_names inodes t tree (w ++ b ∷ []) _ (λ names listing. stays_passed inodes t tree ((not (is_empty names), ENOTEMPTY) ∷ []) _ (λ pass.
-      stays_swept inodes t tree reply.Done _ (logs adds_name) (over_something u w a b o at_p stands good apart (directory n) at_q (no_names inodes t tree (w ++ b ∷ []) names listing pass.0) other)))
+      stays_names limits t tree (w ++ b ∷ []) _ (λ names listing. stays_passed limits t tree ((not (is_empty names), ENOTEMPTY) ∷ []) _ (λ pass.
+      stays_swept limits t tree reply.Done _ (logs adds_name) (over_something u w a b o at_p stands good apart (directory n) at_q (no_names limits t tree (w ++ b ∷ []) names listing pass.0) other)))
   stays_target u w a b o at_p stands good apart other (Some (symlink n text)) at_q =
-      stays_swept inodes t tree reply.Done _ (logs adds_name) (over_something u w a b o at_p stands good apart (symlink n text) at_q (no_directory inodes t tree (w ++ b ∷ []) (symlink n text) at_q refl) other)
+      stays_swept limits t tree reply.Done _ (logs adds_name) (over_something u w a b o at_p stands good apart (symlink n text) at_q (no_directory limits t tree (w ++ b ∷ []) (symlink n text) at_q refl) other)
   stays_target u w a b o at_p stands good apart other (Some (file n)) at_q =
-      stays_swept inodes t tree reply.Done _ (logs adds_name) (over_something u w a b o at_p stands good apart (file n) at_q (no_directory inodes t tree (w ++ b ∷ []) (file n) at_q refl) other)
+      stays_swept limits t tree reply.Done _ (logs adds_name) (over_something u w a b o at_p stands good apart (file n) at_q (no_directory limits t tree (w ++ b ∷ []) (file n) at_q refl) other)
 
-  stays_moves : (p : Path) (o : Object) (w : Path) (b : Name) → t.objects p ≡ Some o → p ≢ [] → is_directory (t.objects w) ≡ true → IsName b → LeavesTree inodes (changing.moves t p o (w ++ b ∷ []))
+  stays_moves : (p : Path) (o : Object) (w : Path) (b : Name) → t.objects p ≡ Some o → p ≢ [] → is_directory (t.objects w) ≡ true → IsName b → LeavesTree limits (changing.moves limits t p o (w ++ b ∷ []))
   stays_moves p o w b at_p low stands good =
-      stays_either inodes t tree (path_eq p (w ++ b ∷ []) || changing.is_same_file o (t.objects (w ++ b ∷ []))) _ _ (λ e. stays_same inodes t tree reply.Done) (λ e.
+      stays_either limits t tree (path_eq p (w ++ b ∷ []) || changing.is_same_file o (t.objects (w ++ b ∷ []))) _ _ (λ e. stays_same limits t tree reply.Done) (λ e.
       let apart : path_eq p (w ++ b ∷ []) ≡ false = (or_parts (path_eq p (w ++ b ∷ [])) (changing.is_same_file o (t.objects (w ++ b ∷ []))) e).0 in
-      stays_passed inodes t tree (changing.move_tests p o (w ++ b ∷ []) (t.objects (w ++ b ∷ []))) _ (λ pass.
+      stays_passed limits t tree (changing.move_tests p o (w ++ b ∷ []) (t.objects (w ++ b ∷ []))) _ (λ pass.
       by_end (ends p) apart (outside_itself p o (w ++ b ∷ []) w b at_p refl stands apart pass.0)))
     where
-      by_end : (p ≡ []) ⊎ ((u : Path) × (a : Name) × (p ≡ u ++ a ∷ [])) → path_eq p (w ++ b ∷ []) ≡ false → behind p (w ++ b ∷ []) ≡ None → LeavesTree inodes (changing.with_target t p (w ++ b ∷ []) (t.objects (w ++ b ∷ [])) (changes_swept reply.Done (moved p (w ++ b ∷ []) t) (logs adds_name)))
+      by_end : (p ≡ []) ⊎ ((u : Path) × (a : Name) × (p ≡ u ++ a ∷ [])) → path_eq p (w ++ b ∷ []) ≡ false → behind p (w ++ b ∷ []) ≡ None → LeavesTree limits (changing.with_target limits t p (w ++ b ∷ []) (t.objects (w ++ b ∷ [])) (changes_swept reply.Done (moved p (w ++ b ∷ []) t) (logs adds_name)))
       by_end (inl empty) apart out = absurd (low empty)
       by_end (inr (u, a, is)) apart out =
-          subst (λ v. LeavesTree inodes (changing.with_target t v (w ++ b ∷ []) (t.objects (w ++ b ∷ [])) (changes_swept reply.Done (moved v (w ++ b ∷ []) t) (logs adds_name)))) (sym is)
+          subst (λ v. LeavesTree limits (changing.with_target limits t v (w ++ b ∷ []) (t.objects (w ++ b ∷ [])) (changes_swept reply.Done (moved v (w ++ b ∷ []) t) (logs adds_name)))) (sym is)
           (stays_target u w a b o (ap t.objects (sym is) ∙ at_p) stands good (ap (λ v. behind v (w ++ b ∷ [])) (sym is) ∙ out)
           (λ same. false≢true (sym apart ∙ ap (path_eq p) (sym (is ∙ same)) ∙ path_eq-same p)) (t.objects (w ++ b ∷ [])) refl)
 
   -- to where something is
-  stays_moves_over : (p : Path) (o : Object) (q : Path) (r : Object) → t.objects p ≡ Some o → p ≢ [] → t.objects q ≡ Some r → q ≢ [] → LeavesTree inodes (changing.moves t p o q)
+  stays_moves_over : (p : Path) (o : Object) (q : Path) (r : Object) → t.objects p ≡ Some o → p ≢ [] → t.objects q ≡ Some r → q ≢ [] → LeavesTree limits (changing.moves limits t p o q)
   stays_moves_over p o q r at_p low at_q q_low = by_end (ends q)
     where
-      by_end : (q ≡ []) ⊎ ((w : Path) × (b : Name) × (q ≡ w ++ b ∷ [])) → LeavesTree inodes (changing.moves t p o q)
+      by_end : (q ≡ []) ⊎ ((w : Path) × (b : Name) × (q ≡ w ++ b ∷ [])) → LeavesTree limits (changing.moves limits t p o q)
       by_end (inl empty) = absurd (q_low empty)
       by_end (inr (w, b, is)) =
           let some : IsSome (t.objects (w ++ b ∷ [])) = ap is_some (ap t.objects (sym is) ∙ at_q) in
-          subst (λ v. LeavesTree inodes (changing.moves t p o v)) (sym is)
-          (stays_moves p o w b at_p low (stands_in inodes t tree w b some) (recursion_from_All IsName (b ∷ []) (all_behind w (b ∷ []) (tree.names (w ++ b ∷ []) some))).0)
+          subst (λ v. LeavesTree limits (changing.moves limits t p o v)) (sym is)
+          (stays_moves p o w b at_p low (stands_in limits t tree w b some) (recursion_from_All IsName (b ∷ []) (all_behind w (b ∷ []) (tree.names (w ++ b ∷ []) some))).0)
 
-  pub stays_rename : (only_new : Bool) (old path : List ℕ) → LeavesTree inodes (changing.renames t only_new old path)
+  pub stays_rename : (only_new : Bool) (old path : List ℕ) → LeavesTree limits (changing.renames limits t only_new old path)
   stays_rename only_new old path =
-      stays_tested inodes t tree (new_text_tests old ++ new_text_tests path ++ (is_root_text old || is_root_text path, EBUSY) ∷ []) _ (λ e.
-      let texts = passed_both (new_text_tests old ++ new_text_tests path) ((is_root_text old || is_root_text path, EBUSY) ∷ []) e in
-      let both = passed_both (new_text_tests old) (new_text_tests path) texts.0 in
+      stays_tested limits t tree (new_text_tests limits old ++ new_text_tests limits path ++ (is_root_text old || is_root_text path, EBUSY) ∷ []) _ (λ e.
+      let texts = passed_both (new_text_tests limits old ++ new_text_tests limits path) ((is_root_text old || is_root_text path, EBUSY) ∷ []) e in
+      let both = passed_both (new_text_tests limits old) (new_text_tests limits path) texts.0 in
       let roots = or_parts (is_root_text old) (is_root_text path) (all_passed ((is_root_text old || is_root_text path, EBUSY) ∷ []) texts.1).0 in
-      stays_along inodes t tree false old _ _ (λ s reached. stays_leads_to inodes t tree s _ (reached_well inodes t tree (last_tests old) false old both.0 s reached) (λ p o is at_p.
-      let low : p ≢ [] = low_by inodes t tree s p (reached_below_root t old both.0 roots.0 s reached) is in
-      stays_along inodes t tree false path _ _ (λ z at_z. stays_leads inodes t tree z _ _ (reached_well inodes t tree (last_tests path) false path both.1 z at_z)
-      (λ q r at at_q. stays_passed inodes t tree ((only_new, EEXIST) ∷ []) _ (λ pass. stays_moves_over p o q r at_p low at_q (low_by inodes t tree z q (reached_below_root t path both.1 roots.1 z at_z) at)))
+      stays_along limits t tree false old _ _ (λ s reached. stays_leads_to limits t tree s _ (reached_well limits t tree (last_tests old) false old both.0 s reached) (λ p o is at_p.
+      let low : p ≢ [] = low_by limits t tree s p (reached_below_root limits t old both.0 roots.0 s reached) is in
+      stays_along limits t tree false path _ _ (λ z at_z. stays_leads limits t tree z _ _ (reached_well limits t tree (last_tests path) false path both.1 z at_z)
+      (λ q r at at_q. stays_passed limits t tree ((only_new, EEXIST) ∷ []) _ (λ pass. stays_moves_over p o q r at_p low at_q (low_by limits t tree z q (reached_below_root limits t path both.1 roots.1 z at_z) at)))
       (λ q name at misses. stays_moves p o q name at_p low misses.directory misses.good))
-      (λ r alone has. absurd (not_alone path both.1 alone))))
-      (λ o alone has. absurd (not_alone old both.0 alone)))
+      (λ r alone has. absurd (not_alone limits path both.1 alone))))
+      (λ o alone has. absurd (not_alone limits old both.0 alone)))

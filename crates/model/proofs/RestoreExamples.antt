@@ -10,16 +10,17 @@ use Rattle.model.specs.Room.{Room, Need, nothing, a_restore, IsShort}
 use Rattle.model.specs.States.{State, empty, with_tree, with_snapshots}
 use Rattle.model.specs.Steps.{WouldStep}
 use Rattle.model.specs.Circumstances.{IsShortFor}
+use Rattle.model.proofs.ExampleLimits.{costs, limits}
 
 -- a disk of 64 blocks, whose snapshots keep three orphans each
 abbrev room_of : ℕ → Room
-room_of free = record { blocks = 64; free = free; pledged = 0; is_covered = true; orphans_of = λ name. 3; stored = λ n k. false }
+room_of free = record { costs = costs; blocks = 64; free = free; pledged = 0; is_covered = true; orphans_of = λ name. 3; stored = λ n k. false }
 
 -- `mkdir /a`, `snap take s`
 
 abbrev taken : State
 taken =
-    let t : Tree = with_directory (codes "a" ∷ []) 4 0o755 (root_alone 0o755) in with_snapshots ((codes "s", t) ∷ []) (with_tree t (empty 32))
+    let t : Tree = with_directory (codes "a" ∷ []) 4 0o755 (root_alone 0o755) in with_snapshots ((codes "s", t) ∷ []) (with_tree t (empty limits))
 
 -- the tree that has another file since, and not the directory
 abbrev changed : State

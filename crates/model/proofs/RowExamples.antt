@@ -10,10 +10,11 @@ use Rattle.model.specs.declared.command.Flags.{Flags}
 use Rattle.model.specs.Trees.{Tree, Description, directory, symlink, file, root_alone}
 use Rattle.model.specs.Edits.{with_object, without_object, with_directory, with_file, with_bytes, with_descriptor, moved}
 use Rattle.model.specs.Resolution.{resolve, named, missing, refused}
-use Rattle.model.specs.Room.{nothing, logs, adds_name, removes_name, puts_bytes, changes_size, changes_bits, cost, headroom, fixed_of}
+use Rattle.model.specs.Room.{nothing, logs, adds_name, removes_name, puts_bytes, changes_size, changes_bits, cost, headroom}
 use Rattle.model.specs.Reading.{stats, reads_link, gets}
 use Rattle.model.specs.Changing.{makes_directory, makes_symlink, removes_directory, unlinks, links, renames}
 use Rattle.model.specs.Descriptors.{opens, closes, reads, reads_from, writes, writes_to, seeks, truncates_open}
+use Rattle.model.proofs.ExampleLimits.{costs, limits}
 
 abbrev fresh : Tree
 fresh = root_alone 0o755
@@ -23,34 +24,34 @@ reading = record { access = access.Reading; creates = false; exclusive = false; 
 
 -- refusals of texts, on a new image
 
-an_empty_path : stats fresh true [] (reply.Refused ENOENT) fresh nothing
+an_empty_path : stats limits fresh true [] (reply.Refused ENOENT) fresh nothing
 an_empty_path = (refl, refl, refl)
 
-no_slash_first : stats fresh true (codes "a") (reply.Refused EINVAL) fresh nothing
+no_slash_first : stats limits fresh true (codes "a") (reply.Refused EINVAL) fresh nothing
 no_slash_first = (refl, refl, refl)
 
-a_slash_last : stats fresh true (codes "/a/") (reply.Refused EINVAL) fresh nothing
+a_slash_last : stats limits fresh true (codes "/a/") (reply.Refused EINVAL) fresh nothing
 a_slash_last = (refl, refl, refl)
 
-two_slashes_alone : stats fresh true (codes "//") (reply.Refused EINVAL) fresh nothing
+two_slashes_alone : stats limits fresh true (codes "//") (reply.Refused EINVAL) fresh nothing
 two_slashes_alone = (refl, refl, refl)
 
-a_dot_last : makes_directory 32 fresh (codes "/a/.") 0o755 (reply.Refused EINVAL) fresh nothing
+a_dot_last : makes_directory limits fresh (codes "/a/.") 0o755 (reply.Refused EINVAL) fresh nothing
 a_dot_last = (refl, refl, refl)
 
-the_root_is_there : makes_directory 32 fresh (codes "/") 0o755 (reply.Refused EEXIST) fresh nothing
+the_root_is_there : makes_directory limits fresh (codes "/") 0o755 (reply.Refused EEXIST) fresh nothing
 the_root_is_there = (refl, refl, refl)
 
-the_root_stays : removes_directory fresh (codes "/") (reply.Refused EBUSY) fresh nothing
+the_root_stays : removes_directory limits fresh (codes "/") (reply.Refused EBUSY) fresh nothing
 the_root_stays = (refl, refl, refl)
 
-a_name_of_256_bytes : makes_directory 32 fresh (codes "/" ++ replicate 256 97) 0o755 (reply.Refused ENAMETOOLONG) fresh nothing
+a_name_of_256_bytes : makes_directory limits fresh (codes "/" ++ replicate 256 97) 0o755 (reply.Refused ENAMETOOLONG) fresh nothing
 a_name_of_256_bytes = (refl, refl, refl)
 
-a_path_of_1024_bytes : stats fresh true (replicate 1024 47) (reply.Refused ENAMETOOLONG) fresh nothing
+a_path_of_1024_bytes : stats limits fresh true (replicate 1024 47) (reply.Refused ENAMETOOLONG) fresh nothing
 a_path_of_1024_bytes = (refl, refl, refl)
 
-opens_the_root : opens false 32 32 fresh (codes "/") reading 0o644 (reply.Refused EISDIR) fresh nothing
+opens_the_root : opens false 32 limits fresh (codes "/") reading 0o644 (reply.Refused EISDIR) fresh nothing
 opens_the_root = (refl, refl, refl)
 
 closes_nothing : closes fresh 0 (reply.Refused EBADF) fresh nothing
@@ -96,16 +97,16 @@ a_dangling_link = refl
 a_link_before_a_dot : resolve linked false (codes "/l/.") ≡ named (codes "a" ∷ codes "b" ∷ [])
 a_link_before_a_dot = refl
 
-stat_of_a_link : stats linked false (codes "/l") (reply.Stat (record { number = 7; kind = kind.Link; mode = 0o777; links = 1; size = 4 })) linked nothing
+stat_of_a_link : stats limits linked false (codes "/l") (reply.Stat (record { number = 7; kind = kind.Link; mode = 0o777; links = 1; size = 4 })) linked nothing
 stat_of_a_link = (1, refl, (refl, refl, refl))
 
-stat_of_what_it_names : stats linked true (codes "/l") (reply.Stat (record { number = 5; kind = kind.Dir; mode = 0o755; links = 1; size = 0 })) linked nothing
+stat_of_what_it_names : stats limits linked true (codes "/l") (reply.Stat (record { number = 5; kind = kind.Dir; mode = 0o755; links = 1; size = 0 })) linked nothing
 stat_of_what_it_names = (1, refl, (refl, refl, refl))
 
-text_before_path : makes_symlink 32 linked [] [] (reply.Refused ENOENT) linked nothing
+text_before_path : makes_symlink limits linked [] [] (reply.Refused ENOENT) linked nothing
 text_before_path = (refl, refl, refl)
 
-links_a_link : links linked (codes "/l") (codes "/m") (reply.Refused EPERM) linked nothing
+links_a_link : links limits linked (codes "/l") (codes "/m") (reply.Refused EPERM) linked nothing
 links_a_link = (refl, refl, refl)
 
 -- `open /f rwc`, `lseek 0 set 10`, `read 0 5`, `lseek 0 cur -11`, `write 0 2a`, `pread 0 8 9`
@@ -125,7 +126,7 @@ reads_past_the_end = (refl, refl, refl)
 seeks_below_zero : seeks (file_of [] 10) 0 whence.Cur (negsuc 10) (reply.Refused EINVAL) (file_of [] 10) nothing
 seeks_below_zero = (refl, refl, refl)
 
-writes_past_the_end : writes (file_of [] 10) 0 (42 ∷ []) (reply.Wrote 1) (with_descriptor 0 (Some (at_offset 11)) (with_bytes 4 (replicate 10 0 ++ 42 ∷ []) (file_of [] 10))) (logs (puts_bytes 0 10 1))
+writes_past_the_end : writes limits (file_of [] 10) 0 (42 ∷ []) (reply.Wrote 1) (with_descriptor 0 (Some (at_offset 11)) (with_bytes 4 (replicate 10 0 ++ 42 ∷ []) (file_of [] 10))) (logs (puts_bytes 0 10 1))
 writes_past_the_end = (refl, refl, refl)
 
 reads_the_gap : reads_from (file_of (replicate 10 0 ++ 42 ∷ []) 11) 0 (pos 8) 9 (reply.Data (0 ∷ 0 ∷ 42 ∷ [])) (file_of (replicate 10 0 ++ 42 ∷ []) 11) nothing
@@ -133,45 +134,42 @@ reads_the_gap = (refl, refl, refl)
 
 -- 128 bytes, one more, truncated again: the first 128 stay
 
-truncated_back : truncates_open (file_of (replicate 128 97 ++ 98 ∷ []) 129) 0 (pos 128) reply.Done (with_bytes 4 (replicate 128 97) (file_of (replicate 128 97 ++ 98 ∷ []) 129)) (logs (changes_size 129 128))
+truncated_back : truncates_open limits (file_of (replicate 128 97 ++ 98 ∷ []) 129) 0 (pos 128) reply.Done (with_bytes 4 (replicate 128 97) (file_of (replicate 128 97 ++ 98 ∷ []) 129)) (logs (changes_size 129 128))
 truncated_back = (refl, refl, refl)
 
 reads_the_last : reads_from (file_of (replicate 128 97) 129) 0 (pos 127) 5 (reply.Data (97 ∷ [])) (file_of (replicate 128 97) 129) nothing
 reads_the_last = (refl, refl, refl)
 
-too_large : truncates_open (file_of [] 0) 0 (pos 68719476737) (reply.Refused EFBIG) (file_of [] 0) nothing
+too_large : truncates_open limits (file_of [] 0) 0 (pos 68719476737) (reply.Refused EFBIG) (file_of [] 0) nothing
 too_large = (refl, refl, refl)
 
-too_many_at_once : gets (file_of [] 0) (codes "/f") (pos 0) 65537 (reply.Refused EINVAL) (file_of [] 0) nothing
+too_many_at_once : gets limits (file_of [] 0) (codes "/f") (pos 0) 65537 (reply.Refused EINVAL) (file_of [] 0) nothing
 too_many_at_once = (refl, refl, refl)
 
 -- the blocks that records cost, and that stay free behind them
 
-costs_of_a_name : (cost adds_name ≡ 24) × (headroom adds_name ≡ 16) × (cost removes_name ≡ 24) × (headroom removes_name ≡ 0)
+costs_of_a_name : (cost costs adds_name ≡ 24) × (headroom costs adds_name ≡ 16) × (cost costs removes_name ≡ 24) × (headroom costs removes_name ≡ 0)
 costs_of_a_name = (refl, refl, refl, refl)
 
-costs_of_65536_bytes : cost (puts_bytes 0 0 65536) ≡ 38
+costs_of_65536_bytes : cost costs (puts_bytes 0 0 65536) ≡ 38
 costs_of_65536_bytes = refl
 
-costs_of_65463_bytes_behind_them : cost (puts_bytes 65536 65536 65463) ≡ 38
+costs_of_65463_bytes_behind_them : cost costs (puts_bytes 65536 65536 65463) ≡ 38
 costs_of_65463_bytes_behind_them = refl
 
-costs_of_two_bytes_over_an_end : cost (puts_bytes 0 4095 2) ≡ 10
+costs_of_two_bytes_over_an_end : cost costs (puts_bytes 0 4095 2) ≡ 10
 costs_of_two_bytes_over_an_end = refl
 
 -- a third height over the blocks: the write ends past 67,108,864 bytes, or the file is past them before
-costs_of_a_third_height : (cost (puts_bytes 0 67108864 1) ≡ 10) × (cost (puts_bytes 67108865 0 1) ≡ 10) × (cost (puts_bytes 0 67108863 1) ≡ 8) × (cost (puts_bytes 67108864 0 1) ≡ 8)
+costs_of_a_third_height : (cost costs (puts_bytes 0 67108864 1) ≡ 10) × (cost costs (puts_bytes 67108865 0 1) ≡ 10) × (cost costs (puts_bytes 0 67108863 1) ≡ 8) × (cost costs (puts_bytes 67108864 0 1) ≡ 8)
 costs_of_a_third_height = (refl, refl, refl, refl)
 
 -- the most that a record costs
-costs_of_17_blocks : cost (puts_bytes 68719476736 4095 65536) ≡ 42
+costs_of_17_blocks : cost costs (puts_bytes 68719476736 4095 65536) ≡ 42
 costs_of_17_blocks = refl
 
-costs_of_sizes : (cost (changes_size 5 9) ≡ 6) × (headroom (changes_size 5 9) ≡ 16) × (headroom (changes_size 9 5) ≡ 0) × (cost changes_bits ≡ 2)
+costs_of_sizes : (cost costs (changes_size 5 9) ≡ 6) × (headroom costs (changes_size 5 9) ≡ 16) × (headroom costs (changes_size 9 5) ≡ 0) × (cost costs changes_bits ≡ 2)
 costs_of_sizes = (refl, refl, refl, refl)
-
-fixed_of_images : (fixed_of 64 ≡ 5) × (fixed_of 1024 ≡ 5) × (fixed_of 1025 ≡ 6) × (fixed_of 1048576 ≡ 1028)
-fixed_of_images = (refl, refl, refl, refl)
 
 -- `rename /a /c`, `mkdir /e`, `symlink c/../c/b /l`, and what is refused then
 
@@ -180,26 +178,26 @@ renamed =
     with_object (codes "l" ∷ []) (symlink 7 (codes "c/../c/b")) (with_directory (codes "e" ∷ []) 6 0o755
     (with_directory (codes "c" ∷ codes "b" ∷ []) 5 0o755 (with_directory (codes "c" ∷ []) 4 0o755 fresh)))
 
-stat_through_the_link : stats renamed true (codes "/l") (reply.Stat (record { number = 5; kind = kind.Dir; mode = 0o755; links = 1; size = 0 })) renamed nothing
+stat_through_the_link : stats limits renamed true (codes "/l") (reply.Stat (record { number = 5; kind = kind.Dir; mode = 0o755; links = 1; size = 0 })) renamed nothing
 stat_through_the_link = (1, refl, (refl, refl, refl))
 
-lstat_of_the_link : stats renamed false (codes "/l") (reply.Stat (record { number = 7; kind = kind.Link; mode = 0o777; links = 1; size = 8 })) renamed nothing
+lstat_of_the_link : stats limits renamed false (codes "/l") (reply.Stat (record { number = 7; kind = kind.Link; mode = 0o777; links = 1; size = 8 })) renamed nothing
 lstat_of_the_link = (1, refl, (refl, refl, refl))
 
-link_onto_directory : renames renamed false (codes "/l") (codes "/c") (reply.Refused EISDIR) renamed nothing
+link_onto_directory : renames limits renamed false (codes "/l") (codes "/c") (reply.Refused EISDIR) renamed nothing
 link_onto_directory = (refl, refl, refl)
 
-directory_onto_link : renames renamed false (codes "/c") (codes "/l") (reply.Refused ENOTDIR) renamed nothing
+directory_onto_link : renames limits renamed false (codes "/c") (codes "/l") (reply.Refused ENOTDIR) renamed nothing
 directory_onto_link = (refl, refl, refl)
 
-unlink_of_a_directory : unlinks renamed (codes "/c") (reply.Refused EPERM) renamed nothing
+unlink_of_a_directory : unlinks limits renamed (codes "/c") (reply.Refused EPERM) renamed nothing
 unlink_of_a_directory = (refl, refl, refl)
 
-text_of_the_link : reads_link renamed (codes "/l") (reply.Text (codes "c/../c/b")) renamed nothing
+text_of_the_link : reads_link limits renamed (codes "/l") (reply.Text (codes "c/../c/b")) renamed nothing
 text_of_the_link = (refl, refl, refl)
 
 -- `rmdir /c/b`, and the link dangles
-link_to_what_is_gone : stats (without_object (codes "c" ∷ codes "b" ∷ []) renamed) true (codes "/l") (reply.Refused ENOENT) (without_object (codes "c" ∷ codes "b" ∷ []) renamed) nothing
+link_to_what_is_gone : stats limits (without_object (codes "c" ∷ codes "b" ∷ []) renamed) true (codes "/l") (reply.Refused ENOENT) (without_object (codes "c" ∷ codes "b" ∷ []) renamed) nothing
 link_to_what_is_gone = (refl, refl, refl)
 
 -- two names of one file: `rename` of one to the other changes nothing
@@ -207,10 +205,10 @@ link_to_what_is_gone = (refl, refl, refl)
 abbrev two_names : Tree
 two_names = with_object (codes "y" ∷ []) (file 5) (with_file (codes "x" ∷ []) 5 0o644 (with_directory (codes "d" ∷ []) 4 0o755 fresh))
 
-onto_the_same_file : renames two_names false (codes "/x") (codes "/y") reply.Done two_names nothing
+onto_the_same_file : renames limits two_names false (codes "/x") (codes "/y") reply.Done two_names nothing
 onto_the_same_file = (refl, refl, refl)
 
-below_itself : renames two_names false (codes "/d") (codes "/d/e") (reply.Refused EINVAL) two_names nothing
+below_itself : renames limits two_names false (codes "/d") (codes "/d/e") (reply.Refused EINVAL) two_names nothing
 below_itself = (refl, refl, refl)
 
 -- `open /f rwca`, `write 0 6162`, `pwrite 0 0 63`, `pread 0 0 5`, `lseek 0 set 0`, `write 0 64`, `read 0 5`
@@ -221,28 +219,28 @@ appending offset = record { number = 4; offset = offset; reads = true; writes = 
 abbrev log_of : List ℕ → ℕ → Tree
 log_of bytes offset = with_descriptor 0 (Some (appending offset)) (with_bytes 4 bytes (with_file (codes "f" ∷ []) 4 0o644 fresh))
 
-appends_two : writes (log_of [] 0) 0 (0x61 ∷ 0x62 ∷ []) (reply.Wrote 2) (with_descriptor 0 (Some (appending 2)) (with_bytes 4 (0x61 ∷ 0x62 ∷ []) (log_of [] 0))) (logs (puts_bytes 0 0 2))
+appends_two : writes limits (log_of [] 0) 0 (0x61 ∷ 0x62 ∷ []) (reply.Wrote 2) (with_descriptor 0 (Some (appending 2)) (with_bytes 4 (0x61 ∷ 0x62 ∷ []) (log_of [] 0))) (logs (puts_bytes 0 0 2))
 appends_two = (refl, refl, refl)
 
-writes_to_the_start : writes_to (log_of (0x61 ∷ 0x62 ∷ []) 2) 0 (pos 0) (0x63 ∷ []) (reply.Wrote 1) (with_bytes 4 (0x63 ∷ 0x62 ∷ []) (log_of (0x61 ∷ 0x62 ∷ []) 2)) (logs (puts_bytes 2 0 1))
+writes_to_the_start : writes_to limits (log_of (0x61 ∷ 0x62 ∷ []) 2) 0 (pos 0) (0x63 ∷ []) (reply.Wrote 1) (with_bytes 4 (0x63 ∷ 0x62 ∷ []) (log_of (0x61 ∷ 0x62 ∷ []) 2)) (logs (puts_bytes 2 0 1))
 writes_to_the_start = (refl, refl, refl)
 
 reads_both : reads_from (log_of (0x63 ∷ 0x62 ∷ []) 2) 0 (pos 0) 5 (reply.Data (0x63 ∷ 0x62 ∷ [])) (log_of (0x63 ∷ 0x62 ∷ []) 2) nothing
 reads_both = (refl, refl, refl)
 
-appends_from_the_start : writes (log_of (0x63 ∷ 0x62 ∷ []) 0) 0 (0x64 ∷ []) (reply.Wrote 1) (with_descriptor 0 (Some (appending 3)) (with_bytes 4 (0x63 ∷ 0x62 ∷ 0x64 ∷ []) (log_of (0x63 ∷ 0x62 ∷ []) 0))) (logs (puts_bytes 2 2 1))
+appends_from_the_start : writes limits (log_of (0x63 ∷ 0x62 ∷ []) 0) 0 (0x64 ∷ []) (reply.Wrote 1) (with_descriptor 0 (Some (appending 3)) (with_bytes 4 (0x63 ∷ 0x62 ∷ 0x64 ∷ []) (log_of (0x63 ∷ 0x62 ∷ []) 0))) (logs (puts_bytes 2 2 1))
 appends_from_the_start = (refl, refl, refl)
 
 reads_behind_the_end : reads (log_of (0x63 ∷ 0x62 ∷ 0x64 ∷ []) 3) 0 5 (reply.Data []) (with_descriptor 0 (Some (appending 3)) (log_of (0x63 ∷ 0x62 ∷ 0x64 ∷ []) 3)) nothing
 reads_behind_the_end = (refl, refl, refl)
 
-creates_what_is_there : opens false 32 32 (log_of [] 0) (codes "/f") (record reading { creates = true; exclusive = true }) 0o644 (reply.Refused EEXIST) (log_of [] 0) nothing
+creates_what_is_there : opens false 32 limits (log_of [] 0) (codes "/f") (record reading { creates = true; exclusive = true }) 0o644 (reply.Refused EEXIST) (log_of [] 0) nothing
 creates_what_is_there = (refl, refl, refl)
 
-grown_by_zeros : truncates_open (file_of [] 0) 0 (pos 3) reply.Done (with_bytes 4 (0 ∷ 0 ∷ 0 ∷ []) (file_of [] 0)) (logs (changes_size 0 3))
+grown_by_zeros : truncates_open limits (file_of [] 0) 0 (pos 3) reply.Done (with_bytes 4 (0 ∷ 0 ∷ 0 ∷ []) (file_of [] 0)) (logs (changes_size 0 3))
 grown_by_zeros = (refl, refl, refl)
 
-gets_zeros : gets (file_of (0 ∷ 0 ∷ 0 ∷ []) 0) (codes "/f") (pos 0) 9 (reply.Data (0 ∷ 0 ∷ 0 ∷ [])) (file_of (0 ∷ 0 ∷ 0 ∷ []) 0) nothing
+gets_zeros : gets limits (file_of (0 ∷ 0 ∷ 0 ∷ []) 0) (codes "/f") (pos 0) 9 (reply.Data (0 ∷ 0 ∷ 0 ∷ [])) (file_of (0 ∷ 0 ∷ 0 ∷ []) 0) nothing
 gets_zeros = (refl, refl, refl)
 
 -- at the greatest offset
@@ -256,7 +254,7 @@ seeks_farthest = (refl, refl, refl)
 seeks_farther : seeks far 0 whence.Cur (pos 1) (reply.Refused EOVERFLOW) far nothing
 seeks_farther = (refl, refl, refl)
 
-writes_too_far : writes far 0 (0 ∷ []) (reply.Refused EFBIG) far nothing
+writes_too_far : writes limits far 0 (0 ∷ []) (reply.Refused EFBIG) far nothing
 writes_too_far = (refl, refl, refl)
 
 -- 32 descriptors are open
@@ -264,5 +262,5 @@ writes_too_far = (refl, refl, refl)
 abbrev crowded : Tree
 crowded = record (file_of [] 0) { descriptors = λ d. if nat_lt d 32 then Some (at_offset 0) else None }
 
-one_file_too_many : opens false 32 32 crowded (codes "/f") reading 0o644 (reply.Refused EMFILE) crowded nothing
+one_file_too_many : opens false 32 limits crowded (codes "/f") reading 0o644 (reply.Refused EMFILE) crowded nothing
 one_file_too_many = (refl, refl, refl)

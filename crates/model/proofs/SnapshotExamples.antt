@@ -14,14 +14,15 @@ use Rattle.model.specs.States.{State, empty, with_tree, with_snapshots}
 use Rattle.model.specs.Steps.{WouldStep}
 use Rattle.model.proofs.DirectoryExamples.{at_a, with_a, with_a_is}
 use Rattle.model.proofs.ToldLemmas.{Told, told_root, told_object, told_bytes, told_file, told_dropped, dropped, listing_told, swept_told, links_told, forgets_told}
+use Rattle.model.proofs.ExampleLimits.{costs, limits}
 
 abbrev room : Room
-room = record { blocks = 64; free = 60; pledged = 0; is_covered = true; orphans_of = λ name. 0; stored = λ n k. false }
+room = record { costs = costs; blocks = 64; free = 60; pledged = 0; is_covered = true; orphans_of = λ name. 0; stored = λ n k. false }
 
 -- `mkdir /a`, `snap take s1`, `rmdir /a`: the snapshot has `/a`, and the tree hasn't
 
 abbrev before : State
-before = with_tree with_a (empty 32)
+before = with_tree with_a (empty limits)
 
 abbrev taken : State
 taken = with_snapshots ((codes "s1", with_a) ∷ []) before
@@ -68,7 +69,7 @@ names_from n zero = []
 names_from n (suc k) = numbered n ∷ names_from (n + 1) k
 
 abbrev thirty : State
-thirty = with_snapshots (kept_from 1 30) (empty 32)
+thirty = with_snapshots (kept_from 1 30) (empty limits)
 
 one_too_many : WouldStep room thirty (command.SnapTake (codes "n31")) (reply.Refused SNAPFULL) thirty nothing
 one_too_many = (refl, refl, refl)
@@ -77,13 +78,13 @@ there_already : WouldStep room thirty (command.SnapTake (codes "n1")) (reply.Ref
 there_already = (refl, refl, refl)
 
 abbrev twenty_nine : State
-twenty_nine = with_snapshots (kept_from 1 2 ++ kept_from 4 27) (empty 32)
+twenty_nine = with_snapshots (kept_from 1 2 ++ kept_from 4 27) (empty limits)
 
 deletes_the_third : WouldStep room thirty (command.SnapDelete (codes "n3")) reply.Done twenty_nine nothing
 deletes_the_third = (refl, refl, refl)
 
 abbrev thirty_again : State
-thirty_again = with_snapshots (kept_from 1 2 ++ kept_from 4 28) (empty 32)
+thirty_again = with_snapshots (kept_from 1 2 ++ kept_from 4 28) (empty limits)
 
 takes_one_more : WouldStep room twenty_nine (command.SnapTake (codes "n31")) reply.Done thirty_again a_snapshot
 takes_one_more = (refl, (root_alone 0o755, forgets_told (told_root 0o755) refl, refl), refl)
@@ -103,7 +104,7 @@ full_is : Told full (at_f ∷ [] ∷ []) [] (4 ∷ 4 ∷ 4 ∷ 3 ∷ [])
 full_is = told_bytes (told_file (told_root 0o755) at_f 4 0o644) 4 (replicate 65536 0x61)
 
 abbrev kept : State
-kept = with_snapshots ((codes "s", full) ∷ []) (empty 32)
+kept = with_snapshots ((codes "s", full) ∷ []) (empty limits)
 
 gets_the_last : WouldStep room kept (command.Within (codes "s") (call.Get (codes "/f") (pos 65535) 9)) (reply.Data (0x61 ∷ [])) kept nothing
 gets_the_last = ((refl, refl, refl), refl)

@@ -7,7 +7,8 @@ use Rattle.std.proofs.lemmas.List.Kept.{AllPairs-filter}
 use Rattle.std.proofs.lemmas.List.Quantifiers.{all_pairs_push}
 use Rattle.std.proofs.lemmas.Slice.Eq.{bytes_eq-Decides}
 use Rattle.std.specs.List.{list_any}
-use Rattle.model.specs.declared.limits.TheConstants.{OPEN_FILES, SNAPSHOTS, SNAPSHOT_NAME_BYTES}
+use Rattle.model.specs.declared.limits.Limits.{Limits}
+use Rattle.model.specs.declared.limits.TheConstants.{OPEN_FILES, SNAPSHOT_NAME_BYTES}
 use Rattle.model.specs.declared.errno.Errno.TheVariants.{EBUSY, NOSNAP, EROFS, EIO, FAILED}
 use Rattle.model.specs.declared.reply.Reply.{Reply}
 use Rattle.model.specs.declared.reply.Reply.TheVariants as reply
@@ -32,29 +33,29 @@ use Rattle.model.proofs.ReplaceLemmas.{stays_rename}
 use Rattle.model.proofs.OptionLaws.{none_some, some_same}
 
 -- the calls by path
-stays_path : (inodes : ℕ) (t : Tree) → IsTree inodes t → (c : PathCall) → IsPathCall c → LeavesTree inodes (calls inodes t c)
-stays_path inodes t tree (call.List path) bound = stays_list inodes t tree path
-stays_path inodes t tree (call.Entries path after count) bound = stays_entries inodes t tree path after count
-stays_path inodes t tree (call.Stat path) bound = stays_stat inodes t tree true path
-stays_path inodes t tree (call.Lstat path) bound = stays_stat inodes t tree false path
-stays_path inodes t tree (call.Readlink path) bound = stays_readlink inodes t tree path
-stays_path inodes t tree (call.Get path offset count) bound = stays_get inodes t tree path offset count
-stays_path inodes t tree (call.Mkdir path mode) bound = stays_mkdir inodes t tree path mode bound
-stays_path inodes t tree (call.Rmdir path) bound = stays_rmdir inodes t tree path
-stays_path inodes t tree (call.Unlink path) bound = stays_unlink inodes t tree path
-stays_path inodes t tree (call.Link old path) bound = stays_link inodes t tree old path
-stays_path inodes t tree (call.Symlink text path) bound = stays_symlink inodes t tree text path
-stays_path inodes t tree (call.Rename old path) bound = stays_rename inodes t tree false old path
-stays_path inodes t tree (call.RenameNew old path) bound = stays_rename inodes t tree true old path
-stays_path inodes t tree (call.Chmod path mode) bound = stays_chmod inodes t tree path mode bound
-stays_path inodes t tree (call.Truncate path size) bound = stays_truncate inodes t tree path size
-stays_path inodes t tree (call.Store path offset given) bound = stays_store inodes t tree path offset given
-stays_path inodes t tree (call.Set path settings) bound = stays_set inodes t tree path settings bound
+stays_path : (limits : Limits) (t : Tree) → IsTree limits t → (c : PathCall) → IsPathCall c → LeavesTree limits (calls limits t c)
+stays_path limits t tree (call.List path) bound = stays_list limits t tree path
+stays_path limits t tree (call.Entries path after count) bound = stays_entries limits t tree path after count
+stays_path limits t tree (call.Stat path) bound = stays_stat limits t tree true path
+stays_path limits t tree (call.Lstat path) bound = stays_stat limits t tree false path
+stays_path limits t tree (call.Readlink path) bound = stays_readlink limits t tree path
+stays_path limits t tree (call.Get path offset count) bound = stays_get limits t tree path offset count
+stays_path limits t tree (call.Mkdir path mode) bound = stays_mkdir limits t tree path mode bound
+stays_path limits t tree (call.Rmdir path) bound = stays_rmdir limits t tree path
+stays_path limits t tree (call.Unlink path) bound = stays_unlink limits t tree path
+stays_path limits t tree (call.Link old path) bound = stays_link limits t tree old path
+stays_path limits t tree (call.Symlink text path) bound = stays_symlink limits t tree text path
+stays_path limits t tree (call.Rename old path) bound = stays_rename limits t tree false old path
+stays_path limits t tree (call.RenameNew old path) bound = stays_rename limits t tree true old path
+stays_path limits t tree (call.Chmod path mode) bound = stays_chmod limits t tree path mode bound
+stays_path limits t tree (call.Truncate path size) bound = stays_truncate limits t tree path size
+stays_path limits t tree (call.Store path offset given) bound = stays_store limits t tree path offset given
+stays_path limits t tree (call.Set path settings) bound = stays_set limits t tree path settings bound
 
 -- a snapshot is a tree without descriptors
-forgotten_is_frozen : (inodes : ℕ) (old new : Tree) → IsTree inodes old → ForgetsOpenFiles old new → IsFrozen inodes new
-forgotten_is_frozen inodes old new tree forgets = record {
-  tree = swept_is_tree inodes (record old { descriptors = λ d. None }) new (closed_is_loose inodes old tree (λ d. None) (λ d f is. none_some is)) (record {
+forgotten_is_frozen : (limits : Limits) (old new : Tree) → IsTree limits old → ForgetsOpenFiles old new → IsFrozen limits new
+forgotten_is_frozen limits old new tree forgets = record {
+  tree = swept_is_tree limits (record old { descriptors = λ d. None }) new (closed_is_loose limits old tree (λ d. None) (λ d f is. none_some is)) (record {
     objects = forgets.objects;
     descriptors = forgets.descriptors;
     kept = λ n used. elim used [ inl path ↦ forgets.kept n path | inr open_file ↦ none_some open_file.2 ];
@@ -69,10 +70,10 @@ abbrev LeavesState : Step → Type 0
 LeavesState step = (answer : Reply) (new : State) (need : Need) → step answer new need → IsState new
 
 module _ (s : State) (state : IsState s) where
-  tree_changes : (t : Tree) → IsTree s.inodes t → IsState (with_tree t s)
+  tree_changes : (t : Tree) → IsTree s.limits t → IsState (with_tree t s)
   tree_changes t tree = record { tree = tree; frozen = state.frozen; names = state.names; few = state.few; once = state.once }
 
-  leaves_on_tree : (outcome : Outcome) → LeavesTree s.inodes outcome → LeavesState (on_tree s outcome)
+  leaves_on_tree : (outcome : Outcome) → LeavesTree s.limits outcome → LeavesState (on_tree s outcome)
   leaves_on_tree outcome leaves answer new need done = subst IsState (sym done.1) (tree_changes new.tree (leaves answer new.tree need done.0))
 
   leaves_same : (r : Reply) → LeavesState (says s r)
@@ -108,12 +109,12 @@ module _ (s : State) (state : IsState s) where
       leaves_passing (take_tests s name) _ (λ pass answer new need done.
       let plain = or_parts (length name == 0 || nat_lt SNAPSHOT_NAME_BYTES (length name)) (list_any (λ b. not (is_name_byte b)) name) pass.0 in
       let short = or_parts (length name == 0) (nat_lt SNAPSHOT_NAME_BYTES (length name)) plain.0 in
-      subst IsState (sym done.1.2) (taken name done.1.0 (eqb-false (length name) 0 short.0) (ltb-false SNAPSHOT_NAME_BYTES (length name) short.1) (not_none (frozen s name) pass.1.0) (leb-false SNAPSHOTS (length s.snapshots) pass.1.1.0) done.1.1))
+      subst IsState (sym done.1.2) (taken name done.1.0 (eqb-false (length name) 0 short.0) (ltb-false SNAPSHOT_NAME_BYTES (length name) short.1) (not_none (frozen s name) pass.1.0) (leb-false s.limits.snapshots (length s.snapshots) pass.1.1.0) done.1.1))
     where
-      taken : (name : Name) (t : Tree) → length name ≢ 0 → length name ≤ SNAPSHOT_NAME_BYTES → frozen s name ≡ None → length s.snapshots < SNAPSHOTS → ForgetsOpenFiles s.tree t → IsState (with_snapshots (s.snapshots ++ (name, t) ∷ []) s)
+      taken : (name : Name) (t : Tree) → length name ≢ 0 → length name ≤ SNAPSHOT_NAME_BYTES → frozen s name ≡ None → length s.snapshots < s.limits.snapshots → ForgetsOpenFiles s.tree t → IsState (with_snapshots (s.snapshots ++ (name, t) ∷ []) s)
       taken name t some short unknown room forgets = record {
         tree = state.tree;
-        frozen = All-push (λ (pair : Name × Tree). IsFrozen s.inodes pair.1) s.snapshots (name, t) state.frozen (forgotten_is_frozen s.inodes s.tree t state.tree forgets);
+        frozen = All-push (λ (pair : Name × Tree). IsFrozen s.limits pair.1) s.snapshots (name, t) state.frozen (forgotten_is_frozen s.limits s.tree t state.tree forgets);
         names = All-push (λ (pair : Name × Tree). IsShortName pair.0) s.snapshots (name, t) state.names (record { some = omega (arith, some); short = short });
         few = omega (arith, length-append s.snapshots ((name, t) ∷ []), room);
         once = all_pairs_push (λ (a b : Name × Tree). a.0 ≢ b.0) s.snapshots (name, t) state.once (no_other name s.snapshots unknown);
@@ -132,7 +133,7 @@ module _ (s : State) (state : IsState s) where
       left : (keeps : Name × Tree → Bool) → IsState (with_snapshots (filter keeps s.snapshots) s)
       left keeps = record {
         tree = state.tree;
-        frozen = All-filter keeps (λ pair. IsFrozen s.inodes pair.1) s.snapshots state.frozen;
+        frozen = All-filter keeps (λ pair. IsFrozen s.limits pair.1) s.snapshots state.frozen;
         names = All-filter keeps (λ pair. IsShortName pair.0) s.snapshots state.names;
         few = let less = fewer keeps s.snapshots in omega (arith, less, state.few);
         once = AllPairs-filter (λ a b. a.0 ≢ b.0) keeps s.snapshots state.once;
@@ -147,33 +148,33 @@ module _ (s : State) (state : IsState s) where
   leaves_restore : (room : Room) (name : Name) → LeavesState (restores room s name)
   leaves_restore room name =
       leaves_passing ((is_none (frozen s name), NOSNAP) ∷ (has_open_below s.tree OPEN_FILES, EBUSY) ∷ []) _ (λ pass answer new need done.
-      let was = found_holds (λ pair. IsFrozen s.inodes pair.1) (λ pair. bytes_eq pair.0 name) s.snapshots state.frozen done.1.0 done.1.1 in
+      let was = found_holds (λ pair. IsFrozen s.limits pair.1) (λ pair. bytes_eq pair.0 name) s.snapshots state.frozen done.1.0 done.1.1 in
       subst IsState (sym done.1.2) (tree_changes done.1.0.1 was.tree))
 
   leaves_view : (name : Name) (c : PathCall) → LeavesState (views s name c)
   leaves_view name c =
       elim (frozen s name) as (λ o. LeavesState (elim o as (λ _. Step) [
         | None ↦ says s (reply.Refused NOSNAP)
-        | Some pair ↦ passing s ((not (is_reading_call c), EROFS) ∷ []) (λ answer new need. calls s.inodes pair.1 c answer pair.1 need × (new ≡ s))
+        | Some pair ↦ passing s ((not (is_reading_call c), EROFS) ∷ []) (λ answer new need. calls s.limits pair.1 c answer pair.1 need × (new ≡ s))
       ])) [
         | None ↦ leaves_same (reply.Refused NOSNAP)
         | Some pair ↦ leaves_passing ((not (is_reading_call c), EROFS) ∷ []) _ (λ pass answer new need done. subst IsState (sym done.1) state)
       ]
 
   leaves_step : (room : Room) (c : Command) → IsCommand c → LeavesState (WouldStep room s c)
-  leaves_step room (command.Path c) bound = leaves_on_tree _ (stays_path s.inodes s.tree state.tree c bound)
-  leaves_step room (command.Open path flags mode below) bound = leaves_on_tree _ (stays_open s.inodes s.tree state.tree false below path flags mode bound)
-  leaves_step room (command.OpenStat path flags mode below) bound = leaves_on_tree _ (stays_open s.inodes s.tree state.tree true below path flags mode bound)
-  leaves_step room (command.Close fd) bound = leaves_on_tree _ (stays_close s.inodes s.tree state.tree fd)
-  leaves_step room (command.Read fd count) bound = leaves_on_tree _ (stays_read s.inodes s.tree state.tree fd count)
-  leaves_step room (command.Write fd given) bound = leaves_on_tree _ (stays_write s.inodes s.tree state.tree fd given)
-  leaves_step room (command.Pread fd offset count) bound = leaves_on_tree _ (stays_pread s.inodes s.tree state.tree fd offset count)
-  leaves_step room (command.Pwrite fd offset given) bound = leaves_on_tree _ (stays_pwrite s.inodes s.tree state.tree fd offset given)
-  leaves_step room (command.Lseek fd from offset) bound = leaves_on_tree _ (stays_seek s.inodes s.tree state.tree fd from offset)
-  leaves_step room (command.Ftruncate fd size) bound = leaves_on_tree _ (stays_ftruncate s.inodes s.tree state.tree fd size)
-  leaves_step room (command.Fstat fd) bound = leaves_on_tree _ (stays_fstat s.inodes s.tree state.tree fd)
-  leaves_step room (command.Fsync fd) bound = leaves_on_tree _ (stays_fsync s.inodes s.tree state.tree fd)
-  leaves_step room (command.Extent path offset) bound = leaves_on_tree _ (stays_extent s.inodes s.tree state.tree room.stored path offset)
+  leaves_step room (command.Path c) bound = leaves_on_tree _ (stays_path s.limits s.tree state.tree c bound)
+  leaves_step room (command.Open path flags mode below) bound = leaves_on_tree _ (stays_open s.limits s.tree state.tree false below path flags mode bound)
+  leaves_step room (command.OpenStat path flags mode below) bound = leaves_on_tree _ (stays_open s.limits s.tree state.tree true below path flags mode bound)
+  leaves_step room (command.Close fd) bound = leaves_on_tree _ (stays_close s.limits s.tree state.tree fd)
+  leaves_step room (command.Read fd count) bound = leaves_on_tree _ (stays_read s.limits s.tree state.tree fd count)
+  leaves_step room (command.Write fd given) bound = leaves_on_tree _ (stays_write s.limits s.tree state.tree fd given)
+  leaves_step room (command.Pread fd offset count) bound = leaves_on_tree _ (stays_pread s.limits s.tree state.tree fd offset count)
+  leaves_step room (command.Pwrite fd offset given) bound = leaves_on_tree _ (stays_pwrite s.limits s.tree state.tree fd offset given)
+  leaves_step room (command.Lseek fd from offset) bound = leaves_on_tree _ (stays_seek s.limits s.tree state.tree fd from offset)
+  leaves_step room (command.Ftruncate fd size) bound = leaves_on_tree _ (stays_ftruncate s.limits s.tree state.tree fd size)
+  leaves_step room (command.Fstat fd) bound = leaves_on_tree _ (stays_fstat s.limits s.tree state.tree fd)
+  leaves_step room (command.Fsync fd) bound = leaves_on_tree _ (stays_fsync s.limits s.tree state.tree fd)
+  leaves_step room (command.Extent path offset) bound = leaves_on_tree _ (stays_extent s.limits s.tree state.tree room.stored path offset)
   leaves_step room command.Sync bound = leaves_same reply.Done
   leaves_step room command.Df bound = leaves_same (reply.Space room.blocks room.free room.pledged)
   leaves_step room command.Statfs bound = λ answer new need done. leaves_same _ answer new need done.2
@@ -215,9 +216,9 @@ allowed_are_states c s new asked answer state bound allowed = allowed_is_state c
 
 pub mounts_find_states : MountsFindStates
 mounts_find_states = (
-  λ inodes. tree_is_state inodes (root_alone 0o755) going (root_is_tree inodes),
+  λ limits can_be. tree_is_state limits (root_alone 0o755) going (root_is_tree limits can_be),
   λ old new state forgets. subst IsState (sym forgets.rest) (record {
-    tree = (forgotten_is_frozen old.inodes old.tree new.tree state.tree forgets.tree).tree;
+    tree = (forgotten_is_frozen old.limits old.tree new.tree state.tree forgets.tree).tree;
     frozen = state.frozen;
     names = state.names;
     few = state.few;

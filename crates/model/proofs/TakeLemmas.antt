@@ -1,7 +1,7 @@
 -- A tree is a loose one where an object with nothing below it is taken away.
 use Rattle.std.proofs.Common.{◌≡◌, ◌≢◌, ◌⊎◌, inl, inr, ℕ, [], ◌∷◌, ◌++◌, true, Option, Some, None, is_some, IsSome, refl, sym, ap, subst, ◌∙◌, arith}
 use Rattle.std.proofs.lemmas.List.{same_from_push}
-use Rattle.model.specs.declared.limits.TheConstants.{FILE_NAMES, DIRECTORY_NAMES}
+use Rattle.model.specs.declared.limits.Limits.{Limits}
 use Rattle.model.specs.Counting.{CountsUpTo}
 use Rattle.model.specs.Paths.{Name, Path}
 use Rattle.model.specs.Trees.{Tree, Object, directory, symlink, file, is_directory, StandsAtPath, IsOpen, IsUsed, IsTree}
@@ -19,7 +19,7 @@ pub no_directory : {Y : Type 0} (r : Option Object) → r ≡ None → is_direct
 no_directory None none e = cc
 no_directory (Some r) none e = cc
 
-module _ (inodes : ℕ) (old : Tree) (tree : IsTree inodes old) (p : Path) (o : Object) (at_p : old.objects p ≡ Some o) (low : p ≢ []) (leaf : (x : Name) → old.objects (p ++ x ∷ []) ≡ None) where
+module _ (limits : Limits) (old : Tree) (tree : IsTree limits old) (p : Path) (o : Object) (at_p : old.objects p ≡ Some o) (low : p ≢ []) (leaf : (x : Name) → old.objects (p ++ x ∷ []) ≡ None) where
   abbrev new : Tree
   new = without_object p old
 
@@ -49,7 +49,7 @@ module _ (inodes : ℕ) (old : Tree) (tree : IsTree inodes old) (p : Path) (o : 
   above_new a (x ∷ rest) longer some =
       let before = some_in (a ++ x ∷ rest) some in
       elim (path_apart a p) [
-        | inl e ↦ absurd (below_leaf inodes old tree p leaf x rest (subst (λ q. IsSome (old.objects (q ++ x ∷ rest))) e before.1))
+        | inl e ↦ absurd (below_leaf limits old tree p leaf x rest (subst (λ q. IsSome (old.objects (q ++ x ∷ rest))) e before.1))
         | inr e ↦ ap is_directory (stays a e) ∙ tree.above a (x ∷ rest) longer before.1
       ]
 
@@ -61,7 +61,7 @@ module _ (inodes : ℕ) (old : Tree) (tree : IsTree inodes old) (p : Path) (o : 
   used_was n (inl there) = inl (there.0, there.1, (found_in there.0 there.1 there.2).1, there.3)
   used_was n (inr open_file) = inr open_file
 
-  links_new : (n : ℕ) → CountsUpTo FILE_NAMES (λ q. new.objects q ≡ Some (file n))
+  links_new : (n : ℕ) → CountsUpTo limits.file_names (λ q. new.objects q ≡ Some (file n))
   links_new n =
       let counts = tree.links n in
       elim (file_or_not o n) [
@@ -80,7 +80,7 @@ module _ (inodes : ℕ) (old : Tree) (tree : IsTree inodes old) (p : Path) (o : 
       ]
 
   still : (n : ℕ) → StandsAtPath old file n ⊎ IsOpen old n → (StandsAtPath new file n ⊎ IsOpen new n) ⊎ (¬ IsUsed new n)
-  still n stands = decided new n (links_new n) tree.table (λ q r at_q same. all_files inodes old (tree_is_loose inodes old tree) n stands q r (found_in q r at_q).1 same)
+  still n stands = decided limits new n (links_new n) tree.table (λ q r at_q same. all_files limits old (tree_is_loose limits old tree) n stands q r (found_in q r at_q).1 same)
 
   -- the directory that was taken away isn't used any more
   unused : (n : ℕ) → old.objects p ≡ Some (directory n) → ¬ IsUsed new n
@@ -97,7 +97,7 @@ module _ (inodes : ℕ) (old : Tree) (tree : IsTree inodes old) (p : Path) (o : 
       ]
   mode_still n (inr others) = elim (still n others) [ inl stands ↦ inl (inr stands) | inr free ↦ inr free ]
 
-  children_new : (q : Path) → is_directory (new.objects q) ≡ true → CountsUpTo DIRECTORY_NAMES (λ x. IsSome (new.objects (q ++ x ∷ [])))
+  children_new : (q : Path) → is_directory (new.objects q) ≡ true → CountsUpTo limits.directory_names (λ x. IsSome (new.objects (q ++ x ∷ [])))
   children_new q is =
       let counts = tree.children q was in
       elim (ends p) [
@@ -131,8 +131,9 @@ module _ (inodes : ℕ) (old : Tree) (tree : IsTree inodes old) (p : Path) (o : 
         | inr e ↦ ap is_directory (sym (stays q e)) ∙ is
       ]
 
-  pub taken_is_loose : IsLooseTree inodes new
+  pub taken_is_loose : IsLooseTree limits new
   taken_is_loose = record {
+    can_be = tree.can_be;
     root = stays [] (λ e. low (sym e)) ∙ tree.root;
     above = above_new;
     names = λ q some. tree.names q (some_in q some).1;

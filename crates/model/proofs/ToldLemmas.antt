@@ -12,6 +12,7 @@ use Rattle.std.proofs.lemmas.List.Folds.{list_any-append}
 use Rattle.std.proofs.lemmas.Slice.Eq.{bytes_eq-Decides}
 use Rattle.std.proofs.lemmas.Cmp.{nat_list_eq_equiv}
 use Rattle.std.proofs.lemmas.Map.Views.{list_any-from_Contains, Contains-from_any}
+use Rattle.model.specs.declared.limits.Limits.{Limits}
 use Rattle.model.specs.Paths.{Name, Path, path_eq, behind}
 use Rattle.model.specs.Trees.{Tree, Object, directory, symlink, file, number_of_object, Description, HasPath, IsUsed, root_alone}
 use Rattle.model.specs.Edits.{with_directory, with_file, put_at, relocate, moved, IsSwept}
@@ -280,8 +281,8 @@ module _ {t : Tree} {paths : List Path} {open_ones numbers : List ℕ} (told : T
   used_told n (inr (d, f, is, same)) = or_right (list_any (λ q. is_numbered_at (t.objects q) n) paths) _ (found_within (λ c. is_numbered (t.descriptors c) n) d open_ones (told.descriptors d (ap is_some is)) (subst (λ (r : Option Description). is_numbered r n ≡ true) (sym is) (eq-eqb f.number n same)))
 
   -- the least number that isn't used
-  pub fresh_told : (inodes m : ℕ) → 4 + m < inodes → is_used t paths open_ones (4 + m) ≡ false → are_used t paths open_ones m ≡ true → IsFresh inodes t (4 + m)
-  fresh_told inodes m high free all = record {
+  pub fresh_told : (limits : Limits) (m : ℕ) → 4 + m < limits.inodes → is_used t paths open_ones (4 + m) ≡ false → are_used t paths open_ones m ≡ true → IsFresh limits t (4 + m)
+  fresh_told limits m high free all = record {
     low = omega arith;
     high = high;
     free = λ used. false≢true (sym free ∙ used_told (4 + m) used);

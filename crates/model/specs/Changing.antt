@@ -2,10 +2,10 @@
 -- link(), rename(), chmod(), truncate()), each with its tests in order.
 use Rattle.std.specs.Prelude.{ℕ, ℤ, nat_abs, ◌==◌, nat_le, nat_lt, not, ◌&&◌, ◌||◌, if◌then◌else◌, Bool, true, false, List, [], ◌∷◌, ◌++◌, length, Option, Some, None, is_some}
 use Rattle.std.specs.List.{list_any}
-use Rattle.model.specs.declared.limits.TheConstants.{PATH_BYTES, FILE_NAMES, GREATEST_FILE}
 use Rattle.model.specs.declared.errno.Errno.TheVariants.{ENOENT, ENOTDIR, EISDIR, EEXIST, EINVAL, ENAMETOOLONG, EPERM, EBUSY, ENOTEMPTY, EFBIG, EMLINK}
 use Rattle.model.specs.declared.command.Settings.{Settings}
 use Rattle.model.specs.declared.reply.Reply.TheVariants.{Done}
+use Rattle.model.specs.declared.limits.Limits.{Limits}
 use Rattle.model.specs.Paths.{Path, Tests, text_tests, text_tests_then, new_text_tests, is_empty, is_root_text, begins_with, path_eq}
 use Rattle.model.specs.Trees.{Tree, Object, directory, symlink, file, is_directory}
 use Rattle.model.specs.Edits.{contents, resized, with_object, without_object, with_mode, with_bytes, with_directory, moved}
@@ -16,34 +16,34 @@ use Rattle.model.specs.Reading.{is_negative}
 
 -- an object is made where a path leads to a missing name: `make` gives the tree, by its path and
 -- its number
-abbrev pub creates : ℕ → Tree → List ℕ → (Path → ℕ → Tree → Tree) → Outcome
-creates inodes t path make =
-    tested t (new_text_tests path) (goes_along t false path
+abbrev pub creates : Limits → Tree → List ℕ → (Path → ℕ → Tree → Tree) → Outcome
+creates limits t path make =
+    tested t (new_text_tests limits path) (goes_along t false path
     (λ p o. refuses t EEXIST)
-    (λ p name. with_place t p (with_fresh inodes t (λ n. changes Done (make (p ++ name ∷ []) n t) (logs adds_name)))))
+    (λ p name. with_place limits t p (with_fresh limits t (λ n. changes Done (make (p ++ name ∷ []) n t) (logs adds_name)))))
 
 -- `mkdir`: an empty directory of this mode is made at a name that nothing has
-abbrev pub makes_directory : ℕ → Tree → List ℕ → ℕ → Outcome
-makes_directory inodes t path mode = creates inodes t path (λ p n. with_directory p n mode)
+abbrev pub makes_directory : Limits → Tree → List ℕ → ℕ → Outcome
+makes_directory limits t path mode = creates limits t path (λ p n. with_directory p n mode)
 
 -- the tests of a link's text: it isn't empty, has no zero byte, and is no longer than a path may be
-abbrev pub link_text_tests : List ℕ → Tests
-link_text_tests text =
-    (is_empty text, ENOENT) ∷ (list_any (λ byte. byte == 0) text, EINVAL) ∷ (nat_lt PATH_BYTES (length text), ENAMETOOLONG) ∷ []
+abbrev pub link_text_tests : Limits → List ℕ → Tests
+link_text_tests limits text =
+    (is_empty text, ENOENT) ∷ (list_any (λ byte. byte == 0) text, EINVAL) ∷ (nat_lt limits.path_bytes (length text), ENAMETOOLONG) ∷ []
 
 -- `symlink`: a link of this text is made at a name that nothing has
-abbrev pub makes_symlink : ℕ → Tree → List ℕ → List ℕ → Outcome
-makes_symlink inodes t text path =
-    tested t (link_text_tests text) (creates inodes t path (λ p n. with_object p (symlink n text)))
+abbrev pub makes_symlink : Limits → Tree → List ℕ → List ℕ → Outcome
+makes_symlink limits t text path =
+    tested t (link_text_tests limits text) (creates limits t path (λ p n. with_object p (symlink n text)))
 
 -- a name is taken away, and with the last one what it named, but for a file that is open
 abbrev pub removes : Tree → Path → Outcome
 removes t p = changes_swept Done (without_object p t) (logs removes_name)
 
 -- `rmdir`: an empty directory is taken away, and never the root
-abbrev pub removes_directory : Tree → List ℕ → Outcome
-removes_directory t path =
-    tested t (new_text_tests path ++ (is_root_text path, EBUSY) ∷ [])
+abbrev pub removes_directory : Limits → Tree → List ℕ → Outcome
+removes_directory limits t path =
+    tested t (new_text_tests limits path ++ (is_root_text path, EBUSY) ∷ [])
     (goes_to t false path (λ p o. elim o [
       | directory n ↦ with_names t p (λ names. tested t ((not (is_empty names), ENOTEMPTY) ∷ []) (removes t p))
       | symlink n text ↦ refuses t ENOTDIR
@@ -51,24 +51,24 @@ removes_directory t path =
     ]))
 
 -- `unlink`: a name of a file, or a link, is taken away, and never a directory
-abbrev pub unlinks : Tree → List ℕ → Outcome
-unlinks t path =
-    tested t (new_text_tests path) (goes_to t false path (λ p o. tested t ((is_directory (Some o), EPERM) ∷ []) (removes t p)))
+abbrev pub unlinks : Limits → Tree → List ℕ → Outcome
+unlinks limits t path =
+    tested t (new_text_tests limits path) (goes_to t false path (λ p o. tested t ((is_directory (Some o), EPERM) ∷ []) (removes t p)))
 
 -- `link` where an object stands: a file gets one more name, at a path where nothing stands
-abbrev pub links_object : Tree → Object → List ℕ → Outcome
-links_object t o path = elim o [
+abbrev pub links_object : Limits → Tree → Object → List ℕ → Outcome
+links_object limits t o path = elim o [
   | file n ↦ goes_along t false path
       (λ q r. refuses t EEXIST)
-      (λ q name. with_links t (file n) (λ count. tested t ((nat_le FILE_NAMES count, EMLINK) ∷ [])
-      (with_place t q (changes Done (with_object (q ++ name ∷ []) (file n) t) (logs adds_name)))))
+      (λ q name. with_links t (file n) (λ count. tested t ((nat_le limits.file_names count, EMLINK) ∷ [])
+      (with_place limits t q (changes Done (with_object (q ++ name ∷ []) (file n) t) (logs adds_name)))))
   | directory n ↦ refuses t EPERM
   | symlink n text ↦ refuses t EPERM
 ]
 
 -- `link`: a file gets one more name, at a path where nothing stands
-abbrev pub links : Tree → List ℕ → List ℕ → Outcome
-links t old path = tested t (text_tests old ++ new_text_tests path) (goes_to t false old (λ p o. links_object t o path))
+abbrev pub links : Limits → Tree → List ℕ → List ℕ → Outcome
+links limits t old path = tested t (text_tests limits old ++ new_text_tests limits path) (goes_to t false old (λ p o. links_object limits t o path))
 
 -- two objects are one file
 abbrev pub is_same_file : Object → Option Object → Bool
@@ -86,31 +86,31 @@ move_tests p o q r =
 
 -- the target of a move can take it: a directory that is replaced is empty, and a directory that
 -- gains a name has room for it
-abbrev pub with_target : Tree → Path → Path → Option Object → Outcome → Outcome
-with_target t p q None rest = either (path_eq (parent p) (parent q)) rest (with_place t (parent q) rest)
-with_target t p q (Some (directory n)) rest = with_names t q (λ names. tested t ((not (is_empty names), ENOTEMPTY) ∷ []) rest)
-with_target t p q (Some r) rest = rest
+abbrev pub with_target : Limits → Tree → Path → Path → Option Object → Outcome → Outcome
+with_target limits t p q None rest = either (path_eq (parent p) (parent q)) rest (with_place limits t (parent q) rest)
+with_target limits t p q (Some (directory n)) rest = with_names t q (λ names. tested t ((not (is_empty names), ENOTEMPTY) ∷ []) rest)
+with_target limits t p q (Some r) rest = rest
 
 -- an object moves from one path to another with all below it, in place of what stood there; nothing
 -- changes where both are one path or one file
-abbrev pub moves : Tree → Path → Object → Path → Outcome
-moves t p o q =
+abbrev pub moves : Limits → Tree → Path → Object → Path → Outcome
+moves limits t p o q =
     either (path_eq p q || is_same_file o (t.objects q)) (answers t Done)
-    (tested t (move_tests p o q (t.objects q)) (with_target t p q (t.objects q) (changes_swept Done (moved p q t) (logs adds_name))))
+    (tested t (move_tests p o q (t.objects q)) (with_target limits t p q (t.objects q) (changes_swept Done (moved p q t) (logs adds_name))))
 
 -- `rename` and `renamenew`: what stands at the first path moves to the second, and neither is the
 -- root; only_new says whether anything there refuses the move
-abbrev pub renames : Tree → Bool → List ℕ → List ℕ → Outcome
-renames t only_new old path =
-    tested t (new_text_tests old ++ new_text_tests path ++ (is_root_text old || is_root_text path, EBUSY) ∷ [])
+abbrev pub renames : Limits → Tree → Bool → List ℕ → List ℕ → Outcome
+renames limits t only_new old path =
+    tested t (new_text_tests limits old ++ new_text_tests limits path ++ (is_root_text old || is_root_text path, EBUSY) ∷ [])
     (goes_to t false old (λ p o. goes_along t false path
-    (λ q r. tested t ((only_new, EEXIST) ∷ []) (moves t p o q))
-    (λ q name. moves t p o (q ++ name ∷ []))))
+    (λ q r. tested t ((only_new, EEXIST) ∷ []) (moves limits t p o q))
+    (λ q name. moves limits t p o (q ++ name ∷ []))))
 
 -- `chmod`: the file or directory that a path leads to gets this mode
-abbrev pub changes_mode : Tree → List ℕ → ℕ → Outcome
-changes_mode t path mode =
-    tested t (text_tests path) (goes_to t true path (λ p o. elim o [
+abbrev pub changes_mode : Limits → Tree → List ℕ → ℕ → Outcome
+changes_mode limits t path mode =
+    tested t (text_tests limits path) (goes_to t true path (λ p o. elim o [
       | directory n ↦ changes Done (with_mode n mode t) (logs changes_bits)
       | file n ↦ changes Done (with_mode n mode t) (logs changes_bits)
       | symlink n text ↦ λ _ _ _. ⊥  -- a final link is followed
@@ -129,13 +129,13 @@ abbrev pub truncates_file : Tree → ℕ → ℕ → Outcome
 truncates_file t n size = changes Done (truncated_to n size t) (need_of_truncate n size t)
 
 -- the tests of a size: it isn't negative, and no file is greater than the limit
-abbrev pub size_tests : ℤ → Tests
-size_tests size = (is_negative size, EINVAL) ∷ (nat_lt GREATEST_FILE (nat_abs size), EFBIG) ∷ []
+abbrev pub size_tests : Limits → ℤ → Tests
+size_tests limits size = (is_negative size, EINVAL) ∷ (nat_lt limits.file_bytes (nat_abs size), EFBIG) ∷ []
 
 -- `truncate`: the file that a path leads to gets this size
-abbrev pub truncates : Tree → List ℕ → ℤ → Outcome
-truncates t path size =
-    tested t (text_tests_then (size_tests size) path) (goes_to t true path (λ p o. elim o [
+abbrev pub truncates : Limits → Tree → List ℕ → ℤ → Outcome
+truncates limits t path size =
+    tested t (text_tests_then limits (size_tests limits size) path) (goes_to t true path (λ p o. elim o [
       | file n ↦ truncates_file t n (nat_abs size)
       | directory n ↦ refuses t EISDIR
       | symlink n text ↦ λ _ _ _. ⊥  -- a final link is followed
@@ -159,9 +159,9 @@ sets_file t n None (Some size) = truncates_file t n (nat_abs size)
 sets_file t n (Some mode) (Some size) = sets_both t n mode (nat_abs size)
 
 -- the tests of a size, where one is given
-abbrev pub given_size_tests : Option ℤ → Tests
-given_size_tests None = []
-given_size_tests (Some size) = size_tests size
+abbrev pub given_size_tests : Limits → Option ℤ → Tests
+given_size_tests limits None = []
+given_size_tests limits (Some size) = size_tests limits size
 
 -- an object gets all that is given; a directory has no size
 abbrev pub sets_object : Tree → Settings → Object → Outcome
@@ -172,6 +172,6 @@ sets_object t settings o = elim o [
 ]
 
 -- `set`: what a path leads to gets the mode and the size that are given
-abbrev pub sets : Tree → List ℕ → Settings → Outcome
-sets t path settings =
-    tested t (text_tests_then (given_size_tests settings.size) path) (goes_to t true path (λ p o. sets_object t settings o))
+abbrev pub sets : Limits → Tree → List ℕ → Settings → Outcome
+sets limits t path settings =
+    tested t (text_tests_then limits (given_size_tests limits settings.size) path) (goes_to t true path (λ p o. sets_object t settings o))

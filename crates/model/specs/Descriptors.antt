@@ -1,7 +1,7 @@
 -- The calls on descriptors (POSIX.1-2017, open(), close(), read(), write(), lseek(), ftruncate(),
 -- fstat(), fsync()), and what a write does to a file.
 use Rattle.std.specs.Prelude.{ℕ, ℤ, pos, nat_abs, ◌+ℤ◌, ◌+◌, min, nat_lt, not, ◌&&◌, ◌||◌, if◌then◌else◌, Bool, true, false, List, [], ◌∷◌, ◌++◌, length, Some, None}
-use Rattle.model.specs.declared.limits.TheConstants.{OPEN_FILES, GREATEST_FILE, GREATEST_OFFSET}
+use Rattle.model.specs.declared.limits.TheConstants.{OPEN_FILES, GREATEST_OFFSET}
 use Rattle.model.specs.declared.errno.Errno.TheVariants.{ENOENT, EISDIR, EEXIST, EINVAL, EBADF, EMFILE, EFBIG, EOVERFLOW}
 use Rattle.model.specs.declared.reply.Reply.TheVariants as reply
 use Rattle.model.specs.declared.command.Flags.{Flags}
@@ -9,6 +9,7 @@ use Rattle.model.specs.declared.command.Access.{Access}
 use Rattle.model.specs.declared.command.Access.TheVariants as access
 use Rattle.model.specs.declared.command.Whence.{Whence}
 use Rattle.model.specs.declared.command.Whence.TheVariants as whence
+use Rattle.model.specs.declared.limits.Limits.{Limits}
 use Rattle.model.specs.Paths.{Name, Path, Tests, text_tests_then, is_empty}
 use Rattle.model.specs.Trees.{Tree, Object, directory, symlink, file, Description}
 use Rattle.model.specs.Edits.{contents, read_at, written, with_bytes, with_file, with_descriptor}
@@ -57,10 +58,10 @@ opens_object tells t o flags fd =
     ])
 
 -- `open` where nothing stands: a file is made and opened where the flags say so
-abbrev pub opens_new : Bool → ℕ → Tree → Path → Name → Flags → ℕ → ℕ → Outcome
-opens_new tells inodes t p name flags mode fd =
+abbrev pub opens_new : Bool → Limits → Tree → Path → Name → Flags → ℕ → ℕ → Outcome
+opens_new tells limits t p name flags mode fd =
     tested t ((not flags.creates, ENOENT) ∷ [])
-    (with_place t p (with_fresh inodes t (λ n. opens_file tells n flags fd (with_file (p ++ name ∷ []) n mode t) (logs adds_name))))
+    (with_place limits t p (with_fresh limits t (λ n. opens_file tells n flags fd (with_file (p ++ name ∷ []) n mode t) (logs adds_name))))
 
 -- the tests of the flags: no exclusive without create, and no truncating without writing
 abbrev pub open_tests : Flags → Tests
@@ -68,13 +69,13 @@ open_tests flags = (flags.exclusive && not flags.creates, EINVAL) ∷ (flags.tru
 
 -- `open` and `openstat`: a file that is there, or a new one, gets the lowest free descriptor, which
 -- is below a number
-abbrev pub opens : Bool → ℕ → ℕ → Tree → List ℕ → Flags → ℕ → Outcome
-opens tells below inodes t path flags mode =
-    tested t (text_tests_then (open_tests flags) path) (elim (lowest_free t.descriptors (min below OPEN_FILES)) [
+abbrev pub opens : Bool → ℕ → Limits → Tree → List ℕ → Flags → ℕ → Outcome
+opens tells below limits t path flags mode =
+    tested t (text_tests_then limits (open_tests flags) path) (elim (lowest_free t.descriptors (min below OPEN_FILES)) [
       | None ↦ refuses t EMFILE
       | Some fd ↦ goes_along t (not (flags.creates && flags.exclusive)) path
           (λ p o. opens_object tells t o flags fd)
-          (λ p name. opens_new tells inodes t p name flags mode fd)
+          (λ p name. opens_new tells limits t p name flags mode fd)
     ])
 
 -- `close`: the descriptor is free, and a file with no name and no other descriptor is gone
@@ -96,34 +97,34 @@ reads_from t fd offset count =
 
 -- data goes to a file at an offset: where there is any and the limit holds it, it is written, and
 -- what else changes is `also`
-abbrev pub puts : Tree → ℕ → ℕ → List ℕ → (Tree → Tree) → Outcome
-puts t n offset given also =
+abbrev pub puts : Limits → Tree → ℕ → ℕ → List ℕ → (Tree → Tree) → Outcome
+puts limits t n offset given also =
     either (is_empty given) (answers t (reply.Wrote 0))
-    (tested t ((nat_lt GREATEST_FILE (offset + length given), EFBIG) ∷ [])
+    (tested t ((nat_lt limits.file_bytes (offset + length given), EFBIG) ∷ [])
     (changes (reply.Wrote (length given)) (also (with_bytes n (written offset given (contents t n)) t)) (logs (puts_bytes (length (contents t n)) offset (length given)))))
 
 -- `store`: data goes to the file that a path leads to, at this offset
-abbrev pub stores : Tree → List ℕ → ℤ → List ℕ → Outcome
-stores t path offset given =
-    tested t (text_tests_then ((is_negative offset || is_too_many (length given), EINVAL) ∷ []) path)
+abbrev pub stores : Limits → Tree → List ℕ → ℤ → List ℕ → Outcome
+stores limits t path offset given =
+    tested t (text_tests_then limits ((is_negative offset || is_too_many (length given), EINVAL) ∷ []) path)
     (goes_to t true path (λ p o. elim o [
-      | file n ↦ puts t n (nat_abs offset) given (λ after. after)
+      | file n ↦ puts limits t n (nat_abs offset) given (λ after. after)
       | directory n ↦ refuses t EISDIR
       | symlink n text ↦ λ _ _ _. ⊥  -- a final link is followed
     ]))
 
 -- `write`: data goes to the descriptor's offset, or behind the last byte under append, and the
 -- offset moves behind it
-abbrev pub writes : Tree → ℕ → List ℕ → Outcome
-writes t fd given =
+abbrev pub writes : Limits → Tree → ℕ → List ℕ → Outcome
+writes limits t fd given =
     described t fd (λ f. tested t ((not f.writes, EBADF) ∷ (is_too_many (length given), EINVAL) ∷ [])
-    (let offset = if f.appends then length (contents t f.number) else f.offset in puts t f.number offset given (with_offset fd f (offset + length given))))
+    (let offset = if f.appends then length (contents t f.number) else f.offset in puts limits t f.number offset given (with_offset fd f (offset + length given))))
 
 -- `pwrite`: data goes to this offset, also under append, and the descriptor's own doesn't move
-abbrev pub writes_to : Tree → ℕ → ℤ → List ℕ → Outcome
-writes_to t fd offset given =
+abbrev pub writes_to : Limits → Tree → ℕ → ℤ → List ℕ → Outcome
+writes_to limits t fd offset given =
     described t fd (λ f. tested t ((not f.writes, EBADF) ∷ (is_negative offset || is_too_many (length given), EINVAL) ∷ [])
-    (puts t f.number (nat_abs offset) given (λ after. after)))
+    (puts limits t f.number (nat_abs offset) given (λ after. after)))
 
 -- from where an offset of `lseek` counts: the start, the descriptor's offset, or the end of the
 -- file
@@ -141,8 +142,8 @@ seeks t fd from offset =
     (changes (reply.At (nat_abs place)) (with_offset fd f (nat_abs place) t) nothing))
 
 -- `ftruncate`: the file of a descriptor for writing gets this size
-abbrev pub truncates_open : Tree → ℕ → ℤ → Outcome
-truncates_open t fd size = described t fd (λ f. tested t ((not f.writes, EINVAL) ∷ size_tests size) (truncates_file t f.number (nat_abs size)))
+abbrev pub truncates_open : Limits → Tree → ℕ → ℤ → Outcome
+truncates_open limits t fd size = described t fd (λ f. tested t ((not f.writes, EINVAL) ∷ size_tests limits size) (truncates_file t f.number (nat_abs size)))
 
 -- `fstat`: what `stat` tells, of the file of a descriptor
 abbrev pub stats_open : Tree → ℕ → Outcome

@@ -12,6 +12,8 @@ use Rattle.model.specs.declared.command.Command.{Command}
 use Rattle.model.specs.declared.command.Command.TheVariants as command
 use Rattle.model.specs.declared.command.PathCall.{PathCall}
 use Rattle.model.specs.declared.command.PathCall.TheVariants as call
+use Rattle.model.specs.declared.limits.Limits.{Limits}
+use Rattle.model.specs.Limits.{AreLimits}
 use Rattle.model.specs.Paths.{Name, Path, parts, begins_with, is_dot_dot}
 use Rattle.model.specs.Trees.{Description, HasPath, IsNumbered, IsPathOf, IsTree, IsUsed, Object, file}
 use Rattle.model.specs.Resolution.{resolve, resolve_within}
@@ -50,9 +52,9 @@ RefusalsChangeNothing =
 -- what the running volume drops at once, the replayed one may keep
 abbrev pub ReplayFollows : Type 0
 ReplayFollows =
-    (inodes : ℕ) (running replayed : Volume) (table : ℕ → Option Description) (change : Change)
-    → Extends running replayed → Applies inodes running change
-    → Applies inodes replayed change × Extends (swept table (applied change running)) (applied change replayed)
+    (limits : Limits) (running replayed : Volume) (table : ℕ → Option Description) (change : Change)
+    → Extends running replayed → Applies limits running change
+    → Applies limits replayed change × Extends (swept table (applied change running)) (applied change replayed)
 
 -- once the orphans are dropped, the replayed volume and the running one are the same
 abbrev pub ReplayEndsSame : Type 0
@@ -103,51 +105,51 @@ AllowedAreStates =
 
 -- a file system as it is made is a state, and so is what a mount finds of a state
 abbrev pub MountsFindStates : Type 0
-MountsFindStates = ((inodes : ℕ) → IsState (empty inodes)) × ((old new : State) → IsState old → Forgets old new → IsState new)
+MountsFindStates = ((limits : Limits) → AreLimits limits → IsState (empty limits)) × ((old new : State) → IsState old → Forgets old new → IsState new)
 
 -- a record that applies leaves a volume
 abbrev pub RecordsKeepVolumes : Type 0
 RecordsKeepVolumes =
-    (inodes : ℕ) (v : Volume) (change : Change) → IsVolume inodes v → Applies inodes v change → IsVolume inodes (applied change v)
+    (limits : Limits) (v : Volume) (change : Change) → IsVolume limits v → Applies limits v change → IsVolume limits (applied change v)
 
 -- a volume without the files that have neither name nor descriptor is a volume
 abbrev pub SweepsKeepVolumes : Type 0
-SweepsKeepVolumes = (inodes : ℕ) (v : Volume) (table : ℕ → Option Description) → IsVolume inodes v → IsVolume inodes (swept table v)
+SweepsKeepVolumes = (limits : Limits) (v : Volume) (table : ℕ → Option Description) → IsVolume limits v → IsVolume limits (swept table v)
 
 -- of a mounted volume, a record that applies leaves a mounted one once what became an orphan is
 -- dropped, and it does to the tree what the call in whose words it is said does, where a new object
 -- takes a number that nothing has
 abbrev pub RecordsChangeTrees : Type 0
 RecordsChangeTrees =
-    (inodes : ℕ) (v : Volume) (table : ℕ → Option Description) (change : Change)
-    → IsVolume inodes v → IsMounted v table → Applies inodes v change → TakesFreeNumber v change
+    (limits : Limits) (v : Volume) (table : ℕ → Option Description) (change : Change)
+    → IsVolume limits v → IsMounted v table → Applies limits v change → TakesFreeNumber v change
     → IsMounted (swept table (applied change v)) table
     × ChangesTree change (tree_of v table) (tree_of (swept table (applied change v)) table)
 
 -- the tree of a mounted volume is a tree
 abbrev pub VolumesAreTrees : Type 0
 VolumesAreTrees =
-    (inodes : ℕ) (v : Volume) (table : ℕ → Option Description) → IsVolume inodes v → IsMounted v table → IsTree inodes (tree_of v table)
+    (limits : Limits) (v : Volume) (table : ℕ → Option Description) → IsVolume limits v → IsMounted v table → IsTree limits (tree_of v table)
 
 -- in a volume, resolution by numbers leads where resolution by paths does
 abbrev pub ResolvesByNumbers : Type 0
 ResolvesByNumbers =
-    (inodes : ℕ) (v : Volume) (table : ℕ → Option Description) (follow : Bool) (text : List ℕ)
-    → IsVolume inodes v → IsPlaceOf v (find_within LINKS_FOLLOWED v follow [] (parts text)) (resolve (tree_of v table) follow text)
+    (limits : Limits) (v : Volume) (table : ℕ → Option Description) (follow : Bool) (text : List ℕ)
+    → IsVolume limits v → IsPlaceOf v (find_within LINKS_FOLLOWED v follow [] (parts text)) (resolve (tree_of v table) follow text)
 
 -- in a volume, a search from the number of a directory leads where the resolution from its path
 -- does, as long as no part leads up and no link is followed
 abbrev pub ResolvesFromNumbers : Type 0
 ResolvesFromNumbers =
-    (inodes : ℕ) (v : Volume) (table : ℕ → Option Description) (follow : Bool) (n : ℕ) (names : List Name)
-    → IsVolume inodes v → IsTrue (is_directory_node (v n)) → IsFalse (list_any is_dot_dot names)
+    (limits : Limits) (v : Volume) (table : ℕ → Option Description) (follow : Bool) (n : ℕ) (names : List Name)
+    → IsVolume limits v → IsTrue (is_directory_node (v n)) → IsFalse (list_any is_dot_dot names)
     → (p : Path) × IsPathOf (tree_of v table) n p
     × IsPlaceAt v (find_within 0 v follow (trail_from n) names) (resolve_within 0 (tree_of v table) follow p names)
 
 -- in a volume, a number that an object has stands at a path, but for that of an orphan
 abbrev pub VolumesTellNumbers : Type 0
 VolumesTellNumbers =
-    (inodes : ℕ) (v : Volume) (table : ℕ → Option Description) (n : ℕ) → IsVolume inodes v
+    (limits : Limits) (v : Volume) (table : ℕ → Option Description) (n : ℕ) → IsVolume limits v
     → (IsTrue (is_placed_node (v n)) → (o : Object) × (object_of n (v n) ≡ Some o) × IsNumbered (tree_of v table) n o)
     × (IsFalse (is_placed_node (v n)) → ¬ HasPath (tree_of v table) n)
 
@@ -155,55 +157,55 @@ VolumesTellNumbers =
 -- beginning of that one's
 abbrev pub TrailsTellBelow : Type 0
 TrailsTellBelow =
-    (inodes : ℕ) (v : Volume) (p w : Path) (trail : List ℕ) (n : ℕ)
-    → IsVolume inodes v → Trails (entries v) w trail → number_at (entries v) p ≡ Some n → IsFalse (is_file_node (v n)) → 1 ≤ length p
+    (limits : Limits) (v : Volume) (p w : Path) (trail : List ℕ) (n : ℕ)
+    → IsVolume limits v → Trails (entries v) w trail → number_at (entries v) p ≡ Some n → IsFalse (is_file_node (v n)) → 1 ≤ length p
     → Contains trail n ↔ IsTrue (begins_with w p)
 
 -- what lies below an object by its number is what lies below its path
 abbrev pub BelowIsByPaths : Type 0
 BelowIsByPaths =
-    (inodes : ℕ) (v : Volume) (p w : Path) (n k : ℕ)
-    → IsVolume inodes v → number_at (entries v) p ≡ Some n → number_at (entries v) w ≡ Some k → IsFalse (is_file_node (v k))
+    (limits : Limits) (v : Volume) (p w : Path) (n k : ℕ)
+    → IsVolume limits v → number_at (entries v) p ≡ Some n → number_at (entries v) w ≡ Some k → IsFalse (is_file_node (v k))
     → IsBelow (entries v) n k ↔ IsTrue (begins_with w p)
 
 -- of a mounted volume, the least number that no object has is that of a new object
 abbrev pub VolumesTellFresh : Type 0
 VolumesTellFresh =
-    (inodes : ℕ) (v : Volume) (table : ℕ → Option Description) (n : ℕ) → IsVolume inodes v → IsMounted v table
-    → FIRST_NUMBER ≤ n → n < inodes → v n ≡ None → ((k : ℕ) → FIRST_NUMBER ≤ k → k < n → IsSome (v k)) → IsFresh inodes (tree_of v table) n
+    (limits : Limits) (v : Volume) (table : ℕ → Option Description) (n : ℕ) → IsVolume limits v → IsMounted v table
+    → FIRST_NUMBER ≤ n → n < limits.inodes → v n ≡ None → ((k : ℕ) → FIRST_NUMBER ≤ k → k < n → IsSome (v k)) → IsFresh limits (tree_of v table) n
 
 -- of a mounted volume, the numbers that its tree uses are those that an object has
 abbrev pub VolumesTellUsed : Type 0
 VolumesTellUsed =
-    (inodes : ℕ) (v : Volume) (table : ℕ → Option Description) (n : ℕ)
-    → IsVolume inodes v → IsMounted v table → IsUsed (tree_of v table) n ↔ IsSome (v n)
+    (limits : Limits) (v : Volume) (table : ℕ → Option Description) (n : ℕ)
+    → IsVolume limits v → IsMounted v table → IsUsed (tree_of v table) n ↔ IsSome (v n)
 
 -- in a volume, a file's count of names is its count of paths
 abbrev pub VolumesTellLinks : Type 0
 VolumesTellLinks =
-    (inodes : ℕ) (v : Volume) (table : ℕ → Option Description) (n : ℕ) (attributes : Attributes) (links : ℕ) (bytes : List ℕ) → IsVolume inodes v
+    (limits : Limits) (v : Volume) (table : ℕ → Option Description) (n : ℕ) (attributes : Attributes) (links : ℕ) (bytes : List ℕ) → IsVolume limits v
     → v n ≡ Some (file_node attributes links bytes) → HasLinks (tree_of v table) (file n) links
 
 -- a record costs the same in a replay as when it was logged
 abbrev pub ReplaysCostTheSame : Type 0
 ReplaysCostTheSame =
-    (inodes : ℕ) (running replayed : Volume) (change : Change)
-    → Extends running replayed → Applies inodes running change → work_of replayed change ≡ work_of running change
+    (limits : Limits) (running replayed : Volume) (change : Change)
+    → Extends running replayed → Applies limits running change → work_of replayed change ≡ work_of running change
 
 -- records that apply one after the other leave a volume
 abbrev pub ReplaysKeepVolumes : Type 0
 ReplaysKeepVolumes =
-    (inodes : ℕ) (v : Volume) (changes : List Change) (w : Volume) → IsVolume inodes v → Replays inodes v changes w → IsVolume inodes w
+    (limits : Limits) (v : Volume) (changes : List Change) (w : Volume) → IsVolume limits v → Replays limits v changes w → IsVolume limits w
 
 -- a mount finds a mounted volume, with no file open: the replayed one without the files that have
 -- no name
 abbrev pub MountsFind : Type 0
 MountsFind =
-    (inodes : ℕ) (w : Volume) → IsVolume inodes w
-    → IsVolume inodes (without_orphans w) × IsMounted (without_orphans w) (λ d. None)
+    (limits : Limits) (w : Volume) → IsVolume limits w
+    → IsVolume limits (without_orphans w) × IsMounted (without_orphans w) (λ d. None)
 
 -- the tree that a mount finds is that of the running volume with its open files forgotten
 abbrev pub MountsForget : Type 0
 MountsForget =
-    (inodes : ℕ) (running replayed : Volume) (table : ℕ → Option Description) → IsVolume inodes running → Extends running replayed
+    (limits : Limits) (running replayed : Volume) (table : ℕ → Option Description) → IsVolume limits running → Extends running replayed
     → ForgetsOpenFiles (tree_of running table) (tree_of (without_orphans replayed) (λ d. None))

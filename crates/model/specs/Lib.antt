@@ -1,6 +1,7 @@
 pub mod Attributes
 pub mod Errnos
 pub mod Counting
+pub mod Limits
 pub mod Paths
 pub mod Trees
 pub mod Edits

@@ -4,12 +4,13 @@ use Rattle.std.specs.Prelude.{ℕ, zero, suc, ◌≡◌, ◌⊎◌, ◌↔◌, �
 use Rattle.std.specs.Ordering.{nat_cmp}
 use Rattle.std.specs.Cmp.Lexicographic.{slice_cmp}
 use Rattle.std.specs.List.Sorted.{IsStrictlySortedBy}
-use Rattle.model.specs.declared.limits.TheConstants.{DIRECTORY_NAMES, FIRST_NUMBER}
+use Rattle.model.specs.declared.limits.TheConstants.{FIRST_NUMBER}
 use Rattle.model.specs.declared.errno.Errno.{Errno}
 use Rattle.model.specs.declared.errno.Errno.TheVariants.{ENOENT, ENOTDIR, ELOOP, EBADF, DIRFULL, NONUMBER, ESTALE}
 use Rattle.model.specs.declared.reply.Reply.{Reply}
 use Rattle.model.specs.declared.reply.Reply.TheVariants.{Refused}
 use Rattle.model.specs.Counting.{Counts}
+use Rattle.model.specs.declared.limits.Limits.{Limits}
 use Rattle.model.specs.Paths.{Name, Path, Tests, first_refusal, is_empty, parts_behind, start_number}
 use Rattle.model.specs.Trees.{Tree, Object, directory, symlink, file, Description, HasPath, IsNumbered, IsPathOf, IsUsed}
 use Rattle.model.specs.Edits.{IsSwept}
@@ -91,20 +92,19 @@ abbrev pub with_names : Tree → Path → (List Name → Outcome) → Outcome
 with_names t p rest reply new need = (names : List Name) × IsListing t p names × rest names reply new need
 
 -- a call goes on where a directory has room for one more name, and else is refused with DIRFULL
-abbrev pub with_place : Tree → Path → Outcome → Outcome
-with_place t p rest = with_names t p (λ names. tested t ((nat_le DIRECTORY_NAMES (length names), DIRFULL) ∷ []) rest)
+abbrev pub with_place : Limits → Tree → Path → Outcome → Outcome
+with_place limits t p rest = with_names t p (λ names. tested t ((nat_le limits.directory_names (length names), DIRFULL) ∷ []) rest)
 
--- the number of a new object: the least one that it may take and that isn't used, of a file system
--- of so many inodes
-pub record IsFresh (inodes : ℕ) (t : Tree) (n : ℕ) : Type 0 where
+-- the number of a new object: the least one that it may take and that isn't used
+pub record IsFresh (limits : Limits) (t : Tree) (n : ℕ) : Type 0 where
   pub low : FIRST_NUMBER ≤ n
-  pub high : n < inodes
+  pub high : n < limits.inodes
   pub free : ¬ IsUsed t n
   pub least : (k : ℕ) → FIRST_NUMBER ≤ k → k < n → IsUsed t k
 
 -- no number is left for a new object
-abbrev pub HasNoFresh : ℕ → Tree → Type 0
-HasNoFresh inodes t = (k : ℕ) → FIRST_NUMBER ≤ k → k < inodes → IsUsed t k
+abbrev pub HasNoFresh : Limits → Tree → Type 0
+HasNoFresh limits t = (k : ℕ) → FIRST_NUMBER ≤ k → k < limits.inodes → IsUsed t k
 
 -- a call goes on with a number, and without one is refused with NONUMBER
 abbrev pub at_number : Tree → (ℕ → Outcome) → Option ℕ → Outcome
@@ -112,9 +112,9 @@ at_number t rest None = refuses t NONUMBER
 at_number t rest (Some n) = rest n
 
 -- a call goes on with the number of a new object, where one is left
-abbrev pub with_fresh : ℕ → Tree → (ℕ → Outcome) → Outcome
-with_fresh inodes t rest reply new need =
-    (free : Option ℕ) × MatchOption free (HasNoFresh inodes t) (IsFresh inodes t) × at_number t rest free reply new need
+abbrev pub with_fresh : Limits → Tree → (ℕ → Outcome) → Outcome
+with_fresh limits t rest reply new need =
+    (free : Option ℕ) × MatchOption free (HasNoFresh limits t) (IsFresh limits t) × at_number t rest free reply new need
 
 -- the links that an object shows: of a file as many as paths lead to it, of a directory and a link
 -- 1

@@ -3,7 +3,8 @@ use Rattle.std.specs.Prelude.{ℕ, ◌-◌, ◌≤◌, ◌≢◌, ◌^◌, ◌==
 use Rattle.std.specs.Cmp.Lexicographic.{pointwise}
 use Rattle.std.specs.List.{slice_split, list_any}
 use Rattle.std.specs.Str.Parse.{digits_value}
-use Rattle.model.specs.declared.limits.TheConstants.{NAME_BYTES, PATH_BYTES}
+use Rattle.model.specs.declared.limits.TheConstants.{NAME_BYTES}
+use Rattle.model.specs.declared.limits.Limits.{Limits}
 use Rattle.model.specs.declared.errno.Errno.{Errno}
 use Rattle.model.specs.declared.errno.Errno.TheVariants.{ENOENT, EINVAL, ENAMETOOLONG}
 
@@ -40,10 +41,10 @@ pub record IsName (name : Name) : Type 0 where
   pub here : name ≢ 46 ∷ []
   pub above : name ≢ 46 ∷ 46 ∷ []
 
--- what a symbolic link may hold: 1 to 1,023 bytes, none of them zero
-pub record IsLinkText (text : List ℕ) : Type 0 where
+-- what a symbolic link may hold: 1 to so many bytes, none of them zero
+pub record IsLinkText (most : ℕ) (text : List ℕ) : Type 0 where
   pub some : 1 ≤ length text
-  pub short : length text ≤ PATH_BYTES
+  pub short : length text ≤ most
   pub plain : All (λ byte. byte ≢ 0) text
 
 -- the parts of a text: what stands between its slashes, where runs of slashes count as one
@@ -110,11 +111,11 @@ first_refusal [] = None
 first_refusal (test ∷ tests) = if test.0 then Some test.1 else first_refusal tests
 
 -- the tests of a path's text, followed by more
-abbrev pub text_tests_then : Tests → List ℕ → Tests
-text_tests_then more text =
+abbrev pub text_tests_then : Limits → Tests → List ℕ → Tests
+text_tests_then limits more text =
     (is_empty text, ENOENT)
     ∷ (list_any (λ byte. byte == 0) text, EINVAL)
-    ∷ (nat_lt PATH_BYTES (length text), ENAMETOOLONG)
+    ∷ (nat_lt limits.path_bytes (length text), ENAMETOOLONG)
     ∷ (not (starts_with_slash text || starts_at_number text), EINVAL)
     ∷ (ends_with_slash text && nat_lt 1 (length text), EINVAL)
     ∷ (list_any is_too_long (parts text), ENAMETOOLONG)
@@ -122,13 +123,13 @@ text_tests_then more text =
     ∷ more
 
 -- the tests of a text that names something that is there
-abbrev pub text_tests : List ℕ → Tests
-text_tests = text_tests_then []
+abbrev pub text_tests : Limits → List ℕ → Tests
+text_tests limits = text_tests_then limits []
 
 -- the tests of a text that names something to be made or taken away: its last part is a name
-abbrev pub new_text_tests : List ℕ → Tests
-new_text_tests text =
-    text_tests_then ((is_dot (last_part text) || is_dot_dot (last_part text) || is_number_alone text, EINVAL) ∷ []) text
+abbrev pub new_text_tests : Limits → List ℕ → Tests
+new_text_tests limits text =
+    text_tests_then limits ((is_dot (last_part text) || is_dot_dot (last_part text) || is_number_alone text, EINVAL) ∷ []) text
 
 -- the path `/` alone, as a text that passed its tests
 abbrev pub is_root_text : List ℕ → Bool

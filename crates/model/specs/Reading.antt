@@ -4,6 +4,7 @@ use Rattle.std.specs.Prelude.{ℕ, ℤ, pos, negsuc, nat_abs, true, false, Bool,
 use Rattle.model.specs.declared.limits.TheConstants.{ENTRIES_TOLD, TRANSFER_BYTES}
 use Rattle.model.specs.declared.errno.Errno.TheVariants.{ENOTDIR, EISDIR, EINVAL}
 use Rattle.model.specs.declared.reply.Reply.TheVariants as reply
+use Rattle.model.specs.declared.limits.Limits.{Limits}
 use Rattle.model.specs.Paths.{text_tests, text_tests_then}
 use Rattle.model.specs.Trees.{Tree, Object, directory, symlink, file}
 use Rattle.model.specs.Edits.{contents, read_at}
@@ -28,22 +29,22 @@ tells_stat t o = with_links t o (λ links. answers t (reply.Stat (stat_of t o li
 
 -- `stat` and `lstat`: what is told of the object that a path leads to, where `stat` follows a last
 -- link
-abbrev pub stats : Tree → Bool → List ℕ → Outcome
-stats t follow path = tested t (text_tests path) (goes_to t follow path (λ p o. tells_stat t o))
+abbrev pub stats : Limits → Tree → Bool → List ℕ → Outcome
+stats limits t follow path = tested t (text_tests limits path) (goes_to t follow path (λ p o. tells_stat t o))
 
 -- `readlink`: the text of the link that a path leads to
-abbrev pub reads_link : Tree → List ℕ → Outcome
-reads_link t path =
-    tested t (text_tests path) (goes_to t false path (λ p o. elim o [
+abbrev pub reads_link : Limits → Tree → List ℕ → Outcome
+reads_link limits t path =
+    tested t (text_tests limits path) (goes_to t false path (λ p o. elim o [
       | symlink n text ↦ answers t (reply.Text text)
       | directory n ↦ refuses t EINVAL
       | file n ↦ refuses t EINVAL
     ]))
 
 -- `list`: the names in the directory that a path leads to, sorted by their bytes
-abbrev pub lists : Tree → List ℕ → Outcome
-lists t path =
-    tested t (text_tests path) (goes_to t true path (λ p o. elim o [
+abbrev pub lists : Limits → Tree → List ℕ → Outcome
+lists limits t path =
+    tested t (text_tests limits path) (goes_to t true path (λ p o. elim o [
       | directory n ↦ with_names t p (λ names. answers t (reply.Names names))
       | symlink n text ↦ refuses t ENOTDIR
       | file n ↦ refuses t ENOTDIR
@@ -51,9 +52,9 @@ lists t path =
 
 -- `entries`: of the directory that a path leads to, the names behind a cookie with what is told of
 -- them, at least so many where there are as many
-abbrev pub tells_entries : Tree → List ℕ → ℤ → ℕ → Outcome
-tells_entries t path after count =
-    tested t (text_tests_then ((is_negative after || count == 0 || nat_lt ENTRIES_TOLD count, EINVAL) ∷ []) path)
+abbrev pub tells_entries : Limits → Tree → List ℕ → ℤ → ℕ → Outcome
+tells_entries limits t path after count =
+    tested t (text_tests_then limits ((is_negative after || count == 0 || nat_lt ENTRIES_TOLD count, EINVAL) ∷ []) path)
     (goes_to t true path (λ p o. elim o [
       | directory n ↦ with_names t p (λ names. with_part t p names (nat_abs after) count (λ entries. answers t (reply.Entries entries)))
       | symlink n text ↦ refuses t ENOTDIR
@@ -66,9 +67,9 @@ with_extent t stored n offset answer new need =
     (extent : Extent) × TellsExtent stored (length (contents t n)) offset extent × answers t (reply.Extent extent) answer new need
 
 -- `extent`: what of the file that a path leads to is stored
-abbrev pub tells_extent : Tree → (ℕ → ℕ → Bool) → List ℕ → ℤ → Outcome
-tells_extent t stored path offset =
-    tested t (text_tests_then ((is_negative offset, EINVAL) ∷ []) path)
+abbrev pub tells_extent : Limits → Tree → (ℕ → ℕ → Bool) → List ℕ → ℤ → Outcome
+tells_extent limits t stored path offset =
+    tested t (text_tests_then limits ((is_negative offset, EINVAL) ∷ []) path)
     (goes_to t true path (λ p o. elim o [
       | file n ↦ with_extent t (stored n) n (nat_abs offset)
       | directory n ↦ refuses t EISDIR
@@ -76,9 +77,9 @@ tells_extent t stored path offset =
     ]))
 
 -- `get`: as many bytes as asked and there, of the file that a path leads to, from an offset on
-abbrev pub gets : Tree → List ℕ → ℤ → ℕ → Outcome
-gets t path offset count =
-    tested t (text_tests_then ((is_negative offset || is_too_many count, EINVAL) ∷ []) path)
+abbrev pub gets : Limits → Tree → List ℕ → ℤ → ℕ → Outcome
+gets limits t path offset count =
+    tested t (text_tests_then limits ((is_negative offset || is_too_many count, EINVAL) ∷ []) path)
     (goes_to t true path (λ p o. elim o [
       | file n ↦ answers t (reply.Data (read_at (nat_abs offset) count (contents t n)))
       | directory n ↦ refuses t EISDIR

@@ -1,8 +1,9 @@
 -- What the records of the log do to a volume, and when each applies.
 use Rattle.std.specs.Prelude.{ℕ, zero, suc, ◌≡◌, ◌≢◌, ◌⊎◌, ◌+◌, ◌*◌, ◌≤◌, ◌<◌, IsSome, Bool, true, false, IsTrue, ◌||◌, if◌then◌else◌, List, [], ◌∷◌, length, fold, unwrap_or, Option, Some, None}
-use Rattle.model.specs.declared.costs.TheConstants.{ORPHAN_COST}
-use Rattle.model.specs.declared.limits.TheConstants.{FIRST_NUMBER, FILE_NAMES, DIRECTORY_NAMES, TRANSFER_BYTES, GREATEST_FILE, LINK_MODE, MODE_BITS}
+use Rattle.model.specs.declared.costs.Costs.{Costs}
+use Rattle.model.specs.declared.limits.TheConstants.{FIRST_NUMBER, TRANSFER_BYTES, LINK_MODE, MODE_BITS}
 use Rattle.model.specs.declared.attributes.Attributes.{Attributes}
+use Rattle.model.specs.declared.limits.Limits.{Limits}
 use Rattle.model.specs.Attributes.{new_attributes, set_mode}
 use Rattle.model.specs.Counting.{Counts}
 use Rattle.model.specs.Paths.{Name, Path, IsName, IsLinkText}
@@ -68,23 +69,23 @@ abbrev pub IsBelow : Entries → ℕ → ℕ → Type 0
 IsBelow e n k = (p : Path) × (fold (enter e) (Some n) p ≡ Some k)
 
 -- a directory that has no such name yet, and has place for one more
-pub record TakesName (v : Volume) (d : ℕ) (x : Name) : Type 0 where
+pub record TakesName (limits : Limits) (v : Volume) (d : ℕ) (x : Name) : Type 0 where
   pub directory : IsTrue (is_directory_node (v d))
   pub missing : entries v d x ≡ None
   pub name : IsName x
   pub count : ℕ
   pub counts : Counts (λ y. IsSome (entries v d y)) count
-  pub room : count < DIRECTORY_NAMES
+  pub room : count < limits.directory_names
 
 -- there are no names in the object of this number
 abbrev pub IsEmpty : Volume → ℕ → Type 0
 IsEmpty v n = (x : Name) → entries v n x ≡ None
 
 -- what a record makes keeps to the limits
-abbrev pub IsMade : Made → Type 0
-IsMade (file mode) = mode ≤ MODE_BITS
-IsMade (directory mode) = mode ≤ MODE_BITS
-IsMade (symbolic_link text) = IsLinkText text
+abbrev pub IsMade : Limits → Made → Type 0
+IsMade limits (file mode) = mode ≤ MODE_BITS
+IsMade limits (directory mode) = mode ≤ MODE_BITS
+IsMade limits (symbolic_link text) = IsLinkText limits.path_bytes text
 
 -- a new object may have this number in a replay: nothing has it, or a file that has no name any
 -- more
@@ -93,22 +94,22 @@ is_vacant None = true
 is_vacant o = is_orphan o
 
 -- the record of a creation applies: its number is vacant, and its name can be put into a directory
-pub record CanCreate (inodes : ℕ) (v : Volume) (number parent : ℕ) (made : Made) (name : Name) : Type 0 where
+pub record CanCreate (limits : Limits) (v : Volume) (number parent : ℕ) (made : Made) (name : Name) : Type 0 where
   pub low : FIRST_NUMBER ≤ number
-  pub high : number < inodes
+  pub high : number < limits.inodes
   pub vacant : IsTrue (is_vacant (v number))
-  pub takes : TakesName v parent name
-  pub good : IsMade made
+  pub takes : TakesName limits v parent name
+  pub good : IsMade limits made
 
 -- the record of a link applies: its number is that of a file with fewer names than the limit, and
 -- its name can be put into a directory
-pub record CanLink (v : Volume) (number parent : ℕ) (name : Name) : Type 0 where
+pub record CanLink (limits : Limits) (v : Volume) (number parent : ℕ) (name : Name) : Type 0 where
   pub attributes : Attributes
   pub links : ℕ
   pub bytes : List ℕ
   pub file : v number ≡ Some (file_node attributes links bytes)
-  pub few : links < FILE_NAMES
-  pub takes : TakesName v parent name
+  pub few : links < limits.file_names
+  pub takes : TakesName limits v parent name
 
 -- the record of a removal applies: its name is there, and a directory that it takes away is empty
 pub record CanUnname (v : Volume) (parent : ℕ) (name : Name) : Type 0 where
@@ -118,38 +119,38 @@ pub record CanUnname (v : Volume) (parent : ℕ) (name : Name) : Type 0 where
 
 -- what may have the new name before a move: nothing, where the directory has the object already or
 -- takes one more name; or another object of the kind, a directory only where it is empty
-abbrev pub CanReplace : Volume → ℕ → ℕ → Name → ℕ → Option ℕ → Type 0
-CanReplace v d k y n None = (d ≡ k) ⊎ TakesName v k y
-CanReplace v d k y n (Some m) = (m ≢ n) × (is_directory_node (v m) ≡ is_directory_node (v n)) × IsEmpty v m
+abbrev pub CanReplace : Limits → Volume → ℕ → ℕ → Name → ℕ → Option ℕ → Type 0
+CanReplace limits v d k y n None = (d ≡ k) ⊎ TakesName limits v k y
+CanReplace limits v d k y n (Some m) = (m ≢ n) × (is_directory_node (v m) ≡ is_directory_node (v n)) × IsEmpty v m
 
 -- the record of a move applies: its name is there, it puts no directory below itself, and its
 -- target can take it
-pub record CanRename (v : Volume) (d : ℕ) (x : Name) (k : ℕ) (y : Name) : Type 0 where
+pub record CanRename (limits : Limits) (v : Volume) (d : ℕ) (x : Name) (k : ℕ) (y : Name) : Type 0 where
   pub number : ℕ
   pub there : entries v d x ≡ Some number
   pub directory : IsTrue (is_directory_node (v k))
   pub name : IsName y
   pub outside : ¬ IsBelow (entries v) number k
-  pub replaces : CanReplace v d k y number (entries v k y)
+  pub replaces : CanReplace limits v d k y number (entries v k y)
 
--- a record applies to a volume of so many inodes: its numbers have the right kinds, its names can
+-- a record applies to a volume within limits: its numbers have the right kinds, its names can
 -- be taken away or put in, and no limit is passed
-abbrev pub Applies : ℕ → Volume → Change → Type 0
-Applies inodes v (create number parent made name) = CanCreate inodes v number parent made name
-Applies inodes v (link number parent name) = CanLink v number parent name
-Applies inodes v (remove_name parent name) = CanUnname v parent name
-Applies inodes v (rename parent name new_parent new_name) = CanRename v parent name new_parent new_name
-Applies inodes v (write number offset bytes) =
-    IsTrue (is_file_node (v number)) × (1 ≤ length bytes) × (length bytes ≤ TRANSFER_BYTES) × (offset + length bytes ≤ GREATEST_FILE)
-Applies inodes v (truncate number size) = IsTrue (is_file_node (v number)) × (size ≤ GREATEST_FILE)
-Applies inodes v (change_mode number mode) =
+abbrev pub Applies : Limits → Volume → Change → Type 0
+Applies limits v (create number parent made name) = CanCreate limits v number parent made name
+Applies limits v (link number parent name) = CanLink limits v number parent name
+Applies limits v (remove_name parent name) = CanUnname v parent name
+Applies limits v (rename parent name new_parent new_name) = CanRename limits v parent name new_parent new_name
+Applies limits v (write number offset bytes) =
+    IsTrue (is_file_node (v number)) × (1 ≤ length bytes) × (length bytes ≤ TRANSFER_BYTES) × (offset + length bytes ≤ limits.file_bytes)
+Applies limits v (truncate number size) = IsTrue (is_file_node (v number)) × (size ≤ limits.file_bytes)
+Applies limits v (change_mode number mode) =
     IsTrue (is_file_node (v number) || is_directory_node (v number)) × (mode ≤ MODE_BITS)
-Applies inodes v (set_file number mode size) = IsTrue (is_file_node (v number)) × (mode ≤ MODE_BITS) × (size ≤ GREATEST_FILE)
+Applies limits v (set_file number mode size) = IsTrue (is_file_node (v number)) × (mode ≤ MODE_BITS) × (size ≤ limits.file_bytes)
 
 -- records that apply one after the other lead from one volume to another
-abbrev pub Replays : ℕ → Volume → List Change → Volume → Type 0
-Replays inodes v [] w = w ≡ v
-Replays inodes v (change ∷ changes) w = Applies inodes v change × Replays inodes (applied change v) changes w
+abbrev pub Replays : Limits → Volume → List Change → Volume → Type 0
+Replays limits v [] w = w ≡ v
+Replays limits v (change ∷ changes) w = Applies limits v change × Replays limits (applied change v) changes w
 
 -- the volume without the files that have no name, as it is behind the last record, when no file is
 -- open
@@ -178,9 +179,9 @@ work_of v (change_mode number mode) = changes_bits
 work_of v (set_file number mode size) = changes_size (size_before v number) size
 
 -- what records cost that change a volume one after the other
-abbrev pub costs : Volume → List Change → ℕ
-costs v [] = 0
-costs v (change ∷ changes) = cost (work_of v change) + costs (applied change v) changes
+abbrev pub cost_of_all : Costs → Volume → List Change → ℕ
+cost_of_all costs v [] = 0
+cost_of_all costs v (change ∷ changes) = cost costs (work_of v change) + cost_of_all costs (applied change v) changes
 
 -- how many of the first so many numbers are orphans
 abbrev pub count_orphans : ℕ → Volume → ℕ
@@ -189,8 +190,8 @@ count_orphans (suc n) v = count_orphans n v + (if is_orphan (v n) then 1 else 0)
 
 -- the blocks that a consistency point may store for what the settled root doesn't cover: these
 -- records, and each file without names in the settled root's volume
-abbrev pub pledged_for : ℕ → Volume → List Change → ℕ
-pledged_for inodes settled changes = ORPHAN_COST * count_orphans inodes settled + costs settled changes
+abbrev pub pledged_for : Limits → Volume → List Change → ℕ
+pledged_for limits settled changes = limits.costs.orphan * count_orphans limits.inodes settled + cost_of_all limits.costs settled changes
 
 -- the settled root has the volume as it is now, and covers every record
 abbrev pub CoversAll : Volume → Volume → List Change → Type 0
@@ -198,6 +199,7 @@ CoversAll settled now changes = (settled ≡ now) × (changes ≡ [])
 
 -- the room that a system tells, by the volume of its settled root, the records beside it and its
 -- volume now: what is pledged for these, and that it is covered only where that root has all
-pub record TellsRoom (inodes : ℕ) (settled now : Volume) (changes : List Change) (room : Room) : Type 0 where
-  pub pledged : room.pledged ≡ pledged_for inodes settled changes
+pub record TellsRoom (limits : Limits) (settled now : Volume) (changes : List Change) (room : Room) : Type 0 where
+  pub costs : room.costs ≡ limits.costs
+  pub pledged : room.pledged ≡ pledged_for limits settled changes
   pub covered : IsTrue room.is_covered → CoversAll settled now changes

@@ -1,7 +1,6 @@
 -- The room of the disk: what a call asks of the blocks that are left.
 use Rattle.std.specs.Prelude.{ℕ, List, ◌+◌, ◌-◌, ◌*◌, ◌/◌, ◌<◌, max, nat_lt, if◌then◌else◌, Bool, IsTrue}
-use Rattle.model.specs.declared.costs.TheConstants.{NAMES_COST, FILE_COST, GREAT_FILE_COST, MODE_COST, ORPHAN_COST, POINT_COST, HEADROOM_BLOCKS}
-use Rattle.model.specs.declared.limits.TheConstants.{SINGLE_FILE}
+use Rattle.model.specs.declared.costs.Costs.{Costs}
 
 -- the kind of work that a record of the log makes for a consistency point
 pub data Work : Type 0 where
@@ -15,30 +14,26 @@ pub data Work : Type 0 where
 abbrev pub touched : ℕ → ℕ → ℕ
 touched offset count = (offset + count + 4095) / 4096 - offset / 4096
 
--- the most blocks that a write stores beside its own and those that lead to them: with a third
--- height over the blocks of a file that is or becomes as large, two more
-abbrev pub beside : ℕ → ℕ
-beside size = if nat_lt SINGLE_FILE size then GREAT_FILE_COST else FILE_COST
+-- the most blocks that a write stores beside its own and those that lead to them, where its file
+-- has this size before or behind it
+abbrev pub beside : Costs → ℕ → ℕ
+beside costs size = if nat_lt costs.single_file size then costs.great_file else costs.file
 
 -- the most blocks that a consistency point stores for a record
-abbrev pub cost : Work → ℕ
-cost adds_name = NAMES_COST
-cost removes_name = NAMES_COST
-cost (puts_bytes size offset count) = 2 * touched offset count + beside (max size (offset + count))
-cost (changes_size size to) = FILE_COST
-cost changes_bits = MODE_COST
+abbrev pub cost : Costs → Work → ℕ
+cost costs adds_name = costs.adds_name
+cost costs removes_name = costs.removes_name
+cost costs (puts_bytes size offset count) = 2 * touched offset count + beside costs (max size (offset + count))
+cost costs (changes_size size to) = costs.file
+cost costs changes_bits = costs.mode
 
 -- the blocks that stay free behind a record, so that files can still be taken away
-abbrev pub headroom : Work → ℕ
-headroom adds_name = HEADROOM_BLOCKS
-headroom removes_name = 0
-headroom (puts_bytes size offset count) = HEADROOM_BLOCKS
-headroom (changes_size size to) = if nat_lt size to then HEADROOM_BLOCKS else 0
-headroom changes_bits = 0
-
--- the blocks that each consistency point stores whatever changed, on a disk of so many blocks
-abbrev pub fixed_of : ℕ → ℕ
-fixed_of blocks = (blocks + 1023) / 1024 + POINT_COST
+abbrev pub headroom : Costs → Work → ℕ
+headroom costs adds_name = costs.headroom
+headroom costs removes_name = 0
+headroom costs (puts_bytes size offset count) = costs.headroom
+headroom costs (changes_size size to) = if nat_lt size to then costs.headroom else 0
+headroom costs changes_bits = 0
 
 -- what a call asks of the room that is left
 pub data Need : Type 0 where
@@ -49,6 +44,7 @@ pub data Need : Type 0 where
 
 -- the room of the disk at an answer
 pub record Room : Type 0 where
+  pub costs : Costs
   pub blocks : ℕ
   pub free : ℕ  -- the zero entries of the settled root's block map
   pub pledged : ℕ  -- blocks that a consistency point may store for what the settled root doesn't cover
@@ -59,12 +55,12 @@ pub record Room : Type 0 where
 -- the blocks that no new data may have, of the free ones: pledged ones, those that the next
 -- consistency point stores whatever changed, and those that stay for removals
 abbrev pub reserved_of : Room → ℕ
-reserved_of room = room.pledged + fixed_of room.blocks + HEADROOM_BLOCKS
+reserved_of room = room.pledged + room.costs.point + room.costs.headroom
 
 -- the room isn't enough for a need, although the settled root covers all that was done
 abbrev pub IsShort : Room → Need → Type 0
 IsShort room nothing = ⊥
-IsShort room (logs work) = IsTrue room.is_covered × (room.free < room.pledged + cost work + fixed_of room.blocks + headroom work)
-IsShort room a_snapshot = IsTrue room.is_covered × (room.free < room.pledged + 2 * fixed_of room.blocks + 1)
+IsShort room (logs work) = IsTrue room.is_covered × (room.free < room.pledged + cost room.costs work + room.costs.point + headroom room.costs work)
+IsShort room a_snapshot = IsTrue room.is_covered × (room.free < room.pledged + 2 * room.costs.point + 1)
 IsShort room (a_restore orphans) =
-    IsTrue room.is_covered × (room.free < room.pledged + 2 * fixed_of room.blocks + 1 + ORPHAN_COST * orphans)
+    IsTrue room.is_covered × (room.free < room.pledged + 2 * room.costs.point + 1 + room.costs.orphan * orphans)

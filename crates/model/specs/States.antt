@@ -1,6 +1,7 @@
 -- The state of a file system, and what a mount finds of it.
 use Rattle.std.specs.Prelude.{ℕ, ◌≡◌, ◌≢◌, ◌≤◌, All, AllPairs, length, List, [], None}
-use Rattle.model.specs.declared.limits.TheConstants.{SNAPSHOTS, SNAPSHOT_NAME_BYTES}
+use Rattle.model.specs.declared.limits.TheConstants.{SNAPSHOT_NAME_BYTES}
+use Rattle.model.specs.declared.limits.Limits.{Limits}
 use Rattle.model.specs.Paths.{Name}
 use Rattle.model.specs.Trees.{Tree, IsTree, HasPath, root_alone}
 
@@ -11,14 +12,14 @@ pub data Mark : Type 0 where
 
 -- what a file system shows: its tree, its snapshots, and whether it goes on
 pub record State : Type 0 where
-  pub inodes : ℕ  -- numbers are below this, and no command changes it
+  pub limits : Limits  -- no command changes them
   pub tree : Tree
   pub snapshots : List (Name × Tree)  -- each with the tree as it was taken, oldest first
   pub mark : Mark
 
 -- a snapshot's tree: one without descriptors, and so without files that have no name
-pub record IsFrozen (inodes : ℕ) (t : Tree) : Type 0 where
-  pub tree : IsTree inodes t
+pub record IsFrozen (limits : Limits) (t : Tree) : Type 0 where
+  pub tree : IsTree limits t
   pub closed : t.descriptors ≡ (λ d. None)
 
 -- a length that a snapshot's name may have
@@ -26,18 +27,18 @@ pub record IsShortName (name : Name) : Type 0 where
   pub some : 1 ≤ length name
   pub short : length name ≤ SNAPSHOT_NAME_BYTES
 
--- what makes these a state: trees within the limits, and no more snapshots than the limit, each
+-- what makes these a state: trees within its limits, and no more snapshots than the limit, each
 -- with a name of its own
 pub record IsState (s : State) : Type 0 where
-  pub tree : IsTree s.inodes s.tree
-  pub frozen : All (λ pair. IsFrozen s.inodes pair.1) s.snapshots
+  pub tree : IsTree s.limits s.tree
+  pub frozen : All (λ pair. IsFrozen s.limits pair.1) s.snapshots
   pub names : All (λ pair. IsShortName pair.0) s.snapshots
-  pub few : length s.snapshots ≤ SNAPSHOTS
+  pub few : length s.snapshots ≤ s.limits.snapshots
   pub once : AllPairs (λ a b. a.0 ≢ b.0) s.snapshots
 
 -- a file system as it is made: a root directory of mode 0755, and no snapshots
-abbrev pub empty : ℕ → State
-empty n = record { inodes = n; tree = root_alone 0o755; snapshots = []; mark = going }
+abbrev pub empty : Limits → State
+empty limits = record { limits = limits; tree = root_alone 0o755; snapshots = []; mark = going }
 
 -- the state with another tree
 abbrev pub with_tree : Tree → State → State

@@ -1,7 +1,7 @@
 -- Which reply and which new state each command gives, where nothing comes in its way.
 use Rattle.std.specs.Prelude.{ℕ, zero, suc, ◌≡◌, nat_le, nat_lt, not, ◌&&◌, ◌||◌, ◌==◌, ◌-◌, length, Bool, true, false, List, [], ◌∷◌, ◌++◌, map, find, filter, bytes_eq, Option, Some, None, is_none}
 use Rattle.std.specs.List.{list_any}
-use Rattle.model.specs.declared.limits.TheConstants.{OPEN_FILES, ROOT_NUMBER, SNAPSHOTS, SNAPSHOT_NAME_BYTES}
+use Rattle.model.specs.declared.limits.TheConstants.{OPEN_FILES, ROOT_NUMBER, SNAPSHOT_NAME_BYTES}
 use Rattle.model.specs.declared.errno.Errno.TheVariants.{EBUSY, EROFS, BADNAME, SNAPEXISTS, NOSNAP, SNAPFULL}
 use Rattle.model.specs.declared.reply.Reply.{Reply}
 use Rattle.model.specs.declared.reply.Reply.TheVariants.{Done, Snaps, Space, Usage as tells, Refused}
@@ -10,6 +10,7 @@ use Rattle.model.specs.declared.command.Command.{Command}
 use Rattle.model.specs.declared.command.Command.TheVariants as command
 use Rattle.model.specs.declared.command.PathCall.{PathCall}
 use Rattle.model.specs.declared.command.PathCall.TheVariants as call
+use Rattle.model.specs.declared.limits.Limits.{Limits}
 use Rattle.model.specs.Paths.{Name, Tests, first_refusal}
 use Rattle.model.specs.Counting.{Counts}
 use Rattle.model.specs.Trees.{Tree, IsUsed}
@@ -37,24 +38,24 @@ abbrev pub on_tree : State → Outcome → Step
 on_tree s outcome reply new need = outcome reply new.tree need × (new ≡ with_tree new.tree s)
 
 -- what each call by a path comes to on a tree
-abbrev pub calls : ℕ → Tree → PathCall → Outcome
-calls inodes t (call.List path) = lists t path
-calls inodes t (call.Entries path after count) = tells_entries t path after count
-calls inodes t (call.Stat path) = stats t true path
-calls inodes t (call.Lstat path) = stats t false path
-calls inodes t (call.Readlink path) = reads_link t path
-calls inodes t (call.Get path offset count) = gets t path offset count
-calls inodes t (call.Mkdir path mode) = makes_directory inodes t path mode
-calls inodes t (call.Rmdir path) = removes_directory t path
-calls inodes t (call.Unlink path) = unlinks t path
-calls inodes t (call.Link old path) = links t old path
-calls inodes t (call.Symlink text path) = makes_symlink inodes t text path
-calls inodes t (call.Rename old path) = renames t false old path
-calls inodes t (call.RenameNew old path) = renames t true old path
-calls inodes t (call.Chmod path mode) = changes_mode t path mode
-calls inodes t (call.Truncate path size) = truncates t path size
-calls inodes t (call.Store path offset given) = stores t path offset given
-calls inodes t (call.Set path settings) = sets t path settings
+abbrev pub calls : Limits → Tree → PathCall → Outcome
+calls limits t (call.List path) = lists limits t path
+calls limits t (call.Entries path after count) = tells_entries limits t path after count
+calls limits t (call.Stat path) = stats limits t true path
+calls limits t (call.Lstat path) = stats limits t false path
+calls limits t (call.Readlink path) = reads_link limits t path
+calls limits t (call.Get path offset count) = gets limits t path offset count
+calls limits t (call.Mkdir path mode) = makes_directory limits t path mode
+calls limits t (call.Rmdir path) = removes_directory limits t path
+calls limits t (call.Unlink path) = unlinks limits t path
+calls limits t (call.Link old path) = links limits t old path
+calls limits t (call.Symlink text path) = makes_symlink limits t text path
+calls limits t (call.Rename old path) = renames limits t false old path
+calls limits t (call.RenameNew old path) = renames limits t true old path
+calls limits t (call.Chmod path mode) = changes_mode limits t path mode
+calls limits t (call.Truncate path size) = truncates limits t path size
+calls limits t (call.Store path offset given) = stores limits t path offset given
+calls limits t (call.Set path settings) = sets limits t path settings
 
 -- a call that only reads
 abbrev pub is_reading_call : PathCall → Bool
@@ -82,7 +83,7 @@ is_bad_name name = length name == 0 || nat_lt SNAPSHOT_NAME_BYTES (length name) 
 -- the tests of `snap take`: the name is good, no snapshot has it, and there is room for one more
 abbrev pub take_tests : State → Name → Tests
 take_tests s name =
-    (is_bad_name name, BADNAME) ∷ (not (is_none (frozen s name)), SNAPEXISTS) ∷ (nat_le SNAPSHOTS (length s.snapshots), SNAPFULL) ∷ []
+    (is_bad_name name, BADNAME) ∷ (not (is_none (frozen s name)), SNAPEXISTS) ∷ (nat_le s.limits.snapshots (length s.snapshots), SNAPFULL) ∷ []
 
 -- `snap take`: the tree without descriptors and orphans is put behind the other snapshots
 abbrev pub takes : State → Name → Step
@@ -111,7 +112,7 @@ abbrev pub views : State → Name → PathCall → Step
 views s name c = elim (frozen s name) [
   | None ↦ says s (Refused NOSNAP)
   | Some pair ↦ passing s ((not (is_reading_call c), EROFS) ∷ [])
-      (λ reply new need. calls s.inodes pair.1 c reply pair.1 need × (new ≡ s))
+      (λ reply new need. calls s.limits pair.1 c reply pair.1 need × (new ≡ s))
 ]
 
 -- what `statfs` tells where so many numbers are used
@@ -120,7 +121,7 @@ usage_of room s taken = record {
   blocks = room.blocks;
   free = room.free;
   reserved = reserved_of room;
-  inodes = s.inodes - ROOT_NUMBER;
+  inodes = s.limits.inodes - ROOT_NUMBER;
   taken = taken;
 }
 
@@ -132,19 +133,19 @@ tells_usage room s reply new need = (taken : ℕ) × Counts (IsUsed s.tree) take
 -- the reply, the new state and the need of a command, where nothing comes in its way; `df`, `statfs`
 -- and `extent` tell the room at the answer
 abbrev pub WouldStep : Room → State → Command → Step
-WouldStep room s (command.Path c) = on_tree s (calls s.inodes s.tree c)
-WouldStep room s (command.Open path flags mode below) = on_tree s (opens false below s.inodes s.tree path flags mode)
-WouldStep room s (command.OpenStat path flags mode below) = on_tree s (opens true below s.inodes s.tree path flags mode)
+WouldStep room s (command.Path c) = on_tree s (calls s.limits s.tree c)
+WouldStep room s (command.Open path flags mode below) = on_tree s (opens false below s.limits s.tree path flags mode)
+WouldStep room s (command.OpenStat path flags mode below) = on_tree s (opens true below s.limits s.tree path flags mode)
 WouldStep room s (command.Close fd) = on_tree s (closes s.tree fd)
 WouldStep room s (command.Read fd count) = on_tree s (reads s.tree fd count)
-WouldStep room s (command.Write fd given) = on_tree s (writes s.tree fd given)
+WouldStep room s (command.Write fd given) = on_tree s (writes s.limits s.tree fd given)
 WouldStep room s (command.Pread fd offset count) = on_tree s (reads_from s.tree fd offset count)
-WouldStep room s (command.Pwrite fd offset given) = on_tree s (writes_to s.tree fd offset given)
+WouldStep room s (command.Pwrite fd offset given) = on_tree s (writes_to s.limits s.tree fd offset given)
 WouldStep room s (command.Lseek fd whence offset) = on_tree s (seeks s.tree fd whence offset)
-WouldStep room s (command.Ftruncate fd size) = on_tree s (truncates_open s.tree fd size)
+WouldStep room s (command.Ftruncate fd size) = on_tree s (truncates_open s.limits s.tree fd size)
 WouldStep room s (command.Fstat fd) = on_tree s (stats_open s.tree fd)
 WouldStep room s (command.Fsync fd) = on_tree s (syncs_open s.tree fd)
-WouldStep room s (command.Extent path offset) = on_tree s (tells_extent s.tree room.stored path offset)
+WouldStep room s (command.Extent path offset) = on_tree s (tells_extent s.limits s.tree room.stored path offset)
 WouldStep room s command.Sync = says s Done
 WouldStep room s command.Df = says s (Space room.blocks room.free room.pledged)
 WouldStep room s command.Statfs = tells_usage room s

@@ -1,7 +1,9 @@
 -- The tree of a file system: what stands at each path, and what each file holds.
 use Rattle.std.specs.Prelude.{ℕ, ◌≡◌, ◌≢◌, ◌⊎◌, ◌↔◌, ◌≤◌, ◌<◌, ◌==◌, if◌then◌else◌, Bool, true, false, IsTrue, IsSome, List, [], ◌∷◌, ◌++◌, length, All, Option, Some, None, IfSome}
-use Rattle.model.specs.declared.limits.TheConstants.{ROOT_NUMBER, FIRST_NUMBER, MODE_BITS, GREATEST_FILE, GREATEST_OFFSET, OPEN_FILES, FILE_NAMES, DIRECTORY_NAMES}
+use Rattle.model.specs.declared.limits.TheConstants.{ROOT_NUMBER, FIRST_NUMBER, MODE_BITS, GREATEST_OFFSET, OPEN_FILES}
+use Rattle.model.specs.declared.limits.Limits.{Limits}
 use Rattle.model.specs.Counting.{CountsUpTo}
+use Rattle.model.specs.Limits.{AreLimits}
 use Rattle.model.specs.Paths.{Path, IsName, IsLinkText, path_eq}
 
 -- what can stand at a path, with its inode number
@@ -66,8 +68,9 @@ pub record IsPathOf (t : Tree) (n : ℕ) (p : Path) : Type 0 where
   pub stands : t.objects p ≡ Some (directory n)
   pub only : (q : Path) → t.objects q ≡ Some (directory n) → q ≡ p
 
--- what makes the four maps a tree of so many inodes
-pub record IsTree (inodes : ℕ) (t : Tree) : Type 0 where
+-- what makes the four maps a tree within limits
+pub record IsTree (limits : Limits) (t : Tree) : Type 0 where
+  pub can_be : AreLimits limits
   pub root : t.objects [] ≡ Some (directory ROOT_NUMBER)
   pub above : (p q : Path) → q ≢ [] → IsSome (t.objects (p ++ q)) → IsTrue (is_directory (t.objects p))
   pub names : (p : Path) → IsSome (t.objects p) → All IsName p
@@ -77,11 +80,11 @@ pub record IsTree (inodes : ℕ) (t : Tree) : Type 0 where
   pub mode : (n : ℕ) → IsSome (t.mode n) ↔ (StandsAtPath t directory n ⊎ StandsAtPath t file n ⊎ IsOpen t n)
   pub opened : (n : ℕ) (p : Path) (o : Object) → IsOpen t n → t.objects p ≡ Some o → number_of_object o ≡ n → o ≡ file n
   -- and the limits
-  pub numbers : (n : ℕ) → IsUsed t n → (n ≡ ROOT_NUMBER) ⊎ ((FIRST_NUMBER ≤ n) × (n < inodes))
-  pub texts : (p : Path) (n : ℕ) (text : List ℕ) → t.objects p ≡ Some (symlink n text) → IsLinkText text
-  pub children : (p : Path) → IsTrue (is_directory (t.objects p)) → CountsUpTo DIRECTORY_NAMES (λ name. IsSome (t.objects (p ++ name ∷ [])))
-  pub links : (n : ℕ) → CountsUpTo FILE_NAMES (λ p. t.objects p ≡ Some (file n))
-  pub sizes : (n : ℕ) → IfSome (t.bytes n) (λ bytes. length bytes ≤ GREATEST_FILE)
+  pub numbers : (n : ℕ) → IsUsed t n → (n ≡ ROOT_NUMBER) ⊎ ((FIRST_NUMBER ≤ n) × (n < limits.inodes))
+  pub texts : (p : Path) (n : ℕ) (text : List ℕ) → t.objects p ≡ Some (symlink n text) → IsLinkText limits.path_bytes text
+  pub children : (p : Path) → IsTrue (is_directory (t.objects p)) → CountsUpTo limits.directory_names (λ name. IsSome (t.objects (p ++ name ∷ [])))
+  pub links : (n : ℕ) → CountsUpTo limits.file_names (λ p. t.objects p ≡ Some (file n))
+  pub sizes : (n : ℕ) → IfSome (t.bytes n) (λ bytes. length bytes ≤ limits.file_bytes)
   pub bits : (n : ℕ) → IfSome (t.mode n) (λ mode. mode ≤ MODE_BITS)
   pub table : (d : ℕ) → OPEN_FILES ≤ d → t.descriptors d ≡ None
   pub offsets : (d : ℕ) (f : Description) → t.descriptors d ≡ Some f → f.offset ≤ GREATEST_OFFSET

@@ -1,9 +1,11 @@
 -- The tree as numbered objects: what the file system has, and the tree that it stands for.
 use Rattle.std.specs.Prelude.{ℕ, zero, suc, ◌||◌, ◌≡◌, ◌≢◌, ◌⊎◌, ◌+◌, ◌-◌, ◌≤◌, ◌<◌, ◌==◌, ◌&&◌, if◌then◌else◌, IsSome, IfSome, Bool, true, false, IsTrue, IsFalse, List, length, fold, bytes_eq, not, Option, Some, None, is_some}
-use Rattle.model.specs.declared.limits.TheConstants.{ROOT_NUMBER, FIRST_NUMBER, FILE_NAMES, DIRECTORY_NAMES, GREATEST_FILE, GREATEST_OFFSET, OPEN_FILES}
+use Rattle.model.specs.declared.limits.TheConstants.{ROOT_NUMBER, FIRST_NUMBER, GREATEST_OFFSET, OPEN_FILES}
 use Rattle.model.specs.declared.attributes.Attributes.{Attributes}
+use Rattle.model.specs.declared.limits.Limits.{Limits}
 use Rattle.model.specs.Attributes.{AreAttributes}
 use Rattle.model.specs.Counting.{Counts, CountsUpTo}
+use Rattle.model.specs.Limits.{AreLimits}
 use Rattle.model.specs.Paths.{Name, Path, IsName, IsLinkText}
 use Rattle.model.specs.Trees.{Tree, Object, directory, symlink, file, Description}
 
@@ -126,22 +128,23 @@ pub record IsGraph (v : Volume) : Type 0 where
   pub counts : CountsNames v
 
 -- the limits that one object keeps
-abbrev pub IsNode : Node → Type 0
-IsNode (directory_node attributes names) = AreAttributes attributes
-IsNode (file_node attributes links bytes) = AreAttributes attributes × (links ≤ FILE_NAMES) × (length bytes ≤ GREATEST_FILE)
-IsNode (link_node attributes text) = IsLinkText text
+abbrev pub IsNode : Limits → Node → Type 0
+IsNode limits (directory_node attributes names) = AreAttributes attributes
+IsNode limits (file_node attributes links bytes) = AreAttributes attributes × (links ≤ limits.file_names) × (length bytes ≤ limits.file_bytes)
+IsNode limits (link_node attributes text) = IsLinkText limits.path_bytes text
 
--- the limits that all objects keep, with so many inodes
-pub record KeepsNodeLimits (inodes : ℕ) (v : Volume) : Type 0 where
-  pub nodes : (n : ℕ) → IfSome (v n) IsNode
-  pub numbers : (n : ℕ) → IsSome (v n) → (n ≡ ROOT_NUMBER) ⊎ ((FIRST_NUMBER ≤ n) × (n < inodes))
-  pub children : (d : ℕ) → CountsUpTo DIRECTORY_NAMES (λ x. IsSome (entries v d x))
+-- the limits that all objects keep
+pub record KeepsNodeLimits (limits : Limits) (v : Volume) : Type 0 where
+  pub nodes : (n : ℕ) → IfSome (v n) (IsNode limits)
+  pub numbers : (n : ℕ) → IsSome (v n) → (n ≡ ROOT_NUMBER) ⊎ ((FIRST_NUMBER ≤ n) × (n < limits.inodes))
+  pub children : (d : ℕ) → CountsUpTo limits.directory_names (λ x. IsSome (entries v d x))
 
--- what makes numbered objects a volume of so many inodes; images that open to no state may name
+-- what makes numbered objects a volume within limits; images that open to no state may name
 -- none, so where this is needed, it is a premise
-pub record IsVolume (inodes : ℕ) (v : Volume) : Type 0 where
+pub record IsVolume (limits : Limits) (v : Volume) : Type 0 where
+  pub can_be : AreLimits limits
   pub graph : IsGraph v
-  pub limits : KeepsNodeLimits inodes v
+  pub keeps : KeepsNodeLimits limits v
 
 -- an object with one name fewer: a file stays, another object is gone with its name
 abbrev pub with_name_less : Option Node → Option Node

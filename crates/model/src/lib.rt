@@ -17,10 +17,7 @@ mod text;
 pub use attributes::Attributes;
 pub use command::{Access, Command, Flags, PathCall, Settings, Whence};
 pub use cookies::cookie_of;
-pub use costs::{
-    FILE_COST, GREAT_FILE_COST, HEADROOM_BLOCKS, MODE_COST, NAMES_COST, ORPHAN_COST, POINT_COST,
-    fixed_cost,
-};
+pub use costs::Costs;
 pub use entries::{Entries, Entry};
 pub use errno::Errno;
 pub use laws::{
@@ -34,9 +31,9 @@ pub use laws::{
     volumes_tell_used_numbers,
 };
 pub use limits::{
-    DIRECTORY_NAMES, ENTRIES_TOLD, FILE_NAMES, FIRST_NUMBER, GREATEST_FILE, GREATEST_GENERATION,
-    GREATEST_OFFSET, LINK_MODE, LINKS_FOLLOWED, MODE_BITS, NAME_BYTES, OPEN_FILES, PATH_BYTES,
-    ROOT_NUMBER, SESSION_FILES, SINGLE_FILE, SNAPSHOT_NAME_BYTES, SNAPSHOTS, TRANSFER_BYTES,
+    ENTRIES_TOLD, FIRST_NUMBER, GREATEST_GENERATION, GREATEST_OFFSET, LINK_MODE, LINKS_FOLLOWED,
+    Limits, MODE_BITS, NAME_BYTES, OPEN_FILES, ROOT_NUMBER, SESSION_FILES, SNAPSHOT_NAME_BYTES,
+    TRANSFER_BYTES,
 };
 pub use mode::Mode;
 pub use reply::{Extent, FileType, Reply, Stat, Usage};

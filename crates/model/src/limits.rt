@@ -1,4 +1,30 @@
-//! The limits of the file system, and the numbers that are its own.
+//! The limits of a file system, and the numbers that each has.
+
+use crate::Costs;
+
+/// What a file system may hold. Its images' version and sizes decide it when they are made, and no
+/// command changes it.
+#[derive(Clone, Copy, Debug, PartialEq, Eq)]
+pub struct Limits {
+    /// Inode numbers are below this.
+    pub inodes: u32,
+    /// Greatest length of a file in bytes.
+    pub file_bytes: u64,
+    /// Greatest number of names of one file.
+    pub file_names: u32,
+    /// Greatest number of names in one directory.
+    pub directory_names: u32,
+    /// Greatest length in bytes of a path, and of a symbolic link's text, which is one.
+    pub path_bytes: u32,
+    /// Greatest number of snapshots.
+    pub snapshots: u32,
+    /// The fewest blocks of its disk.
+    pub least_blocks: u32,
+    /// Whether objects have owners, times and a generation beside their mode.
+    pub has_attributes: bool,
+    /// What its records cost.
+    pub costs: Costs,
+}
 
 /// The root directory's inode number.
 pub const ROOT_NUMBER: u32 = 3;
@@ -9,17 +35,8 @@ pub const FIRST_NUMBER: u32 = 4;
 /// Greatest length of a name in bytes.
 pub const NAME_BYTES: usize = 255;
 
-/// Greatest length in bytes of a path, and of a symbolic link's text, which is one.
-pub const PATH_BYTES: usize = 1023;
-
 /// So many symbolic links are followed in one resolution, and no more.
 pub const LINKS_FOLLOWED: u32 = 8;
-
-/// Greatest number of names of one file.
-pub const FILE_NAMES: u32 = 1000;
-
-/// Greatest number of names in one directory.
-pub const DIRECTORY_NAMES: usize = 65_536;
 
 /// Greatest number of names that `entries` is asked for at once.
 pub const ENTRIES_TOLD: u32 = 1024;
@@ -34,21 +51,11 @@ pub const SESSION_FILES: u32 = 32;
 /// writes.
 pub const TRANSFER_BYTES: usize = 65_536;
 
-/// Greatest length in bytes of a file that two heights of pointers lead to. Room counts a third one
-/// for a write past it.
-pub const SINGLE_FILE: u64 = 67_108_864;
-
-/// Greatest length of a file in bytes.
-pub const GREATEST_FILE: u64 = 68_719_476_736;
-
 /// Greatest offset of an open file.
 pub const GREATEST_OFFSET: u64 = 9_223_372_036_854_775_807;
 
 /// Greatest generation of a number: it stays there.
 pub const GREATEST_GENERATION: u32 = 4_294_967_295;
-
-/// Greatest number of snapshots.
-pub const SNAPSHOTS: usize = 30;
 
 /// Greatest length of a snapshot's name in bytes.
 pub const SNAPSHOT_NAME_BYTES: usize = 63;

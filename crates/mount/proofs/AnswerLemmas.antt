@@ -1,14 +1,15 @@
 -- What a file system promises of a command, by the way that it is answered.
-use Rattle.std.proofs.Common.{◌≡◌, ◌≢◌, ◌⊎◌, inl, inr, ℕ, ◌+◌, ◌≤◌, ◌^◌, Bool, false, Result, Ok, Err, refl, ap, sym, subst, ◌∙◌, arith}
+use Rattle.std.proofs.Common.{◌≡◌, ◌≢◌, ◌⊎◌, inl, inr, ℕ, ◌+◌, ◌<◌, ◌≤◌, ◌^◌, Bool, false, Result, Ok, Err, refl, ap, sym, subst, ◌∙◌, arith}
 use Rattle.std.specs.Prelude.{IsErrOf, IsFalse, IsTrue}
 use Rattle.std.proofs.lemmas.Bool.{cases_lt, false≢true}
 use Rattle.station.specs.Moments.{EachCut, Meaning}
 use Rattle.station.specs.declared.station.Station.{Ghosts}
 use Rattle.station.proofs.Calls.{uses_none, uses_twice}
 use Rattle.station.proofs.Moments.{same_none, unchanged_none}
+use Rattle.model.specs.declared.costs.Costs.{Costs}
 use Rattle.model.specs.Circumstances.{IsShortFor, IsSure}
 use Rattle.model.specs.Replies.{IsReplyTo}
-use Rattle.model.specs.Room.{Room, cost, fixed_of, headroom, logs}
+use Rattle.model.specs.Room.{Room, cost, headroom, logs}
 use Rattle.model.specs.States.{State}
 use Rattle.model.specs.declared.command.Command.{Command}
 use Rattle.model.specs.declared.errno.Errno.{Errno}
@@ -20,6 +21,7 @@ use Rattle.system.specs.Images.{OpensTo}
 use Rattle.system.specs.Serving.{HasEmptyLog, ServesState}
 use Rattle.dispatch.specs.Serving.{IsCall, LacksRoom}
 use Rattle.system.specs.CheckpointCommands.{IsRoomOf}
+use Rattle.system.specs.Room.{costs_on}
 use Rattle.dispatch.specs.Fulfilling.{Fulfils}
 use Rattle.system.specs.Systems as systems
 use Rattle.system.specs.declared.error.CallError.{CallError}
@@ -155,10 +157,11 @@ short_by f s command lacks room is = (
   lacks.step room,
   (
     is.covered,
-    elim (cases_lt f.free (f.pledged + cost lacks.work + fixed_of f.root.geometry.blocks + headroom lacks.work)) [
-      | inl few ↦ omega (arith, few, is.free, is.pledged, ap fixed_of is.blocks)
-      | inr enough ↦ absurd (lacks.short enough)
-    ],
+    let costs = costs_on f in
+        elim (cases_lt f.free (f.pledged + cost costs lacks.work + costs.point + headroom costs lacks.work)) [
+          | inl few ↦ subst (λ (c : Costs). room.free < room.pledged + cost c lacks.work + c.point + headroom c lacks.work) (sym is.costs) (omega (arith, few, is.free, is.pledged))
+          | inr enough ↦ absurd (lacks.short enough)
+        ],
   ),
 )
 

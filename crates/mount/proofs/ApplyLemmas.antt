@@ -2,10 +2,12 @@
 use Rattle.std.proofs.Common.{◌≡◌, ◌≤◌, arith, ◌⊎◌, inl, inr, ℕ, Bool, true, false, List, refl, sym, subst, ◌∙◌}
 use Rattle.std.specs.Prelude.{IsTrue, IsFalse, MatchBool, ◌↔◌}
 use Rattle.std.proofs.lemmas.Bool.{false≢true}
+use Rattle.layout.specs.StateLimits.{costs_of}
 use Rattle.station.specs.Images.{Images}
 use Rattle.station.specs.Moments.{Meaning, EachCut, IsSameStation, LeavesOnly, MayGrow}
 use Rattle.station.proofs.Moments.{grown_later, weaker}
 use Rattle.station.specs.declared.station.Station.{Ghosts}
+use Rattle.model.specs.declared.limits.Limits.{Limits}
 use Rattle.model.specs.Paths.{Name}
 use Rattle.model.specs.Trees.{Tree}
 use Rattle.model.specs.declared.errno.Errno.TheVariants.{EIO, FAILED}
@@ -56,9 +58,9 @@ still_answered c s command reply t =
 
 -- ---- what a command may give, by the mark of the state before it
 
-module _ (command : Command) (inodes : ℕ) (tree : Tree) (snapshots : List (Name × Tree)) where
+module _ (command : Command) (limits : Limits) (tree : Tree) (snapshots : List (Name × Tree)) where
   abbrev marked : Mark → State
-  marked mark = record { inodes = inodes; tree = tree; snapshots = snapshots; mark = mark }
+  marked mark = record { limits = limits; tree = tree; snapshots = snapshots; mark = mark }
 
   refused_failed : (c : Circumstances) (mark : Mark) → mark ≡ failed → Allowed c (marked mark) command (Refused FAILED) (marked mark)
   refused_failed c failed is = (refl, refl)
@@ -78,17 +80,17 @@ module _ (command : Command) (inodes : ℕ) (tree : Tree) (snapshots : List (Nam
   surely_going c failed reply t is sure no_write done = cc
 
 pub allowed_surely : (s : State) (command : Command) (c : Circumstances) (reply : Reply) (t : State) → s.mark ≡ going → IsSure s command → IsFalse c.write_failed → IsDone c s command reply t → Allowed c s command reply t
-allowed_surely s command c reply t is = surely_going command s.inodes s.tree s.snapshots c s.mark reply t is
+allowed_surely s command c reply t is = surely_going command s.limits s.tree s.snapshots c s.mark reply t is
 
 pub allowed_by : (s : State) (command : Command) (c : Circumstances) (reply : Reply) (t : State) → s.mark ≡ going → ¬ IsSure s command → IsAnswered c s command reply t → Allowed c s command reply t
-allowed_by s command c reply t is = answered_going command s.inodes s.tree s.snapshots c s.mark reply t is
+allowed_by s command c reply t is = answered_going command s.limits s.tree s.snapshots c s.mark reply t is
 
 -- so it stands behind reads of which some may have failed
 pub after_reads : (a b n : ℕ) (s : State) (command : Command) (c : Circumstances) (reply : Reply) (t : State) → MayGrow a b → MayGrow b n → TellsOfFault c.read_failed b n → Allowed c s command reply t
     → (read : Bool) × TellsOfFault read a n × Allowed (record c { read_failed = read }) s command reply t
 after_reads a b n s command c reply t (inl same) later told allowed = (c.read_failed, subst (λ (k : ℕ). TellsOfFault c.read_failed k n) same told, allowed)
 after_reads a b n s command c reply t (inr grown) later told allowed =
-    (true, grown_later a b n grown later, unread_going command s.inodes s.tree s.snapshots c s.mark reply t allowed)
+    (true, grown_later a b n grown later, unread_going command s.limits s.tree s.snapshots c s.mark reply t allowed)
 
 -- the state at the answer
 module _ (s : State) (command : Command) (new t : State) where
@@ -109,7 +111,7 @@ module _ (s : State) (command : Command) (new t : State) where
 
 -- no room is reckoned
 abbrev pub no_room : Room
-no_room = record { blocks = 0; free = 0; pledged = 0; is_covered = false; orphans_of = λ name. 0; stored = λ n k. true }
+no_room = record { costs = costs_of 0; blocks = 0; free = 0; pledged = 0; is_covered = false; orphans_of = λ name. 0; stored = λ n k. true }
 
 -- what came in the way of a command, but for the history of the station
 pub record Came {S : Type 0} {G : Ghosts S} (old : Mounted S G) (command : Command) (new : Mounted S G) (c : Circumstances) : Type 0 where
@@ -206,7 +208,7 @@ module _ {S : Type 0} {G : Ghosts S} where
         leads = record {
           circumstances = quiet;
           between = record { goes_on = on_none m; reads = refl; writes = refl; room = λ still. not_both s.mark still is };
-          allowed = refused_failed command s.inodes s.tree s.snapshots quiet s.mark is;
+          allowed = refused_failed command s.limits s.tree s.snapshots quiet s.mark is;
         };
         any_moment = (leaves_failed m.left_at opens s m.moment m.moment (MayStand s command s) is).1 still;
         at_answer = (leaves_failed m.left_at opens s m.moment m.moment (MayRemain s command s) is).1 still;

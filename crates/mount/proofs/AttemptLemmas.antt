@@ -2,6 +2,8 @@
 use Rattle.std.proofs.Common.{◌≡◌, ◌≢◌, ◌⊎◌, ◌≤◌, ◌^◌, inl, inr, ℕ, Bool, true, false, refl, sym, ap, subst, ◌∙◌, arith}
 use Rattle.std.specs.Prelude.{IsTrue, IsFalse, Option, None}
 use Rattle.std.proofs.lemmas.Bool.{false≢true}
+use Rattle.layout.specs.Limits.{Sizes}
+use Rattle.layout.specs.StateLimits.{limits_of}
 use Rattle.conspoint.specs.declared.error.PlanError.TheVariants as plan
 use Rattle.station.specs.Images.{Unchanged}
 use Rattle.station.specs.Moments.{Meaning, EachCut, HasGrown, MayGrow, IsSameStation, Goes, LeavesOnly}
@@ -41,6 +43,7 @@ use Rattle.system.specs.declared.error.PointError.{PointError}
 use Rattle.system.specs.declared.error.PointError.TheVariants as point
 use Rattle.system.proofs.CoveredLaws.{all_covered}
 use Rattle.system.proofs.RoomLaws.{free_is}
+use Rattle.system.proofs.SystemLaws.{sizes}
 use Rattle.mount.specs.Applying.{IsAppliedAt, Stays, TellsOfFault, HasRoomAtPoint}
 use Rattle.mount.specs.Refusals.{errno_of_call, errno_of_point, fails_call, fails_point}
 use Rattle.mount.specs.Systems.{OpensToSome, mounted, HasPoints, Serves}
@@ -58,9 +61,10 @@ came read write memory room =
 -- the room of a system at a state that it serves
 abbrev pub room_at : {S : Type 0} {G : Ghosts S} (f : System S G) (s : State) → ServesState f s → Bool → Room
 room_at f s serves covered = record {
+  costs = (limits_of serves.settled.root.geometry).costs;
   blocks = f.root.geometry.blocks;
   free = free_under (whole (blocks_of serves.settled.disk) serves.settled.root).active serves.settled.root.geometry.blocks;
-  pledged = pledged_for serves.settled.root.geometry.inodes serves.settled.volume serves.lasts.replayed.changes;
+  pledged = pledged_for (limits_of serves.settled.root.geometry) serves.settled.volume serves.lasts.replayed.changes;
   is_covered = covered;
   orphans_of = orphans_of f s serves;
   stored = stored_of f;
@@ -68,7 +72,7 @@ room_at f s serves covered = record {
 
 pub has_room : {S : Type 0} {G : Ghosts S} (f : System S G) (s : State) (serves : ServesState f s) (covered : Bool)
     → (IsTrue covered → records.CoversAll serves.settled.volume serves.running serves.lasts.replayed.changes) → HasRoomAtPoint f s (room_at f s serves covered)
-has_room f s serves covered all = record { serves = serves; blocks = refl; free = refl; told = record { pledged = refl; covered = all }; orphans = orphans_told f s serves; stored = stored_tells f; settled = settled_tells f; holes = holes_read f s serves }
+has_room f s serves covered all = record { serves = serves; blocks = refl; free = refl; told = record { costs = refl; pledged = refl; covered = all }; orphans = orphans_told f s serves; stored = stored_tells f; settled = settled_tells f; holes = holes_read f s serves }
 
 -- a refusal isn't what is answered to what is done
 not_done : {X : Type 0} (errno : Errno) → Refused errno ≡ Done → X
@@ -215,6 +219,7 @@ module _ {S : Type 0} {G : Ghosts S} (old new : Fs S G) (s : State) where
               (inr (
                 is_short room (record {
                   covered = refl;
+                  costs = ap (λ (g : Sizes). (limits_of g).costs) (sizes covered.serves);
                   free = sym (free_is new.system s.tree.descriptors s covered.serves);
                   blocks = refl;
                   pledged = sym covered.serves.lasts.pledges;

@@ -1,5 +1,6 @@
 -- What applying commands comes to.
 use Rattle.std.specs.Prelude.{[], ◌∷◌, ◌++◌, ℕ, ◌/◌, slice_index, ◌≡◌, ◌≢◌, ◌⊎◌, ◌↔◌, ◌≤◌, List, map, Bool, true, false, IsFalse, IsTrue, None, Result, Ok, Err, IfErr, IfOk, IsErrOf, MatchResult, OnOk}
+use Rattle.layout.specs.StateLimits.{limits_of}
 use Rattle.station.specs.Calls.{Uses}
 use Rattle.station.specs.Images.{Images}
 use Rattle.station.specs.Moments.{Meaning, LeftBetween, HasGrown, IsSameStation, LeavesOnly}
@@ -70,7 +71,7 @@ pub record HasRoomAtPoint {S : Type 0} {G : Ghosts S} (f : System S G) (s : Stat
   pub free :
       let root = serves.settled.root in
       room.free ≡ free_under (whole (blocks_of serves.settled.disk) root).active root.geometry.blocks
-  pub told : TellsRoom serves.settled.root.geometry.inodes serves.settled.volume serves.running serves.lasts.replayed.changes room
+  pub told : TellsRoom (limits_of serves.settled.root.geometry) serves.settled.volume serves.running serves.lasts.replayed.changes room
   pub orphans : (k : ℕ) (head : Snapshot) (v : Volume)
       → let disk = blocks_of (systems.disk_of f) in
       HasSnapshot f.root (whole disk f.root) k head

@@ -2,6 +2,7 @@
 
 ghost use Rattle.std.specs.Prelude.{◌≡◌, IfOk, IfErr, MatchResult};
 ghost use Rattle.station.specs.Moments.{IsSameStation, HasGrown, EachCut};
+ghost use Rattle.layout.specs.StateLimits.{limits_of};
 ghost use Rattle.model.specs.States.{empty};
 ghost use Rattle.making.specs.Images.{HoldsMade, Suits, new_sizes};
 ghost use Rattle.system.specs.Images.{OpensTo};
@@ -34,8 +35,8 @@ pub fn make<S: Station>(
         (λ e. IsSameStation (S.meaning station) (S.meaning e.1)) }
     ensures made { IfOk result (λ made. EachCut
         (S.meaning made) (HoldsMade (new_sizes blocks inodes half))) }
-    ensures opens { IfOk result (λ made. EachCut (S.meaning made) (OpensTo
-        (S.meaning made) (empty inodes))) }
+    ensures opens { let limits = limits_of (new_sizes blocks inodes half) in IfOk result
+        (λ made. EachCut (S.meaning made) (OpensTo (S.meaning made) (empty limits))) }
 {
     making::make(alloc, station, blocks, inodes, half)
 }

@@ -8,6 +8,7 @@ mod batches;
 mod committing;
 mod fs;
 mod image;
+mod limits;
 mod mounting;
 mod numbers;
 mod open_files;

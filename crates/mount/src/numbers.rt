@@ -21,7 +21,7 @@ impl<S: Station> Fs<S> {
     /// How many inodes the image has, with no device call: each number of an object is below.
     pub fn count_inodes(&self) -> u32
         ensures { (s : State) → Serves (mounted self.now s) → s.mark ≡ going
-            → result ≡ s.inodes }
+            → result ≡ s.limits.inodes }
     {
         self.system.count_inodes()
     }
@@ -41,7 +41,7 @@ impl<S: Station> Fs<S> {
     pub fn next_number(&self) -> Option<u32>
         ensures low { IfSome result (λ n. FIRST_NUMBER ≤ n) }
         ensures fresh { (s : State) → Serves (mounted self.now s) → s.mark ≡ going
-            → MatchOption result (HasNoFresh s.inodes s.tree) (IsFresh s.inodes s.tree) }
+            → MatchOption result (HasNoFresh s.limits s.tree) (IsFresh s.limits s.tree) }
     {
         self.system.next_number()
     }
@@ -60,7 +60,7 @@ impl<S: Station> Waiting<S> {
 
     /// How many inodes the image has, with no device call: each number of an object is below.
     pub fn count_inodes(&self) -> u32
-        ensures { (s kept : State) → Shows self.now s kept → result ≡ s.inodes }
+        ensures { (s kept : State) → Shows self.now s kept → result ≡ s.limits.inodes }
     {
         self.fs.system.count_inodes()
     }
@@ -79,7 +79,7 @@ impl<S: Station> Waiting<S> {
     pub fn next_number(&self) -> Option<u32>
         ensures low { IfSome result (λ n. FIRST_NUMBER ≤ n) }
         ensures fresh { (s kept : State) → Shows self.now s kept
-            → MatchOption result (HasNoFresh s.inodes s.tree) (IsFresh s.inodes s.tree) }
+            → MatchOption result (HasNoFresh s.limits s.tree) (IsFresh s.limits s.tree) }
     {
         self.fs.system.next_number()
     }

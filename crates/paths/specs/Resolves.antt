@@ -1,6 +1,7 @@
 -- What looking up where the parts of a path lead promises.
 use Rattle.std.specs.Prelude.{ℕ, ◌≡◌, ◌&&◌, List, [], Bool, true, false, IsFalse, Option, None, Result, IfOk}
 use Rattle.std.specs.List.{list_any}
+use Rattle.layout.specs.StateLimits.{limits_of}
 use Rattle.layout.specs.declared.inode.Inode.{Inode}
 use Rattle.model.specs.Finding.{IsPlaceAt, IsPlaceOf, find_within}
 use Rattle.model.specs.Paths.{Name, is_dot_dot, is_empty, is_number_alone, parts, parts_behind, start_number, starts_at_number}
@@ -29,9 +30,9 @@ pub record ResolvesParts {B : Type 0} (G : Ghosts B) (blocks after : B) (s t : I
   pub within : IfOk result (IsPlaceWithin s.geometry.inodes)
   pub place : OnVolumes G blocks s (λ disk settled v. IfOk result (λ p. model_place_of p ≡ find_within LINKS_FOLLOWED v follow [] path))
   pub found : (disk : ℕ → List ℕ) (settled : ℕ → Inode) (v : Volume) (table : ℕ → Option Description) (text : List ℕ)
-      → Stands G disk settled v blocks s → IsVolume s.geometry.inodes v → path ≡ parts text
+      → Stands G disk settled v blocks s → IsVolume (limits_of s.geometry) v → path ≡ parts text
       → IfOk result (λ p. IsPlaceOf v (model_place_of p) (resolve (tree_of v table) follow text))
-  pub ends : OnVolumes G blocks s (λ disk settled v. IsVolume s.geometry.inodes v → IfOk result (λ p. EndsWell v follow (model_place_of p)))
+  pub ends : OnVolumes G blocks s (λ disk settled v. IsVolume (limits_of s.geometry) v → IfOk result (λ p. EndsWell v follow (model_place_of p)))
   pub named : OnVolumes G blocks s (λ disk settled v. IsFalse follow → EndsInName path → IfOk result (λ p. IsAtName (model_place_of p)))
   pub damaged : NeverDamaged G blocks s result
 
@@ -41,9 +42,9 @@ pub record ResolvesFrom {B : Type 0} (G : Ghosts B) (blocks after : B) (s t : In
   pub loads : OnlyLoads s t
   pub within : IfOk result (IsTargetWithin s.geometry.inodes)
   pub found : (disk : ℕ → List ℕ) (settled : ℕ → Inode) (v : Volume) (table : ℕ → Option Description)
-      → Stands G disk settled v blocks s → IsVolume s.geometry.inodes v → IsFalse (list_any is_dot_dot names)
+      → Stands G disk settled v blocks s → IsVolume (limits_of s.geometry) v → IsFalse (list_any is_dot_dot names)
       → IfOk result (TellsFrom (tree_of v table) v follow names n)
-  pub ends : OnVolumes G blocks s (λ disk settled v. IsVolume s.geometry.inodes v → IfOk result (TargetEndsWell v follow))
+  pub ends : OnVolumes G blocks s (λ disk settled v. IsVolume (limits_of s.geometry) v → IfOk result (TargetEndsWell v follow))
   pub named : OnVolumes G blocks s (λ disk settled v. IsFalse follow → EndsInName names → IfOk result IsTargetAtName)
   pub tells : OnVolumes G blocks s (λ disk settled v. IfOk result (TargetTellsName v))
   pub alone : IfOk result (λ x. (k : ℕ) → x ≡ target.Object k → is_empty names ≡ true)
@@ -65,12 +66,12 @@ pub record Resolves {B : Type 0} (G : Ghosts B) (blocks after : B) (s t : InodeF
   pub loads : OnlyLoads s t
   pub within : IfOk result (IsTargetWithin s.geometry.inodes)
   pub found : (disk : ℕ → List ℕ) (settled : ℕ → Inode) (v : Volume) (table : ℕ → Option Description)
-      → Stands G disk settled v blocks s → IsVolume s.geometry.inodes v → LeadsUpNowhere text
+      → Stands G disk settled v blocks s → IsVolume (limits_of s.geometry) v → LeadsUpNowhere text
       → IfOk result (TellsTarget (tree_of v table) v follow text)
   pub rooted : (disk : ℕ → List ℕ) (settled : ℕ → Inode) (v : Volume) (table : ℕ → Option Description)
-      → Stands G disk settled v blocks s → IsVolume s.geometry.inodes v → start_number text ≡ None
+      → Stands G disk settled v blocks s → IsVolume (limits_of s.geometry) v → start_number text ≡ None
       → IfOk result (IsRooted v (resolve (tree_of v table) follow text))
-  pub ends : OnVolumes G blocks s (λ disk settled v. IsVolume s.geometry.inodes v → IfOk result (TargetEndsWell v follow))
+  pub ends : OnVolumes G blocks s (λ disk settled v. IsVolume (limits_of s.geometry) v → IfOk result (TargetEndsWell v follow))
   pub named : OnVolumes G blocks s (λ disk settled v. IsFalse follow → EndsInName (parts_behind text) → IfOk result IsTargetAtName)
   pub tells : OnVolumes G blocks s (λ disk settled v. IfOk result (TargetTellsName v))
   pub alone : IfOk result (λ x. (k : ℕ) → x ≡ target.Object k → is_number_alone text ≡ true)
@@ -82,12 +83,12 @@ pub record ResolvesPlace {B : Type 0} (G : Ghosts B) (blocks after : B) (s t : I
   pub loads : OnlyLoads s t
   pub within : IfOk result (IsPlaceWithin s.geometry.inodes)
   pub found : (disk : ℕ → List ℕ) (settled : ℕ → Inode) (v : Volume) (table : ℕ → Option Description)
-      → Stands G disk settled v blocks s → IsVolume s.geometry.inodes v → LeadsUpNowhere text
+      → Stands G disk settled v blocks s → IsVolume (limits_of s.geometry) v → LeadsUpNowhere text
       → IfOk result (λ p. (r : Resolution) × Reaches (tree_of v table) follow text r × IsPlaceAt v (model_place_of p) r)
   pub rooted : (disk : ℕ → List ℕ) (settled : ℕ → Inode) (v : Volume) (table : ℕ → Option Description)
-      → Stands G disk settled v blocks s → IsVolume s.geometry.inodes v → start_number text ≡ None
+      → Stands G disk settled v blocks s → IsVolume (limits_of s.geometry) v → start_number text ≡ None
       → IfOk result (λ p. IsPlaceOf v (model_place_of p) (resolve (tree_of v table) follow text))
-  pub ends : OnVolumes G blocks s (λ disk settled v. IsVolume s.geometry.inodes v → IfOk result (λ p. EndsWell v follow (model_place_of p)))
+  pub ends : OnVolumes G blocks s (λ disk settled v. IsVolume (limits_of s.geometry) v → IfOk result (λ p. EndsWell v follow (model_place_of p)))
   pub named : OnVolumes G blocks s (λ disk settled v. IsFalse follow → EndsInName (parts_behind text) → IfOk result (λ p. IsAtName (model_place_of p)))
   pub tells : OnVolumes G blocks s (λ disk settled v. IfOk result (λ p. TellsName v (model_place_of p)))
   pub damaged : NeverDamaged G blocks s result

@@ -5,7 +5,7 @@ ghost use Rattle.std.specs.List.{list_any};
 ghost use Rattle.paths.specs.Places.{last_of};
 ghost use Rattle.model.specs.Paths.{parts as parts_of, is_empty, is_dot, is_dot_dot, is_too_long, first_refusal, is_digit, is_number_alone, is_numeral, last_part, number_named, start_number, text_tests, new_text_tests, starts_with_slash as slashes};
 
-use model::{Errno, NAME_BYTES, PATH_BYTES};
+use model::{Errno, Limits, NAME_BYTES};
 use std::alloc::{AllocError, Global};
 use std::collections::VecDeque;
 use std::marker::Model;
@@ -186,15 +186,15 @@ fn has_zero(text: &[u8]) -> bool
 }
 
 /// Why the text of a path, which has these parts, is refused.
-pub fn refusal_of_text(text: &[u8], parts: &Parts) -> Option<Errno>
+pub fn refusal_of_text(limits: Limits, text: &[u8], parts: &Parts) -> Option<Errno>
     requires { parts.now ≡ parts_of text.now }
-    ensures { result ≡ first_refusal (text_tests text.now) }
+    ensures { result ≡ first_refusal (text_tests limits text.now) }
 {
     if text.is_empty() {
         Some(Errno::ENOENT)
     } else if has_zero(text) {
         Some(Errno::EINVAL)
-    } else if text.len() > PATH_BYTES {
+    } else if text.len() > limits.path_bytes as usize {
         Some(Errno::ENAMETOOLONG)
     } else if text[0] != b'/' && parts.start(text).is_none() {
         Some(Errno::EINVAL)
@@ -210,11 +210,11 @@ pub fn refusal_of_text(text: &[u8], parts: &Parts) -> Option<Errno>
 }
 
 /// The same, where the text is of something to be made or taken away.
-pub fn refusal_of_new_text(text: &[u8], parts: &Parts) -> Option<Errno>
+pub fn refusal_of_new_text(limits: Limits, text: &[u8], parts: &Parts) -> Option<Errno>
     requires { parts.now ≡ parts_of text.now }
-    ensures { result ≡ first_refusal (new_text_tests text.now) }
+    ensures { result ≡ first_refusal (new_text_tests limits text.now) }
 {
-    match refusal_of_text(text, parts) {
+    match refusal_of_text(limits, text, parts) {
         Some(errno) => Some(errno),
         None => parts.is_nameless(text).then_some(Errno::EINVAL),
     }

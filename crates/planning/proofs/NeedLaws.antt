@@ -6,12 +6,13 @@ use Rattle.std.specs.Ordering.{nat_cmp}
 use Rattle.std.specs.BTreeMap as tree
 use Rattle.std.proofs.lemmas.Bool.{cases_eq}
 use Rattle.std.proofs.lemmas.Bool.Decides.{nat_tests}
+use Rattle.model.specs.declared.limits.Limits.{Limits}
 use Rattle.layout.specs.declared.TheConstants.{BLOCK_POINTERS, BODY_POINTERS}
 use Rattle.layout.specs.Trees.{greatest_size, level_of, single_bytes}
 use Rattle.layout.specs.declared.root.Root.{Root}
 use Rattle.layout.proofs.SizeLaws.{level_low}
 use Rattle.model.specs.Records.{count_orphans}
-use Rattle.model.specs.Room.{fixed_of}
+use Rattle.layout.specs.StateLimits.{fixed_of, limits_of}
 use Rattle.model.specs.Volumes.{KeepsNodeLimits, Node, Volume}
 use Rattle.blocktree.specs.Names.{nodes_at}
 use Rattle.blocktree.specs.Places.{block_count}
@@ -178,8 +179,8 @@ top_needs s size small =
 
 -- ---- a point
 
-empty_past : (inodes : ℕ) (v : Volume) (n : ℕ) → KeepsNodeLimits inodes v → 3 < inodes → inodes ≤ n → IsSome (v n) → ⊥
-empty_past inodes v n limits least past some = elim (limits.numbers n some) [
+empty_past : (limits : Limits) (v : Volume) (n : ℕ) → KeepsNodeLimits limits v → 3 < limits.inodes → limits.inodes ≤ n → IsSome (v n) → ⊥
+empty_past limits v n keeps least past some = elim (keeps.numbers n some) [
   | inl is ↦ omega (arith, is, least, past)
   | inr low ↦ omega (arith, low.1, past)
 ]
@@ -191,12 +192,12 @@ unmoved (Some old) b none no_more = absurd (none refl)
 
 -- What a plan takes, and what is kept for the orphans. Of the inode map those blocks are counted of whose numbers an object
 -- came or went over the base.
-pub point_needs : (r : Root) (s : InodeFile) (base v : Volume) (blocks : ℕ) → ArePlain s → r.inode_file.layout ≡ s.geometry.layout → KeepsNodeLimits s.geometry.inodes base → KeepsNodeLimits s.geometry.inodes v → 3 < s.geometry.inodes
+pub point_needs : (r : Root) (s : InodeFile) (base v : Volume) (blocks : ℕ) → ArePlain s → r.inode_file.layout ≡ s.geometry.layout → KeepsNodeLimits (limits_of s.geometry) base → KeepsNodeLimits (limits_of s.geometry) v → 3 < s.geometry.inodes
     → r.inode_file.size ≤ single_bytes s.geometry.layout
     → point_stores (map_moves base v) r s blocks + 4 * count_orphans s.geometry.inodes v ≤ memory_room base s v + level_of r.inode_file.layout r.inode_file.size + map_file_nodes blocks
 point_needs r s base v blocks plain of base_keeps keeps least small =
     let inodes = s.geometry.inodes in
-    let past : (n : ℕ) → inodes ≤ n → moves base v n ≡ 0 = λ n le. unmoved (base n) (v n) (empty_past inodes base n base_keeps least le) (empty_past inodes v n keeps least le) in
+    let past : (n : ℕ) → inodes ≤ n → moves base v n ≡ 0 = λ n le. unmoved (base n) (v n) (empty_past (limits_of s.geometry) base n base_keeps least le) (empty_past (limits_of s.geometry) v n keeps least le) in
     let numbers = numbers_need s base v inodes plain in
     let map : map_stores (map_moves base v) s ≤ sum_below (moves base v) inodes = groups_below (moves base v) MAP_NUMBERS (block_count (div_ceil inodes 8)) inodes past in
     let top = top_needs s r.inode_file.size small in

@@ -1,5 +1,6 @@
 -- What a whole plan starts from, and what its parts come to.
 use Rattle.std.specs.Prelude.{ℕ, ◌≡◌, ◌≢◌, ◌↔◌, ◌+◌, ◌*◌, ◌/◌, ◌%◌, ◌<◌, ◌≤◌, Bool, true, false, List, length}
+use Rattle.layout.specs.StateLimits.{limits_of}
 use Rattle.layout.specs.Inode.{inode_bytes}
 use Rattle.layout.specs.Limits.{Sizes}
 use Rattle.layout.specs.Maps.{map_entry}
@@ -62,9 +63,9 @@ pub record IsPlannable (change : SnapshotChange) (root : Root) (d : ℕ → List
   pub entries : (b : ℕ) → settled_at m.parts.items b ≡ entry (whole (blocks_of d) root).active b
   pub restored : HasRestored change root (whole (blocks_of d) root)
   pub holds : HoldsVolume root.geometry.inodes (tree_contents (starting_tree change (whole (blocks_of d) root))) base
-  pub base_volume : IsVolume root.geometry.inodes base
+  pub base_volume : IsVolume (limits_of root.geometry) base
   pub memory : IsVolumeOf root.geometry.blocks (blocks_of d) (inodes_of (starting_tree change (whole (blocks_of d) root))) inodes v
-  pub volume : IsVolume root.geometry.inodes v
+  pub volume : IsVolume (limits_of root.geometry) v
 
 -- On each disk that has the blocks of a plan, and those that the old root needs, the new root's map
 -- has these entries.

@@ -24,7 +24,7 @@ use Rattle.inode.specs.declared.file.File.{File}
 use Rattle.inode.specs.declared.object.Object.{Object}
 use Rattle.inofile.specs.Objects.{IsObjectIn, IsObjectOrNone}
 use Rattle.inofile.specs.Settled.{content_of_object}
-use Rattle.records.specs.Contents.{IsSoundIn, IsWholeIn, rewriting}
+use Rattle.records.specs.Contents.{ArePartsSound, IsWholeIn, LeavesPart, rewriting}
 use Rattle.records.specs.declared.contents.Rewrite.{Rewrite}
 use Rattle.records.specs.declared.contents.Rewrite.TheVariants.{Set, Truncate, Write}
 use Rattle.inode.proofs.BytePositions.{truncated_below, truncated_past, written_above, written_below, written_in}
@@ -174,7 +174,7 @@ module _ (disk : ℕ → List ℕ) (inodes : ℕ) (settled : Inode) (v : Volume)
       ((held.2 (size / 4096)).1 (whole kind (size / 4096) (subst (λ (k : ℕ). TruncatesBlock k size) (size_is held) truncates_file, refl)))
 
   size_sound : (size count : ℕ) → IsObjectIn by_sizes disk inodes settled o (v n) → ((i : ℕ) → CanReadBlock by_sizes (file_block disk o.file) i → IsSoundAt count disk o.file.tree i)
-      → ReadsIn by_sizes v (rewriting n (Truncate size)) → IsSoundIn count disk (Truncate size) o
+      → ReadsIn by_sizes v (rewriting n (Truncate size)) → o.status.kind ≡ kinds.File → ArePartsSound count disk (EndsIn o.file.size size) o.file
   size_sound size count is sound reads kind i part =
       let held = subst Sized kind is.stands in
       let read = subst (λ (x : Option Node). IsReadBlock (bytes_of_node x) (size / 4096)) held.3 (reads (subst (λ (k : ℕ). TruncatesBlock k size) (sym (size_is held)) part.0)) in
@@ -192,7 +192,7 @@ module _ (disk : ℕ → List ℕ) (inodes : ℕ) (settled : Inode) (v : Volume)
 
   -- and the other way round
   pub reads_sound : (detail : Detail) (rewrite : Rewrite) (count : ℕ) → IsObjectIn detail disk inodes settled o (v n) → ((i : ℕ) → CanReadBlock detail (file_block disk o.file) i → IsSoundAt count disk o.file.tree i)
-      → ReadsIn detail v (rewriting n rewrite) → IsSoundIn count disk rewrite o
+      → ReadsIn detail v (rewriting n rewrite) → o.status.kind ≡ kinds.File → ArePartsSound count disk (LeavesPart o.file.size rewrite) o.file
   reads_sound by_bytes rewrite count is sound reads kind i part = sound i tt
   reads_sound by_sizes (Write offset bytes) count is sound reads kind i part =
       let held = subst Sized kind is.stands in

@@ -2,6 +2,8 @@
 use Rattle.std.proofs.Common.{◌≡◌, ◌+◌, ◌-◌, ◌++◌, ◌≤◌, ℕ, List, length, take, drop, Option, Some, None, Result, Ok, Err, IfOk, IfSome, IsTrue, refl, sym, ap, subst, ◌∙◌, append_assoc, inl, inr, arith}
 use Rattle.std.proofs.Math.Path.{fun_ext}
 use Rattle.std.proofs.lemmas.Bool.{cases_eq}
+use Rattle.model.specs.declared.limits.Limits.{Limits}
+use Rattle.layout.specs.StateLimits.{limits_of}
 use Rattle.layout.specs.Bytes.{zeros}
 use Rattle.layout.specs.FileBytes.{byte_in, first_bytes, EndsAt}
 use Rattle.layout.specs.Inode.{FitsKind}
@@ -30,7 +32,7 @@ use Rattle.inofile.specs.Inodes.{IsKnown}
 use Rattle.inofile.specs.Objects.{EndsIn, IsObjectIn}
 use Rattle.inofile.specs.Settled.{content_of_object}
 use Rattle.inofile.specs.declared.inode_file.InodeFile.{InodeFile}
-use Rattle.records.specs.Contents.{KeepsRewriteBounds, Resizes, RewriteRoom, Rewrites, RewritesFile, bytes_after, mode_after, rewriting}
+use Rattle.records.specs.Contents.{KeepsRecordBounds, KeepsRewriteBounds, Resizes, RewriteRoom, Rewrites, RewritesFile, bytes_after, end_of, mode_after, rewriting}
 use Rattle.records.specs.Obstacles.{IsObstacle, tells_obstacle}
 use Rattle.records.specs.Prepared.{KnowsFile}
 use Rattle.records.specs.Room.{StoresIn}
@@ -148,20 +150,20 @@ bytes_put detail disk inodes settled o found f change new was is rewrites done =
 
 -- ---- the record of a change
 
-pub file_changed : (inodes : ℕ) (v : Volume) (n : ℕ) (rewrite : Rewrite) → Applies inodes v (rewriting n rewrite) → IsTrue (is_file_node (v n))
-file_changed inodes v n (Write offset bytes) can = can.0
-file_changed inodes v n (Truncate size) can = can.0
-file_changed inodes v n (Set mode size) can = can.0
+pub file_changed : (limits : Limits) (v : Volume) (n : ℕ) (rewrite : Rewrite) → Applies limits v (rewriting n rewrite) → IsTrue (is_file_node (v n))
+file_changed limits v n (Write offset bytes) can = can.0
+file_changed limits v n (Truncate size) can = can.0
+file_changed limits v n (Set mode size) can = can.0
 
-pub rewriting_applies : (inodes : ℕ) (v : Volume) (n : ℕ) (rewrite : Rewrite) → IsTrue (is_file_node (v n)) → KeepsRewriteBounds rewrite → Applies inodes v (rewriting n rewrite)
-rewriting_applies inodes v n (Write offset bytes) is keeps = (is, keeps.0, keeps.1, keeps.2)
-rewriting_applies inodes v n (Truncate size) is keeps = (is, keeps)
-rewriting_applies inodes v n (Set mode size) is keeps = (is, keeps.0, keeps.1)
+pub rewriting_applies : (limits : Limits) (v : Volume) (n : ℕ) (rewrite : Rewrite) → IsTrue (is_file_node (v n)) → KeepsRewriteBounds limits rewrite → Applies limits v (rewriting n rewrite)
+rewriting_applies limits v n (Write offset bytes) is keeps = (is, keeps.0, keeps.1, keeps.2)
+rewriting_applies limits v n (Truncate size) is keeps = (is, keeps)
+rewriting_applies limits v n (Set mode size) is keeps = (is, keeps.0, keeps.1)
 
-pub rewriting_place : (v : Volume) (n : ℕ) (rewrite : Rewrite) → LeavesPlace v (rewriting n rewrite)
-rewriting_place v n (Write offset bytes) = tt
-rewriting_place v n (Truncate size) = tt
-rewriting_place v n (Set mode size) = tt
+pub rewriting_place : (limits : Limits) (v : Volume) (n : ℕ) (rewrite : Rewrite) → LeavesPlace limits v (rewriting n rewrite)
+rewriting_place limits v n (Write offset bytes) = tt
+rewriting_place limits v n (Truncate size) = tt
+rewriting_place limits v n (Set mode size) = tt
 
 -- an object is changed twice
 changed_twice : (n : ℕ) (o : Option Node) (f : Option Node → Option Node) (v : Volume) → with_node n (f (with_node n o v n)) (with_node n o v) ≡ with_node n (f o) v
@@ -181,10 +183,21 @@ rewriting_knows n (Write offset bytes) s known = known
 rewriting_knows n (Truncate size) s known = known
 rewriting_knows n (Set mode size) s known = known
 
-pub bounds_kept : (inodes : ℕ) (v : Volume) (n : ℕ) (rewrite : Rewrite) → Applies inodes v (rewriting n rewrite) → KeepsRewriteBounds rewrite
-bounds_kept inodes v n (Write offset bytes) can = (can.1, can.2, can.3)
-bounds_kept inodes v n (Truncate size) can = can.1
-bounds_kept inodes v n (Set mode size) can = (can.1, can.2)
+pub bounds_kept : (limits : Limits) (v : Volume) (n : ℕ) (rewrite : Rewrite) → Applies limits v (rewriting n rewrite) → KeepsRewriteBounds limits rewrite
+bounds_kept limits v n (Write offset bytes) can = (can.1, can.2, can.3)
+bounds_kept limits v n (Truncate size) can = can.1
+bounds_kept limits v n (Set mode size) can = (can.1, can.2)
+
+-- what is written or cut ends within the limit
+pub end_within : (limits : Limits) (rewrite : Rewrite) → KeepsRewriteBounds limits rewrite → end_of rewrite ≤ limits.file_bytes
+end_within limits (Write offset bytes) keeps = keeps.2
+end_within limits (Truncate size) keeps = keeps
+end_within limits (Set mode size) keeps = keeps.1
+
+pub record_bounds : (limits : Limits) (rewrite : Rewrite) → KeepsRewriteBounds limits rewrite → KeepsRecordBounds rewrite
+record_bounds limits (Write offset bytes) keeps = (keeps.0, keeps.1)
+record_bounds limits (Truncate size) keeps = tt
+record_bounds limits (Set mode size) keeps = tt
 
 -- what is told of an answer twice is told of it at once
 pub told_both : {T E : Type 0} (r : Result T E) (P Q : T → Type 0) → IfOk r P → IfOk r Q → IfOk r (λ x. P x × Q x)
@@ -198,24 +211,24 @@ tells_rewriting n (Write offset bytes) = refl
 tells_rewriting n (Truncate size) = refl
 tells_rewriting n (Set mode size) = refl
 
-pub bars_rewriting : (inodes : ℕ) (v : Volume) (n : ℕ) (rewrite : Rewrite) → (Applies inodes v (rewriting n rewrite) → ⊥) → IsObstacle inodes v (rewriting n rewrite) EFBIG
-bars_rewriting inodes v n (Write offset bytes) never = never
-bars_rewriting inodes v n (Truncate size) never = never
-bars_rewriting inodes v n (Set mode size) never = never
+pub bars_rewriting : (limits : Limits) (v : Volume) (n : ℕ) (rewrite : Rewrite) → (Applies limits v (rewriting n rewrite) → ⊥) → IsObstacle limits v (rewriting n rewrite) EFBIG
+bars_rewriting limits v n (Write offset bytes) never = never
+bars_rewriting limits v n (Truncate size) never = never
+bars_rewriting limits v n (Set mode size) never = never
 
 -- ---- what it may store
 
 -- a change stores so many blocks more at the most, and two are left of what its record costs
-pub rewrite_within : (n : ℕ) (rewrite : Rewrite) (o : Option Object) (change : FileUpdate) (v : Volume) → IfSome o (λ x. x.file.size ≡ size_before v n) → RewriteRoom rewrite o change
-    → (more : ℕ) × StoresIn o change more × (more + 2 ≤ cost (work_of v (rewriting n rewrite)))
-rewrite_within n (Write offset bytes) None change v same room = (0, tt, omega (arith, write_costs (size_before v n) offset (length bytes.now)))
-rewrite_within n (Write offset bytes) (Some o) change v same room = (
+pub rewrite_within : (s : Sizes) (n : ℕ) (rewrite : Rewrite) (o : Option Object) (change : FileUpdate) (v : Volume) → IfSome o (λ x. x.file.size ≡ size_before v n) → RewriteRoom rewrite o change
+    → (more : ℕ) × StoresIn o change more × (more + 2 ≤ cost (limits_of s).costs (work_of v (rewriting n rewrite)))
+rewrite_within s n (Write offset bytes) None change v same room = (0, tt, omega (arith, write_costs s (size_before v n) offset (length bytes.now)))
+rewrite_within s n (Write offset bytes) (Some o) change v same room = (
   write_room o.file.size offset (length bytes.now),
   room,
-  subst (λ (size : ℕ). write_room size offset (length bytes.now) + 2 ≤ cost (work_of v (rewriting n (Write offset bytes)))) (sym same)
-      (write_costs (size_before v n) offset (length bytes.now)),
+  subst (λ (size : ℕ). write_room size offset (length bytes.now) + 2 ≤ cost (limits_of s).costs (work_of v (rewriting n (Write offset bytes)))) (sym same)
+      (write_costs s (size_before v n) offset (length bytes.now)),
 )
-rewrite_within n (Truncate size) None change v same room = (0, tt, omega arith)
-rewrite_within n (Truncate size) (Some o) change v same room = (size_room o.file.size size, room, omega arith)
-rewrite_within n (Set mode size) None change v same room = (0, tt, omega arith)
-rewrite_within n (Set mode size) (Some o) change v same room = (size_room o.file.size size, room, omega arith)
+rewrite_within s n (Truncate size) None change v same room = (0, tt, omega arith)
+rewrite_within s n (Truncate size) (Some o) change v same room = (size_room o.file.size size, room, omega arith)
+rewrite_within s n (Set mode size) None change v same room = (0, tt, omega arith)
+rewrite_within s n (Set mode size) (Some o) change v same room = (size_room o.file.size size, room, omega arith)

@@ -1,6 +1,7 @@
 -- Functions that prepare a record or tell the first obstacle, step by step.
 use Rattle.std.proofs.Common.{◌≡◌, ℕ, List, Result, Ok, Err, IfErr, IfOk, IsTrue, refl, sym, subst}
 use Rattle.std.specs.Result.{IsErrAnd, IsErrOf}
+use Rattle.layout.specs.StateLimits.{limits_of}
 use Rattle.layout.specs.Limits.{Sizes}
 use Rattle.layout.specs.declared.inode.Inode.{Inode}
 use Rattle.model.specs.Records.{Applies, Change}
@@ -36,8 +37,8 @@ module _ {B : Type 0} {Over Sure : Premise} {G : Ghosts B} {a b : B} {s t : Inod
   -- a step before has told what it failed by
   pub passes : {T : Type 0} (f : Failure) (q : Result Prepared Failure) → IsErrAnd q (λ g. g ≡ f) → Looks G IsFault a b s t (read_outcome {T = T} (Err f))
       → IfOk (read_outcome {T = T} (Err f)) (λ r. IfErr r (λ errno. IsTrue (tells_obstacle change errno)))
-      → ((detail : Detail) (disk : ℕ → List ℕ) (settled : ℕ → Inode) (v : Volume) → Sure detail disk settled v → IsVolumeFor detail s.geometry.inodes change v
-      → IfOk (read_outcome {T = T} (Err f)) (λ r. IfErr r (IsObstacle s.geometry.inodes v change)))
+      → ((detail : Detail) (disk : ℕ → List ℕ) (settled : ℕ → Inode) (v : Volume) → Sure detail disk settled v → IsVolumeFor detail (limits_of s.geometry) change v
+      → IfOk (read_outcome {T = T} (Err f)) (λ r. IfErr r (IsObstacle (limits_of s.geometry) v change)))
       → ((detail : Detail) → OnVolumesIn detail G a s (λ disk settled v. ReadsIn detail v change → IsErrOf (read_outcome {T = T} (Err f)) Damaged → ⊥)) → DecidesOn Over Sure G a b s t change q
   passes f (Ok p) is looks own first sound = absurd is
   passes f (Err g) is looks own first sound = record {
@@ -47,7 +48,7 @@ module _ {B : Type 0} {Over Sure : Premise} {G : Ghosts B} {a b : B} {s t : Inod
     does = λ disk settled v over. tt;
     applies = λ disk settled v sure. tt;
     place = λ disk settled v sure. tt;
-    refused = λ {detail} disk settled v sure volume. refused_by (λ r. IfErr r (IsObstacle s.geometry.inodes v change)) _ f (Err g) is (λ errno first. first) (first detail disk settled v sure volume);
+    refused = λ {detail} disk settled v sure volume. refused_by (λ r. IfErr r (IsObstacle (limits_of s.geometry) v change)) _ f (Err g) is (λ errno first. first) (first detail disk settled v sure volume);
     reads = λ disk settled v sure. tt;
     damaged = λ {detail} disk settled v stands reads. damaged_by f (Err g) is (sound detail disk settled v stands reads);
   }
@@ -64,7 +65,7 @@ module _ {B : Type 0} {Over Sure : Premise} {G : Ghosts B} {a b : B} {s t : Inod
 
   -- this is the first obstacle
   pub obstructs : {T : Type 0} {x : T} {errno : Errno} → Looks {T = T} {E = BlockError} G IsFault a b s t (Ok x) → IsTrue (tells_obstacle change errno)
-      → ((detail : Detail) (disk : ℕ → List ℕ) (settled : ℕ → Inode) (v : Volume) → Sure detail disk settled v → IsVolumeFor detail s.geometry.inodes change v → IsObstacle s.geometry.inodes v change errno)
+      → ((detail : Detail) (disk : ℕ → List ℕ) (settled : ℕ → Inode) (v : Volume) → Sure detail disk settled v → IsVolumeFor detail (limits_of s.geometry) change v → IsObstacle (limits_of s.geometry) v change errno)
       → DecidesOn Over Sure G a b s t change (Err (Refused errno))
   obstructs looks own first = record {
     looks = looks_ok looks;
@@ -81,8 +82,8 @@ module _ {B : Type 0} {Over Sure : Premise} {G : Ghosts B} {a b : B} {s t : Inod
   -- it is prepared
   pub decides : {T : Type 0} {x : T} {p : Prepared} → Looks {T = T} {E = BlockError} G IsFault a b s t (Ok x) → IsReady t p
       → ((detail : Detail) (disk : ℕ → List ℕ) (settled : ℕ → Inode) (v : Volume) → Over detail disk settled v → DoesIn detail disk settled t v p change)
-      → ((detail : Detail) (disk : ℕ → List ℕ) (settled : ℕ → Inode) (v : Volume) → Sure detail disk settled v → Applies s.geometry.inodes v change)
-      → ((detail : Detail) (disk : ℕ → List ℕ) (settled : ℕ → Inode) (v : Volume) → Sure detail disk settled v → LeavesPlace v change)
+      → ((detail : Detail) (disk : ℕ → List ℕ) (settled : ℕ → Inode) (v : Volume) → Sure detail disk settled v → Applies (limits_of s.geometry) v change)
+      → ((detail : Detail) (disk : ℕ → List ℕ) (settled : ℕ → Inode) (v : Volume) → Sure detail disk settled v → LeavesPlace (limits_of s.geometry) v change)
       → ((detail : Detail) (disk : ℕ → List ℕ) (settled : ℕ → Inode) (v : Volume) → Sure detail disk settled v → ReadsIn detail v change)
       → DecidesOn Over Sure G a b s t change (Ok p)
   decides looks ready does applies place reads = record {
@@ -107,11 +108,11 @@ follows {s = s} {change = change} {r = r} looks last then surely = record {
   own = last.own;
   ready = last.ready;
   does = λ {detail} disk settled v over. last.does {detail = detail} disk settled v (then detail disk settled v over);
-  applies = λ {detail} disk settled v sure. subst (λ (z : Sizes). IfOk r (λ _. Applies z.inodes v change)) looks.geometry (last.applies {detail = detail} disk settled v (surely detail disk settled v sure));
-  place = λ {detail} disk settled v sure. last.place {detail = detail} disk settled v (surely detail disk settled v sure);
+  applies = λ {detail} disk settled v sure. subst (λ (z : Sizes). IfOk r (λ _. Applies (limits_of z) v change)) looks.geometry (last.applies {detail = detail} disk settled v (surely detail disk settled v sure));
+  place = λ {detail} disk settled v sure. subst (λ (z : Sizes). IfOk r (λ _. LeavesPlace (limits_of z) v change)) looks.geometry (last.place {detail = detail} disk settled v (surely detail disk settled v sure));
   refused = λ {detail} disk settled v sure volume.
-      subst (λ (z : Sizes). IfOk (read_outcome r) (λ q. IfErr q (IsObstacle z.inodes v change))) looks.geometry
-      (last.refused {detail = detail} disk settled v (surely detail disk settled v sure) (subst (λ (z : Sizes). IsVolumeFor detail z.inodes change v) (sym looks.geometry) volume));
+      subst (λ (z : Sizes). IfOk (read_outcome r) (λ q. IfErr q (IsObstacle (limits_of z) v change))) looks.geometry
+      (last.refused {detail = detail} disk settled v (surely detail disk settled v sure) (subst (λ (z : Sizes). IsVolumeFor detail (limits_of z) change v) (sym looks.geometry) volume));
   reads = λ {detail} disk settled v sure. last.reads {detail = detail} disk settled v (surely detail disk settled v sure);
   damaged = λ {detail} disk settled v stands reads is. last.damaged {detail = detail} disk settled v (looks.kept disk settled v stands) reads is;
 }

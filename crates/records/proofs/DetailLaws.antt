@@ -1,6 +1,7 @@
 -- What is known of volumes and objects in so much detail.
 use Rattle.std.proofs.Common.{◌≡◌, ◌⊎◌, ◌*◌, ◌<◌, ◌≤◌, ◌∙◌, ℕ, List, [], Option, Some, IsSome, length, refl, sym, ap, subst, arith}
 use Rattle.std.proofs.lemmas.List.{get_or_past}
+use Rattle.model.specs.declared.limits.Limits.{Limits}
 use Rattle.layout.specs.FileBytes.{byte_in, first_bytes}
 use Rattle.layout.specs.declared.kind.Kind.TheVariants as kinds
 use Rattle.model.specs.Records.{Change}
@@ -14,17 +15,17 @@ use Rattle.inode.specs.Files.{IsFile}
 use Rattle.inode.specs.declared.file.File.{File}
 use Rattle.records.specs.Preparing.{IsKnownVolume, IsVolumeFor}
 
-pub known_of : (detail : Detail) (inodes : ℕ) (change : Change) (v : Volume) → IsVolumeFor detail inodes change v → IsKnownVolume detail inodes v
-known_of by_bytes inodes change v volume = volume
-known_of by_sizes inodes change v volume = volume.0
+pub known_of : (detail : Detail) (limits : Limits) (change : Change) (v : Volume) → IsVolumeFor detail limits change v → IsKnownVolume detail limits v
+known_of by_bytes limits change v volume = volume
+known_of by_sizes limits change v volume = volume.0
 
-pub graph_of : (detail : Detail) (inodes : ℕ) (v : Volume) → IsKnownVolume detail inodes v → IsGraph v
-graph_of by_bytes inodes v volume = volume.graph
-graph_of by_sizes inodes v volume = volume.graph
+pub graph_of : (detail : Detail) (limits : Limits) (v : Volume) → IsKnownVolume detail limits v → IsGraph v
+graph_of by_bytes limits v volume = volume.graph
+graph_of by_sizes limits v volume = volume.graph
 
-pub numbers_of : (detail : Detail) (inodes : ℕ) (v : Volume) → IsKnownVolume detail inodes v → (n : ℕ) → IsSome (v n) → (n ≡ 3) ⊎ ((4 ≤ n) × (n < inodes))
-numbers_of by_bytes inodes v volume = volume.limits.numbers
-numbers_of by_sizes inodes v volume = volume.numbers
+pub numbers_of : (detail : Detail) (limits : Limits) (v : Volume) → IsKnownVolume detail limits v → (n : ℕ) → IsSome (v n) → (n ≡ 3) ⊎ ((4 ≤ n) × (n < limits.inodes))
+numbers_of by_bytes limits v volume = volume.keeps.numbers
+numbers_of by_sizes limits v volume = volume.numbers
 
 pub ends_of : (detail : Detail) (disk : ℕ → List ℕ) (file : File) → IsFile disk file → EndsIn detail disk file
 ends_of by_bytes disk file ends = ends

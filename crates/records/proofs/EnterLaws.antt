@@ -6,6 +6,7 @@ use Rattle.std.proofs.lemmas.Bool.Decides.{nat_tests}
 use Rattle.std.specs.Prelude.{unwrap_or}
 use Rattle.std.specs.Ordering.{nat_cmp}
 use Rattle.std.specs.BTreeMap.{BTreeMap, btree_map_len, get}
+use Rattle.model.specs.declared.limits.Limits.{Limits}
 use Rattle.layout.specs.DirectoryNames.{HoldNames, NameMap}
 use Rattle.inode.specs.Files.{file_block}
 use Rattle.entries.specs.Known.{Knows}
@@ -40,8 +41,8 @@ use Rattle.records.proofs.KindLaws.{directory_kind}
 
 -- ---- a directory of a volume and one in memory
 
-module _ (v : Volume) (d : ℕ) (x : Name) (attributes : Attributes) (names : NameMap) (is : v d ≡ Some (directory_node attributes names)) where
-  pub takes_name : IsName x → TakesEntry names x → TakesName v d x
+module _ (limits : Limits) (v : Volume) (d : ℕ) (x : Name) (attributes : Attributes) (names : NameMap) (is : v d ≡ Some (directory_node attributes names)) where
+  pub takes_name : IsName x → TakesEntry limits names x → TakesName limits v d x
   takes_name name takes = record {
     directory = subst (λ (o : Option Node). IsTrue (is_directory_node o)) (sym is) refl;
     missing = subst (λ (o : Option Node). names_in o x ≡ None) (sym is) takes.missing;
@@ -51,7 +52,7 @@ module _ (v : Volume) (d : ℕ) (x : Name) (attributes : Attributes) (names : Na
     room = takes.place.room;
   }
 
-  pub takes_entry : TakesName v d x → TakesEntry names x
+  pub takes_entry : TakesName limits v d x → TakesEntry limits names x
   takes_entry takes = record {
     missing = subst (λ (o : Option Node). names_in o x ≡ None) is takes.missing;
     place = record {
@@ -76,41 +77,41 @@ pub same_names : (attributes old : Attributes) (names others : NameMap) → Some
 same_names attributes old names others e = cc
 
 -- what an edit of a directory's file makes of the directory
-module _ (disk : ℕ → List ℕ) (inodes : ℕ) (found : Option Node) (o : Object) (known : Known) (wanted : NameEdit) (names : NameMap)
+module _ (disk : ℕ → List ℕ) (limits : Limits) (found : Option Node) (o : Object) (known : Known) (wanted : NameEdit) (names : NameMap)
     (kind : o.status.kind ≡ kinds.Directory) (is : found ≡ Some (directory_node o.status.attributes names)) where
   -- it keeps what is known of the blocks
-  pub edits_directory : (edit kept : Edit) → EditsNames inodes disk o.file known wanted names (Some edit) → piece_count edit ≤ pieces_of wanted → kept.changed ≡ edit.changed → kept.count ≡ edit.count → kept.known ≡ known
-      → PreparesEdit disk inodes wanted found (Some o) (Some kept)
+  pub edits_directory : (edit kept : Edit) → EditsNames limits disk o.file known wanted names (Some edit) → piece_count edit ≤ pieces_of wanted → kept.changed ≡ edit.changed → kept.count ≡ edit.count → kept.known ≡ known
+      → PreparesEdit disk limits wanted found (Some o) (Some kept)
   edits_directory edit kept edited few changed count knows = (
     record {
       names = names;
       stands = is;
       kind = kind;
-      edited = subst (λ (n : ℕ). HoldNames inodes n (edited_block disk o.file kept) (names_after wanted names)) (sym count)
-          (subst (λ (m : BTreeMap ℕ (List ℕ)). HoldNames inodes edit.count (λ i. unwrap_or (get nat_cmp m i) (file_block disk o.file i)) (names_after wanted names)) (sym changed) edited.1);
-      known = subst (Knows inodes (edited_block disk o.file kept)) (sym knows) (subst (λ (m : BTreeMap ℕ (List ℕ)). Knows inodes (λ i. unwrap_or (get nat_cmp m i) (file_block disk o.file i)) known) (sym changed) edited.2);
+      edited = subst (λ (n : ℕ). HoldNames limits.inodes n (edited_block disk o.file kept) (names_after wanted names)) (sym count)
+          (subst (λ (m : BTreeMap ℕ (List ℕ)). HoldNames limits.inodes edit.count (λ i. unwrap_or (get nat_cmp m i) (file_block disk o.file i)) (names_after wanted names)) (sym changed) edited.1);
+      known = subst (Knows limits.inodes (edited_block disk o.file kept)) (sym knows) (subst (λ (m : BTreeMap ℕ (List ℕ)). Knows limits.inodes (λ i. unwrap_or (get nat_cmp m i) (file_block disk o.file i)) known) (sym changed) edited.2);
     },
     record { attributes = o.status.attributes; names = names; is = is; takes = edited.0 },
     subst (λ (m : BTreeMap ℕ (List ℕ)). btree_map_len m ≤ pieces_of wanted) (sym changed) few,
   )
 
   -- where there is none, the directory can't be edited so
-  pub no_edit : EditsNames inodes disk o.file known wanted names None → PreparesEdit disk inodes wanted found (Some o) None
-  no_edit never = λ accepts. never (subst (TakesEdit wanted) (same_names accepts.attributes o.status.attributes accepts.names names (sym accepts.is ∙ is)) accepts.takes)
+  pub no_edit : EditsNames limits disk o.file known wanted names None → PreparesEdit disk limits wanted found (Some o) None
+  no_edit never = λ accepts. never (subst (TakesEdit limits wanted) (same_names accepts.attributes o.status.attributes accepts.names names (sym accepts.is ∙ is)) accepts.takes)
 
 -- a directory that takes a name has place for its entry
-pub accepts_entry : (v : Volume) (d : ℕ) (entry : Entry) → TakesName v d entry.name.now → Accepts (edits.Add entry) (v d)
-accepts_entry v d entry takes =
+pub accepts_entry : (limits : Limits) (v : Volume) (d : ℕ) (entry : Entry) → TakesName limits v d entry.name.now → Accepts limits (edits.Add entry) (v d)
+accepts_entry limits v d entry takes =
     let there = directory_is (v d) takes.directory in
-    record { attributes = there.0; names = there.1; is = there.2; takes = takes_entry v d entry.name.now there.0 there.1 there.2 takes }
+    record { attributes = there.0; names = there.1; is = there.2; takes = takes_entry limits v d entry.name.now there.0 there.1 there.2 takes }
 
 -- and the other way round
-pub takes_accepted : (v : Volume) (d : ℕ) (entry : Entry) → IsName entry.name.now → Accepts (edits.Add entry) (v d) → TakesName v d entry.name.now
-takes_accepted v d entry name accepts = takes_name v d entry.name.now accepts.attributes accepts.names accepts.is name accepts.takes
+pub takes_accepted : (limits : Limits) (v : Volume) (d : ℕ) (entry : Entry) → IsName entry.name.now → Accepts limits (edits.Add entry) (v d) → TakesName limits v d entry.name.now
+takes_accepted limits v d entry name accepts = takes_name limits v d entry.name.now accepts.attributes accepts.names accepts.is name accepts.takes
 
 -- a full directory has no place for a name
-pub full_has_no_place : (names : NameMap) (n : ℕ) → HasCount names n → 65536 ≤ n → HasPlace names → ⊥
-full_has_no_place names n count many place =
+pub full_has_no_place : (limits : Limits) (names : NameMap) (n : ℕ) → HasCount names n → limits.directory_names ≤ n → HasPlace limits names → ⊥
+full_has_no_place limits names n count many place =
     let same : n ≡ place.count = counts_once (λ (y : Name). IsSome (names y)) names_apart n place.count count place.counts in
     let room = place.room in
     omega (arith, same, room, many)

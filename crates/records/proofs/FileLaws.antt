@@ -2,6 +2,8 @@
 use Rattle.std.proofs.Common.{◌≡◌, ◌≢◌, ◌≤◌, ℕ, ◌-◌, ◌+◌, ◌==◌, ◌↔◌, ◌++◌, drop, zero, suc, List, [], ◌∷◌, length, map, Option, Some, None, IsTrue, IsSome, true, false, inl, inr, refl, sym, ap, subst, ◌∙◌, arith}
 use Rattle.std.proofs.lemmas.Bool.{false≢true}
 use Rattle.std.proofs.lemmas.Bool.Decides.{nat_tests}
+use Rattle.model.specs.declared.limits.Limits.{Limits}
+use Rattle.layout.specs.StateLimits.{limits_of}
 use Rattle.layout.specs.Directory.{IsEntry}
 use Rattle.layout.specs.declared.inode.Inode.{Inode}
 use Rattle.layout.specs.declared.kind.Kind.{Kind}
@@ -73,10 +75,10 @@ file_apart v n d file directory same = apart (v d) (subst (λ k. IsTrue (is_file
     apart (Some (link_node attributes text)) file directory = false≢true directory
 
 -- a file of a volume has a number of the image, and a name can stand for it
-pub file_entry : (detail : Detail) (inodes : ℕ) (v : Volume) (n : ℕ) (x : Name) → IsKnownVolume detail inodes v → IsTrue (is_file_node (v n)) → IsName x → IsEntry inodes (record { number = n; name = x })
-file_entry detail inodes v n x volume file name =
-    elim (numbers_of detail inodes v volume n (some (v n) file)) [
-      | inl root ↦ absurd (file_apart v n 3 file (graph_of detail inodes v volume).naming.root root)
+pub file_entry : (detail : Detail) (limits : Limits) (v : Volume) (n : ℕ) (x : Name) → IsKnownVolume detail limits v → IsTrue (is_file_node (v n)) → IsName x → IsEntry limits.inodes (record { number = n; name = x })
+file_entry detail limits v n x volume file name =
+    elim (numbers_of detail limits v volume n (some (v n) file)) [
+      | inl root ↦ absurd (file_apart v n 3 file (graph_of detail limits v volume).naming.root root)
       | inr within ↦ record { ordinary = within.0; below = within.1; name = name }
     ]
   where
@@ -112,7 +114,7 @@ ready_two {next = next} takes more apart = record { first = takes; next = more; 
 module _ {detail : Detail} {disk : ℕ → List ℕ} {settled : ℕ → Inode} {s : InodeFile} {v : Volume} {change : Change} where
   -- a step, and another one, if there is one, do what a record says
   pub does_two : (first : ObjectUpdate) (next : Option ObjectUpdate) (between : Volume) (k l : ℕ) → Steps detail disk settled s v first between → StepsSome detail disk settled s between next (applied change v)
-      → IsBeside first.number next → StepRoom s first k → SomeRoom s next l → k + l ≤ cost (work_of v change) → KnowsFile s change
+      → IsBeside first.number next → StepRoom s first k → SomeRoom s next l → k + l ≤ cost (limits_of s.geometry).costs (work_of v change) → KnowsFile s change
       → DoesIn detail disk settled s v (record { first = first; next = next; last = None }) change
   does_two first next between k l steps more apart room rest within knows = record {
     between = between;
@@ -137,7 +139,7 @@ module _ {detail : Detail} {disk : ℕ → List ℕ} {settled : ℕ → Inode} {
   pub does_both : (d n : ℕ) (x : Name) (to : Option ℕ) (edit : Edit) (update : Update) (node : Option Node) (k : ℕ) → n ≢ d
       → EditsIn disk s.geometry.inodes (with_name x to) (v d) (loaded s d) edit → piece_count edit ≤ 1
       → Updates detail disk s.geometry.inodes (settled n) (v n) (loaded s n) update node → UpdateRoom (loaded s n) update k
-      → applied change v ≡ with_entry d x to (with_node n node v) → 7 + k ≤ cost (work_of v change) → KnowsFile s change
+      → applied change v ≡ with_entry d x to (with_node n node v) → 7 + k ≤ cost (limits_of s.geometry).costs (work_of v change) → KnowsFile s change
       → DoesIn detail disk settled s v (record { first = record { number = d; update = updates.Names edit }; next = Some (record { number = n; update = update }); last = None }) change
   does_both d n x to edit update node k apart edits few does room same within knows =
       let names : Option Node = with_node_names (with_name x to) (v d) in

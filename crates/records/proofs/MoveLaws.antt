@@ -3,6 +3,7 @@ use Rattle.std.proofs.Common.{◌≡◌, ◌≢◌, ◌≤◌, ◌⊎◌, inl, i
 use mathlib.Core.Bool.{beq, not}
 use Rattle.std.proofs.Math.Path.{fun_ext}
 use Rattle.std.proofs.lemmas.Bool.{cases_eq, false≢true}
+use Rattle.model.specs.declared.limits.Limits.{Limits}
 use Rattle.layout.specs.Directory.{IsEntry}
 use Rattle.layout.specs.DirectoryNames.{NameMap}
 use Rattle.layout.specs.declared.entry.Entry.{Entry}
@@ -194,8 +195,8 @@ module _ (detail : Detail) (disk : ℕ → List ℕ) (settled : ℕ → Inode) (
 
   -- ---- when it applies
 
-  pub can_rename : IsTrue (is_directory_node (v k)) → IsName y → (IsBelow (entries v) n k → ⊥) → (step ≡ None → (d ≡ k) ⊎ TakesNewName v k y) → CanRename v d x k y
-  can_rename directory name outside takes = record {
+  pub can_rename : (limits : Limits) → IsTrue (is_directory_node (v k)) → IsName y → (IsBelow (entries v) n k → ⊥) → (step ≡ None → (d ≡ k) ⊎ TakesNewName limits v k y) → CanRename limits v d x k y
+  can_rename limits directory name outside takes = record {
     number = n;
     there = moves.there;
     directory = directory;
@@ -204,7 +205,7 @@ module _ (detail : Detail) (disk : ℕ → List ℕ) (settled : ℕ → Inode) (
     replaces = by target step refl moves.replaces;
   }
     where
-      by : (o : Option ℕ) (s : Option ObjectUpdate) → step ≡ s → Replaces detail disk settled v n o s → CanReplace v d k y n o
+      by : (o : Option ℕ) (s : Option ObjectUpdate) → step ≡ s → Replaces detail disk settled v n o s → CanReplace limits v d k y n o
       by None None is replaces = takes is
       by None (Some s) is replaces = absurd replaces
       by (Some m) None is replaces = absurd replaces
@@ -220,8 +221,8 @@ module _ (detail : Detail) (disk : ℕ → List ℕ) (settled : ℕ → Inode) (
       by (Some m) (Some s) is replaces = replaces.1.0 (same_some is)
 
   -- a directory within its limit takes another name for one that it has
-  pub accepts_move : (inodes : ℕ) (old : Entry) (entry : Entry) → old.name.now ≡ x → entry.name.now ≡ y → IsVolumeFor detail inodes (rename d x k y) v → d ≡ k → Accepts (edits.Move old.name entry) (v k)
-  accepts_move inodes old entry is_old is_new volume same =
+  pub accepts_move : (limits : Limits) (old : Entry) (entry : Entry) → old.name.now ≡ x → entry.name.now ≡ y → IsVolumeFor detail limits (rename d x k y) v → d ≡ k → Accepts limits (edits.Move old.name entry) (v k)
+  accepts_move limits old entry is_old is_new volume same =
       let there : entries v k x ≡ Some n = ap (λ (j : ℕ). entries v j x) (sym same) ∙ moves.there in
       let is = directory_is (v k) (enters_directory (v k) x n there) in
       record {
@@ -229,18 +230,18 @@ module _ (detail : Detail) (disk : ℕ → List ℕ) (settled : ℕ → Inode) (
         names = is.1;
         is = is.2;
         takes =
-            subst (λ (a : Name). HasPlace (with_name a None (with_name entry.name.now None is.1))) (sym is_old)
-            (subst (λ (b : Name). HasPlace (with_name x None (with_name b None is.1))) (sym is_new)
-            (place_inside detail inodes v d x n k y is.0 is.1 is.2 (sym (ap (λ (o : Option Node). names_in o x) is.2) ∙ there) same (names_differ same) volume));
+            subst (λ (a : Name). HasPlace limits (with_name a None (with_name entry.name.now None is.1))) (sym is_old)
+            (subst (λ (b : Name). HasPlace limits (with_name x None (with_name b None is.1))) (sym is_new)
+            (place_inside detail limits v d x n k y is.0 is.1 is.2 (sym (ap (λ (o : Option Node). names_in o x) is.2) ∙ there) same (names_differ same) volume));
       }
 
   -- and another directory takes a name for what had it, or one more
-  pub accepts_other : (inodes : ℕ) (entry : Entry) → entry.name.now ≡ y → IsVolumeFor detail inodes (rename d x k y) v → d ≢ k → CanRename v d x k y → Accepts (edit_for entry step) (v k)
-  accepts_other inodes entry is_new volume other can = by target step refl moves.replaces can.replaces
+  pub accepts_other : (limits : Limits) (entry : Entry) → entry.name.now ≡ y → IsVolumeFor detail limits (rename d x k y) v → d ≢ k → CanRename limits v d x k y → Accepts limits (edit_for entry step) (v k)
+  accepts_other limits entry is_new volume other can = by target step refl moves.replaces can.replaces
     where
-      by : (o : Option ℕ) (s : Option ObjectUpdate) → target ≡ o → Replaces detail disk settled v n o s → CanReplace v d k y can.number o → Accepts (edit_for entry s) (v k)
+      by : (o : Option ℕ) (s : Option ObjectUpdate) → target ≡ o → Replaces detail disk settled v n o s → CanReplace limits v d k y can.number o → Accepts limits (edit_for entry s) (v k)
       by None None none replaces (inl same) = absurd (other same)
-      by None None none replaces (inr takes) = accepts_entry v k entry (subst (λ (b : Name). TakesNewName v k b) (sym is_new) takes)
+      by None None none replaces (inr takes) = accepts_entry limits v k entry (subst (λ (b : Name). TakesNewName limits v k b) (sym is_new) takes)
       by None (Some s) none replaces may = absurd replaces
       by (Some m) None is replaces may = absurd replaces
       by (Some m) (Some s) is replaces may =
@@ -250,8 +251,8 @@ module _ (detail : Detail) (disk : ℕ → List ℕ) (settled : ℕ → Inode) (
             names = there.1;
             is = there.2;
             takes =
-                subst (λ (b : Name). HasPlace (with_name b None there.1)) (sym is_new)
-                (place_across detail inodes v d x m k y there.0 there.1 there.2 (sym (ap (λ (o : Option Node). names_in o y) there.2) ∙ is) other volume);
+                subst (λ (b : Name). HasPlace limits (with_name b None there.1)) (sym is_new)
+                (place_across detail limits v d x m k y there.0 there.1 there.2 (sym (ap (λ (o : Option Node). names_in o y) there.2) ∙ is) other volume);
           }
 
 -- ---- kinds
@@ -292,10 +293,10 @@ names_for entry None = refl
 names_for entry (Some step) = refl
 
 -- what has a name has an ordinary number, and may have another name
-pub entry_named : (detail : Detail) (inodes : ℕ) (v : Volume) (d : ℕ) (x : Name) (n : ℕ) (y : Name) → IsKnownVolume detail inodes v → entries v d x ≡ Some n → IsName y → IsEntry inodes (record { number = n; name = y })
-entry_named detail inodes v d x n y volume there name =
-    let graph = graph_of detail inodes v volume in
-    elim (numbers_of detail inodes v volume n (graph.naming.used d n x there)) [
+pub entry_named : (detail : Detail) (limits : Limits) (v : Volume) (d : ℕ) (x : Name) (n : ℕ) (y : Name) → IsKnownVolume detail limits v → entries v d x ≡ Some n → IsName y → IsEntry limits.inodes (record { number = n; name = y })
+entry_named detail limits v d x n y volume there name =
+    let graph = graph_of detail limits v volume in
+    elim (numbers_of detail limits v volume n (graph.naming.used d n x there)) [
       | inl root ↦ absurd (graph.naming.not_root d x (there ∙ ap (λ k. Some k) root))
       | inr within ↦ record { ordinary = within.0; below = within.1; name = name }
     ]

@@ -5,6 +5,7 @@ use Rattle.std.proofs.Math.Path.{fun_ext}
 use Rattle.std.proofs.lemmas.Bool.{cases_Bool, cond-false, cond-true}
 use Rattle.std.proofs.lemmas.Slice.Eq.{bytes_eq-Decides}
 use Rattle.std.proofs.lemmas.Result.{IfOk-weaker}
+use Rattle.model.specs.declared.limits.Limits.{Limits}
 use Rattle.layout.specs.DirectoryNames.{NameMap}
 use Rattle.model.specs.Paths.{Name}
 use Rattle.dirs.specs.Directory.{with_name}
@@ -76,11 +77,11 @@ few_more few (Ok (Some edit)) is = omega (arith, few, is)
 few_more few (Ok None) is = tt
 few_more few (Err e) is = tt
 
-module _ {B : Type 0} {Had : (ℕ → List ℕ) → NameMap → Type 0} {G : Ghosts B} {a b : B} {inodes : ℕ} {file new : File} {known : Known} {wanted : NameEdit} {most : ℕ} where
+module _ {B : Type 0} {Had : (ℕ → List ℕ) → NameMap → Type 0} {G : Ghosts B} {a b : B} {limits : Limits} {file new : File} {known : Known} {wanted : NameEdit} {most : ℕ} where
   -- a step before has failed
   pub edit_stops : {T : Type 0} {e : BlockError} (q : Result (Option Edit) BlockError) → IsErrAnd q (λ f. f ≡ e) → ReadsBlocks {T = T} G IsFault a b (Err e) → IsSameFile file new
       → ((disk : ℕ → List ℕ) (names : NameMap) → G.Shows a disk → IsErrOf {T = T} {E = BlockError} (Err e) Damaged → Had disk names → ((i : ℕ) → IsSoundAt (G.count a) disk file.tree i) → ⊥)
-      → EditsFile Had most G a b inodes file new known wanted q
+      → EditsFile Had most G a b limits file new known wanted q
   edit_stops (Ok edit) is reads same sound = absurd is
   edit_stops {e = e} (Err f) is reads same sound = record {
     reads = reads_err (Err f) is reads;
@@ -91,19 +92,19 @@ module _ {B : Type 0} {Had : (ℕ → List ℕ) → NameMap → Type 0} {G : Gho
     damaged = λ disk names shows bad had grammar. sound disk names shows (same_error (Err f) e Damaged is bad) had grammar;
   }
 
-module _ {B T : Type 0} {Had Then : (ℕ → List ℕ) → NameMap → Type 0} {G : Ghosts B} {a b c : B} {inodes : ℕ} {file mid new : File} {known : Known} {wanted more : NameEdit} {x : T} {r : Result (Option Edit) BlockError} {low most : ℕ} where
+module _ {B T : Type 0} {Had Then : (ℕ → List ℕ) → NameMap → Type 0} {G : Ghosts B} {a b c : B} {limits : Limits} {file mid new : File} {known : Known} {wanted more : NameEdit} {x : T} {r : Result (Option Edit) BlockError} {low most : ℕ} where
   -- another function goes on, with other names, behind blocks that were read
-  pub edit_follows : ReadsBlocks {E = BlockError} G IsFault a b (Ok x) → IsSameFile file mid → EditsFile Then low G b c inodes mid new known more r → low ≤ most → (f : NameMap → NameMap)
+  pub edit_follows : ReadsBlocks {E = BlockError} G IsFault a b (Ok x) → IsSameFile file mid → EditsFile Then low G b c limits mid new known more r → low ≤ most → (f : NameMap → NameMap)
       → ((disk : ℕ → List ℕ) (names : NameMap) → G.Shows a disk → Had disk names → Then disk (f names))
-      → ((disk : ℕ → List ℕ) (names : NameMap) → G.Shows a disk → Had disk names → (o : Option Edit) → EditsNames inodes disk new known more (f names) o → EditsNames inodes disk new known wanted names o)
-      → EditsFile Had most G a c inodes file new known wanted r
+      → ((disk : ℕ → List ℕ) (names : NameMap) → G.Shows a disk → Had disk names → (o : Option Edit) → EditsNames limits disk new known more (f names) o → EditsNames limits disk new known wanted names o)
+      → EditsFile Had most G a c limits file new known wanted r
   edit_follows reads same last few f so turns = record {
     reads = reads_more r reads last.reads;
     same = still_same file mid new same last.same;
     fits = last.fits;
     pieces = few_more few r last.pieces;
     edited = λ disk names shows had.
-        IfOk-weaker r (EditsNames inodes disk new known more (f names)) (EditsNames inodes disk new known wanted names) (turns disk names shows had)
+        IfOk-weaker r (EditsNames limits disk new known more (f names)) (EditsNames limits disk new known wanted names) (turns disk names shows had)
         (last.edited disk (f names) (reads.same disk shows) (so disk names shows had));
     damaged = λ disk names shows is had grammar.
         last.damaged disk (f names) (reads.same disk shows) is (so disk names shows had)
@@ -111,9 +112,9 @@ module _ {B T : Type 0} {Had Then : (ℕ → List ℕ) → NameMap → Type 0} {
   }
 
 -- the same edit of names that are had in another way
-pub edit_had : {B : Type 0} {Had Then : (ℕ → List ℕ) → NameMap → Type 0} {G : Ghosts B} {a b : B} {inodes : ℕ} {file new : File} {known : Known} {wanted more : NameEdit} {r : Result (Option Edit) BlockError} {low most : ℕ}
-    → wanted ≡ more → EditsFile Then low G a b inodes file new known more r → low ≤ most → ((disk : ℕ → List ℕ) (names : NameMap) → Had disk names → Then disk names) → EditsFile Had most G a b inodes file new known wanted r
-edit_had {inodes = inodes} {new = new} {r = r} same edits few so = record {
+pub edit_had : {B : Type 0} {Had Then : (ℕ → List ℕ) → NameMap → Type 0} {G : Ghosts B} {a b : B} {limits : Limits} {file new : File} {known : Known} {wanted more : NameEdit} {r : Result (Option Edit) BlockError} {low most : ℕ}
+    → wanted ≡ more → EditsFile Then low G a b limits file new known more r → low ≤ most → ((disk : ℕ → List ℕ) (names : NameMap) → Had disk names → Then disk names) → EditsFile Had most G a b limits file new known wanted r
+edit_had {limits = limits} {new = new} {r = r} same edits few so = record {
   reads = edits.reads;
   same = edits.same;
   fits = edits.fits;
@@ -123,16 +124,16 @@ edit_had {inodes = inodes} {new = new} {r = r} same edits few so = record {
 }
 
 -- a name that goes, and one that stands for something else, are a move
-pub moved_names : (inodes : ℕ) (disk : ℕ → List ℕ) (file : File) (known : Known) (old entry : Entry) (names : NameMap) (o : Option Edit)
-    → EditsNames inodes disk file known (edits.Replace entry) (with_name old.name.now None names) o → EditsNames inodes disk file known (edits.Move old.name entry) names o
-moved_names inodes disk file known old entry names (Some edit) is = (subst HasPlace (names_gone old.name.now entry.name.now names) is.0, is.1, is.2)
-moved_names inodes disk file known old entry names None never = λ place. never (subst HasPlace (sym (names_gone old.name.now entry.name.now names)) place)
+pub moved_names : (limits : Limits) (disk : ℕ → List ℕ) (file : File) (known : Known) (old entry : Entry) (names : NameMap) (o : Option Edit)
+    → EditsNames limits disk file known (edits.Replace entry) (with_name old.name.now None names) o → EditsNames limits disk file known (edits.Move old.name entry) names o
+moved_names limits disk file known old entry names (Some edit) is = (subst (HasPlace limits) (names_gone old.name.now entry.name.now names) is.0, is.1, is.2)
+moved_names limits disk file known old entry names None never = λ place. never (subst (HasPlace limits) (sym (names_gone old.name.now entry.name.now names)) place)
 
 -- a name that goes, and is one more then, is replaced
-pub replaced_names : (inodes : ℕ) (disk : ℕ → List ℕ) (file : File) (known : Known) (entry : Entry) (names : NameMap) (o : Option Edit)
-    → EditsNames inodes disk file known (edits.Add entry) (with_name entry.name.now None names) o → EditsNames inodes disk file known (edits.Replace entry) names o
-replaced_names inodes disk file known entry names (Some edit) is = (is.0.place, subst (HasEditedNames inodes disk file edit) (name_replaced entry.name.now (Some entry.number) names) is.1, is.2)
-replaced_names inodes disk file known entry names None never = λ place. never (record { missing = name_gone entry.name.now names; place = place })
+pub replaced_names : (limits : Limits) (disk : ℕ → List ℕ) (file : File) (known : Known) (entry : Entry) (names : NameMap) (o : Option Edit)
+    → EditsNames limits disk file known (edits.Add entry) (with_name entry.name.now None names) o → EditsNames limits disk file known (edits.Replace entry) names o
+replaced_names limits disk file known entry names (Some edit) is = (is.0.place, subst (HasEditedNames limits.inodes disk file edit) (name_replaced entry.name.now (Some entry.number) names) is.1, is.2)
+replaced_names limits disk file known entry names None never = λ place. never (record { missing = name_gone entry.name.now names; place = place })
 
 -- ---- what is known of a directory's blocks
 

@@ -2,6 +2,7 @@
 use Rattle.std.proofs.Common.{◌≡◌, ◌≢◌, ◌≤◌, ◌↔◌, inl, inr, ℕ, false, Option, Some, None, IsSome, bytes_eq, refl, sym, ap, subst, ◌∙◌, arith}
 use Rattle.std.proofs.lemmas.Bool.{both_ways, cases_Bool, cond-false, cond-true, false≢true}
 use Rattle.std.proofs.lemmas.Slice.Eq.{bytes_eq-Decides}
+use Rattle.model.specs.declared.limits.Limits.{Limits}
 use Rattle.layout.specs.DirectoryNames.{NameMap}
 use Rattle.layout.specs.declared.entry.Entry.{Entry}
 use Rattle.model.specs.declared.attributes.Attributes.{Attributes}
@@ -37,8 +38,8 @@ left_names names x b = (
 )
 
 -- where a name goes that was there, a directory within the limit has place for one
-pub place_left : (names : NameMap) (x : Name) (n count : ℕ) → names x ≡ Some n → HasCount names count → count ≤ 65536 → HasPlace (with_name x None names)
-place_left names x n count is counts most =
+pub place_left : (limits : Limits) (names : NameMap) (x : Name) (n count : ℕ) → names x ≡ Some n → HasCount names count → count ≤ limits.directory_names → HasPlace limits (with_name x None names)
+place_left limits names x n count is counts most =
     let less = one_less (λ (y : Name). IsSome (names y)) x count names_apart (subst (λ (o : Option ℕ). IsSome o) (sym is) refl) counts in
     let same = less.1 in
     record {
@@ -70,22 +71,22 @@ left_count names y count counts = by (names y) refl
         (less.0, omega arith, same_count (λ (b : Name). IsSome (names b) × (b ≢ y)) (λ (b : Name). IsSome (with_name y None names b)) less.0 (λ b. ((left_names names y b).1, (left_names names y b).0)) less.2)
 
 -- where one name goes and another one that was there, a directory within the limit has place for one
-place_moved : (names : NameMap) (x y : Name) (n count : ℕ) → names x ≡ Some n → x ≢ y → HasCount names count → count ≤ 65536 → HasPlace (with_name x None (with_name y None names))
-place_moved names x y n count is apart counts most =
+place_moved : (limits : Limits) (names : NameMap) (x y : Name) (n count : ℕ) → names x ≡ Some n → x ≢ y → HasCount names count → count ≤ limits.directory_names → HasPlace limits (with_name x None (with_name y None names))
+place_moved limits names x y n count is apart counts most =
     let rest = left_count names y count counts in
     let fewer = rest.1 in
     let other : bytes_eq x y ≡ false = elim (cases_Bool (bytes_eq x y)) [ inl same ↦ absurd (apart ((bytes_eq-Decides x y).0 same)) | inr other ↦ other ] in
-    place_left (with_name y None names) x n rest.0 (cond-false (bytes_eq x y) None (names x) other ∙ is) rest.2 (omega (arith, fewer, most))
+    place_left limits (with_name y None names) x n rest.0 (cond-false (bytes_eq x y) None (names x) other ∙ is) rest.2 (omega (arith, fewer, most))
 
 -- ---- a directory has place for what is moved there, by its limit or as it is known of the record
 
 -- where the name was in the directory itself
-pub place_inside : (detail : Detail) (inodes : ℕ) (v : Volume) (d : ℕ) (x : Name) (n k : ℕ) (y : Name) (attributes : Attributes) (names : NameMap) → v k ≡ Some (directory_node attributes names) → names x ≡ Some n
-    → d ≡ k → x ≢ y → IsVolumeFor detail inodes (rename d x k y) v → HasPlace (with_name x None (with_name y None names))
-place_inside by_bytes inodes v d x n k y attributes names is there same apart volume =
-    let (count, counts, most) = volume.limits.children k in
-    place_moved names x y n count there apart (subst (λ (o : Option Node). Counts (λ (b : Name). IsSome (names_in o b)) count) is counts) most
-place_inside by_sizes inodes v d x n k y attributes names is there same apart volume =
+pub place_inside : (detail : Detail) (limits : Limits) (v : Volume) (d : ℕ) (x : Name) (n k : ℕ) (y : Name) (attributes : Attributes) (names : NameMap) → v k ≡ Some (directory_node attributes names) → names x ≡ Some n
+    → d ≡ k → x ≢ y → IsVolumeFor detail limits (rename d x k y) v → HasPlace limits (with_name x None (with_name y None names))
+place_inside by_bytes limits v d x n k y attributes names is there same apart volume =
+    let (count, counts, most) = volume.keeps.children k in
+    place_moved limits names x y n count there apart (subst (λ (o : Option Node). Counts (λ (b : Name). IsSome (names_in o b)) count) is counts) most
+place_inside by_sizes limits v d x n k y attributes names is there same apart volume =
     let (count, counts, room) = volume.1 in
     record {
       count = count;
@@ -97,12 +98,12 @@ place_inside by_sizes inodes v d x n k y attributes names is there same apart vo
     }
 
 -- where it was in another one, and the new name goes
-pub place_across : (detail : Detail) (inodes : ℕ) (v : Volume) (d : ℕ) (x : Name) (m k : ℕ) (y : Name) (attributes : Attributes) (names : NameMap) → v k ≡ Some (directory_node attributes names) → names y ≡ Some m
-    → d ≢ k → IsVolumeFor detail inodes (rename d x k y) v → HasPlace (with_name y None names)
-place_across by_bytes inodes v d x m k y attributes names is there other volume =
-    let (count, counts, most) = volume.limits.children k in
-    place_left names y m count there (subst (λ (o : Option Node). Counts (λ (b : Name). IsSome (names_in o b)) count) is counts) most
-place_across by_sizes inodes v d x m k y attributes names is there other volume =
+pub place_across : (detail : Detail) (limits : Limits) (v : Volume) (d : ℕ) (x : Name) (m k : ℕ) (y : Name) (attributes : Attributes) (names : NameMap) → v k ≡ Some (directory_node attributes names) → names y ≡ Some m
+    → d ≢ k → IsVolumeFor detail limits (rename d x k y) v → HasPlace limits (with_name y None names)
+place_across by_bytes limits v d x m k y attributes names is there other volume =
+    let (count, counts, most) = volume.keeps.children k in
+    place_left limits names y m count there (subst (λ (o : Option Node). Counts (λ (b : Name). IsSome (names_in o b)) count) is counts) most
+place_across by_sizes limits v d x m k y attributes names is there other volume =
     let (count, counts, room) = volume.1 in
     record {
       count = count;
@@ -116,9 +117,9 @@ place_across by_sizes inodes v d x m k y attributes names is there other volume 
 -- ---- and what is found to have place for it is within the limits
 
 -- where the name was in the directory itself
-pub leaves_inside : (v : Volume) (d : ℕ) (x : Name) (k : ℕ) (y : Name) (attributes : Attributes) (names : NameMap) → v k ≡ Some (directory_node attributes names) → d ≡ k
-    → HasPlace (with_name x None (with_name y None names)) → LeavesPlace v (rename d x k y)
-leaves_inside v d x k y attributes names is same place = (
+pub leaves_inside : (limits : Limits) (v : Volume) (d : ℕ) (x : Name) (k : ℕ) (y : Name) (attributes : Attributes) (names : NameMap) → v k ≡ Some (directory_node attributes names) → d ≡ k
+    → HasPlace limits (with_name x None (with_name y None names)) → LeavesPlace limits v (rename d x k y)
+leaves_inside limits v d x k y attributes names is same place = (
   place.count,
   subst (λ (o : Option Node). Counts (λ (b : Name). IsSome (names_in o b) × (b ≢ y) × (d ≡ k → b ≢ x)) place.count) (sym is)
       (same_count (λ (b : Name). IsSome (with_name x None (with_name y None names) b)) (λ (b : Name). IsSome (names b) × (b ≢ y) × (d ≡ k → b ≢ x)) place.count (λ b. (
@@ -129,9 +130,9 @@ leaves_inside v d x k y attributes names is same place = (
 )
 
 -- where it was in another one, and the new name goes
-leaves_across : (v : Volume) (d : ℕ) (x : Name) (k : ℕ) (y : Name) (attributes : Attributes) (names : NameMap) → v k ≡ Some (directory_node attributes names) → d ≢ k
-    → HasPlace (with_name y None names) → LeavesPlace v (rename d x k y)
-leaves_across v d x k y attributes names is other place = (
+leaves_across : (limits : Limits) (v : Volume) (d : ℕ) (x : Name) (k : ℕ) (y : Name) (attributes : Attributes) (names : NameMap) → v k ≡ Some (directory_node attributes names) → d ≢ k
+    → HasPlace limits (with_name y None names) → LeavesPlace limits v (rename d x k y)
+leaves_across limits v d x k y attributes names is other place = (
   place.count,
   subst (λ (o : Option Node). Counts (λ (b : Name). IsSome (names_in o b) × (b ≢ y) × (d ≡ k → b ≢ x)) place.count) (sym is)
       (same_count (λ (b : Name). IsSome (with_name y None names b)) (λ (b : Name). IsSome (names b) × (b ≢ y) × (d ≡ k → b ≢ x)) place.count (λ b. (
@@ -141,13 +142,13 @@ leaves_across v d x k y attributes names is other place = (
   place.room,
 )
 
-pub leaves_other : (v : Volume) (d : ℕ) (x : Name) (k : ℕ) (step : Option ObjectUpdate) (entry : Entry) → d ≢ k → Accepts (edit_for entry step) (v k) → LeavesPlace v (rename d x k entry.name.now)
-leaves_other v d x k (Some step) entry other accepts = leaves_across v d x k entry.name.now accepts.attributes accepts.names accepts.is other accepts.takes
-leaves_other v d x k None entry other accepts =
+pub leaves_other : (limits : Limits) (v : Volume) (d : ℕ) (x : Name) (k : ℕ) (step : Option ObjectUpdate) (entry : Entry) → d ≢ k → Accepts limits (edit_for entry step) (v k) → LeavesPlace limits v (rename d x k entry.name.now)
+leaves_other limits v d x k (Some step) entry other accepts = leaves_across limits v d x k entry.name.now accepts.attributes accepts.names accepts.is other accepts.takes
+leaves_other limits v d x k None entry other accepts =
     let y = entry.name.now in
     let names = accepts.names in
     let place = accepts.takes.place in
-    leaves_across v d x k y accepts.attributes names accepts.is other (record {
+    leaves_across limits v d x k y accepts.attributes names accepts.is other (record {
       count = place.count;
       counts = same_count (λ (b : Name). IsSome (names b)) (λ (b : Name). IsSome (with_name y None names b)) place.count (λ b. (
         (λ some. (left_names names y b).1 (some, λ same. absent (names y) accepts.takes.missing (subst (λ (z : Name). IsSome (names z)) same some))),

@@ -3,6 +3,7 @@ use Rattle.std.proofs.Common.{◌≡◌, ◌≤◌, ◌<◌, ◌+◌, ◌==◌, 
 use Rattle.std.proofs.Math.Path.{fun_ext}
 use Rattle.std.proofs.lemmas.Bool.{cases_eq, cond-true, cond-false}
 use Rattle.std.proofs.lemmas.Bool.Decides.{nat_tests}
+use Rattle.model.specs.declared.limits.Limits.{Limits}
 use Rattle.layout.specs.declared.kind.Kind.{Kind}
 use Rattle.model.specs.Changing.{sets_both, truncates_file}
 use Rattle.model.specs.Changes.{ChangesTree, TakesFreeNumber}
@@ -15,7 +16,7 @@ use Rattle.model.specs.Room.{nothing, logs, changes_size, puts_bytes}
 use Rattle.model.specs.Trees.{Tree, Description}
 use Rattle.model.specs.Volumes.{Node, directory_node, file_node, link_node, Volume, IsMounted, IsVolume, bytes_of_node, is_file_node, is_open, swept, swept_node, tree_of, with_node}
 use Rattle.model.specs.declared.errno.Errno.TheVariants.{EFBIG}
-use Rattle.model.specs.declared.limits.TheConstants.{GREATEST_FILE, OPEN_FILES}
+use Rattle.model.specs.declared.limits.TheConstants.{OPEN_FILES}
 use Rattle.model.specs.declared.reply.Reply.TheVariants.{Done, Refused, Wrote}
 use Rattle.records.specs.Contents.{bytes_after, mode_after, rewriting}
 use Rattle.records.specs.Rewriting.{GoesOver}
@@ -91,32 +92,32 @@ tree_after n (Write offset bytes) old new is = is
 tree_after n (Truncate size) old new is = is
 tree_after n (Set mode size) old new is = is
 
-module _ (inodes : ℕ) (v : Volume) (table : ℕ → Option Description) (volume : IsVolume inodes v) (mounted : IsMounted v table) (law : RecordsChangeTrees) (n : ℕ) where
+module _ (limits : Limits) (v : Volume) (table : ℕ → Option Description) (volume : IsVolume limits v) (mounted : IsMounted v table) (law : RecordsChangeTrees) (n : ℕ) where
   abbrev t : Tree
   t = tree_of v table
 
   -- the record leads to the tree with these bytes
-  pub rewritten : (rewrite : Rewrite) → Applies inodes v (rewriting n rewrite)
-      → GoesOver inodes v table (rewriting n rewrite) × (tree_of (applied (rewriting n rewrite) v) table ≡ with_mode_given (mode_after rewrite) n (with_bytes n (bytes_after rewrite (contents t n)) t))
+  pub rewritten : (rewrite : Rewrite) → Applies limits v (rewriting n rewrite)
+      → GoesOver limits v table (rewriting n rewrite) × (tree_of (applied (rewriting n rewrite) v) table ≡ with_mode_given (mode_after rewrite) n (with_bytes n (bytes_after rewrite (contents t n)) t))
   rewritten rewrite can = ((can, told.0), tree_after n rewrite t (tree_of (applied (rewriting n rewrite) v) table) told.1)
     where
       whole : swept table (applied (rewriting n rewrite) v) ≡ applied (rewriting n rewrite) v
       whole = subst (λ (w : Volume). swept table w ≡ w) (sym (rewriting_applied n rewrite v)) (bytes_unswept v table n (bytes_after rewrite) (mode_after rewrite) mounted.is_swept)
 
       told : IsMounted (applied (rewriting n rewrite) v) table × ChangesTree (rewriting n rewrite) t (tree_of (applied (rewriting n rewrite) v) table)
-      told = subst (λ (w : Volume). IsMounted w table × ChangesTree (rewriting n rewrite) t (tree_of w table)) whole (law inodes v table (rewriting n rewrite) volume mounted can (takes_free v n rewrite))
+      told = subst (λ (w : Volume). IsMounted w table × ChangesTree (rewriting n rewrite) t (tree_of w table)) whole (law limits v table (rewriting n rewrite) volume mounted can (takes_free v n rewrite))
 
 -- ---- writing
 
-module _ (t : Tree) (n offset : ℕ) (given : List ℕ) (also : Tree → Tree) where
-  pub puts_nothing : is_empty given ≡ true → puts t n offset given also (Wrote 0) t nothing
+module _ (limits : Limits) (t : Tree) (n offset : ℕ) (given : List ℕ) (also : Tree → Tree) where
+  pub puts_nothing : is_empty given ≡ true → puts limits t n offset given also (Wrote 0) t nothing
   puts_nothing none = rw none (refl, refl, refl)
 
-  pub puts_too_much : is_empty given ≡ false → nat_lt GREATEST_FILE (offset + length given) ≡ true → puts t n offset given also (Refused EFBIG) t nothing
+  pub puts_too_much : is_empty given ≡ false → nat_lt limits.file_bytes (offset + length given) ≡ true → puts limits t n offset given also (Refused EFBIG) t nothing
   puts_too_much some past = rw some (rw past (refl, refl, refl))
 
-  pub puts_all : (new : Tree) → is_empty given ≡ false → nat_lt GREATEST_FILE (offset + length given) ≡ false → new ≡ with_bytes n (written offset given (contents t n)) t
-      → puts t n offset given also (Wrote (length given)) (also new) (logs (puts_bytes (length (contents t n)) offset (length given)))
+  pub puts_all : (new : Tree) → is_empty given ≡ false → nat_lt limits.file_bytes (offset + length given) ≡ false → new ≡ with_bytes n (written offset given (contents t n)) t
+      → puts limits t n offset given also (Wrote (length given)) (also new) (logs (puts_bytes (length (contents t n)) offset (length given)))
   puts_all new some within is = rw some (rw within (refl, ap also is, refl))
 
 -- ---- a new size

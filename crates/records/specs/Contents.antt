@@ -1,10 +1,12 @@
 -- What becomes of a file's bytes.
 use Rattle.std.specs.Prelude.{ℕ, ◌≡◌, ◌+◌, ◌≤◌, List, length, Option, Some, None, Result, IfOk, IfSome, IsErrOf, OnOk}
 use Rattle.layout.specs.FileBytes.{EndsAt}
+use Rattle.layout.specs.Trees.{greatest_size}
 use Rattle.layout.specs.declared.kind.Kind.TheVariants as kinds
 use Rattle.model.specs.Edits.{resized, written}
 use Rattle.model.specs.Records as records
-use Rattle.model.specs.declared.limits.TheConstants.{GREATEST_FILE, MODE_BITS, TRANSFER_BYTES}
+use Rattle.model.specs.declared.limits.Limits.{Limits}
+use Rattle.model.specs.declared.limits.TheConstants.{MODE_BITS, TRANSFER_BYTES}
 use Rattle.buffers.specs.Reads.{ReadsBlocks}
 use Rattle.buffers.specs.declared.blocks.Blocks.{Ghosts}
 use Rattle.buffers.specs.Errors.{IsFault}
@@ -46,12 +48,24 @@ rewrite_room size (Write offset bytes) = write_room size offset (length bytes.no
 rewrite_room size (Truncate to) = size_room size to
 rewrite_room size (Set mode to) = size_room size to
 
+-- the bytes up to where it writes or cuts
+abbrev pub end_of : Rewrite → ℕ
+end_of (Write offset bytes) = offset + length bytes.now
+end_of (Truncate size) = size
+end_of (Set mode size) = size
+
+-- it writes something, and not too much at once
+abbrev pub KeepsRecordBounds : Rewrite → Type 0
+KeepsRecordBounds (Write offset bytes) = (1 ≤ length bytes.now) × (length bytes.now ≤ TRANSFER_BYTES)
+KeepsRecordBounds (Truncate size) = Unit {0}
+KeepsRecordBounds (Set mode size) = Unit {0}
+
 -- it keeps to the limits
-abbrev pub KeepsRewriteBounds : Rewrite → Type 0
-KeepsRewriteBounds (Write offset bytes) =
-    (1 ≤ length bytes.now) × (length bytes.now ≤ TRANSFER_BYTES) × (offset + length bytes.now ≤ GREATEST_FILE)
-KeepsRewriteBounds (Truncate size) = size ≤ GREATEST_FILE
-KeepsRewriteBounds (Set mode size) = (mode ≤ MODE_BITS) × (size ≤ GREATEST_FILE)
+abbrev pub KeepsRewriteBounds : Limits → Rewrite → Type 0
+KeepsRewriteBounds limits (Write offset bytes) =
+    (1 ≤ length bytes.now) × (length bytes.now ≤ TRANSFER_BYTES) × (offset + length bytes.now ≤ limits.file_bytes)
+KeepsRewriteBounds limits (Truncate size) = size ≤ limits.file_bytes
+KeepsRewriteBounds limits (Set mode size) = (mode ≤ MODE_BITS) × (size ≤ limits.file_bytes)
 
 -- a prepared change makes these bytes of those that a file has
 pub record Rewrites (disk : ℕ → List ℕ) (f : List ℕ → List ℕ) (file : File) (change : FileUpdate) : Type 0 where
@@ -84,17 +98,23 @@ ArePartsSound count disk Part file = (i : ℕ) → Part i → IsSoundAt count di
 abbrev pub ArePartsWhole : (ℕ → List ℕ) → (ℕ → Type 0) → File → Type 0
 ArePartsWhole disk Part file = (i : ℕ) → Part i → length (file_block disk file i) ≡ 4096
 
--- the same of an object, where it is a file
+-- a file of this layout can have so many bytes
+abbrev pub CanEndAt : ℕ → File → Type 0
+CanEndAt end file = end ≤ greatest_size file.tree.layout
+
+-- the same of an object, where it is a file; and it can have the bytes that it is to have
 abbrev pub IsSoundIn : ℕ → (ℕ → List ℕ) → Rewrite → Object → Type 0
-IsSoundIn count disk rewrite o = o.status.kind ≡ kinds.File → ArePartsSound count disk (LeavesPart o.file.size rewrite) o.file
+IsSoundIn count disk rewrite o =
+    o.status.kind ≡ kinds.File
+    → ArePartsSound count disk (LeavesPart o.file.size rewrite) o.file × CanEndAt (end_of rewrite) o.file
 
 abbrev pub IsWholeIn : (ℕ → List ℕ) → Rewrite → Object → Type 0
 IsWholeIn disk rewrite o = o.status.kind ≡ kinds.File → ArePartsWhole disk (LeavesPart o.file.size rewrite) o.file
 
--- A change of a file's bytes is prepared that makes these of them, stores so many blocks more at
--- the most, and reads those that it leaves in part. The file stays the same until it is put in
--- force.
-pub record PlansFile {B : Type 0} (G : Ghosts B) (blocks after : B) (file new : File) (f : List ℕ → List ℕ) (more : ℕ) (Part : ℕ → Type 0) (result : Result FileUpdate BlockError) : Type 0 where
+-- A change of a file's bytes up to an end is prepared that makes these of them, stores so many
+-- blocks more at the most, and reads those that it leaves in part. The file stays the same until it
+-- is put in force.
+pub record PlansFile {B : Type 0} (G : Ghosts B) (blocks after : B) (file new : File) (f : List ℕ → List ℕ) (end more : ℕ) (Part : ℕ → Type 0) (result : Result FileUpdate BlockError) : Type 0 where
   pub reads : ReadsBlocks G IsFault blocks after result
   pub same : IsSameFile file new
   pub fits : IfOk result (Fits new.tree)
@@ -103,7 +123,7 @@ pub record PlansFile {B : Type 0} (G : Ghosts B) (blocks after : B) (file new : 
   pub sizes : (disk : ℕ → List ℕ) → G.Shows blocks disk → IfOk result (Resizes disk f new)
   pub whole : (disk : ℕ → List ℕ) → G.Shows blocks disk → OnOk result (ArePartsWhole disk Part file)
   pub damaged : (disk : ℕ → List ℕ) → G.Shows blocks disk → IsErrOf result Damaged
-      → ArePartsSound (G.count blocks) disk Part file → ⊥
+      → ArePartsSound (G.count blocks) disk Part file → CanEndAt end file → ⊥
 
 -- there is an object, and a change does so with its bytes
 abbrev pub RewritesIn : Detail → (ℕ → List ℕ) → (List ℕ → List ℕ) → Option Object → FileUpdate → Type 0

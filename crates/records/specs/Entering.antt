@@ -10,22 +10,22 @@ use Rattle.dirs.specs.Directory.{HasCount, with_name}
 use Rattle.dirs.specs.Edits.{HasEditedNames, FitsIn, edited_block}
 use Rattle.entries.specs.Known.{Knows}
 use Rattle.dirs.specs.Room.{piece_count}
-use Rattle.model.specs.declared.limits.TheConstants.{DIRECTORY_NAMES}
+use Rattle.model.specs.declared.limits.Limits.{Limits}
 use Rattle.dirs.specs.declared.edit.Edit.{Edit}
 use Rattle.inode.specs.declared.object.Object.{Object}
 use Rattle.records.specs.declared.naming.NameEdit.{NameEdit}
 use Rattle.records.specs.declared.naming.NameEdit.TheVariants as edits
 
 -- a directory with these names has place for one more
-pub record HasPlace (names : NameMap) : Type 0 where
+pub record HasPlace (limits : Limits) (names : NameMap) : Type 0 where
   pub count : ℕ
   pub counts : HasCount names count
-  pub room : count < DIRECTORY_NAMES
+  pub room : count < limits.directory_names
 
 -- a directory with these names has no such one yet, and has place for one more
-pub record TakesEntry (names : NameMap) (name : Name) : Type 0 where
+pub record TakesEntry (limits : Limits) (names : NameMap) (name : Name) : Type 0 where
   pub missing : names name ≡ None
-  pub place : HasPlace names
+  pub place : HasPlace limits names
 
 -- an entry that an edit makes is one of an image of so many inodes
 abbrev pub IsNameEdit : ℕ → NameEdit → Type 0
@@ -35,11 +35,11 @@ IsNameEdit inodes (edits.Replace entry) = IsEntry inodes (named_of entry)
 IsNameEdit inodes (edits.Move old entry) = IsEntry inodes (named_of entry)
 
 -- a directory with these names can be edited so
-abbrev pub TakesEdit : NameEdit → NameMap → Type 0
-TakesEdit (edits.Add entry) names = TakesEntry names entry.name.now
-TakesEdit (edits.Remove name) names = Unit {0}
-TakesEdit (edits.Replace entry) names = HasPlace (with_name entry.name.now None names)
-TakesEdit (edits.Move old entry) names = HasPlace (with_name old.now None (with_name entry.name.now None names))
+abbrev pub TakesEdit : Limits → NameEdit → NameMap → Type 0
+TakesEdit limits (edits.Add entry) names = TakesEntry limits names entry.name.now
+TakesEdit limits (edits.Remove name) names = Unit {0}
+TakesEdit limits (edits.Replace entry) names = HasPlace limits (with_name entry.name.now None names)
+TakesEdit limits (edits.Move old entry) names = HasPlace limits (with_name old.now None (with_name entry.name.now None names))
 
 -- the names that it has then
 abbrev pub names_after : NameEdit → NameMap → NameMap
@@ -49,11 +49,11 @@ names_after (edits.Replace entry) names = with_name entry.name.now (Some entry.n
 names_after (edits.Move old entry) names = with_name entry.name.now (Some entry.number) (with_name old.now None names)
 
 -- an object is a directory whose names can be edited so
-pub record Accepts (wanted : NameEdit) (found : Option Node) : Type 0 where
+pub record Accepts (limits : Limits) (wanted : NameEdit) (found : Option Node) : Type 0 where
   pub attributes : Attributes
   pub names : NameMap
   pub is : found ≡ Some (directory_node attributes names)
-  pub takes : TakesEdit wanted names
+  pub takes : TakesEdit limits wanted names
 
 -- so many blocks of the directory it changes at the most
 abbrev pub pieces_of : NameEdit → ℕ
@@ -88,10 +88,10 @@ IsDirectoryObject None = ⊥
 
 -- an edit is prepared of what can be edited so, where this object of memory stands for it, and else
 -- none
-abbrev pub PreparesEdit : (ℕ → List ℕ) → ℕ → NameEdit → Option Node → Option Object → Option Edit → Type 0
-PreparesEdit disk inodes wanted found o (Some edit) =
-    EditsIn disk inodes (names_after wanted) found o edit × Accepts wanted found × (piece_count edit ≤ pieces_of wanted)
-PreparesEdit disk inodes wanted found o None = Accepts wanted found → ⊥
+abbrev pub PreparesEdit : (ℕ → List ℕ) → Limits → NameEdit → Option Node → Option Object → Option Edit → Type 0
+PreparesEdit disk limits wanted found o (Some edit) =
+    EditsIn disk limits.inodes (names_after wanted) found o edit × Accepts limits wanted found × (piece_count edit ≤ pieces_of wanted)
+PreparesEdit disk limits wanted found o None = Accepts limits wanted found → ⊥
 
 -- there is an object, and it has room for an edit
 abbrev pub FitsObject : Option Object → Edit → Type 0

@@ -1,12 +1,13 @@
 -- The first obstacle to a record, in the order of the tests of its call.
 use Rattle.std.specs.Prelude.{ℕ, ◌≡◌, ◌≢◌, ◌≤◌, ◌<◌, ◌||◌, Bool, true, IsFalse, IsTrue, Option, Some, None}
+use Rattle.model.specs.declared.limits.Limits.{Limits}
 use Rattle.model.specs.Laws.{is_own}
 use Rattle.model.specs.Paths.{IsName, Name}
 use Rattle.model.specs.Records.{Applies, Change, IsBelow, IsEmpty, IsMade, Made, TakesName, change_mode, create, set_file, truncate, is_vacant, link, rename, remove_name, write}
 use Rattle.model.specs.Volumes.{Volume, entries, is_directory_node, is_file_node}
 use Rattle.model.specs.declared.errno.Errno.{Errno}
 use Rattle.model.specs.declared.errno.Errno.TheVariants.{DAMAGED, DIRFULL, EEXIST, EFBIG, EINVAL, EISDIR, EMLINK, ENAMETOOLONG, ENOENT, ENOTDIR, ENOTEMPTY, EPERM}
-use Rattle.model.specs.declared.limits.TheConstants.{FILE_NAMES, FIRST_NUMBER}
+use Rattle.model.specs.declared.limits.TheConstants.{FIRST_NUMBER}
 use Rattle.records.specs.Steps.{IsFileWithLinks}
 
 -- what keeps an object n from taking the name of another one, m: only one of them is a directory,
@@ -19,40 +20,40 @@ BarsReplacing v n m errno = ⊥
 
 -- what keeps an object in d from the name y of the directory k, by what has it: this can't be
 -- replaced; or nothing has it, and k takes no name more
-abbrev pub BarsTarget : Volume → ℕ → ℕ → ℕ → Name → Option ℕ → Errno → Type 0
-BarsTarget v d n k y (Some m) errno = BarsReplacing v n m errno
-BarsTarget v d n k y None DIRFULL = (d ≢ k) × (TakesName v k y → ⊥)
-BarsTarget v d n k y None errno = ⊥
+abbrev pub BarsTarget : Limits → Volume → ℕ → ℕ → ℕ → Name → Option ℕ → Errno → Type 0
+BarsTarget limits v d n k y (Some m) errno = BarsReplacing v n m errno
+BarsTarget limits v d n k y None DIRFULL = (d ≢ k) × (TakesName limits v k y → ⊥)
+BarsTarget limits v d n k y None errno = ⊥
 
 -- the same of a move, behind two tests: the object doesn't have the name already, and isn't put
 -- below itself
-abbrev pub BarsMove : Volume → ℕ → ℕ → ℕ → Name → Option ℕ → Errno → Type 0
-BarsMove v d n k y target EEXIST = target ≡ Some n
-BarsMove v d n k y target EINVAL = (target ≢ Some n) × IsBelow (entries v) n k
-BarsMove v d n k y target errno = (target ≢ Some n) × (IsBelow (entries v) n k → ⊥) × BarsTarget v d n k y target errno
+abbrev pub BarsMove : Limits → Volume → ℕ → ℕ → ℕ → Name → Option ℕ → Errno → Type 0
+BarsMove limits v d n k y target EEXIST = target ≡ Some n
+BarsMove limits v d n k y target EINVAL = (target ≢ Some n) × IsBelow (entries v) n k
+BarsMove limits v d n k y target errno = (target ≢ Some n) × (IsBelow (entries v) n k → ⊥) × BarsTarget limits v d n k y target errno
 
 -- an object may be made of a number
-abbrev pub MayBeMade : ℕ → Volume → ℕ → Made → Type 0
-MayBeMade inodes v n made = (FIRST_NUMBER ≤ n) × (n < inodes) × IsMade made × IsTrue (is_vacant (v n))
+abbrev pub MayBeMade : Limits → Volume → ℕ → Made → Type 0
+MayBeMade limits v n made = (FIRST_NUMBER ≤ n) × (n < limits.inodes) × IsMade limits made × IsTrue (is_vacant (v n))
 
 -- This is the first obstacle to a record, in the order of the tests of its call.
-abbrev pub IsObstacle : ℕ → Volume → Change → Errno → Type 0
-IsObstacle inodes v (create n d made x) DAMAGED = MayBeMade inodes v n made → ⊥
-IsObstacle inodes v (create n d made x) DIRFULL = MayBeMade inodes v n made × (TakesName v d x → ⊥)
-IsObstacle inodes v (link n d x) ENAMETOOLONG = IsName x → ⊥
-IsObstacle inodes v (link n d x) EPERM = IsFalse (is_file_node (v n))
-IsObstacle inodes v (link n d x) EMLINK = (links : ℕ) × IsFileWithLinks links (v n) × (FILE_NAMES ≤ links)
-IsObstacle inodes v (link n d x) DIRFULL = (links : ℕ) × IsFileWithLinks links (v n) × (links < FILE_NAMES) × (TakesName v d x → ⊥)
-IsObstacle inodes v (remove_name d x) ENOENT = entries v d x ≡ None
-IsObstacle inodes v (remove_name d x) ENOTEMPTY = (n : ℕ) × (entries v d x ≡ Some n) × (IsEmpty v n → ⊥)
-IsObstacle inodes v (rename d x k y) ENAMETOOLONG = IsName y → ⊥
-IsObstacle inodes v (rename d x k y) ENOENT = entries v d x ≡ None
-IsObstacle inodes v (rename d x k y) errno = (n : ℕ) × (entries v d x ≡ Some n) × BarsMove v d n k y (entries v k y) errno
-IsObstacle inodes v (write n offset bytes) EFBIG = Applies inodes v (write n offset bytes) → ⊥
-IsObstacle inodes v (truncate n size) EFBIG = Applies inodes v (truncate n size) → ⊥
-IsObstacle inodes v (set_file n mode size) EFBIG = Applies inodes v (set_file n mode size) → ⊥
-IsObstacle inodes v (change_mode n mode) DAMAGED = IsFalse (is_file_node (v n) || is_directory_node (v n))
-IsObstacle inodes v change errno = ⊥
+abbrev pub IsObstacle : Limits → Volume → Change → Errno → Type 0
+IsObstacle limits v (create n d made x) DAMAGED = MayBeMade limits v n made → ⊥
+IsObstacle limits v (create n d made x) DIRFULL = MayBeMade limits v n made × (TakesName limits v d x → ⊥)
+IsObstacle limits v (link n d x) ENAMETOOLONG = IsName x → ⊥
+IsObstacle limits v (link n d x) EPERM = IsFalse (is_file_node (v n))
+IsObstacle limits v (link n d x) EMLINK = (links : ℕ) × IsFileWithLinks links (v n) × (limits.file_names ≤ links)
+IsObstacle limits v (link n d x) DIRFULL = (links : ℕ) × IsFileWithLinks links (v n) × (links < limits.file_names) × (TakesName limits v d x → ⊥)
+IsObstacle limits v (remove_name d x) ENOENT = entries v d x ≡ None
+IsObstacle limits v (remove_name d x) ENOTEMPTY = (n : ℕ) × (entries v d x ≡ Some n) × (IsEmpty v n → ⊥)
+IsObstacle limits v (rename d x k y) ENAMETOOLONG = IsName y → ⊥
+IsObstacle limits v (rename d x k y) ENOENT = entries v d x ≡ None
+IsObstacle limits v (rename d x k y) errno = (n : ℕ) × (entries v d x ≡ Some n) × BarsMove limits v d n k y (entries v k y) errno
+IsObstacle limits v (write n offset bytes) EFBIG = Applies limits v (write n offset bytes) → ⊥
+IsObstacle limits v (truncate n size) EFBIG = Applies limits v (truncate n size) → ⊥
+IsObstacle limits v (set_file n mode size) EFBIG = Applies limits v (set_file n mode size) → ⊥
+IsObstacle limits v (change_mode n mode) DAMAGED = IsFalse (is_file_node (v n) || is_directory_node (v n))
+IsObstacle limits v change errno = ⊥
 
 -- an errno that tells an obstacle: one of the call's own, or that a number of the record isn't as
 -- it must be

@@ -1,5 +1,6 @@
 -- Prepared changes of the image in memory.
 use Rattle.std.specs.Prelude.{ℕ, ◌+◌, ◌≤◌, List, Option, Some, None}
+use Rattle.layout.specs.StateLimits.{limits_of}
 use Rattle.layout.specs.declared.inode.Inode.{Inode}
 use Rattle.model.specs.Records.{Change, applied, set_file, truncate, work_of, write}
 use Rattle.model.specs.Room.{cost}
@@ -63,7 +64,7 @@ pub record DoesIn (detail : Detail) (disk : ℕ → List ℕ) (settled : ℕ →
   pub first_room : StepRoom s p.first firsts
   pub next_room : SomeRoom s p.next nexts
   pub last_room : SomeRoom s p.last lasts
-  pub within : firsts + nexts + lasts ≤ cost (work_of v change)
+  pub within : firsts + nexts + lasts ≤ cost (limits_of s.geometry).costs (work_of v change)
   pub knows : KnowsFile s change
 
 abbrev pub Does : (ℕ → List ℕ) → (ℕ → Inode) → InodeFile → Volume → Prepared → Change → Type 0

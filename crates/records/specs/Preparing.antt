@@ -1,5 +1,7 @@
 -- Functions that prepare a record.
 use Rattle.std.specs.Prelude.{ℕ, ◌≡◌, ◌⊎◌, ◌<◌, ◌≤◌, IsErrOf, IsSome, IsTrue, List, Result, IfErr, IfOk}
+use Rattle.model.specs.declared.limits.Limits.{Limits}
+use Rattle.layout.specs.StateLimits.{limits_of}
 use Rattle.layout.specs.declared.inode.Inode.{Inode}
 use Rattle.model.specs.Records.{Applies, Change}
 use Rattle.model.specs.Volumes.{Volume, IsGraph, IsVolume}
@@ -27,14 +29,14 @@ pub record HasGraph (inodes : ℕ) (v : Volume) : Type 0 where
   pub numbers : (n : ℕ) → IsSome (v n) → (n ≡ ROOT_NUMBER) ⊎ ((FIRST_NUMBER ≤ n) × (n < inodes))
 
 -- a volume that memory stands for in so much detail
-abbrev pub IsKnownVolume : Detail → ℕ → Volume → Type 0
-IsKnownVolume by_bytes inodes v = IsVolume inodes v
-IsKnownVolume by_sizes inodes v = HasGraph inodes v
+abbrev pub IsKnownVolume : Detail → Limits → Volume → Type 0
+IsKnownVolume by_bytes limits v = IsVolume limits v
+IsKnownVolume by_sizes limits v = HasGraph limits.inodes v
 
 -- the same where a directory has place for what a record moves there
-abbrev pub IsVolumeFor : Detail → ℕ → Change → Volume → Type 0
-IsVolumeFor by_bytes inodes change v = IsVolume inodes v
-IsVolumeFor by_sizes inodes change v = HasGraph inodes v × LeavesPlace v change
+abbrev pub IsVolumeFor : Detail → Limits → Change → Volume → Type 0
+IsVolumeFor by_bytes limits change v = IsVolume limits v
+IsVolumeFor by_sizes limits change v = HasGraph limits.inodes v × LeavesPlace limits v change
 
 -- A record is prepared, and does what it says to each volume of which `Over` is known; or the first
 -- obstacle is told. That it applies, within the limits, or what is told, is true where `Sure` is
@@ -46,11 +48,11 @@ pub record DecidesOn {B : Type 0} (Over Sure : Premise) (G : Ghosts B) (blocks a
   pub does : {detail : Detail} (disk : ℕ → List ℕ) (settled : ℕ → Inode) (v : Volume) → Over detail disk settled v
       → IfOk result (λ x. DoesIn detail disk settled t v x change)
   pub applies : {detail : Detail} (disk : ℕ → List ℕ) (settled : ℕ → Inode) (v : Volume) → Sure detail disk settled v
-      → IfOk result (λ _. Applies s.geometry.inodes v change)
+      → IfOk result (λ _. Applies (limits_of s.geometry) v change)
   pub place : {detail : Detail} (disk : ℕ → List ℕ) (settled : ℕ → Inode) (v : Volume) → Sure detail disk settled v
-      → IfOk result (λ _. LeavesPlace v change)
+      → IfOk result (λ _. LeavesPlace (limits_of s.geometry) v change)
   pub refused : {detail : Detail} (disk : ℕ → List ℕ) (settled : ℕ → Inode) (v : Volume) → Sure detail disk settled v
-      → IsVolumeFor detail s.geometry.inodes change v → IfOk (read_outcome result) (λ r. IfErr r (IsObstacle s.geometry.inodes v change))
+      → IsVolumeFor detail (limits_of s.geometry) change v → IfOk (read_outcome result) (λ r. IfErr r (IsObstacle (limits_of s.geometry) v change))
   pub reads : {detail : Detail} (disk : ℕ → List ℕ) (settled : ℕ → Inode) (v : Volume) → Sure detail disk settled v
       → IfOk result (λ _. ReadsIn detail v change)
   pub damaged : {detail : Detail} → OnVolumesIn detail G blocks s (λ disk settled v. ReadsIn detail v change → IsErrOf (read_outcome result) Damaged → ⊥)
@@ -64,4 +66,4 @@ DecidesRecord G blocks after s t change result =
 -- volume
 abbrev pub DecidesKnown : {B : Type 0} → Ghosts B → B → B → InodeFile → InodeFile → Change → Result Prepared Failure → Type 0
 DecidesKnown G blocks after s t change result =
-    DecidesOn (λ detail disk settled v. StandsIn detail G disk settled v blocks s) (λ detail disk settled v. StandsIn detail G disk settled v blocks s × IsKnownVolume detail s.geometry.inodes v) G blocks after s t change result
+    DecidesOn (λ detail disk settled v. StandsIn detail G disk settled v blocks s) (λ detail disk settled v. StandsIn detail G disk settled v blocks s × IsKnownVolume detail (limits_of s.geometry) v) G blocks after s t change result

@@ -1,5 +1,6 @@
 -- What calls promise over memory that stands for a volume.
 use Rattle.std.specs.Prelude.{ℕ, List, Option}
+use Rattle.layout.specs.StateLimits.{limits_of}
 use Rattle.layout.specs.declared.inode.Inode.{Inode}
 use Rattle.model.specs.Trees.{Description}
 use Rattle.model.specs.Volumes.{Volume, IsMounted, IsVolume}
@@ -12,4 +13,4 @@ pub use Rattle.paths.specs.Standing.{NeverDamaged, NeverDamagedIn, OnVolumes, On
 abbrev pub OnMounted : {B : Type 0} → Ghosts B → B → InodeFile → (Volume → (ℕ → Option Description) → Type 0) → Type 0
 OnMounted G blocks s P =
     (disk : ℕ → List ℕ) (settled : ℕ → Inode) (v : Volume) (table : ℕ → Option Description) → Stands G disk settled v blocks s
-    → IsVolume s.geometry.inodes v → IsMounted v table → P v table
+    → IsVolume (limits_of s.geometry) v → IsMounted v table → P v table

@@ -3,7 +3,8 @@ use Rattle.std.specs.Prelude.{ℕ, ◌≡◌, ◌≢◌, ◌+◌, ◌≤◌, ◌
 use Rattle.layout.specs.declared.inode.Inode.{Inode}
 use Rattle.layout.specs.DirectoryNames.{NameMap}
 use Rattle.model.specs.declared.attributes.Attributes.{Attributes}
-use Rattle.model.specs.declared.limits.TheConstants.{FILE_NAMES, ROOT_NUMBER}
+use Rattle.layout.specs.declared.limits.TheConstants.{FILE_NAMES}
+use Rattle.model.specs.declared.limits.TheConstants.{ROOT_NUMBER}
 use Rattle.model.specs.Records.{with_file_bytes, with_node_mode}
 use Rattle.model.specs.Volumes.{Node, Volume, file_node, is_directory_node, is_file_node, with_node}
 use Rattle.inode.specs.declared.object.Object.{Object}

@@ -2,6 +2,7 @@
 
 ghost use Rattle.std.specs.Prelude.{◌≡◌, ◌≢◌, ◌<◌, ◌↔◌, ◌⊎◌, ℕ, IfOk, IfSome, IsTrue, OnOk, length, map};
 ghost use Rattle.std.specs.List.{Contains};
+ghost use Rattle.layout.specs.StateLimits.{limits_of};
 ghost use Rattle.model.specs.Records.{IsBelow};
 ghost use Rattle.model.specs.Volumes.{entries};
 ghost use Rattle.buffers.specs.Errors.{IsFault};
@@ -37,7 +38,7 @@ pub(crate) fn is_below<B: Blocks>(
     requires number { IsInodeNumber inodes.old.geometry.inodes number }
     ensures looks { Looks B.Blocks IsFault blocks.old blocks.new inodes.old inodes.new result }
     ensures below { (detail : Detail) → OnVolumesIn detail B.Blocks blocks.old inodes.old (λ disk settled v.
-        IsKnownVolume detail inodes.old.geometry.inodes v
+        IsKnownVolume detail (limits_of inodes.old.geometry) v
         → IfOk result (λ below. IsTrue below ↔ IsBelow (entries v) top number)) }
     ensures damaged { (detail : Detail) → NeverDamagedIn detail B.Blocks blocks.old inodes.old result }
 {
@@ -66,7 +67,7 @@ fn climb<B: Blocks>(
 ) -> Result<Option<bool>, BlockError>
     requires { IsInodeNumber inodes.old.geometry.inodes number }
     ensures { Finds B.Blocks blocks.old blocks.new inodes.old inodes.new
-        (λ detail disk settled v told. IsKnownVolume detail inodes.old.geometry.inodes v
+        (λ detail disk settled v told. IsKnownVolume detail (limits_of inodes.old.geometry) v
         → IfSome told (λ below. IsTrue below ↔ IsBelow (entries v) top number)) result }
 {
     let is_directory = is_directory_at(alloc, inodes, blocks, number)?;

@@ -1,11 +1,12 @@
 //! Records that change a file's bytes.
 
 ghost use Rattle.std.specs.Prelude.{◌≡◌, ◌≤◌, ◌+◌, ◌↔◌, ℕ, List, Option, Some, IsTrue, IfErr, IfOk, IfSome, IsErrOf, OnOk, is_some, length};
+ghost use Rattle.layout.specs.StateLimits.{limits_of};
 ghost use Rattle.layout.specs.declared.inode.Inode.{Inode};
 ghost use Rattle.model.specs.Edits.{resized, written};
 ghost use Rattle.model.specs.Records.{with_file_bytes};
 ghost use Rattle.model.specs.Volumes.{Node, is_file_node};
-ghost use Rattle.model.specs.declared.limits.TheConstants.{GREATEST_FILE, TRANSFER_BYTES};
+ghost use Rattle.model.specs.declared.limits.TheConstants.{TRANSFER_BYTES};
 ghost use Rattle.buffers.specs.Reads.{ReadsBlocks};
 ghost use Rattle.buffers.specs.Errors.{IsFault};
 ghost use Rattle.images.specs.Edges.{EndsIn as IsEnd, IsPartlyWritten};
@@ -18,7 +19,7 @@ ghost use Rattle.inofile.specs.Inodes.{loaded};
 ghost use Rattle.inofile.specs.Objects.{EndsIn, IsObjectIn, IsObjectOrNone, IsSameObject, IsSameOrNone, StaysKnown};
 ghost use Rattle.paths.specs.Numbers.{IsInodeNumber};
 ghost use Rattle.paths.specs.Standing.{Looks};
-ghost use Rattle.records.specs.Contents.{FitsFile, IsSoundIn, IsWholeIn, KeepsRewriteBounds, LeavesPart, PlansFile, RewriteRoom, RewritesFile, RewritesIn, bytes_after, mode_after, rewrite_room, rewriting};
+ghost use Rattle.records.specs.Contents.{FitsFile, IsSoundIn, IsWholeIn, KeepsRecordBounds, KeepsRewriteBounds, LeavesPart, PlansFile, RewriteRoom, RewritesFile, RewritesIn, bytes_after, end_of, mode_after, rewrite_room, rewriting};
 ghost use Rattle.records.specs.Failures.{read_outcome};
 ghost use Rattle.records.specs.Preparing.{DecidesRecord};
 ghost use Rattle.records.specs.Shown.{OnVolumesIn};
@@ -32,7 +33,7 @@ use buffers::{BlockError, Blocks};
 use inode::{ChangeError, File, FileUpdate, Object};
 use inofile::{InodeFile, objects_stand_in_their_grammar};
 use layout::{InodeNumber, Kind};
-use model::{Errno, GREATEST_FILE, Mode, TRANSFER_BYTES};
+use model::{Errno, Limits, Mode, TRANSFER_BYTES};
 use std::alloc::Global;
 
 /// What becomes of a file's bytes.
@@ -70,9 +71,10 @@ pub(crate) fn prepare_bytes<B: Blocks>(
     ensures decides { DecidesRecord B.Blocks blocks.old blocks.new inodes.old inodes.new
         (rewriting number rewrite.now) result }
     ensures own { IfOk (read_outcome result) (λ r. IfErr r (λ e. e ≡ Errno.EFBIG)) }
-    ensures bounds { IfOk result (λ _. KeepsRewriteBounds rewrite.now) }
+    ensures bounds { IfOk result
+        (λ _. KeepsRewriteBounds (limits_of inodes.old.geometry) rewrite.now) }
 {
-    if !keeps_bounds(rewrite) {
+    if !keeps_bounds(inodes.limits(), rewrite) {
         return Err(Failure::Refused(Errno::EFBIG));
     }
     if !is_number(inodes, number) {
@@ -93,20 +95,21 @@ pub(crate) fn prepare_bytes<B: Blocks>(
 }
 
 // Whether a change of a file's bytes keeps to the limits.
-fn keeps_bounds(rewrite: &Rewrite<'_>) -> bool
-    ensures { IsTrue result ↔ KeepsRewriteBounds rewrite.now }
+fn keeps_bounds(limits: Limits, rewrite: &Rewrite<'_>) -> bool
+    ensures { IsTrue result ↔ KeepsRewriteBounds limits rewrite.now }
 {
     match rewrite {
         Rewrite::Write { offset, bytes } => {
             !bytes.is_empty()
                 && bytes.len() <= TRANSFER_BYTES
-                && *offset <= GREATEST_FILE - bytes.len() as u64
+                && *offset <= limits.file_bytes
+                && bytes.len() as u64 <= limits.file_bytes - *offset
         }
-        Rewrite::Truncate { size } => *size <= GREATEST_FILE,
+        Rewrite::Truncate { size } => *size <= limits.file_bytes,
         Rewrite::Set { mode, size } => {
             // The type of a mode holds it to its bits.
             let _ = mode.bits();
-            *size <= GREATEST_FILE
+            *size <= limits.file_bytes
         }
     }
 }
@@ -120,7 +123,7 @@ fn plan_number<B: Blocks>(
     number: InodeNumber,
     rewrite: &Rewrite<'_>,
 ) -> Result<Option<FileUpdate>, BlockError>
-    requires bounds { KeepsRewriteBounds rewrite.now }
+    requires bounds { KeepsRewriteBounds (limits_of inodes.old.geometry) rewrite.now }
     requires number { IsInodeNumber inodes.old.geometry.inodes number }
     ensures looks { Looks B.Blocks IsFault blocks.old blocks.new inodes.old inodes.new result }
     ensures planned { (detail : Detail) → OnVolumesIn detail B.Blocks blocks.old inodes.old (λ disk settled v.
@@ -151,7 +154,7 @@ fn plan_object<B: Blocks>(
     blocks: &mut B,
     rewrite: &Rewrite<'_>,
 ) -> Result<Option<FileUpdate>, BlockError>
-    requires { KeepsRewriteBounds rewrite.now }
+    requires { KeepsRecordBounds rewrite.now }
     ensures reads { ReadsBlocks B.Blocks IsFault blocks.old blocks.new result }
     ensures same { IsSameOrNone object.old object.new }
     ensures knows { (inodes : ℕ) (disk : ℕ → List ℕ) → StaysKnown inodes disk object.old object.new }
@@ -185,7 +188,7 @@ fn plan_taken<B: Blocks>(
     blocks: &mut B,
     rewrite: &Rewrite<'_>,
 ) -> Result<Option<FileUpdate>, BlockError>
-    requires { KeepsRewriteBounds rewrite.now }
+    requires { KeepsRecordBounds rewrite.now }
     ensures reads { ReadsBlocks B.Blocks IsFault blocks.old blocks.new result }
     ensures same { IsSameObject object.old object.new }
     ensures knows { (inodes : ℕ) (disk : ℕ → List ℕ) → StaysKnown inodes disk (Some object.old) (Some object.new) }
@@ -219,9 +222,9 @@ fn plan<B: Blocks>(
     blocks: &mut B,
     rewrite: &Rewrite<'_>,
 ) -> Result<FileUpdate, BlockError>
-    requires { KeepsRewriteBounds rewrite.now }
+    requires { KeepsRecordBounds rewrite.now }
     ensures { PlansFile B.Blocks blocks.old blocks.new file.old file.new
-        (bytes_after rewrite.now) (rewrite_room file.old.size rewrite.now)
+        (bytes_after rewrite.now) (end_of rewrite.now) (rewrite_room file.old.size rewrite.now)
         (LeavesPart file.old.size rewrite.now) result }
 {
     match rewrite {
@@ -241,17 +244,17 @@ fn plan_write<B: Blocks>(
 ) -> Result<FileUpdate, BlockError>
     requires some { 1 ≤ length bytes.now }
     requires few { length bytes.now ≤ TRANSFER_BYTES }
-    requires within { offset + length bytes.now ≤ GREATEST_FILE }
     ensures { PlansFile B.Blocks blocks.old blocks.new file.old file.new
-        (written offset bytes.now) (write_room file.old.size offset (length bytes.now))
-        (IsPartlyWritten offset (length bytes.now)) result }
+        (written offset bytes.now) (offset + length bytes.now)
+        (write_room file.old.size offset (length bytes.now)) (IsPartlyWritten offset (length bytes.now)) result }
 {
     match file.prepare_write(alloc, blocks, offset, bytes) {
         Ok(change) => Ok(change),
+        // The files of an image have its layout, and can be as great as its limits let them.
+        Err(ChangeError::TooBig) => Err(BlockError::Damaged),
         Err(ChangeError::NoMemory) => Err(BlockError::NoMemory),
         Err(ChangeError::Device) => Err(BlockError::Device),
         Err(ChangeError::Damaged) => Err(BlockError::Damaged),
-        Err(ChangeError::TooBig) => unreachable!(),
     }
 }
 
@@ -262,17 +265,17 @@ fn plan_truncate<B: Blocks>(
     blocks: &mut B,
     size: u64,
 ) -> Result<FileUpdate, BlockError>
-    requires { size ≤ GREATEST_FILE }
     ensures { PlansFile B.Blocks blocks.old blocks.new file.old file.new
-        (resized size) (size_room file.old.size size)
+        (resized size) size (size_room file.old.size size)
         (IsEnd file.old.size size) result }
 {
     match file.prepare_truncate(alloc, blocks, size) {
         Ok(change) => Ok(change),
+        // The files of an image have its layout, and can be as great as its limits let them.
+        Err(ChangeError::TooBig) => Err(BlockError::Damaged),
         Err(ChangeError::NoMemory) => Err(BlockError::NoMemory),
         Err(ChangeError::Device) => Err(BlockError::Device),
         Err(ChangeError::Damaged) => Err(BlockError::Damaged),
-        Err(ChangeError::TooBig) => unreachable!(),
     }
 }
 

@@ -1,6 +1,7 @@
 //! Names that directories get and lose.
 
 ghost use Rattle.std.specs.Prelude.{◌≡◌, ◌≢◌, ◌*◌, ◌↔◌, ℕ, List, Option, Some, IsTrue, IfOk, IfSome, IsErrOf};
+ghost use Rattle.layout.specs.StateLimits.{limits_of};
 ghost use Rattle.layout.specs.DirectoryNames.{NameMap};
 ghost use Rattle.layout.specs.declared.inode.Inode.{Inode};
 ghost use Rattle.layout.specs.declared.kind.Kind.TheVariants as kinds;
@@ -29,6 +30,7 @@ use entries::Known;
 use inode::Object;
 use inofile::{InodeFile, objects_stand_in_their_grammar};
 use layout::{InodeNumber, Kind};
+use model::Limits;
 use std::alloc::Global;
 use std::mem;
 
@@ -44,7 +46,7 @@ pub(crate) fn edit_parent<B: Blocks>(
     requires parent { IsInodeNumber inodes.old.geometry.inodes parent }
     requires wanted { IsNameEdit inodes.old.geometry.inodes wanted.now }
     ensures edit { Finds B.Blocks blocks.old blocks.new inodes.old inodes.new (λ detail disk settled v.
-        PreparesEdit disk inodes.new.geometry.inodes wanted.now (v parent)
+        PreparesEdit disk (limits_of inodes.new.geometry) wanted.now (v parent)
         (loaded inodes.new parent)) result }
     ensures ready { IfOk result
         (λ e. IfSome e (λ x. TakesUpdate inodes.new parent (updates.Names x))) }
@@ -64,17 +66,17 @@ pub(crate) fn edit_known<B: Blocks>(
     requires parent { IsAtHand inodes.old parent }
     requires wanted { IsNameEdit inodes.old.geometry.inodes wanted.now }
     ensures edit { Finds B.Blocks blocks.old blocks.new inodes.old inodes.new (λ detail disk settled v.
-        PreparesEdit disk inodes.new.geometry.inodes wanted.now (v parent)
+        PreparesEdit disk (limits_of inodes.new.geometry) wanted.now (v parent)
         (loaded inodes.new parent)) result }
     ensures ready { IfOk result
         (λ e. IfSome e (λ x. TakesUpdate inodes.new parent (updates.Names x))) }
     ensures rest { (n : ℕ) → (n ≢ parent) → loaded inodes.new n ≡ loaded inodes.old n }
 {
     objects_stand_in_their_grammar();
-    let count = inodes.geometry().inodes();
+    let limits = inodes.limits();
     let n = parent.get();
     let mut object = inodes.take(n);
-    let edit = edit_object(alloc, &mut object, blocks, count, wanted);
+    let edit = edit_object(alloc, &mut object, blocks, limits, wanted);
     inodes.put_back(n, object);
     edit
 }
@@ -84,20 +86,20 @@ fn edit_object<B: Blocks>(
     alloc: Global,
     object: &mut Option<Object>,
     blocks: &mut B,
-    inodes: u32,
+    limits: Limits,
     wanted: &NameEdit<'_>,
 ) -> Result<Option<Edit>, BlockError>
-    requires { IsNameEdit inodes wanted.now }
+    requires { IsNameEdit limits.inodes wanted.now }
     ensures reads { ReadsBlocks B.Blocks IsFault blocks.old blocks.new result }
     ensures same { IsSameOrNone object.old object.new }
-    ensures knows { (disk : ℕ → List ℕ) → StaysKnown inodes disk object.old object.new }
+    ensures knows { (disk : ℕ → List ℕ) → StaysKnown limits.inodes disk object.old object.new }
     ensures fits { IfOk result (λ e. IfSome e (FitsObject object.new)) }
     ensures edits { (detail : Detail) (disk : ℕ → List ℕ) (settled : Inode) (found : Option Node)
-        → B.Shows blocks.old disk → IsObjectOrNone detail disk inodes settled object.old found
-        → IfOk result (PreparesEdit disk inodes wanted.now found object.new) }
+        → B.Shows blocks.old disk → IsObjectOrNone detail disk limits.inodes settled object.old found
+        → IfOk result (PreparesEdit disk limits wanted.now found object.new) }
     ensures damaged { (detail : Detail) (disk : ℕ → List ℕ) (settled : Inode) (found : Option Node)
         → B.Shows blocks.old disk → IsErrOf result BlockError.Damaged
-        → IsObjectOrNone detail disk inodes settled object.old found
+        → IsObjectOrNone detail disk limits.inodes settled object.old found
         → ((o : Object) → object.old ≡ Some o → o.status.kind ≡ kinds.Directory
         → (i : ℕ) → IsSoundAt (B.count blocks.old) disk o.file.tree i) → ⊥ }
 {
@@ -115,7 +117,7 @@ fn edit_object<B: Blocks>(
         &mut directory.file,
         &mut known,
         blocks,
-        inodes,
+        limits,
         wanted,
     );
     *object = Some(directory);

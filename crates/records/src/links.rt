@@ -18,7 +18,7 @@ use crate::{Failure, Prepared};
 use buffers::Blocks;
 use inofile::InodeFile;
 use layout::{Entry, InodeNumber, Kind, is_name};
-use model::{Errno, FILE_NAMES};
+use model::Errno;
 use std::alloc::Global;
 
 /// Prepares that a file gets a name more; or tells the first obstacle: ENAMETOOLONG where the name
@@ -46,7 +46,7 @@ pub fn prepare_link<B: Blocks>(
     let Some(links) = links_of(inodes, number) else {
         return Err(Failure::Refused(Errno::EPERM));
     };
-    if links >= FILE_NAMES {
+    if links >= inodes.limits().file_names {
         return Err(Failure::Refused(Errno::EMLINK));
     }
     if !is_number(inodes, parent) {

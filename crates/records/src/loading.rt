@@ -1,6 +1,7 @@
 //! Objects on their way into memory.
 
 ghost use Rattle.std.specs.Prelude.{◌≡◌, ◌≢◌, None, IsFalse, IsTrue};
+ghost use Rattle.layout.specs.StateLimits.{limits_of};
 ghost use Rattle.model.specs.Volumes.{Volume};
 ghost use Rattle.images.specs.Soundness.{Detail};
 ghost use Rattle.inofile.specs.Inodes.{IsKnown};
@@ -18,7 +19,7 @@ use std::alloc::Global;
 pub(crate) fn is_number(inodes: &InodeFile, number: InodeNumber) -> bool
     ensures yes { IsTrue result → IsInodeNumber inodes.now.geometry.inodes number }
     ensures no { IsFalse result
-        → (detail : Detail) (v : Volume) → IsKnownVolume detail inodes.now.geometry.inodes v
+        → (detail : Detail) (v : Volume) → IsKnownVolume detail (limits_of inodes.now.geometry) v
         → v number ≡ None }
 {
     number.get() >= ROOT_NUMBER && number.get() < inodes.geometry().inodes()

@@ -20,6 +20,7 @@ use dirs::{AddError, Edit};
 use entries::Known;
 use inode::File;
 use layout::Entry;
+use model::Limits;
 use std::alloc::Global;
 
 /// What becomes of the names of a directory.
@@ -42,20 +43,20 @@ pub(crate) fn edit_file<B: Blocks>(
     file: &mut File,
     known: &mut Known,
     blocks: &mut B,
-    inodes: u32,
+    limits: Limits,
     wanted: &NameEdit<'_>,
 ) -> Result<Option<Edit>, BlockError>
-    requires { IsNameEdit inodes wanted.now }
-    ensures { EditsFile (λ disk names. IsDirectory inodes disk file.old names
-        × Knows inodes (file_block disk file.old) known.old) (pieces_of wanted.now) B.Blocks blocks.old blocks.new
-        inodes file.old file.new known.new wanted.now result }
+    requires { IsNameEdit limits.inodes wanted.now }
+    ensures { EditsFile (λ disk names. IsDirectory limits.inodes disk file.old names
+        × Knows limits.inodes (file_block disk file.old) known.old) (pieces_of wanted.now) B.Blocks blocks.old blocks.new
+        limits file.old file.new known.new wanted.now result }
 {
     let edit = Edit::of(alloc, file);
     match wanted {
-        NameEdit::Add(entry) => add_new(alloc, file, known, blocks, inodes, edit, entry),
-        NameEdit::Remove(name) => remove_one(alloc, file, known, blocks, inodes, edit, name),
-        NameEdit::Replace(entry) => replace_in(alloc, file, known, blocks, inodes, edit, entry),
-        NameEdit::Move(old, entry) => move_in(alloc, file, known, blocks, inodes, edit, old, entry),
+        NameEdit::Add(entry) => add_new(alloc, file, known, blocks, limits, edit, entry),
+        NameEdit::Remove(name) => remove_one(alloc, file, known, blocks, limits, edit, name),
+        NameEdit::Replace(entry) => replace_in(alloc, file, known, blocks, limits, edit, entry),
+        NameEdit::Move(old, entry) => move_in(alloc, file, known, blocks, limits, edit, old, entry),
     }
 }
 
@@ -65,18 +66,26 @@ fn add_new<B: Blocks>(
     file: &mut File,
     known: &mut Known,
     blocks: &mut B,
-    inodes: u32,
+    limits: Limits,
     edit: Edit,
     entry: &Entry<'_>,
 ) -> Result<Option<Edit>, BlockError>
-    requires entry { IsEntry inodes (named_of entry.now) }
+    requires entry { IsEntry limits.inodes (named_of entry.now) }
     requires fits { FitsIn file.old edit }
-    ensures { EditsFile (λ disk names. HasEditedNames inodes disk file.old edit names
-        × Knows inodes (edited_block disk file.old edit) known.old) (piece_count edit + 1) B.Blocks blocks.old blocks.new
-        inodes file.old file.new known.new (NameEdit.Add entry.now) result }
+    ensures { EditsFile (λ disk names. HasEditedNames limits.inodes disk file.old edit names
+        × Knows limits.inodes (edited_block disk file.old edit) known.old) (piece_count edit + 1) B.Blocks blocks.old blocks.new
+        limits file.old file.new known.new (NameEdit.Add entry.now) result }
 {
     let mut edit = edit;
-    match edit.prepare_add(alloc, file, known, blocks, inodes, entry) {
+    match edit.prepare_add(
+        alloc,
+        file,
+        known,
+        blocks,
+        limits.inodes,
+        limits.directory_names,
+        entry,
+    ) {
         Ok(true) => Ok(Some(edit)),
         Ok(false) => Ok(None),
         Err(AddError::DirFull) => Ok(None),
@@ -92,16 +101,16 @@ fn remove_one<B: Blocks>(
     file: &mut File,
     known: &mut Known,
     blocks: &mut B,
-    inodes: u32,
+    limits: Limits,
     edit: Edit,
     name: &[u8],
 ) -> Result<Option<Edit>, BlockError>
     requires fits { FitsIn file.old edit }
-    ensures { EditsFile (λ disk names. HasEditedNames inodes disk file.old edit names
-        × Knows inodes (edited_block disk file.old edit) known.old) (piece_count edit + 1) B.Blocks blocks.old blocks.new
-        inodes file.old file.new known.new (edits.Remove name.entry) result }
+    ensures { EditsFile (λ disk names. HasEditedNames limits.inodes disk file.old edit names
+        × Knows limits.inodes (edited_block disk file.old edit) known.old) (piece_count edit + 1) B.Blocks blocks.old blocks.new
+        limits file.old file.new known.new (edits.Remove name.entry) result }
 {
-    let edit = remove_in(alloc, file, known, blocks, inodes, edit, name)?;
+    let edit = remove_in(alloc, file, known, blocks, limits, edit, name)?;
     Ok(Some(edit))
 }
 
@@ -111,18 +120,18 @@ fn replace_in<B: Blocks>(
     file: &mut File,
     known: &mut Known,
     blocks: &mut B,
-    inodes: u32,
+    limits: Limits,
     edit: Edit,
     entry: &Entry<'_>,
 ) -> Result<Option<Edit>, BlockError>
-    requires entry { IsEntry inodes (named_of entry.now) }
+    requires entry { IsEntry limits.inodes (named_of entry.now) }
     requires fits { FitsIn file.old edit }
-    ensures { EditsFile (λ disk names. HasEditedNames inodes disk file.old edit names
-        × Knows inodes (edited_block disk file.old edit) known.old) (piece_count edit + 2) B.Blocks blocks.old blocks.new
-        inodes file.old file.new known.new (NameEdit.Replace entry.now) result }
+    ensures { EditsFile (λ disk names. HasEditedNames limits.inodes disk file.old edit names
+        × Knows limits.inodes (edited_block disk file.old edit) known.old) (piece_count edit + 2) B.Blocks blocks.old blocks.new
+        limits file.old file.new known.new (NameEdit.Replace entry.now) result }
 {
-    let edit = remove_in(alloc, file, known, blocks, inodes, edit, entry.name)?;
-    add_new(alloc, file, known, blocks, inodes, edit, entry)
+    let edit = remove_in(alloc, file, known, blocks, limits, edit, entry.name)?;
+    add_new(alloc, file, known, blocks, limits, edit, entry)
 }
 
 // The same, where it is likely that nothing has the name: the directory is looked through once
@@ -132,20 +141,28 @@ fn place_in<B: Blocks>(
     file: &mut File,
     known: &mut Known,
     blocks: &mut B,
-    inodes: u32,
+    limits: Limits,
     edit: Edit,
     entry: &Entry<'_>,
 ) -> Result<Option<Edit>, BlockError>
-    requires entry { IsEntry inodes (named_of entry.now) }
+    requires entry { IsEntry limits.inodes (named_of entry.now) }
     requires fits { FitsIn file.old edit }
-    ensures { EditsFile (λ disk names. HasEditedNames inodes disk file.old edit names
-        × Knows inodes (edited_block disk file.old edit) known.old) (piece_count edit + 2) B.Blocks blocks.old blocks.new
-        inodes file.old file.new known.new (NameEdit.Replace entry.now) result }
+    ensures { EditsFile (λ disk names. HasEditedNames limits.inodes disk file.old edit names
+        × Knows limits.inodes (edited_block disk file.old edit) known.old) (piece_count edit + 2) B.Blocks blocks.old blocks.new
+        limits file.old file.new known.new (NameEdit.Replace entry.now) result }
 {
     let mut edit = edit;
-    match edit.prepare_add(alloc, file, known, blocks, inodes, entry) {
+    match edit.prepare_add(
+        alloc,
+        file,
+        known,
+        blocks,
+        limits.inodes,
+        limits.directory_names,
+        entry,
+    ) {
         Ok(true) => Ok(Some(edit)),
-        Ok(false) => replace_in(alloc, file, known, blocks, inodes, edit, entry),
+        Ok(false) => replace_in(alloc, file, known, blocks, limits, edit, entry),
         Err(AddError::DirFull) => Ok(None),
         Err(AddError::NoMemory) => Err(BlockError::NoMemory),
         Err(AddError::Device) => Err(BlockError::Device),
@@ -160,19 +177,19 @@ fn move_in<B: Blocks>(
     file: &mut File,
     known: &mut Known,
     blocks: &mut B,
-    inodes: u32,
+    limits: Limits,
     edit: Edit,
     old: &[u8],
     entry: &Entry<'_>,
 ) -> Result<Option<Edit>, BlockError>
-    requires entry { IsEntry inodes (named_of entry.now) }
+    requires entry { IsEntry limits.inodes (named_of entry.now) }
     requires fits { FitsIn file.old edit }
-    ensures { EditsFile (λ disk names. HasEditedNames inodes disk file.old edit names
-        × Knows inodes (edited_block disk file.old edit) known.old) (piece_count edit + 3) B.Blocks blocks.old blocks.new
-        inodes file.old file.new known.new (edits.Move old.entry entry.now) result }
+    ensures { EditsFile (λ disk names. HasEditedNames limits.inodes disk file.old edit names
+        × Knows limits.inodes (edited_block disk file.old edit) known.old) (piece_count edit + 3) B.Blocks blocks.old blocks.new
+        limits file.old file.new known.new (edits.Move old.entry entry.now) result }
 {
-    let edit = remove_in(alloc, file, known, blocks, inodes, edit, old)?;
-    place_in(alloc, file, known, blocks, inodes, edit, entry)
+    let edit = remove_in(alloc, file, known, blocks, limits, edit, old)?;
+    place_in(alloc, file, known, blocks, limits, edit, entry)
 }
 
 // A name is gone.
@@ -181,7 +198,7 @@ fn remove_in<B: Blocks>(
     file: &mut File,
     known: &mut Known,
     blocks: &mut B,
-    inodes: u32,
+    limits: Limits,
     edit: Edit,
     name: &[u8],
 ) -> Result<Edit, BlockError>
@@ -191,15 +208,15 @@ fn remove_in<B: Blocks>(
     ensures fits { IfOk result (FitsIn file.new) }
     ensures pieces { IfOk result (λ x. piece_count x ≤ piece_count edit + 1) }
     ensures edited { (disk : ℕ → List ℕ) (names : NameMap) → B.Shows blocks.old disk
-        → Knows inodes (edited_block disk file.old edit) known.old
-        → HasEditedNames inodes disk file.old edit names → IfOk result
-        (λ x. HasEditedNames inodes disk file.new x (with_name name.now None names)
-        × Knows inodes (edited_block disk file.new x) known.new) }
+        → Knows limits.inodes (edited_block disk file.old edit) known.old
+        → HasEditedNames limits.inodes disk file.old edit names → IfOk result
+        (λ x. HasEditedNames limits.inodes disk file.new x (with_name name.now None names)
+        × Knows limits.inodes (edited_block disk file.new x) known.new) }
     ensures damaged { (disk : ℕ → List ℕ) (names : NameMap) → B.Shows blocks.old disk
-        → IsErrOf result BlockError.Damaged → HasEditedNames inodes disk file.old edit names
+        → IsErrOf result BlockError.Damaged → HasEditedNames limits.inodes disk file.old edit names
         → ((i : ℕ) → IsSoundAt (B.count blocks.old) disk file.old.tree i) → ⊥ }
 {
     let mut edit = edit;
-    edit.prepare_remove(alloc, file, known, blocks, inodes, name)?;
+    edit.prepare_remove(alloc, file, known, blocks, limits.inodes, name)?;
     Ok(edit)
 }

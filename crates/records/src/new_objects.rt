@@ -1,10 +1,13 @@
 //! Numbers for what is made.
 
 ghost use Rattle.std.specs.Prelude.{◌≡◌, ◌<◌, ◌≤◌, ◌↔◌, ℕ, List, [], Some, None, IfOk, IsErrOf, IsTrue};
-ghost use Rattle.layout.specs.Record.{made_of};
+ghost use Rattle.layout.specs.StateLimits.{limits_of};
+ghost use Rattle.layout.specs.Limits.{Sizes};
+ghost use Rattle.layout.specs.Record.{KeepsMadeLimits, made_of};
 ghost use Rattle.layout.specs.declared.inode.Inode.{Inode};
 ghost use Rattle.model.specs.Records.{IsMade, is_vacant, node_of};
 ghost use Rattle.layout.specs.LinkText.{IsLinkText};
+ghost use Rattle.layout.specs.declared.limits.TheConstants.{PATH_BYTES};
 ghost use Rattle.model.specs.Volumes.{directory_node, file_node, link_node};
 ghost use Rattle.model.specs.Attributes.{new_attributes};
 ghost use Rattle.model.specs.declared.limits.TheConstants.{LINK_MODE, MODE_BITS};
@@ -49,7 +52,7 @@ pub fn is_vacant<B: Blocks>(
 
 /// Whether what a record makes keeps to the limits.
 pub(crate) fn is_made(object: &NewObject<'_>) -> bool
-    ensures { IsTrue result ↔ IsMade (made_of object.now) }
+    ensures { (s : Sizes) → IsTrue result ↔ IsMade (limits_of s) (made_of object.now) }
 {
     match object {
         NewObject::Directory { mode } => mode.bits() <= MODE_BITS,
@@ -65,7 +68,7 @@ pub fn new_object<B: Blocks>(
     blocks: &mut B,
     object: &NewObject<'_>,
 ) -> Result<Object, BlockError>
-    requires { IsMade (made_of object.now) }
+    requires { KeepsMadeLimits (made_of object.now) }
     ensures reads { ReadsBlocks B.Blocks IsFault blocks.old blocks.new result }
     ensures object { (detail : Detail) (disk : ℕ → List ℕ) → B.Shows blocks.old disk → IfOk result
         (λ o. (inodes : ℕ) (settled : Inode) → settled.layout ≡ layout
@@ -88,7 +91,7 @@ fn new_link<B: Blocks>(
     blocks: &mut B,
     text: &[u8],
 ) -> Result<Object, BlockError>
-    requires { IsLinkText text.now }
+    requires { IsLinkText PATH_BYTES text.now }
     ensures reads { ReadsBlocks B.Blocks IsFault blocks.old blocks.new result }
     ensures object { (detail : Detail) (disk : ℕ → List ℕ) → B.Shows blocks.old disk → IfOk result
         (λ o. (inodes : ℕ) (settled : Inode) → settled.layout ≡ layout

@@ -3,6 +3,7 @@
 
 ghost use Rattle.std.specs.Prelude.{◌≡◌, ◌+◌, ◌≤◌, ℕ, List, Option, None, IfSome, IsTrue, false};
 ghost use Rattle.std.specs.Option.{option_map};
+ghost use Rattle.layout.specs.StateLimits.{limits_of};
 ghost use Rattle.layout.specs.declared.inode.Inode.{Inode};
 ghost use Rattle.model.specs.Records.{Change, applied, work_of};
 ghost use Rattle.model.specs.Room.{cost};
@@ -42,7 +43,7 @@ pub fn commit_swept(inodes: &mut InodeFile, files: &mut Descriptors, prepared: P
         (change : Change) → IsVolumeOf count disk settled inodes.old v
         → Does disk settled inodes.old v prepared change → IsMounted v (table_of files.old)
         → memory_room base inodes.new (swept (table_of files.old) (applied change v))
-        ≤ memory_room base inodes.old v + cost (work_of v change) }
+        ≤ memory_room base inodes.old v + cost (limits_of inodes.old.geometry).costs (work_of v change) }
     ensures fits { (count : ℕ) (disk : ℕ → List ℕ) (settled : ℕ → Inode) (v : Volume)
         (change : Change) → IsVolumeOf count disk settled inodes.old v
         → Does disk settled inodes.old v prepared change → IsMounted v (table_of files.old)

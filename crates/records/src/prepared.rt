@@ -1,6 +1,7 @@
 //! Records, prepared and committed.
 
 ghost use Rattle.std.specs.Prelude.{◌≡◌, ◌+◌, ◌≤◌, ◌<◌, ℕ, List, Some, IfErr, IfOk, IsTrue};
+ghost use Rattle.layout.specs.StateLimits.{limits_of};
 ghost use Rattle.layout.specs.Record.{change_of, made_of};
 ghost use Rattle.layout.specs.declared.inode.Inode.{Inode};
 ghost use Rattle.model.specs.Paths.{IsName};
@@ -157,10 +158,10 @@ pub fn prepare_new<B: Blocks>(
         → IfOk result (λ x. DoesIn detail disk settled inodes.new v x (create number parent made name.now)) }
     ensures named { IfOk result (λ _. IsName name.now) }
     ensures takes { (detail : Detail) → OnVolumesIn detail B.Blocks blocks.old inodes.old (λ disk settled v.
-        IfOk result (λ _. TakesName v parent name.now)) }
+        IfOk result (λ _. TakesName (limits_of inodes.old.geometry) v parent name.now)) }
     ensures refused { (detail : Detail) → OnVolumesIn detail B.Blocks blocks.old inodes.old (λ disk settled v.
-        IsKnownVolume detail inodes.old.geometry.inodes v
-        → IfOk (read_outcome result) (λ r. IfErr r (λ _. TakesName v parent name.now → ⊥))) }
+        IsKnownVolume detail (limits_of inodes.old.geometry) v
+        → IfOk (read_outcome result) (λ r. IfErr r (λ _. TakesName (limits_of inodes.old.geometry) v parent name.now → ⊥))) }
     ensures damaged { (detail : Detail) → NeverDamagedIn detail B.Blocks blocks.old inodes.old (read_outcome result) }
 {
     let entry = Entry { number, name };
@@ -203,7 +204,8 @@ pub fn commit(inodes: &mut InodeFile, prepared: Prepared)
         → IsVolumeIn detail count disk settled inodes.old v
         → DoesIn detail disk settled inodes.old v prepared change
         → memory_room base inodes.new (applied change v)
-        ≤ memory_room base inodes.old v + cost (work_of v change) }
+        ≤ memory_room base inodes.old v
+        + cost (limits_of inodes.old.geometry).costs (work_of v change) }
 {
     let Prepared { first, next, last } = prepared;
     commit_update(inodes, first);

@@ -1,6 +1,7 @@
 //! Records that move a name.
 
 ghost use Rattle.std.specs.Prelude.{◌≡◌, ◌≢◌, ◌≤◌, ◌↔◌, Option, None, Some, IsTrue, IfErr, IfOk, IfSome, IfNone};
+ghost use Rattle.layout.specs.StateLimits.{limits_of};
 ghost use Rattle.layout.specs.Directory.{IsEntry, named_of};
 ghost use Rattle.model.specs.Laws.{is_own};
 ghost use Rattle.model.specs.Paths.{Name};
@@ -89,7 +90,7 @@ pub fn goes_below<B: Blocks>(
     requires new_parent { IsInodeNumber inodes.old.geometry.inodes new_parent }
     ensures looks { Looks B.Blocks IsFault blocks.old blocks.new inodes.old inodes.new result }
     ensures below { (detail : Detail) (name : Name) → OnVolumesIn detail B.Blocks blocks.old inodes.old
-        (λ disk settled v. IsKnownVolume detail inodes.old.geometry.inodes v
+        (λ disk settled v. IsKnownVolume detail (limits_of inodes.old.geometry) v
         → entries v parent name ≡ Some number
         → IfOk result (λ below. IsTrue below ↔ IsBelow (entries v) number new_parent)) }
     ensures damaged { (detail : Detail) → NeverDamagedIn detail B.Blocks blocks.old inodes.old result }
@@ -312,12 +313,12 @@ fn edit_both<B: Blocks>(
     requires wanted { IsNameEdit inodes.old.geometry.inodes wanted.now }
     ensures both { Finds B.Blocks blocks.old blocks.new inodes.old inodes.new (λ detail disk settled v e.
         IfSome e (λ x.
-        PreparesEdit disk inodes.new.geometry.inodes wanted.now (v new_parent)
+        PreparesEdit disk (limits_of inodes.new.geometry) wanted.now (v new_parent)
         (loaded inodes.new new_parent) (Some x.0)
         × EditsIn disk inodes.new.geometry.inodes (with_name name.now None) (v parent)
         (loaded inodes.new parent) x.1
         × (piece_count x.1 ≤ 1))
-        × IfNone e (Accepts wanted.now (v new_parent)
+        × IfNone e (Accepts (limits_of inodes.new.geometry) wanted.now (v new_parent)
         → IsTrue (is_directory_node (v parent)) → ⊥)) result }
     ensures ready { IfOk result (λ e. IfSome e (λ x.
         TakesUpdate inodes.new new_parent (updates.Names x.0)

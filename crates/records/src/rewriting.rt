@@ -1,10 +1,11 @@
 //! Changes of the bytes of a file with a number, which a descriptor or a path leads to.
 
 ghost use Rattle.std.specs.Prelude.{◌≡◌, ◌+◌, ◌≤◌, IfErr, IfOk, IfSome, IsTrue, length, unwrap_or, []};
+ghost use Rattle.layout.specs.StateLimits.{limits_of};
 ghost use Rattle.model.specs.Records.{set_file, truncate, write};
 ghost use Rattle.model.specs.Volumes.{bytes_of_node, is_file_node};
 ghost use Rattle.model.specs.declared.errno.Errno.TheVariants.{EFBIG};
-ghost use Rattle.model.specs.declared.limits.TheConstants.{GREATEST_FILE, TRANSFER_BYTES};
+ghost use Rattle.model.specs.declared.limits.TheConstants.{TRANSFER_BYTES};
 ghost use Rattle.buffers.specs.Errors.{IsFault};
 ghost use Rattle.paths.specs.Numbers.{IsInodeNumber};
 ghost use Rattle.paths.specs.Standing.{Looks};
@@ -39,14 +40,14 @@ pub fn write_bytes<B: Blocks>(
     ensures own { IfOk (read_outcome result) (λ r. IfErr r (λ e. e ≡ EFBIG)) }
     ensures some { IfOk result (λ p. IfSome p (λ _. 1 ≤ length bytes.now)) }
     ensures within { IfOk result (λ p. IfSome p
-        (λ _. offset + length bytes.now ≤ GREATEST_FILE)) }
+        (λ _. offset + length bytes.now ≤ (limits_of inodes.old.geometry).file_bytes)) }
     ensures ready { IfOk result (λ p. IfSome p (IsReady inodes.new)) }
     ensures does { OnVolumes B.Blocks blocks.old inodes.old (λ disk settled v.
         IfOk result (λ p. IfSome p
         (λ x. Does disk settled inodes.new v x (write number offset bytes.now)))) }
     ensures answers { OnMounted B.Blocks blocks.old inodes.old (λ v table.
         IsTrue (is_file_node (v number)) → IfOk (read_outcome result)
-        (PutsBytes inodes.old.geometry.inodes v table number offset bytes.now)) }
+        (PutsBytes (limits_of inodes.old.geometry) v table number offset bytes.now)) }
     ensures damaged { NeverDamaged B.Blocks blocks.old inodes.old (read_outcome result) }
 {
     records_change_trees();
@@ -69,7 +70,7 @@ pub fn truncate_bytes<B: Blocks>(
     size: u64,
 ) -> Result<Option<Prepared>, Failure>
     requires number { IsInodeNumber inodes.old.geometry.inodes number }
-    requires within { size ≤ GREATEST_FILE }
+    requires within { size ≤ (limits_of inodes.old.geometry).file_bytes }
     ensures looks { Looks B.Blocks IsFault blocks.old blocks.new inodes.old inodes.new (read_outcome result) }
     ensures own { IfOk (read_outcome result) (λ r. IfErr r (λ e. e ≡ EFBIG)) }
     ensures ready { IfOk result (λ p. IfSome p (IsReady inodes.new)) }
@@ -77,7 +78,7 @@ pub fn truncate_bytes<B: Blocks>(
         IfOk result (λ p. IfSome p (λ x. Does disk settled inodes.new v x (truncate number size)))) }
     ensures answers { OnMounted B.Blocks blocks.old inodes.old (λ v table.
         IsTrue (is_file_node (v number)) → IfOk (read_outcome result)
-        (TruncatesBytes inodes.old.geometry.inodes v table number size)) }
+        (TruncatesBytes (limits_of inodes.old.geometry) v table number size)) }
     ensures damaged { NeverDamaged B.Blocks blocks.old inodes.old (read_outcome result) }
 {
     records_change_trees();
@@ -102,7 +103,7 @@ pub fn set_bytes<B: Blocks>(
     size: u64,
 ) -> Result<Option<Prepared>, Failure>
     requires number { IsInodeNumber inodes.old.geometry.inodes number }
-    requires within { size ≤ GREATEST_FILE }
+    requires within { size ≤ (limits_of inodes.old.geometry).file_bytes }
     ensures looks { Looks B.Blocks IsFault blocks.old blocks.new inodes.old inodes.new (read_outcome result) }
     ensures own { IfOk (read_outcome result) (λ r. IfErr r (λ e. e ≡ EFBIG)) }
     ensures ready { IfOk result (λ p. IfSome p (IsReady inodes.new)) }
@@ -110,7 +111,7 @@ pub fn set_bytes<B: Blocks>(
         IfOk result (λ p. IfSome p (λ x. Does disk settled inodes.new v x (set_file number mode size)))) }
     ensures answers { OnMounted B.Blocks blocks.old inodes.old (λ v table.
         IsTrue (is_file_node (v number)) → IfOk (read_outcome result)
-        (SetsBoth inodes.old.geometry.inodes v table number mode size)) }
+        (SetsBoth (limits_of inodes.old.geometry) v table number mode size)) }
     ensures damaged { NeverDamaged B.Blocks blocks.old inodes.old (read_outcome result) }
 {
     records_change_trees();

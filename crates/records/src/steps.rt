@@ -4,7 +4,7 @@ ghost use Rattle.std.specs.Prelude.{◌+◌, ◌≤◌, ◌||◌, ℕ, List, Opt
 ghost use Rattle.layout.specs.declared.inode.Inode.{Inode};
 ghost use Rattle.model.specs.Records.{with_file_bytes, with_node_mode};
 ghost use Rattle.model.specs.Volumes.{Node, is_directory_node, is_file_node};
-ghost use Rattle.model.specs.declared.limits.TheConstants.{FILE_NAMES};
+ghost use Rattle.layout.specs.declared.limits.TheConstants.{FILE_NAMES};
 ghost use Rattle.images.specs.Soundness.{Detail};
 ghost use Rattle.inofile.specs.Objects.{IsObjectOrNone};
 ghost use Rattle.inofile.specs.Room.{room_of};

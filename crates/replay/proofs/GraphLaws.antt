@@ -1,5 +1,6 @@
 -- What names and numbers keep, where the limits of objects aren't known.
 use Rattle.std.proofs.Common.{◌∙◌, ◌≡◌, inr, ℕ, List, Option, Some, None, IsSome, false, is_some, ap, sym, refl, [], ◌∷◌}
+use Rattle.model.specs.declared.limits.Limits.{Limits}
 use Rattle.model.specs.Records.{Applies, Change, applied, change_mode, create, set_file, truncate, link, node_of, rename, remove_name, with_bits, with_file_bytes, with_node_mode, with_size, without_orphans, write}
 use Rattle.model.specs.Edits.{resized, written}
 use Rattle.model.specs.Volumes.{IsGraph, IsVolume, Node, Volume, entries, is_directory_node, is_file_node, released, swept_node, with_entry, with_name_more, with_node}
@@ -13,55 +14,55 @@ use Rattle.images.specs.Replaying.{LeavesPlace, ReadsIn}
 use Rattle.records.specs.Preparing.{HasGraph, IsKnownVolume, IsVolumeFor}
 use Rattle.replay.specs.Volumes.{AppliesIn, ReplaysFor, ReplaysIn}
 
-module _ (inodes : ℕ) (v : Volume) (has : HasGraph inodes v) where
+module _ (limits : Limits) (v : Volume) (has : HasGraph limits.inodes v) where
   -- one object changes but for its kind, its names and its links
-  altered : (n : ℕ) (o : Option Node) → IsGraph (with_node n o v) → is_some o ≡ is_some (v n) → HasGraph inodes (with_node n o v)
-  altered n o graph some = record { graph = graph; numbers = numbers_node inodes v n o has.numbers (λ is. has.numbers n (sym some ∙ is)) }
+  altered : (n : ℕ) (o : Option Node) → IsGraph (with_node n o v) → is_some o ≡ is_some (v n) → HasGraph limits.inodes (with_node n o v)
+  altered n o graph some = record { graph = graph; numbers = numbers_node limits v n o has.numbers (λ is. has.numbers n (sym some ∙ is)) }
 
-  bytes_changed : (n : ℕ) (f : List ℕ → List ℕ) → HasGraph inodes (with_node n (with_file_bytes f (v n)) v)
+  bytes_changed : (n : ℕ) (f : List ℕ → List ℕ) → HasGraph limits.inodes (with_node n (with_file_bytes f (v n)) v)
   bytes_changed n f =
       altered n (with_file_bytes f (v n))
       (graph-altered v has.graph n (with_file_bytes f (v n)) (bytes_names f (v n)) (bytes_by is_file_node (λ attributes links a b. refl) f (v n)) (bytes_by is_directory_node (λ attributes links a b. refl) f (v n))
       (bytes_by is_some (λ attributes links a b. refl) f (v n)) (bytes_links f (v n)))
       (bytes_by is_some (λ attributes links a b. refl) f (v n))
 
-  mode_changed : (n mode : ℕ) → HasGraph inodes (with_bits n mode v)
+  mode_changed : (n mode : ℕ) → HasGraph limits.inodes (with_bits n mode v)
   mode_changed n mode =
       altered n (with_node_mode mode (v n))
       (graph-altered v has.graph n (with_node_mode mode (v n)) (mode_names mode (v n)) (mode_file mode (v n)) (mode_directory mode (v n)) (mode_some mode (v n)) (mode_links mode (v n)))
       (mode_some mode (v n))
 
-module _ (inodes : ℕ) (v : Volume) (has : HasGraph inodes v) where
+module _ (limits : Limits) (v : Volume) (has : HasGraph limits.inodes v) where
   -- a record that applies keeps it
-  pub record_kept : (change : Change) → Applies inodes v change → HasGraph inodes (applied change v)
+  pub record_kept : (change : Change) → Applies limits v change → HasGraph limits.inodes (applied change v)
   record_kept (create n d made x) can =
       let path = path_to v has.graph d can.takes.directory in
       record {
         graph = graph-created v has.graph path.0 x d n (node_of made) path.1 can.takes.directory can.takes.missing can.takes.name can.vacant (made_bare made) (made_links made);
-        numbers = numbers_entry inodes (with_node n (Some (node_of made)) v) d x (Some n) (numbers_node inodes v n (Some (node_of made)) has.numbers (λ some. inr (can.low, can.high)));
+        numbers = numbers_entry limits (with_node n (Some (node_of made)) v) d x (Some n) (numbers_node limits v n (Some (node_of made)) has.numbers (λ some. inr (can.low, can.high)));
       }
   record_kept (link n d x) can =
       let path = path_to v has.graph d can.takes.directory in
       record {
         graph = graph-linked v has.graph path.0 x d n can.attributes can.links can.bytes path.1 can.takes.directory can.takes.missing can.takes.name can.file;
-        numbers = numbers_entry inodes (with_node n (with_name_more (v n)) v) d x (Some n) (numbers_node inodes v n (with_name_more (v n)) has.numbers (λ some. has.numbers n (ap is_some can.file)));
+        numbers = numbers_entry limits (with_node n (with_name_more (v n)) v) d x (Some n) (numbers_node limits v n (with_name_more (v n)) has.numbers (λ some. has.numbers n (ap is_some can.file)));
       }
   record_kept (remove_name d x) can =
       let is = enters_directory (v d) x can.number can.there in
       let path = path_to v has.graph d is in
       record {
         graph = volume-unnamed v has.graph path.0 x d can.number path.1 is can.there can.empty;
-        numbers = numbers_entry inodes (released (entries v d x) v) d x None (numbers_released inodes (entries v d x) v has.numbers);
+        numbers = numbers_entry limits (released (entries v d x) v) d x None (numbers_released limits (entries v d x) v has.numbers);
       }
   record_kept (rename d x k y) can = record {
     graph = graph-moved v has.graph d x k y can;
-    numbers = numbers_entry inodes (with_entry d x None (released (entries v k y) v)) k y (entries v d x)
-        (numbers_entry inodes (released (entries v k y) v) d x None (numbers_released inodes (entries v k y) v has.numbers));
+    numbers = numbers_entry limits (with_entry d x None (released (entries v k y) v)) k y (entries v d x)
+        (numbers_entry limits (released (entries v k y) v) d x None (numbers_released limits (entries v k y) v has.numbers));
   }
-  record_kept (write n offset bytes) can = bytes_changed inodes v has n (written offset bytes)
-  record_kept (truncate n size) can = bytes_changed inodes v has n (resized size)
-  record_kept (change_mode n mode) can = mode_changed inodes v has n mode
-  record_kept (set_file n mode size) can = mode_changed inodes (with_size n size v) (bytes_changed inodes v has n (resized size)) n mode
+  record_kept (write n offset bytes) can = bytes_changed limits v has n (written offset bytes)
+  record_kept (truncate n size) can = bytes_changed limits v has n (resized size)
+  record_kept (change_mode n mode) can = mode_changed limits v has n mode
+  record_kept (set_file n mode size) can = mode_changed limits (with_size n size v) (bytes_changed limits v has n (resized size)) n mode
 
 swept_some : (o : Option Node) → IsSome (swept_node false o) → IsSome o
 swept_some None some = some
@@ -73,39 +74,39 @@ sweep_kept inodes v has = record { graph = graph-swept v has.graph (λ d. None);
 
 -- ---- in so much detail
 
-pub known_graph : (detail : Detail) (inodes : ℕ) (v : Volume) → IsKnownVolume detail inodes v → HasGraph inodes v
-known_graph by_bytes inodes v volume = record { graph = volume.graph; numbers = volume.limits.numbers }
-known_graph by_sizes inodes v volume = volume
+pub known_graph : (detail : Detail) (limits : Limits) (v : Volume) → IsKnownVolume detail limits v → HasGraph limits.inodes v
+known_graph by_bytes limits v volume = record { graph = volume.graph; numbers = volume.keeps.numbers }
+known_graph by_sizes limits v volume = volume
 
-pub known_after : (detail : Detail) (inodes : ℕ) (v : Volume) (change : Change) → (IsVolume inodes v → IsVolume inodes (applied change v)) → IsKnownVolume detail inodes v → Applies inodes v change
-    → IsKnownVolume detail inodes (applied change v)
-known_after by_bytes inodes v change keeps volume can = keeps volume
-known_after by_sizes inodes v change keeps volume can = record_kept inodes v volume change can
+pub known_after : (detail : Detail) (limits : Limits) (v : Volume) (change : Change) → (IsVolume limits v → IsVolume limits (applied change v)) → IsKnownVolume detail limits v → Applies limits v change
+    → IsKnownVolume detail limits (applied change v)
+known_after by_bytes limits v change keeps volume can = keeps volume
+known_after by_sizes limits v change keeps volume can = record_kept limits v volume change can
 
-pub known_swept : (detail : Detail) (inodes : ℕ) (v : Volume) → (IsVolume inodes v → IsVolume inodes (without_orphans v)) → IsKnownVolume detail inodes v → IsKnownVolume detail inodes (without_orphans v)
-known_swept by_bytes inodes v keeps volume = keeps volume
-known_swept by_sizes inodes v keeps volume = sweep_kept inodes v volume
+pub known_swept : (detail : Detail) (limits : Limits) (v : Volume) → (IsVolume limits v → IsVolume limits (without_orphans v)) → IsKnownVolume detail limits v → IsKnownVolume detail limits (without_orphans v)
+known_swept by_bytes limits v keeps volume = keeps volume
+known_swept by_sizes limits v keeps volume = sweep_kept limits.inodes v volume
 
 -- a record applies to a volume that has what is known of it
-pub volume_for : (detail : Detail) (inodes : ℕ) (change : Change) (v : Volume) → IsKnownVolume detail inodes v → AppliesIn detail inodes v change → IsVolumeFor detail inodes change v
-volume_for by_bytes inodes change v volume can = volume
-volume_for by_sizes inodes change v volume can = (volume, can.place)
+pub volume_for : (detail : Detail) (limits : Limits) (change : Change) (v : Volume) → IsKnownVolume detail limits v → AppliesIn detail limits v change → IsVolumeFor detail limits change v
+volume_for by_bytes limits change v volume can = volume
+volume_for by_sizes limits change v volume can = (volume, can.place)
 
-pub applies_so : (detail : Detail) (inodes : ℕ) (v : Volume) (change : Change) → AppliesIn detail inodes v change → Applies inodes v change
-applies_so by_bytes inodes v change can = can
-applies_so by_sizes inodes v change can = can.can
+pub applies_so : (detail : Detail) (limits : Limits) (v : Volume) (change : Change) → AppliesIn detail limits v change → Applies limits v change
+applies_so by_bytes limits v change can = can
+applies_so by_sizes limits v change can = can.can
 
-pub applies_within : (detail : Detail) (inodes : ℕ) (v : Volume) (change : Change) → Applies inodes v change → LeavesPlace v change → ReadsIn detail v change → AppliesIn detail inodes v change
-applies_within by_bytes inodes v change can place reads = can
-applies_within by_sizes inodes v change can place reads = record { can = can; place = place; reads = reads }
+pub applies_within : (detail : Detail) (limits : Limits) (v : Volume) (change : Change) → Applies limits v change → LeavesPlace limits v change → ReadsIn detail v change → AppliesIn detail limits v change
+applies_within by_bytes limits v change can place reads = can
+applies_within by_sizes limits v change can place reads = record { can = can; place = place; reads = reads }
 
-pub reads_in : (detail : Detail) (inodes : ℕ) (v : Volume) (change : Change) → AppliesIn detail inodes v change → ReadsIn detail v change
-reads_in by_bytes inodes v change can = tt
-reads_in by_sizes inodes v change can = can.reads
+pub reads_in : (detail : Detail) (limits : Limits) (v : Volume) (change : Change) → AppliesIn detail limits v change → ReadsIn detail v change
+reads_in by_bytes limits v change can = tt
+reads_in by_sizes limits v change can = can.reads
 
 -- record by record
-pub replays_by_one : (detail : Detail) (inodes : ℕ) (changes : List Change) (v w : Volume) → ReplaysFor detail inodes v changes w → ReplaysIn detail inodes v changes w
-replays_by_one by_bytes inodes [] v w replays = replays
-replays_by_one by_bytes inodes (change ∷ changes) v w replays = (replays.0, replays_by_one by_bytes inodes changes (applied change v) w replays.1)
-replays_by_one by_sizes inodes [] v w replays = replays
-replays_by_one by_sizes inodes (change ∷ changes) v w replays = (replays.0, replays_by_one by_sizes inodes changes (applied change v) w replays.1)
+pub replays_by_one : (detail : Detail) (limits : Limits) (changes : List Change) (v w : Volume) → ReplaysFor detail limits v changes w → ReplaysIn detail limits v changes w
+replays_by_one by_bytes limits [] v w replays = replays
+replays_by_one by_bytes limits (change ∷ changes) v w replays = (replays.0, replays_by_one by_bytes limits changes (applied change v) w replays.1)
+replays_by_one by_sizes limits [] v w replays = replays
+replays_by_one by_sizes limits (change ∷ changes) v w replays = (replays.0, replays_by_one by_sizes limits changes (applied change v) w replays.1)

@@ -1,10 +1,13 @@
 -- The volume that memory stands for, and records that lead from one to another.
 use Rattle.std.specs.Prelude.{ℕ, ◌≡◌, ◌⊎◌, ◌+◌, ◌≤◌, List, [], ◌∷◌, All, Result, MatchResult, map}
+use Rattle.model.specs.declared.limits.Limits.{Limits}
+use Rattle.layout.specs.StateLimits.{limits_of}
 use Rattle.layout.specs.Log.{HoldsBodies, LogHolds}
 use Rattle.layout.specs.Record.{Change, IsChange, change_bytes}
 use Rattle.layout.specs.declared.inode.Inode.{Inode}
-use Rattle.model.specs.Records.{Applies, Replays, applied, costs}
+use Rattle.model.specs.Records.{Applies, Replays, applied, cost_of_all}
 use Rattle.model.specs.Volumes.{Volume}
+use Rattle.model.specs.declared.costs.Costs.{Costs}
 use Rattle.buffers.specs.declared.error.BlockError.{BlockError}
 use Rattle.buffers.specs.declared.error.BlockError.TheVariants.{NoMemory, Device}
 use Rattle.images.specs.Replaying.{AppliesWithin, ReplaysWithin}
@@ -24,7 +27,7 @@ ComesTo result P = MatchResult result P (λ e. (e ≡ NoMemory) ⊎ (e ≡ Devic
 -- settled
 pub record HasVolumeIn (detail : Detail) (count : ℕ) (disk : ℕ → List ℕ) (settled : ℕ → Inode) (s : InodeFile) (v : Volume) : Type 0 where
   pub memory : IsVolumeIn detail count disk settled s v
-  pub volume : IsKnownVolume detail s.geometry.inodes v
+  pub volume : IsKnownVolume detail (limits_of s.geometry) v
 
 abbrev pub HasVolume : ℕ → (ℕ → List ℕ) → (ℕ → Inode) → InodeFile → Volume → Type 0
 HasVolume = HasVolumeIn by_bytes
@@ -45,45 +48,45 @@ bodies_of changes = map change_bytes changes
 
 -- records that apply one after the other lead from one volume to another: within the limits, where
 -- the volumes may pass them
-abbrev pub ReplaysFor : Detail → ℕ → Volume → List Change → Volume → Type 0
-ReplaysFor by_bytes inodes v changes w = Replays inodes v changes w
-ReplaysFor by_sizes inodes v changes w = ReplaysWithin inodes v changes w
+abbrev pub ReplaysFor : Detail → Limits → Volume → List Change → Volume → Type 0
+ReplaysFor by_bytes limits v changes w = Replays limits v changes w
+ReplaysFor by_sizes limits v changes w = ReplaysWithin limits v changes w
 
 -- the same record by record
-abbrev pub AppliesIn : Detail → ℕ → Volume → Change → Type 0
-AppliesIn by_bytes inodes v change = Applies inodes v change
-AppliesIn by_sizes inodes v change = AppliesWithin inodes v change
+abbrev pub AppliesIn : Detail → Limits → Volume → Change → Type 0
+AppliesIn by_bytes limits v change = Applies limits v change
+AppliesIn by_sizes limits v change = AppliesWithin limits v change
 
-abbrev pub ReplaysIn : Detail → ℕ → Volume → List Change → Volume → Type 0
-ReplaysIn detail inodes v [] w = w ≡ v
-ReplaysIn detail inodes v (change ∷ changes) w = AppliesIn detail inodes v change × ReplaysIn detail inodes (applied change v) changes w
+abbrev pub ReplaysIn : Detail → Limits → Volume → List Change → Volume → Type 0
+ReplaysIn detail limits v [] w = w ≡ v
+ReplaysIn detail limits v (change ∷ changes) w = AppliesIn detail limits v change × ReplaysIn detail limits (applied change v) changes w
 
 -- the bytes from a gate on hold these records, which lead from one volume to another
-pub record LeadTo (detail : Detail) (inodes : ℕ) (records : List ℕ) (changes : List Change) (old new : Volume) : Type 0 where
+pub record LeadTo (detail : Detail) (limits : Limits) (records : List ℕ) (changes : List Change) (old new : Volume) : Type 0 where
   pub are : All IsChange changes
   pub held : HoldsBodies records (bodies_of changes)
-  pub replays : ReplaysIn detail inodes old changes new
+  pub replays : ReplaysIn detail limits old changes new
 
 -- the bytes from a gate on hold some records that lead on from a volume
-abbrev pub LeadSomewhere : Detail → ℕ → List ℕ → Volume → Type 0
-LeadSomewhere detail inodes records old =
-    (changes : List Change) × (new : Volume) × LeadTo detail inodes records changes old new
+abbrev pub LeadSomewhere : Detail → Limits → List ℕ → Volume → Type 0
+LeadSomewhere detail limits records old =
+    (changes : List Change) × (new : Volume) × LeadTo detail limits records changes old new
 
 -- What is left behind the records from a gate on, and what these cost.
-pub record HasReplayed (records : List ℕ) (changes : List Change) (v : Volume) (r : ReplayedHalf) : Type 0 where
+pub record HasReplayed (costs : Costs) (records : List ℕ) (changes : List Change) (v : Volume) (r : ReplayedHalf) : Type 0 where
   pub held : HoldsLeaving records (bodies_of changes) r.left
-  pub cost : r.cost ≡ costs v changes
+  pub cost : r.cost ≡ cost_of_all costs v changes
 
 -- the log that was saved over a root holds these records, which lead from one volume to another
-pub record SavesRecordsIn (detail : Detail) (inodes : ℕ) (nvram : List ℕ) (saved : Saved) (changes : List Change) (old new : Volume) : Type 0 where
+pub record SavesRecordsIn (detail : Detail) (limits : Limits) (nvram : List ℕ) (saved : Saved) (changes : List Change) (old new : Volume) : Type 0 where
   pub are : All IsChange changes
   pub held : LogHolds saved.half saved.generation nvram (bodies_of changes)
-  pub replays : ReplaysFor detail inodes old changes new
+  pub replays : ReplaysFor detail limits old changes new
 
 -- it holds some records that lead on from a volume
-abbrev pub SavesSomeIn : Detail → ℕ → List ℕ → Saved → Volume → Type 0
-SavesSomeIn detail inodes nvram saved old =
-    (changes : List Change) × (new : Volume) × SavesRecordsIn detail inodes nvram saved changes old new
+abbrev pub SavesSomeIn : Detail → Limits → List ℕ → Saved → Volume → Type 0
+SavesSomeIn detail limits nvram saved old =
+    (changes : List Change) × (new : Volume) × SavesRecordsIn detail limits nvram saved changes old new
 
-abbrev pub SavesRecords : ℕ → List ℕ → Saved → List Change → Volume → Volume → Type 0
+abbrev pub SavesRecords : Limits → List ℕ → Saved → List Change → Volume → Volume → Type 0
 SavesRecords = SavesRecordsIn by_bytes

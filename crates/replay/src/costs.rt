@@ -1,6 +1,8 @@
 //! What the records of the log cost a consistency point.
 
-ghost use Rattle.std.specs.Prelude.{◌≡◌, ◌≤◌, ℕ, List, if◌then◌else◌, nat_lt};
+ghost use Rattle.std.specs.Prelude.{◌≡◌, ◌≤◌, ◌<◌, ◌+◌, ◌^◌, ℕ, List, if◌then◌else◌, max, nat_lt};
+ghost use Rattle.layout.specs.StateLimits.{limits_of};
+ghost use Rattle.layout.specs.Limits.{Sizes};
 ghost use Rattle.layout.specs.Record.{KeepsLimits, change_of};
 ghost use Rattle.layout.specs.declared.inode.Inode.{Inode};
 ghost use Rattle.model.specs.declared.limits.TheConstants.{TRANSFER_BYTES};
@@ -15,10 +17,10 @@ ghost use Rattle.replay.specs.declared.costs.TheConstants.{MOST_COST};
 
 use inofile::InodeFile;
 use layout::{BLOCK_BYTES, Kind, Record};
-use model::{FILE_COST, GREAT_FILE_COST, HEADROOM_BLOCKS, MODE_COST, NAMES_COST, SINGLE_FILE};
+use model::Costs;
 
-/// The most that it may store for one record: for 65,536 bytes, which touch 17 blocks of such a
-/// file.
+/// The most that it may store for one record of an image: for 65,536 bytes, which touch 17 blocks
+/// of a great file.
 pub const MOST_COST: u64 = 42;
 
 /// How many bytes the file has that a record writes to or gives a size, before it is put in force:
@@ -60,36 +62,37 @@ fn file_size(inodes: &InodeFile, number: u32) -> u64
 }
 
 /// The most blocks that a consistency point stores for a record, over a file of this size.
-pub fn cost_of(logged: &Record<'_>, size: u64) -> u64
+pub fn cost_of(costs: Costs, logged: &Record<'_>, size: u64) -> u64
     requires { KeepsLimits (change_of logged.now) }
     ensures cost { (v : Volume) → IsSizeBefore v (change_of logged.now) size
-        → result ≡ room.cost (work_of v (change_of logged.now)) }
-    ensures few { result ≤ MOST_COST }
+        → result ≡ room.cost costs (work_of v (change_of logged.now)) }
+    ensures few { (s : Sizes) → costs ≡ (limits_of s).costs → result ≤ MOST_COST }
+    ensures bounded { result < 2 ^ 33 }
 {
     match logged {
-        Record::Create { .. }
-        | Record::Link { .. }
-        | Record::RemoveName { .. }
-        | Record::Rename { .. } => NAMES_COST,
-        Record::Write { offset, bytes, .. } => {
-            let end = offset.saturating_add(bytes.len() as u64);
-            2 * touched(*offset, bytes.len()) + beside(size.max(end))
+        Record::Create { .. } | Record::Link { .. } | Record::Rename { .. } => {
+            u64::from(costs.adds_name)
         }
-        Record::Truncate { .. } | Record::SetFile { .. } => FILE_COST,
-        Record::ChangeMode { .. } => MODE_COST,
+        Record::RemoveName { .. } => u64::from(costs.removes_name),
+        Record::Write { offset, bytes, .. } => {
+            let more = beside(costs, size, *offset, bytes.len());
+            2 * touched(*offset, bytes.len()) + u64::from(more)
+        }
+        Record::Truncate { .. } | Record::SetFile { .. } => u64::from(costs.file),
+        Record::ChangeMode { .. } => u64::from(costs.mode),
     }
 }
 
-/// The most that a write stores beside two for each block that it touches, where the file has so
-/// many bytes before it or behind it.
-fn beside(size: u64) -> u64
-    ensures value { result ≡ room.beside size }
-    ensures few { result ≤ 8 }
+/// The most that a write of so many bytes at an offset stores beside two for each block that it
+/// touches, into a file of this size.
+fn beside(costs: Costs, size: u64, offset: u64, count: usize) -> u32
+    ensures { result ≡ room.beside costs (max size (offset + count)) }
 {
-    if size > SINGLE_FILE {
-        GREAT_FILE_COST
+    let single = costs.single_file;
+    if size > single || offset > single || count as u64 > single - offset {
+        costs.great_file
     } else {
-        FILE_COST
+        costs.file
     }
 }
 
@@ -105,23 +108,27 @@ fn touched(offset: u64, count: usize) -> u64
 
 /// The blocks that stay free behind a record, over a file of this size, so that files can still be
 /// taken away.
-pub fn headroom_of(logged: &Record<'_>, size: u64) -> u64
+pub fn headroom_of(costs: Costs, logged: &Record<'_>, size: u64) -> u64
     ensures headroom { (v : Volume) → IsSizeBefore v (change_of logged.now) size
-        → result ≡ room.headroom (work_of v (change_of logged.now)) }
-    ensures few { result ≤ 16 }
+        → result ≡ room.headroom costs (work_of v (change_of logged.now)) }
+    ensures bounded { result < 2 ^ 32 }
 {
     match logged {
         Record::RemoveName { .. } | Record::ChangeMode { .. } => 0,
-        Record::Truncate { size: new, .. } => headroom_to(size, *new),
-        Record::SetFile { size: new, .. } => headroom_to(size, *new),
-        _ => HEADROOM_BLOCKS,
+        Record::Truncate { size: new, .. } => headroom_to(costs, size, *new),
+        Record::SetFile { size: new, .. } => headroom_to(costs, size, *new),
+        _ => u64::from(costs.headroom),
     }
 }
 
 /// Those behind a record that gives a file of this size another one.
-fn headroom_to(size: u64, new: u64) -> u64
-    ensures headroom { result ≡ (if nat_lt size new then HEADROOM_BLOCKS else 0) }
-    ensures few { result ≤ 16 }
+fn headroom_to(costs: Costs, size: u64, new: u64) -> u64
+    ensures headroom { result ≡ (if nat_lt size new then costs.headroom else 0) }
+    ensures bounded { result < 2 ^ 32 }
 {
-    if size < new { HEADROOM_BLOCKS } else { 0 }
+    if size < new {
+        u64::from(costs.headroom)
+    } else {
+        0
+    }
 }

@@ -1,6 +1,7 @@
 //! The records of the log, one after the other.
 
 ghost use Rattle.std.specs.Prelude.{◌≡◌, ◌≤◌, ◌*◌, List, ℕ, IfOk, length};
+ghost use Rattle.layout.specs.StateLimits.{limits_of};
 ghost use Rattle.layout.specs.declared.geometry.TheConstants.{MOST_HALF};
 ghost use Rattle.layout.specs.declared.inode.Inode.{Inode};
 ghost use Rattle.model.specs.Records.{Change, applied, work_of};
@@ -47,14 +48,14 @@ pub(crate) fn replay_all<B: Blocks>(
     ensures replays { (detail : Detail) (disk : ℕ → List ℕ) (settled : ℕ → Inode) (v w : Volume)
         (changes : List Change) → B.Shows blocks.old disk
         → HasVolumeIn detail (B.count blocks.old) disk settled inodes.old v
-        → LeadTo detail inodes.old.geometry.inodes records.now changes v w
-        → ComesTo result (λ r. HasReplayed records.now changes v r
+        → LeadTo detail (limits_of inodes.old.geometry) records.now changes v w
+        → ComesTo result (λ r. HasReplayed (limits_of inodes.old.geometry).costs records.now changes v r
         × HasVolumeIn detail (B.count blocks.old) disk settled inodes.new w
         × RaisesRoom inodes.old v inodes.new w r.cost) }
     ensures applies { (detail : Detail) (disk : ℕ → List ℕ) (settled : ℕ → Inode) (v : Volume)
         → B.Shows blocks.old disk
         → HasVolumeIn detail (B.count blocks.old) disk settled inodes.old v
-        → IfOk result (λ _. LeadSomewhere detail inodes.old.geometry.inodes records.now v) }
+        → IfOk result (λ _. LeadSomewhere detail (limits_of inodes.old.geometry) records.now v) }
     ensures holds { IfOk result
         (λ r. (bodies : List (List ℕ)) × HoldsLeaving records.now bodies r.left) }
 {
@@ -92,15 +93,15 @@ pub fn replay_record<B: Blocks>(
         → B.Shows blocks.old disk
         → HasVolumeIn detail (B.count blocks.old) disk settled inodes.old v
         → SpellsRecord body.now change
-        → AppliesIn detail inodes.old.geometry.inodes v change
-        → ComesTo result (λ cost. (cost ≡ room.cost (work_of v change))
+        → AppliesIn detail (limits_of inodes.old.geometry) v change
+        → ComesTo result (λ cost. (cost ≡ room.cost (limits_of inodes.old.geometry).costs (work_of v change))
         × HasVolumeIn detail (B.count blocks.old) disk settled inodes.new (applied change v)
         × RaisesRoom inodes.old v inodes.new (applied change v) cost) }
     ensures applies { (detail : Detail) (disk : ℕ → List ℕ) (settled : ℕ → Inode) (v : Volume)
         → B.Shows blocks.old disk
         → HasVolumeIn detail (B.count blocks.old) disk settled inodes.old v
         → IfOk result (λ _. (change : Change) × SpellsRecord body.now change
-        × AppliesIn detail inodes.old.geometry.inodes v change
+        × AppliesIn detail (limits_of inodes.old.geometry) v change
         × HasVolumeIn detail (B.count blocks.old) disk settled inodes.new (applied change v)) }
 {
     records_keep_volumes();
@@ -112,7 +113,7 @@ pub fn replay_record<B: Blocks>(
         Err(Failure::Refused(_errno)) => return Err(BlockError::Damaged),
         Err(Failure::Read(error)) => return Err(error),
     };
-    let cost = cost_of(&logged, size_before(inodes, &logged));
+    let cost = cost_of(inodes.limits().costs, &logged, size_before(inodes, &logged));
     commit(inodes, prepared);
     Ok(cost)
 }

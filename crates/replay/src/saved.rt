@@ -1,8 +1,9 @@
 //! All that was saved in the log.
 
-ghost use Rattle.std.specs.Prelude.{◌≡◌, ◌<◌, ◌≤◌, ◌^◌, List, ℕ, IfOk, IsFalse};
+ghost use Rattle.std.specs.Prelude.{◌≡◌, ◌*◌, ◌<◌, ◌≤◌, ◌^◌, List, ℕ, IfOk, IsFalse};
+ghost use Rattle.layout.specs.StateLimits.{limits_of};
 ghost use Rattle.layout.specs.declared.inode.Inode.{Inode};
-ghost use Rattle.model.specs.Records.{Change, costs, pledged_for, without_orphans};
+ghost use Rattle.model.specs.Records.{Change, cost_of_all, pledged_for, without_orphans};
 ghost use Rattle.model.specs.Volumes.{Volume};
 ghost use Rattle.buffers.specs.Reads.{ReadsBlocks};
 ghost use Rattle.buffers.specs.Errors.{IsFault};
@@ -16,7 +17,6 @@ use crate::orphans::{count_orphans, drop_orphans};
 use crate::replaying::replay_all;
 use buffers::{BlockError, Blocks};
 use inofile::InodeFile;
-use model::ORPHAN_COST;
 use oplog::{Log, SavedLog};
 use std::alloc::Global;
 
@@ -49,31 +49,40 @@ pub fn replay<B: Blocks>(
         (changes : List Change) (nvram : List ℕ) → B.Shows blocks.old disk
         → HasVolumeIn detail (B.count blocks.old) disk settled inodes.old v
         → TellsLog nvram saved
-        → SavesRecordsIn detail inodes.old.geometry.inodes nvram saved changes v w
+        → SavesRecordsIn detail (limits_of inodes.old.geometry) nvram saved changes v w
         → ComesTo result (λ r. StandsBehind r.log saved.generation nvram (bodies_of changes)
         × HasVolumeIn detail (B.count blocks.old) disk settled inodes.new (without_orphans w)
-        × (r.pledged ≡ pledged_for inodes.old.geometry.inodes v changes)) }
+        × (r.pledged ≡ pledged_for (limits_of inodes.old.geometry) v changes)) }
     ensures room { (detail : Detail) (disk : ℕ → List ℕ) (settled : ℕ → Inode) (v w : Volume)
         (changes : List Change) (nvram : List ℕ) → B.Shows blocks.old disk
         → HasVolumeIn detail (B.count blocks.old) disk settled inodes.old v
         → TellsLog nvram saved
-        → SavesRecordsIn detail inodes.old.geometry.inodes nvram saved changes v w
+        → SavesRecordsIn detail (limits_of inodes.old.geometry) nvram saved changes v w
         → HasNoChange inodes.old → IfOk result
         (λ r. memory_room v inodes.new (without_orphans w) ≤ r.pledged) }
     ensures applies { (detail : Detail) (disk : ℕ → List ℕ) (settled : ℕ → Inode) (v : Volume)
         (nvram : List ℕ) → B.Shows blocks.old disk
         → HasVolumeIn detail (B.count blocks.old) disk settled inodes.old v
         → TellsLog nvram saved
-        → IfOk result (λ _. SavesSomeIn detail inodes.old.geometry.inodes nvram saved v) }
+        → IfOk result (λ _. SavesSomeIn detail (limits_of inodes.old.geometry) nvram saved v) }
     ensures holds { (nvram : List ℕ) → TellsLog nvram saved → IfOk result
         (λ r. (bodies : List (List ℕ)) × StandsBehind r.log saved.generation nvram bodies) }
 {
     let orphans = count_orphans(inodes, blocks)?;
+    let dropped = cost_of_orphans(inodes, orphans);
     let ReplayedLog { log, cost } = replay_records(alloc, inodes, blocks, saved)?;
     Ok(Replayed {
         log,
-        pledged: ORPHAN_COST * u64::from(orphans) + cost,
+        pledged: dropped + cost,
     })
+}
+
+/// What so many files without a name cost a consistency point, which are taken away.
+fn cost_of_orphans(inodes: &InodeFile, orphans: u32) -> u64
+    ensures is { result ≡ (limits_of inodes.now.geometry).costs.orphan * orphans }
+    ensures few { result ≤ 4 * orphans }
+{
+    u64::from(inodes.limits().costs.orphan) * u64::from(orphans)
 }
 
 /// The log's end behind a replay, and what its records cost a consistency point.
@@ -98,16 +107,16 @@ fn replay_records<B: Blocks>(
         (changes : List Change) (nvram : List ℕ) → B.Shows blocks.old disk
         → HasVolumeIn detail (B.count blocks.old) disk settled inodes.old v
         → TellsLog nvram saved
-        → SavesRecordsIn detail inodes.old.geometry.inodes nvram saved changes v w
+        → SavesRecordsIn detail (limits_of inodes.old.geometry) nvram saved changes v w
         → ComesTo result (λ r. StandsBehind r.log saved.generation nvram (bodies_of changes)
         × HasVolumeIn detail (B.count blocks.old) disk settled inodes.new (without_orphans w)
-        × (r.cost ≡ costs v changes)
+        × (r.cost ≡ cost_of_all (limits_of inodes.old.geometry).costs v changes)
         × RaisesRoom inodes.old v inodes.new (without_orphans w) r.cost) }
     ensures applies { (detail : Detail) (disk : ℕ → List ℕ) (settled : ℕ → Inode) (v : Volume)
         (nvram : List ℕ) → B.Shows blocks.old disk
         → HasVolumeIn detail (B.count blocks.old) disk settled inodes.old v
         → TellsLog nvram saved
-        → IfOk result (λ _. SavesSomeIn detail inodes.old.geometry.inodes nvram saved v) }
+        → IfOk result (λ _. SavesSomeIn detail (limits_of inodes.old.geometry) nvram saved v) }
     ensures holds { (nvram : List ℕ) → TellsLog nvram saved → IfOk result
         (λ r. (bodies : List (List ℕ)) × StandsBehind r.log saved.generation nvram bodies) }
 {

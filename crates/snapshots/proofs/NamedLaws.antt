@@ -3,6 +3,7 @@ use Rattle.std.proofs.Common.{◌≡◌, inl, inr, ℕ, suc, ◌+◌, ◌<◌, �
 use Rattle.std.specs.Prelude.{◌≢◌, if◌then◌else◌, IfSome}
 use Rattle.std.proofs.lemmas.Bool.{cases_Bool, cases_lt, false≢true}
 use Rattle.std.proofs.lemmas.Slice.Eq.{bytes_eq-Decides}
+use Rattle.layout.specs.StateLimits.{limits_of}
 use Rattle.layout.specs.Places.{Blocks}
 use Rattle.layout.specs.SnapRoot.{Snapshot}
 use Rattle.layout.specs.declared.pointer.Pointer.{Pointer}
@@ -34,14 +35,14 @@ module _ (disk : Blocks) (r : Root) (name : Name) where
 
   module _ (are : AreSnapshots r (whole disk r)) (k : ℕ) (s : Snapshot) (has : HasSnapshot r (whole disk r) k s) (is : s.name ≡ name) where
     one_above : (pairs : List (Name × Tree)) (above : ℕ) → AreKeptAbove r (whole disk r) above pairs → above < s.order
-        → (tree : Tree) × (named name pairs ≡ Some (name, tree)) × IsFrozenTree r.geometry.inodes ((whole disk r).frozen k) tree
+        → (tree : Tree) × (named name pairs ≡ Some (name, tree)) × IsFrozenTree (limits_of r.geometry) ((whole disk r).frozen k) tree
     one_above [] above kept lt = absurd (omega (arith, lt, kept k s has))
     one_above (pair ∷ pairs) above (l, q, next, called, frozen, rest) lt = elim (cases_Bool (bytes_eq pair.0 name)) [
       | inl same ↦
           let at : l ≡ k = are.names l k q s next.has has (sym called ∙ (bytes_eq-Decides pair.0 name).0 same ∙ sym is) in (
             pair.1,
             here name pair pairs same ∙ ap (λ (n : Name). Some (n, pair.1)) ((bytes_eq-Decides pair.0 name).0 same),
-            subst (λ i. IsFrozenTree r.geometry.inodes ((whole disk r).frozen i) pair.1) at frozen,
+            subst (λ i. IsFrozenTree (limits_of r.geometry) ((whole disk r).frozen i) pair.1) at frozen,
           )
       | inr other ↦ elim (cases_lt q.order s.order) [
         | inl less ↦

@@ -27,18 +27,18 @@ use Rattle.snapshots.proofs.CountLaws.{none_free, room_left}
 use Rattle.snapshots.proofs.NamedLaws.{one_named}
 use Rattle.snapshots.proofs.SlotLaws.{has, in_slot, one_snapshot, spells}
 
-pub passes : (s : State) (name : Name) (pairs : List (Name × Tree)) → s.snapshots ≡ pairs → is_bad_name name ≡ false → named name pairs ≡ None → length pairs < SNAPSHOT_SLOTS
+pub passes : (s : State) (name : Name) (pairs : List (Name × Tree)) → s.limits.snapshots ≡ SNAPSHOT_SLOTS → s.snapshots ≡ pairs → is_bad_name name ≡ false → named name pairs ≡ None → length pairs < SNAPSHOT_SLOTS
     → first_refusal (take_tests s name) ≡ None
-passes s name pairs same good none few =
+passes s name pairs most same good none few =
     let absent : frozen s name ≡ None = ap (named name) same ∙ none in
-    let room : nat_le SNAPSHOT_SLOTS (length s.snapshots) ≡ false = ap (λ (ps : List (Name × Tree)). nat_le SNAPSHOT_SLOTS (length ps)) same ∙ lt-leb _ _ few in
+    let room : nat_le s.limits.snapshots (length s.snapshots) ≡ false = ap (λ (n : ℕ). nat_le n (length s.snapshots)) most ∙ ap (λ (ps : List (Name × Tree)). nat_le SNAPSHOT_SLOTS (length ps)) same ∙ lt-leb _ _ few in
     rw (good, absent, room) refl
 
-pub full : (s : State) (name : Name) (pairs : List (Name × Tree)) → s.snapshots ≡ pairs → is_bad_name name ≡ false → named name pairs ≡ None → SNAPSHOT_SLOTS ≤ length pairs
+pub full : (s : State) (name : Name) (pairs : List (Name × Tree)) → s.limits.snapshots ≡ SNAPSHOT_SLOTS → s.snapshots ≡ pairs → is_bad_name name ≡ false → named name pairs ≡ None → SNAPSHOT_SLOTS ≤ length pairs
     → first_refusal (take_tests s name) ≡ Some SNAPFULL
-full s name pairs same good none many =
+full s name pairs most same good none many =
     let absent : frozen s name ≡ None = ap (named name) same ∙ none in
-    let room : nat_le SNAPSHOT_SLOTS (length s.snapshots) ≡ true = ap (λ (ps : List (Name × Tree)). nat_le SNAPSHOT_SLOTS (length ps)) same ∙ le-leb SNAPSHOT_SLOTS (length pairs) many in
+    let room : nat_le s.limits.snapshots (length s.snapshots) ≡ true = ap (λ (n : ℕ). nat_le n (length s.snapshots)) most ∙ ap (λ (ps : List (Name × Tree)). nat_le SNAPSHOT_SLOTS (length ps)) same ∙ le-leb SNAPSHOT_SLOTS (length pairs) many in
     rw (good, absent, room) refl
 
 pub not_found : (disk : Blocks) (r : Root) (name : Name) (pairs : List (Name × Tree)) (found : Option FoundSnapshot) → is_some found ≡ false → FindsSnapshot r disk name pairs found → named name pairs ≡ None

@@ -1,5 +1,6 @@
 -- A snapshot that is found by its name.
 use Rattle.std.specs.Prelude.{ℕ, ◌≡◌, List, find, bytes_eq, Option, Some, None}
+use Rattle.layout.specs.StateLimits.{limits_of}
 use Rattle.layout.specs.Places.{Blocks}
 use Rattle.layout.specs.SnapRoot.{Snapshot, snapshot_in}
 use Rattle.layout.specs.declared.trees.Layout.{Layout}
@@ -30,7 +31,7 @@ named name pairs = find (λ pair. bytes_eq pair.0 name) pairs
 pub record IsNamedSnapshot (r : Root) (disk : Blocks) (name : Name) (pairs : List (Name × Tree)) (k : ℕ) : Type 0 where
   pub tree : Tree
   pub listed : named name pairs ≡ Some (name, tree)
-  pub frozen : IsFrozenTree r.geometry.inodes ((whole disk r).frozen k) tree
+  pub frozen : IsFrozenTree (limits_of r.geometry) ((whole disk r).frozen k) tree
 
 -- What was found under a root by a name: nothing where no snapshot has it, or else the slot of the
 -- one that has it.

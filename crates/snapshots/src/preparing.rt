@@ -1,6 +1,7 @@
 //! The tests of a command that changes the snapshots, and where its snapshot stands or goes.
 
 ghost use Rattle.std.specs.Prelude.{◌≡◌, ◌≢◌, ℕ, List, IfErr, IfOk, IsErrOf, MatchResult};
+ghost use Rattle.layout.specs.StateLimits.{limits_of};
 ghost use Rattle.layout.specs.Root.{IsRoot};
 ghost use Rattle.model.specs.Paths.{Name};
 ghost use Rattle.model.specs.States.{State};
@@ -69,8 +70,9 @@ pub fn prepare_snapshot<'a, B: Blocks>(
     ensures fits { IfOk result (λ tested. IfOk tested FitsPrepared) }
     ensures tests { (disk : ℕ → List ℕ) → B.Shows blocks.old disk → (v : Volume)
         (pairs : List (Name × Tree)) → Holds root.now (whole disk root.now) v pairs → (s : State)
-        → s.snapshots ≡ pairs → TellsOpen has_open s → IfOk result (λ tested. MatchResult tested
-        (IsPreparedOn root.now disk s) (Refuses s (command_of request.now))) }
+        → s.limits ≡ limits_of root.now.geometry → s.snapshots ≡ pairs → TellsOpen has_open s
+        → IfOk result (λ tested. MatchResult tested (IsPreparedOn root.now disk s)
+        (Refuses s (command_of request.now))) }
     ensures damaged { (disk : ℕ → List ℕ) → B.Shows blocks.old disk → (v : Volume)
         (pairs : List (Name × Tree)) → Holds root.now (whole disk root.now) v pairs
         → IsErrOf result BlockError.Damaged → ⊥ }

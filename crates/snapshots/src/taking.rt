@@ -2,6 +2,7 @@
 
 ghost use Rattle.std.specs.Prelude.{◌≡◌, ◌≢◌, ◌<◌, ◌≤◌, ◌^◌, ℕ, List, length, IfOk, IfErr, IfSome, IfNone, IsErrOf, MatchResult, None, not};
 ghost use Rattle.std.specs.List.{list_any};
+ghost use Rattle.layout.specs.StateLimits.{limits_of};
 ghost use Rattle.layout.specs.Root.{IsRoot};
 ghost use Rattle.layout.specs.SnapRoot.{Snapshot};
 ghost use Rattle.layout.specs.declared.pointer.Pointer.{Pointer};
@@ -108,7 +109,8 @@ pub(crate) fn prepare_take<B: Blocks>(
     ensures reads { ReadsBlocks B.Blocks IsFault blocks.old blocks.new result }
     ensures tests { (disk : ℕ → List ℕ) → B.Shows blocks.old disk → (v : Volume)
         (pairs : List (Name × Tree)) → Holds root.now (whole disk root.now) v pairs → (s : State)
-        → s.snapshots ≡ pairs → IfOk result (λ taking. MatchResult taking
+        → s.limits ≡ limits_of root.now.geometry → s.snapshots ≡ pairs
+        → IfOk result (λ taking. MatchResult taking
         (λ t. first_refusal (take_tests s name.now) ≡ None)
         (RefusesTake s name.now)) }
     ensures own { IfOk result (λ taking. IfErr taking (λ errno. (errno ≢ Errno.EIO)

@@ -2,6 +2,7 @@
 use Rattle.std.proofs.Common.{◌≡◌, ◌⊎◌, inl, inr, ℕ, ◌+◌, ◌*◌, ◌≤◌, List, [], ◌∷◌, ◌++◌, Option, refl, ap, sym, subst, ◌∙◌, append_assoc, arith, length, length-append}
 use Rattle.std.specs.Prelude.{IsFalse, map}
 use Rattle.std.proofs.lemmas.List.{append-nil, map-append}
+use Rattle.layout.specs.StateLimits.{limits_of}
 use Rattle.station.specs.Images.{Images, Sector}
 use Rattle.station.specs.Moments.{Meaning, EachCut, IsSameStation, KeepsDisk, LeavesOnly, MayLeave}
 use Rattle.station.proofs.Moments.{same_none, started, weaker}
@@ -189,16 +190,16 @@ module _ {m : Meaning} {k : Parts} {waits : Waits} {table : ℕ → Option Descr
 
   -- ---- one more waits
 
-  module _ (laws : CutLaws) (records : RecordLaws) (change : Change) (advances : Advances k.root.geometry.inodes ahead.shown.running table change) where
+  module _ (laws : CutLaws) (records : RecordLaws) (change : Change) (advances : Advances (limits_of k.root.geometry) ahead.shown.running table change) where
     -- the volume, and the state, that its record leads to
     abbrev volume : Volume
     volume = swept table (applied change ahead.shown.running)
 
     abbrev state : State
-    state = state_with k.root.geometry.inodes volume table ahead.shown.snapshots
+    state = state_with (limits_of k.root.geometry) volume table ahead.shown.snapshots
 
     -- memory goes on, and what a cut leaves stays
-    pub one_waits : (n : ℕ) → n ≡ cost (work_of ahead.shown.running change) → Reserved laws records ahead.shown change advances
+    pub one_waits : (n : ℕ) → n ≡ cost (limits_of k.root.geometry).costs (work_of ahead.shown.running change) → Reserved laws records ahead.shown change advances
         → (more : Waits) → IsBatchOf (map change_bytes ahead.waiting ++ change_bytes change ∷ []) more.batch → more.pledged ≡ waits.pledged + n
         → (now_inodes : InodeFile) (now_files : Descriptors)
         → IsVolumeOf k.root.geometry.blocks (blocks_of (disk_over k m.seen.disk)) (inodes_of (whole (blocks_of (disk_over k m.seen.disk)) k.root).active) now_inodes volume

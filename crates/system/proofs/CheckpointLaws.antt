@@ -14,7 +14,7 @@ use Rattle.layout.specs.declared.root.Root.{Root}
 use Rattle.model.specs.Laws.{MountsForget}
 use Rattle.model.specs.Paths.{Name, first_refusal}
 use Rattle.model.specs.Records.{without_orphans}
-use Rattle.model.specs.Room.{IsShort, Need, Room, Work, a_snapshot, fixed_of, logs, nothing}
+use Rattle.model.specs.Room.{IsShort, Need, Room, Work, a_snapshot, logs, nothing}
 use Rattle.model.specs.States.{State, ForgetsOpenFiles, with_snapshots}
 use Rattle.model.specs.Steps.{deletes, frozen, take_tests, takes}
 use Rattle.model.specs.Trees.{Description, Tree}

@@ -2,6 +2,7 @@
 use Rattle.std.proofs.Common.{◌≡◌, ◌≢◌, ◌⊎◌, ◌↔◌, inl, inr, Bool, Ok, ℕ, ◌+◌, ◌*◌, ◌≤◌, ◌<◌, List, Option, Some, None, Result, Err, length, refl, ap, sym, subst, ◌∙◌, arith}
 use Rattle.std.specs.Prelude.{IfErr, IsFalse, IsTrue}
 use Rattle.std.proofs.lemmas.Bool.{false≢true}
+use Rattle.layout.specs.StateLimits.{limits_of}
 use Rattle.station.specs.Calls.{OnlyWrites}
 use Rattle.station.specs.Images.{Images, Sector}
 use Rattle.station.specs.Moments.{Meaning, MayLeave, EachCut, After, Goes, IsSameStation, IsSector, LeavesJust, LeavesOnly}
@@ -221,5 +222,5 @@ pending_serves old new table s serves none first reads log pledged files pending
       stored = pending.stored;
       opened = serves.opened ∙ ap table_of (sym files);
       fits = subst (λ (d : Descriptors). FitsVolume d serves.running) (sym files) serves.fits;
-      state = serves.state ∙ ap (λ (g : Sizes). state_with g.inodes serves.running table serves.snapshots) (sym pending.planned.point.geometry);
+      state = serves.state ∙ ap (λ (g : Sizes). state_with (limits_of g) serves.running table serves.snapshots) (sym pending.planned.point.geometry);
     }

@@ -3,6 +3,8 @@ use Rattle.std.proofs.Common.{◌≡◌, ◌⊎◌, inl, inr, ℕ, ◌+◌, ◌*
 use Rattle.std.specs.Prelude.{IsFalse}
 use Rattle.std.proofs.lemmas.List.{map-append}
 use Rattle.std.proofs.lemmas.List.Elements.{All-push}
+use Rattle.model.specs.declared.limits.Limits.{Limits}
+use Rattle.layout.specs.StateLimits.{limits_of, fixed_of}
 use Rattle.station.specs.Images.{Images, Sector}
 use Rattle.station.specs.declared.station.Station.{Ghosts}
 use Rattle.station.specs.Moments.{Meaning, EachCut, IsSameStation, KeepsDisk, LeavesOnly, MayLeave}
@@ -12,7 +14,7 @@ use Rattle.layout.specs.Places.{blocks_of}
 use Rattle.layout.specs.Record.{Change, IsChange, change_bytes}
 use Rattle.model.specs.Paths.{Name}
 use Rattle.model.specs.Records.{Applies, Extends, Replays, applied, work_of}
-use Rattle.model.specs.Room.{cost, fixed_of}
+use Rattle.model.specs.Room.{cost}
 use Rattle.model.specs.States.{State}
 use Rattle.model.specs.Trees.{Description, Tree}
 use Rattle.model.specs.Volumes.{Volume, IsVolume, swept}
@@ -46,49 +48,50 @@ use Rattle.system.proofs.RoomLaws.{one_pledged}
 use Rattle.system.proofs.SystemLaws.{its_sizes, same_open, sized, sizes}
 
 -- one record more is replayed
-pub replays_more : (inodes : ℕ) (v : Volume) (changes : List Change) (w : Volume) (c : Change) → Replays inodes v changes w → Applies inodes w c → Replays inodes v (changes ++ c ∷ []) (applied c w)
-replays_more inodes v [] w c is applies = (subst (λ (u : Volume). Applies inodes u c) is applies, ap (applied c) is)
-replays_more inodes v (d ∷ ds) w c rest applies = (rest.0, replays_more inodes (applied d v) ds w c rest.1 applies)
+pub replays_more : (limits : Limits) (v : Volume) (changes : List Change) (w : Volume) (c : Change) → Replays limits v changes w → Applies limits w c → Replays limits v (changes ++ c ∷ []) (applied c w)
+replays_more limits v [] w c is applies = (subst (λ (u : Volume). Applies limits u c) is applies, ap (applied c) is)
+replays_more limits v (d ∷ ds) w c rest applies = (rest.0, replays_more limits (applied d v) ds w c rest.1 applies)
 
 -- and it is spelled behind the others
-abbrev pub replayed_more : {inodes : ℕ} {bodies : Bodies} {first running : Volume} → RecordLaws → (was : IsReplayed inodes bodies first running) → (table : ℕ → Option Description) (change : Change)
-    → IsChange change → Applies inodes running change → IsReplayed inodes (with_body bodies (change_bytes change)) first (swept table (applied change running))
-replayed_more {inodes} {bodies} {first} {running} records was table change is applies =
-    let follows = records.follow inodes running was.last table change was.extends applies in
+abbrev pub replayed_more : {limits : Limits} {bodies : Bodies} {first running : Volume} → RecordLaws → (was : IsReplayed limits bodies first running) → (table : ℕ → Option Description) (change : Change)
+    → IsChange change → Applies limits running change → IsReplayed limits (with_body bodies (change_bytes change)) first (swept table (applied change running))
+replayed_more {limits} {bodies} {first} {running} records was table change is applies =
+    let follows = records.follow limits running was.last table change was.extends applies in
     record {
       changes = was.changes ++ change ∷ [];
       are = All-push IsChange was.changes change was.are is;
       spelled = sym (append_assoc bodies.older bodies.newest (change_bytes change ∷ [])) ∙ ap (λ (l : List (List ℕ)). l ++ change_bytes change ∷ []) was.spelled
           ∙ sym (map-append change_bytes was.changes (change ∷ []));
       last = applied change was.last;
-      replays = replays_more inodes first was.changes was.last change was.replays follows.0;
+      replays = replays_more limits first was.changes was.last change was.replays follows.0;
       extends = follows.1;
     }
 
 -- ---- what outlasts a cut
 
 -- it costs the replayed volume what it costs the running one
-pub costs_replayed : RecordLaws → (inodes : ℕ) (running last : Volume) (change : Change) (n : ℕ) → Extends running last → Applies inodes running change → n ≡ cost (work_of running change) → n ≡ cost (work_of last change)
-costs_replayed records inodes running last change n extends applies is = is ∙ ap cost (sym (records.costs inodes running last change extends applies))
+pub costs_replayed : RecordLaws → (limits : Limits) (running last : Volume) (change : Change) (n : ℕ) → Extends running last → Applies limits running change → n ≡ cost limits.costs (work_of running change)
+    → n ≡ cost limits.costs (work_of last change)
+costs_replayed records limits running last change n extends applies is = is ∙ ap (cost limits.costs) (sym (records.costs limits running last change extends applies))
 
 -- a record more is replayed, and its cost is pledged
 abbrev pub lasts_more : (records : RecordLaws) {base : Base} {snapshots : List (Name × Tree)} {pledged : ℕ} {running : Volume} (lasts : Lasts base snapshots pledged running)
-    (table : ℕ → Option Description) (change : Change) → IsChange change → Applies base.root.geometry.inodes running change
-    → (n : ℕ) → n ≡ cost (work_of running change)
+    (table : ℕ → Option Description) (change : Change) → IsChange change → Applies (limits_of base.root.geometry) running change
+    → (n : ℕ) → n ≡ cost (limits_of base.root.geometry).costs (work_of running change)
     → HasReserve base.root (whole (blocks_of base.disk) base.root) base.volume (lasts.replayed.changes ++ change ∷ []) → Lasts base snapshots (pledged + n) (swept table (applied change running))
 lasts_more records {base} {snapshots} {pledged} {running} lasts table change is applies n costs_it reserved = record {
   newest = lasts.newest;
   holds = lasts.holds;
   bodies = with_body lasts.bodies (change_bytes change);
   replayed = replayed_more records lasts.replayed table change is applies;
-  pledges = one_pledged base.root.geometry.inodes base.volume lasts.replayed.changes lasts.replayed.last change pledged n lasts.replayed.replays
-      (costs_replayed records base.root.geometry.inodes running lasts.replayed.last change n lasts.replayed.extends applies costs_it) lasts.pledges;
+  pledges = one_pledged (limits_of base.root.geometry) base.volume lasts.replayed.changes lasts.replayed.last change pledged n lasts.replayed.replays
+      (costs_replayed records (limits_of base.root.geometry) running lasts.replayed.last change n lasts.replayed.extends applies costs_it) lasts.pledges;
   reserved = reserved;
 }
 
 -- a record is in the log while a point is under way: what it may cost is pledged behind the point, too
 pub records_keep : {settled : Base} {snapshots : List (Name × Tree)} {pledged : ℕ} {running : Volume} {old : Meaning} {log : LogEnd} {w : Way} (records : RecordLaws) (lasts : Lasts settled snapshots pledged running)
-    (table : ℕ → Option Description) (change : Change) (is : IsChange change) (applies : Applies settled.root.geometry.inodes running change) (n : ℕ) (costs : n ≡ cost (work_of running change))
+    (table : ℕ → Option Description) (change : Change) (is : IsChange change) (applies : Applies (limits_of settled.root.geometry) running change) (n : ℕ) (costs : n ≡ cost (limits_of settled.root.geometry).costs (work_of running change))
     (reserved : HasReserve settled.root (whole (blocks_of settled.disk) settled.root) settled.volume (lasts.replayed.changes ++ change ∷ []))
     → IsUnderWay old log lasts w → (now : Meaning) (next : LogEnd) → next.epoch ≡ log.epoch → now.seen.disk ≡ old.seen.disk
     → IsUnderWay now next (lasts_more records lasts table change is applies n costs reserved) (record w { pledged = w.pledged + n })
@@ -98,8 +101,8 @@ records_keep {settled} {running = running} {w = w} records lasts table change is
   epoch = epoch ∙ way.epoch;
   stays = record { nvram = refl; disk = λ n out. ap (λ (d : ℕ → Sector). d n) disk ∙ way.stays.disk n out };
   since = replayed_more records way.since table change is applies;
-  pledges = one_pledged settled.root.geometry.inodes w.volume way.since.changes way.since.last change w.pledged n way.since.replays
-      (costs_replayed records settled.root.geometry.inodes running way.since.last change n way.since.extends applies costs) way.pledges;
+  pledges = one_pledged (limits_of settled.root.geometry) w.volume way.since.changes way.since.last change w.pledged n way.since.replays
+      (costs_replayed records (limits_of settled.root.geometry) running way.since.last change n way.since.extends applies costs) way.pledges;
   saves = omega (arith, way.saves);
 }
 
@@ -119,21 +122,25 @@ same_overlay {S} {G} a b buffers pending =
 -- ---- the system
 
 module _ (laws : CutLaws) (records : RecordLaws) {m : Meaning} {k : Parts} {table : ℕ → Option Description} {s : State} (serves : IsServing m k table s) (change : Change)
-    (advances : Advances k.root.geometry.inodes serves.running table change) where
+    (advances : Advances (limits_of k.root.geometry) serves.running table change) where
   -- the volume that the record leads to
   abbrev pub volume_after : Volume
   volume_after = swept table (applied change serves.running)
 
-  pub applies : Applies serves.settled.root.geometry.inodes serves.running change
-  applies = subst (λ (g : Sizes). Applies g.inodes serves.running change) (sym (sizes serves)) advances.applies
+  pub applies : Applies (limits_of serves.settled.root.geometry) serves.running change
+  applies = subst (λ (g : Sizes). Applies (limits_of g) serves.running change) (sym (sizes serves)) advances.applies
 
-  pub volume : IsVolume k.root.geometry.inodes volume_after
-  volume = records.sweeps k.root.geometry.inodes (applied change serves.running) table
-      (records.volumes k.root.geometry.inodes serves.running change serves.memory.volume advances.applies)
+  -- what it costs by the settled root
+  pub costs_settled : (n : ℕ) → n ≡ cost (limits_of k.root.geometry).costs (work_of serves.running change) → n ≡ cost (limits_of serves.settled.root.geometry).costs (work_of serves.running change)
+  costs_settled n is = is ∙ ap (λ (g : Sizes). cost (limits_of g).costs (work_of serves.running change)) (sym (sizes serves))
+
+  pub volume : IsVolume (limits_of k.root.geometry) volume_after
+  volume = records.sweeps (limits_of k.root.geometry) (applied change serves.running) table
+      (records.volumes (limits_of k.root.geometry) serves.running change serves.memory.volume advances.applies)
 
   -- the state that the record leads to
   abbrev pub state_after : State
-  state_after = state_with k.root.geometry.inodes volume_after table serves.snapshots
+  state_after = state_with (limits_of k.root.geometry) volume_after table serves.snapshots
 
   -- the log before it
   pub log_stands : LogStands m k.log serves.settled.root.generation serves.lasts.bodies
@@ -144,15 +151,16 @@ module _ (laws : CutLaws) (records : RecordLaws) {m : Meaning} {k : Parts} {tabl
   Reserved = HasReserve serves.settled.root (whole (blocks_of serves.settled.disk) serves.settled.root) serves.settled.volume (serves.lasts.replayed.changes ++ change ∷ [])
 
   -- where the disk has room for it
-  pub reserves : (free n : ℕ) → n ≡ cost (work_of serves.running change) → k.pledged + cost (work_of serves.running change) + fixed_of k.root.geometry.blocks ≤ free
+  pub reserves : (free n : ℕ) → n ≡ cost (limits_of k.root.geometry).costs (work_of serves.running change)
+      → k.pledged + cost (limits_of k.root.geometry).costs (work_of serves.running change) + fixed_of k.root.geometry.blocks ≤ free
       → free ≡ free_under (whole (blocks_of serves.settled.disk) serves.settled.root).active serves.settled.root.geometry.blocks → Reserved
   reserves free n costs_it room is =
       let replayed = serves.lasts.replayed in
-      let inodes = serves.settled.root.geometry.inodes in
+      let limits = limits_of serves.settled.root.geometry in
       omega (
         arith,
-        one_pledged inodes serves.settled.volume replayed.changes replayed.last change k.pledged n replayed.replays
-            (costs_replayed records inodes serves.running replayed.last change n replayed.extends applies costs_it) serves.lasts.pledges,
+        one_pledged limits serves.settled.volume replayed.changes replayed.last change k.pledged n replayed.replays
+            (costs_replayed records limits serves.running replayed.last change n replayed.extends applies (costs_settled n costs_it)) serves.lasts.pledges,
         room,
         costs_it,
         is,
@@ -162,9 +170,9 @@ module _ (laws : CutLaws) (records : RecordLaws) {m : Meaning} {k : Parts} {tabl
   pub same_disk : (c : Images) → (d : Images) → MayLeave m d → c.disk ≡ d.disk → SameButFree serves.settled.root serves.settled.disk c.disk
   same_disk c d left is n some = ap (λ (e : ℕ → Sector). e n) is ∙ (serves.left serves.honest d left).same n some
 
-  module _ (n : ℕ) (costs_it : n ≡ cost (work_of serves.running change)) (reserved : Reserved) where
+  module _ (n : ℕ) (costs_it : n ≡ cost (limits_of k.root.geometry).costs (work_of serves.running change)) (reserved : Reserved) where
     abbrev lasts_after : Lasts serves.settled serves.snapshots (k.pledged + n) volume_after
-    lasts_after = lasts_more records serves.lasts table change advances.is applies n costs_it reserved
+    lasts_after = lasts_more records serves.lasts table change advances.is applies n (costs_settled n costs_it) reserved
 
     -- while it is put into the log
     pub at_any_moment : m.sectors ≡ 8 * k.root.geometry.blocks → k.log.half ≡ k.root.geometry.half
@@ -211,7 +219,7 @@ module _ (laws : CutLaws) (records : RecordLaws) {m : Meaning} {k : Parts} {tabl
             | inr coming ↦ inr (record {
               point = coming.point;
               is = coming.is;
-              way = records_keep records serves.lasts table change advances.is applies n costs_it reserved coming.way now now_log epoch (sym seen);
+              way = records_keep records serves.lasts table change advances.is applies n (costs_settled n costs_it) reserved coming.way now now_log epoch (sym seen);
               sound = coming.sound;
               place = coming.place;
               to_come = subst (λ (d : ℕ → Sector). HasEntriesToCome (whole (blocks_of (disk_after coming.point.plan d)) k.root).active k.map) seen coming.to_come;

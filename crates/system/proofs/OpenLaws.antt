@@ -2,6 +2,7 @@
 use Rattle.std.proofs.Common.{◌≡◌, ◌⊎◌, inl, inr, ℕ, zero, suc, ◌≤◌, List, Option, Some, None, false, refl, sym, ap, subst, ◌∙◌}
 use Rattle.std.specs.Prelude.{Result, Ok, Err, IsErrAnd, IsErrOf, IsSome, IsTrue, IsFalse, MatchResult, IfErr}
 use Rattle.std.specs.Option.{option_map}
+use Rattle.layout.specs.StateLimits.{limits_of}
 use Rattle.station.specs.Images.{Images}
 use Rattle.station.specs.Moments.{Meaning, IsSameStation, LeavesJust}
 use Rattle.station.specs.declared.station.Station.{Ghosts}
@@ -122,31 +123,31 @@ saved_log nvram saved r changes over log =
 
 module _ (disk : Blocks) (r : Root) (nvram : List ℕ) (first last : Volume) (snapshots : List (Name × Tree)) (changes : List Change) (saved : Saved)
     (over : IsSavedOver r saved) (holds : HoldsRecords disk r nvram first last snapshots changes) where
-  pub saves : (inodes : InodeFile) → inodes.geometry ≡ r.geometry → SavesRecords inodes.geometry.inodes nvram saved changes first last
+  pub saves : (inodes : InodeFile) → inodes.geometry ≡ r.geometry → SavesRecords (limits_of inodes.geometry) nvram saved changes first last
   saves inodes geometry = record {
     are = holds.log.are;
     held = saved_log nvram saved r changes over holds.log.log;
-    replays = subst (λ (s : Sizes). Replays s.inodes first changes last) (sym geometry) holds.replays;
+    replays = subst (λ (s : Sizes). Replays (limits_of s) first changes last) (sym geometry) holds.replays;
   }
 
   pub has_volume : (inodes : InodeFile) (map : BlockMap) (count : ℕ) → inodes.geometry ≡ r.geometry → count ≡ r.geometry.blocks → IsLoadedUnder disk r map inodes
       → HasVolume count disk (inodes_of (whole disk r).active) inodes first
   has_volume inodes map count geometry is loaded = record {
     memory = subst (λ (n : ℕ). IsVolumeOf n disk (inodes_of (whole disk r).active) inodes first) (sym is) (loaded.inodes.volume first holds.holds.holds);
-    volume = subst (λ (s : Sizes). IsVolume s.inodes first) (sym geometry) holds.holds.volume;
+    volume = subst (λ (s : Sizes). IsVolume (limits_of s) first) (sym geometry) holds.holds.volume;
   }
 
   pub has_image : (old : InodeFile) (p : LoadedImage) (count : ℕ) → p.inodes.geometry ≡ r.geometry → count ≡ r.geometry.blocks → IsLoadedUnder disk r p.map old
       → StandsBehind p.log saved.generation nvram (bodies_of changes) → HasVolume count disk (inodes_of (whole disk r).active) p.inodes (without_orphans last)
-      → p.pledged ≡ pledged_for old.geometry.inodes first changes → memory_room first p.inodes (without_orphans last) ≤ p.pledged → old.geometry ≡ r.geometry → HasImage disk r nvram first last changes p
+      → p.pledged ≡ pledged_for (limits_of old.geometry) first changes → memory_room first p.inodes (without_orphans last) ≤ p.pledged → old.geometry ≡ r.geometry → HasImage disk r nvram first last changes p
   has_image old p count geometry is loaded stands has pledges stored sizes = record {
     log = subst (λ (n : ℕ). StandsBehind p.log n nvram (bodies_of changes)) over.generation stands;
     memory = record {
       stands = subst (λ (n : ℕ). IsVolumeOf n disk (inodes_of (whole disk r).active) p.inodes (without_orphans last)) is has.memory;
-      volume = subst (λ (s : Sizes). IsVolume s.inodes (without_orphans last)) geometry has.volume;
+      volume = subst (λ (s : Sizes). IsVolume (limits_of s) (without_orphans last)) geometry has.volume;
     };
     entries = loaded.map.settled;
-    pledges = pledges ∙ ap (λ (s : Sizes). pledged_for s.inodes first changes) sizes;
+    pledges = pledges ∙ ap (λ (s : Sizes). pledged_for (limits_of s) first changes) sizes;
     stored = stored;
   }
 
@@ -168,17 +169,17 @@ module _ (disk : Blocks) (r : Root) (nvram : List ℕ) (saved : Saved) (over : I
 
   -- the records of its log are those that were saved
   pub saves_within : (inodes : InodeFile) → inodes.geometry ≡ r.geometry → (changes : List Change) (log : HasLog r (whole disk r) nvram changes)
-      → SavesRecordsIn by_sizes inodes.geometry.inodes nvram saved changes log.first log.last
+      → SavesRecordsIn by_sizes (limits_of inodes.geometry) nvram saved changes log.first log.last
   saves_within inodes geometry changes log = record {
     are = log.log.are;
     held = saved_log nvram saved r changes over log.log.log;
-    replays = subst (λ (s : Sizes). ReplaysWithin s.inodes log.first changes log.last) (sym geometry) log.replays;
+    replays = subst (λ (s : Sizes). ReplaysWithin (limits_of s) log.first changes log.last) (sym geometry) log.replays;
   }
 
   -- and those that were saved and replayed are the records of its log
   pub all_replayed : (inodes after : InodeFile) (count : ℕ) (log : LogEnd) → inodes.geometry ≡ r.geometry → count ≡ r.geometry.blocks
       → (changes : List Change) (first last : Volume) → HoldsVolumeIn by_sizes r.geometry.inodes (tree_contents (whole disk r).active) first
-      → SavesRecordsIn by_sizes inodes.geometry.inodes nvram saved changes first last → StandsBehind log saved.generation nvram (bodies_of changes)
+      → SavesRecordsIn by_sizes (limits_of inodes.geometry) nvram saved changes first last → StandsBehind log saved.generation nvram (bodies_of changes)
       → HasVolumeIn by_sizes count disk (inodes_of (whole disk r).active) after (without_orphans last) → HasReplayed disk nvram r log after
   all_replayed inodes after count log geometry is changes first last holds saves stands has = record {
     changes = changes;
@@ -190,7 +191,7 @@ module _ (disk : Blocks) (r : Root) (nvram : List ℕ) (saved : Saved) (over : I
         are = saves.are;
         log = subst (λ (n : ℕ). LogHolds n r.generation nvram (bodies_of changes)) over.half (subst (λ (n : ℕ). LogHolds saved.half n nvram (bodies_of changes)) over.generation saves.held);
       };
-      replays = subst (λ (s : Sizes). ReplaysWithin s.inodes first changes last) geometry saves.replays;
+      replays = subst (λ (s : Sizes). ReplaysWithin (limits_of s) first changes last) geometry saves.replays;
     };
     ends = subst (λ (n : ℕ). StandsBehind log n nvram (bodies_of changes)) over.generation stands;
     memory = subst (λ (n : ℕ). IsVolumeIn by_sizes n disk (inodes_of (whole disk r).active) after (without_orphans last)) is has.memory;
@@ -256,7 +257,7 @@ module _ (m : Meaning) (kept : BlockCache) (found : FoundImages) (p : LoadedImag
   }
 
   abbrev shown : State
-  shown = state_with found.newest.root.geometry.inodes (without_orphans last) (λ d. None) snapshots
+  shown = state_with (limits_of found.newest.root.geometry) (without_orphans last) (λ d. None) snapshots
 
   serving : IsMounted (without_orphans last) (λ d. None) → IsFalse p.log.is_stopped → IsOver m.seen → IsServing m (parts None) (λ d. None) shown
   serving mounted runs over = record {

@@ -13,7 +13,7 @@ use Rattle.layout.specs.Places.{blocks_of}
 use Rattle.layout.specs.Root.{root_bytes}
 use Rattle.layout.specs.declared.root.Root.{Root}
 use Rattle.model.specs.Records.{count_orphans}
-use Rattle.model.specs.Room.{fixed_of}
+use Rattle.layout.specs.StateLimits.{fixed_of, limits_of}
 use Rattle.model.specs.Paths.{Name}
 use Rattle.model.specs.States.{Forgets, State}
 use Rattle.model.specs.Trees.{Description}
@@ -125,7 +125,7 @@ module _ (laws : CutLaws) {m : Meaning} {k : Parts} {table : ℕ → Option Desc
     (serves : IsServing m k table s) (none : k.pending ≡ None) (size : m.sectors ≡ 8 * k.root.geometry.blocks) (half : k.log.half ≡ k.root.geometry.half)
     (p : Planned) (new : Root) (step : SnapshotStep) (v : Volume) (planned : IsPlannedOver step m.seen.disk k.root k.slot k.log.epoch p new v) where
   abbrev after : State
-  after = turned k.root.geometry.inodes step v table serves.first serves.snapshots
+  after = turned (limits_of k.root.geometry) step v table serves.first serves.snapshots
 
   abbrev rest : AtRest serves
   rest = at_rest serves none
@@ -150,8 +150,8 @@ module _ (laws : CutLaws) {m : Meaning} {k : Parts} {table : ℕ → Option Desc
     reads = reads_open laws rest.lasts (root_sizes serves size half) m.seen.nvram (rest.left serves.honest m.seen here).log_stands.holds
 
     -- what a mount finds behind it
-    found_after : Forgets after (state_of k.root.geometry.inodes v (kept_after step serves.first serves.snapshots))
-    found_after = record { tree = laws.forgets k.root.geometry.inodes v v table planned.point.volume (extends_itself v); rest = refl }
+    found_after : Forgets after (state_of (limits_of k.root.geometry) v (kept_after step serves.first serves.snapshots))
+    found_after = record { tree = laws.forgets (limits_of k.root.geometry) v v table planned.point.volume (extends_itself v); rest = refl }
 
     pub finished : (c : Images) → HasNewRoot p m.seen c → OpensTo m after c
     finished c has =

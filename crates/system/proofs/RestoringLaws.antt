@@ -1,15 +1,17 @@
 -- What a snapshot's tree is in memory, and the state with it.
-use Rattle.std.proofs.Common.{◌≡◌, ◌⊎◌, inl, inr, ℕ, zero, suc, ◌+◌, ◌*◌, ◌≤◌, [], ◌∷◌, Bool, false, Option, Some, None, Result, Ok, Err, refl, ap, sym, subst, ◌∙◌, arith}
+use Rattle.std.proofs.Common.{◌≡◌, ◌⊎◌, inl, inr, ℕ, zero, suc, ◌+◌, ◌*◌, ◌<◌, ◌≤◌, [], ◌∷◌, Bool, false, Option, Some, None, Result, Ok, Err, refl, ap, sym, subst, ◌∙◌, arith}
 use Rattle.std.specs.Prelude.{IsErrAnd, MatchResult, is_none}
 use Rattle.std.specs.Option.{option_map}
 use Rattle.std.proofs.lemmas.Bool.{cases_lt}
+use Rattle.model.specs.declared.costs.Costs.{Costs}
+use Rattle.layout.specs.StateLimits.{limits_of, fixed_of}
 use Rattle.layout.specs.Limits.{Sizes}
 use Rattle.layout.specs.Places.{Blocks, blocks_of}
 use Rattle.layout.specs.declared.root.Root.{Root}
 use Rattle.model.specs.Laws.{MountsFind}
 use Rattle.model.specs.Paths.{Name, first_refusal}
 use Rattle.model.specs.Records.{count_orphans, without_orphans}
-use Rattle.model.specs.Room.{IsShort, Room, a_restore, fixed_of}
+use Rattle.model.specs.Room.{IsShort, Room, a_restore}
 use Rattle.model.specs.States.{State, with_tree}
 use Rattle.model.specs.Steps.{frozen, has_open_below, restores}
 use Rattle.model.specs.Trees.{Description, Tree}
@@ -39,7 +41,7 @@ use Rattle.descriptors.specs.declared.open_file.OpenFile.{OpenFile}
 use Rattle.planning.specs.declared.change.SnapshotChange.TheVariants.{Restore}
 use Rattle.system.specs.Points.{MayCheckpointOver}
 use Rattle.system.specs.Restoring.{CountsKept, KeepsOrphans, KeepsOrphansOn, RestoresSlot, RestoresVolume, tree_in_slot}
-use Rattle.system.specs.Room.{HasRoomBesides}
+use Rattle.system.specs.Room.{HasRoomBesides, costs_on}
 use Rattle.system.specs.CheckpointCommands.{IsRoomOf}
 use Rattle.system.specs.Systems.{IsServing, Parts, disk_over, state_with}
 use Rattle.system.specs.declared.system.System.{System}
@@ -55,10 +57,10 @@ passed_read P (Err f) e is why = subst (λ (x : BlockError). (x ≡ read_errors.
 
 module _ (disk : Blocks) (r : Root) (k count : ℕ) (inodes : InodeFile) (are : AreInodesOf disk r.version r.geometry (tree_in_slot disk r k) inodes) (sized : count ≡ r.geometry.blocks) where
   -- memory stands for the volume that it holds
-  pub has_kept : (v : Volume) → HoldsVolume r.geometry.inodes (tree_contents (tree_in_slot disk r k)) v → IsVolume r.geometry.inodes v → HasVolume count disk (inodes_of (tree_in_slot disk r k)) inodes v
+  pub has_kept : (v : Volume) → HoldsVolume r.geometry.inodes (tree_contents (tree_in_slot disk r k)) v → IsVolume (limits_of r.geometry) v → HasVolume count disk (inodes_of (tree_in_slot disk r k)) inodes v
   has_kept v holds is = record {
     memory = subst (λ (n : ℕ). IsVolumeOf n disk (inodes_of (tree_in_slot disk r k)) inodes v) (sym sized) (are.volume v holds);
-    volume = subst (λ (g : Sizes). IsVolume g.inodes v) (sym are.geometry) is;
+    volume = subst (λ (g : Sizes). IsVolume (limits_of g) v) (sym are.geometry) is;
   }
 
   -- with the files that have no name dropped, a point needs no more than is kept for those
@@ -125,7 +127,7 @@ module _ {m : Meaning} {k : Parts} {s : State} (served : IsServing m k s.tree.de
 
   -- the state with its tree
   abbrev pub restored_state : State
-  restored_state = state_with k.root.geometry.inodes (without_orphans kept_volume) s.tree.descriptors served.snapshots
+  restored_state = state_with (limits_of k.root.geometry) (without_orphans kept_volume) s.tree.descriptors served.snapshots
 
   state_is : restored_state ≡ with_tree frozen_there.tree s
   state_is =
@@ -140,8 +142,9 @@ module _ {m : Meaning} {k : Parts} {s : State} (served : IsServing m k s.tree.de
       → (HasRoomBesides f counted → ⊥) → (room : Room) → IsRoomOf f room → IsShort room (a_restore (room.orphans_of name))
   short_to_restore f kept counted counts lacks room is = (
     is.covered,
-    elim (cases_lt f.free (f.pledged + 2 * fixed_of f.root.geometry.blocks + 1 + 4 * counted)) [
-      | inl lt ↦ omega (arith, lt, is.free, is.pledged, ap fixed_of is.blocks, is.orphans name _ kept, counts_kept counted counts)
+    elim (cases_lt f.free (f.pledged + 2 * (costs_on f).point + 1 + 4 * counted)) [
+      | inl lt ↦ subst (λ (c : Costs). room.free < room.pledged + 2 * c.point + 1 + c.orphan * room.orphans_of name) (sym is.costs)
+          (omega (arith, lt, is.free, is.pledged, is.orphans name _ kept, counts_kept counted counts))
       | inr ge ↦ absurd (lacks ge)
     ],
   )
@@ -154,8 +157,8 @@ module _ {m : Meaning} {k : Parts} {s : State} (served : IsServing m k s.tree.de
     volumes : RestoresVolume disk k.root found.slot kept_volume memory
     volumes = slots kept_volume frozen_there.frozen.1 frozen_there.frozen.2
 
-    finding_it : IsVolume k.root.geometry.inodes (without_orphans kept_volume) × IsMounted (without_orphans kept_volume) (λ d. None)
-    finding_it = finding k.root.geometry.inodes kept_volume frozen_there.frozen.2
+    finding_it : IsVolume (limits_of k.root.geometry) (without_orphans kept_volume) × IsMounted (without_orphans kept_volume) (λ d. None)
+    finding_it = finding (limits_of k.root.geometry) kept_volume frozen_there.frozen.2
 
     not_there : {file : OpenFile} → None ≡ Some file → ⊥
     not_there is = cc

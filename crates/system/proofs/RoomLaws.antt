@@ -3,10 +3,11 @@ use Rattle.std.proofs.Common.{◌≡◌, ◌∙◌, inl, inr, ℕ, zero, suc, �
 use Rattle.std.specs.Prelude.{IsTrue, IsFalse, if◌then◌else◌, ◌==◌}
 use Rattle.std.proofs.lemmas.Bool.{cases_lt}
 use Rattle.std.proofs.lemmas.List.{length-replicate}
+use Rattle.model.specs.declared.limits.Limits.{Limits}
 use Rattle.layout.specs.Limits.{Sizes}
 use Rattle.layout.specs.Places.{blocks_of}
 use Rattle.model.specs.Attributes.{no_attributes}
-use Rattle.model.specs.Records.{Change, Replays, applied, costs, count_orphans, pledged_for, work_of, create, link, remove_name, rename, write, truncate, change_mode, set_file}
+use Rattle.model.specs.Records.{Change, Replays, applied, cost_of_all, count_orphans, pledged_for, work_of, create, link, remove_name, rename, write, truncate, change_mode, set_file}
 use Rattle.model.specs.Room.{cost}
 use Rattle.model.specs.States.{State}
 use Rattle.model.specs.Trees.{Description}
@@ -35,14 +36,14 @@ use Rattle.system.proofs.SystemLaws.{at_rest, sizes}
 -- ---- what is pledged
 
 -- a record more costs what it costs the volume that the others lead to
-costs_more : (inodes : ℕ) (v : Volume) (changes : List Change) (last : Volume) (change : Change) (k : ℕ) → Replays inodes v changes last → k ≡ cost (work_of last change)
-    → costs v (changes ++ change ∷ []) ≡ costs v changes + k
-costs_more inodes v [] last change k replays is = omega (arith, is, ap (λ (u : Volume). cost (work_of u change)) replays)
-costs_more inodes v (c ∷ changes) last change k replays is = omega (arith, costs_more inodes (applied c v) changes last change k replays.1 is)
+costs_more : (limits : Limits) (v : Volume) (changes : List Change) (last : Volume) (change : Change) (k : ℕ) → Replays limits v changes last → k ≡ cost limits.costs (work_of last change)
+    → cost_of_all limits.costs v (changes ++ change ∷ []) ≡ cost_of_all limits.costs v changes + k
+costs_more limits v [] last change k replays is = omega (arith, is, ap (λ (u : Volume). cost limits.costs (work_of u change)) replays)
+costs_more limits v (c ∷ changes) last change k replays is = omega (arith, costs_more limits (applied c v) changes last change k replays.1 is)
 
-pub one_pledged : (inodes : ℕ) (first : Volume) (changes : List Change) (last : Volume) (change : Change) (pledged k : ℕ) → Replays inodes first changes last → k ≡ cost (work_of last change)
-    → pledged ≡ pledged_for inodes first changes → pledged + k ≡ pledged_for inodes first (changes ++ change ∷ [])
-one_pledged inodes first changes last change pledged k replays is so_far = omega (arith, so_far, costs_more inodes first changes last change k replays is)
+pub one_pledged : (limits : Limits) (first : Volume) (changes : List Change) (last : Volume) (change : Change) (pledged k : ℕ) → Replays limits first changes last → k ≡ cost limits.costs (work_of last change)
+    → pledged ≡ pledged_for limits first changes → pledged + k ≡ pledged_for limits first (changes ++ change ∷ [])
+one_pledged limits first changes last change pledged k replays is so_far = omega (arith, so_far, costs_more limits first changes last change k replays is)
 
 false_is : (b : Bool) → (IsTrue b → ⊥) → IsFalse b
 false_is true not_true = absurd (not_true refl)

@@ -1,5 +1,6 @@
 -- What stands on the disk that a point leaves, and what memory is under its root.
 use Rattle.std.proofs.Common.{◌≡◌, ◌≢◌, inl, inr, ℕ, ◌+◌, ◌*◌, ◌/◌, ◌<◌, ◌≤◌, List, [], All, Option, None, refl, sym, subst, ◌∙◌, arith}
+use Rattle.model.specs.declared.limits.Limits.{Limits}
 use Rattle.station.specs.Images.{Images}
 use Rattle.station.specs.Moments.{Meaning, MayLeave}
 use Rattle.layout.specs.Limits.{Sizes}
@@ -48,8 +49,8 @@ slot_is r d sector (inl b) = inr b.0
 slot_is r d sector (inr a) = inl a.0
 
 -- no record stands over a root that holds the running volume
-abbrev pub none_replayed : (inodes : ℕ) (running : Volume) → IsReplayed inodes no_bodies running running
-none_replayed inodes running = record {
+abbrev pub none_replayed : (limits : Limits) (running : Volume) → IsReplayed limits no_bodies running running
+none_replayed limits running = record {
   changes = [];
   are = λ i d lt. absurd (omega (arith, lt));
   spelled = refl;

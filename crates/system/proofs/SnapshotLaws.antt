@@ -2,6 +2,8 @@
 use Rattle.std.proofs.Common.{◌≡◌, ◌≢◌, ◌⊎◌, inl, inr, ℕ, zero, suc, ◌+◌, ◌*◌, ◌≤◌, ◌<◌, ◌^◌, List, [], ◌∷◌, ◌++◌, Bool, false, not, Option, Some, None, Result, Ok, Err, refl, ap, sym, subst, ◌∙◌, arith}
 use Rattle.std.specs.Prelude.{IsErrOf, OnOk, bytes_eq, filter, is_none, slice_index_or}
 use Rattle.std.proofs.lemmas.Bool.{cases_lt}
+use Rattle.model.specs.declared.costs.Costs.{Costs}
+use Rattle.layout.specs.StateLimits.{limits_of}
 use Rattle.station.specs.Moments.{HasGrown, LeavesOnly, Meaning}
 use Rattle.station.specs.declared.station.Station.{Ghosts}
 use Rattle.station.proofs.Moments.{goes_on_unchanged, joined, leaves_unchanged, weaker}
@@ -15,7 +17,7 @@ use Rattle.layout.specs.declared.root.Root.{Root}
 use Rattle.model.specs.Laws.{MountsForget}
 use Rattle.model.specs.Paths.{Name, first_refusal}
 use Rattle.model.specs.Records.{without_orphans}
-use Rattle.model.specs.Room.{IsShort, Need, Room, Work, a_snapshot, fixed_of, logs, nothing}
+use Rattle.model.specs.Room.{IsShort, Need, Room, Work, a_snapshot, logs, nothing}
 use Rattle.model.specs.States.{State, ForgetsOpenFiles, with_snapshots}
 use Rattle.model.specs.Steps.{deletes, frozen, take_tests, takes}
 use Rattle.model.specs.Trees.{Description, Tree}
@@ -44,7 +46,7 @@ use Rattle.system.specs.Counting.{AgesBy, Counted, Failed, IsNoGeneration, LogsN
 use Rattle.system.specs.Errors.{IsNotWritten, call_error}
 use Rattle.system.specs.Images.{OpensTo}
 use Rattle.system.specs.Points.{KeepsSlotsOn, MakesPointFrom}
-use Rattle.system.specs.Room.{HasRoomToTake}
+use Rattle.system.specs.Room.{HasRoomToTake, costs_on}
 use Rattle.system.specs.Serving.{LeavesEither, ServesAsBefore, ServesState, WouldDo}
 use Rattle.system.specs.CheckpointCommands.{Glances, IsRoomOf, LacksOrder, MakesCovered, Checkpoints, made_of}
 use Rattle.system.specs.Slicing.{Finishes}
@@ -112,7 +114,7 @@ pub forgets_running : {S : Type 0} {G : Ghosts S} (f : System S G) (s : State) �
 forgets_running f s forgets served =
     let tree : s.tree ≡ tree_of served.running s.tree.descriptors = ap (λ (u : State). u.tree) served.state in
     subst (λ (t : Tree). ForgetsOpenFiles t (tree_of (without_orphans served.running) closed)) (sym tree)
-    (forgets f.root.geometry.inodes served.running served.running s.tree.descriptors served.memory.volume (extends_itself served.running))
+    (forgets (limits_of f.root.geometry) served.running served.running s.tree.descriptors served.memory.volume (extends_itself served.running))
 
 module _ (s : State) (name : Name) where
   pub take_done : (t : Tree) → first_refusal (take_tests s name) ≡ None → ForgetsOpenFiles s.tree t → takes s name Done (with_snapshots (s.snapshots ++ (name, t) ∷ []) s) a_snapshot
@@ -125,8 +127,8 @@ module _ (s : State) (name : Name) where
 pub short_to_take : {S : Type 0} {G : Ghosts S} (f : System S G) → (HasRoomToTake f → ⊥) → (room : Room) → IsRoomOf f room → IsShort room a_snapshot
 short_to_take f lacks room is = (
   is.covered,
-  elim (cases_lt f.free (f.pledged + 2 * fixed_of f.root.geometry.blocks + 1)) [
-    | inl lt ↦ omega (arith, lt, is.free, is.pledged, ap fixed_of is.blocks)
+  elim (cases_lt f.free (f.pledged + 2 * (costs_on f).point + 1)) [
+    | inl lt ↦ omega (arith, lt, is.free, is.pledged, ap (λ (c : Costs). c.point) is.costs)
     | inr ge ↦ absurd (lacks ge)
   ],
 )

@@ -1,6 +1,7 @@
 -- The images of a system that serves a state open to it.
 use Rattle.std.specs.Prelude.{IsTrue}
 use Rattle.std.proofs.Common.{◌≡◌, inl, inr, ℕ, ◌*◌, List, Option, Some, None, refl, ap, sym, subst, ◌∙◌, arith}
+use Rattle.layout.specs.StateLimits.{limits_of}
 use Rattle.station.specs.Images.{Images, Sector}
 use Rattle.station.specs.Moments.{Meaning, EachCut}
 use Rattle.station.specs.declared.station.Station.{Ghosts}
@@ -160,22 +161,22 @@ module _ {m : Meaning} {k : Parts} {table : ℕ → Option Description} {s : Sta
 pub record AreOf (sizes : Sizes) (m : Meaning) (log : LogEnd) (running : Volume) (table : ℕ → Option Description) (snapshots : List (Name × Tree)) (s : State) : Type 0 where
   pub sectors : m.sectors ≡ 8 * sizes.blocks
   pub half : log.half ≡ sizes.half
-  pub volume : IsVolume sizes.inodes running
-  pub state : s ≡ state_with sizes.inodes running table snapshots
+  pub volume : IsVolume (limits_of sizes) running
+  pub state : s ≡ state_with (limits_of sizes) running table snapshots
 
 -- what a mount finds of the state is that of a replayed volume
 pub found_of : CutLaws → {sizes : Sizes} {m : Meaning} {log : LogEnd} {running : Volume} {table : ℕ → Option Description} {snapshots : List (Name × Tree)} {s : State}
-    → AreOf sizes m log running table snapshots s → (last : Volume) → Extends running last → Forgets s (state_of sizes.inodes last snapshots)
+    → AreOf sizes m log running table snapshots s → (last : Volume) → Extends running last → Forgets s (state_of (limits_of sizes) last snapshots)
 found_of laws {sizes} {running = running} {table = table} {snapshots = snapshots} are last extends =
-    subst (λ (t : State). Forgets t (state_of sizes.inodes last snapshots)) (sym are.state) (record {
-      tree = laws.forgets sizes.inodes running last table are.volume extends;
+    subst (λ (t : State). Forgets t (state_of (limits_of sizes) last snapshots)) (sym are.state) (record {
+      tree = laws.forgets (limits_of sizes) running last table are.volume extends;
       rest = refl;
     })
 
 -- What outlasts a cut opens to the state of the running volume.
 module _ (laws : CutLaws) {m : Meaning} {base : Base} {snapshots : List (Name × Tree)} {log : LogEnd} {pledged : ℕ} {running : Volume} (lasts : Lasts base snapshots pledged running)
     {table : ℕ → Option Description} {s : State} (are : AreOf base.root.geometry m log running table snapshots s) where
-  pub finds : Forgets s (state_of base.root.geometry.inodes lasts.replayed.last snapshots)
+  pub finds : Forgets s (state_of (limits_of base.root.geometry) lasts.replayed.last snapshots)
   finds = found_of laws are lasts.replayed.last lasts.replayed.extends
 
   -- its disk, with any NVRAM that has its records

@@ -10,7 +10,7 @@ use Rattle.layout.specs.Root.{root_bytes}
 use Rattle.layout.specs.declared.root.Root.{Root}
 use Rattle.model.specs.Paths.{Name}
 use Rattle.model.specs.Records.{Replays, count_orphans, pledged_for}
-use Rattle.model.specs.Room.{fixed_of}
+use Rattle.layout.specs.StateLimits.{fixed_of, limits_of}
 use Rattle.model.specs.States.{State}
 use Rattle.model.specs.Trees.{Description, Tree}
 use Rattle.model.specs.Volumes.{Volume}
@@ -81,7 +81,7 @@ module _ {settled : Base} {snapshots : List (Name × Tree)} {pledged : ℕ} {run
       planned = planned_at plan.written (settled.root.generation + 1) first planned;
       epoch = second;
       stays = record { nvram = refl; disk = λ n out. ap (λ (d : ℕ → Sector). d n) read };
-      since = none_replayed settled.root.geometry.inodes running;
+      since = none_replayed (limits_of settled.root.geometry) running;
       pledges = omega (arith, pledges);
       saves = saves;
     }
@@ -160,7 +160,7 @@ module _ (laws : CutLaws) {m : Meaning} {log : LogEnd} {settled : Base} {snapsho
     with_root c has = subst (λ (bytes : List ℕ). points.HasRootWritten (writes_of w.plan.blocks) w.plan.slot bytes settled.disk c.disk) way.planned.bytes (laws.finished w.plan was c has)
 
     -- what stays pledged is free under the old root, beside what the point takes
-    pub enough : pledged_for settled.root.geometry.inodes w.volume way.since.changes + fixed_of settled.root.geometry.blocks + way.planned.room.spent
+    pub enough : pledged_for (limits_of settled.root.geometry) w.volume way.since.changes + fixed_of settled.root.geometry.blocks + way.planned.room.spent
         ≤ free_under (whole (blocks_of settled.disk) settled.root).active settled.root.geometry.blocks
     enough = omega (arith, way.saves, way.pledges, lasts.pledges, lasts.reserved)
 
@@ -221,11 +221,11 @@ module _ (laws : CutLaws) {m : Meaning} {log : LogEnd} {settled : Base} {snapsho
           are = way.since.are;
           spelled = way.since.spelled;
           last = way.since.last;
-          replays = subst (λ (g : Sizes). Replays g.inodes w.volume way.since.changes way.since.last) (sym way.planned.point.geometry) way.since.replays;
+          replays = subst (λ (g : Sizes). Replays (limits_of g) w.volume way.since.changes way.since.last) (sym way.planned.point.geometry) way.since.replays;
           extends = way.since.extends;
         };
-        pledges = way.pledges ∙ ap (λ (g : Sizes). pledged_for g.inodes w.volume way.since.changes) (sym way.planned.point.geometry);
-        reserved = subst (λ (g : Sizes). pledged_for g.inodes w.volume way.since.changes + fixed_of g.blocks ≤ free_under (whole (blocks_of then.disk) w.root).active g.blocks) (sym way.planned.point.geometry)
+        pledges = way.pledges ∙ ap (λ (g : Sizes). pledged_for (limits_of g) w.volume way.since.changes) (sym way.planned.point.geometry);
+        reserved = subst (λ (g : Sizes). pledged_for (limits_of g) w.volume way.since.changes + fixed_of g.blocks ≤ free_under (whole (blocks_of then.disk) w.root).active g.blocks) (sym way.planned.point.geometry)
             (omega (arith, enough, roots.free m.sectors settled.disk then.disk m.seen.nvram s (writes_of w.plan.blocks) w.plan.slot w.root w.volume unchanged way.planned.room.spent opens way.planned.point written way.planned.room.leaves));
       }
 

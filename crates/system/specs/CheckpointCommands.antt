@@ -17,6 +17,7 @@ use Rattle.system.specs.Errors.{IsRefused}
 use Rattle.system.specs.Images.{OpensTo}
 use Rattle.system.specs.Points.{KeepsSlots}
 use Rattle.system.specs.Restoring.{KeepsOrphans}
+use Rattle.system.specs.Room.{costs_on}
 use Rattle.system.specs.Serving.{HasEmptyLog, IsBrokenOff, LeavesEither, ServesAsBefore, ServesState, WouldDo}
 use Rattle.system.specs.Systems.{IsCovered, disk_of, meaning_of}
 use Rattle.system.specs.declared.error.CallError.{CallError}
@@ -56,6 +57,7 @@ IsPrepared f s p = IsPreparedOn f.root (blocks_of (disk_of f)) s p
 -- the room is that of a system whose newest root covers all
 pub record IsRoomOf {S : Type 0} {G : Ghosts S} (f : System S G) (room : Room) : Type 0 where
   pub covered : IsTrue room.is_covered
+  pub costs : room.costs ≡ costs_on f
   pub free : room.free ≡ f.free
   pub blocks : room.blocks ≡ f.root.geometry.blocks
   pub pledged : room.pledged ≡ f.pledged

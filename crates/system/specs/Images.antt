@@ -1,5 +1,7 @@
 -- What the images of a mounted system hold.
 use Rattle.std.specs.Prelude.{ℕ, ◌≡◌, List, map, All}
+use Rattle.model.specs.declared.limits.Limits.{Limits}
+use Rattle.layout.specs.StateLimits.{limits_of}
 use Rattle.station.specs.Images.{Images}
 use Rattle.station.specs.Moments.{Meaning}
 use Rattle.layout.specs.Opens.{IsNewest}
@@ -38,12 +40,12 @@ pub record IsLeft (root : Root) (log : LogEnd) (bodies : Bodies) (disk : ℕ →
 
 -- The records with these bodies lead from the volume that a root holds to the running one; but
 -- orphans, which the running one may have dropped, are there still.
-pub record IsReplayed (inodes : ℕ) (bodies : Bodies) (first running : Volume) : Type 0 where
+pub record IsReplayed (limits : Limits) (bodies : Bodies) (first running : Volume) : Type 0 where
   pub changes : List Change
   pub are : All IsChange changes
   pub spelled : all_bodies bodies ≡ map change_bytes changes
   pub last : Volume
-  pub replays : Replays inodes first changes last
+  pub replays : Replays limits first changes last
   pub extends : Extends running last
 
 -- What the records of a log are replayed over: a disk, its newest root, and the volume that this
@@ -61,9 +63,9 @@ pub record Lasts (settled : Base) (snapshots : List (Name × Tree)) (pledged : �
   pub newest : IsNewest settled.root (settled.disk SLOT_A) (settled.disk SLOT_B)
   pub holds : Holds settled.root (whole (blocks_of settled.disk) settled.root) settled.volume snapshots
   pub bodies : Bodies
-  pub replayed : IsReplayed settled.root.geometry.inodes bodies settled.volume running
+  pub replayed : IsReplayed (limits_of settled.root.geometry) bodies settled.volume running
   pub pledges :
-      pledged ≡ pledged_for settled.root.geometry.inodes settled.volume replayed.changes
+      pledged ≡ pledged_for (limits_of settled.root.geometry) settled.volume replayed.changes
   pub reserved :
       HasReserve settled.root (whole (blocks_of settled.disk) settled.root) settled.volume
       replayed.changes

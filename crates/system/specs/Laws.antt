@@ -12,7 +12,7 @@ use Rattle.layout.specs.declared.version.TheConstants.{VERSION}
 use Rattle.model.specs.Laws.{MountsForget, RecordsKeepVolumes, ReplayFollows, ReplaysCostTheSame, SweepsKeepVolumes}
 use Rattle.model.specs.Paths.{Name}
 use Rattle.model.specs.Records.{Replays, pledged_for}
-use Rattle.model.specs.Room.{fixed_of}
+use Rattle.layout.specs.StateLimits.{fixed_of, limits_of}
 use Rattle.model.specs.States.{Forgets, State}
 use Rattle.model.specs.Trees.{Tree}
 use Rattle.model.specs.Volumes.{Volume}
@@ -52,10 +52,10 @@ pub record CutLaws : Type 0 where
       (last : Volume) → (o : Opens sectors d nvram s)
       → IsPointWith step o.root d writes sector new v
       → points.HasRootWritten writes sector (root_bytes new) d e → LogHoldsChanges new nvram rest
-      → Replays o.root.geometry.inodes v rest last → (t : State)
-      → Forgets t (state_of o.root.geometry.inodes last (kept_after step o.first o.snapshots))
+      → Replays (limits_of o.root.geometry) v rest last → (t : State)
+      → Forgets t (state_of (limits_of o.root.geometry) last (kept_after step o.first o.snapshots))
       → (spent : ℕ) → LeavesFree spent o.root (blocks_of d) writes new
-      → pledged_for o.root.geometry.inodes v rest + fixed_of o.root.geometry.blocks + spent
+      → pledged_for (limits_of o.root.geometry) v rest + fixed_of o.root.geometry.blocks + spent
       ≤ free_under (whole (blocks_of d) o.root).active o.root.geometry.blocks
       → OpensBy sectors e nvram t rest
   pub one : (half g : ℕ) (nvram : List ℕ) (bodies : List (List ℕ)) → g + 3 < 2 ^ 64

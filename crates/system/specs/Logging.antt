@@ -1,5 +1,7 @@
 -- What a record does that a system logs.
 use Rattle.std.specs.Prelude.{ℕ, ◌≡◌, ◌≤◌, ◌⊎◌, ◌∷◌, ◌++◌, [], List, OnOk, IsErrOf, Option, Result}
+use Rattle.model.specs.declared.limits.Limits.{Limits}
+use Rattle.layout.specs.StateLimits.{limits_of}
 use Rattle.station.specs.Moments.{LeavesOnly}
 use Rattle.station.specs.declared.station.Station.{Ghosts}
 use Rattle.layout.specs.Places.{blocks_of}
@@ -27,12 +29,12 @@ use Rattle.system.specs.declared.error.CallError.{CallError}
 use Rattle.system.specs.declared.error.CallError.TheVariants.{NoRoom}
 use Rattle.system.specs.declared.system.System.{System}
 
--- a record applies to a volume of so many inodes, and leads to one that these descriptors fit once
+-- a record applies to a volume within limits, and leads to one that these descriptors fit once
 -- the files are dropped that it leaves with neither name nor descriptor
-pub record Advances (inodes : ℕ) (running : Volume) (table : ℕ → Option Description)
+pub record Advances (limits : Limits) (running : Volume) (table : ℕ → Option Description)
     (change : Change) : Type 0 where
   pub is : IsChange change
-  pub applies : Applies inodes running change
+  pub applies : Applies limits running change
   pub mounted : IsMounted (swept table (applied change running)) table
 
 -- once memory stands for a volume, over the disk of a system, and needs no more than is pledged,
@@ -57,10 +59,10 @@ pub record Appends {S : Type 0} {G : Ghosts S} (old new : System S G) (table : �
     (change : Change) (result : Result (Unit {0}) AppendError) : Type 0 where
   pub any_moment : let after = swept table (applied change serves.running) in
       LeavesOnly (meaning_of old) (meaning_of new) (λ c. OpensTo (meaning_of old) s c
-      ⊎ OpensTo (meaning_of old) (state_with old.root.geometry.inodes after table serves.snapshots) c)
+      ⊎ OpensTo (meaning_of old) (state_with (limits_of old.root.geometry) after table serves.snapshots) c)
   pub logged : let after = swept table (applied change serves.running) in
       OnOk result (WouldServe old new serves.first after (serves.lasts.replayed.changes ++ change ∷ []) table
-      (state_with old.root.geometry.inodes after table serves.snapshots))
+      (state_with (limits_of old.root.geometry) after table serves.snapshots))
 
 -- put in force on a system with this running volume, a prepared change does what the record says
 abbrev pub DoesOver : {S : Type 0} {G : Ghosts S} → System S G → Volume → Prepared → Change → Type 0
@@ -75,10 +77,10 @@ pub record LogsAt {S : Type 0} {G : Ghosts S} (old new : System S G) (table : �
     (change : Change) (prepared : Prepared) (result : Result (Unit {0}) CallError) : Type 0 where
   pub room : OnOk result (HasRoomForWork old (work_of serves.running change))
   pub short : IsErrOf result NoRoom → HasRoomForWork new (work_of serves.running change) → ⊥
-  pub any_moment : Advances old.root.geometry.inodes serves.running table change
+  pub any_moment : Advances (limits_of old.root.geometry) serves.running table change
       → let after = swept table (applied change serves.running) in
-      LeavesEither (meaning_of old) (meaning_of new) s (state_with old.root.geometry.inodes after table serves.snapshots)
-  pub done : Advances old.root.geometry.inodes serves.running table change → DoesOver old serves.running prepared change
+      LeavesEither (meaning_of old) (meaning_of new) s (state_with (limits_of old.root.geometry) after table serves.snapshots)
+  pub done : Advances (limits_of old.root.geometry) serves.running table change → DoesOver old serves.running prepared change
       → let after = swept table (applied change serves.running) in
-      OnOk result (ServesWith new table (state_with old.root.geometry.inodes after table serves.snapshots) after
+      OnOk result (ServesWith new table (state_with (limits_of old.root.geometry) after table serves.snapshots) after
       (serves.lasts.replayed.changes ++ change ∷ []))

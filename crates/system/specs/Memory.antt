@@ -1,5 +1,6 @@
 -- What a mounted system has in memory, over the disk that it reads.
 use Rattle.std.specs.Prelude.{ℕ, ◌≡◌}
+use Rattle.layout.specs.StateLimits.{limits_of}
 use Rattle.layout.specs.Places.{Blocks}
 use Rattle.layout.specs.declared.root.Root.{Root}
 use Rattle.model.specs.Volumes.{Volume, IsVolume}
@@ -23,4 +24,4 @@ HasEntriesToCome t map = (b : ℕ) → entry_at map.parts.items b ≡ entry t b
 pub record IsInMemory (disk : Blocks) (root : Root) (inodes : InodeFile) (running : Volume) : Type 0 where
   pub stands : IsVolumeOf root.geometry.blocks disk (inodes_of (whole disk root).active) inodes
       running
-  pub volume : IsVolume root.geometry.inodes running
+  pub volume : IsVolume (limits_of root.geometry) running

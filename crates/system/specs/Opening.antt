@@ -1,5 +1,6 @@
 -- What a mount reads, and what it makes of it.
 use Rattle.std.specs.Prelude.{ℕ, ◌≡◌, ◌⊎◌, List, IsFalse, ◌<◌, ◌≤◌, ◌^◌}
+use Rattle.layout.specs.StateLimits.{limits_of}
 use Rattle.station.specs.Images.{Images}
 use Rattle.station.specs.Moments.{Meaning, HasGrown}
 use Rattle.layout.specs.Places.{Blocks, blocks_of}
@@ -101,7 +102,7 @@ pub record HoldsRecords (disk : Blocks) (r : Root) (nvram : List ℕ) (first las
     (snapshots : List (Name × Tree)) (changes : List Change) : Type 0 where
   pub holds : Holds r (whole disk r) first snapshots
   pub log : LogHoldsChanges r nvram changes
-  pub replays : Replays r.geometry.inodes first changes last
+  pub replays : Replays (limits_of r.geometry) first changes last
   pub room : HasReserve r (whole disk r) first changes
 
 -- Memory has the log's end behind these records, and the volume that they lead to, without the
@@ -111,5 +112,5 @@ pub record HasImage (disk : Blocks) (r : Root) (nvram : List ℕ) (first last : 
   pub log : StandsBehind p.log r.generation nvram (bodies_of changes)
   pub memory : IsInMemory disk r p.inodes (without_orphans last)
   pub entries : HasEntries (whole disk r).active p.map
-  pub pledges : p.pledged ≡ pledged_for r.geometry.inodes first changes
+  pub pledges : p.pledged ≡ pledged_for (limits_of r.geometry) first changes
   pub stored : memory_room first p.inodes (without_orphans last) ≤ p.pledged

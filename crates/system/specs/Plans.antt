@@ -2,11 +2,10 @@
 use Rattle.std.specs.Prelude.{ℕ, ◌≡◌, ◌+◌, ◌*◌, ◌≤◌, List}
 use Rattle.layout.specs.Places.{blocks_of}
 use Rattle.layout.specs.Root.{root_bytes}
+use Rattle.layout.specs.StateLimits.{limits_of}
 use Rattle.layout.specs.declared.root.Root.{Root}
 use Rattle.model.specs.Records.{count_orphans}
-use Rattle.model.specs.Room.{fixed_of}
 use Rattle.model.specs.Volumes.{Volume}
-use Rattle.model.specs.declared.costs.TheConstants.{ORPHAN_COST}
 use Rattle.images.specs.Cuts.{IsPointWith, LeavesFree, Write}
 use Rattle.images.specs.Room.{free_under}
 use Rattle.images.specs.Roots.{whole}
@@ -20,7 +19,9 @@ use Rattle.system.specs.Slots.{other_slot}
 pub record LeavesRoom (disk : ℕ → List ℕ) (root : Root) (running : Volume) (writes : List Write) (new : Root) : Type 0 where
   pub spent : ℕ
   pub leaves : LeavesFree spent root (blocks_of disk) writes new
-  pub enough : ORPHAN_COST * count_orphans root.geometry.inodes running + fixed_of root.geometry.blocks + spent
+  pub enough :
+      (limits_of root.geometry).costs.orphan * count_orphans root.geometry.inodes running
+      + (limits_of root.geometry).costs.point + spent
       ≤ free_under (whole (blocks_of disk) root).active root.geometry.blocks
 
 -- A point is planned over a disk with this root in this slot, and none of it is written: its root

@@ -1,9 +1,10 @@
 -- What is planned of a consistency point for a system.
 use Rattle.std.specs.Prelude.{ℕ, ◌≡◌, ◌⊎◌, ◌+◌, ◌*◌, ◌≤◌, ◌^◌, List, Option, Result, OnOk, IfErr, IsErrOf, MatchResult, None}
+use Rattle.model.specs.declared.limits.Limits.{Limits}
 use Rattle.station.specs.Images.{Unchanged}
 use Rattle.station.specs.Moments.{Goes, LeavesOnly, Meaning}
 use Rattle.station.specs.declared.station.Station.{Ghosts}
-use Rattle.model.specs.Room.{fixed_of}
+use Rattle.layout.specs.StateLimits.{limits_of}
 use Rattle.model.specs.Volumes.{IsMounted, IsVolume, Volume}
 use Rattle.descriptors.specs.Fits.{FitsVolume}
 use Rattle.descriptors.specs.declared.table.Descriptors.{Descriptors}
@@ -29,7 +30,7 @@ use Rattle.layout.specs.declared.root.Root.{Root}
 use Rattle.system.specs.Counting.{Counted, IsNoGeneration, LogsNothing, point_failed}
 use Rattle.system.specs.Errors.{IsRefused}
 use Rattle.system.specs.Images.{OpensTo}
-use Rattle.system.specs.Room.{HasRoomToTake}
+use Rattle.system.specs.Room.{HasRoomToTake, costs_on}
 use Rattle.system.specs.Systems.{IsCovered, HasState, disk_of, meaning_of, state_with}
 use Rattle.system.specs.declared.error.PointError.{PointError}
 use Rattle.system.specs.declared.error.PointError.TheVariants.{NoGeneration, NotPlanned, NotWritten}
@@ -52,7 +53,7 @@ HasRoomFor (changes.Delete slot) fixed free needs = needs + fixed ≤ free
 HasRoomFor (changes.Restore slot inode_file) fixed free needs = needs + 2 * fixed ≤ free
 
 abbrev pub HasRoomToPlan : {S : Type 0} {G : Ghosts S} → SnapshotChange → System S G → ℕ → Type 0
-HasRoomToPlan change f needs = HasRoomFor change (fixed_of f.root.geometry.blocks) f.free needs
+HasRoomToPlan change f needs = HasRoomFor change (costs_on f).point f.free needs
 
 -- What a point that does this with the snapshots under a root may settle: memory stands for a
 -- volume over the tree that the point starts from, which holds this one, and these open files are
@@ -61,9 +62,9 @@ pub record MayCheckpointOver (change : SnapshotChange) (disk : Blocks) (root : R
     (base v : Volume) : Type 0 where
   pub restored : HasRestored change root (whole disk root)
   pub base_held : HoldsVolume root.geometry.inodes (tree_contents (starting_tree change (whole disk root))) base
-  pub base_volume : IsVolume root.geometry.inodes base
+  pub base_volume : IsVolume (limits_of root.geometry) base
   pub stands : IsVolumeOf root.geometry.blocks disk (inodes_of (starting_tree change (whole disk root))) memory v
-  pub volume : IsVolume root.geometry.inodes v
+  pub volume : IsVolume (limits_of root.geometry) v
   pub mounted : IsMounted v table
   pub fits : FitsVolume files v
 
@@ -90,15 +91,15 @@ StepsTo change f table s serves t =
     (step : SnapshotStep) × IsStepFor change f step × StartsActive step × (t ≡ with_snapshots (kept_after step serves.first serves.snapshots) s)
 
 -- the state of a volume after a step, over a root that holds another one and these snapshots
-abbrev pub turned : ℕ → SnapshotStep → Volume → (ℕ → Option Description) → Volume → List (Name × Tree) → State
-turned inodes step v table first snapshots = state_with inodes v table (kept_after step first snapshots)
+abbrev pub turned : Limits → SnapshotStep → Volume → (ℕ → Option Description) → Volume → List (Name × Tree) → State
+turned limits step v table first snapshots = state_with limits v table (kept_after step first snapshots)
 
 -- so a state may be the one that a system serves behind a point that settles this memory
 abbrev pub TurnsTo : {S : Type 0} {G : Ghosts S} → SnapshotChange → InodeFile → (base v : Volume) → (f : System S G) → (table : ℕ → Option Description) (s : State)
     → HasState f table s → State → Type 0
 TurnsTo change memory base v f table s serves t =
     (step : SnapshotStep) × IsStepFor change f step × MayCheckpoint change f memory table base v
-    × (t ≡ turned f.root.geometry.inodes step v table serves.first serves.snapshots)
+    × (t ≡ turned (limits_of f.root.geometry) step v table serves.first serves.snapshots)
 
 -- it is the same
 abbrev pub StaysAt : {S : Type 0} {G : Ghosts S} → (f : System S G) → (table : ℕ → Option Description) (s : State)

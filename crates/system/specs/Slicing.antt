@@ -8,7 +8,6 @@ use Rattle.model.specs.Records.{count_orphans}
 use Rattle.model.specs.States.{State}
 use Rattle.model.specs.Trees.{Description}
 use Rattle.model.specs.Volumes.{Volume}
-use Rattle.model.specs.declared.costs.TheConstants.{ORPHAN_COST}
 use Rattle.buffers.specs.Disks.{ReadsOn}
 use Rattle.blockmap.specs.Changes.{SwitchesTo}
 use Rattle.blockmap.specs.Maps.{entry_at}
@@ -31,6 +30,7 @@ use Rattle.system.specs.Images.{IsUnder, OpensTo}
 use Rattle.system.specs.Memory.{HasEntries, HasEntriesToCome, IsInMemory}
 use Rattle.system.specs.Plans.{IsPlannedOver}
 use Rattle.system.specs.Points.{HasRoomToPlan, IsStepFor, MayCheckpoint}
+use Rattle.system.specs.Room.{costs_on}
 use Rattle.system.specs.Systems.{HasState, HasStateBy, ServesRest, disk_of, meaning_of, system_parts}
 use Rattle.system.specs.declared.error.PointError.{PointError}
 use Rattle.system.specs.declared.error.PointError.TheVariants.{NoGeneration, NotPlanned}
@@ -61,7 +61,7 @@ pub record IsPending {S : Type 0} {G : Ghosts S} (step : SnapshotStep) (old new 
       → StandsAt new.log g (record { older = all_bodies bodies; newest = [] }) nvram
   pub covered : (g : ℕ) (bodies : Bodies) (nvram : List ℕ) → g < 2 ^ 62 → StandsAt old.log g bodies nvram
       → StandsAt new.log old.log.epoch no_bodies nvram
-  pub pledges : new.pledged_then ≡ ORPHAN_COST * count_orphans old.root.geometry.inodes v
+  pub pledges : new.pledged_then ≡ (costs_on old).orphan * count_orphans old.root.geometry.inodes v
   pub stored : memory_room v new.inodes v ≤ new.pledged_then
   pub saves : step ≡ unchanged → memory_room base old.inodes v ≤ old.pledged → planned.room.spent + new.pledged_then ≤ old.pledged
 

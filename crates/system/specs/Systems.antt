@@ -1,5 +1,7 @@
 -- What a mounted system stands for.
 use Rattle.std.specs.Prelude.{ℕ, ◌≡◌, ◌⊎◌, ◌≤◌, ◌++◌, List, Option, Some, None, IsFalse}
+use Rattle.model.specs.declared.limits.Limits.{Limits}
+use Rattle.layout.specs.StateLimits.{limits_of}
 use Rattle.station.specs.Moments.{EachCut, Meaning}
 use Rattle.station.specs.declared.station.Station.{Ghosts}
 use Rattle.layout.specs.Places.{blocks_of}
@@ -36,10 +38,11 @@ use Rattle.system.specs.declared.system.System.{System}
 abbrev pub meaning_of : {S : Type 0} {G : Ghosts S} → System S G → Meaning
 meaning_of {S} {G} f = G.meaning f.blocks.buffers.station
 
--- the state that a system with this running volume shows, with these snapshots and open files
-abbrev pub state_with : ℕ → Volume → (ℕ → Option Description) → List (Name × Tree) → State
-state_with inodes running table snapshots =
-    record { inodes = inodes; tree = tree_of running table; snapshots = snapshots; mark = going }
+-- the state that a system with this running volume shows, with these limits, snapshots and open
+-- files
+abbrev pub state_with : Limits → Volume → (ℕ → Option Description) → List (Name × Tree) → State
+state_with limits running table snapshots =
+    record { limits = limits; tree = tree_of running table; snapshots = snapshots; mark = going }
 
 -- the blocks of a station, as the layers below have them
 abbrev pub blocks_with : {S : Type 0} (G : Ghosts S) → blocks.Ghosts (Overlay S G)
@@ -140,7 +143,7 @@ pub record IsServing (m : Meaning) (k : Parts) (table : ℕ → Option Descripti
   pub stored : memory_room first k.inodes running ≤ k.pledged_then
   pub opened : table ≡ table_of k.files
   pub fits : FitsVolume k.files running
-  pub state : s ≡ state_with k.root.geometry.inodes running table snapshots
+  pub state : s ≡ state_with (limits_of k.root.geometry) running table snapshots
 
 -- a system serves a state
 abbrev pub HasState : {S : Type 0} {G : Ghosts S} → System S G → (ℕ → Option Description) → State

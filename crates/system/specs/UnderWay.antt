@@ -1,5 +1,6 @@
 -- A consistency point that is under way.
 use Rattle.std.specs.Prelude.{ℕ, ◌≡◌, ◌+◌, ◌<◌, ◌≤◌, ◌^◌, List, []}
+use Rattle.layout.specs.StateLimits.{limits_of}
 use Rattle.station.specs.Images.{Images}
 use Rattle.station.specs.Moments.{Meaning, IsSector}
 use Rattle.layout.specs.declared.root.Root.{Root}
@@ -48,8 +49,8 @@ pub record IsUnderWay (m : Meaning) (log : LogEnd) {settled : Base} {snapshots :
   pub planned : IsPlannedOver unchanged settled.disk settled.root slot (settled.root.generation + 1) w.plan w.root w.volume
   pub epoch : log.epoch ≡ settled.root.generation + 2
   pub stays : StaysOutside w.plan.blocks (record m.seen { disk = settled.disk }) m.seen
-  pub since : IsReplayed settled.root.geometry.inodes (newest_of lasts.bodies) w.volume running
-  pub pledges : w.pledged ≡ pledged_for settled.root.geometry.inodes w.volume since.changes
+  pub since : IsReplayed (limits_of settled.root.geometry) (newest_of lasts.bodies) w.volume running
+  pub pledges : w.pledged ≡ pledged_for (limits_of settled.root.geometry) w.volume since.changes
   pub saves : planned.room.spent + w.pledged ≤ pledged
 
 -- laws of the layers below that the proofs on points under way stand on, beside those on the images

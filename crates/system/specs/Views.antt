@@ -1,5 +1,6 @@
 -- The tree of a snapshot in memory.
 use Rattle.std.specs.Prelude.{ℕ, ◌≡◌, Bool, true, false, List, Option, Some, None, IfSome}
+use Rattle.layout.specs.StateLimits.{limits_of}
 use Rattle.layout.specs.Places.{Blocks}
 use Rattle.layout.specs.declared.inode.Inode.{Inode}
 use Rattle.layout.specs.declared.root.Root.{Root}
@@ -19,7 +20,7 @@ use Rattle.system.specs.declared.snapshot_view.View.{View}
 -- of so many blocks.
 pub record StandsForSnapshot (disk : Blocks) (blocks : ℕ) (snapshots : List (Name × Tree)) (name : Name) (inodes : InodeFile) : Type 0 where
   pub volume : Volume
-  pub is : IsVolume inodes.geometry.inodes volume
+  pub is : IsVolume (limits_of inodes.geometry) volume
   pub listed : named name snapshots ≡ Some (name, tree_of (without_orphans volume) (λ d. None))
   pub settled : ℕ → Inode
   pub stands : IsVolumeOf blocks disk settled inodes volume

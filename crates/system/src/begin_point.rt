@@ -14,7 +14,6 @@ use blockmap::BlockMap;
 use conspoint::{Plan, PlanError};
 use inode::File;
 use layout::{Generation, Inode, SLOT_A, SLOT_B};
-use model::ORPHAN_COST;
 use overlay::PendingPoint;
 use planning::{Point, SnapshotChange, plan};
 use station::Station;
@@ -58,6 +57,7 @@ impl<S: Station> System<S> {
         let Some(generation) = Generation::new(self.log.epoch().get()) else {
             return Err(PointError::NoGeneration);
         };
+        let orphans = self.cost_of_orphans(self.files.open_orphans());
         let slot = other_slot(self.slot);
         let mut map = mem::replace(&mut self.map, BlockMap::new(Vec::new(self.alloc), 0));
         // A point that was refused may have left changes of it.
@@ -87,7 +87,7 @@ impl<S: Station> System<S> {
                 self.root = root;
                 self.slot = slot;
                 self.log.go_on(generation.epoch_after(1));
-                self.pledged_then = ORPHAN_COST * u64::from(self.files.open_orphans());
+                self.pledged_then = orphans;
                 Ok(())
             }
             Err(_) => Err(PointError::NotPlanned(PlanError::NoMemory)),

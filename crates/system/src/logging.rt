@@ -1,6 +1,7 @@
 //! Records put into the log of a mounted system.
 
 ghost use Rattle.std.specs.Prelude.{◌≡◌, ◌≢◌, ◌⊎◌, ◌+◌, ℕ, Option, OnOk, OnErr, IfErr, IsErrOf, IsFalse, IsTrue, length, true};
+ghost use Rattle.layout.specs.StateLimits.{limits_of};
 ghost use Rattle.station.specs.Calls.{OnlyWrites};
 ghost use Rattle.layout.specs.Record.{KeepsLimits, change_of};
 ghost use Rattle.model.specs.Records.{work_of};
@@ -13,7 +14,7 @@ ghost use Rattle.oplog.specs.LogEnd.{HasRoomInHalf, behind_record, logged_body};
 ghost use Rattle.records.specs.Prepared.{IsReady};
 ghost use Rattle.system.specs.Logging.{Advances, Appends, LogsAt};
 ghost use Rattle.replay.specs.Costs.{IsSizeBefore, KnowsFile};
-ghost use Rattle.system.specs.Room.{HasRoomToLog};
+ghost use Rattle.system.specs.Room.{HasRoomToLog, costs_on};
 ghost use Rattle.system.specs.Systems.{HasState, meaning_of, system_parts};
 
 use crate::error::log_error;
@@ -22,7 +23,7 @@ use crate::{CallError, System};
 use layout::Record;
 use oplog::AppendError;
 use records::{Prepared, commit_swept};
-use replay::{cost_of, size_before};
+use replay::size_before;
 use station::Station;
 
 impl<S: Station> System<S> {
@@ -53,17 +54,17 @@ impl<S: Station> System<S> {
             × (self.new.pledged_then ≡ self.old.pledged_then)) }
         ensures pledges { (v : Volume) → IsSizeBefore v (change_of change.now) size
             → OnOk result ((self.new.pledged
-            ≡ self.old.pledged + cost (work_of v (change_of change.now)))
+            ≡ self.old.pledged + cost (costs_on self.old) (work_of v (change_of change.now)))
             × (self.new.pledged_then
-            ≡ self.old.pledged_then + cost (work_of v (change_of change.now)))) }
+            ≡ self.old.pledged_then + cost (costs_on self.old) (work_of v (change_of change.now)))) }
         ensures told { (table : ℕ → Option Description) (s : State)
             → (serves : HasState self.old table s) → IsSizeBefore serves.running (change_of change.now) size
-            → Advances self.old.root.geometry.inodes serves.running table (change_of change.now)
+            → Advances (limits_of self.old.root.geometry) serves.running table (change_of change.now)
             → Appends self.old self.new table s serves (change_of change.now) result }
     {
         cuts_open();
         records_lead_on();
-        let cost = cost_of(change, size);
+        let cost = self.cost_of(change, size);
         match self
             .log
             .append(self.alloc, &mut self.blocks.buffers.station, change)

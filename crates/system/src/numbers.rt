@@ -16,9 +16,9 @@ impl<S: Station> System<S> {
     /// How many inodes the image has, with no device call.
     pub fn count_inodes(&self) -> u32
         ensures served { (table : ℕ → Option Description) (s : State) → HasState self.now table s
-            → result ≡ s.inodes }
+            → result ≡ s.limits.inodes }
         ensures ahead { (waits : Waits) (table : ℕ → Option Description) (s kept : State)
-            → HasStateAhead self.now waits table s kept → result ≡ s.inodes }
+            → HasStateAhead self.now waits table s kept → result ≡ s.limits.inodes }
     {
         self.inodes.geometry().inodes()
     }
@@ -44,10 +44,10 @@ impl<S: Station> System<S> {
     pub fn next_number(&self) -> Option<u32>
         ensures low { IfSome result (λ n. FIRST_NUMBER ≤ n) }
         ensures fresh { (table : ℕ → Option Description) (s : State) → HasState self.now table s
-            → MatchOption result (HasNoFresh s.inodes s.tree) (IsFresh s.inodes s.tree) }
+            → MatchOption result (HasNoFresh s.limits s.tree) (IsFresh s.limits s.tree) }
         ensures ahead { (waits : Waits) (table : ℕ → Option Description) (s kept : State)
             → HasStateAhead self.now waits table s kept
-            → MatchOption result (HasNoFresh s.inodes s.tree) (IsFresh s.inodes s.tree) }
+            → MatchOption result (HasNoFresh s.limits s.tree) (IsFresh s.limits s.tree) }
     {
         volumes_tell_used_numbers();
         self.inodes.next_free()

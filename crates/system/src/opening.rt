@@ -1,6 +1,7 @@
 //! Mounting: from a station to a system.
 
 ghost use Rattle.std.specs.Prelude.{◌≡◌, ◌⊎◌, List, ℕ, IfErr, IfOk, IsErrOf, IsFalse, MatchResult, None, OnOk};
+ghost use Rattle.layout.specs.StateLimits.{limits_of};
 ghost use Rattle.station.specs.Images.{Unchanged};
 ghost use Rattle.station.specs.Moments.{Goes, HasGrown, IsSameStation, LeavesJust};
 ghost use Rattle.layout.specs.Log.{LogHolds};
@@ -145,7 +146,7 @@ fn open_found<S: Station>(
         → HoldsRecords (blocks_of (S.meaning station).seen.disk) found.newest.root
         (S.meaning station).seen.nvram first last snapshots changes
         → MatchResult result (λ f. HasState f (λ d. None)
-        (state_with found.newest.root.geometry.inodes (without_orphans last) (λ d. None)
+        (state_with (limits_of found.newest.root.geometry) (without_orphans last) (λ d. None)
         snapshots))
         (λ e. SaysNothing e.0) }
     ensures faultless { (S.meaning station).is_honest → IsOf (S.meaning station).seen found

@@ -1,6 +1,7 @@
 //! The room of the disk of a mounted system.
 
 ghost use Rattle.std.specs.Prelude.{◌≡◌, ℕ, Bool, Option, IsTrue};
+ghost use Rattle.layout.specs.StateLimits.{limits_of};
 ghost use Rattle.layout.specs.Places.{blocks_of};
 ghost use Rattle.model.specs.Paths.{Name};
 ghost use Rattle.model.specs.Records as records;
@@ -12,10 +13,11 @@ ghost use Rattle.model.specs.Trees.{Description};
 ghost use Rattle.model.specs.declared.reply.Reply.{Reply};
 ghost use Rattle.images.specs.Roots.{whole};
 ghost use Rattle.images.specs.Room.{free_under};
+ghost use Rattle.system.specs.Room.{costs_on};
 ghost use Rattle.system.specs.Systems.{HasState};
 
 use crate::System;
-use model::{HEADROOM_BLOCKS, ROOT_NUMBER, Usage, fixed_cost, volumes_tell_used_numbers};
+use model::{ROOT_NUMBER, Usage, volumes_tell_used_numbers};
 use station::Station;
 
 /// The room of a disk, in blocks.
@@ -42,8 +44,9 @@ impl<S: Station> System<S> {
             → (stored : ℕ → ℕ → Bool)
             → (IsTrue covered
             → records.CoversAll serves.settled.volume serves.running serves.lasts.replayed.changes)
-            → TellsRoom serves.settled.root.geometry.inodes serves.settled.volume serves.running
+            → TellsRoom (limits_of serves.settled.root.geometry) serves.settled.volume serves.running
             serves.lasts.replayed.changes (record {
+              costs = costs_on self.now;
               blocks = result.blocks;
               free = result.free;
               pledged = result.pledged;
@@ -66,7 +69,7 @@ impl<S: Station> System<S> {
             room.blocks ≡ self.now.root.geometry.blocks
             → room.free
             ≡ free_under (whole (blocks_of serves.settled.disk) root).active root.geometry.blocks
-            → TellsRoom root.geometry.inodes serves.settled.volume serves.running
+            → TellsRoom (limits_of root.geometry) serves.settled.volume serves.running
             serves.lasts.replayed.changes room
             → tells_usage room s (Reply.Usage result) s nothing }
     {
@@ -76,11 +79,12 @@ impl<S: Station> System<S> {
             free,
             pledged,
         } = self.space();
+        let kept = self.cost_of_point() + u64::from(self.costs().headroom);
         Usage {
             blocks,
             free,
             // A system that serves a state pledges free blocks alone, so this is the sum.
-            reserved: pledged.saturating_add(fixed_cost(blocks) + HEADROOM_BLOCKS),
+            reserved: pledged.saturating_add(kept),
             inodes: self.inodes.geometry().inodes() - ROOT_NUMBER,
             taken: self.inodes.count_taken(),
         }

@@ -92,7 +92,8 @@ impl<S: Station> System<S> {
         if !self.log.room_behind(&waiting.batch, change.encoded_len()) {
             return Err(WaitError::LogFull);
         }
-        let Ok(()) = waiting.add(self.alloc, change, size) else {
+        let cost = self.cost_of(change, size);
+        let Ok(()) = waiting.add(self.alloc, change, cost) else {
             return Err(WaitError::NoMemory);
         };
         commit_swept(&mut self.inodes, &mut self.files, prepared);

@@ -4,17 +4,13 @@ ghost use Rattle.std.specs.Prelude.{◌≡◌, ◌+◌, ◌≤◌, ◌∷◌, �
 ghost use Rattle.layout.specs.Record.{KeepsLimits, change_of};
 ghost use Rattle.layout.specs.declared.geometry.TheConstants.{MOST_HALF};
 ghost use Rattle.layout.specs.declared.log.TheConstants.{RECORD_HEAD_BYTES};
-ghost use Rattle.model.specs.Records.{work_of};
-ghost use Rattle.model.specs.Room.{cost};
-ghost use Rattle.model.specs.Volumes.{Volume};
 ghost use Rattle.oplog.specs.Batches.{IsBatchOf};
 ghost use Rattle.oplog.specs.LogEnd.{logged_body};
-ghost use Rattle.replay.specs.Costs.{IsSizeBefore};
+ghost use Rattle.replay.specs.declared.costs.TheConstants.{MOST_COST};
 ghost use Rattle.system.specs.Waits.{AreWaiting, Waits, none_waits};
 
 use layout::Record;
 use oplog::Batch;
-use replay::cost_of;
 use std::alloc::{AllocError, Global};
 use std::marker::Model;
 
@@ -73,21 +69,20 @@ impl WaitingRecords {
         &mut self,
         alloc: Global,
         change: &Record,
-        size: u64,
+        cost: u64,
     ) -> Result<(), AllocError>
         requires fits { KeepsLimits (change_of change.now) }
+        requires few { cost ≤ MOST_COST }
         requires short { length self.old.batch + length (logged_body (change_of change.now)) ≤ MOST_HALF }
         ensures added { (bodies : List (List ℕ)) → IsBatchOf bodies self.old.batch
             → OnOk result (IsBatchOf (bodies ++ logged_body (change_of change.now) ∷ []) self.new.batch) }
         ensures longer { OnOk result (length self.new.batch ≡ length self.old.batch
             + RECORD_HEAD_BYTES + length (logged_body (change_of change.now))) }
-        ensures pledges { (v : Volume) → IsSizeBefore v (change_of change.now) size
-            → OnOk result (self.new.pledged
-            ≡ self.old.pledged + cost (work_of v (change_of change.now))) }
+        ensures pledges { OnOk result (self.new.pledged ≡ self.old.pledged + cost) }
         ensures refused { OnErr result (self.new ≡ self.old) }
     {
         self.batch.add(alloc, change)?;
-        self.pledged += cost_of(change, size);
+        self.pledged += cost;
         Ok(())
     }
 }

@@ -6,7 +6,7 @@ use crate::applying::{set_size, write_at};
 use crate::error::{TransferError, at};
 use crate::input::Input;
 use crate::progress::Progress;
-use crate::room::{Cost, SIZING, with_room, writing};
+use crate::room::{Cost, sizing, with_room, writing};
 use crate::runs::next_run;
 use crate::storing::check_size;
 use model::Errno;
@@ -85,13 +85,14 @@ fn write_parts<'a, S: Station, I: Read, E: Write>(
     input: &mut Input<'a, '_, I>,
     progress: &mut Progress<E>,
 ) -> Result<u64, Stop<'a>> {
+    let limits = files.limits();
     let mut size = 0_u64;
     let mut stored = 0;
     for _ in 0..u64::MAX {
         let start = size;
         let part = input.read_part(alloc, files)?;
         size = start.saturating_add(part.len() as u64);
-        check_size(path, size)?;
+        check_size(limits, path, size)?;
         if part.is_empty() {
             break;
         }
@@ -102,7 +103,7 @@ fn write_parts<'a, S: Station, I: Read, E: Write>(
     }
     if stored < size {
         // It ends in zeros.
-        or_stop(size, SIZING, set_size(files, fd, size))?;
+        or_stop(size, sizing(limits.costs), set_size(files, fd, size))?;
     }
     Ok(size)
 }
@@ -115,6 +116,7 @@ fn write_runs<'a, S: Station>(
     start: u64,
     part: &[u8],
 ) -> Result<Option<u64>, Stop<'a>> {
+    let costs = files.limits().costs;
     let mut stored = None;
     let mut from = 0;
     for _ in 0..part.len() {
@@ -124,7 +126,7 @@ fn write_runs<'a, S: Station>(
         let offset = start.saturating_add(run.start as u64);
         let count = run.bytes.len();
         let written = write_at(files, fd, offset, run.bytes);
-        or_stop(offset, writing(offset, count), written)?;
+        or_stop(offset, writing(costs, offset, count), written)?;
         stored = Some(offset.saturating_add(count as u64));
         from = run.end();
     }

@@ -151,7 +151,7 @@ fn find_goal<'a, S: Station>(
     size: Option<u64>,
 ) -> Result<Goal<'a>, TransferError<'a>> {
     let Transfer { path, name, .. } = what;
-    check_known_size(name, size)?;
+    check_known_size(fs.limits(), name, size)?;
     take_left_away(fs)?;
     let target = find_target(alloc, fs, path, own_name(what.file));
     let target = found(alloc, fs, RUNNING, name, path, target)?;

@@ -1,9 +1,7 @@
 //! The room of a disk, and what a call needs of it.
 
 use crate::error::{TransferError, at};
-use model::{
-    Errno, FILE_COST, GREAT_FILE_COST, HEADROOM_BLOCKS, NAMES_COST, SINGLE_FILE, fixed_cost,
-};
+use model::{Costs, Errno};
 use mount::Fs;
 use station::{BLOCK_BYTES, Station};
 use std::fmt;
@@ -20,40 +18,44 @@ pub struct Cost {
 }
 
 /// To make a file, or to give one its name.
-pub const NAMING: Cost = Cost {
-    bytes: 0,
-    name: NAMES_COST,
-    size: 0,
-};
+pub fn naming(costs: Costs) -> Cost {
+    Cost {
+        bytes: 0,
+        name: u64::from(costs.adds_name),
+        size: 0,
+    }
+}
 
 /// To give a file a greater size.
-pub const SIZING: Cost = Cost {
-    bytes: 0,
-    name: 0,
-    size: FILE_COST,
-};
+pub fn sizing(costs: Costs) -> Cost {
+    Cost {
+        bytes: 0,
+        name: 0,
+        size: u64::from(costs.file),
+    }
+}
 
 /// To write so many bytes at a block's first one, behind all others of their file.
-pub fn writing(offset: u64, bytes: usize) -> Cost {
+pub fn writing(costs: Costs, offset: u64, bytes: usize) -> Cost {
     let touched = bytes.div_ceil(BLOCK_BYTES) as u64;
-    let is_single = offset.saturating_add(bytes as u64) <= SINGLE_FILE;
+    let is_single = offset.saturating_add(bytes as u64) <= costs.single_file;
     let beside = if is_single {
-        FILE_COST
+        costs.file
     } else {
-        GREAT_FILE_COST
+        costs.great_file
     };
     Cost {
-        bytes: touched.saturating_mul(2).saturating_add(beside),
+        bytes: touched.saturating_mul(2).saturating_add(u64::from(beside)),
         name: 0,
         size: 0,
     }
 }
 
 /// To store so many blocks of a file, and then to give it its name.
-pub fn storing(blocks: u64) -> Cost {
+pub fn storing(costs: Costs, blocks: u64) -> Cost {
     Cost {
         bytes: blocks,
-        ..NAMING
+        ..naming(costs)
     }
 }
 
@@ -65,6 +67,8 @@ pub struct Needs {
     point: u64,
     /// For what was answered and isn't stored in blocks yet.
     pledged: u64,
+    /// That stay free behind it.
+    headroom: u64,
 }
 
 impl Needs {
@@ -73,7 +77,7 @@ impl Needs {
         bytes
             .saturating_add(name)
             .saturating_add(size)
-            .saturating_add(HEADROOM_BLOCKS)
+            .saturating_add(self.headroom)
             .saturating_add(self.point)
             .saturating_add(self.pledged)
     }
@@ -82,7 +86,12 @@ impl Needs {
 impl fmt::Display for Needs {
     fn fmt<W: fmt::Write>(&self, f: &mut fmt::Formatter<W>) -> fmt::Result {
         let Cost { bytes, name, size } = self.cost;
-        let Needs { point, pledged, .. } = self;
+        let Needs {
+            point,
+            pledged,
+            headroom,
+            ..
+        } = self;
         if bytes > 0 {
             write!(f, "{bytes} for its bytes, ")?;
         }
@@ -97,7 +106,7 @@ impl fmt::Display for Needs {
         }
         write!(
             f,
-            "{point} for the next consistency point, {HEADROOM_BLOCKS} that stay free"
+            "{point} for the next consistency point, {headroom} that stay free"
         )
     }
 }
@@ -126,10 +135,12 @@ fn find_shortage<S: Station>(fs: &mut Fs<S>, cost: Cost) -> Result<Option<Shorta
 
 fn shortage_now<S: Station>(fs: &mut Fs<S>, cost: Cost) -> Result<Option<Shortage>, Errno> {
     let space = fs.df()?;
+    let costs = fs.limits().costs;
     let needs = Needs {
         cost,
-        point: fixed_cost(space.blocks),
+        point: u64::from(costs.point),
         pledged: space.pledged,
+        headroom: u64::from(costs.headroom),
     };
     let free = u64::from(space.free);
     Ok((free < needs.sum()).then_some(Shortage { free, needs }))

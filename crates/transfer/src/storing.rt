@@ -6,12 +6,12 @@ use crate::input::Input;
 use crate::missing::spell;
 use crate::parts::write_all;
 use crate::progress::Progress;
-use crate::room::{NAMING, check_room, lacks_room, storing, with_room};
+use crate::room::{check_room, lacks_room, naming, storing, with_room};
 use crate::runs::count_blocks;
 use crate::steps::{make_file, remove};
 use crate::target::{Target, UNFINISHED};
 use layout::INLINE_BYTES;
-use model::{Errno, GREATEST_FILE, Mode};
+use model::{Errno, Limits, Mode};
 use mount::Fs;
 use station::{BLOCK_BYTES, Station};
 use std::alloc::Global;
@@ -37,17 +37,21 @@ pub fn take_left_away<'a, S: Station>(fs: &mut Fs<S>) -> Result<(), TransferErro
 }
 
 /// Refuses a file that is larger than one may be, at its first byte that is too many.
-pub fn check_size<'a>(path: &'a str, size: u64) -> Result<(), TransferError<'a>> {
-    if size > GREATEST_FILE {
-        return at(path, GREATEST_FILE, Err(Errno::EFBIG));
+pub fn check_size<'a>(limits: Limits, path: &'a str, size: u64) -> Result<(), TransferError<'a>> {
+    if size > limits.file_bytes {
+        return at(path, limits.file_bytes, Err(Errno::EFBIG));
     }
     Ok(())
 }
 
 /// The same where the size is known.
-pub fn check_known_size<'a>(path: &'a str, size: Option<u64>) -> Result<(), TransferError<'a>> {
+pub fn check_known_size<'a>(
+    limits: Limits,
+    path: &'a str,
+    size: Option<u64>,
+) -> Result<(), TransferError<'a>> {
     match size {
-        Some(size) => check_size(path, size),
+        Some(size) => check_size(limits, path, size),
         None => Ok(()),
     }
 }
@@ -73,12 +77,13 @@ fn check_blocks<'a, S: Station, I: Read>(
     let Some(size) = input.size() else {
         return Ok(());
     };
+    let costs = fs.limits().costs;
     let all = blocks_of(size);
-    if !at(path, 0, lacks_room(fs, storing(all)))? {
+    if !at(path, 0, lacks_room(fs, storing(costs, all)))? {
         return Ok(());
     }
     let stored = count_blocks(alloc, fs, input)?.min(all);
-    check_room(fs, path, 0, storing(stored))
+    check_room(fs, path, 0, storing(costs, stored))
 }
 
 /// Stores what an input gives in a new file, which takes the place of what is there once all is in
@@ -113,8 +118,9 @@ fn store_bytes<'a, S: Station, I: Read, E: Write>(
     input: &mut Input<'a, '_, I>,
     progress: &mut Progress<E>,
 ) -> (Fs<S>, Result<(), TransferError<'a>>) {
+    let cost = naming(fs.limits().costs);
     let made = make_file(&mut fs, UNFINISHED.as_bytes(), goal.mode);
-    match with_room(&mut fs, goal.name, 0, NAMING, made) {
+    match with_room(&mut fs, goal.name, 0, cost, made) {
         Ok(fd) => {
             let (mut fs, written) = write_all(alloc, fs, fd, goal.name, input, progress);
             let closed = fs.close(fd);
@@ -149,8 +155,9 @@ fn give_name<'a, S: Station>(
     bytes: u64,
 ) -> Result<(), TransferError<'a>> {
     let new = goal.target.path.as_slice();
+    let cost = naming(fs.limits().costs);
     let named = fs.rename(UNFINISHED.as_bytes(), new);
-    with_room(fs, goal.name, bytes, NAMING, named)
+    with_room(fs, goal.name, bytes, cost, named)
 }
 
 /// Refuses to empty a file because a pipe, which has this name, gave nothing.
@@ -190,7 +197,8 @@ fn name_link<'a, S: Station>(
     goal: &Goal<'a>,
     text: &[u8],
 ) -> Result<(), TransferError<'a>> {
+    let cost = naming(fs.limits().costs);
     let made = fs.symlink(text, UNFINISHED.as_bytes());
-    with_room(fs, goal.name, 0, NAMING, made)?;
+    with_room(fs, goal.name, 0, cost, made)?;
     give_name(fs, goal, 0)
 }

@@ -25,8 +25,8 @@ pub fn change_mode<B: Blocks>(
     mode: Mode,
 ) -> Result<Changing, Failure>
     ensures { Prepares B.Blocks blocks.old blocks.new inodes.old inodes.new
-        (λ inodes v table. Comes (changes_mode (tree_of v table) path.now mode) inodes v table)
-        result }
+        (λ limits v table. Comes (changes_mode limits (tree_of v table) path.now mode) limits v
+        table) result }
 {
     records_change_trees();
     let number = lead(alloc, inodes, blocks, path, true)?;

@@ -1,6 +1,7 @@
 //! Giving a file one more name over a path.
 
 ghost use Rattle.std.specs.Prelude.{◌≡◌, ◌++◌, None, Ok, false};
+ghost use Rattle.layout.specs.StateLimits.{limits_of};
 ghost use Rattle.model.specs.Changing.{links};
 ghost use Rattle.model.specs.Paths.{first_refusal, new_text_tests, text_tests, parts as parts_of};
 ghost use Rattle.model.specs.Records.{link};
@@ -12,12 +13,13 @@ ghost use Rattle.calls.specs.Leading.{LeadsAlong};
 ghost use Rattle.calls.specs.Preparing.{Prepares};
 
 use crate::leading::find_object;
+use crate::texts::{refusal_of_new_path, refusal_of_path};
 use crate::{Changing, EntryName, OwnedChange};
 use buffers::Blocks;
 use inofile::InodeFile;
 use layout::InodeNumber;
 use model::{Errno, records_change_trees, volumes_are_trees, volumes_tell_links};
-use paths::{Found, Parts, Place, refusal_of_new_text, refusal_of_text, resolve_place};
+use paths::{Found, Parts, Place, resolve_place};
 use records::{Failure, kind_at, prepare_link};
 use std::alloc::Global;
 
@@ -33,14 +35,15 @@ pub fn link<B: Blocks>(
     path: &[u8],
 ) -> Result<Changing, Failure>
     ensures { Prepares B.Blocks blocks.old blocks.new inodes.old inodes.new
-        (λ inodes v table. Comes (links (tree_of v table) old.now path.now) inodes v table) result }
+        (λ limits v table. Comes (links limits (tree_of v table) old.now path.now) limits v table)
+        result }
 {
     let from = Parts::of(alloc, old)?;
-    if let Some(errno) = refusal_of_text(old, &from) {
+    if let Some(errno) = refusal_of_path(inodes, old, &from) {
         return Err(Failure::Refused(errno));
     }
     let parts = Parts::of(alloc, path)?;
-    if let Some(errno) = refusal_of_new_text(path, &parts) {
+    if let Some(errno) = refusal_of_new_path(inodes, path, &parts) {
         return Err(Failure::Refused(errno));
     }
     link_along(alloc, inodes, blocks, old, path, from, parts)
@@ -58,9 +61,11 @@ fn link_along<B: Blocks>(
 ) -> Result<Changing, Failure>
     requires from { from ≡ parts_of old.now }
     requires parts { parts ≡ parts_of path.now }
-    requires passed { first_refusal (text_tests old.now ++ new_text_tests path.now) ≡ None }
+    requires passed { first_refusal (text_tests (limits_of inodes.old.geometry) old.now
+        ++ new_text_tests (limits_of inodes.old.geometry) path.now) ≡ None }
     ensures { Prepares B.Blocks blocks.old blocks.new inodes.old inodes.new
-        (λ inodes v table. Comes (links (tree_of v table) old.now path.now) inodes v table) result }
+        (λ limits v table. Comes (links limits (tree_of v table) old.now path.now) limits v table)
+        result }
 {
     volumes_are_trees();
     let number = find_object(alloc, inodes, blocks, old, from, false)?;
@@ -82,11 +87,12 @@ fn link_file<B: Blocks>(
     number: InodeNumber,
 ) -> Result<Changing, Failure>
     requires parts { parts ≡ parts_of path.now }
-    requires passed { first_refusal (text_tests old.now ++ new_text_tests path.now) ≡ None }
+    requires passed { first_refusal (text_tests (limits_of inodes.old.geometry) old.now
+        ++ new_text_tests (limits_of inodes.old.geometry) path.now) ≡ None }
     ensures { Prepares B.Blocks blocks.old blocks.new inodes.old inodes.new
-        (λ inodes v table r. found_in (v number) ≡ found.File → LeadsAlong (tree_of v table)
-        v false old.now (Ok number) → Comes (links (tree_of v table) old.now path.now) inodes v table r)
-        result }
+        (λ limits v table r. found_in (v number) ≡ found.File → LeadsAlong (tree_of v table)
+        v false old.now (Ok number) → Comes (links limits (tree_of v table) old.now path.now) limits
+        v table r) result }
 {
     volumes_are_trees();
     volumes_tell_links();
@@ -116,7 +122,7 @@ fn link_in<B: Blocks>(
     number: InodeNumber,
 ) -> Result<Changing, Failure>
     ensures { Prepares B.Blocks blocks.old blocks.new inodes.old inodes.new
-        (λ inodes v table. Decides inodes v (link number parent name.items)) result }
+        (λ limits v table. Decides limits v (link number parent name.items)) result }
 {
     let Some(name) = EntryName::new(name) else {
         return Err(Failure::Refused(Errno::ENAMETOOLONG));

@@ -24,7 +24,7 @@ pub fn make_directory<B: Blocks>(
     mode: Mode,
 ) -> Result<Changing, Failure>
     ensures { Prepares B.Blocks blocks.old blocks.new inodes.old inodes.new
-        (λ inodes v table. Comes (makes_directory inodes (tree_of v table) path.now mode) inodes v
+        (λ limits v table. Comes (makes_directory limits (tree_of v table) path.now mode) limits v
         table) result }
 {
     make(alloc, inodes, blocks, path, OwnedObject::Directory { mode })

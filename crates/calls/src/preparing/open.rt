@@ -1,6 +1,7 @@
 //! Opening a file over a path: one that is there, or a new one.
 
 ghost use Rattle.std.specs.Prelude.{◌≡◌, ◌≢◌, ◌<◌, ◌&&◌, IfOk, IsTrue, None, Some, not};
+ghost use Rattle.layout.specs.StateLimits.{limits_of};
 ghost use Rattle.model.specs.Descriptors.{opens_object};
 ghost use Rattle.model.specs.Paths.{first_refusal, parts as parts_of, text_tests};
 ghost use Rattle.model.specs.Trees as trees;
@@ -54,10 +55,10 @@ pub fn open_along<B: Blocks>(
     mode: Mode,
 ) -> Result<Opened, Failure>
     requires parts { parts ≡ parts_of path.now }
-    requires passed { first_refusal (text_tests path.now) ≡ None }
+    requires passed { first_refusal (text_tests (limits_of inodes.old.geometry) path.now) ≡ None }
     ensures within { IfOk result (KeepsOpenedBounds inodes.old.geometry.inodes) }
     ensures opens { PreparesOpening B.Blocks blocks.old blocks.new inodes.old inodes.new
-        (λ inodes v table. OpensAt (opens_along inodes (tree_of v table) path.now flags mode) inodes
+        (λ limits v table. OpensAt (opens_along limits (tree_of v table) path.now flags mode) limits
         flags v table) result }
 {
     volumes_are_trees();
@@ -105,9 +106,9 @@ fn open_object<B: Blocks>(
     requires number { IsInodeNumber inodes.old.geometry.inodes number }
     ensures within { IfOk result (KeepsOpenedBounds inodes.old.geometry.inodes) }
     ensures opens { PreparesOpening B.Blocks blocks.old blocks.new inodes.old inodes.new
-        (λ inodes v table r. (o : trees.Object) → object_of number (v number) ≡ Some o → (IsTrue
+        (λ limits v table r. (o : trees.Object) → object_of number (v number) ≡ Some o → (IsTrue
         (not (flags.creates && flags.exclusive)) → found_in (v number) ≢ found.Link) → OpensAt
-        (λ tells. opens_object tells (tree_of v table) o flags) inodes flags v table r) result }
+        (λ tells. opens_object tells (tree_of v table) o flags) limits flags v table r) result }
 {
     volumes_tell_links();
     records_keep_volumes();
@@ -149,7 +150,7 @@ fn open_new<B: Blocks>(
 ) -> Result<Opened, Failure>
     ensures within { IfOk result (KeepsOpenedBounds inodes.old.geometry.inodes) }
     ensures opens { PreparesOpening B.Blocks blocks.old blocks.new inodes.old inodes.new
-        (λ inodes v table. OpensNew inodes v flags mode parent name.items) result }
+        (λ limits v table. OpensNew limits v flags mode parent name.items) result }
 {
     if !flags.creates {
         return Err(Failure::Refused(Errno::ENOENT));

@@ -1,6 +1,7 @@
 //! Moving a name over paths.
 
 ghost use Rattle.std.specs.Prelude.{◌≡◌, ◌↔◌, false, IfOk, IfSome, IsTrue, Some};
+ghost use Rattle.layout.specs.StateLimits.{limits_of};
 ghost use Rattle.model.specs.Changing.{renames};
 ghost use Rattle.model.specs.Finding.{IsPlaceAt, at_entry, here};
 ghost use Rattle.model.specs.Paths.{Name, parts as parts_of};
@@ -17,6 +18,7 @@ ghost use Rattle.records.specs.Moving.{MovesOver};
 ghost use Rattle.calls.specs.Preparing.{PreparesAny, PreparesKnowing};
 
 use crate::root::{is_root, is_rooted};
+use crate::texts::refusal_of_new_path;
 use crate::{Changing, EntryName, OwnedChange};
 use buffers::{BlockError, Blocks};
 use inofile::InodeFile;
@@ -25,7 +27,7 @@ use model::{
     Errno, numbers_tell_what_lies_below, records_change_trees, trails_tell_what_lies_below,
     volumes_are_trees,
 };
-use paths::{Parts, Place, Trail, refusal_of_new_text, resolve_place};
+use paths::{Parts, Place, Trail, resolve_place};
 use records::{Failure, goes_below, prepare_move};
 use std::alloc::Global;
 
@@ -44,15 +46,15 @@ pub fn rename<B: Blocks>(
     only_new: bool,
 ) -> Result<Option<Changing>, Failure>
     ensures { PreparesAny B.Blocks blocks.old blocks.new inodes.old inodes.new
-        (λ inodes v table. ComesOrStays (renames (tree_of v table) only_new old.now path.now)
-        inodes v table) result }
+        (λ limits v table. ComesOrStays (renames limits (tree_of v table) only_new old.now path.now)
+        limits v table) result }
 {
     let from = Parts::of(alloc, old)?;
-    if let Some(errno) = refusal_of_new_text(old, &from) {
+    if let Some(errno) = refusal_of_new_path(inodes, old, &from) {
         return Err(Failure::Refused(errno));
     }
     let to = Parts::of(alloc, path)?;
-    if let Some(errno) = refusal_of_new_text(path, &to) {
+    if let Some(errno) = refusal_of_new_path(inodes, path, &to) {
         return Err(Failure::Refused(errno));
     }
     let from_root = is_root(old);
@@ -77,10 +79,10 @@ fn rename_along<B: Blocks>(
 ) -> Result<Option<Changing>, Failure>
     requires from { from ≡ parts_of old.now }
     requires to { to ≡ parts_of path.now }
-    requires passed { PassTests old.now path.now }
+    requires passed { PassTests (limits_of inodes.old.geometry) old.now path.now }
     ensures { PreparesAny B.Blocks blocks.old blocks.new inodes.old inodes.new
-        (λ inodes v table. ComesOrStays (renames (tree_of v table) only_new old.now path.now)
-        inodes v table) result }
+        (λ limits v table. ComesOrStays (renames limits (tree_of v table) only_new old.now path.now)
+        limits v table) result }
 {
     volumes_are_trees();
     let place = resolve_place(alloc, inodes, blocks, old, from, false)?;
@@ -120,15 +122,15 @@ fn rename_found<B: Blocks>(
     number: InodeNumber,
 ) -> Result<Option<Changing>, Failure>
     requires to { to ≡ parts_of path.now }
-    requires passed { PassTests old.now path.now }
+    requires passed { PassTests (limits_of inodes.old.geometry) old.now path.now }
     requires within { AreInodeNumbers inodes.old.geometry.inodes trail }
     requires number { IsInodeNumber inodes.old.geometry.inodes number }
     ensures { PreparesKnowing (λ v. entries v (here trail) name.items ≡ Some number)
         B.Blocks blocks.old blocks.new inodes.old inodes.new
-        (λ inodes v table r. (from : Resolution) → Reaches (tree_of v table) false old.now from
+        (λ limits v table r. (from : Resolution) → Reaches (tree_of v table) false old.now from
         → IsPlaceAt v (at_entry trail name.items number) from
-        → ComesOrStays (renames (tree_of v table) only_new old.now path.now) inodes v table r)
-        result }
+        → ComesOrStays (renames limits (tree_of v table) only_new old.now path.now) limits v table
+        r) result }
 {
     volumes_are_trees();
     records_change_trees();
@@ -190,8 +192,8 @@ fn move_name<B: Blocks>(
     ensures { PreparesKnowing
         (λ v. MovesOver v parent name.items number (here trail) new_name.items target)
         B.Blocks blocks.old blocks.new inodes.old inodes.new
-        (λ inodes v table r. MovesAlong v number rooted trail new_name.items
-        → MovesName inodes v parent name.items (here trail) new_name.items r) result }
+        (λ limits v table r. MovesAlong v number rooted trail new_name.items
+        → MovesName limits v parent name.items (here trail) new_name.items r) result }
 {
     let new_parent = trail.here();
     let below = comes_below(alloc, inodes, blocks, parent, number, rooted, &trail)?;
@@ -219,9 +221,9 @@ fn comes_below<B: Blocks>(
     requires within { AreInodeNumbers inodes.old.geometry.inodes trail.now }
     ensures looks { Looks B.Blocks IsFault blocks.old blocks.new inodes.old inodes.new result }
     ensures below { OnVolumes B.Blocks blocks.old inodes.old (λ disk settled v.
-        (name : Name) → IsVolume inodes.old.geometry.inodes v → entries v parent name ≡ Some number
-        → TellsBelow v number rooted trail.now
-        → IfOk result (λ below. IsTrue below ↔ IsBelow (entries v) number (here trail.now))) }
+        (name : Name) → IsVolume (limits_of inodes.old.geometry) v → entries v parent name ≡ Some
+        number → TellsBelow v number rooted trail.now → IfOk result (λ below. IsTrue below ↔ IsBelow
+        (entries v) number (here trail.now))) }
     ensures damaged { NeverDamaged B.Blocks blocks.old inodes.old result }
 {
     if rooted {
@@ -252,8 +254,8 @@ fn record_move<B: Blocks>(
     ensures { PreparesKnowing
         (λ v. MovesOver v parent name.items number new_parent new_name.items target)
         B.Blocks blocks.old blocks.new inodes.old inodes.new
-        (λ inodes v table r. (IsBelow (entries v) number new_parent → ⊥)
-        → MovesName inodes v parent name.items new_parent new_name.items r) result }
+        (λ limits v table r. (IsBelow (entries v) number new_parent → ⊥)
+        → MovesName limits v parent name.items new_parent new_name.items r) result }
 {
     let Some(name) = EntryName::new(name) else {
         return Err(Failure::Refused(Errno::ENOENT));

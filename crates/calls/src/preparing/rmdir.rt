@@ -10,11 +10,12 @@ ghost use Rattle.calls.specs.Rmdir.{RemovesDirectory};
 use crate::Changing;
 use crate::preparing::unlink::prepare_removal;
 use crate::root::is_root;
+use crate::texts::refusal_of_new_path;
 use buffers::Blocks;
 use inofile::InodeFile;
 use layout::InodeNumber;
 use model::{Errno, records_change_trees, volumes_are_trees};
-use paths::{Found, Parts, Place, refusal_of_new_text, resolve_place};
+use paths::{Found, Parts, Place, resolve_place};
 use records::{Failure, kind_at};
 use std::alloc::Global;
 
@@ -27,13 +28,13 @@ pub fn remove_directory<B: Blocks>(
     path: &[u8],
 ) -> Result<Changing, Failure>
     ensures { Prepares B.Blocks blocks.old blocks.new inodes.old inodes.new
-        (λ inodes v table. ComesSwept (removes_directory (tree_of v table) path.now) inodes v table)
-        result }
+        (λ limits v table. ComesSwept (removes_directory limits (tree_of v table) path.now) limits v
+        table) result }
 {
     volumes_are_trees();
     records_change_trees();
     let parts = Parts::of(alloc, path)?;
-    if let Some(errno) = refusal_of_new_text(path, &parts) {
+    if let Some(errno) = refusal_of_new_path(inodes, path, &parts) {
         return Err(Failure::Refused(errno));
     }
     if is_root(path) {
@@ -67,7 +68,7 @@ fn remove_entry<B: Blocks>(
 ) -> Result<Changing, Failure>
     requires { IsInodeNumber inodes.old.geometry.inodes number }
     ensures { Prepares B.Blocks blocks.old blocks.new inodes.old inodes.new
-        (λ inodes v table. RemovesDirectory inodes v parent name.items number) result }
+        (λ limits v table. RemovesDirectory limits v parent name.items number) result }
 {
     let found = kind_at(alloc, inodes, blocks, number)?;
     match found {

@@ -1,12 +1,12 @@
 //! Giving a mode and a size over a path, by one record.
 
 ghost use Rattle.std.specs.Prelude.{◌≡◌, ◌≤◌, ◌||◌, IfSome, IsTrue, None, Option, nat_abs};
+ghost use Rattle.layout.specs.StateLimits.{limits_of};
 ghost use Rattle.model.specs.Changing.{given_size_tests, sets, sets_both, sets_file, sets_mode, sets_object};
 ghost use Rattle.model.specs.Paths.{first_refusal, parts as parts_of, text_tests_then};
 ghost use Rattle.model.specs.Trees as trees;
 ghost use Rattle.model.specs.Trees.{Object};
 ghost use Rattle.model.specs.Volumes.{is_directory_node, is_file_node, object_of, tree_of};
-ghost use Rattle.model.specs.declared.limits.TheConstants.{GREATEST_FILE};
 ghost use Rattle.paths.specs.Numbers.{IsInodeNumber};
 ghost use Rattle.paths.specs.Steps.{found_in};
 ghost use Rattle.paths.specs.declared.lookup.Found.TheVariants as found;
@@ -15,12 +15,13 @@ ghost use Rattle.calls.specs.Preparing.{PreparesAny};
 
 use crate::leading::find_object;
 use crate::preparing::truncate::{refusal_of_size, truncate_file};
+use crate::texts::refusal_of_path;
 use crate::{Changing, OwnedChange};
 use buffers::Blocks;
 use inofile::InodeFile;
 use layout::InodeNumber;
-use model::{Errno, Mode, Settings, records_change_trees};
-use paths::{Found, Parts, refusal_of_text};
+use model::{Errno, Limits, Mode, Settings, records_change_trees};
+use paths::{Found, Parts};
 use records::{Failure, kind_at, prepare_mode, set_bytes};
 use std::alloc::Global;
 
@@ -36,25 +37,25 @@ pub fn set<B: Blocks>(
     settings: Settings,
 ) -> Result<Option<Changing>, Failure>
     ensures { PreparesAny B.Blocks blocks.old blocks.new inodes.old inodes.new
-        (λ inodes v table. ComesOrStays (sets (tree_of v table) path.now settings) inodes v table)
-        result }
+        (λ limits v table. ComesOrStays (sets limits (tree_of v table) path.now settings) limits v
+        table) result }
 {
     let parts = Parts::of(alloc, path)?;
-    if let Some(errno) = refusal_of_text(path, &parts) {
+    if let Some(errno) = refusal_of_path(inodes, path, &parts) {
         return Err(Failure::Refused(errno));
     }
-    if let Some(errno) = refusal_of_given_size(settings.size) {
+    if let Some(errno) = refusal_of_given_size(inodes.limits(), settings.size) {
         return Err(Failure::Refused(errno));
     }
     set_along(alloc, inodes, blocks, path, parts, settings)
 }
 
 // Why a file can't get a size, if one is given and it can't.
-fn refusal_of_given_size(size: Option<i64>) -> Option<Errno>
-    ensures { result ≡ first_refusal (given_size_tests size) }
+fn refusal_of_given_size(limits: Limits, size: Option<i64>) -> Option<Errno>
+    ensures { result ≡ first_refusal (given_size_tests limits size) }
 {
     match size {
-        Some(size) => refusal_of_size(size),
+        Some(size) => refusal_of_size(limits, size),
         None => None,
     }
 }
@@ -69,11 +70,13 @@ fn set_along<B: Blocks>(
     settings: Settings,
 ) -> Result<Option<Changing>, Failure>
     requires parts { parts ≡ parts_of path.now }
-    requires passed { first_refusal (text_tests_then (given_size_tests settings.size) path.now) ≡ None }
-    requires within { IfSome settings.size (λ size. nat_abs size ≤ GREATEST_FILE) }
+    requires passed { first_refusal (text_tests_then (limits_of inodes.old.geometry)
+        (given_size_tests (limits_of inodes.old.geometry) settings.size) path.now) ≡ None }
+    requires within { IfSome settings.size (λ size. nat_abs size ≤ (limits_of
+        inodes.old.geometry).file_bytes) }
     ensures { PreparesAny B.Blocks blocks.old blocks.new inodes.old inodes.new
-        (λ inodes v table. ComesOrStays (sets (tree_of v table) path.now settings) inodes v table)
-        result }
+        (λ limits v table. ComesOrStays (sets limits (tree_of v table) path.now settings) limits v
+        table) result }
 {
     let number = find_object(alloc, inodes, blocks, path, parts, true)?;
     set_object(alloc, inodes, blocks, number, settings)
@@ -88,11 +91,12 @@ fn set_object<B: Blocks>(
     settings: Settings,
 ) -> Result<Option<Changing>, Failure>
     requires number { IsInodeNumber inodes.old.geometry.inodes number }
-    requires within { IfSome settings.size (λ size. nat_abs size ≤ GREATEST_FILE) }
+    requires within { IfSome settings.size (λ size. nat_abs size ≤ (limits_of
+        inodes.old.geometry).file_bytes) }
     ensures { PreparesAny B.Blocks blocks.old blocks.new inodes.old inodes.new
-        (λ inodes v table r. (o : Object) → object_of number (v number) ≡ Some o
+        (λ limits v table r. (o : Object) → object_of number (v number) ≡ Some o
         → (found_in (v number) ≡ found.Link → ⊥)
-        → ComesOrStays (sets_object (tree_of v table) settings o) inodes v table r) result }
+        → ComesOrStays (sets_object (tree_of v table) settings o) limits v table r) result }
 {
     let found = kind_at(alloc, inodes, blocks, number)?;
     match found {
@@ -110,9 +114,9 @@ fn set_directory<B: Blocks>(
     settings: Settings,
 ) -> Result<Option<Changing>, Failure>
     ensures { PreparesAny B.Blocks blocks.old blocks.new inodes.old inodes.new
-        (λ inodes v table r. IsTrue (is_directory_node (v number))
-        → ComesOrStays (sets_object (tree_of v table) settings (trees.directory number)) inodes v table r)
-        result }
+        (λ limits v table r. IsTrue (is_directory_node (v number))
+        → ComesOrStays (sets_object (tree_of v table) settings (trees.directory number)) limits v
+        table r) result }
 {
     if settings.size.is_some() {
         return Err(Failure::Refused(Errno::EISDIR));
@@ -129,11 +133,12 @@ fn set_file<B: Blocks>(
     settings: Settings,
 ) -> Result<Option<Changing>, Failure>
     requires number { IsInodeNumber inodes.old.geometry.inodes number }
-    requires within { IfSome settings.size (λ size. nat_abs size ≤ GREATEST_FILE) }
+    requires within { IfSome settings.size (λ size. nat_abs size ≤ (limits_of
+        inodes.old.geometry).file_bytes) }
     ensures { PreparesAny B.Blocks blocks.old blocks.new inodes.old inodes.new
-        (λ inodes v table r. IsTrue (is_file_node (v number))
-        → ComesOrStays (sets_file (tree_of v table) number settings.mode settings.size) inodes v table r)
-        result }
+        (λ limits v table r. IsTrue (is_file_node (v number))
+        → ComesOrStays (sets_file (tree_of v table) number settings.mode settings.size) limits v
+        table r) result }
 {
     match settings.size {
         None => set_mode(alloc, inodes, blocks, number, settings.mode),
@@ -151,10 +156,11 @@ fn set_size<B: Blocks>(
     size: i64,
 ) -> Result<Option<Changing>, Failure>
     requires number { IsInodeNumber inodes.old.geometry.inodes number }
-    requires within { nat_abs size ≤ GREATEST_FILE }
+    requires within { nat_abs size ≤ (limits_of inodes.old.geometry).file_bytes }
     ensures { PreparesAny B.Blocks blocks.old blocks.new inodes.old inodes.new
-        (λ inodes v table r. IsTrue (is_file_node (v number))
-        → ComesOrStays (sets_file (tree_of v table) number mode (Some size)) inodes v table r) result }
+        (λ limits v table r. IsTrue (is_file_node (v number))
+        → ComesOrStays (sets_file (tree_of v table) number mode (Some size)) limits v table r)
+        result }
 {
     match mode {
         None => truncate_file(alloc, inodes, blocks, number, size.unsigned_abs()),
@@ -172,10 +178,10 @@ fn set_both<B: Blocks>(
     size: u64,
 ) -> Result<Option<Changing>, Failure>
     requires number { IsInodeNumber inodes.old.geometry.inodes number }
-    requires within { size ≤ GREATEST_FILE }
+    requires within { size ≤ (limits_of inodes.old.geometry).file_bytes }
     ensures { PreparesAny B.Blocks blocks.old blocks.new inodes.old inodes.new
-        (λ inodes v table r. IsTrue (is_file_node (v number))
-        → ComesOrStays (sets_both (tree_of v table) number mode size) inodes v table r) result }
+        (λ limits v table r. IsTrue (is_file_node (v number))
+        → ComesOrStays (sets_both (tree_of v table) number mode size) limits v table r) result }
 {
     let planned = set_bytes(alloc, inodes, blocks, number, mode, size)?;
     match planned {
@@ -196,8 +202,8 @@ fn set_mode<B: Blocks>(
     mode: Option<Mode>,
 ) -> Result<Option<Changing>, Failure>
     ensures { PreparesAny B.Blocks blocks.old blocks.new inodes.old inodes.new
-        (λ inodes v table r. IsTrue (is_file_node (v number) || is_directory_node (v number))
-        → ComesOrStays (sets_mode (tree_of v table) number mode) inodes v table r) result }
+        (λ limits v table r. IsTrue (is_file_node (v number) || is_directory_node (v number))
+        → ComesOrStays (sets_mode (tree_of v table) number mode) limits v table r) result }
 {
     let Some(mode) = mode else {
         return Ok(None);

@@ -1,6 +1,7 @@
 //! Writing bytes into a file over a path.
 
 ghost use Rattle.std.specs.Prelude.{◌≡◌, ◌≤◌, IsTrue, None, length};
+ghost use Rattle.layout.specs.StateLimits.{limits_of};
 ghost use Rattle.model.specs.Descriptors.{stores};
 ghost use Rattle.model.specs.Paths.{first_refusal, parts as parts_of, text_tests_then};
 ghost use Rattle.model.specs.Volumes.{is_file_node, tree_of};
@@ -10,11 +11,12 @@ ghost use Rattle.calls.specs.Store.{PreparesStoring, PutsInto, StoresFile};
 
 use crate::leading::find_object;
 use crate::reading::get::is_no_range;
+use crate::texts::refusal_of_path;
 use buffers::Blocks;
 use inofile::InodeFile;
 use layout::InodeNumber;
 use model::Errno;
-use paths::{Found, Parts, refusal_of_text};
+use paths::{Found, Parts};
 use records::{Failure, Prepared, kind_at, write_bytes};
 use std::alloc::Global;
 
@@ -43,11 +45,11 @@ pub fn store<B: Blocks>(
     bytes: &[u8],
 ) -> Result<Option<Storing>, Failure>
     ensures { PreparesStoring bytes.now B.Blocks blocks.old blocks.new inodes.old inodes.new
-        (λ inodes v table. StoresFile (stores (tree_of v table) path.now offset bytes.now) inodes v
-        table bytes.now) result }
+        (λ limits v table. StoresFile (stores limits (tree_of v table) path.now offset bytes.now)
+        limits v table bytes.now) result }
 {
     let parts = Parts::of(alloc, path)?;
-    if let Some(errno) = refusal_of_text(path, &parts) {
+    if let Some(errno) = refusal_of_path(inodes, path, &parts) {
         return Err(Failure::Refused(errno));
     }
     if is_no_range(offset, bytes.len()) {
@@ -67,12 +69,12 @@ fn store_along<B: Blocks>(
     bytes: &[u8],
 ) -> Result<Option<Storing>, Failure>
     requires parts { parts ≡ parts_of path.now }
-    requires passed { first_refusal (text_tests_then (range_tests offset (length bytes.now)) path.now)
-        ≡ None }
+    requires passed { first_refusal (text_tests_then (limits_of inodes.old.geometry) (range_tests
+        offset (length bytes.now)) path.now) ≡ None }
     requires few { length bytes.now ≤ TRANSFER_BYTES }
     ensures { PreparesStoring bytes.now B.Blocks blocks.old blocks.new inodes.old inodes.new
-        (λ inodes v table. StoresFile (stores (tree_of v table) path.now offset bytes.now) inodes v
-        table bytes.now) result }
+        (λ limits v table. StoresFile (stores limits (tree_of v table) path.now offset bytes.now)
+        limits v table bytes.now) result }
 {
     let number = find_object(alloc, inodes, blocks, path, parts, true)?;
     let found = kind_at(alloc, inodes, blocks, number)?;
@@ -93,7 +95,8 @@ fn put_bytes<B: Blocks>(
 ) -> Result<Option<Storing>, Failure>
     requires { length bytes.now ≤ TRANSFER_BYTES }
     ensures { PreparesStoring bytes.now B.Blocks blocks.old blocks.new inodes.old inodes.new
-        (λ inodes v table r. IsTrue (is_file_node (v number)) → PutsInto inodes v table number offset
+        (λ limits v table r. IsTrue (is_file_node (v number))
+        → PutsInto limits v table number offset
         bytes.now r) result }
 {
     let planned = write_bytes(alloc, inodes, blocks, number, offset, bytes)?;

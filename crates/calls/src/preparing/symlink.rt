@@ -12,7 +12,7 @@ use crate::making::make;
 use crate::{Changing, LinkText, OwnedObject};
 use buffers::Blocks;
 use inofile::InodeFile;
-use model::{Errno, PATH_BYTES};
+use model::{Errno, Limits};
 use records::Failure;
 use std::alloc::Global;
 
@@ -25,10 +25,10 @@ pub fn symlink<B: Blocks>(
     path: &[u8],
 ) -> Result<Changing, Failure>
     ensures { Prepares B.Blocks blocks.old blocks.new inodes.old inodes.new
-        (λ inodes v table. Comes (makes_symlink inodes (tree_of v table) text.now path.now) inodes v
+        (λ limits v table. Comes (makes_symlink limits (tree_of v table) text.now path.now) limits v
         table) result }
 {
-    if let Some(errno) = refusal_of_link_text(text) {
+    if let Some(errno) = refusal_of_link_text(inodes.limits(), text) {
         return Err(Failure::Refused(errno));
     }
     let bytes = Vec::from_slice(alloc, text)?;
@@ -39,14 +39,14 @@ pub fn symlink<B: Blocks>(
 }
 
 // Why the text of a symbolic link is refused.
-fn refusal_of_link_text(text: &[u8]) -> Option<Errno>
-    ensures { result ≡ first_refusal (link_text_tests text.now) }
+fn refusal_of_link_text(limits: Limits, text: &[u8]) -> Option<Errno>
+    ensures { result ≡ first_refusal (link_text_tests limits text.now) }
 {
     if text.is_empty() {
         Some(Errno::ENOENT)
     } else if has_zero(text) {
         Some(Errno::EINVAL)
-    } else if text.len() > PATH_BYTES {
+    } else if text.len() > limits.path_bytes as usize {
         Some(Errno::ENAMETOOLONG)
     } else {
         None

@@ -1,22 +1,23 @@
 //! Changing a file's size over a path.
 
 ghost use Rattle.std.specs.Prelude.{◌≡◌, ◌≤◌, IsOkAnd, IsTrue, None, nat_abs};
+ghost use Rattle.layout.specs.StateLimits.{limits_of};
 ghost use Rattle.model.specs.Changing.{size_tests, truncates};
 ghost use Rattle.model.specs.Paths.{first_refusal, parts as parts_of, text_tests_then};
 ghost use Rattle.model.specs.Volumes.{is_file_node, tree_of};
-ghost use Rattle.model.specs.declared.limits.TheConstants.{GREATEST_FILE};
 ghost use Rattle.paths.specs.Numbers.{IsInodeNumber};
 ghost use Rattle.calls.specs.Changing.{ComesOrStays};
 ghost use Rattle.calls.specs.Truncate.{TruncatesFile};
 ghost use Rattle.calls.specs.Preparing.{PreparesAny};
 
 use crate::leading::find_object;
+use crate::texts::refusal_of_path;
 use crate::{Changing, OwnedChange};
 use buffers::Blocks;
 use inofile::InodeFile;
 use layout::InodeNumber;
-use model::{Errno, GREATEST_FILE};
-use paths::{Found, Parts, refusal_of_text};
+use model::{Errno, Limits};
+use paths::{Found, Parts};
 use records::{Failure, kind_at, truncate_bytes};
 use std::alloc::Global;
 
@@ -32,14 +33,14 @@ pub fn truncate<B: Blocks>(
     size: i64,
 ) -> Result<Option<Changing>, Failure>
     ensures { PreparesAny B.Blocks blocks.old blocks.new inodes.old inodes.new
-        (λ inodes v table. ComesOrStays (truncates (tree_of v table) path.now size) inodes v table)
-        result }
+        (λ limits v table. ComesOrStays (truncates limits (tree_of v table) path.now size) limits v
+        table) result }
 {
     let parts = Parts::of(alloc, path)?;
-    if let Some(errno) = refusal_of_text(path, &parts) {
+    if let Some(errno) = refusal_of_path(inodes, path, &parts) {
         return Err(Failure::Refused(errno));
     }
-    if let Some(errno) = refusal_of_size(size) {
+    if let Some(errno) = refusal_of_size(inodes.limits(), size) {
         return Err(Failure::Refused(errno));
     }
     truncate_along(alloc, inodes, blocks, path, parts, size)
@@ -47,13 +48,13 @@ pub fn truncate<B: Blocks>(
 
 /// Why a file can't get a size, if it can't: EINVAL where it is negative, EFBIG where it is greater
 /// than the limit.
-pub fn refusal_of_size(size: i64) -> Option<Errno>
-    ensures { result ≡ first_refusal (size_tests size) }
+pub fn refusal_of_size(limits: Limits, size: i64) -> Option<Errno>
+    ensures { result ≡ first_refusal (size_tests limits size) }
 {
     if size < 0 {
         return Some(Errno::EINVAL);
     }
-    if size.unsigned_abs() > GREATEST_FILE {
+    if size.unsigned_abs() > limits.file_bytes {
         return Some(Errno::EFBIG);
     }
     None
@@ -70,11 +71,12 @@ fn truncate_along<B: Blocks>(
     size: i64,
 ) -> Result<Option<Changing>, Failure>
     requires parts { parts ≡ parts_of path.now }
-    requires passed { first_refusal (text_tests_then (size_tests size) path.now) ≡ None }
-    requires within { nat_abs size ≤ GREATEST_FILE }
+    requires passed { first_refusal (text_tests_then (limits_of inodes.old.geometry) (size_tests
+        (limits_of inodes.old.geometry) size) path.now) ≡ None }
+    requires within { nat_abs size ≤ (limits_of inodes.old.geometry).file_bytes }
     ensures { PreparesAny B.Blocks blocks.old blocks.new inodes.old inodes.new
-        (λ inodes v table. ComesOrStays (truncates (tree_of v table) path.now size) inodes v table)
-        result }
+        (λ limits v table. ComesOrStays (truncates limits (tree_of v table) path.now size) limits v
+        table) result }
 {
     let number = find_object(alloc, inodes, blocks, path, parts, true)?;
     let found = kind_at(alloc, inodes, blocks, number)?;
@@ -95,9 +97,10 @@ pub fn truncate_file<B: Blocks>(
     size: u64,
 ) -> Result<Option<Changing>, Failure>
     requires number { IsInodeNumber inodes.old.geometry.inodes number }
-    requires within { size ≤ GREATEST_FILE }
+    requires within { size ≤ (limits_of inodes.old.geometry).file_bytes }
     ensures { PreparesAny B.Blocks blocks.old blocks.new inodes.old inodes.new
-        (λ inodes v table r. IsTrue (is_file_node (v number)) → IsOkAnd r (TruncatesFile inodes v table
+        (λ limits v table r. IsTrue (is_file_node (v number))
+        → IsOkAnd r (TruncatesFile limits v table
         number size)) result }
 {
     let planned = truncate_bytes(alloc, inodes, blocks, number, size)?;

@@ -8,12 +8,13 @@ ghost use Rattle.calls.specs.Changing.{ComesSwept, Decides};
 ghost use Rattle.calls.specs.Preparing.{Prepares};
 ghost use Rattle.calls.specs.Unlink.{UnlinksEntry};
 
+use crate::texts::refusal_of_new_path;
 use crate::{Changing, EntryName, OwnedChange};
 use buffers::Blocks;
 use inofile::InodeFile;
 use layout::InodeNumber;
 use model::{Errno, records_change_trees, volumes_are_trees};
-use paths::{Found, Parts, Place, refusal_of_new_text, resolve_place};
+use paths::{Found, Parts, Place, resolve_place};
 use records::{Failure, kind_at, prepare_remove_name};
 use std::alloc::Global;
 
@@ -27,12 +28,13 @@ pub fn unlink<B: Blocks>(
     path: &[u8],
 ) -> Result<Changing, Failure>
     ensures { Prepares B.Blocks blocks.old blocks.new inodes.old inodes.new
-        (λ inodes v table. ComesSwept (unlinks (tree_of v table) path.now) inodes v table) result }
+        (λ limits v table. ComesSwept (unlinks limits (tree_of v table) path.now) limits v table)
+        result }
 {
     volumes_are_trees();
     records_change_trees();
     let parts = Parts::of(alloc, path)?;
-    if let Some(errno) = refusal_of_new_text(path, &parts) {
+    if let Some(errno) = refusal_of_new_path(inodes, path, &parts) {
         return Err(Failure::Refused(errno));
     }
     let place = resolve_place(alloc, inodes, blocks, path, parts, false)?;
@@ -62,7 +64,7 @@ fn unlink_entry<B: Blocks>(
 ) -> Result<Changing, Failure>
     requires { IsInodeNumber inodes.old.geometry.inodes number }
     ensures { Prepares B.Blocks blocks.old blocks.new inodes.old inodes.new
-        (λ inodes v table. UnlinksEntry inodes v parent name.items number) result }
+        (λ limits v table. UnlinksEntry limits v parent name.items number) result }
 {
     let found = kind_at(alloc, inodes, blocks, number)?;
     match found {
@@ -80,7 +82,7 @@ pub(crate) fn prepare_removal<B: Blocks>(
     name: Vec<u8>,
 ) -> Result<Changing, Failure>
     ensures { Prepares B.Blocks blocks.old blocks.new inodes.old inodes.new
-        (λ inodes v table. Decides inodes v (remove_name parent name.items)) result }
+        (λ limits v table. Decides limits v (remove_name parent name.items)) result }
 {
     let Some(name) = EntryName::new(name) else {
         return Err(Failure::Refused(Errno::ENOENT));

@@ -1,16 +1,18 @@
 //! Telling which blocks of a file are stored, over a path.
 
 ghost use Rattle.std.specs.Prelude.{◌≡◌, None};
+ghost use Rattle.layout.specs.StateLimits.{limits_of};
 ghost use Rattle.model.specs.Paths.{first_refusal, parts as parts_of, text_tests_then};
 ghost use Rattle.model.specs.Reading.{is_negative};
 ghost use Rattle.calls.specs.Extent.{extent_reply, offset_tests, shows_extent};
 ghost use Rattle.calls.specs.Seeing.{Answers};
 
 use crate::leading::find_object;
+use crate::texts::refusal_of_path;
 use buffers::Blocks;
 use inofile::InodeFile;
 use model::{Errno, Extent};
-use paths::{Parts, refusal_of_text};
+use paths::Parts;
 use records::{Failure, read_extent};
 use std::alloc::Global;
 
@@ -28,7 +30,7 @@ pub fn extent<B: Blocks>(
         (shows_extent B.Blocks blocks.old inodes.new path.now offset) extent_reply result }
 {
     let parts = Parts::of(alloc, path)?;
-    if let Some(errno) = refusal_of_text(path, &parts) {
+    if let Some(errno) = refusal_of_path(inodes, path, &parts) {
         return Err(Failure::Refused(errno));
     }
     if is_before_start(offset) {
@@ -54,7 +56,8 @@ fn extent_along<B: Blocks>(
     offset: i64,
 ) -> Result<Extent, Failure>
     requires parts { parts ≡ parts_of path.now }
-    requires passed { first_refusal (text_tests_then (offset_tests offset) path.now) ≡ None }
+    requires passed { first_refusal (text_tests_then (limits_of inodes.old.geometry) (offset_tests
+        offset) path.now) ≡ None }
     ensures { Answers B.Blocks blocks.old blocks.new inodes.old inodes.new
         (shows_extent B.Blocks blocks.old inodes.new path.now offset) extent_reply result }
 {

@@ -1,16 +1,18 @@
 //! Reading a file over a path.
 
 ghost use Rattle.std.specs.Prelude.{◌≡◌, ◌||◌, None};
+ghost use Rattle.layout.specs.StateLimits.{limits_of};
 ghost use Rattle.model.specs.Paths.{first_refusal, parts as parts_of, text_tests_then};
 ghost use Rattle.model.specs.Reading.{gets, is_negative, is_too_many};
 ghost use Rattle.calls.specs.Get.{data_reply, range_tests};
 ghost use Rattle.calls.specs.Seeing.{Answers};
 
 use crate::leading::find_object;
+use crate::texts::refusal_of_path;
 use buffers::Blocks;
 use inofile::InodeFile;
 use model::{Errno, TRANSFER_BYTES, Text};
-use paths::{Parts, refusal_of_text};
+use paths::Parts;
 use records::{Failure, read_bytes};
 use std::alloc::Global;
 
@@ -26,10 +28,10 @@ pub fn get<B: Blocks>(
     count: u32,
 ) -> Result<Text, Failure>
     ensures { Answers B.Blocks blocks.old blocks.new inodes.old inodes.new
-        (λ t. gets t path.now offset count) data_reply result }
+        (λ limits t. gets limits t path.now offset count) data_reply result }
 {
     let parts = Parts::of(alloc, path)?;
-    if let Some(errno) = refusal_of_text(path, &parts) {
+    if let Some(errno) = refusal_of_path(inodes, path, &parts) {
         return Err(Failure::Refused(errno));
     }
     if is_no_range(offset, count as usize) {
@@ -56,9 +58,10 @@ fn get_along<B: Blocks>(
     count: u32,
 ) -> Result<Text, Failure>
     requires parts { parts ≡ parts_of path.now }
-    requires passed { first_refusal (text_tests_then (range_tests offset count) path.now) ≡ None }
+    requires passed { first_refusal (text_tests_then (limits_of inodes.old.geometry) (range_tests
+        offset count) path.now) ≡ None }
     ensures { Answers B.Blocks blocks.old blocks.new inodes.old inodes.new
-        (λ t. gets t path.now offset count) data_reply result }
+        (λ limits t. gets limits t path.now offset count) data_reply result }
 {
     let number = find_object(alloc, inodes, blocks, path, parts, true)?;
     let found = read_bytes(alloc, inodes, blocks, number, offset.unsigned_abs(), count)?;

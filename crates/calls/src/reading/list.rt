@@ -21,7 +21,7 @@ pub fn list<B: Blocks>(
     path: &[u8],
 ) -> Result<Names, Failure>
     ensures { Answers B.Blocks blocks.old blocks.new inodes.old inodes.new
-        (λ t. lists t path.now) names_reply result }
+        (λ limits t. lists limits t path.now) names_reply result }
 {
     let number = lead(alloc, inodes, blocks, path, true)?;
     let found = is_directory_at(alloc, inodes, blocks, number)?;

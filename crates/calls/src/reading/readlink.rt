@@ -22,7 +22,7 @@ pub fn readlink<B: Blocks>(
     path: &[u8],
 ) -> Result<Text, Failure>
     ensures { Answers B.Blocks blocks.old blocks.new inodes.old inodes.new
-        (λ t. reads_link t path.now) text_reply result }
+        (λ limits t. reads_link limits t path.now) text_reply result }
 {
     let number = lead(alloc, inodes, blocks, path, false)?;
     let found = kind_at(alloc, inodes, blocks, number)?;

@@ -29,7 +29,7 @@ pub fn stat<B: Blocks>(
     path: &[u8],
 ) -> Result<Stat, Failure>
     ensures { Answers B.Blocks blocks.old blocks.new inodes.old inodes.new
-        (λ t. stats t true path.now) stat_reply result }
+        (λ limits t. stats limits t true path.now) stat_reply result }
 {
     stat_at(alloc, inodes, blocks, path, true)
 }
@@ -42,7 +42,7 @@ pub fn lstat<B: Blocks>(
     path: &[u8],
 ) -> Result<Stat, Failure>
     ensures { Answers B.Blocks blocks.old blocks.new inodes.old inodes.new
-        (λ t. stats t false path.now) stat_reply result }
+        (λ limits t. stats limits t false path.now) stat_reply result }
 {
     stat_at(alloc, inodes, blocks, path, false)
 }
@@ -56,7 +56,7 @@ fn stat_at<B: Blocks>(
     follow: bool,
 ) -> Result<Stat, Failure>
     ensures { Answers B.Blocks blocks.old blocks.new inodes.old inodes.new
-        (λ t. stats t follow path.now) stat_reply result }
+        (λ limits t. stats limits t follow path.now) stat_reply result }
 {
     volumes_tell_links();
     let number = lead(alloc, inodes, blocks, path, follow)?;

@@ -1,6 +1,7 @@
 //! Telling a part of a directory's names over a path.
 
 ghost use Rattle.std.specs.Prelude.{◌≡◌, ◌≤◌, ◌||◌, ◌==◌, All, None, nat_lt};
+ghost use Rattle.layout.specs.StateLimits.{limits_of};
 ghost use Rattle.model.specs.Paths.{first_refusal, parts as parts_of, text_tests_then};
 ghost use Rattle.model.specs.Reading.{is_negative, tells_entries};
 ghost use Rattle.model.specs.declared.limits.TheConstants.{ENTRIES_TOLD};
@@ -11,12 +12,13 @@ ghost use Rattle.calls.specs.Seeing.{Answers, Tells};
 use crate::leading::find_object;
 use crate::reading::part::{ToldName, part_of};
 use crate::reading::stat::stat_number;
+use crate::texts::refusal_of_path;
 use buffers::Blocks;
 use dirs::NumberedName;
 use inofile::InodeFile;
 use layout::InodeNumber;
 use model::{ENTRIES_TOLD, Entries, Entry, Errno, FileType, Stat, Text, volumes_tell_links};
-use paths::{Parts, list_numbered, refusal_of_text};
+use paths::{Parts, list_numbered};
 use records::{Failure, is_directory_at};
 use std::alloc::Global;
 
@@ -33,10 +35,10 @@ pub fn entries<B: Blocks>(
     count: u32,
 ) -> Result<Entries, Failure>
     ensures { Answers B.Blocks blocks.old blocks.new inodes.old inodes.new
-        (λ t. tells_entries t path.now after count) entries_reply result }
+        (λ limits t. tells_entries limits t path.now after count) entries_reply result }
 {
     let parts = Parts::of(alloc, path)?;
-    if let Some(errno) = refusal_of_text(path, &parts) {
+    if let Some(errno) = refusal_of_path(inodes, path, &parts) {
         return Err(Failure::Refused(errno));
     }
     if is_no_part(after, count) {
@@ -64,10 +66,11 @@ fn entries_along<B: Blocks>(
     count: u32,
 ) -> Result<Entries, Failure>
     requires parts { parts ≡ parts_of path.now }
-    requires passed { first_refusal (text_tests_then (part_tests after count) path.now) ≡ None }
+    requires passed { first_refusal (text_tests_then (limits_of inodes.old.geometry) (part_tests
+        after count) path.now) ≡ None }
     requires some { 1 ≤ count }
     ensures { Answers B.Blocks blocks.old blocks.new inodes.old inodes.new
-        (λ t. tells_entries t path.now after count) entries_reply result }
+        (λ limits t. tells_entries limits t path.now after count) entries_reply result }
 {
     volumes_tell_links();
     let number = find_object(alloc, inodes, blocks, path, parts, true)?;

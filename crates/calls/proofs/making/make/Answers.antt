@@ -1,4 +1,5 @@
 use Rattle.std.proofs.Common.{◌≡◌, ◌∙◌, Some, sym, ℕ, false, refl, subst, rules, None}
+use Rattle.layout.specs.StateLimits.{limits_of}
 use Rattle.model.specs.Changes.{with_made}
 use Rattle.model.specs.Paths.{first_refusal, new_text_tests}
 use Rattle.records.proofs.StandLaws.{no_look}
@@ -14,14 +15,14 @@ use Rattle.calls.proofs.making.make.Goals as goal
 
 pub returns-in-Some : goal.returns-in-Some
 returns-in-Some g c =
-    let is : first_refusal (new_text_tests c.args.path.now) ≡ Some c.in-Some.errno = sym c.refusal_of_new_text.ensures ∙ c.in-Some.is in
-    refuses no_look (new_text_own c.args.path.now c.in-Some.errno is)
-    (λ disk settled v table stands volume mounted. text_refused c.args.inodes.now.geometry.inodes v table c.args.path.now (with_made (made_by c.args.object)) c.in-Some.errno is)
+    let is : first_refusal (new_text_tests (limits_of c.args.inodes.now.geometry) c.args.path.now) ≡ Some c.in-Some.errno = sym c.refusal_of_new_path.ensures ∙ c.in-Some.is in
+    refuses no_look (new_text_own (limits_of c.args.inodes.now.geometry) c.args.path.now c.in-Some.errno is)
+    (λ disk settled v table stands volume mounted. text_refused (limits_of c.args.inodes.now.geometry) v table c.args.path.now (with_made (made_by c.args.object)) c.in-Some.errno is)
 
 pub resolve_place-requires-clause-named : goal.resolve_place-requires-clause-named
 resolve_place-requires-clause-named g c =
-    let passed : first_refusal (new_text_tests c.args.path.now) ≡ None = search rules in
-    named_text c.args.path.now passed
+    let passed : first_refusal (new_text_tests (limits_of c.args.inodes.now.geometry) c.args.path.now) ≡ None = search rules in
+    named_text (limits_of c.args.inodes.now.geometry) c.args.path.now passed
 
 pub returns-in_err-place : goal.returns-in_err-place
 returns-in_err-place g c = stops c.from_residual-in_err-place.result c.from_residual-in_err-place.ensures.1 c.in_err-place.ensures.looks c.in_err-place.ensures.damaged
@@ -29,32 +30,32 @@ returns-in_err-place g c = stops c.from_residual-in_err-place.result c.from_resi
 pub returns-in-Refusal : goal.returns-in-Refusal
 returns-in-Refusal g c = refuses c.in_ok-place.ensures.looks
     (walk_refusal c.in-Refusal.errno (subst (IsPlaceWithin c.args.inodes.now.geometry.inodes) c.in-Refusal.is c.in_ok-place.ensures.within)) (λ disk settled v table stands volume mounted.
-    let passed : first_refusal (new_text_tests c.args.path.now) ≡ None = search rules in
-    let inodes = c.args.inodes.now.geometry.inodes in
-    let (r, reaches, at) = subst (LeadsAt (tree_of v table) v false c.args.path.now) c.in-Refusal.is (c.in_ok-place.ensures.found disk settled v table stands volume (level c.args.path.now passed)) in
-    path_refused inodes v table volume mounted (c.volumes_are_trees.ensures inodes v table volume mounted) c.args.path.now (made_by c.args.object) passed r reaches c.in-Refusal.errno at)
+    let passed : first_refusal (new_text_tests (limits_of c.args.inodes.now.geometry) c.args.path.now) ≡ None = search rules in
+    let limits = limits_of c.args.inodes.now.geometry in
+    let (r, reaches, at) = subst (LeadsAt (tree_of v table) v false c.args.path.now) c.in-Refusal.is (c.in_ok-place.ensures.found disk settled v table stands volume (level (limits_of c.args.inodes.now.geometry) c.args.path.now passed)) in
+    path_refused limits v table volume mounted (c.volumes_are_trees.ensures limits v table volume mounted) c.args.path.now (made_by c.args.object) passed r reaches c.in-Refusal.errno at)
 
 pub returns-in-Directory : goal.returns-in-Directory
 returns-in-Directory g c = refuses c.in_ok-place.ensures.looks refl (λ disk settled v table stands volume mounted.
-    let passed : first_refusal (new_text_tests c.args.path.now) ≡ None = search rules in
-    let inodes = c.args.inodes.now.geometry.inodes in
-    let (r, reaches, at) = subst (LeadsAt (tree_of v table) v false c.args.path.now) c.in-Directory.is (c.in_ok-place.ensures.found disk settled v table stands volume (level c.args.path.now passed)) in
-    directory_there inodes v table volume mounted (c.volumes_are_trees.ensures inodes v table volume mounted) c.args.path.now (made_by c.args.object) passed r reaches c.in-Directory._trail at)
+    let passed : first_refusal (new_text_tests (limits_of c.args.inodes.now.geometry) c.args.path.now) ≡ None = search rules in
+    let limits = limits_of c.args.inodes.now.geometry in
+    let (r, reaches, at) = subst (LeadsAt (tree_of v table) v false c.args.path.now) c.in-Directory.is (c.in_ok-place.ensures.found disk settled v table stands volume (level (limits_of c.args.inodes.now.geometry) c.args.path.now passed)) in
+    directory_there limits v table volume mounted (c.volumes_are_trees.ensures limits v table volume mounted) c.args.path.now (made_by c.args.object) passed r reaches c.in-Directory._trail at)
 
 pub returns-in-Entry : goal.returns-in-Entry
 returns-in-Entry g c = refuses c.in_ok-place.ensures.looks refl (λ disk settled v table stands volume mounted.
-    let passed : first_refusal (new_text_tests c.args.path.now) ≡ None = search rules in
-    let inodes = c.args.inodes.now.geometry.inodes in
-    let (r, reaches, at) = subst (LeadsAt (tree_of v table) v false c.args.path.now) c.in-Entry.is (c.in_ok-place.ensures.found disk settled v table stands volume (level c.args.path.now passed)) in
-    entry_there inodes v table volume mounted (c.volumes_are_trees.ensures inodes v table volume mounted) c.args.path.now (made_by c.args.object) passed r reaches
+    let passed : first_refusal (new_text_tests (limits_of c.args.inodes.now.geometry) c.args.path.now) ≡ None = search rules in
+    let limits = limits_of c.args.inodes.now.geometry in
+    let (r, reaches, at) = subst (LeadsAt (tree_of v table) v false c.args.path.now) c.in-Entry.is (c.in_ok-place.ensures.found disk settled v table stands volume (level (limits_of c.args.inodes.now.geometry) c.args.path.now passed)) in
+    entry_there limits v table volume mounted (c.volumes_are_trees.ensures limits v table volume mounted) c.args.path.now (made_by c.args.object) passed r reaches
     c.in-Entry._trail c.in-Entry._name.items c.in-Entry._number at)
 
 pub returns : goal.returns
 returns g c = follows c.in_ok-place.ensures.looks c.make_in.ensures.prepares (λ disk settled v table stands volume mounted told makes.
-    let passed : first_refusal (new_text_tests c.args.path.now) ≡ None = search rules in
-    let inodes = c.args.inodes.now.geometry.inodes in
+    let passed : first_refusal (new_text_tests (limits_of c.args.inodes.now.geometry) c.args.path.now) ≡ None = search rules in
+    let limits = limits_of c.args.inodes.now.geometry in
     let made = made_by c.args.object in
     let name = c.in-Missing.name.items in
-    let (r, reaches, at) = subst (LeadsAt (tree_of v table) v false c.args.path.now) c.in-Missing.is (c.in_ok-place.ensures.found disk settled v table stands volume (level c.args.path.now passed)) in
-    gap_comes inodes v table volume mounted (c.volumes_are_trees.ensures inodes v table volume mounted) c.args.path.now made passed r reaches c.in-Missing.trail name at
-    c.volumes_tell_fresh_numbers.ensures c.records_change_trees.ensures told (subst (λ (d : ℕ). MakesIn inodes v d name made told) c.here.ensures makes))
+    let (r, reaches, at) = subst (LeadsAt (tree_of v table) v false c.args.path.now) c.in-Missing.is (c.in_ok-place.ensures.found disk settled v table stands volume (level (limits_of c.args.inodes.now.geometry) c.args.path.now passed)) in
+    gap_comes limits v table volume mounted (c.volumes_are_trees.ensures limits v table volume mounted) c.args.path.now made passed r reaches c.in-Missing.trail name at
+    c.volumes_tell_fresh_numbers.ensures c.records_change_trees.ensures told (subst (λ (d : ℕ). MakesIn limits v d name made told) c.here.ensures makes))

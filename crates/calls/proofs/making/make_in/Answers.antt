@@ -1,5 +1,6 @@
 use Rattle.std.proofs.Common.{rules, ◌∙◌, ℕ, List, Some, Err, IfErr, IfOk, inl, refl, sym, ap, subst}
 use Rattle.std.proofs.lemmas.Bool.{false≢true}
+use Rattle.layout.specs.StateLimits.{limits_of}
 use Rattle.layout.specs.Limits.{Sizes}
 use Rattle.model.specs.Records.{Made, IsMade, TakesName, create, is_vacant, node_of}
 use Rattle.model.specs.Volumes.{IsVolume}
@@ -23,10 +24,10 @@ returns-in_err-new-clause-prepares g c = stops c.from_residual.result c.from_res
 pub returns-in_default-clause-prepares : goal.returns-in_default-clause-prepares
 returns-in_default-clause-prepares g c =
     follows (looks_beside c.in_ok-new.ensures.reads c.least_free.ensures.geometry c.least_free.ensures.slots c.least_free.ensures.volume) c.refuse_in.ensures.prepares (λ disk settled v table stands volume mounted r makes.
-    let inodes = c.args.inodes.now.geometry.inodes in
+    let limits = limits_of c.args.inodes.now.geometry in
     let made = made_by c.args.object in
     let read = stands_over {G = g.B.Blocks} c.args.blocks.now c.new_object.new.blocks c.args.inodes.now c.new_object.ensures.reads.count (c.new_object.ensures.reads.same disk stands.shows) stands.volume in
-    subst (λ (x : List ℕ). MakesIn inodes v c.args.parent x made r) c.as_slice.ensures.value (makes made (c.in_default.ensures.none _ disk settled v read.volume)))
+    subst (λ (x : List ℕ). MakesIn limits v c.args.parent x made r) c.as_slice.ensures.value (makes made (c.in_default.ensures.none _ disk settled v read.volume)))
 
 pub returns-in_err-vacant-clause-prepares : goal.returns-in_err-vacant-clause-prepares
 returns-in_err-vacant-clause-prepares g c =
@@ -66,9 +67,13 @@ returns-in_err-prepared-clause-prepares g c =
     fails_by {X = Prepared} DIRFULL refl _ c.from_residual-in_err-prepared.result c.from_residual-in_err-prepared.ensures.1 (looks_more before all.looks) all.full
     (λ disk settled v stands is. all.damaged by_bytes disk settled v (before.kept disk settled v stands) is)
     (λ disk settled v table stands volume mounted is.
-    let not = subst (λ (f : Failure). IfOk (read_outcome {T = Prepared} (Err f)) (λ r. IfErr r (λ _. TakesName v c.args.parent c.deref.result.now → ⊥))) is
-    (all.refused by_bytes disk settled v (before.kept disk settled v stands) (subst (λ (s : Sizes). IsVolume s.inodes v) (sym before.geometry) volume)) in
-    inl (refl, subst (λ (x : List ℕ). TakesName v c.args.parent x → ⊥) (c.deref.ensures.value ∙ c.in-Some-new.ensures.some) not))
+    let not = subst (λ (f : Failure). IfOk (read_outcome {T = Prepared} (Err f)) (λ r. IfErr r (λ _. TakesName (limits_of c.is_vacant.new.inodes.geometry) v c.args.parent c.deref.result.now → ⊥))) is
+    (all.refused by_bytes disk settled v (before.kept disk settled v stands) (subst (λ (s : Sizes). IsVolume (limits_of s) v) (sym before.geometry) volume)) in
+    inl (
+      refl,
+      subst (λ (x : List ℕ). TakesName (limits_of c.args.inodes.now.geometry) v c.args.parent x → ⊥) (c.deref.ensures.value ∙ c.in-Some-new.ensures.some)
+          (subst (λ (z : Sizes). TakesName (limits_of z) v c.args.parent c.deref.result.now → ⊥) before.geometry not),
+    ))
 
 pub returns-clause-prepares : goal.returns-clause-prepares
 returns-clause-prepares g c =
@@ -93,8 +98,9 @@ returns-clause-prepares g c =
     } in (
       n,
       ap (create n c.args.parent made) c.in-Some-new.ensures.some,
-      subst IsMade c.as_new.ensures.says c.as_new.ensures.good,
-      subst (λ (x : List ℕ). TakesName v c.args.parent x) (c.deref.ensures.value ∙ c.in-Some-new.ensures.some) (c.in_ok-prepared.ensures.takes _ disk settled v (before.kept disk settled v stands)),
+      subst (IsMade (limits_of c.args.inodes.now.geometry)) c.as_new.ensures.says (c.as_new.ensures.good c.args.inodes.now.geometry),
+      subst (λ (x : List ℕ). TakesName (limits_of c.args.inodes.now.geometry) v c.args.parent x) (c.deref.ensures.value ∙ c.in-Some-new.ensures.some)
+          (subst (λ (z : Sizes). TakesName (limits_of z) v c.args.parent c.deref.result.now) before.geometry (c.in_ok-prepared.ensures.takes _ disk settled v (before.kept disk settled v stands))),
       subst (IsLeastFree c.args.inodes.now.geometry.inodes v) (sym c.new-number.ensures) least,
     )))
 

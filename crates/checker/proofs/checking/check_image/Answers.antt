@@ -1,6 +1,5 @@
-use Rattle.std.proofs.Common.{◌≡◌, ◌∙◌, ◌+◌, ◌≤◌, ℕ, List, None, rules, sym, subst}
-use Rattle.std.specs.Prelude.{◌↔◌, IsTrue}
-use Rattle.model.specs.Room.{fixed_of}
+use Rattle.std.proofs.Common.{◌≡◌, ◌∙◌, ℕ, List, None, rules, sym, subst}
+use Rattle.std.specs.Prelude.{IsTrue}
 use Rattle.station.specs.Images.{Images}
 use Rattle.buffers.specs.Disks.{ReadsOn, ShowsDisk}
 use Rattle.buffers.specs.Readings.{reads_none, reads_twice}
@@ -102,9 +101,7 @@ returns-in-Ok-clause-faultless g c disk shows clear =
     (c.in_ok-is_faultless.ensures.faultless disk shows1 are clear)
     (subst (λ (i : Images). IsLogged r w i.nvram c.in-Ok.logged) ((reads g done).goes shows.honest).seen told) (search rules)
     c.count_snapshots.ensures (search rules) (search rules)
-    (subst (λ (n : ℕ). IsTrue c.has_reserve.result
-    ↔ (c.in-Ok.logged.pledged + fixed_of n ≤ c.in_ok-is_faultless.free))
-    c.blocks-in-Ok.ensures.value c.has_reserve.ensures)
+    c.has_reserve.ensures
 
 pub returns-in-Err-Fault-clause-found : goal.returns-in-Err-Fault-clause-found
 returns-in-Err-Fault-clause-found g c disk shows =

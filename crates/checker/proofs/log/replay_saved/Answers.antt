@@ -1,6 +1,7 @@
 use Rattle.std.proofs.Common.{◌≡◌, ◌∙◌, ◌+◌, ◌*◌, ℕ, arith, refl, sym, subst}
 use Rattle.layout.specs.Limits.{Sizes}
-use Rattle.model.specs.Records.{count_orphans}
+use Rattle.layout.specs.StateLimits.{limits_of}
+use Rattle.model.specs.Records.{cost_of_all, count_orphans}
 use Rattle.images.specs.Roots.{whole}
 use Rattle.images.specs.Soundness.{by_sizes}
 use Rattle.loading.specs.Images.{AreInodesIn, inodes_of}
@@ -97,15 +98,18 @@ returns-clause-passes g c disk nvram shows tells faultless within =
     (read.count ∙ c.requires.size) are holds
     (graphs.graph disk r v c.requires.root faultless holds)
     (graphs.numbers disk r v c.requires.root faultless holds))) in
-    let pledged : 4 * c.from.result + c.in_ok-first.first.pledged + c.in_ok-second.second.pledged
+    let pledged : c.cost_of_orphans.result + c.in_ok-first.first.pledged + c.in_ok-second.second.pledged
     ≡ 4 * c.in_ok-orphans.orphans + c.in_ok-first.first.pledged + c.in_ok-second.second.pledged =
-    omega arith in
+    omega (arith, c.cost_of_orphans.ensures) in
     is_logged r w nvram saved c.requires.half c.requires.generation tells v holds first.0 second.0
     first.1 second.1 c.in_ok-orphans.orphans _ c.in_ok-first.first c.in_ok-second.second
     (lead_over r.geometry c.in_ok-inodes.inodes.geometry saved.first.records c.first_records.result.now first.0 v first.1 (sym are.geometry) (sym c.first_records.ensures.records) first.2)
     (lead_over r.geometry c.replay_half.new.inodes.geometry saved.second.records c.second_records.result.now second.0 first.1 second.1 (sym (one.geometry ∙ are.geometry)) (sym c.second_records.ensures.records) second.2)
     (subst (λ (x : Sizes). c.in_ok-orphans.orphans ≡ count_orphans x.inodes v) are.geometry names)
-    first.3 second.3 first.5 second.5 refl pledged
+    first.3 second.3
+    (subst (λ (x : Sizes). c.in_ok-first.first.pledged ≡ cost_of_all (limits_of x).costs v first.0) are.geometry first.5)
+    (subst (λ (x : Sizes). c.in_ok-second.second.pledged ≡ cost_of_all (limits_of x).costs first.1 second.0) (one.geometry ∙ are.geometry) second.5)
+    refl pledged
 
 pub returns-in_err-orphans-clause-reads : goal.returns-in_err-orphans-clause-reads
 returns-in_err-orphans-clause-reads g c =

@@ -1,4 +1,5 @@
 use Rattle.std.proofs.Common.{◌∙◌, ◌∷◌, ◌++◌, [], Err, ap, refl}
+use Rattle.layout.specs.StateLimits.{limits_of}
 use Rattle.layout.specs.Record.{change_of}
 use Rattle.model.specs.Records.{applied}
 use Rattle.model.specs.Volumes.{swept}
@@ -47,7 +48,7 @@ returns-in-Ok-clause-told g c = λ call s served prepared.
       fits = c.put_into.ensures.fits;
       mounted = c.put_into.ensures.mounted;
     } in
-    let behind = logged_moves {G = g.S.Station} c.log.new.self c.put_into.new.files p.table table f.root.geometry.inodes after served.snapshots (served.lasts.replayed.changes ++ change ∷ [])
+    let behind = logged_moves {G = g.S.Station} c.log.new.self c.put_into.new.files p.table table (limits_of f.root.geometry) after served.snapshots (served.lasts.replayed.changes ++ change ∷ [])
     ((c.in-Ok.ensures.told table s served does.knows).done advances does) made.mounted made.fits moves in
     logged_at {G = g.S.Station} f _ s served call p.reply
     (leads_on {G = g.S.Station} f _ s served call p.reply p.table change made ((c.log.ensures.told table s served does.knows).any_moment advances)) change refl (c.in-Ok.ensures.told table s served does.knows).room (behind.serves, behind.records)

@@ -1,5 +1,6 @@
 use Rattle.std.specs.Option.{option_map}
 use Rattle.std.proofs.Common.{Option, Ok, ap, subst, sym}
+use Rattle.layout.specs.StateLimits.{limits_of}
 use Rattle.model.specs.Room.{nothing}
 use Rattle.model.specs.declared.reply.Reply.{Reply}
 use Rattle.model.specs.declared.reply.Reply.TheVariants.{Refused}
@@ -15,15 +16,15 @@ use Rattle.dispatch.proofs.open_file_change.prepare_opening.Goals as goal
 
 pub returns-in_err-opening : goal.returns-in_err-opening
 returns-in_err-opening g c =
-    let n = c.args.inodes.now.geometry.inodes in
+    let limits = limits_of c.args.inodes.now.geometry in
     let table = table_of c.args.files.now in
     passes _ c.from_residual.result c.from_residual.ensures.1 c.in_err-opening.ensures (λ disk settled v stands volume mounted fits e told.
-    opens_leads c.args.path.now c.args.flags c.args.mode c.args.below n v table c.args.tells (Refused e) v table nothing (told c.args.tells))
+    opens_leads c.args.path.now c.args.flags c.args.mode c.args.below limits v table c.args.tells (Refused e) v table nothing (told c.args.tells))
 
 pub returns : goal.returns
 returns g c =
     let files = c.args.files.now in
-    let n = c.args.inodes.now.geometry.inodes in
+    let limits = limits_of c.args.inodes.now.geometry in
     let o = c.in_ok-opening.opening in
     let call = opening_call c.args.tells c.args.path.now c.args.flags c.args.mode c.args.below in
     let answered = opening_reply c.args.tells o in
@@ -39,4 +40,4 @@ returns g c =
       numbered = can.3;
       limits = said_within o.changing;
     }) (λ P is. said_so o.changing P is)
-    (λ v told. opens_so c.args.path.now c.args.flags c.args.mode c.args.below n v files c.args.tells o o.changing told)))
+    (λ v told. opens_so c.args.path.now c.args.flags c.args.mode c.args.below limits v files c.args.tells o o.changing told)))

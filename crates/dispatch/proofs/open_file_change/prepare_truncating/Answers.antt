@@ -1,5 +1,6 @@
 use Rattle.std.proofs.Common.{ℤ, w64, Option, Ok, Err, refl, subst, sym}
 use Rattle.std.proofs.lemmas.Int.{to_z-of_z}
+use Rattle.layout.specs.StateLimits.{limits_of}
 use Rattle.model.specs.Descriptors.{truncates_open}
 use Rattle.model.specs.declared.command.Command.TheVariants as command
 use Rattle.model.specs.declared.reply.Reply.TheVariants.{Done}
@@ -16,16 +17,16 @@ use Rattle.dispatch.proofs.open_file_change.prepare_truncating.Goals as goal
 pub returns-in_err-found : goal.returns-in_err-found
 returns-in_err-found g c =
     passes _ c.from_residual.result c.from_residual.ensures.1 c.in_err-found.ensures (λ disk settled v stands volume mounted fits e told snapshots room. (
-      subst (λ (z : ℤ). ComesOrStays (truncates_open (tree_with c.args.files.now v) c.args.fd z) c.args.inodes.now.geometry.inodes v (table_of c.args.files.now) (Err e)) (to_z-of_z w64 c.args.size c.ranges.size) told,
+      subst (λ (z : ℤ). ComesOrStays (truncates_open (limits_of c.args.inodes.now.geometry) (tree_with c.args.files.now v) c.args.fd z) (limits_of c.args.inodes.now.geometry) v (table_of c.args.files.now) (Err e)) (to_z-of_z w64 c.args.size c.ranges.size) told,
       refl,
     ))
 
 pub returns : goal.returns
 returns g c =
     let files = c.args.files.now in
-    let n = c.args.inodes.now.geometry.inodes in
+    let limits = limits_of c.args.inodes.now.geometry in
     let o = c.in_ok-found.found in
     subst (λ (x : Option PreparedChange). PreparesCall g.B.Blocks c.args.blocks.now c.prepare_ftruncate.new.blocks c.args.inodes.now c.prepare_ftruncate.new.inodes files (command.Ftruncate c.args.fd c.args.size)
     (Ok (record { reply = Done; change = x; table = Stays }))) (sym c.said.ensures)
-    (does (command.Ftruncate c.args.fd c.args.size) c.in_ok-found.ensures (λ within. record { kind = tt; accepted = λ errno is. cc; moves = tt; numbered = tt; limits = said_within o }) (λ P is. said_so o P is) (λ v told. comes_so n v (table_of files) (command.Ftruncate c.args.fd c.args.size) (truncates_open (tree_with files v) c.args.fd c.args.size) o (λ reply w need told snapshots room. (told, refl))
-    (subst (λ (z : ℤ). ComesOrStays (truncates_open (tree_with files v) c.args.fd z) n v (table_of files) (Ok o)) (to_z-of_z w64 c.args.size c.ranges.size) told)))
+    (does (command.Ftruncate c.args.fd c.args.size) c.in_ok-found.ensures (λ within. record { kind = tt; accepted = λ errno is. cc; moves = tt; numbered = tt; limits = said_within o }) (λ P is. said_so o P is) (λ v told. comes_so limits v (table_of files) (command.Ftruncate c.args.fd c.args.size) (truncates_open (limits_of c.args.inodes.now.geometry) (tree_with files v) c.args.fd c.args.size) o (λ reply w need told snapshots room. (told, refl))
+    (subst (λ (z : ℤ). ComesOrStays (truncates_open (limits_of c.args.inodes.now.geometry) (tree_with files v) c.args.fd z) limits v (table_of files) (Ok o)) (to_z-of_z w64 c.args.size c.ranges.size) told)))

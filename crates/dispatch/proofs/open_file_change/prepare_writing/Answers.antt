@@ -1,4 +1,5 @@
 use Rattle.std.proofs.Common.{rules, length, refl}
+use Rattle.layout.specs.StateLimits.{limits_of}
 use Rattle.model.specs.declared.command.Command.TheVariants as command
 use Rattle.model.specs.declared.reply.Reply.TheVariants.{Wrote}
 use Rattle.descriptors.specs.Tables.{table_of}
@@ -19,7 +20,7 @@ returns-in-Some g c =
     let w = c.in-Some.writing.written in
     let change : PreparedChange = record { «record» = records.Writes w.number w.offset c.args.bytes; prepared = c.in-Some.writing.prepared } in
     does call (rw c.in-Some.is at c.in_ok-found.ensures) (λ within. record { kind = tt; accepted = λ errno is. cc; moves = (within.2, search rules); numbered = tt; limits = (within.0, within.1) }) (λ P is. is)
-    (λ v told. goes_beside c.args.inodes.now.geometry.inodes v (table_of c.args.files.now) call (Wrote (length c.args.bytes.now)) (Moves c.args.fd w.behind) change told.0 (λ x. tt) (λ snapshots room. (told.2, refl)))
+    (λ v told. goes_beside (limits_of c.args.inodes.now.geometry) v (table_of c.args.files.now) call (Wrote (length c.args.bytes.now)) (Moves c.args.fd w.behind) change told.0 (λ x. tt) (λ snapshots room. (told.2, refl)))
 
 pub returns-in-None : goal.returns-in-None
 returns-in-None g c =

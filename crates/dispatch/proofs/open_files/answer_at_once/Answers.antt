@@ -1,4 +1,5 @@
 use Rattle.std.proofs.Common.{inl, refl}
+use Rattle.layout.specs.StateLimits.{limits_of}
 use Rattle.descriptors.specs.Tables.{table_of}
 use Rattle.dispatch.proofs.LookedLaws.{its_table}
 use Rattle.dispatch.proofs.OpenFileLaws.{table_leads, table_sure}
@@ -16,4 +17,4 @@ returns g c =
     (λ s shown.
     let v = shown.running in
     table_leads {G = g.S.Station} f _ shown call c.answer_from_table.result (stands_same {G = g.S.Station} f shown refl) (table_of c.answer_from_table.new.files) refl
-    (told.fits v shown.fits) (told.mounted v (its_table {G = g.S.Station} f shown)) (told.answers f.root.geometry.inodes v shown.fits))
+    (told.fits v shown.fits) (told.mounted v (its_table {G = g.S.Station} f shown)) (told.answers (limits_of f.root.geometry) v shown.fits))

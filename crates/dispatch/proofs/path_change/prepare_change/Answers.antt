@@ -1,5 +1,6 @@
 use Rattle.std.proofs.Common.{ℕ, ℤ, List, subst, rules, w64}
 use Rattle.std.proofs.lemmas.Int.{to_z-of_z}
+use Rattle.layout.specs.StateLimits.{limits_of}
 use Rattle.model.specs.declared.command.PathCall.TheVariants as path_calls
 use Rattle.model.specs.Changing.{truncates}
 use Rattle.model.specs.Volumes.{tree_of}
@@ -36,15 +37,15 @@ returns-in-RenameNew g c =
 pub returns-in-Truncate : goal.returns-in-Truncate
 returns-in-Truncate g c =
     let path = c.as_bytes-in-Truncate.result.now in
-    let n = c.args.inodes.now.geometry.inodes in
+    let limits = limits_of c.args.inodes.now.geometry in
     leaves c.truncate.ensures (λ disk settled v table stands volume mounted y told.
-    asked_or_stays n c.args.call.now (path_calls.Truncate path c.in-Truncate.size) v table y
+    asked_or_stays limits c.args.call.now (path_calls.Truncate path c.in-Truncate.size) v table y
     (one_text c.args.call.now (λ (p : List ℕ). path_calls.Truncate p c.in-Truncate.size) c.in-Truncate.path path c.in-Truncate.is c.as_bytes-in-Truncate.ensures)
-    (subst (λ (z : ℤ). ComesOrStays (truncates (tree_of v table) path z) n v table y) (to_z-of_z w64 c.in-Truncate.size (search rules)) told))
+    (subst (λ (z : ℤ). ComesOrStays (truncates limits (tree_of v table) path z) limits v table y) (to_z-of_z w64 c.in-Truncate.size (search rules)) told))
 
 pub returns-in-Set : goal.returns-in-Set
 returns-in-Set g c =
     let path = c.as_bytes-in-Set.result.now in
     leaves c.set.ensures (λ disk settled v table stands volume mounted y told.
-    asked_or_stays c.args.inodes.now.geometry.inodes c.args.call.now (path_calls.Set path c.in-Set.settings) v table y
+    asked_or_stays (limits_of c.args.inodes.now.geometry) c.args.call.now (path_calls.Set path c.in-Set.settings) v table y
     (one_text c.args.call.now (λ (p : List ℕ). path_calls.Set p c.in-Set.settings) c.in-Set.path path c.in-Set.is c.as_bytes-in-Set.ensures) told)

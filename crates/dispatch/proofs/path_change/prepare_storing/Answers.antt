@@ -1,5 +1,6 @@
 use Rattle.std.proofs.Common.{w64, length, Ok, Err, Some, None, refl}
 use Rattle.std.proofs.lemmas.Int.{to_z-of_z}
+use Rattle.layout.specs.StateLimits.{limits_of}
 use Rattle.model.specs.Room.{nothing}
 use Rattle.model.specs.declared.command.Command.TheVariants as command
 use Rattle.model.specs.declared.command.PathCall.TheVariants as path_calls
@@ -15,23 +16,23 @@ use Rattle.dispatch.proofs.path_change.prepare_storing.Goals as goal
 
 pub returns-in_err-found : goal.returns-in_err-found
 returns-in_err-found g c = λ files.
-    let n = c.args.inodes.now.geometry.inodes in
+    let limits = limits_of c.args.inodes.now.geometry in
     passes _ c.from_residual.result c.from_residual.ensures.1 (stores_beside c.in_err-found.ensures files) (λ disk settled v stands volume mounted fits e told.
-    path_leads (path_calls.Store c.args.path.now c.args.offset c.args.bytes.now) n v (table_of files) (Refused e) v nothing
-    (stores_at n v (table_of files) c.args.path.now c.args.bytes.now (Err e) (to_z-of_z w64 c.args.offset c.ranges.offset) told))
+    path_leads (path_calls.Store c.args.path.now c.args.offset c.args.bytes.now) limits v (table_of files) (Refused e) v nothing
+    (stores_at limits v (table_of files) c.args.path.now c.args.bytes.now (Err e) (to_z-of_z w64 c.args.offset c.ranges.offset) told))
 
 pub returns-in-Some : goal.returns-in-Some
 returns-in-Some g c = λ files.
     let call = command.Path (path_calls.Store c.args.path.now c.args.offset c.args.bytes.now) in
-    let n = c.args.inodes.now.geometry.inodes in
+    let limits = limits_of c.args.inodes.now.geometry in
     let w : Storing = c.in-Some.storing in
     let change : PreparedChange = record { «record» = records.Writes w.number w.offset c.args.bytes; prepared = w.prepared } in
     does call (stores_beside (rw c.in-Some.is at c.in_ok-found.ensures) files) (λ within. record { kind = tt; accepted = λ errno is. cc; moves = tt; numbered = tt; limits = (within.0, within.1) }) (λ P is. is) (λ v told.
-    let here = stores_at n v (table_of files) c.args.path.now c.args.bytes.now (Ok (Some w)) (to_z-of_z w64 c.args.offset c.ranges.offset) told in
-    goes_beside n v (table_of files) call (Wrote (length c.args.bytes.now)) Stays change here.0 (λ x. tt) (λ snapshots room. (here.1, refl)))
+    let here = stores_at limits v (table_of files) c.args.path.now c.args.bytes.now (Ok (Some w)) (to_z-of_z w64 c.args.offset c.ranges.offset) told in
+    goes_beside limits v (table_of files) call (Wrote (length c.args.bytes.now)) Stays change here.0 (λ x. tt) (λ snapshots room. (here.1, refl)))
 
 pub returns-in-None : goal.returns-in-None
 returns-in-None g c = λ files.
     does (command.Path (path_calls.Store c.args.path.now c.args.offset c.args.bytes.now)) (stores_beside (rw c.in-None.is at c.in_ok-found.ensures) files)
     (λ within. record { kind = tt; accepted = λ errno is. cc; moves = tt; numbered = tt; limits = tt }) (λ P is. tt)
-    (λ v told. (tt, λ snapshots room. (stores_at c.args.inodes.now.geometry.inodes v (table_of files) c.args.path.now c.args.bytes.now (Ok None) (to_z-of_z w64 c.args.offset c.ranges.offset) told, refl)))
+    (λ v told. (tt, λ snapshots room. (stores_at (limits_of c.args.inodes.now.geometry) v (table_of files) c.args.path.now c.args.bytes.now (Ok None) (to_z-of_z w64 c.args.offset c.ranges.offset) told, refl)))

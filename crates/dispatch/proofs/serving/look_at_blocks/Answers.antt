@@ -27,7 +27,7 @@ returns g c =
     (λ s shown. IfOk-weaker (read_outcome c.tell_extent.result) _ _
     (λ r answers room stored.
     subst (λ (p : List ℕ). WouldStep room s (command.Extent p c.args.offset) (answered_reply r) s nothing) c.as_bytes.ensures
-    (extent_told shown room c.as_bytes.result.now c.args.offset (answered_reply r)
+    (extent_told shown room c.as_bytes.result.now c.args.offset (answered_reply r) f.sizes
     (answers (disk_under {G = g.S.Station} f) room.stored shown.shows
     (subst (λ (disk : ℕ → List ℕ). TellsStored (blocks_of disk) inodes room.stored) (sym (same_disk {G = g.S.Station} looks.reads shown.honest)) stored))))
     (on_trees {G = g.S.Station} f shown seen.answers))

@@ -8,7 +8,7 @@ use Rattle.dispatch.specs.Answering.{answered_reply}
 use Rattle.dispatch.proofs.LookedLaws.{disk_under}
 use Rattle.dispatch.proofs.ServingLaws.{looked_up}
 use Rattle.dispatch.proofs.ShowingLaws.{stands_same, still_shown}
-use Rattle.dispatch.proofs.ViewLaws.{snapshots_shown}
+use Rattle.dispatch.proofs.ViewLaws.{limits_shown, snapshots_shown}
 use Rattle.dispatch.proofs.snapshot_reading.look_within.Goals as goal
 
 pub returns : goal.returns
@@ -21,5 +21,5 @@ returns g c =
     seen.reads seen.own seen.kind seen.no_fault
     (λ s shown. still_shown {G = g.S.Station} f _ shown (stands_same {G = g.S.Station} f shown refl) refl (λ v fits. fits))
     (λ s shown. IfOk-weaker (read_outcome c.read_within-outcome.result) _ _ (λ r views_so room stored. subst (λ (name : List ℕ). views s name call (answered_reply r) s nothing) c.as_bytes.ensures views_so)
-    (seen.views d shown.shows shown.first shown.snapshots shown.under.holds shown.view s (snapshots_shown shown)))
+    (seen.views d shown.shows shown.first shown.snapshots shown.under.holds shown.view s (limits_shown shown) (snapshots_shown shown)))
     (λ s shown. seen.damaged d shown.shows shown.first shown.snapshots shown.under.holds shown.view)

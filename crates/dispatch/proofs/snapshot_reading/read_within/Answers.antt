@@ -1,6 +1,10 @@
-use Rattle.std.proofs.Common.{rules, ◌∙◌, Option, ap, subst}
+use Rattle.std.proofs.Common.{rules, ◌∙◌, Option, ap, subst, sym}
 use Rattle.std.proofs.lemmas.Result.{IfOk-weaker}
+use Rattle.model.specs.declared.limits.Limits.{Limits}
+use Rattle.layout.specs.StateLimits.{limits_of}
 use Rattle.model.specs.Records.{without_orphans}
+use Rattle.model.specs.Room.{nothing}
+use Rattle.model.specs.Steps.{calls}
 use Rattle.model.specs.Volumes.{tree_of}
 use Rattle.records.specs.Failures.{read_outcome}
 use Rattle.snapshots.specs.Found.{named}
@@ -14,23 +18,24 @@ use Rattle.dispatch.proofs.snapshot_reading.read_within.Goals as goal
 pub returns-in-Some-clause-shows : goal.returns-in-Some-clause-shows
 returns-in-Some-clause-shows g c = λ disk shows v pairs holds shown.
     let kept = c.keep_view.ensures in
-    let is = subst (λ (o : Option View). ShowsSnapshot disk c.args.root.now.geometry.blocks pairs o) c.in-Some.is (kept.shows disk shows v pairs holds shown) in
+    let is = subst (λ (o : Option View). ShowsSnapshot disk c.args.root.now.geometry pairs o) c.in-Some.is (kept.shows disk shows v pairs holds shown) in
     view_looked (kept.reads.same disk shows) (kept.reads.count ∙ c.requires.size) is c.read.new.blocks c.read.new.inodes (read_outcome c.read.result) c.read.ensures.tells.looks
 
 pub returns-in-Some-clause-views : goal.returns-in-Some-clause-views
-returns-in-Some-clause-views g c = λ disk shows v pairs holds shown s same.
+returns-in-Some-clause-views g c = λ disk shows v pairs holds shown s limits same.
     let kept = c.keep_view.ensures in
     let name = c.args.name.now in
     let call = c.args.call.now in
-    let is = kept_view disk c.args.root.now.geometry.blocks pairs name c.keep_view.new.kept c.in_ok-is_there.is_there c.in-Some.view c.in-Some.is c.if-not-is_there.false
+    let is = kept_view disk c.args.root.now.geometry pairs name c.keep_view.new.kept c.in_ok-is_there.is_there c.in-Some.view c.in-Some.is c.if-not-is_there.false
     (c.in_ok-is_there.ensures.keeps disk shows v pairs holds shown) in
     IfOk-weaker (read_outcome c.read.result) _ _
     (λ x answers. reading_viewed s name call (name, tree_of (without_orphans is.volume) closed) (answered_reply x) (ap (named name) same ∙ is.listed) (search rules)
-    (frozen_told c.mounts_forget_open_files.ensures c.reading_forgets_open_files.ensures c.in-Some.view.inodes.geometry.inodes s.inodes is.volume call (answered_reply x) is.is (search rules) (answers s.inodes)))
+    (subst (λ (l : Limits). calls l (tree_of (without_orphans is.volume) closed) call (answered_reply x) (tree_of (without_orphans is.volume) closed) nothing) (ap limits_of is.geometry ∙ sym limits)
+    (frozen_told c.mounts_forget_open_files.ensures c.reading_forgets_open_files.ensures (limits_of c.in-Some.view.inodes.geometry) is.volume call (answered_reply x) is.is (search rules) answers)))
     (c.read.ensures.tells.answers disk is.settled is.volume closed (view_stands (kept.reads.same disk shows) (kept.reads.count ∙ c.requires.size) is) is.is)
 
 pub returns-in-Some-clause-damaged : goal.returns-in-Some-clause-damaged
 returns-in-Some-clause-damaged g c = λ disk shows v pairs holds shown bad.
     let kept = c.keep_view.ensures in
-    let is = subst (λ (o : Option View). ShowsSnapshot disk c.args.root.now.geometry.blocks pairs o) c.in-Some.is (kept.shows disk shows v pairs holds shown) in
+    let is = subst (λ (o : Option View). ShowsSnapshot disk c.args.root.now.geometry pairs o) c.in-Some.is (kept.shows disk shows v pairs holds shown) in
     c.read.ensures.tells.damaged disk is.settled is.volume (view_stands (kept.reads.same disk shows) (kept.reads.count ∙ c.requires.size) is) bad

@@ -1,4 +1,5 @@
 use Rattle.std.proofs.Common.{◌≡◌, ◌∙◌, ℕ, Option, ap, refl, subst, sym}
+use Rattle.layout.specs.StateLimits.{limits_of}
 use Rattle.layout.specs.Record.{change_of}
 use Rattle.model.specs.Records.{applied, work_of}
 use Rattle.model.specs.Room.{logs}
@@ -49,7 +50,7 @@ returns-in-Ok g c = record {
       let p = c.args.prepared in
       let change = change_of c.record.result in
       let table = s.tree.descriptors in
-      let n = f.root.geometry.inodes in
+      let limits = limits_of f.root.geometry in
       let shown = ahead_shows ahead in
       let v = shown.running in
       let after = swept table (applied change v) in
@@ -65,11 +66,11 @@ returns-in-Ok g c = record {
       let fits : FitsVolume mid.files after = subst (λ (w : Volume). FitsVolume mid.files w) behind.1 behind.0.shown.fits in
       let mounted : IsMounted after (table_of mid.files) = subst (λ (t : ℕ → Option Description). IsMounted after t) behind.0.shown.opened made.mounted in
       record {
-        next = state_with n after now_table shown.snapshots;
+        next = state_with limits after now_table shown.snapshots;
         need = logs (work_of v change);
         step = λ room stored. made.step room;
         room = told.room;
-        ahead = moved_behind n shown.snapshots behind.0 behind.1 c.put_into.new.files now_table opened (put.fits after fits made.fits)
+        ahead = moved_behind limits shown.snapshots behind.0 behind.1 c.put_into.new.files now_table opened (put.fits after fits made.fits)
             (subst (λ (t : ℕ → Option Description). IsMounted after t) (sym opened) (put.mounted after fits mounted made.fits));
       };
   own = (λ is. cc, λ is. cc);

@@ -15,7 +15,7 @@ returns-in_default c =
     let none = sym c.get.ensures.file ∙ c.in_default.is in
     record {
       geometry = refl;
-      answers = λ n v volume mounted. close_refused table v mounted c.args.fd none;
+      answers = λ limits v volume mounted. close_refused table v mounted c.args.fd none;
       volume = λ count disk settled v stands mounted fits. subst (λ (w : Volume). IsVolumeOf count disk settled c.args.inodes.now w) (none_swept table v mounted) stands;
       room = λ base count disk settled v stands mounted fits. subst (λ (w : Volume). memory_room base c.args.inodes.now w ≤ memory_room base c.args.inodes.now v) (none_swept table v mounted) (omega arith);
       mounted = λ v mounted. subst (λ (w : Volume). IsMounted w (table_of table)) (none_swept table v mounted) mounted;
@@ -31,7 +31,7 @@ returns c =
     let some : open_at c.args.table.now c.args.fd ≡ Some c.in-Some.file = sym c.get.ensures.file ∙ c.in-Some.is in
     record {
       geometry = c.drop_unused.ensures.geometry;
-      answers = λ n v volume mounted. close_done c.args.table.now c.close.new.self c.args.fd c.close.ensures.table v n c.in-Some.file volume some;
+      answers = λ limits v volume mounted. close_done c.args.table.now c.close.new.self c.args.fd c.close.ensures.table v limits c.in-Some.file volume some;
       volume = λ count disk settled v stands mounted fits.
           subst (λ (w : Volume). IsVolumeOf count disk settled c.drop_unused.new.inodes w) (one_swept c.args.table.now c.close.new.self c.args.fd c.close.ensures.table v c.in-Some.file some mounted)
           (c.drop_unused.ensures.volume count disk settled v stands (fits.files c.args.fd c.in-Some.file some));

@@ -1,4 +1,5 @@
 use Rattle.std.proofs.Common.{◌≡◌, ℕ, ◌*◌, length, ap, sym, subst, ◌∙◌}
+use Rattle.layout.specs.StateLimits.{limits_of}
 use Rattle.model.specs.States.{empty}
 use Rattle.layout.specs.Limits.{Sizes, sizes}
 use Rattle.layout.specs.Version.{layout_of}
@@ -31,5 +32,5 @@ returns-in-Ok-write_image-clause-opens g c honest images left =
     let sized = g.met.S.Station.sized new honest images left in
     let size : length images.nvram ≡ 2 * s.half =
     sized.nvram ∙ same.nvram_bytes ∙ sym c.nv_bytes.ensures ∙ c.if-nv_bytes-nvram_bytes.false ∙ c.nvram_bytes.ensures.value in
-    subst (λ (t : Sizes). OpensAlone m (empty t.inodes) images) (sizes_are c.layout_of.result s c.args.blocks c.args.inodes c.args.half c.in-Some.ensures.value c.layout_of.ensures)
+    subst (λ (t : Sizes). OpensAlone m (empty (limits_of t)) images) (sizes_are c.layout_of.result s c.args.blocks c.args.inodes c.args.half c.in-Some.ensures.value c.layout_of.ensures)
     (opens s c.in-Ok.point.plan c.in-Ok.point.root c.in-Ok.ensures.point images written m.sectors sectors size c.first_images_open_to_the_empty_state.ensures)

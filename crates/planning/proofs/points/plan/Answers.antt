@@ -8,7 +8,7 @@ use Rattle.layout.specs.Trees.{level_of}
 use Rattle.layout.specs.declared.inode.Inode.{Inode}
 use Rattle.layout.specs.declared.root.Root.{Root}
 use Rattle.model.specs.Records.{count_orphans}
-use Rattle.model.specs.Room.{fixed_of}
+use Rattle.layout.specs.StateLimits.{fixed_of, limits_of}
 use Rattle.model.specs.Volumes.{KeepsNodeLimits, Volume}
 use Rattle.blockmap.specs.Maps.{entry_at, settled_at}
 use Rattle.blockmap.specs.Space.{left}
@@ -66,8 +66,8 @@ module _ (bases : TreesAreBases) (change : SnapshotChange) (d : ℕ → List ℕ
       let least = root.head.sizes.least_inodes in
       point_needs r inodes base v m.count
       (all_plain r.geometry.blocks (blocks_of d) (inodes_of (starting_tree change (whole (blocks_of d) r))) inodes v (ap (λ (s : Sizes). s.layout) sizes ∙ root_plain r root) plannable.memory)
-      (root.inode_file.layout ∙ ap (λ (s : Sizes). s.layout) (sym sizes)) (subst (λ (s : Sizes). KeepsNodeLimits s.inodes base) (sym sizes) plannable.base_volume.limits)
-      (subst (λ (s : Sizes). KeepsNodeLimits s.inodes v) (sym sizes) plannable.volume.limits) (subst (λ (s : Sizes). 3 < s.inodes) (sym sizes) (omega (arith, least))) (top_small inodes.geometry.layout r root)
+      (root.inode_file.layout ∙ ap (λ (s : Sizes). s.layout) (sym sizes)) (subst (λ (s : Sizes). KeepsNodeLimits (limits_of s) base) (sym sizes) plannable.base_volume.keeps)
+      (subst (λ (s : Sizes). KeepsNodeLimits (limits_of s) v) (sym sizes) plannable.volume.keeps) (subst (λ (s : Sizes). 3 < s.inodes) (sym sizes) (omega (arith, least))) (top_small inodes.geometry.layout r root)
 
 module _ (g : Over) (c : In-Ok g) (d : ℕ → List ℕ) (base v : Volume) (shows : g.B.Blocks.Shows c.args.blocks.now (blocks_of d))
     (plannable : IsPlannable c.args.change.now c.args.root.now d c.args.slot c.args.generation c.args.map c.args.inodes.now base v) where

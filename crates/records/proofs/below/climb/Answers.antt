@@ -1,5 +1,6 @@
 use Rattle.std.proofs.Common.{◌≡◌, ◌∙◌, ℕ, IfSome, refl, sym, subst}
 use Rattle.std.proofs.lemmas.Bool.{false≢true}
+use Rattle.layout.specs.StateLimits.{limits_of}
 use Rattle.layout.specs.Limits.{Sizes}
 use Rattle.model.specs.Records.{IsBelow}
 use Rattle.model.specs.Volumes.{entries}
@@ -35,7 +36,7 @@ returns-then-get-eq-ROOT_NUMBER g c = tells c.loop-step.invariant.climbed (λ de
   λ below.
       let top = c.args.top in
       let root : c.loop-step.here ≡ 3 = sym c.get.ensures ∙ c.if-get-eq-ROOT_NUMBER.true in
-      let graph = graph_of detail c.args.inodes.now.geometry.inodes v known in
+      let graph = graph_of detail (limits_of c.args.inodes.now.geometry) v known in
       absurd (c.is_same.ensures.no c.if-is_same.false (below_root v graph top (subst (λ (j : ℕ). IsBelow (entries v) top j) root ((same.1 known).1 below)) ∙ sym root)),
 ))
 
@@ -54,7 +55,7 @@ loop-step-preserved g c =
           let child = subst (λ o. IfSome o (λ (j : ℕ). IsChild (entries v) j here)) c.in-Some.is both.1 in (
             enters_directory (v p) child.0 here child.1,
             λ known.
-                let step = below_parent v (graph_of detail c.args.inodes.now.geometry.inodes v known) c.args.top p here both.0.0 child (c.is_same.ensures.no c.if-is_same.false) in
+                let step = below_parent v (graph_of detail (limits_of c.args.inodes.now.geometry) v known) c.args.top p here both.0.0 child (c.is_same.ensures.no c.if-is_same.false) in
                 let before = both.0.1 known in
                 (λ below. before.0 (step.0 below), λ below. step.1 (before.1 below)),
           ));

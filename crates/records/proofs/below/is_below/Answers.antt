@@ -1,5 +1,6 @@
 use Rattle.std.proofs.Common.{◌↔◌, Bool, Option, IfSome, IsTrue, refl, sym, subst, ◌∙◌}
 use Rattle.std.proofs.lemmas.Bool.{false≢true}
+use Rattle.layout.specs.StateLimits.{limits_of}
 use Rattle.layout.specs.Limits.{Sizes}
 use Rattle.model.specs.Records.{IsBelow}
 use Rattle.model.specs.Volumes.{entries}
@@ -54,7 +55,7 @@ returns-in-Some-clause-looks g c = looks_ok (looks_more c.in_ok-is_directory.ens
 pub returns-in-Some-clause-below : goal.returns-in-Some-clause-below
 returns-in-Some-clause-below g c = λ detail disk settled v stands known.
     subst (λ (o : Option Bool). IfSome o (λ below. IsTrue below ↔ IsBelow (entries v) c.args.top c.args.number)) c.in-Some.is
-    ((behind c.in_ok-is_directory.ensures c.in_ok-climbed.ensures).found {detail = detail} disk settled v stands (subst (λ (s : Sizes). IsKnownVolume detail s.inodes v) (sym c.in_ok-is_directory.ensures.looks.geometry) known))
+    ((behind c.in_ok-is_directory.ensures c.in_ok-climbed.ensures).found {detail = detail} disk settled v stands (subst (λ (s : Sizes). IsKnownVolume detail (limits_of s) v) (sym c.in_ok-is_directory.ensures.looks.geometry) known))
 
 pub returns-in-None-clause-looks : goal.returns-in-None-clause-looks
 returns-in-None-clause-looks g c = looks_more (looks_more c.in_ok-is_directory.ensures.looks c.in_ok-climbed.ensures.looks) c.look_below.ensures.looks

@@ -1,4 +1,5 @@
 use Rattle.std.proofs.Common.{◌≤◌, ◌||◌, ℕ, None, Option, refl, ap, sym, subst, ◌∙◌, arith}
+use Rattle.layout.specs.StateLimits.{limits_of}
 use Rattle.model.specs.Records.{change_mode, with_node_mode}
 use Rattle.model.specs.Volumes.{Node, is_directory_node, is_file_node, with_node}
 use Rattle.records.proofs.DetailLaws.{known_of}
@@ -11,7 +12,7 @@ use Rattle.records.proofs.chmod.prepare_mode.Goals as goal
 
 pub returns-then-not-is_number : goal.returns-then-not-is_number
 returns-then-not-is_number g c = obstructs no_look refl (λ detail disk settled v stands volume.
-    ap (λ (o : Option Node). is_file_node o || is_directory_node o) (c.is_number.ensures.no c.if-not-is_number.true detail v (known_of detail c.args.inodes.now.geometry.inodes (change_mode c.args.number c.args.mode) v volume)))
+    ap (λ (o : Option Node). is_file_node o || is_directory_node o) (c.is_number.ensures.no c.if-not-is_number.true detail v (known_of detail (limits_of c.args.inodes.now.geometry) (change_mode c.args.number c.args.mode) v volume)))
 
 pub returns-in_err-load_to_change : goal.returns-in_err-load_to_change
 returns-in_err-load_to_change g c = unread c.from_residual.result c.from_residual.ensures.1 (brought c.in_err-load_to_change.ensures)

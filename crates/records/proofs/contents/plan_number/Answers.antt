@@ -1,14 +1,22 @@
-use Rattle.std.proofs.Common.{rules, Option, IfOk, IfSome, sym, subst, ◌∙◌}
+use Rattle.std.proofs.Common.{rules, ◌≡◌, ◌≤◌, Option, IfOk, IfSome, ap, sym, subst, ◌∙◌}
+use Rattle.layout.specs.StateLimits.{limits_of}
+use Rattle.layout.specs.Limits.{Sizes}
+use Rattle.layout.specs.Trees.{greatest_size}
+use Rattle.layout.specs.declared.trees.Layout.{Layout}
 use Rattle.inode.specs.declared.object.Object.{Object}
 use Rattle.inofile.specs.Objects.{IsObjectOrNone}
+use Rattle.inode.proofs.BaseLaws.{based_layout}
 use Rattle.inofile.proofs.RoomLaws.{back_needs}
 use Rattle.paths.proofs.Looks.{looks_err, looks_more}
-use Rattle.records.specs.Contents.{RewriteRoom, RewritesIn, bytes_after}
+use Rattle.records.specs.Contents.{RewriteRoom, RewritesIn, bytes_after, end_of}
 use Rattle.records.proofs.BlockLaws.{parts_read, reads_sound}
-use Rattle.records.proofs.ContentLaws.{told_both}
+use Rattle.records.proofs.ContentLaws.{end_within, record_bounds, told_both}
 use Rattle.paths.proofs.Objects.{object_or_none}
-use Rattle.records.proofs.StandLaws.{stands_over}
+use Rattle.records.proofs.StandLaws.{settled_layout, stands_over}
 use Rattle.records.proofs.contents.plan_number.Goals as goal
+
+pub plan_object-planned-requires : goal.plan_object-planned-requires
+plan_object-planned-requires g c = record_bounds (limits_of c.args.inodes.now.geometry) c.args.rewrite.now c.requires.bounds
 
 pub returns-in_err-load_to_change-clause-looks : goal.returns-in_err-load_to_change-clause-looks
 returns-in_err-load_to_change-clause-looks g c = looks_err c.from_residual.result c.from_residual.ensures.1 c.in_err-load_to_change.ensures.looks
@@ -63,8 +71,15 @@ returns-clause-damaged g c = rw (sym c.get-n.ensures) (λ detail disk settled v 
     let o = object_or_none detail disk s.geometry.inodes (settled n) c.take-object.result (v n) (take.stands _ count disk settled v now.volume) (take.stands_for_none _ count disk settled v now.volume) in
     c.plan_object-planned.ensures.damaged disk now.shows is (λ object some.
     let there = subst (λ (x : Option Object). IsObjectOrNone detail disk s.geometry.inodes (settled n) x (v n)) some o in
-    reads_sound disk s.geometry.inodes (settled n) v n object detail c.args.rewrite.now count there
-    (λ i can. c.objects_stand_in_their_grammar.ensures detail count disk settled s v n i object (v n) now.volume there can) reads))
+    let layout : object.file.tree.layout ≡ c.args.inodes.now.geometry.layout =
+    based_layout (settled n) object.file.tree there.base
+    ∙ settled_layout c.load_to_change.new.blocks s n now
+    ∙ ap (λ (z : Sizes). z.layout) c.in_ok-load_to_change.ensures.looks.geometry in
+    λ kind. (
+      reads_sound disk s.geometry.inodes (settled n) v n object detail c.args.rewrite.now count there
+          (λ i can. c.objects_stand_in_their_grammar.ensures detail count disk settled s v n i object (v n) now.volume there can) reads kind,
+      subst (λ (l : Layout). end_of c.args.rewrite.now ≤ greatest_size l) (sym layout) (end_within (limits_of c.args.inodes.now.geometry) c.args.rewrite.now c.requires.bounds),
+    )))
 
 pub returns-clause-stores : goal.returns-clause-stores
 returns-clause-stores g c =

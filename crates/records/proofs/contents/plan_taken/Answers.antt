@@ -4,6 +4,7 @@ use Rattle.inofile.specs.Settled.{content_of_object}
 use Rattle.records.specs.Contents.{rewrite_room}
 use Rattle.images.specs.Soundness.{by_bytes, by_sizes}
 use Rattle.records.proofs.KindLaws.{not_file}
+use Rattle.paths.proofs.LookingUp.{same_error}
 use Rattle.paths.proofs.Objects.{same_object}
 use Rattle.inode.specs.Files.{file_block}
 use Rattle.dirs.proofs.KnownLaws.{same_knows}
@@ -29,6 +30,11 @@ returns-in_default-clause-whole g c = λ disk shows kind. absurd (c.in_default.n
 
 pub returns-clause-whole : goal.returns-clause-whole
 returns-clause-whole g c = λ disk shows kind. c.in_ok-change.ensures.whole disk shows
+
+pub returns-in_err-change-clause-damaged : goal.returns-in_err-change-clause-damaged
+returns-in_err-change-clause-damaged g c = λ disk shows is sound.
+    let parts = sound c.in-File.is in
+    c.in_err-change.ensures.damaged disk shows (same_error c.from_residual.result _ _ c.from_residual.ensures.1 is) parts.0 parts.1
 
 pub returns-clause-knows : goal.returns-clause-knows
 returns-clause-knows g c = λ inodes disk. same_knows inodes (file_block disk c.args.object.now.file) (file_block disk c.plan.new.file) c.args.object.now.known (c.plan.ensures.same.blocks disk)

@@ -3,7 +3,6 @@ use Rattle.layout.specs.FileBytes.{EndsAt}
 use Rattle.model.specs.Edits.{resized}
 use Rattle.inode.specs.Files.{byte_at, byte_with, bytes_of_file}
 use Rattle.inode.proofs.ComposingLaws.{truncated_ends}
-use Rattle.inode.proofs.FanLemmas.{greatest_least}
 use Rattle.model.proofs.EditLaws.{length-resized}
 use Rattle.records.proofs.BlockLaws.{truncated_tells}
 use Rattle.records.proofs.ContentLaws.{resized_is, resizes_same, rewrites_same}
@@ -31,5 +30,14 @@ returns-in-Ok g c =
       damaged = search rules;
     }
 
-pub unreachable-requires : goal.unreachable-requires
-unreachable-requires g c = omega (arith, c.in-Err-TooBig.ensures.too_big (search rules), c.requires, greatest_least c.args.file.now.tree.layout)
+pub returns-in-Err-TooBig : goal.returns-in-Err-TooBig
+returns-in-Err-TooBig g c = record {
+  reads = search rules;
+  same = search rules;
+  fits = tt;
+  stores = tt;
+  rewrites = λ disk shows whole. tt;
+  sizes = λ disk shows. tt;
+  whole = λ disk shows. tt;
+  damaged = λ disk shows is sound within. omega (arith, c.in-Err-TooBig.ensures.too_big (search rules), within);
+}

@@ -2,7 +2,6 @@ use Rattle.std.proofs.Common.{rules, ◌∙◌, arith}
 use Rattle.model.specs.Edits.{written}
 use Rattle.inode.specs.Files.{byte_at, byte_with, bytes_of_file}
 use Rattle.inode.proofs.ComposingLaws.{written_ends}
-use Rattle.inode.proofs.FanLemmas.{greatest_least}
 use Rattle.model.proofs.EditLaws.{length-written}
 use Rattle.records.proofs.BlockLaws.{write_tells}
 use Rattle.records.proofs.ContentLaws.{resizes_same, rewrites_same, written_is}
@@ -30,5 +29,14 @@ returns-in-Ok g c =
       damaged = search rules;
     }
 
-pub unreachable-requires : goal.unreachable-requires
-unreachable-requires g c = omega (arith, c.in-Err-TooBig.ensures.too_big (search rules), c.requires.within, greatest_least c.args.file.now.tree.layout)
+pub returns-in-Err-TooBig : goal.returns-in-Err-TooBig
+returns-in-Err-TooBig g c = record {
+  reads = search rules;
+  same = search rules;
+  fits = tt;
+  stores = tt;
+  rewrites = λ disk shows whole. tt;
+  sizes = λ disk shows. tt;
+  whole = λ disk shows. tt;
+  damaged = λ disk shows is sound within. omega (arith, c.in-Err-TooBig.ensures.too_big (search rules), within);
+}

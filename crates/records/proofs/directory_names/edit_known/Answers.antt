@@ -1,4 +1,6 @@
 use Rattle.std.proofs.Common.{◌≡◌, ℕ, Option, IfOk, ap, sym, subst, ◌∙◌}
+use Rattle.model.specs.declared.limits.Limits.{Limits}
+use Rattle.layout.specs.StateLimits.{limits_of}
 use Rattle.layout.specs.Limits.{Sizes}
 use Rattle.inode.specs.declared.object.Object.{Object}
 use Rattle.inofile.specs.Objects.{IsObjectOrNone, StaysKnown}
@@ -17,7 +19,7 @@ returns-clause-edit g c =
     let edit = c.edit_object-edit.ensures in
     let n = c.get-n.result in
     let before = c.args.inodes.now.geometry.inodes in
-    let same : c.inodes-count.result ≡ before = c.inodes-count.ensures.value ∙ ap (λ (s : Sizes). s.inodes) c.geometry.ensures in
+    let same : c.limits-limits.result.inodes ≡ before = ap (λ (l : Limits). l.inodes) c.limits-limits.ensures in
     rw (sym c.get-n.ensures) (record {
       looks = record {
         reads = edit.reads;
@@ -33,9 +35,9 @@ returns-clause-edit g c =
       found = λ {detail} disk settled v stands.
           let o = object_or_none detail disk before (settled n) c.take-object.result (v n) (take.stands _ count disk settled v stands.volume) (take.stands_for_none _ count disk settled v stands.volume) in
           let at = subst (λ (k : ℕ). IsObjectOrNone detail disk k (settled n) c.take-object.result (v n)) (sym same) o in
-          let after : c.put_back.new.self.geometry.inodes ≡ before = ap (λ (s : Sizes). s.inodes) (c.put_back.ensures.geometry ∙ take.geometry) in
-          subst (λ (x : Option Object). IfOk c.edit_object-edit.result (PreparesEdit disk c.put_back.new.self.geometry.inodes c.args.wanted.now (v n) x)) (sym c.put_back.ensures.loaded)
-          (subst (λ (k : ℕ). IfOk c.edit_object-edit.result (PreparesEdit disk k c.args.wanted.now (v n) c.edit_object-edit.new.object)) (same ∙ sym after)
+          let after : limits_of c.put_back.new.self.geometry ≡ limits_of c.args.inodes.now.geometry = ap (λ (s : Sizes). limits_of s) (c.put_back.ensures.geometry ∙ take.geometry) in
+          subst (λ (x : Option Object). IfOk c.edit_object-edit.result (PreparesEdit disk (limits_of c.put_back.new.self.geometry) c.args.wanted.now (v n) x)) (sym c.put_back.ensures.loaded)
+          (subst (λ (l : Limits). IfOk c.edit_object-edit.result (PreparesEdit disk l c.args.wanted.now (v n) c.edit_object-edit.new.object)) (c.limits-limits.ensures ∙ sym after)
           (edit.edits detail disk (settled n) (v n) stands.shows at));
       damaged = λ {detail} disk settled v stands is.
           let o = object_or_none detail disk before (settled n) c.take-object.result (v n) (take.stands _ count disk settled v stands.volume) (take.stands_for_none _ count disk settled v stands.volume) in

@@ -1,4 +1,5 @@
 use Rattle.std.proofs.Common.{◌≡◌, ℕ, Option, None, Some, IfSome, refl, ap, sym, subst, ◌∙◌, arith}
+use Rattle.layout.specs.StateLimits.{limits_of}
 use Rattle.model.specs.Volumes.{Node, entries, names_in, released, with_entry, with_name_less}
 use Rattle.inofile.specs.Inodes.{loaded}
 use Rattle.paths.proofs.Looks.{looks_more}
@@ -20,7 +21,7 @@ use Rattle.model.proofs.VolumeLemmas.{enters_directory}
 
 pub returns-then-not-is_number : goal.returns-then-not-is_number
 returns-then-not-is_number g c = obstructs no_look refl (λ detail disk settled v stands volume.
-    ap (λ (o : Option Node). names_in o c.args.name.now) (c.is_number.ensures.no c.if-not-is_number.true detail v (known_of detail c.args.inodes.now.geometry.inodes (remove_name c.args.parent c.args.name.now) v volume)))
+    ap (λ (o : Option Node). names_in o c.args.name.now) (c.is_number.ensures.no c.if-not-is_number.true detail v (known_of detail (limits_of c.args.inodes.now.geometry) (remove_name c.args.parent c.args.name.now) v volume)))
 
 pub returns-in_err-found : goal.returns-in_err-found
 returns-in_err-found g c = unread c.from_residual.result c.from_residual.ensures.1 c.in_err-found.ensures.number
@@ -54,7 +55,7 @@ returns-in_default-planned g c =
     let s = c.edit_parent.new.inodes in
     let there = sym (c.in_ok-found.ensures.number.found disk settled v stands) ∙ c.in-Some.is in
     let is = directory_is (v d) (enters_directory (v d) c.args.name.now c.in-Some.number there) in
-    absurd (subst (PreparesEdit disk s.geometry.inodes (edits.Remove c.args.name) (v d) (loaded s d)) c.in_default-planned.is
+    absurd (subst (PreparesEdit disk (limits_of s.geometry) (edits.Remove c.args.name) (v d) (loaded s d)) c.in_default-planned.is
     (c.in_ok-planned.ensures.edit.found disk settled v (before.kept disk settled v stands))
     (record { attributes = is.0; names = is.1; is = is.2; takes = tt })))
 
@@ -77,7 +78,7 @@ returns g c =
     let there : entries v d x ≡ Some n = sym (found.number.found disk settled v stands) ∙ c.in-Some.is in
     let goes = subst (Releases detail disk settled v n) c.in-Some-released.is (told.released.found disk settled v now) in
     let gone = goes.0 s.geometry.inodes (loaded s n) in
-    let edit = subst (PreparesEdit disk s.geometry.inodes (edits.Remove c.args.name) (v d) (loaded s d)) c.in-Some-planned.is
+    let edit = subst (PreparesEdit disk (limits_of s.geometry) (edits.Remove c.args.name) (v d) (loaded s d)) c.in-Some-planned.is
     (planned.edit.found disk settled v (told.released.looks.kept disk settled v now)) in
     does_both d n x None c.in-Some-planned.edit update (with_name_less (v n)) 6 (empty_apart v n d x goes.1 there) edit.0 edit.2 gone.0 gone.1
     (ap (λ (o : Option ℕ). with_entry d x None (released o v)) there) (omega arith) tt)

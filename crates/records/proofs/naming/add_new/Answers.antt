@@ -36,7 +36,7 @@ returns-in-Err-DirFull g c = record {
   pieces = tt;
   edited = λ disk names shows had takes.
       let full = c.in-Err-DirFull.ensures.full disk names shows had.1 had.0 (search rules) in
-      full_has_no_place names full.1 full.2 full.3 takes.place;
+      full_has_no_place c.args.limits names full.1 full.2 full.3 takes.place;
   damaged = search rules;
 }
 

@@ -11,4 +11,4 @@ pub returns : goal.returns
 returns g c =
     edit_follows c.in_ok-edit.ensures.reads c.remove_in.ensures.same c.place_in.ensures (omega (arith, c.in_ok-edit.ensures.pieces)) (with_name c.args.old.now None)
     (λ disk names shows had. c.in_ok-edit.ensures.edited disk names shows had.1 had.0)
-    (λ disk names shows had o is. moved_names c.args.inodes disk c.place_in.new.file c.place_in.new.known (record { number = 0; name = c.args.old }) c.args.entry.now names o is)
+    (λ disk names shows had o is. moved_names c.args.limits disk c.place_in.new.file c.place_in.new.known (record { number = 0; name = c.args.old }) c.args.entry.now names o is)

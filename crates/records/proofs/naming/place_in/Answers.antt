@@ -18,7 +18,7 @@ returns-in-Ok-true g c = record {
   edited = λ disk names shows had.
       let room = c.in-Ok-true.ensures.room disk names shows had.1 had.0 (search rules) in
       let gone = none_gone c.args.entry.now.name.now names (c.in-Ok-true.ensures.missing disk names shows had.1 had.0 (search rules)) in (
-        subst HasPlace (sym gone) (record { count = room.0; counts = room.1; room = room.2 }),
+        subst (HasPlace c.args.limits) (sym gone) (record { count = room.0; counts = room.1; room = room.2 }),
         c.in-Ok-true.ensures.added disk names shows had.1 had.0 (search rules),
         c.in-Ok-true.ensures.knows disk shows had.1,
       );
@@ -33,8 +33,8 @@ returns-in-Ok-false g c =
     edit_follows {more = edits.Replace c.args.entry.now} {x = false} (search rules) (search rules) c.replace_in.ensures
     (subst (λ (e : Edit). piece_count edit + 2 ≤ piece_count e + 2) still.0 (omega arith)) (λ names. names)
     (λ disk names shows had. (
-      subst (λ (e : Edit). HasEditedNames c.args.inodes disk mid e names) (sym still.0)
-          (subst (λ (f : File). HasEditedNames c.args.inodes disk f c.args.edit names) (sym still.1) had.0),
+      subst (λ (e : Edit). HasEditedNames c.args.limits.inodes disk mid e names) (sym still.0)
+          (subst (λ (f : File). HasEditedNames c.args.limits.inodes disk f c.args.edit names) (sym still.1) had.0),
       c.in-Ok-false.ensures.knows disk shows had.1,
     ))
     (λ disk names shows had o is. is)
@@ -47,7 +47,7 @@ returns-in-Err-DirFull g c = record {
   pieces = tt;
   edited = λ disk names shows had place.
       let full = c.in-Err-DirFull.ensures.full disk names shows had.1 had.0 (search rules) in
-      full_has_no_place names full.1 full.2 full.3 (subst HasPlace (none_gone c.args.entry.now.name.now names full.0) place);
+      full_has_no_place c.args.limits names full.1 full.2 full.3 (subst (HasPlace c.args.limits) (none_gone c.args.entry.now.name.now names full.0) place);
   damaged = search rules;
 }
 

@@ -11,4 +11,4 @@ pub returns : goal.returns
 returns g c =
     edit_follows c.in_ok-edit.ensures.reads c.remove_in.ensures.same c.add_new.ensures (omega (arith, c.in_ok-edit.ensures.pieces)) (with_name c.args.entry.now.name.now None)
     (λ disk names shows had. c.in_ok-edit.ensures.edited disk names shows had.1 had.0)
-    (λ disk names shows had o is. replaced_names c.args.inodes disk c.add_new.new.file c.add_new.new.known c.args.entry.now names o is)
+    (λ disk names shows had o is. replaced_names c.args.limits disk c.add_new.new.file c.add_new.new.known c.args.entry.now names o is)

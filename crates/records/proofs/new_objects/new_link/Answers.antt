@@ -2,11 +2,12 @@ use Rattle.std.proofs.Common.{rules, ◌≡◌, ◌+◌, ◌*◌, ◌≤◌, ℕ
 use Rattle.std.specs.Prelude.{nat_lt, if◌then◌else◌}
 use Rattle.std.proofs.lemmas.Bool.Decides.{nat_tests}
 use Rattle.layout.specs.FileBytes.{EndsAt, first_bytes}
+use Rattle.layout.specs.declared.TheConstants.{SINGLE_BYTES}
 use Rattle.layout.specs.declared.trees.Layout.{Layout}
 use Rattle.model.specs.Attributes.{new_attributes}
 use Rattle.model.specs.Volumes.{link_node}
 use Rattle.model.specs.Room.{touched}
-use Rattle.model.specs.declared.limits.TheConstants.{LINK_MODE, SINGLE_FILE}
+use Rattle.model.specs.declared.limits.TheConstants.{LINK_MODE}
 use Rattle.model.proofs.AttributeLaws.{new_fit}
 use Rattle.buffers.specs.Positions.{with_bytes_at}
 use Rattle.inode.specs.Edges.{written_list}
@@ -63,7 +64,7 @@ returns-clause-room g c =
     let same = same_room old c.prepare_write.new.self c.prepare_write.ensures.same in
     let length_of = length c.args.text.now in
     let stores = c.in-Ok.ensures.stores (omega (arith, c.requires.short)) c.commit.new.self c.commit.ensures in
-    let low : nat_lt SINGLE_FILE (max old.size (0 + length_of)) ≡ false = grind (arith, nat_tests, c.empty-file.ensures.size, c.requires.short) in
+    let low : nat_lt SINGLE_BYTES (max old.size (0 + length_of)) ≡ false = grind (arith, nat_tests, c.empty-file.ensures.size, c.requires.short) in
     let few = subst (λ (b : Bool). file_room c.commit.new.self ≤ file_room c.prepare_write.new.self + (2 * touched 0 length_of + (if b then 6 else 3))) low stores in
     let one : touched 0 length_of ≤ 1 = omega (arith, c.requires.short) in
     omega (arith, none, same, few, one)

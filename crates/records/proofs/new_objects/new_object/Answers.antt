@@ -1,13 +1,13 @@
 use Rattle.std.proofs.Common.{◌≡◌, Some, ℕ, IfOk, sym, subst, arith}
-use Rattle.layout.specs.Record.{made_of}
+use Rattle.layout.specs.Record.{KeepsMadeLimits, made_of}
 use Rattle.layout.specs.declared.inode.Inode.{Inode}
 use Rattle.layout.specs.declared.record.NewObject.{NewObject}
-use Rattle.model.specs.Records.{IsMade, node_of}
+use Rattle.model.specs.Records.{node_of}
 use Rattle.inofile.specs.Objects.{IsObjectIn}
 use Rattle.records.proofs.new_objects.new_object.Goals as goal
 
 pub new_link-requires : goal.new_link-requires
-new_link-requires g c = subst (λ (o : NewObject). IsMade (made_of o)) c.in-Link.is c.requires
+new_link-requires g c = subst (λ (o : NewObject). KeepsMadeLimits (made_of o)) c.in-Link.is c.requires
 
 pub returns-in-Directory-clause-object : goal.returns-in-Directory-clause-object
 returns-in-Directory-clause-object g c = λ detail disk shows inodes settled same.

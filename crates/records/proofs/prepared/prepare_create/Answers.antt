@@ -1,6 +1,7 @@
 use Rattle.std.proofs.Common.{rules, ◌≡◌, ◌≤◌, ◌<◌, ℕ, List, IsTrue, refl, sym, ap, subst, ◌∙◌}
 use Rattle.std.proofs.lemmas.Bool.{both_ways}
 use Rattle.std.proofs.lemmas.Result.{IfOk-weaker}
+use Rattle.layout.specs.StateLimits.{limits_of}
 use Rattle.layout.specs.Limits.{Sizes}
 use Rattle.layout.specs.Record.{made_of}
 use Rattle.layout.specs.declared.inode.Inode.{Inode}
@@ -19,7 +20,7 @@ use Rattle.records.proofs.StandLaws.{no_look, settled_layout}
 use Rattle.records.proofs.prepared.prepare_create.Goals as goal
 
 pub returns-then-not-is_made : goal.returns-then-not-is_made
-returns-then-not-is_made g c = obstructs no_look refl (λ detail disk settled v stands volume may. both_ways c.is_made.result c.if-not-is_made.true (c.is_made.ensures.1 may.2))
+returns-then-not-is_made g c = obstructs no_look refl (λ detail disk settled v stands volume may. both_ways c.is_made.result c.if-not-is_made.true ((c.is_made.ensures c.args.inodes.now.geometry).1 may.2))
 
 pub returns-in_err-vacant : goal.returns-in_err-vacant
 returns-in_err-vacant g c = stops c.from_residual.result c.from_residual.ensures.1 c.in_err-vacant.ensures.looks (λ detail disk settled v stands reads. c.in_err-vacant.ensures.damaged {detail = detail} disk settled v stands)
@@ -40,7 +41,7 @@ returns g c =
     let before = looks_reads vacant.looks made.reads in
     let low : 4 ≤ c.args.number = search rules in
     let high : c.args.number < c.args.inodes.now.geometry.inodes = search rules in
-    let good : IsMade (made_of c.args.object.now) = c.is_made.ensures.0 c.if-not-is_made.false in
+    let good : IsMade (limits_of c.args.inodes.now.geometry) (made_of c.args.object.now) = (c.is_made.ensures c.args.inodes.now.geometry).0 c.if-not-is_made.false in
     let is_free = λ (detail : Detail) (disk : ℕ → List ℕ) (settled : ℕ → Inode) (v : Volume) (stands : StandsIn detail g.B.Blocks disk settled v c.args.blocks.now c.args.inodes.now).
     sym (vacant.found disk settled v stands) ∙ c.if-not-vacant.false in
     record {
@@ -53,14 +54,23 @@ returns g c =
           let now = vacant.looks.kept disk settled v stands in
           made.object detail disk now.shows k (settled c.args.number) (settled_layout c.is_vacant.new.blocks c.is_vacant.new.inodes c.args.number now ∙ sym (c.layout-layout.ensures ∙ ap (λ s. s.layout) c.geometry-2.ensures))) made.room;
       applies = λ {detail} disk settled v stands.
-          IfOk-weaker c.prepare_new.result _ _ (λ p taken. record { low = low; high = high; vacant = is_free detail disk settled v stands; takes = taken; good = good })
+          IfOk-weaker c.prepare_new.result _ _ (λ p taken. record {
+            low = low;
+            high = high;
+            vacant = is_free detail disk settled v stands;
+            takes = subst (λ (s : Sizes). TakesName (limits_of s) v c.args.parent c.args.name.now) before.geometry taken;
+            good = good;
+          })
           (new.takes detail disk settled v (before.kept disk settled v stands));
       place = λ disk settled v stands. IfOk-weaker c.prepare_new.result _ _ (λ p taken. tt) (new.takes _ disk settled v (before.kept disk settled v stands));
       refused = λ {detail} disk settled v stands volume.
-          refusal_is (IsObstacle c.args.inodes.now.geometry.inodes v (create c.args.number c.args.parent (made_of c.args.object.now) c.args.name.now))
-          (λ e. TakesName v c.args.parent c.args.name.now → ⊥) c.prepare_new.result new.full
-          (new.refused detail disk settled v (before.kept disk settled v stands) (subst (λ (s : Sizes). IsKnownVolume detail s.inodes v) (sym before.geometry) (known_of detail c.args.inodes.now.geometry.inodes (create c.args.number c.args.parent (made_of c.args.object.now) c.args.name.now) v volume)))
-          (λ full. ((low, high, good, is_free detail disk settled v stands), full));
+          refusal_is (IsObstacle (limits_of c.args.inodes.now.geometry) v (create c.args.number c.args.parent (made_of c.args.object.now) c.args.name.now))
+          (λ e. TakesName (limits_of c.is_vacant.new.inodes.geometry) v c.args.parent c.args.name.now → ⊥) c.prepare_new.result new.full
+          (new.refused detail disk settled v (before.kept disk settled v stands) (subst (λ (s : Sizes). IsKnownVolume detail (limits_of s) v) (sym before.geometry) (known_of detail (limits_of c.args.inodes.now.geometry) (create c.args.number c.args.parent (made_of c.args.object.now) c.args.name.now) v volume)))
+          (λ full. (
+            (low, high, good, is_free detail disk settled v stands),
+            λ takes. full (subst (λ (s : Sizes). TakesName (limits_of s) v c.args.parent c.args.name.now) (sym before.geometry) takes),
+          ));
       reads = λ {detail} disk settled v stands.
           IfOk-weaker c.prepare_new.result _ _ (λ p taken. reads_in detail v (create c.args.number c.args.parent (made_of c.args.object.now) c.args.name.now) tt)
           (new.takes detail disk settled v (before.kept disk settled v stands));

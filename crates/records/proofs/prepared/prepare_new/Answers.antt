@@ -1,7 +1,9 @@
 use Rattle.std.proofs.Common.{Option, Some, IfSome, IsTrue, refl, ap, sym, subst, ◌∙◌, arith}
 use Rattle.std.proofs.lemmas.Bool.{false≢true}
+use Rattle.layout.specs.StateLimits.{limits_of}
+use Rattle.layout.specs.Limits.{Sizes}
 use Rattle.layout.specs.declared.entry.Entry.{Entry}
-use Rattle.model.specs.Records.{node_of}
+use Rattle.model.specs.Records.{TakesName, node_of}
 use Rattle.model.specs.Volumes.{Node, is_directory_node, with_node}
 use Rattle.inofile.specs.Inodes.{loaded}
 use Rattle.paths.proofs.Looks.{looks_more, looks_ok}
@@ -40,8 +42,9 @@ returns-in_default-clause-refused g c = λ detail disk settled v stands volume t
     let now = c.in_ok-load_to_change.ensures.looks.kept disk settled v stands in
     let entry : Entry = record { number = c.args.number; name = c.args.name } in
     let s = c.edit_parent.new.inodes in
-    subst (PreparesEdit disk s.geometry.inodes (edits.Add entry) (v c.args.parent) (loaded s c.args.parent)) c.in_default.is (c.in_ok-planned.ensures.edit.found disk settled v now)
-    (accepts_entry v c.args.parent entry takes)
+    let same = c.in_ok-planned.ensures.edit.looks.geometry ∙ c.in_ok-load_to_change.ensures.looks.geometry in
+    subst (PreparesEdit disk (limits_of s.geometry) (edits.Add entry) (v c.args.parent) (loaded s c.args.parent)) c.in_default.is (c.in_ok-planned.ensures.edit.found disk settled v now)
+    (accepts_entry (limits_of s.geometry) v c.args.parent entry (subst (λ (z : Sizes). TakesName (limits_of z) v c.args.parent c.args.name.now) (sym same) takes))
 
 pub returns-clause-looks : goal.returns-clause-looks
 returns-clause-looks g c = looks_ok (looks_more c.in_ok-load_to_change.ensures.looks c.in_ok-planned.ensures.edit.looks)
@@ -70,7 +73,7 @@ returns-clause-does g c = λ detail disk settled v made stands is_free is_object
     let s = c.edit_parent.new.inodes in
     let entry : Entry = record { number = c.args.number; name = c.args.name } in
     let f = names_after (edits.Add entry) in
-    let edit = subst (PreparesEdit disk s.geometry.inodes (edits.Add entry) (v d) (loaded s d)) c.in-Some.is (c.in_ok-planned.ensures.edit.found disk settled v now) in
+    let edit = subst (PreparesEdit disk (limits_of s.geometry) (edits.Add entry) (v d) (loaded s d)) c.in-Some.is (c.in_ok-planned.ensures.edit.found disk settled v now) in
     let node = node_of made in
     let apart = vacant_apart v number d is_free (found_directory (v d) edit.1.attributes edit.1.names edit.1.is) in
     let to = with_node_names f (v d) in
@@ -101,5 +104,6 @@ returns-clause-takes g c = λ detail disk settled v stands.
     let now = c.in_ok-load_to_change.ensures.looks.kept disk settled v stands in
     let entry : Entry = record { number = c.args.number; name = c.args.name } in
     let s = c.edit_parent.new.inodes in
-    let edit = subst (PreparesEdit disk s.geometry.inodes (edits.Add entry) (v c.args.parent) (loaded s c.args.parent)) c.in-Some.is (c.in_ok-planned.ensures.edit.found disk settled v now) in
-    takes_accepted v c.args.parent entry (c.fits.ensures.0 c.if-not-fits.false).name edit.1
+    let edit = subst (PreparesEdit disk (limits_of s.geometry) (edits.Add entry) (v c.args.parent) (loaded s c.args.parent)) c.in-Some.is (c.in_ok-planned.ensures.edit.found disk settled v now) in
+    let same = c.in_ok-planned.ensures.edit.looks.geometry ∙ c.in_ok-load_to_change.ensures.looks.geometry in
+    subst (λ (z : Sizes). TakesName (limits_of z) v c.args.parent c.args.name.now) same (takes_accepted (limits_of s.geometry) v c.args.parent entry (c.fits.ensures.0 c.if-not-fits.false).name edit.1)

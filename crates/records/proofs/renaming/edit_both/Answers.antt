@@ -1,4 +1,5 @@
 use Rattle.std.proofs.Common.{Option, Some, IfSome, sym, subst}
+use Rattle.layout.specs.StateLimits.{limits_of}
 use Rattle.layout.specs.Limits.{Sizes}
 use Rattle.inode.specs.declared.object.Object.{Object}
 use Rattle.inofile.specs.Inodes.{loaded}
@@ -30,7 +31,7 @@ returns-in_default-clause-both g c =
       tt,
       λ accepts directory.
           let s = c.edit_known.new.inodes in
-          subst (PreparesEdit disk s.geometry.inodes c.args.wanted.now (v c.args.new_parent) (loaded s c.args.new_parent)) c.in_default.is edit accepts,
+          subst (PreparesEdit disk (limits_of s.geometry) c.args.wanted.now (v c.args.new_parent) (loaded s c.args.new_parent)) c.in_default.is edit accepts,
     ))
 
 pub returns-in_err-taken-clause-both : goal.returns-in_err-taken-clause-both
@@ -46,7 +47,7 @@ returns-in_default-taken-clause-both g c =
       λ accepts directory.
           let t = c.edit_known-2.new.inodes in
           let is = directory_is (v c.args.parent) directory in
-          subst (PreparesEdit disk t.geometry.inodes (edits.Remove c.args.name) (v c.args.parent) (loaded t c.args.parent)) c.in_default-taken.is edit
+          subst (PreparesEdit disk (limits_of t.geometry) (edits.Remove c.args.name) (v c.args.parent) (loaded t c.args.parent)) c.in_default-taken.is edit
           (record { attributes = is.0; names = is.1; is = is.2; takes = tt }),
     ))
 
@@ -60,11 +61,11 @@ returns-clause-both g c =
     let same = c.edit_known-2.ensures.rest k (λ same. c.requires.apart (sym same)) in
     tells (behind (brought c.in_ok-load_to_change.ensures) (behind (brought c.in_ok-load_to_change-2.ensures) (besides c.in_ok-planned.ensures.edit c.in_ok-taken.ensures.edit)))
     (λ detail disk settled v now both.
-    let added = subst (PreparesEdit disk s.geometry.inodes wanted (v k) (loaded s k)) c.in-Some.is both.0 in
-    let removed = subst (PreparesEdit disk t.geometry.inodes (edits.Remove c.args.name) (v d) (loaded t d)) c.in-Some-taken.is both.1 in (
+    let added = subst (PreparesEdit disk (limits_of s.geometry) wanted (v k) (loaded s k)) c.in-Some.is both.0 in
+    let removed = subst (PreparesEdit disk (limits_of t.geometry) (edits.Remove c.args.name) (v d) (loaded t d)) c.in-Some-taken.is both.1 in (
       (
-        subst (λ (z : Sizes). PreparesEdit disk z.inodes wanted (v k) (loaded t k) (Some c.in-Some.added)) (sym c.edit_known-2.ensures.edit.looks.geometry)
-            (subst (λ (o : Option Object). PreparesEdit disk s.geometry.inodes wanted (v k) o (Some c.in-Some.added)) (sym same) added),
+        subst (λ (z : Sizes). PreparesEdit disk (limits_of z) wanted (v k) (loaded t k) (Some c.in-Some.added)) (sym c.edit_known-2.ensures.edit.looks.geometry)
+            (subst (λ (o : Option Object). PreparesEdit disk (limits_of s.geometry) wanted (v k) o (Some c.in-Some.added)) (sym same) added),
         removed.0,
         removed.2,
       ),

@@ -1,4 +1,6 @@
 use Rattle.std.proofs.Common.{◌≡◌, ◌∙◌, ◌≤◌, inl, inr, ℕ, Option, None, Some, IfSome, IfNone, IsTrue, refl, ap, sym, subst, arith}
+use Rattle.layout.specs.StateLimits.{limits_of}
+use Rattle.layout.specs.Limits.{Sizes}
 use Rattle.layout.specs.declared.entry.Entry.{Entry}
 use Rattle.model.specs.Records.{applied, rename}
 use Rattle.model.specs.Volumes.{Node, Volume, entries, is_directory_node, released, with_entry, with_node}
@@ -31,8 +33,9 @@ returns-in_default g c = obstructs c.in_ok-planned.ensures.edit.looks refl (λ d
     let old : Entry = record { number = 0; name = c.args.name } in
     let k = c.args.new_parent in
     let s = c.edit_parent.new.inodes in
-    absurd (subst (PreparesEdit disk s.geometry.inodes (edits.Move c.args.name entry) (v k) (loaded s k)) c.in_default.is (c.in_ok-planned.ensures.edit.found disk settled v known.0)
-    (accepts_move detail disk settled v c.args.parent c.args.name.now entry.number k entry.name.now c.args.replaced known.1 c.args.inodes.now.geometry.inodes old entry refl refl volume (c.is_same.ensures.yes c.if-is_same.true))))
+    absurd (subst (PreparesEdit disk (limits_of s.geometry) (edits.Move c.args.name entry) (v k) (loaded s k)) c.in_default.is (c.in_ok-planned.ensures.edit.found disk settled v known.0)
+    (subst (λ (z : Sizes). Accepts (limits_of z) (edits.Move c.args.name entry) (v k)) (sym c.in_ok-planned.ensures.edit.looks.geometry)
+    (accepts_move detail disk settled v c.args.parent c.args.name.now entry.number k entry.name.now c.args.replaced known.1 (limits_of c.args.inodes.now.geometry) old entry refl refl volume (c.is_same.ensures.yes c.if-is_same.true)))))
 
 pub returns-then-is_same : goal.returns-then-is_same
 returns-then-is_same g c =
@@ -51,7 +54,7 @@ returns-then-is_same g c =
     (alone_some s step c.requires.alone (some_at_hand_behind step planned.edit c.requires.at_hand)) (alone_some_apart k step c.requires.alone))
     (λ detail disk settled v known.
     let moves = known.1 in
-    let edit = subst (PreparesEdit disk s.geometry.inodes (edits.Move c.args.name entry) (v k) (loaded s k)) c.in-Some.is (planned.edit.found disk settled v known.0) in
+    let edit = subst (PreparesEdit disk (limits_of s.geometry) (edits.Move c.args.name entry) (v k) (loaded s k)) c.in-Some.is (planned.edit.found disk settled v known.0) in
     let between = with_node k (with_node_names f (v k)) v in
     let target = entries v k y in
     let same : applied (rename d x k y) v ≡ released target between =
@@ -61,11 +64,12 @@ returns-then-is_same g c =
     (subst (StepsSome detail disk settled s between step) (sym same) (steps_on detail disk settled v d x n k y step moves s between (λ m other apart. node_other k m (with_node_names f (v k)) v apart)))
     (beside_new detail disk settled v d x n k y step moves) (omega (arith, edit.2)) (room_on detail disk settled v d x n k y step moves s) (omega arith) tt)
     (λ detail disk settled v known.
-    let edit = subst (PreparesEdit disk s.geometry.inodes (edits.Move c.args.name entry) (v k) (loaded s k)) c.in-Some.is (planned.edit.found disk settled v known.0) in
-    can_rename detail disk settled v d x n k y step known.1 (found_directory (v k) edit.1.attributes edit.1.names edit.1.is) c.requires.entry.name known.2 (λ none. inl (c.is_same.ensures.yes c.if-is_same.true)))
+    let edit = subst (PreparesEdit disk (limits_of s.geometry) (edits.Move c.args.name entry) (v k) (loaded s k)) c.in-Some.is (planned.edit.found disk settled v known.0) in
+    can_rename detail disk settled v d x n k y step known.1 (limits_of c.args.inodes.now.geometry) (found_directory (v k) edit.1.attributes edit.1.names edit.1.is) c.requires.entry.name known.2 (λ none. inl (c.is_same.ensures.yes c.if-is_same.true)))
     (λ detail disk settled v known.
-    let edit = subst (PreparesEdit disk s.geometry.inodes (edits.Move c.args.name entry) (v k) (loaded s k)) c.in-Some.is (planned.edit.found disk settled v known.0) in
-    leaves_inside v d x k y edit.1.attributes edit.1.names edit.1.is (c.is_same.ensures.yes c.if-is_same.true) edit.1.takes)
+    let edit = subst (PreparesEdit disk (limits_of s.geometry) (edits.Move c.args.name entry) (v k) (loaded s k)) c.in-Some.is (planned.edit.found disk settled v known.0) in
+    let accepts = subst (λ (z : Sizes). Accepts (limits_of z) (edits.Move c.args.name entry) (v k)) planned.edit.looks.geometry edit.1 in
+    leaves_inside (limits_of c.args.inodes.now.geometry) v d x k y accepts.attributes accepts.names accepts.is (c.is_same.ensures.yes c.if-is_same.true) accepts.takes)
     (λ detail disk settled v known. reads_in detail v (rename d x k y) tt)
 
 pub returns-in_err-both : goal.returns-in_err-both
@@ -78,11 +82,12 @@ returns-in_default-both g c = obstructs c.in_ok-both.ensures.both.looks refl (λ
     let x = c.args.name.now in
     let k = c.args.new_parent in
     let step = c.args.replaced in
+    let s = c.edit_both.new.inodes in
     let wanted = c.edit_for-wanted.ensures in
-    no_place c.args.inodes.now.geometry.inodes detail disk settled v d x entry.number k entry.name.now step known.1 c.requires.entry.name known.2 (c.is_same.ensures.no c.if-is_same.false) (λ can.
-    let accepts = accepts_other detail disk settled v d x entry.number k entry.name.now step known.1 c.args.inodes.now.geometry.inodes entry refl volume (c.is_same.ensures.no c.if-is_same.false) can in
-    subst (λ o. IfNone o (Accepts c.edit_for-wanted.result (v k) → IsTrue (is_directory_node (v d)) → ⊥)) c.in_default-both.is (c.in_ok-both.ensures.both.found disk settled v known.0).1
-    (subst (λ (e : NameEdit). Accepts e (v k)) (sym wanted) accepts) (enters_directory (v d) x entry.number known.1.there)))
+    no_place (limits_of c.args.inodes.now.geometry) detail disk settled v d x entry.number k entry.name.now step known.1 c.requires.entry.name known.2 (c.is_same.ensures.no c.if-is_same.false) (λ can.
+    let accepts = accepts_other detail disk settled v d x entry.number k entry.name.now step known.1 (limits_of c.args.inodes.now.geometry) entry refl volume (c.is_same.ensures.no c.if-is_same.false) can in
+    subst (λ o. IfNone o (Accepts (limits_of s.geometry) c.edit_for-wanted.result (v k) → IsTrue (is_directory_node (v d)) → ⊥)) c.in_default-both.is (c.in_ok-both.ensures.both.found disk settled v known.0).1
+    (subst (λ (z : Sizes). Accepts (limits_of z) c.edit_for-wanted.result (v k)) (sym c.in_ok-both.ensures.both.looks.geometry) (subst (λ (e : NameEdit). Accepts (limits_of c.args.inodes.now.geometry) e (v k)) (sym wanted) accepts)) (enters_directory (v d) x entry.number known.1.there)))
 
 pub returns : goal.returns
 returns g c =
@@ -111,7 +116,7 @@ returns g c =
     })
     (λ detail disk settled v known.
     let moves = known.1 in
-    let edits_are = subst (λ o. IfSome o (λ e. PreparesEdit disk s.geometry.inodes c.edit_for-wanted.result (v k) (loaded s k) (Some e.0) × EditsIn disk s.geometry.inodes h (v d) (loaded s d) e.1 × (piece_count e.1 ≤ 1))) c.in-Some-both.is
+    let edits_are = subst (λ o. IfSome o (λ e. PreparesEdit disk (limits_of s.geometry) c.edit_for-wanted.result (v k) (loaded s k) (Some e.0) × EditsIn disk s.geometry.inodes h (v d) (loaded s d) e.1 × (piece_count e.1 ≤ 1))) c.in-Some-both.is
     (both.both.found disk settled v known.0).0 in
     let added = subst (λ j. EditsIn disk s.geometry.inodes j (v k) (loaded s k) c.in-Some-both.added) (ap names_after wanted ∙ names_for entry step) edits_are.0.0 in
     let between = with_node k (with_node_names f (v k)) v in
@@ -143,13 +148,14 @@ returns g c =
       knows = tt;
     })
     (λ detail disk settled v known.
-    let edits_are = subst (λ o. IfSome o (λ e. PreparesEdit disk s.geometry.inodes c.edit_for-wanted.result (v k) (loaded s k) (Some e.0) × EditsIn disk s.geometry.inodes h (v d) (loaded s d) e.1 × (piece_count e.1 ≤ 1))) c.in-Some-both.is
+    let edits_are = subst (λ o. IfSome o (λ e. PreparesEdit disk (limits_of s.geometry) c.edit_for-wanted.result (v k) (loaded s k) (Some e.0) × EditsIn disk s.geometry.inodes h (v d) (loaded s d) e.1 × (piece_count e.1 ≤ 1))) c.in-Some-both.is
     (both.both.found disk settled v known.0).0 in
-    let accepts = edits_are.0.1 in
-    can_rename detail disk settled v d x n k y step known.1 (found_directory (v k) accepts.attributes accepts.names accepts.is) c.requires.entry.name known.2
-    (λ none. inr (takes_accepted v k entry c.requires.entry.name (subst (λ (e : NameEdit). Accepts e (v k)) (wanted ∙ ap (edit_for entry) none) accepts))))
+    let accepts = subst (λ (z : Sizes). Accepts (limits_of z) c.edit_for-wanted.result (v k)) both.both.looks.geometry edits_are.0.1 in
+    can_rename detail disk settled v d x n k y step known.1 (limits_of c.args.inodes.now.geometry) (found_directory (v k) accepts.attributes accepts.names accepts.is) c.requires.entry.name known.2
+    (λ none. inr (takes_accepted (limits_of c.args.inodes.now.geometry) v k entry c.requires.entry.name (subst (λ (e : NameEdit). Accepts (limits_of c.args.inodes.now.geometry) e (v k)) (wanted ∙ ap (edit_for entry) none) accepts))))
     (λ detail disk settled v known.
-    let edits_are = subst (λ o. IfSome o (λ e. PreparesEdit disk s.geometry.inodes c.edit_for-wanted.result (v k) (loaded s k) (Some e.0) × EditsIn disk s.geometry.inodes h (v d) (loaded s d) e.1 × (piece_count e.1 ≤ 1))) c.in-Some-both.is
+    let edits_are = subst (λ o. IfSome o (λ e. PreparesEdit disk (limits_of s.geometry) c.edit_for-wanted.result (v k) (loaded s k) (Some e.0) × EditsIn disk s.geometry.inodes h (v d) (loaded s d) e.1 × (piece_count e.1 ≤ 1))) c.in-Some-both.is
     (both.both.found disk settled v known.0).0 in
-    leaves_other v d x k step entry other (subst (λ (e : NameEdit). Accepts e (v k)) wanted edits_are.0.1))
+    let accepts = subst (λ (z : Sizes). Accepts (limits_of z) c.edit_for-wanted.result (v k)) both.both.looks.geometry edits_are.0.1 in
+    leaves_other (limits_of c.args.inodes.now.geometry) v d x k step entry other (subst (λ (e : NameEdit). Accepts (limits_of c.args.inodes.now.geometry) e (v k)) wanted accepts))
     (λ detail disk settled v known. reads_in detail v (rename d x k y) tt)

@@ -1,5 +1,6 @@
 use Rattle.std.proofs.Common.{◌≡◌, ◌∙◌, ℕ, List, Option, None, Some, Err, IfErr, refl, ap, sym, subst}
 use Rattle.std.proofs.lemmas.Bool.{both_ways}
+use Rattle.layout.specs.StateLimits.{limits_of}
 use Rattle.layout.specs.Directory.{IsEntry}
 use Rattle.layout.specs.Limits.{Sizes}
 use Rattle.layout.specs.declared.inode.Inode.{Inode}
@@ -25,8 +26,8 @@ returns-then-not-fits g c = obstructs no_look refl (λ detail disk settled v kno
     let inodes = c.args.inodes.now.geometry.inodes in
     let count : c.inodes.result ≡ inodes = c.inodes.ensures.value ∙ ap (λ (s : Sizes). s.inodes) c.geometry.ensures in
     let n = c.args.number in
-    let is = entry_named detail inodes v c.args.parent c.args.name.now n c.args.new_name.now
-    (known_of detail inodes (rename c.args.parent c.args.name.now c.args.new_parent c.args.new_name.now) v volume) known.1.there (c.is_name.ensures.0 c.if-not-is_name.false) in
+    let is = entry_named detail (limits_of c.args.inodes.now.geometry) v c.args.parent c.args.name.now n c.args.new_name.now
+    (known_of detail (limits_of c.args.inodes.now.geometry) (rename c.args.parent c.args.name.now c.args.new_parent c.args.new_name.now) v volume) known.1.there (c.is_name.ensures.0 c.if-not-is_name.false) in
     absurd (both_ways c.fits.result c.if-not-fits.true (c.fits.ensures.1 (subst (λ (k : ℕ). IsEntry k (record { number = n; name = c.args.new_name.now })) (sym count) is))))
 
 -- where nothing has the new name
@@ -55,10 +56,10 @@ returns-in_err-step g c =
     let m = c.in-Some.other in
     let k = c.args.new_parent in
     let y = c.args.new_name.now in
-    refused_by (ReplacesBy detail disk settled v n m) (λ r. IfErr r (IsObstacle c.args.inodes.now.geometry.inodes v (rename d x k y))) _ (Err _) refl
+    refused_by (ReplacesBy detail disk settled v n m) (λ r. IfErr r (IsObstacle (limits_of c.args.inodes.now.geometry) v (rename d x k y))) _ (Err _) refl
     (λ errno bars.
-    bars_rename c.args.inodes.now.geometry.inodes v d x n m k y errno known.1.there (known.1.over ∙ c.in-Some.is)
-    (bars_replacing detail disk settled v d n m k y errno known.2 bars))
+    bars_rename (limits_of c.args.inodes.now.geometry) v d x n m k y errno known.1.there (known.1.over ∙ c.in-Some.is)
+    (bars_replacing (limits_of c.args.inodes.now.geometry) detail disk settled v d n m k y errno known.2 bars))
     (failed.replaced.found disk settled v known.0))
     (λ detail disk settled v stands reads is. failed.replaced.damaged disk settled v stands is)
 

@@ -1,5 +1,6 @@
 use Rattle.std.proofs.Common.{◌≡◌, ◌∙◌, ℕ, List, Option, None, Some, IsSome, IsTrue, refl, ap, sym, subst}
 use Rattle.std.proofs.lemmas.Bool.{both_ways, false≢true}
+use Rattle.layout.specs.StateLimits.{limits_of}
 use Rattle.layout.specs.Limits.{Sizes}
 use Rattle.layout.specs.declared.inode.Inode.{Inode}
 use Rattle.model.specs.Volumes.{Node, Volume, entries, is_directory_node, names_in}
@@ -38,12 +39,12 @@ returns-then-not-is_number-2 g c =
     let k = c.args.new_parent in
     let y = c.args.new_name.now in
     let there : entries v c.args.parent x ≡ Some n = sym (found.found disk settled v sure.0) ∙ c.in-Some.is in
-    let nothing = c.is_number-2.ensures.no c.if-not-is_number-2.true detail v (subst (λ (s : Sizes). IsKnownVolume detail s.inodes v) (sym found.looks.geometry) sure.1) in
-    let graph = graph_of detail c.args.inodes.now.geometry.inodes v sure.1 in
+    let nothing = c.is_number-2.ensures.no c.if-not-is_number-2.true detail v (subst (λ (s : Sizes). IsKnownVolume detail (limits_of s) v) (sym found.looks.geometry) sure.1) in
+    let graph = graph_of detail (limits_of c.args.inodes.now.geometry) v sure.1 in
     let none : entries v k y ≡ None = ap (λ (o : Option Node). names_in o y) nothing in (
       n,
       there,
-      subst (λ (o : Option ℕ). BarsMove v c.args.parent n k y o DIRFULL) (sym none) (
+      subst (λ (o : Option ℕ). BarsMove (limits_of c.args.inodes.now.geometry) v c.args.parent n k y o DIRFULL) (sym none) (
         (λ at. none_some at),
         (λ below.
             let some = closed_below (entries v) (λ j. IsSome (v j)) (λ d m some child. graph.naming.used d m child.0 child.1) n k (graph.naming.used c.args.parent n x there) below in
@@ -69,8 +70,8 @@ returns-then-below g c =
     let k = c.args.new_parent in
     let there : entries v c.args.parent c.args.name.now ≡ Some n = sym (found.found disk settled v sure.0) ∙ c.in-Some.is in
     let below = (c.in_ok-below.ensures.below detail c.args.name.now disk settled v (found.looks.kept disk settled v sure.0)
-    (subst (λ (s : Sizes). IsKnownVolume detail s.inodes v) (sym found.looks.geometry) sure.1) there).0 c.if-below.true in
-    (n, there, ((λ at. never_around v (graph_of detail c.args.inodes.now.geometry.inodes v sure.1) n k c.args.new_name.now at below), below)))
+    (subst (λ (s : Sizes). IsKnownVolume detail (limits_of s) v) (sym found.looks.geometry) sure.1) there).0 c.if-below.true in
+    (n, there, ((λ at. never_around v (graph_of detail (limits_of c.args.inodes.now.geometry) v sure.1) n k c.args.new_name.now at below), below)))
 
 pub returns-in_err-target : goal.returns-in_err-target
 returns-in_err-target g c =
@@ -96,5 +97,5 @@ returns g c =
     (λ detail disk settled v sure.
     let moves = over detail disk settled v sure.0 in
     let told = c.in_ok-below.ensures.below detail c.args.name.now disk settled v (found.looks.kept disk settled v sure.0)
-    (subst (λ (s : Sizes). IsKnownVolume detail s.inodes v) (sym found.looks.geometry) sure.1) moves.there in
+    (subst (λ (s : Sizes). IsKnownVolume detail (limits_of s) v) (sym found.looks.geometry) sure.1) moves.there in
     (known.kept disk settled v sure.0, moves, λ is. both_ways c.in_ok-below.below c.if-below.false (told.1 is)))

@@ -1,4 +1,5 @@
 use Rattle.std.proofs.Common.{◌≡◌, length, Err, IfErr, sym, subst, ◌∙◌}
+use Rattle.layout.specs.StateLimits.{limits_of}
 use Rattle.layout.specs.Limits.{Sizes}
 use Rattle.model.specs.Edits.{contents}
 use Rattle.model.specs.Records.{applied, truncate}
@@ -18,7 +19,7 @@ returns-in_err-now-clause-damaged g c = λ disk settled v stands. damaged_read c
 
 pub returns-in_err-now-clause-answers : goal.returns-in_err-now-clause-answers
 returns-in_err-now-clause-answers g c = λ disk settled v table stands volume mounted is.
-    read_told (TruncatesBytes c.args.inodes.now.geometry.inodes v table c.args.number c.args.size) _ c.from_residual.result c.from_residual.ensures.1
+    read_told (TruncatesBytes (limits_of c.args.inodes.now.geometry) v table c.args.number c.args.size) _ c.from_residual.result c.from_residual.ensures.1
 
 pub returns-then-now-size-clause-answers : goal.returns-then-now-size-clause-answers
 returns-then-now-size-clause-answers g c = λ disk settled v table stands volume mounted is.
@@ -35,9 +36,10 @@ pub returns-in_err-prepared-clause-answers : goal.returns-in_err-prepared-clause
 returns-in_err-prepared-clause-answers g c = λ disk settled v table stands volume mounted is.
     let looks = c.in_ok-now.ensures.looks in
     let failed = c.in_err-prepared.ensures in
-    let all = subst (λ (s : Sizes). IsVolume s.inodes v) (sym looks.geometry) volume in
+    let all = subst (λ (s : Sizes). IsVolume (limits_of s) v) (sym looks.geometry) volume in
+    let within = subst (λ (s : Sizes). c.args.size ≤ (limits_of s).file_bytes) (sym looks.geometry) c.requires.within in
     refused_by (λ r. IfErr r (λ errno. ⊥)) _ _ c.from_residual-in_err-prepared.result c.from_residual-in_err-prepared.ensures.1 (λ errno never. never)
-    (refusal_is (λ errno. ⊥) (IsObstacle c.size_at.new.inodes.geometry.inodes v (truncate c.args.number c.args.size)) (Err _) failed.own (failed.decides.refused disk settled v (looks.kept disk settled v stands) all) (λ never. never (is, c.requires.within)))
+    (refusal_is (λ errno. ⊥) (IsObstacle (limits_of c.size_at.new.inodes.geometry) v (truncate c.args.number c.args.size)) (Err _) failed.own (failed.decides.refused disk settled v (looks.kept disk settled v stands) all) (λ never. never (is, within)))
 
 pub returns-in_err-prepared-clause-damaged : goal.returns-in_err-prepared-clause-damaged
 returns-in_err-prepared-clause-damaged g c = λ disk settled v stands.
@@ -51,11 +53,11 @@ returns-clause-does g c = λ disk settled v stands. c.in_ok-prepared.ensures.dec
 
 pub returns-clause-answers : goal.returns-clause-answers
 returns-clause-answers g c = λ disk settled v table stands volume mounted is.
-    let inodes = c.args.inodes.now.geometry.inodes in
+    let limits = (limits_of c.args.inodes.now.geometry) in
     let n = c.args.number in
     let t = tree_of v table in
     let size = c.in_ok-now.ensures.found disk settled v stands is in
-    let all = rewritten inodes v table volume mounted c.records_change_trees.ensures n (Truncate c.args.size) (is, c.requires.within) in
+    let all = rewritten limits v table volume mounted c.records_change_trees.ensures n (Truncate c.args.size) (is, c.requires.within) in
     (all.0, truncates_all t n c.args.size (tree_of (applied (truncate n c.args.size) v) table) (other_size c.args.size (length (contents t n)) (λ e. c.if-now-size.false (size ∙ sym e))) all.1)
 
 pub returns-in_err-now-clause-looks : goal.returns-in_err-now-clause-looks

@@ -1,11 +1,11 @@
 use Rattle.std.proofs.Common.{rules, ◌≡◌, ◌+◌, length, true, false, inl, inr, Err, IfErr, nat_lt, arith}
 use Rattle.std.proofs.lemmas.Bool.{cases_lt, le-ltb}
 use Rattle.std.proofs.lemmas.Bool.Decides.{nat_tests}
+use Rattle.layout.specs.StateLimits.{limits_of}
 use Rattle.model.specs.Paths.{is_empty}
 use Rattle.model.specs.Records.{Applies, applied, write}
 use Rattle.model.specs.Volumes.{tree_of}
 use Rattle.model.specs.declared.errno.Errno.TheVariants.{EFBIG}
-use Rattle.model.specs.declared.limits.TheConstants.{GREATEST_FILE}
 use Rattle.records.specs.Obstacles.{IsObstacle}
 use Rattle.records.specs.Rewriting.{PutsBytes}
 use Rattle.records.specs.declared.contents.Rewrite.TheVariants.{Write}
@@ -16,7 +16,7 @@ use Rattle.records.proofs.rewriting.write_bytes.Goals as goal
 pub returns-then-is_empty-clause-answers : goal.returns-then-is_empty-clause-answers
 returns-then-is_empty-clause-answers g c = λ disk settled v table stands volume mounted is also.
     let none : is_empty c.args.bytes.now ≡ true = first_of (search rules, grind (arith, nat_tests)) in
-    puts_nothing (tree_of v table) c.args.number c.args.offset c.args.bytes.now also none
+    puts_nothing (limits_of c.args.inodes.now.geometry) (tree_of v table) c.args.number c.args.offset c.args.bytes.now also none
 
 pub returns-in_err-prepared-clause-looks : goal.returns-in_err-prepared-clause-looks
 returns-in_err-prepared-clause-looks g c = looks_failed _ c.from_residual.result c.from_residual.ensures.1 c.in_err-prepared.ensures.decides.looks
@@ -30,26 +30,26 @@ returns-in_err-prepared-clause-answers g c = λ disk settled v table stands volu
     let offset = c.args.offset in
     let bytes = c.args.bytes.now in
     let none : is_empty bytes ≡ false = first_of (search rules, grind (arith, nat_tests)) in
-    let past : (Applies c.args.inodes.now.geometry.inodes v (write c.args.number offset bytes) → ⊥) → nat_lt GREATEST_FILE (offset + length bytes) ≡ true = λ never. elim (cases_lt GREATEST_FILE (offset + length bytes)) [
-      | inl lt ↦ past_limit GREATEST_FILE (offset + length bytes) lt
+    let past : (Applies (limits_of c.args.inodes.now.geometry) v (write c.args.number offset bytes) → ⊥) → nat_lt (limits_of c.args.inodes.now.geometry).file_bytes (offset + length bytes) ≡ true = λ never. elim (cases_lt (limits_of c.args.inodes.now.geometry).file_bytes (offset + length bytes)) [
+      | inl lt ↦ past_limit (limits_of c.args.inodes.now.geometry).file_bytes (offset + length bytes) lt
       | inr le ↦ absurd (never (is, filled bytes none, c.requires, le))
     ] in
-    let puts = PutsBytes c.args.inodes.now.geometry.inodes v table c.args.number offset bytes in
+    let puts = PutsBytes (limits_of c.args.inodes.now.geometry) v table c.args.number offset bytes in
     refused_by (λ r. IfErr r (λ errno. puts (Err errno))) _ _ c.from_residual.result c.from_residual.ensures.1 (λ errno done. done)
-    (refusal_is (λ errno. puts (Err errno)) (IsObstacle c.args.inodes.now.geometry.inodes v (write c.args.number offset bytes)) (Err _) failed.own (failed.decides.refused disk settled v stands volume)
-    (λ never also. puts_too_much (tree_of v table) c.args.number offset bytes also none (past never)))
+    (refusal_is (λ errno. puts (Err errno)) (IsObstacle (limits_of c.args.inodes.now.geometry) v (write c.args.number offset bytes)) (Err _) failed.own (failed.decides.refused disk settled v stands volume)
+    (λ never also. puts_too_much (limits_of c.args.inodes.now.geometry) (tree_of v table) c.args.number offset bytes also none (past never)))
 
 pub returns-in_err-prepared-clause-damaged : goal.returns-in_err-prepared-clause-damaged
 returns-in_err-prepared-clause-damaged g c = λ disk settled v stands. damaged_by _ c.from_residual.result c.from_residual.ensures.1 (c.in_err-prepared.ensures.decides.damaged disk settled v stands tt)
 
 pub returns-clause-answers : goal.returns-clause-answers
 returns-clause-answers g c = λ disk settled v table stands volume mounted is.
-    let inodes = c.args.inodes.now.geometry.inodes in
+    let limits = (limits_of c.args.inodes.now.geometry) in
     let n = c.args.number in
     let bytes = c.args.bytes.now in
     let change = write n c.args.offset bytes in
     let can = c.in_ok-prepared.ensures.decides.applies disk settled v stands in
-    let told = rewritten inodes v table volume mounted c.records_change_trees.ensures n (Write c.args.offset c.args.bytes) can in (
+    let told = rewritten limits v table volume mounted c.records_change_trees.ensures n (Write c.args.offset c.args.bytes) can in (
       told.0,
-      λ also. puts_all (tree_of v table) n c.args.offset bytes also (tree_of (applied change v) table) (some_bytes bytes can.1) (le-ltb GREATEST_FILE (c.args.offset + length bytes) can.3) told.1,
+      λ also. puts_all (limits_of c.args.inodes.now.geometry) (tree_of v table) n c.args.offset bytes also (tree_of (applied change v) table) (some_bytes bytes can.1) (le-ltb (limits_of c.args.inodes.now.geometry).file_bytes (c.args.offset + length bytes) can.3) told.1,
     )

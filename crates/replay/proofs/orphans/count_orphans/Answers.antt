@@ -1,4 +1,5 @@
 use Rattle.std.proofs.Common.{rules, sym, subst, ap, arith, ℕ, ◌≡◌, ◌≤◌, ◌∙◌}
+use Rattle.layout.specs.StateLimits.{limits_of}
 use Rattle.layout.specs.Limits.{Sizes}
 use Rattle.model.specs.Records.{count_orphans}
 use Rattle.replay.proofs.GraphLaws.{known_graph}
@@ -14,7 +15,7 @@ pub loop-number-init : goal.loop-number-init
 loop-number-init g c = record {
   read = search rules;
   few = omega arith;
-  counts = λ detail disk settled v shows has. none_counted c.args.inodes.now.geometry.inodes v (known_graph detail c.args.inodes.now.geometry.inodes v has.volume) has.memory.own;
+  counts = λ detail disk settled v shows has. none_counted c.args.inodes.now.geometry.inodes v (known_graph detail (limits_of c.args.inodes.now.geometry) v has.volume) has.memory.own;
 }
 
 pub loop-number-preserved : goal.loop-number-preserved

@@ -1,5 +1,6 @@
 use Rattle.std.proofs.Common.{rules, Err, sym, subst, ap, arith, ℕ, ◌≡◌, ◌+◌, ◌≤◌, ◌∙◌, refl}
 use Rattle.std.proofs.lemmas.Result.{err_from_is_err_and}
+use Rattle.layout.specs.StateLimits.{limits_of}
 use Rattle.layout.specs.Limits.{Sizes}
 use Rattle.model.specs.Volumes.{Volume}
 use Rattle.inofile.specs.Room.{memory_room}
@@ -16,9 +17,9 @@ loop-number-init g c = record {
   read = search rules;
   geometry = refl;
   drops = λ detail disk settled v shows has.
-      subst (λ (w : Volume). IsVolumeIn detail (g.B.Blocks.count c.args.blocks.now) disk settled c.args.inodes.now w) (starts c.args.inodes.now.geometry.inodes v (known_graph detail c.args.inodes.now.geometry.inodes v has.volume) has.memory.own) has.memory;
+      subst (λ (w : Volume). IsVolumeIn detail (g.B.Blocks.count c.args.blocks.now) disk settled c.args.inodes.now w) (starts c.args.inodes.now.geometry.inodes v (known_graph detail (limits_of c.args.inodes.now.geometry) v has.volume) has.memory.own) has.memory;
   room = λ detail base disk settled v shows has.
-      subst (λ (w : Volume). memory_room base c.args.inodes.now w ≤ memory_room base c.args.inodes.now v) (starts c.args.inodes.now.geometry.inodes v (known_graph detail c.args.inodes.now.geometry.inodes v has.volume) has.memory.own) (omega arith);
+      subst (λ (w : Volume). memory_room base c.args.inodes.now w ≤ memory_room base c.args.inodes.now v) (starts c.args.inodes.now.geometry.inodes v (known_graph detail (limits_of c.args.inodes.now.geometry) v has.volume) has.memory.own) (omega arith);
 }
 
 pub loop-number-preserved : goal.loop-number-preserved
@@ -59,9 +60,9 @@ returns-clause-drops g c detail disk settled v shows has =
     let at : c.loop-number.number ≡ inodes = omega (arith, last, many) in
     record {
       memory = subst (λ (w : Volume). IsVolumeIn detail (g.B.Blocks.count c.args.blocks.now) disk settled c.loop-number.inodes w)
-          (ap (λ (n : ℕ). dropped_below n v) at ∙ ends inodes v (known_graph detail inodes v has.volume) many) (c.loop-number.invariant.drops detail disk settled v shows has);
-      volume = subst (λ (s : Sizes). IsKnownVolume detail s.inodes (without_orphans v)) (sym c.loop-number.invariant.geometry)
-          (known_swept detail inodes v (λ volume. (c.mounts_find_volumes.ensures inodes v volume).0) has.volume);
+          (ap (λ (n : ℕ). dropped_below n v) at ∙ ends inodes v (known_graph detail (limits_of c.args.inodes.now.geometry) v has.volume) many) (c.loop-number.invariant.drops detail disk settled v shows has);
+      volume = subst (λ (s : Sizes). IsKnownVolume detail (limits_of s) (without_orphans v)) (sym c.loop-number.invariant.geometry)
+          (known_swept detail (limits_of c.args.inodes.now.geometry) v (λ volume. (c.mounts_find_volumes.ensures (limits_of c.args.inodes.now.geometry) v volume).0) has.volume);
     }
 
 pub returns-clause-room : goal.returns-clause-room
@@ -71,4 +72,4 @@ returns-clause-room g c detail base disk settled v shows has =
     let many : 4 ≤ inodes = omega (arith, last, c.inodes-number-end.ensures.value, c.inodes-number-end.ensures.within.least_inodes) in
     let at : c.loop-number.number ≡ inodes = omega (arith, last, many) in
     subst (λ (w : Volume). memory_room base c.loop-number.inodes w ≤ memory_room base c.args.inodes.now v)
-    (ap (λ (n : ℕ). dropped_below n v) at ∙ ends inodes v (known_graph detail inodes v has.volume) many) (c.loop-number.invariant.room detail base disk settled v shows has)
+    (ap (λ (n : ℕ). dropped_below n v) at ∙ ends inodes v (known_graph detail (limits_of c.args.inodes.now.geometry) v has.volume) many) (c.loop-number.invariant.room detail base disk settled v shows has)

@@ -1,7 +1,9 @@
 use Rattle.std.proofs.Common.{◌∙◌, ◌∷◌, [], ℕ, length, refl, rules, arith, length-append, sym, subst, ap}
+use Rattle.layout.specs.StateLimits.{limits_of}
 use Rattle.layout.specs.Log.{record_of}
 use Rattle.layout.specs.Limits.{Sizes}
-use Rattle.model.specs.Records.{applied, costs}
+use Rattle.model.specs.Records.{applied, cost_of_all, work_of}
+use Rattle.model.specs.Room.{cost}
 use Rattle.model.specs.Volumes.{Volume}
 use Rattle.replay.specs.Volumes.{AppliesIn, HasVolumeIn, RaisesRoom, bodies_of}
 use Rattle.replay.proofs.Errors.{passed}
@@ -28,22 +30,22 @@ loop-body-preserved g c = record {
   leads = λ detail disk settled v w changes shows has leads.
       let read = c.loop-body.invariant.read in
       let count = g.B.Blocks.count c.args.blocks.now in
-      let inodes = c.args.inodes.now.geometry.inodes in
+      let limits = (limits_of c.args.inodes.now.geometry) in
       let sizes = c.loop-body.invariant.geometry in
       let back = c.loop-body.invariant.leads detail disk settled v w changes shows has leads in
-      let next = one_more detail inodes c.args.records.now c.loop-body.rest.now changes back.0 w back.2 c.in-Open.body.now c.in-Open.after.now c.in-Open.ensures.0 c.in-Open.ensures.1 in
+      let next = one_more detail limits c.args.records.now c.loop-body.rest.now changes back.0 w back.2 c.in-Open.body.now c.in-Open.after.now c.in-Open.ensures.0 c.in-Open.ensures.1 in
       let did = c.in_ok-cost-in-Open.ensures.replays detail disk settled back.0 next.0.change (read.same disk shows)
       (subst (λ (n : ℕ). HasVolumeIn detail n disk settled c.loop-body.inodes back.0) (sym read.count) back.1) next.0.spells
-      (subst (λ (s : Sizes). AppliesIn detail s.inodes back.0 next.0.change) (sym sizes) next.0.applies) in (
+      (subst (λ (s : Sizes). AppliesIn detail (limits_of s) back.0 next.0.change) (sym sizes) next.0.applies) in (
         applied next.0.change back.0,
         subst (λ (n : ℕ). HasVolumeIn detail n disk settled c.replay_record.new.inodes (applied next.0.change back.0)) read.count did.1,
         next.1,
-        omega (arith, did.0, back.3, ap (costs back.0) next.0.are, ap (costs (applied next.0.change back.0)) next.2),
+        omega (arith, subst (λ (s : Sizes). c.in_ok-cost-in-Open.value ≡ cost (limits_of s).costs (work_of back.0 next.0.change)) sizes did.0, back.3, ap (cost_of_all (limits_of c.args.inodes.now.geometry).costs back.0) next.0.are, ap (cost_of_all (limits_of c.args.inodes.now.geometry).costs (applied next.0.change back.0)) next.2),
         λ base. omega (arith, back.4 base, did.2 base),
       );
   so_far = λ detail disk settled v shows has.
       let read = c.loop-body.invariant.read in
-      let inodes = c.args.inodes.now.geometry.inodes in
+      let limits = (limits_of c.args.inodes.now.geometry) in
       let sizes = c.loop-body.invariant.geometry in
       let back = c.loop-body.invariant.so_far detail disk settled v shows has in
       let did = c.in_ok-cost-in-Open.ensures.applies detail disk settled back.0 (read.same disk shows)
@@ -51,8 +53,8 @@ loop-body-preserved g c = record {
         applied did.0 back.0,
         subst (λ (n : ℕ). HasVolumeIn detail n disk settled c.replay_record.new.inodes (applied did.0 back.0)) read.count did.3,
         λ more w leads. back.2 (did.0 ∷ more) w
-            (in_front detail inodes c.loop-body.rest.now c.in-Open.body.now c.in-Open.after.now did.0 more back.0 w c.in-Open.ensures.0 c.in-Open.ensures.1 did.1
-            (subst (λ (s : Sizes). AppliesIn detail s.inodes back.0 did.0) sizes did.2) leads),
+            (in_front detail limits c.loop-body.rest.now c.in-Open.body.now c.in-Open.after.now did.0 more back.0 w c.in-Open.ensures.0 c.in-Open.ensures.1 did.1
+            (subst (λ (s : Sizes). AppliesIn detail (limits_of s) back.0 did.0) sizes did.2) leads),
       );
   held = λ bodies left holds.
       c.loop-body.invariant.held (c.in-Open.body.now ∷ bodies) left
@@ -62,8 +64,8 @@ loop-body-preserved g c = record {
 pub returns-in-Closed-clause-replays : goal.returns-in-Closed-clause-replays
 returns-in-Closed-clause-replays g c detail disk settled v w changes shows has leads =
     let back = c.loop-body.invariant.leads detail disk settled v w changes shows has leads in
-    let done = all_done detail c.args.inodes.now.geometry.inodes c.args.records.now c.loop-body.rest.now changes back.0 w back.2 leads.held c.in-Closed.ensures in (
-      record { held = done.0; cost = omega (arith, back.3, ap (costs back.0) done.2) },
+    let done = all_done detail (limits_of c.args.inodes.now.geometry) c.args.records.now c.loop-body.rest.now changes back.0 w back.2 leads.held c.in-Closed.ensures in (
+      record { held = done.0; cost = omega (arith, back.3, ap (cost_of_all (limits_of c.args.inodes.now.geometry).costs back.0) done.2) },
       subst (λ (u : Volume). HasVolumeIn detail (g.B.Blocks.count c.args.blocks.now) disk settled c.loop-body.inodes u) (sym done.1) back.1,
       subst (λ (u : Volume). RaisesRoom c.args.inodes.now v c.loop-body.inodes u c.loop-body.cost) (sym done.1) back.4,
     )
@@ -71,7 +73,7 @@ returns-in-Closed-clause-replays g c detail disk settled v w changes shows has l
 pub returns-in-Closed-clause-applies : goal.returns-in-Closed-clause-applies
 returns-in-Closed-clause-applies g c detail disk settled v shows has =
     let back = c.loop-body.invariant.so_far detail disk settled v shows has in
-    back.2 [] back.0 (none_lead detail c.args.inodes.now.geometry.inodes c.loop-body.rest.now back.0 c.in-Closed.ensures)
+    back.2 [] back.0 (none_lead detail (limits_of c.args.inodes.now.geometry) c.loop-body.rest.now back.0 c.in-Closed.ensures)
 
 pub returns-in-Closed-clause-holds : goal.returns-in-Closed-clause-holds
 returns-in-Closed-clause-holds g c = c.loop-body.invariant.held [] (length c.loop-body.rest.now) (none_behind c.loop-body.rest.now c.in-Closed.ensures)
@@ -84,10 +86,10 @@ returns-in-Malformed-clause-replays g c detail disk settled v w changes shows ha
 pub returns-in_err-cost-in-Open-clause-replays : goal.returns-in_err-cost-in-Open-clause-replays
 returns-in_err-cost-in-Open-clause-replays g c detail disk settled v w changes shows has leads =
     let read = c.loop-body.invariant.read in
-    let inodes = c.args.inodes.now.geometry.inodes in
+    let limits = (limits_of c.args.inodes.now.geometry) in
     let back = c.loop-body.invariant.leads detail disk settled v w changes shows has leads in
-    let next = one_more detail inodes c.args.records.now c.loop-body.rest.now changes back.0 w back.2 c.in-Open.body.now c.in-Open.after.now c.in-Open.ensures.0 c.in-Open.ensures.1 in
+    let next = one_more detail limits c.args.records.now c.loop-body.rest.now changes back.0 w back.2 c.in-Open.body.now c.in-Open.after.now c.in-Open.ensures.0 c.in-Open.ensures.1 in
     let why = c.in_err-cost-in-Open.ensures.replays detail disk settled back.0 next.0.change (read.same disk shows)
     (subst (λ (n : ℕ). HasVolumeIn detail n disk settled c.loop-body.inodes back.0) (sym read.count) back.1) next.0.spells
-    (subst (λ (s : Sizes). AppliesIn detail s.inodes back.0 next.0.change) (sym c.loop-body.invariant.geometry) next.0.applies) in
+    (subst (λ (s : Sizes). AppliesIn detail (limits_of s) back.0 next.0.change) (sym c.loop-body.invariant.geometry) next.0.applies) in
     passed _ c.from_residual.result c.in_err-cost-in-Open.field-0.0 (search rules) why

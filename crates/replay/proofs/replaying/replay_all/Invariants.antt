@@ -1,7 +1,8 @@
 use Rattle.std.proofs.Common.{◌≡◌, ◌+◌, ◌*◌, ◌≤◌, ℕ, List, length}
+use Rattle.layout.specs.StateLimits.{limits_of}
 use Rattle.layout.specs.Record.{Change}
 use Rattle.layout.specs.declared.inode.Inode.{Inode}
-use Rattle.model.specs.Records.{costs}
+use Rattle.model.specs.Records.{cost_of_all}
 use Rattle.model.specs.Volumes.{Volume}
 use Rattle.buffers.specs.Reads.{HasOnlyRead}
 use Rattle.images.specs.Soundness.{Detail}
@@ -18,16 +19,16 @@ invariant-loop-body g l = record {
   shorter : length l.rest ≤ length l.records;
   few : l.cost + MOST_COST * length l.rest ≤ MOST_COST * length l.records;
   leads : (detail : Detail) (disk : ℕ → List ℕ) (settled : ℕ → Inode) (v w : Volume) (changes : List Change) → g.B.Blocks.Shows l.fn.blocks disk
-      → HasVolumeIn detail (g.B.Blocks.count l.fn.blocks) disk settled l.fn.inodes v → LeadTo detail l.fn.inodes.geometry.inodes l.records changes v w
+      → HasVolumeIn detail (g.B.Blocks.count l.fn.blocks) disk settled l.fn.inodes v → LeadTo detail (limits_of l.fn.inodes.geometry) l.records changes v w
       → (now : Volume) × HasVolumeIn detail (g.B.Blocks.count l.fn.blocks) disk settled l.inodes now
-      × (left : IsLeft detail l.fn.inodes.geometry.inodes l.records l.rest changes now w)
-      × (l.cost + costs now left.more ≡ costs v changes)
+      × (left : IsLeft detail (limits_of l.fn.inodes.geometry) l.records l.rest changes now w)
+      × (l.cost + cost_of_all (limits_of l.fn.inodes.geometry).costs now left.more ≡ cost_of_all (limits_of l.fn.inodes.geometry).costs v changes)
       × RaisesRoom l.fn.inodes v l.inodes now l.cost;
   so_far : (detail : Detail) (disk : ℕ → List ℕ) (settled : ℕ → Inode) (v : Volume) → g.B.Blocks.Shows l.fn.blocks disk
       → HasVolumeIn detail (g.B.Blocks.count l.fn.blocks) disk settled l.fn.inodes v
       → (now : Volume) × HasVolumeIn detail (g.B.Blocks.count l.fn.blocks) disk settled l.inodes now
-      × ((more : List Change) (w : Volume) → LeadTo detail l.fn.inodes.geometry.inodes l.rest more now w
-      → LeadSomewhere detail l.fn.inodes.geometry.inodes l.records v);
+      × ((more : List Change) (w : Volume) → LeadTo detail (limits_of l.fn.inodes.geometry) l.rest more now w
+      → LeadSomewhere detail (limits_of l.fn.inodes.geometry) l.records v);
   held : (bodies : List (List ℕ)) (left : ℕ) → HoldsLeaving l.rest bodies left → (all : List (List ℕ)) × HoldsLeaving l.records all left;
 }
 

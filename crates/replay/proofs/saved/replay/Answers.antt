@@ -1,4 +1,4 @@
-use Rattle.std.proofs.Common.{ℕ, rules, sym, subst, arith}
+use Rattle.std.proofs.Common.{◌≡◌, ◌*◌, ℕ, rules, sym, subst, arith}
 use Rattle.model.specs.Records.{without_orphans}
 use Rattle.inofile.proofs.RoomLaws.{clean_room}
 use Rattle.replay.specs.Volumes.{HasVolumeIn}
@@ -20,7 +20,8 @@ returns-clause-replays g c detail disk settled v w changes nvram shows has tells
     let told = c.in_ok-orphans.ensures in
     let read = told.reads in
     let end = c.in_ok-log.ensures.replays detail disk settled v w changes nvram (read.same disk shows) (subst (λ (k : ℕ). HasVolumeIn detail k disk settled c.args.inodes.now v) (sym read.count) has) tells saves in
-    (end.0, subst (λ (k : ℕ). HasVolumeIn detail k disk settled c.replay_records.new.inodes (without_orphans w)) read.count end.1, omega (arith, told.counts detail disk settled v shows has, end.2, c.from.ensures))
+    let dropped : c.cost_of_orphans-dropped.result ≡ 4 * c.in_ok-orphans.orphans = c.cost_of_orphans-dropped.ensures.is in
+    (end.0, subst (λ (k : ℕ). HasVolumeIn detail k disk settled c.replay_records.new.inodes (without_orphans w)) read.count end.1, omega (arith, told.counts detail disk settled v shows has, end.2, dropped))
 
 pub returns-clause-applies : goal.returns-clause-applies
 returns-clause-applies g c detail disk settled v nvram shows has tells =
@@ -36,4 +37,5 @@ returns-clause-room g c detail disk settled v w changes nvram shows has tells sa
     let read = told.reads in
     let s = c.args.inodes.now in
     let end = c.in_ok-log.ensures.replays detail disk settled v w changes nvram (read.same disk shows) (subst (λ (k : ℕ). HasVolumeIn detail k disk settled s v) (sym read.count) has) tells saves in
-    omega (arith, end.3 v, told.counts detail disk settled v shows has, end.2, c.from.ensures, clean_room s v none s.geometry.inodes)
+    let dropped : c.cost_of_orphans-dropped.result ≡ 4 * c.in_ok-orphans.orphans = c.cost_of_orphans-dropped.ensures.is in
+    omega (arith, end.3 v, told.counts detail disk settled v shows has, end.2, dropped, clean_room s v none s.geometry.inodes)

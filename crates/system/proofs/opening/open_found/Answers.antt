@@ -1,4 +1,5 @@
 use Rattle.std.proofs.Common.{◌≡◌, ◌∙◌, ◌*◌, ℕ, Option, None, ap, refl, sym, subst}
+use Rattle.layout.specs.StateLimits.{limits_of}
 use Rattle.layout.specs.Places.{blocks_of}
 use Rattle.buffers.specs.Disks.{ReadsOn}
 use Rattle.overlay.specs.Overlays.{ShowsOver}
@@ -43,8 +44,8 @@ returns-in-Ok-clause-serves g c honest just of first last snapshots changes hold
       holds = holds;
       has = c.in-Ok.ensures.has (blocks_of i.disk) i.nvram first last snapshots changes shows of.saved holds;
     } in
-    let inodes = c.args.found.newest.root.geometry.inodes in
-    let mounted = (c.mounts_find_volumes.ensures inodes last (c.replays_keep_volumes.ensures inodes first changes last holds.holds.volume holds.replays)).1 in
+    let limits = limits_of c.args.found.newest.root.geometry in
+    let mounted = (c.mounts_find_volumes.ensures limits last (c.replays_keep_volumes.ensures limits first changes last holds.holds.volume holds.replays)).1 in
     serves new kept c.args.found c.in-Ok.field-0 first last snapshots changes c.new.result c.new.ensures.closed c.new.ensures.fits c.read_image.new.blocks.pending rests i (from.goes honest).seen mounted
     c.in-Ok.ensures.fits.runs over
 

@@ -1,6 +1,7 @@
 use Rattle.std.proofs.Common.{rules, ◌≡◌, ◌⊎◌, ◌∙◌, Err, Ok, Option, Result, Some, ap, inl, inr, sym, subst}
 use Rattle.std.specs.Result.{IsErrAnd}
 use Rattle.std.specs.Prelude.{IsErrOf}
+use Rattle.layout.specs.StateLimits.{limits_of}
 use Rattle.buffers.specs.declared.error.BlockError.{BlockError}
 use Rattle.buffers.specs.declared.error.BlockError.TheVariants as read
 use Rattle.layout.specs.Limits.{Sizes}
@@ -28,7 +29,7 @@ returns-clause-loads g c = λ disk shows v pairs holds.
       search rules,
       record {
         volume = kept;
-        is = subst (λ (x : Sizes). IsVolume x.inodes kept) (sym are.geometry) volume;
+        is = subst (λ (x : Sizes). IsVolume (limits_of x) kept) (sym are.geometry) volume;
         listed = finds.1.listed ∙ ap (λ (t : Tree). Some (name, t)) is;
         settled = inodes_of ((whole disk r).frozen c.in-Some.found.slot);
         stands = are.volume kept hold;

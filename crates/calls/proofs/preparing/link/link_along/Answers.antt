@@ -1,4 +1,5 @@
 use Rattle.std.proofs.Common.{◌∙◌, [], refl, sym}
+use Rattle.layout.specs.StateLimits.{limits_of}
 use Rattle.model.specs.Paths.{new_text_tests, text_tests}
 use Rattle.model.proofs.LeadLemmas.{passed_both}
 use Rattle.paths.proofs.Looks.{looks_more}
@@ -9,13 +10,13 @@ use Rattle.calls.proofs.TruncateLaws.{found_other}
 use Rattle.calls.proofs.preparing.link.link_along.Goals as goal
 
 pub find_object-requires-clause-level : goal.find_object-requires-clause-level
-find_object-requires-clause-level g c = level_then [] c.args.old.now (passed_both (text_tests c.args.old.now) (new_text_tests c.args.path.now) c.requires.passed).0
+find_object-requires-clause-level g c = level_then (limits_of c.args.inodes.now.geometry) [] c.args.old.now (passed_both (text_tests (limits_of c.args.inodes.now.geometry) c.args.old.now) (new_text_tests (limits_of c.args.inodes.now.geometry) c.args.path.now) c.requires.passed).0
 
 pub returns-in_err-number : goal.returns-in_err-number
 returns-in_err-number g c = passes _ c.from_residual.result c.from_residual.ensures.1 c.in_err-number.ensures
     (λ disk settled v table stands volume mounted errno.
-    let inodes = c.args.inodes.now.geometry.inodes in
-    link_nowhere inodes v table volume mounted (c.volumes_are_trees.ensures inodes v table volume mounted) c.args.old.now c.args.path.now c.requires.passed errno)
+    let limits = limits_of c.args.inodes.now.geometry in
+    link_nowhere limits v table volume mounted (c.volumes_are_trees.ensures limits v table volume mounted) c.args.old.now c.args.path.now c.requires.passed errno)
 
 pub returns-in_err-found : goal.returns-in_err-found
 returns-in_err-found g c =
@@ -28,9 +29,9 @@ returns-in-File g c = follows (looks_more c.in_ok-number.ensures.looks c.in_ok-f
 
 pub returns-in_default : goal.returns-in_default
 returns-in_default g c = refuses (looks_more c.in_ok-number.ensures.looks c.in_ok-found.ensures.looks) refl (λ disk settled v table stands volume mounted.
-    let inodes = c.args.inodes.now.geometry.inodes in
+    let limits = limits_of c.args.inodes.now.geometry in
     let old = c.args.old.now in
     let n = c.in_ok-number.number in
     let found = c.in_ok-found.ensures.found disk settled v (c.find_object.ensures.looks.kept disk settled v stands) in
-    link_no_file inodes v table volume mounted (c.volumes_are_trees.ensures inodes v table volume mounted) old c.args.path.now c.requires.passed n
+    link_no_file limits v table volume mounted (c.volumes_are_trees.ensures limits v table volume mounted) old c.args.path.now c.requires.passed n
     (c.in_ok-number.ensures.leads disk settled v table stands volume) (found_other (v n) (λ is. c.in_default.not-File (found ∙ is))))

@@ -1,4 +1,5 @@
 use Rattle.std.proofs.Common.{◌≡◌, ◌∙◌, ap, refl, sym, subst}
+use Rattle.layout.specs.StateLimits.{limits_of}
 use Rattle.model.specs.Records.{Applies, Change, link}
 use Rattle.records.specs.Obstacles.{IsObstacle}
 use Rattle.records.proofs.StandLaws.{no_look}
@@ -13,11 +14,11 @@ returns-in_err-prepared g c =
     let said = link c.args.number c.args.parent in
     let same : said c.deref.result.now ≡ said c.args.name.items = ap said (c.deref.ensures.value ∙ c.in-Some.ensures.some) in
     hindered _ c.from_residual.result c.from_residual.ensures.1 c.in_err-prepared.ensures
-    (λ disk settled v table stands volume errno first. subst (λ (h : Change). IsObstacle c.args.inodes.now.geometry.inodes v h errno) same (first stands))
+    (λ disk settled v table stands volume errno first. subst (λ (h : Change). IsObstacle (limits_of c.args.inodes.now.geometry) v h errno) same (first stands))
 
 pub returns : goal.returns
 returns g c =
     let said = link c.args.number c.args.parent in
     let same : said c.deref.result.now ≡ said c.args.name.items = ap said (c.deref.ensures.value ∙ c.in-Some.ensures.some) in
     granted c.in_ok-prepared.ensures refl (ap said (sym c.deref.ensures.value)) (λ disk settled v stands. stands)
-    (λ disk settled v table stands volume applies. (ap said c.in-Some.ensures.some, subst (Applies c.args.inodes.now.geometry.inodes v) same (applies stands)))
+    (λ disk settled v table stands volume applies. (ap said c.in-Some.ensures.some, subst (Applies (limits_of c.args.inodes.now.geometry) v) same (applies stands)))

@@ -1,5 +1,6 @@
 use Rattle.std.proofs.Common.{◌∙◌, ℕ, Err, IfOk, inl, inr, refl, ap, subst}
 use Rattle.std.proofs.lemmas.Bool.{not-false, not-true}
+use Rattle.layout.specs.StateLimits.{limits_of}
 use Rattle.model.specs.Records.{create, file}
 use Rattle.records.specs.Failures.{read_outcome}
 use Rattle.records.specs.declared.failure.Failure.{Failure}
@@ -18,7 +19,7 @@ returns-in_err-changing-clause-opens g c =
     let made = c.in_err-changing.ensures.prepares in
     fails {X = Changing} _ c.from_residual.result c.from_residual.ensures.1 made.looks made.own made.damaged (λ disk settled v table stands volume mounted errno is. inr (
       not-false c.args.flags.creates c.if-not-flags.false,
-      subst (λ (f : Failure). IfOk (read_outcome {T = Changing} (Err f)) (MakesIn c.args.inodes.now.geometry.inodes v c.args.parent c.args.name.items (file c.args.mode))) is
+      subst (λ (f : Failure). IfOk (read_outcome {T = Changing} (Err f)) (MakesIn (limits_of c.args.inodes.now.geometry) v c.args.parent c.args.name.items (file c.args.mode))) is
           (made.answers disk settled v table stands volume mounted),
     ))
 

@@ -1,4 +1,5 @@
 use Rattle.std.proofs.Common.{◌≡◌, ◌∙◌, ℕ, List, inl, inr, ap, refl, sym, subst}
+use Rattle.layout.specs.StateLimits.{limits_of}
 use Rattle.model.specs.Records.{Applies, Change, rename}
 use Rattle.model.specs.Volumes.{Volume, entries}
 use Rattle.model.proofs.OptionLaws.{some_or_none}
@@ -30,7 +31,7 @@ returns-in_err-prepared g c =
     subst (λ (z : List ℕ). MovesOver v d z c.args.number k c.deref-2.result.now c.args.target) (sym x)
     (subst (λ (w : List ℕ). MovesOver v d c.args.name.items c.args.number k w c.args.target) (sym y) names) in
     whatever (hindered _ c.from_residual.result c.from_residual.ensures.1 c.in_err-prepared.ensures (λ disk settled v table stands volume errno first names outside.
-    subst (λ (h : Change). IsObstacle c.args.inodes.now.geometry.inodes v h errno) same (first (stands, over v names, outside))))
+    subst (λ (h : Change). IsObstacle (limits_of c.args.inodes.now.geometry) v h errno) same (first (stands, over v names, outside))))
 
 pub returns : goal.returns
 returns g c =
@@ -49,5 +50,5 @@ returns g c =
     rw c.note_move.ensures (granted_knowing _ c.in_ok-prepared.ensures says (λ disk settled v stands names. (stands, over v names))
     (λ disk settled v table stands volume names applies outside. (
       says ∙ same,
-      subst (Applies c.args.inodes.now.geometry.inodes v) same (applies (stands, over v names, outside)),
+      subst (Applies (limits_of c.args.inodes.now.geometry) v) same (applies (stands, over v names, outside)),
     )))

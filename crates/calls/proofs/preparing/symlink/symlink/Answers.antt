@@ -1,11 +1,15 @@
 use Rattle.std.proofs.Common.{rules, ◌≡◌, ◌∙◌, ℕ, List, None, sym, subst}
+use Rattle.model.specs.declared.limits.Limits.{Limits}
+use Rattle.layout.specs.StateLimits.{limits_of}
+use Rattle.layout.specs.declared.limits.TheConstants.{PATH_BYTES}
 use Rattle.model.specs.Changes.{with_made}
 use Rattle.model.specs.Changing.{creates, link_text_tests}
-use Rattle.model.specs.Paths.{first_refusal}
+use Rattle.model.specs.Paths.{IsLinkText, first_refusal}
 use Rattle.model.specs.Records.{symbolic_link}
 use Rattle.model.specs.Volumes.{tree_of}
 use Rattle.records.proofs.StandLaws.{no_look}
 use Rattle.calls.specs.Changing.{Comes}
+use Rattle.calls.proofs.LimitLaws.{by_limits, link_text_within}
 use Rattle.calls.proofs.PrepareSteps.{leaves, refuses}
 use Rattle.calls.proofs.RefusalLaws.{link_text_own}
 use Rattle.calls.proofs.SymlinkLaws.{link_text_refused, symlink_comes}
@@ -13,16 +17,21 @@ use Rattle.calls.proofs.preparing.symlink.symlink.Goals as goal
 
 pub returns-in-Some : goal.returns-in-Some
 returns-in-Some g c =
-    let is = sym c.refusal_of_link_text.ensures ∙ c.in-Some.is in
-    refuses no_look (link_text_own c.args.text.now c.in-Some.errno is)
-    (λ disk settled v table stands volume mounted. link_text_refused c.args.inodes.now.geometry.inodes v table c.args.text.now c.args.path.now c.in-Some.errno is)
+    let is = sym (by_limits (λ (l : Limits). link_text_tests l c.args.text.now) c.limits.ensures c.refusal_of_link_text.ensures) ∙ c.in-Some.is in
+    refuses no_look (link_text_own (limits_of c.args.inodes.now.geometry) c.args.text.now c.in-Some.errno is)
+    (λ disk settled v table stands volume mounted. link_text_refused (limits_of c.args.inodes.now.geometry) v table c.args.text.now c.args.path.now c.in-Some.errno is)
+
+pub unreachable-requires : goal.unreachable-requires
+unreachable-requires g c =
+    let passed = sym (by_limits (λ (l : Limits). link_text_tests l c.args.text.now) c.limits.ensures c.refusal_of_link_text.ensures) ∙ c.in_default.is in
+    c.in_default-new.ensures.none (subst (IsLinkText PATH_BYTES) (sym c.in_ok-bytes.ensures.items) (link_text_within (limits_of c.args.inodes.now.geometry) c.args.text.now passed))
 
 pub returns : goal.returns
 returns g c = leaves c.make.ensures (λ disk settled v table stands volume mounted r told.
-    let inodes = c.args.inodes.now.geometry.inodes in
+    let limits = limits_of c.args.inodes.now.geometry in
     let t = tree_of v table in
     let text = c.args.text.now in
     let path = c.args.path.now in
-    let passed : first_refusal (link_text_tests text) ≡ None = search rules in
+    let passed : first_refusal (link_text_tests (limits_of c.args.inodes.now.geometry) text) ≡ None = sym (by_limits (λ (l : Limits). link_text_tests l c.args.text.now) c.limits.ensures c.refusal_of_link_text.ensures) ∙ c.in_default.is in
     let same : c.in-Some-new.text.bytes.items ≡ text = c.in-Some-new.ensures.some ∙ c.in_ok-bytes.ensures.items in
-    symlink_comes inodes v table text path passed r (subst (λ (x : List ℕ). Comes (creates inodes t path (with_made (symbolic_link x))) inodes v table r) same told))
+    symlink_comes limits v table text path passed r (subst (λ (x : List ℕ). Comes (creates limits t path (with_made (symbolic_link x))) limits v table r) same told))

@@ -2,6 +2,7 @@ use Rattle.std.proofs.Common.{◌∙◌, ℕ, get_or, nat_abs, w64, inr, Ok, Err
 use Rattle.std.proofs.lemmas.Int.{to_z-of_z}
 use Rattle.std.specs.List.{AllZip}
 use Rattle.std.proofs.lemmas.List.Elements.{All-contains}
+use Rattle.layout.specs.StateLimits.{limits_of}
 use Rattle.dirs.specs.declared.directory.NumberedName.{NumberedName}
 use Rattle.layout.specs.Limits.{Sizes}
 use Rattle.model.specs.declared.errno.Errno.TheVariants.{ENOTDIR}
@@ -16,11 +17,11 @@ use Rattle.calls.proofs.SeeSteps.{grants, passes, refuses, stops, stops_later}
 use Rattle.calls.proofs.reading.tell_entries.entries_along.Goals as goal
 
 pub find_object-requires-clause-level : goal.find_object-requires-clause-level
-find_object-requires-clause-level g c = level_then (part_tests c.args.after c.args.count) c.args.path.now c.requires.passed
+find_object-requires-clause-level g c = level_then (limits_of c.args.inodes.now.geometry) (part_tests c.args.after c.args.count) c.args.path.now c.requires.passed
 
 pub returns-in_err-number : goal.returns-in_err-number
 returns-in_err-number g c = passes _ c.from_residual.result c.from_residual.ensures.1 c.in_err-number.ensures
-    (λ disk settled v table stands volume errno is. entries_nowhere c.args.inodes.now.geometry.inodes v table volume c.volumes_tell_links.ensures c.args.after c.args.count 0 c.args.path.now errno (inr (c.requires.passed, is)))
+    (λ disk settled v table stands volume errno is. entries_nowhere (limits_of c.args.inodes.now.geometry) v table volume c.volumes_tell_links.ensures c.args.after c.args.count 0 c.args.path.now errno (inr (c.requires.passed, is)))
 
 pub returns-in_err-found : goal.returns-in_err-found
 returns-in_err-found g c =
@@ -29,7 +30,7 @@ returns-in_err-found g c =
 pub returns-then-not-found : goal.returns-then-not-found
 returns-then-not-found g c = refuses (looks_more c.in_ok-number.ensures.looks c.in_ok-found.ensures.looks) refl (λ disk settled v table stands volume.
     let now = c.find_object.ensures.looks.kept disk settled v stands in
-    entries_answered c.args.inodes.now.geometry.inodes v table volume c.volumes_tell_links.ensures c.args.after c.args.count c.in_ok-number.number c.args.path.now (Err ENOTDIR)
+    entries_answered (limits_of c.args.inodes.now.geometry) v table volume c.volumes_tell_links.ensures c.args.after c.args.count c.in_ok-number.number c.args.path.now (Err ENOTDIR)
     (c.requires.passed, c.in_ok-number.ensures.leads disk settled v table stands volume) (sym (c.in_ok-found.ensures.found disk settled v now) ∙ c.if-not-found.true, refl))
 
 pub returns-in_err-names : goal.returns-in_err-names
@@ -59,7 +60,7 @@ returns-in_err-entries g c =
     (λ disk settled v table stands volume errno none.
     let now = c.is_directory_at.ensures.looks.kept disk settled v (c.find_object.ensures.looks.kept disk settled v stands) in
     let listing = c.in_ok-names.ensures.found disk settled v now in
-    absurd (none (objects_there c.args.inodes.now.geometry.inodes v volume c.in_ok-number.number c.in_ok-names.names.items listing c.in_ok-told.told.items c.in_ok-told.ensures.marked)))
+    absurd (none (objects_there (limits_of c.args.inodes.now.geometry) v volume c.in_ok-number.number c.in_ok-names.names.items listing c.in_ok-told.told.items c.in_ok-told.ensures.marked)))
 
 pub returns : goal.returns
 returns g c =
@@ -71,7 +72,7 @@ returns g c =
     let last = c.list_numbered.ensures.looks.kept disk settled v now in
     let start = c.unsigned_abs.ensures.value ∙ ap nat_abs (to_z-of_z w64 c.args.after c.ranges.after) in
     let each = c.in_ok-entries.ensures.tells disk settled v last in
-    entries_answered c.args.inodes.now.geometry.inodes v table volume c.volumes_tell_links.ensures c.args.after c.args.count n c.args.path.now (Ok c.new.result)
+    entries_answered (limits_of c.args.inodes.now.geometry) v table volume c.volumes_tell_links.ensures c.args.after c.args.count n c.args.path.now (Ok c.new.result)
     (c.requires.passed, c.in_ok-number.ensures.leads disk settled v table stands volume) (
       sym (c.in_ok-found.ensures.found disk settled v first) ∙ c.if-not-found.false,
       record {

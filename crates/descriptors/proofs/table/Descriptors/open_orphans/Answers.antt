@@ -9,4 +9,4 @@ pub returns-clause-few : goal.returns-clause-few
 returns-clause-few c = omega (arith, c.orphans.ensures.counted, orphans_few c.args.self.now c.orphans.ensures.unique)
 
 pub returns-clause-counted : goal.returns-clause-counted
-returns-clause-counted c inodes v volume mounted fits = c.orphans.ensures.counted ∙ orphans_counted c.args.self.now c.orphans.ensures.unique inodes v volume mounted fits
+returns-clause-counted c limits v volume mounted fits = c.orphans.ensures.counted ∙ orphans_counted c.args.self.now c.orphans.ensures.unique limits v volume mounted fits

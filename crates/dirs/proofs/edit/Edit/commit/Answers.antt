@@ -3,7 +3,7 @@ use Rattle.std.specs.BTreeMap as tree
 use Rattle.std.proofs.lemmas.Bool.{cases_eq, cases_lt, cond-false, cond-true, eq-eqb, le-ltb, lt-ltb, ne_eqb}
 use Rattle.layout.specs.Bytes.{zeros}
 use Rattle.layout.proofs.ZeroLaws.{length-zeros}
-use Rattle.model.specs.declared.limits.TheConstants.{SINGLE_FILE}
+use Rattle.layout.specs.declared.TheConstants.{SINGLE_BYTES}
 use Rattle.blocktree.specs.Places.{block_count}
 use Rattle.blocktree.specs.Trees.{IsChanged}
 use Rattle.inode.specs.Files.{file_block}
@@ -65,7 +65,7 @@ returns-clause-few c =
     let few : (n : ℕ) → changed_below c.set_size.new.self.tree n ≤ changed_below c.args.file.now.tree n + tree.btree_map_len c.args.self.changed =
     λ n. omega (arith, none_changed c.loop-i.file.tree c.set_size.new.self.tree c.set_size.ensures.changed n, c.loop-i.invariant.few n) in
     let tops = none_top c.loop-i.file.tree c.set_size.new.self.tree c.set_size.ensures.changed in
-    let grown : (c.set_size.new.self.size ≤ SINGLE_FILE) ⊎ (c.set_size.new.self.size ≤ c.args.file.now.size) =
+    let grown : (c.set_size.new.self.size ≤ SINGLE_BYTES) ⊎ (c.set_size.new.self.size ≤ c.args.file.now.size) =
     elim c.requires.grown [
       | inl had ↦ inr (omega (arith, had, c.set_size.ensures.size))
       | inr low ↦ inl (omega (arith, low, c.set_size.ensures.size))

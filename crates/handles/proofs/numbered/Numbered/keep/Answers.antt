@@ -22,14 +22,14 @@ returns-in_default-clause-goes g c = λ s t kept would wide gives shows.
     let plain : IsFalse (has_restored asked c.args.reply.now) = sym c.has_restored.ensures ∙ c.if-has_restored.false in
     let none : c.args.number ≡ None = search rules in
     inl (kept_by_full s t asked c.args.reply.now gives plain (generation_in c.args.self.now.generations)
-    (subst (λ (o : Option ℕ). MatchOption o (IsTrue (may_make asked) → HasNoFresh s.inodes s.tree) (IsFresh s.inodes s.tree)) none would))
+    (subst (λ (o : Option ℕ). MatchOption o (IsTrue (may_make asked) → HasNoFresh s.limits s.tree) (IsFresh s.limits s.tree)) none would))
 
 pub returns-then-is_used-clause-goes : goal.returns-then-is_used-clause-goes
 returns-then-is_used-clause-goes g c = λ s t kept would wide gives shows.
     let asked = c.args.command.now in
     let plain : IsFalse (has_restored asked c.args.reply.now) = sym c.has_restored.ensures ∙ c.if-has_restored.false in
-    let fresh : IsFresh s.inodes s.tree c.in-Some.number =
-    subst (λ (o : Option ℕ). MatchOption o (IsTrue (may_make asked) → HasNoFresh s.inodes s.tree) (IsFresh s.inodes s.tree)) c.in-Some.is would in
+    let fresh : IsFresh s.limits s.tree c.in-Some.number =
+    subst (λ (o : Option ℕ). MatchOption o (IsTrue (may_make asked) → HasNoFresh s.limits s.tree) (IsFresh s.limits s.tree)) c.in-Some.is would in
     let used : IsUsed t.tree c.in-Some.number = (c.is_used.ensures t kept shows).0 c.if-is_used.true in
     let below : c.in-Some.number < length c.args.self.now.generations.given.items = omega (arith, fresh.high, wide) in
     inl (kept_by_next s t asked c.args.reply.now gives plain c.in-Some.number fresh (generation_in c.args.self.now.generations) (generation_in c.give.new.self)
@@ -39,7 +39,7 @@ pub returns-else-is_used-clause-goes : goal.returns-else-is_used-clause-goes
 returns-else-is_used-clause-goes g c = λ s t kept would wide gives shows.
     let asked = c.args.command.now in
     let plain : IsFalse (has_restored asked c.args.reply.now) = sym c.has_restored.ensures ∙ c.if-has_restored.false in
-    let fresh : IsFresh s.inodes s.tree c.in-Some.number =
-    subst (λ (o : Option ℕ). MatchOption o (IsTrue (may_make asked) → HasNoFresh s.inodes s.tree) (IsFresh s.inodes s.tree)) c.in-Some.is would in
+    let fresh : IsFresh s.limits s.tree c.in-Some.number =
+    subst (λ (o : Option ℕ). MatchOption o (IsTrue (may_make asked) → HasNoFresh s.limits s.tree) (IsFresh s.limits s.tree)) c.in-Some.is would in
     inl (kept_by_unused s t asked c.args.reply.now gives plain c.in-Some.number fresh (generation_in c.args.self.now.generations)
     (λ used. false≢true (sym c.if-is_used.false ∙ (c.is_used.ensures t kept shows).1 used)))

@@ -6,7 +6,7 @@ use Rattle.station.specs.Moments.{HasGrown}
 use Rattle.layout.specs.Limits.{Sizes}
 use Rattle.layout.specs.Places.{blocks_of}
 use Rattle.model.specs.Records.{count_orphans}
-use Rattle.model.specs.Room.{fixed_of}
+use Rattle.layout.specs.StateLimits.{fixed_of, limits_of}
 use Rattle.model.specs.States.{State}
 use Rattle.model.specs.Trees.{Description}
 use Rattle.model.specs.Volumes.{IsMounted, Volume}
@@ -306,7 +306,7 @@ invariant_of-self-in-Ok-take_memory g c =
       sizes = c.switch_to_new_root.ensures.geometry ∙ f.sizes ∙ sym sizes;
       count = c.plan-map.ensures.map.count ∙ given_count g at ∙ f.count ∙ ap (λ (x : Sizes). x.blocks) (sym sizes);
       counted = counted g at;
-      few = omega (arith, c.open_orphans.ensures.few, c.from.ensures);
+      few = omega (arith, c.open_orphans.ensures.few, c.cost_of_orphans-orphans.ensures);
       numbers = subst (λ (x : Sizes). HasNumbers x.inodes f.files) (sym c.switch_to_new_root.ensures.geometry) f.numbers;
       is_root = point.root_is;
     }
@@ -366,9 +366,9 @@ returns-in-Ok-take_memory g c =
           subst (λ (x : Planned). PlansEntries (blocks_of m.seen.disk) f.root x new c.plan-map.result.0) (sym taken.plan.0)
           (of_ok r q (λ (x : Point). PlansEntries (blocks_of m.seen.disk) f.root x.plan x.root c.plan-map.result.0) c.in-Ok.is
           (c.plan-map.ensures.over m.seen.disk base v rest.shows (plannable g at known table s serves base v may)).entries) in
-          let counted : c.from.result ≡ count_orphans f.root.geometry.inodes v =
-          c.from.ensures ∙ c.open_orphans.ensures.counted f.root.geometry.inodes v may.volume
-          (subst (λ (t : ℕ → Option Description). IsMounted v t) serves.opened may.mounted) may.fits in
+          let counted : c.cost_of_orphans-orphans.result ≡ 4 * count_orphans f.root.geometry.inodes v =
+          c.cost_of_orphans-orphans.ensures ∙ ap (λ (n : ℕ). 4 * n) (c.open_orphans.ensures.counted (limits_of f.root.geometry) v may.volume
+          (subst (λ (t : ℕ → Option Description). IsMounted v t) serves.opened may.mounted) may.fits) in
           record {
             pending = c.in-Ok-take_memory.pending;
             is = c.begin.ensures.pending;
@@ -390,7 +390,7 @@ returns-in-Ok-take_memory g c =
                 (settled.agrees cuts roots serves rests f.sectors f.half p new step v plan here then has) b));
             newer = λ g bodies nvram first stands. c.go_on.ensures.newer g bodies nvram first (omega (arith, next, first)) stands;
             covered = λ g bodies nvram small stands. c.go_on.ensures.covered g bodies nvram small next stands;
-            pledges = ap (λ (n : ℕ). 4 * n) counted;
+            pledges = counted;
             saves = λ same few. let saved = both.1 same few in omega (arith, saved, counted);
             stored = omega (
               arith,

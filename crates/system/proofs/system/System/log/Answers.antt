@@ -1,6 +1,8 @@
 use Rattle.std.proofs.Common.{Err, ◌≡◌, ◌≤◌, ◌+◌, ◌∙◌, ◌⊎◌, ℕ, Option, ap, arith, inl, sym, subst}
 use Rattle.std.specs.Prelude.{IsErrOf}
 use Rattle.std.proofs.lemmas.Bool.{false≢true}
+use Rattle.layout.specs.Limits.{Sizes}
+use Rattle.layout.specs.StateLimits.{limits_of}
 use Rattle.station.specs.Images.{Images}
 use Rattle.station.specs.Moments.{EachCut, Meaning}
 use Rattle.station.proofs.Moments.{started, weaker}
@@ -101,8 +103,9 @@ returns-clause-told g c = λ table s serves knows.
           let over = subst (λ (i : InodeFile). IsVolumeOf count disk settled i v) same serves.memory.stands in
           let doing = subst (λ (i : InodeFile). Does disk settled i v c.args.prepared change) same does in
           let mounted = subst (λ (t : ℕ → Option Description). IsMounted v t) opened serves.mounted in
-          let within = subst (λ (i : InodeFile). memory_room serves.first c.commit_swept.new.inodes (after (table_of c.log_record.new.self.files)) ≤ memory_room serves.first i v + cost (work_of v change))
-          (sym same) (c.commit_swept.ensures.room serves.first count disk settled v change over doing mounted) in
+          let within = subst (λ (z : Sizes). memory_room serves.first c.commit_swept.new.inodes (after (table_of c.log_record.new.self.files)) ≤ memory_room serves.first f.inodes v + cost (limits_of z).costs (work_of v change)) f.sizes
+          (subst (λ (i : InodeFile). memory_room serves.first c.commit_swept.new.inodes (after (table_of c.log_record.new.self.files)) ≤ memory_room serves.first i v + cost (limits_of i.geometry).costs (work_of v change))
+          (sym same) (c.commit_swept.ensures.room serves.first count disk settled v change over doing mounted)) in
           let stored = subst (λ (t : ℕ → Option Description). memory_room serves.first c.commit_swept.new.inodes (after t) ≤ c.log_record.new.self.pledged_then) (sym opened)
           (omega (arith, within, serves.stored, (c.in_default.ensures.pledges v size).1)) in
           (c.in_default.ensures.told table s serves size advances).logged c.commit_swept.new.inodes c.commit_swept.new.files

@@ -1,5 +1,6 @@
 use Rattle.std.proofs.Common.{Ok, Err, Option, ◌≡◌, ℕ, ◌+◌, length, ap, arith, sym, subst, ◌⊎◌, ◌≢◌, inl, inr, refl}
 use Rattle.std.specs.Prelude.{IsFalse, IsErrOf}
+use Rattle.layout.specs.StateLimits.{limits_of}
 use Rattle.station.specs.Moments.{LeavesOnly}
 use Rattle.layout.specs.Record.{change_of}
 use Rattle.model.specs.Records.{applied}
@@ -78,7 +79,7 @@ returns-in-Err-clause-refused g c = λ other.
 -- what is reserved with the record
 reserves : (g : Over) (c : After-append g) (table : ℕ → Option Description) (s : State) (serves : HasState {G = g.S.Station} c.args.self.now table s)
     → IsSizeBefore serves.running (change_of c.args.change.now) c.args.size
-    → (advances : Advances c.args.self.now.root.geometry.inodes serves.running table (change_of c.args.change.now))
+    → (advances : Advances (limits_of c.args.self.now.root.geometry) serves.running table (change_of c.args.change.now))
     → laws.Reserved c.cuts_open.ensures c.records_lead_on.ensures serves (change_of c.args.change.now) advances
 reserves g c table s serves sized advances =
     let f = c.args.self.now in
@@ -88,11 +89,11 @@ reserves g c table s serves sized advances =
 -- while it is appended a cut leaves the state before it or the one that it leads to
 at_any_moment : (g : Over) (c : After-append g) (table : ℕ → Option Description) (s : State) (serves : HasState {G = g.S.Station} c.args.self.now table s)
     → IsSizeBefore serves.running (change_of c.args.change.now) c.args.size
-    → (advances : Advances c.args.self.now.root.geometry.inodes serves.running table (change_of c.args.change.now))
+    → (advances : Advances (limits_of c.args.self.now.root.geometry) serves.running table (change_of c.args.change.now))
     → let f = c.args.self.now in
     let m = g.S.Station.meaning f.blocks.buffers.station in
     let after = swept table (applied (change_of c.args.change.now) serves.running) in
-    LeavesOnly m (g.S.Station.meaning c.append.new.station) (λ i. OpensTo m s i ⊎ OpensTo m (state_with f.root.geometry.inodes after table serves.snapshots) i)
+    LeavesOnly m (g.S.Station.meaning c.append.new.station) (λ i. OpensTo m s i ⊎ OpensTo m (state_with (limits_of f.root.geometry) after table serves.snapshots) i)
 at_any_moment g c table s serves sized advances =
     let f = c.args.self.now in
     let change = change_of c.args.change.now in

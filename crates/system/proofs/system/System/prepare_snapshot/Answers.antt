@@ -35,7 +35,7 @@ returns-in-Ok-clause-tests g c = λ s served.
     let d = blocks_of (disk_of {G = g.S.Station} fs) in
     let told = c.in-Ok.ensures in
     subst (λ (disk : Blocks). MatchResult c.in-Ok.tested (IsPreparedOn fs.root disk s) (Refuses s (command_of c.args.request.now))) (told.reads.same d served.shows).is
-    (told.tests d served.shows served.first served.snapshots served.under.holds s (snapshots_of {G = g.S.Station} fs s served)
+    (told.tests d served.shows served.first served.snapshots served.under.holds s (ap (λ (u : State). u.limits) served.state) (snapshots_of {G = g.S.Station} fs s served)
     (tells_open fs.files s served.opened c.has_open-has_open.result c.has_open-has_open.ensures.tells c.has_open-has_open.ensures.closed))
 
 pub returns-in-Err-clause-glances : goal.returns-in-Err-clause-glances

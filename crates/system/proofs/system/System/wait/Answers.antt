@@ -2,6 +2,7 @@ use Rattle.std.proofs.Common.{◌≡◌, ◌≤◌, ◌+◌, ◌∙◌, ℕ, Opt
 use Rattle.std.specs.Prelude.{map}
 use Rattle.std.proofs.Math.Bool.{not}
 use Rattle.std.proofs.lemmas.Bool.{eq-eqb, false≢true}
+use Rattle.layout.specs.StateLimits.{limits_of}
 use Rattle.layout.specs.Limits.{Sizes}
 use Rattle.layout.specs.Places.{blocks_of}
 use Rattle.layout.specs.Record.{change_bytes, change_of}
@@ -82,17 +83,19 @@ returns-clause-told g c = λ table s kept ahead knows.
           let opened : table ≡ table_of f.files = shown.opened in
           let after : (ℕ → Option Description) → Volume = λ t. swept t (applied change v) in
           let mounted = subst (λ (t : ℕ → Option Description). IsMounted v t) opened shown.mounted in
-          let within = subst (λ (t : ℕ → Option Description). memory_room ahead.shown.first c.commit_swept.new.inodes (after t) ≤ memory_room ahead.shown.first f.inodes v + cost (work_of v change)) (sym opened)
-          (c.commit_swept.ensures.room ahead.shown.first count disk settled v change shown.memory.stands does mounted) in
-          let pledges = c.in-Ok.ensures.pledges v size in
-          let reserved = reserves c.cuts_open.ensures records shown change advances f.free (cost (work_of v change)) refl (omega (arith, room))
+          let within = subst (λ (t : ℕ → Option Description). memory_room ahead.shown.first c.commit_swept.new.inodes (after t) ≤ memory_room ahead.shown.first f.inodes v + cost (limits_of f.root.geometry).costs (work_of v change)) (sym opened)
+          (subst (λ (z : Sizes). memory_room ahead.shown.first c.commit_swept.new.inodes (after (table_of f.files)) ≤ memory_room ahead.shown.first f.inodes v + cost (limits_of z).costs (work_of v change)) f.sizes
+          (c.commit_swept.ensures.room ahead.shown.first count disk settled v change shown.memory.stands does mounted)) in
+          let pledges = c.in-Ok.ensures.pledges in
+          let costs_it = c.cost_of-cost.ensures.cost v size in
+          let reserved = reserves c.cuts_open.ensures records shown change advances f.free c.cost_of-cost.result costs_it (omega (arith, room))
           (free_with {G = g.S.Station} ahead.then_inodes ahead.then_files f ahead.then_table kept ahead.served ∙ ap free_of (sym ahead.base)) in
-          one_waits ahead c.cuts_open.ensures records change advances (cost (work_of v change)) refl reserved
+          one_waits ahead c.cuts_open.ensures records change advances c.cost_of-cost.result costs_it reserved
           c.add.new.self (c.in-Ok.ensures.added (map change_bytes ahead.waiting) ahead.batch) pledges
           c.commit_swept.new.inodes c.commit_swept.new.files
           (subst (λ (t : ℕ → Option Description). IsVolumeOf count disk settled c.commit_swept.new.inodes (after t)) (sym opened)
           (c.commit_swept.ensures.volume count disk settled v change shown.memory.stands does mounted))
-          (omega (arith, within, shown.stored, pledges))
+          (omega (arith, within, shown.stored, pledges, costs_it))
           (opened ∙ sym c.commit_swept.ensures.opened)
           (subst (λ (t : ℕ → Option Description). FitsVolume c.commit_swept.new.files (after t)) (sym opened)
           (c.commit_swept.ensures.fits count disk settled v change shown.memory.stands does mounted shown.fits

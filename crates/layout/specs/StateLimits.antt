@@ -1,0 +1,47 @@
+-- What a file system may hold that stands in these formats.
+use Rattle.std.specs.Prelude.{ℕ, ◌+◌, ◌/◌, ◌==◌, if◌then◌else◌, false}
+use Rattle.model.specs.declared.costs.Costs.{Costs}
+use Rattle.model.specs.declared.limits.Limits.{Limits}
+use Rattle.layout.specs.Limits.{Sizes}
+use Rattle.layout.specs.Trees.{greatest_size}
+use Rattle.layout.specs.Version.{greatest_under, snapshot_slots}
+use Rattle.layout.specs.declared.TheConstants.{SINGLE_BYTES}
+use Rattle.layout.specs.declared.geometry.TheConstants.{LEAST_BLOCKS}
+use Rattle.layout.specs.declared.limits.TheConstants.{DIRECTORY_NAMES, FILE_COST, FILE_NAMES, GREAT_FILE_COST, HEADROOM_BLOCKS, MODE_COST, NAMES_COST, ORPHAN_COST, PATH_BYTES, POINT_COST}
+use Rattle.layout.specs.declared.version.TheConstants.{SNAPSHOT_SLOTS}
+
+-- the blocks that each consistency point stores whatever changed, on a disk of so many
+abbrev pub fixed_of : ℕ → ℕ
+fixed_of blocks = (blocks + 1023) / 1024 + POINT_COST
+
+-- what records and consistency points cost on a disk of so many blocks
+abbrev pub costs_of : ℕ → Costs
+costs_of blocks = record {
+  adds_name = NAMES_COST;
+  removes_name = NAMES_COST;
+  file = FILE_COST;
+  great_file = GREAT_FILE_COST;
+  single_file = SINGLE_BYTES;
+  mode = MODE_COST;
+  orphan = ORPHAN_COST;
+  point = fixed_of blocks;
+  headroom = HEADROOM_BLOCKS;
+}
+
+-- the limits of the file system of an image with these sizes
+abbrev pub limits_of : Sizes → Limits
+limits_of s = record {
+  inodes = s.inodes;
+  file_bytes = greatest_size s.layout;
+  file_names = FILE_NAMES;
+  directory_names = DIRECTORY_NAMES;
+  path_bytes = PATH_BYTES;
+  snapshots = SNAPSHOT_SLOTS;
+  least_blocks = LEAST_BLOCKS;
+  has_attributes = false;
+  costs = costs_of s.blocks;
+}
+
+-- what the root of an image may hold by its version: of these limits, or fewer
+abbrev pub limits_under : ℕ → Sizes → Limits
+limits_under version s = record (limits_of s) { file_bytes = greatest_under version; snapshots = snapshot_slots version }
