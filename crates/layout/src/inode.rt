@@ -17,7 +17,8 @@ use crate::pointer::{are_holes, pointers_fit, put_pointers, read_pointers};
 use crate::reading::{mode_at, part_at, u8_at, u16_at, u32_at, u64_at, zeros_at};
 use crate::writing::{put_bytes, put_u8, put_u16, put_u32, put_u64, put_zeros};
 use crate::{
-    BODY_POINTERS, FILE_NAMES, Geometry, INLINE_BYTES, INODE_BYTES, Kind, Layout, PATH_BYTES, Pointer,
+    BODY_POINTERS, FILE_NAMES, Geometry, INLINE_BYTES, INODE_BYTES, Kind, Layout, PATH_BYTES,
+    Pointer,
 };
 use model::{Attributes, LINK_MODE, Mode};
 
@@ -284,7 +285,9 @@ fn kind_fits(inode: &Inode, geometry: Geometry) -> bool
         Kind::Free => none && links == 0 && size == 0,
         Kind::File => links <= FILE_NAMES,
         Kind::Directory => links == 1 && size % 4096 == 0,
-        Kind::Link => { mode == LINK_MODE && links == 1 && 1 <= size && size <= u64::from(PATH_BYTES) }
+        Kind::Link => {
+            mode == LINK_MODE && links == 1 && 1 <= size && size <= u64::from(PATH_BYTES)
+        }
         Kind::InodeFile => none && links == 1 && size == 4096 * u64::from(inodes.div_ceil(21)),
         Kind::InodeMap => none && links == 1 && size == u64::from(inodes.div_ceil(8)),
         Kind::BlockMap => none && links == 1 && size == 4 * u64::from(blocks),
