@@ -2,6 +2,8 @@
 use Rattle.std.proofs.Common.{◌≡◌, List, [], ◌∷◌, ◌++◌, Result, Ok, Err}
 use Rattle.std.specs.List.{AllZip}
 use Rattle.std.specs.Result.{IsErrAnd, IsErrOf}
+use Rattle.model.specs.declared.limits.Limits.{Limits}
+use Rattle.layout.specs.StateLimits.{limits_of}
 use Rattle.model.specs.Outcomes.{Outcome}
 use Rattle.model.specs.Room.{nothing}
 use Rattle.model.specs.Trees.{Tree}
@@ -60,9 +62,9 @@ module _ {B T U : Type 0} {G : Ghosts B} {a b c : B} {s t u : InodeFile} {P : Vo
       tells_none q is (looks_more looks then.looks) (λ disk settled v stands. then.damaged disk settled v (looks.kept disk settled v stands))
 
   -- the same where a call is answered by it
-  pub answers_failed : {outcome : Tree → Outcome} {reply : Result U Errno → Reply} {X : Type 0} {x : X} (f : Failure) (q : Result U Failure) → IsErrAnd q (λ g. g ≡ f)
+  pub answers_failed : {outcome : Limits → Tree → Outcome} {reply : Result U Errno → Reply} {X : Type 0} {x : X} (f : Failure) (q : Result U Failure) → IsErrAnd q (λ g. g ≡ f)
       → Looks {T = X} {E = BlockError} G IsFault a b s t (Ok x) → Tells G b c t u P (Err f)
-      → OnTrees G a s (λ v table. (errno : Errno) → P v (Err errno) → outcome (tree_of v table) (reply (Err errno)) (tree_of v table) nothing) → Answers G a c s u outcome reply q
+      → OnTrees G a s (λ v table. (errno : Errno) → P v (Err errno) → outcome (limits_of s.geometry) (tree_of v table) (reply (Err errno)) (tree_of v table) nothing) → Answers G a c s u outcome reply q
   answers_failed {outcome = outcome} {reply = reply} (Refused errno) q is looks then leads =
       carried (Answers G a c s u outcome reply) q is
       (refuses (looks_more looks then.looks) then.own

@@ -192,8 +192,8 @@ module _ (limits : Limits) (v : Volume) (table : ℕ → Option Description) (vo
 
     led : (reply : Reply) (new : Tree) (need : Need) → goes_to t false old there reply new need → renamed reply new need
     led reply new need done =
-        tested_none t (tests v table only_new old path) (goes_to t false old there) reply new need
-        (at_root_test v table only_new old path passed.old_passed passed.passed
+        tested_none t (tests limits v table only_new old path) (goes_to t false old there) reply new need
+        (at_root_test limits v table only_new old path passed.old_passed passed.passed
         ∙ ap (λ (b : Bool). first_refusal ((b, EBUSY) ∷ [])) (neither_root (is_root_text old) (is_root_text path) passed.old_below passed.below)) done
 
     pub rename_nowhere : (errno : Errno) → LeadsAlong t v false old (Err errno) → renamed (Refused errno) t nothing

@@ -255,7 +255,7 @@ module _ (limits : Limits) (v : Volume) (table : ℕ → Option Description) (vo
         move_done passed takes =
             rename_done v volume.graph table mounted.bounded mounted.files front w x y d k n at_old at_new edge
             (enters_directory (v d) x n edge) directory emptied above_only (paths_differ other) other can.name
-            o (other_there other) passed takes
+            limits o (other_there other) passed takes
 
         -- its target can take it
         pub target_takes : (rest : Outcome) (reply : Reply) (new : Tree) (need : Need) → rest reply new need → with_target limits t p q (t.objects q) rest reply new need

@@ -5,6 +5,7 @@ ghost use Rattle.layout.specs.Directory.{Named, HoldsEntries, IsEntry, named_of,
 ghost use Rattle.buffers.specs.Reads.{ReadsBlocks};
 ghost use Rattle.buffers.specs.Errors.{IsFault};
 ghost use Rattle.dirs.specs.Errors.{IsAddFault};
+ghost use Rattle.layout.specs.declared.limits.TheConstants.{DIRECTORY_NAMES};
 ghost use Rattle.dirs.specs.declared.TheConstants.{GROWN_BLOCKS};
 
 use crate::survey::survey_of;
@@ -39,7 +40,8 @@ impl Edit {
         most: u32,
         entry: &Entry<'_>,
     ) -> Result<bool, AddError>
-        requires { IsEntry inodes (named_of entry.now) }
+        requires entry { IsEntry inodes (named_of entry.now) }
+        requires few { most ≤ DIRECTORY_NAMES }
         ensures reads { ReadsBlocks B.Blocks IsAddFault blocks.old blocks.new result }
         ensures counted_full { IsErrOf result AddError.DirFull →
             (B.failed blocks.new ≡ B.failed blocks.old) }

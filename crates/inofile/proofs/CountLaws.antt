@@ -3,6 +3,7 @@ use Rattle.std.proofs.Common.{◌≡◌, ◌≢◌, ◌↔◌, inl, inr, ℕ, �
 use Rattle.std.proofs.lemmas.Bool.{false≢true}
 use Rattle.layout.specs.Maps.{IsTaken}
 use Rattle.model.specs.Counting.{Counts}
+use Rattle.model.specs.declared.limits.Limits.{Limits}
 use Rattle.model.specs.Volumes.{Node, Volume, IsVolume, is_directory_node}
 use Rattle.model.proofs.CountLemmas.{one_more, same_count}
 use Rattle.inofile.specs.Volumes.{MapsVolume}
@@ -38,22 +39,22 @@ module _ (bytes : List ℕ) where
       )
 
   -- those and the root's have the objects of a volume
-  pub objects_counted : (v : Volume) (inodes count : ℕ) → MapsVolume bytes v → IsVolume inodes v → Counts (TakenBelow inodes) count → Counts (λ n. IsSome (v n)) (count + 1)
-  objects_counted v inodes count maps volume counts =
+  pub objects_counted : (v : Volume) (limits : Limits) (count : ℕ) → MapsVolume bytes v → IsVolume limits v → Counts (TakenBelow limits.inodes) count → Counts (λ n. IsSome (v n)) (count + 1)
+  objects_counted v limits count maps volume counts =
       subst (Counts (λ n. IsSome (v n))) (sym (add-one count))
-      (one_more (TakenBelow inodes) (λ n. IsSome (v n)) 3 count (directory_some (v 3) volume.graph.naming.root) others counts)
+      (one_more (TakenBelow limits.inodes) (λ n. IsSome (v n)) 3 count (directory_some (v 3) volume.graph.naming.root) others counts)
     where
       directory_some : (o : Option Node) → is_directory_node o ≡ true → IsSome o
       directory_some None is = absurd (false≢true is)
       directory_some (Some o) is = refl
 
-      ordinary : (n : ℕ) → IsSome (v n) → n ≢ 3 → (4 ≤ n) × (n < inodes)
-      ordinary n some apart = elim (volume.limits.numbers n some) [ inl root ↦ absurd (apart root) | inr is ↦ is ]
+      ordinary : (n : ℕ) → IsSome (v n) → n ≢ 3 → (4 ≤ n) × (n < limits.inodes)
+      ordinary n some apart = elim (volume.keeps.numbers n some) [ inl root ↦ absurd (apart root) | inr is ↦ is ]
 
-      there : (n : ℕ) → TakenBelow inodes n → IsSome (v n)
+      there : (n : ℕ) → TakenBelow limits.inodes n → IsSome (v n)
       there n is = elim ((maps n).0 is.2) [ inl own ↦ absurd (omega (arith, own, is.0)) | inr some ↦ some ]
 
-      others : (n : ℕ) → TakenBelow inodes n ↔ (IsSome (v n) × (n ≢ 3))
+      others : (n : ℕ) → TakenBelow limits.inodes n ↔ (IsSome (v n) × (n ≢ 3))
       others n = (
         (λ is. (there n is, λ e. omega (arith, is.0, e))),
         (λ is. let within = ordinary n is.0 is.1 in (within.0, within.1, (maps n).1 (inr is.0))),

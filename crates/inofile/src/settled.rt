@@ -8,7 +8,7 @@ ghost use Rattle.buffers.specs.declared.error.BlockError.TheVariants.{Damaged};
 ghost use Rattle.images.specs.Roots.{inode_part};
 
 use buffers::BlockError;
-use layout::{BLOCK_BYTES, Geometry, INODE_BYTES, Inode, greatest_under};
+use layout::{BLOCK_BYTES, Geometry, INODE_BYTES, Inode};
 
 /// Reads inode `index` of a block of the inode file; Damaged where its bytes are no inode of an
 /// image of this version and geometry.
@@ -32,7 +32,7 @@ pub(crate) fn read_inode(
     let Some(inode) = Inode::read(part(bytes, index), geometry.layout()) else {
         return Err(BlockError::Damaged);
     };
-    if inode.fits(geometry) && inode.size <= greatest_under(version) {
+    if inode.fits(geometry) && inode.size <= geometry.limits_under(version).file_bytes {
         Ok(inode)
     } else {
         Err(BlockError::Damaged)

@@ -4,10 +4,12 @@ use Rattle.std.proofs.lemmas.Bool.{cases_Bool, cond-true, cond-false}
 use Rattle.std.proofs.lemmas.Bool.Decides.{nat_tests}
 use Rattle.std.proofs.lemmas.Result.{IfOk-weaker}
 use Rattle.std.specs.List.{list_any}
+use Rattle.layout.specs.StateLimits.{limits_of}
 use Rattle.buffers.specs.declared.error.BlockError.{BlockError}
 use Rattle.buffers.specs.declared.blocks.Blocks.{Ghosts}
 use Rattle.inofile.specs.declared.inode_file.InodeFile.{InodeFile}
 use Rattle.model.specs.declared.errno.Errno.TheVariants.{ELOOP, ENOTDIR, ESTALE}
+use Rattle.model.specs.declared.limits.Limits.{Limits}
 use Rattle.model.specs.declared.limits.TheConstants.{ROOT_NUMBER}
 use Rattle.model.specs.Finding.{IsPlaceAt, find_within, trail_from}
 use Rattle.model.specs.Laws.{ResolvesFromNumbers, VolumesTellNumbers}
@@ -33,9 +35,9 @@ use Rattle.paths.proofs.EndLaws.{ends_at_name_from, ends_well_from, found_direct
 use Rattle.paths.proofs.PlaceTells.{tells_name}
 
 -- this target is where names lead from a number
-pub record IsToldFrom (inodes : ℕ) (follow : Bool) (names : List Name) (n : ℕ) (v : Volume) (x : Target) : Type 0 where
-  pub found : (table : ℕ → Option Description) → IsVolume inodes v → IsFalse (list_any is_dot_dot names) → TellsFrom (tree_of v table) v follow names n x
-  pub ends : IsVolume inodes v → TargetEndsWell v follow x
+pub record IsToldFrom (limits : Limits) (follow : Bool) (names : List Name) (n : ℕ) (v : Volume) (x : Target) : Type 0 where
+  pub found : (table : ℕ → Option Description) → IsVolume limits v → IsFalse (list_any is_dot_dot names) → TellsFrom (tree_of v table) v follow names n x
+  pub ends : IsVolume limits v → TargetEndsWell v follow x
   pub named : IsFalse follow → EndsInName names → IsTargetAtName x
   pub tells : TargetTellsName v x
 
@@ -44,16 +46,16 @@ abbrev pub AreNoneBehind : List Name → Target → Type 0
 AreNoneBehind names x = (k : ℕ) → x ≡ target.Object k → is_empty names ≡ true
 
 pub resolves_from : {B : Type 0} {G : Ghosts B} {a b : B} {s t : InodeFile} {n : ℕ} {names : List Name} {follow : Bool} {r : Result Target BlockError}
-    → LooksUp G a b s t (λ x. IsTargetWithin s.geometry.inodes x × AreNoneBehind names x) (IsToldFrom s.geometry.inodes follow names n) r
+    → LooksUp G a b s t (λ x. IsTargetWithin s.geometry.inodes x × AreNoneBehind names x) (IsToldFrom (limits_of s.geometry) follow names n) r
     → ResolvesFrom G a b s t n names follow r
 resolves_from {s = s} {n = n} {names = names} {follow = follow} {r = r} up = record {
   looks = up.looks;
   loads = up.loads;
   within = IfOk-weaker r (λ x. IsTargetWithin s.geometry.inodes x × AreNoneBehind names x) _ (λ x w. w.0) up.within;
-  found = λ disk settled v table stands volume level. IfOk-weaker r (IsToldFrom s.geometry.inodes follow names n v) _ (λ x told. told.found table volume level) (up.found disk settled v stands);
-  ends = λ disk settled v stands volume. IfOk-weaker r (IsToldFrom s.geometry.inodes follow names n v) _ (λ x told. told.ends volume) (up.found disk settled v stands);
-  named = λ disk settled v stands not plain. IfOk-weaker r (IsToldFrom s.geometry.inodes follow names n v) _ (λ x told. told.named not plain) (up.found disk settled v stands);
-  tells = λ disk settled v stands. IfOk-weaker r (IsToldFrom s.geometry.inodes follow names n v) _ (λ x told. told.tells) (up.found disk settled v stands);
+  found = λ disk settled v table stands volume level. IfOk-weaker r (IsToldFrom (limits_of s.geometry) follow names n v) _ (λ x told. told.found table volume level) (up.found disk settled v stands);
+  ends = λ disk settled v stands volume. IfOk-weaker r (IsToldFrom (limits_of s.geometry) follow names n v) _ (λ x told. told.ends volume) (up.found disk settled v stands);
+  named = λ disk settled v stands not plain. IfOk-weaker r (IsToldFrom (limits_of s.geometry) follow names n v) _ (λ x told. told.named not plain) (up.found disk settled v stands);
+  tells = λ disk settled v stands. IfOk-weaker r (IsToldFrom (limits_of s.geometry) follow names n v) _ (λ x told. told.tells) (up.found disk settled v stands);
   alone = IfOk-weaker r (λ x. IsTargetWithin s.geometry.inodes x × AreNoneBehind names x) _ (λ x w. w.1) up.within;
   damaged = up.damaged;
 }
@@ -102,10 +104,10 @@ node_directory (Some (file_node attributes links bytes)) is = absurd cc
 node_directory (Some (link_node attributes text)) is = absurd cc
 
 -- no object has a number below the root's, or none of the image
-pub outside : (inodes n : ℕ) (v : Volume) → IsVolume inodes v → (n < ROOT_NUMBER) ⊎ ((ROOT_NUMBER < inodes) × (inodes ≤ n)) → is_placed_node (v n) ≡ false
-outside inodes n v volume out = of (v n) (volume.limits.numbers n)
+pub outside : (limits : Limits) (n : ℕ) (v : Volume) → IsVolume limits v → (n < ROOT_NUMBER) ⊎ ((ROOT_NUMBER < limits.inodes) × (limits.inodes ≤ n)) → is_placed_node (v n) ≡ false
+outside limits n v volume out = of (v n) (volume.keeps.numbers n)
   where
-    of : (o : Option Node) → (IsSome o → (n ≡ ROOT_NUMBER) ⊎ ((4 ≤ n) × (n < inodes))) → is_placed_node o ≡ false
+    of : (o : Option Node) → (IsSome o → (n ≡ ROOT_NUMBER) ⊎ ((4 ≤ n) × (n < limits.inodes))) → is_placed_node o ≡ false
     of None within = refl
     of (Some node) within = absurd (elim out [
       | inl low ↦ elim (within refl) [ inl is ↦ omega (arith, low, is) | inr in_range ↦ omega (arith, low, in_range.0) ]
@@ -114,18 +116,18 @@ outside inodes n v volume out = of (v n) (volume.limits.numbers n)
 
 -- ---- where names lead from it
 
-module _ (law : VolumesTellNumbers) (inodes : ℕ) (v : Volume) (follow : Bool) (names : List Name) (n : ℕ) where
+module _ (law : VolumesTellNumbers) (limits : Limits) (v : Volume) (follow : Bool) (names : List Name) (n : ℕ) where
   -- from nothing
-  pub told_nothing : (IsVolume inodes v → is_placed_node (v n) ≡ false) → IsToldFrom inodes follow names n v (target.Place (Refusal ESTALE))
+  pub told_nothing : (IsVolume limits v → is_placed_node (v n) ≡ false) → IsToldFrom limits follow names n v (target.Place (Refusal ESTALE))
   told_nothing none = record {
     found = λ table volume level.
-        (refused ESTALE, inr (inr (inr (record { none = (law inodes v table n volume).1 (none volume); is = refl }))), refl);
+        (refused ESTALE, inr (inr (inr (record { none = (law limits v table n volume).1 (none volume); is = refl }))), refl);
     ends = λ volume. tt;
     named = λ not plain. tt;
     tells = tt;
   }
 
-  pub told_no_object : placed_in (v n) ≡ found.Nothing → IsToldFrom inodes follow names n v (target.Place (Refusal ESTALE))
+  pub told_no_object : placed_in (v n) ≡ found.Nothing → IsToldFrom limits follow names n v (target.Place (Refusal ESTALE))
   told_no_object is = told_nothing (λ volume. not_placed (v n) is)
 
   -- from an object that is no directory
@@ -137,10 +139,10 @@ module _ (law : VolumesTellNumbers) (inodes : ℕ) (v : Volume) (follow : Bool) 
     no_directory is_one = other (sym here_is.1 ∙ is_one)
 
     told : (follows none : Bool) → is_empty names ≡ none → (follows ≡ true → (follow ≡ true) × (kind ≡ found.Link)) → (follows ≡ false → follow ≡ true → kind ≢ found.Link)
-        → IsToldFrom inodes follow names n v (target_alone n none follows)
+        → IsToldFrom limits follow names n v (target_alone n none follows)
     told follows false behind linked unlinked = record {
       found = λ table volume level.
-          let at = (law inodes v table n volume).0 here_is.0 in
+          let at = (law limits v table n volume).0 here_is.0 in
           (refused ENOTDIR, inr (inl (record { object = at.0; has = at.2; other = object_not_directory n (v n) at.0 no_directory at.1; some = behind; is = refl })), refl);
       ends = λ volume. tt;
       named = λ not plain. tt;
@@ -148,7 +150,7 @@ module _ (law : VolumesTellNumbers) (inodes : ℕ) (v : Volume) (follow : Bool) 
     }
     told true true behind linked unlinked = record {
       found = λ table volume level.
-          let at = (law inodes v table n volume).0 here_is.0 in
+          let at = (law limits v table n volume).0 here_is.0 in
           let link = object_link n (v n) at.0 (here_is.1 ∙ (linked refl).1) at.1 in
           (refused ELOOP, inr (inr (inl (record { text = link.0; has = subst (IsNumbered (tree_of v table) n) link.1 at.2; none = behind; follows = (linked refl).0; is = refl }))), refl);
       ends = λ volume. tt;
@@ -157,7 +159,7 @@ module _ (law : VolumesTellNumbers) (inodes : ℕ) (v : Volume) (follow : Bool) 
     }
     told false true behind linked unlinked = record {
       found = λ table volume level.
-          let at = (law inodes v table n volume).0 here_is.0 in
+          let at = (law limits v table n volume).0 here_is.0 in
           (refl, record { object = at.0; here = at.1; has = at.2; other = object_not_directory n (v n) at.0 no_directory at.1; none = behind; unfollowed = λ follows link. unlinked refl follows (sym here_is.1 ∙ link) });
       ends = λ volume follows link. unlinked refl follows (sym here_is.1 ∙ link);
       named = λ not plain. no_names names behind plain;
@@ -169,18 +171,18 @@ module _ (law : VolumesTellNumbers) (inodes : ℕ) (v : Volume) (follow : Bool) 
         no_names (x ∷ names) none plain = grind (arith, nat_tests, none)
 
     pub told_alone : (follows : Bool) → (follows ≡ true → (follow ≡ true) × (kind ≡ found.Link)) → (follows ≡ false → follow ≡ true → kind ≢ found.Link)
-        → IsToldFrom inodes follow names n v (target_alone n (is_empty names) follows)
+        → IsToldFrom limits follow names n v (target_alone n (is_empty names) follows)
     told_alone follows linked unlinked = told follows (is_empty names) refl linked unlinked
 
   -- from a directory
   pub told_directory : (laws : ResolvesFromNumbers) (p : Place) → placed_in (v n) ≡ found.Directory → model_place_of p ≡ find_within 0 v follow (trail_from n) names
-      → IsToldFrom inodes follow names n v (target.Place p)
+      → IsToldFrom limits follow names n v (target.Place p)
   told_directory laws p is leads =
       let here_is = placed (v n) found.Directory (λ e. cc) is in
       record {
         found = λ table volume level.
-            let at = (law inodes v table n volume).0 here_is.0 in
-            let to = laws inodes v table follow n names volume (node_directory (v n) here_is.1) level in (
+            let at = (law limits v table n volume).0 here_is.0 in
+            let to = laws limits v table follow n names volume (node_directory (v n) here_is.1) level in (
               resolve_within 0 (tree_of v table) follow to.0 names,
               inl (record { path = to.0; object = subst (IsNumbered (tree_of v table) n) (object_directory n (v n) at.0 here_is.1 at.1) at.2; stands = to.1; is = refl }),
               subst (λ place. IsPlaceAt v place (resolve_within 0 (tree_of v table) follow to.0 names)) (sym leads) to.2,

@@ -1,6 +1,7 @@
 -- Links that are followed.
 use Rattle.std.proofs.Common.{◌≡◌, ◌∙◌, ℕ, zero, suc, Bool, List, [], ◌++◌, Option, cond, refl, sym, ap, subst}
 use Rattle.model.specs.Finding.{halts, halts_at_link, Place, IsPlaceOf, find_along, find_on, find_within}
+use Rattle.model.specs.declared.limits.Limits.{Limits}
 use Rattle.model.specs.Laws.{ResolvesByNumbers}
 use Rattle.model.specs.Paths.{Name, parts, starts_with_slash}
 use Rattle.model.specs.Resolution.{resolve}
@@ -24,7 +25,7 @@ module _ (v : Volume) (follow : Bool) (trail : List ℕ) (names : List Name) whe
   follows_link left directory text rest halt = one_walk left ∙ ap (find_on (find_left left v follow)) (sym halt)
 
 -- where the parts of a text lead, in the words of paths
-pub leads : ResolvesByNumbers → (inodes : ℕ) (v : Volume) (table : ℕ → Option Description) (follow : Bool) (text : List ℕ) (path : List Name) (place : Place)
-    → IsVolume inodes v → path ≡ parts text → place ≡ find_within 8 v follow [] path → IsPlaceOf v place (resolve (tree_of v table) follow text)
-leads law inodes v table follow text path place volume are is =
-    subst (λ p. IsPlaceOf v p (resolve (tree_of v table) follow text)) (sym (is ∙ ap (find_within 8 v follow []) are)) (law inodes v table follow text volume)
+pub leads : ResolvesByNumbers → (limits : Limits) (v : Volume) (table : ℕ → Option Description) (follow : Bool) (text : List ℕ) (path : List Name) (place : Place)
+    → IsVolume limits v → path ≡ parts text → place ≡ find_within 8 v follow [] path → IsPlaceOf v place (resolve (tree_of v table) follow text)
+leads law limits v table follow text path place volume are is =
+    subst (λ p. IsPlaceOf v p (resolve (tree_of v table) follow text)) (sym (is ∙ ap (find_within 8 v follow []) are)) (law limits v table follow text volume)

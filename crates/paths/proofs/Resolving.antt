@@ -1,6 +1,7 @@
 -- Where the parts of a path lead, from where a walk by numbers ends.
 use Rattle.std.proofs.Common.{◌≡◌, List, [], Bool, Result, sym, subst}
 use Rattle.std.proofs.lemmas.Result.{IfOk-weaker}
+use Rattle.layout.specs.StateLimits.{limits_of}
 use Rattle.buffers.specs.declared.error.BlockError.{BlockError}
 use Rattle.buffers.specs.declared.blocks.Blocks.{Ghosts}
 use Rattle.inofile.specs.declared.inode_file.InodeFile.{InodeFile}
@@ -28,7 +29,7 @@ resolves {s = s} {path = path} {follow = follow} {r = r} law up = record {
   within = up.within;
   place = up.found;
   found = λ disk settled v table text stands volume are.
-      IfOk-weaker r (IsLedTo path follow v) _ (λ p is. leads law s.geometry.inodes v table follow text path (model_place_of p) volume are is) (up.found disk settled v stands);
+      IfOk-weaker r (IsLedTo path follow v) _ (λ p is. leads law (limits_of s.geometry) v table follow text path (model_place_of p) volume are is) (up.found disk settled v stands);
   ends = λ disk settled v stands volume.
       IfOk-weaker r (IsLedTo path follow v) _ (λ p is. subst (EndsWell v follow) (sym is) (ends_well v (found_directory (v 3) volume.graph.naming.root) follow 8 path)) (up.found disk settled v stands);
   named = λ disk settled v stands not plain.

@@ -1,8 +1,9 @@
 //! Names that directories get and lose.
 
-ghost use Rattle.std.specs.Prelude.{◌≡◌, ◌≢◌, ◌*◌, ◌↔◌, ℕ, List, Option, Some, IsTrue, IfOk, IfSome, IsErrOf};
+ghost use Rattle.std.specs.Prelude.{◌≡◌, ◌≢◌, ◌≤◌, ◌*◌, ◌↔◌, ℕ, List, Option, Some, IsTrue, IfOk, IfSome, IsErrOf};
 ghost use Rattle.layout.specs.StateLimits.{limits_of};
 ghost use Rattle.layout.specs.DirectoryNames.{NameMap};
+ghost use Rattle.layout.specs.declared.limits.TheConstants.{DIRECTORY_NAMES};
 ghost use Rattle.layout.specs.declared.inode.Inode.{Inode};
 ghost use Rattle.layout.specs.declared.kind.Kind.TheVariants as kinds;
 ghost use Rattle.model.specs.Volumes.{Node};
@@ -89,7 +90,8 @@ fn edit_object<B: Blocks>(
     limits: Limits,
     wanted: &NameEdit<'_>,
 ) -> Result<Option<Edit>, BlockError>
-    requires { IsNameEdit limits.inodes wanted.now }
+    requires wanted { IsNameEdit limits.inodes wanted.now }
+    requires few { limits.directory_names ≤ DIRECTORY_NAMES }
     ensures reads { ReadsBlocks B.Blocks IsFault blocks.old blocks.new result }
     ensures same { IsSameOrNone object.old object.new }
     ensures knows { (disk : ℕ → List ℕ) → StaysKnown limits.inodes disk object.old object.new }

@@ -3,6 +3,7 @@
 ghost use Rattle.std.specs.Prelude.{ℕ, ◌+◌, ◌≤◌, List, None, IfOk, IsErrOf};
 ghost use Rattle.layout.specs.Directory.{IsEntry, named_of};
 ghost use Rattle.layout.specs.DirectoryNames.{NameMap};
+ghost use Rattle.layout.specs.declared.limits.TheConstants.{DIRECTORY_NAMES};
 ghost use Rattle.buffers.specs.Reads.{ReadsBlocks};
 ghost use Rattle.buffers.specs.Errors.{IsFault};
 ghost use Rattle.blocktree.specs.Trees.{IsSoundAt};
@@ -46,7 +47,8 @@ pub(crate) fn edit_file<B: Blocks>(
     limits: Limits,
     wanted: &NameEdit<'_>,
 ) -> Result<Option<Edit>, BlockError>
-    requires { IsNameEdit limits.inodes wanted.now }
+    requires wanted { IsNameEdit limits.inodes wanted.now }
+    requires few { limits.directory_names ≤ DIRECTORY_NAMES }
     ensures { EditsFile (λ disk names. IsDirectory limits.inodes disk file.old names
         × Knows limits.inodes (file_block disk file.old) known.old) (pieces_of wanted.now) B.Blocks blocks.old blocks.new
         limits file.old file.new known.new wanted.now result }
@@ -71,6 +73,7 @@ fn add_new<B: Blocks>(
     entry: &Entry<'_>,
 ) -> Result<Option<Edit>, BlockError>
     requires entry { IsEntry limits.inodes (named_of entry.now) }
+    requires few { limits.directory_names ≤ DIRECTORY_NAMES }
     requires fits { FitsIn file.old edit }
     ensures { EditsFile (λ disk names. HasEditedNames limits.inodes disk file.old edit names
         × Knows limits.inodes (edited_block disk file.old edit) known.old) (piece_count edit + 1) B.Blocks blocks.old blocks.new
@@ -125,6 +128,7 @@ fn replace_in<B: Blocks>(
     entry: &Entry<'_>,
 ) -> Result<Option<Edit>, BlockError>
     requires entry { IsEntry limits.inodes (named_of entry.now) }
+    requires few { limits.directory_names ≤ DIRECTORY_NAMES }
     requires fits { FitsIn file.old edit }
     ensures { EditsFile (λ disk names. HasEditedNames limits.inodes disk file.old edit names
         × Knows limits.inodes (edited_block disk file.old edit) known.old) (piece_count edit + 2) B.Blocks blocks.old blocks.new
@@ -146,6 +150,7 @@ fn place_in<B: Blocks>(
     entry: &Entry<'_>,
 ) -> Result<Option<Edit>, BlockError>
     requires entry { IsEntry limits.inodes (named_of entry.now) }
+    requires few { limits.directory_names ≤ DIRECTORY_NAMES }
     requires fits { FitsIn file.old edit }
     ensures { EditsFile (λ disk names. HasEditedNames limits.inodes disk file.old edit names
         × Knows limits.inodes (edited_block disk file.old edit) known.old) (piece_count edit + 2) B.Blocks blocks.old blocks.new
@@ -183,6 +188,7 @@ fn move_in<B: Blocks>(
     entry: &Entry<'_>,
 ) -> Result<Option<Edit>, BlockError>
     requires entry { IsEntry limits.inodes (named_of entry.now) }
+    requires few { limits.directory_names ≤ DIRECTORY_NAMES }
     requires fits { FitsIn file.old edit }
     ensures { EditsFile (λ disk names. HasEditedNames limits.inodes disk file.old edit names
         × Knows limits.inodes (edited_block disk file.old edit) known.old) (piece_count edit + 3) B.Blocks blocks.old blocks.new

@@ -111,6 +111,7 @@ fn touched(offset: u64, count: usize) -> u64
 pub fn headroom_of(costs: Costs, logged: &Record<'_>, size: u64) -> u64
     ensures headroom { (v : Volume) → IsSizeBefore v (change_of logged.now) size
         → result ≡ room.headroom costs (work_of v (change_of logged.now)) }
+    ensures few { (s : Sizes) → costs ≡ (limits_of s).costs → result ≤ 16 }
     ensures bounded { result < 2 ^ 32 }
 {
     match logged {
@@ -124,6 +125,7 @@ pub fn headroom_of(costs: Costs, logged: &Record<'_>, size: u64) -> u64
 /// Those behind a record that gives a file of this size another one.
 fn headroom_to(costs: Costs, size: u64, new: u64) -> u64
     ensures headroom { result ≡ (if nat_lt size new then costs.headroom else 0) }
+    ensures few { (s : Sizes) → costs ≡ (limits_of s).costs → result ≤ 16 }
     ensures bounded { result < 2 ^ 32 }
 {
     if size < new {

@@ -79,7 +79,7 @@ served_at {m} {k} {table} {s} serves now now_log epoch honest there sectors left
       running = serves.running;
       mounted = serves.mounted;
       memory = subst (λ (d : ℕ → Sector). IsInMemory (blocks_of d) k.root k.inodes serves.running) disk serves.memory;
-      view = subst (λ (d : ℕ → Sector). ShowsSnapshot (blocks_of d) k.root.geometry.blocks serves.snapshots k.view) disk serves.view;
+      view = subst (λ (d : ℕ → Sector). ShowsSnapshot (blocks_of d) k.root.geometry serves.snapshots k.view) disk serves.view;
       settled = serves.settled;
       lasts = serves.lasts;
       left = left;

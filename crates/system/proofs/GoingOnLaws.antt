@@ -108,7 +108,7 @@ module _ (laws : CutLaws) (ways : WayLaws) {m : Meaning} {k : Parts} {table : �
           running = serves.running;
           mounted = serves.mounted;
           memory = subst (λ (d : ℕ → Sector). IsInMemory (blocks_of d) k.root k.inodes serves.running) disk serves.memory;
-          view = subst (λ (d : ℕ → Sector). ShowsSnapshot (blocks_of d) k.root.geometry.blocks serves.snapshots k.view) disk serves.view;
+          view = subst (λ (d : ℕ → Sector). ShowsSnapshot (blocks_of d) k.root.geometry serves.snapshots k.view) disk serves.view;
           settled = serves.settled;
           lasts = serves.lasts;
           left = slice_left laws serves.left coming.way serves.honest now goes;
@@ -159,7 +159,7 @@ module _ (laws : CutLaws) (ways : WayLaws) {m : Meaning} {k : Parts} {table : �
           running = serves.running;
           mounted = serves.mounted;
           memory = subst (λ (d : ℕ → Sector). IsInMemory (blocks_of d) k.root k.inodes serves.running) disk serves.memory;
-          view = subst (λ (d : ℕ → Sector). ShowsSnapshot (blocks_of d) k.root.geometry.blocks serves.snapshots k.view) disk serves.view;
+          view = subst (λ (d : ℕ → Sector). ShowsSnapshot (blocks_of d) k.root.geometry serves.snapshots k.view) disk serves.view;
           settled = record { disk = now.seen.disk; root = k.root; volume = serves.first };
           lasts = lasting.0;
           left = lasting.1;
@@ -205,7 +205,7 @@ pending_serves old new table s serves none first reads log pledged files pending
       running = serves.running;
       mounted = serves.mounted;
       memory = pending.memory;
-      view = subst (λ (o : Option View). ShowsSnapshot (blocks_of (disk_of new)) new.root.geometry.blocks serves.snapshots o) (sym pending.viewless) tt;
+      view = subst (λ (o : Option View). ShowsSnapshot (blocks_of (disk_of new)) new.root.geometry serves.snapshots o) (sym pending.viewless) tt;
       settled = record { disk = m.seen.disk; root = old.root; volume = serves.first };
       lasts = lasting.0;
       left = lasting.1;

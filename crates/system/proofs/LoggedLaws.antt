@@ -207,7 +207,7 @@ module _ (laws : CutLaws) (records : RecordLaws) {m : Meaning} {k : Parts} {tabl
           running = volume_after;
           mounted = advances.mounted;
           memory = subst (λ (d : ℕ → Sector). IsInMemory (blocks_of d) k.root now_inodes volume_after) disk (record { stands = stands; volume = volume });
-          view = subst (λ (d : ℕ → Sector). ShowsSnapshot (blocks_of d) k.root.geometry.blocks serves.snapshots k.view) disk serves.view;
+          view = subst (λ (d : ℕ → Sector). ShowsSnapshot (blocks_of d) k.root.geometry serves.snapshots k.view) disk serves.view;
           settled = serves.settled;
           lasts = lasts_after;
           left = λ honest c left.

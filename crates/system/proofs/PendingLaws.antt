@@ -171,7 +171,7 @@ module _ (cuts : CutLaws) (roots : RootLaws) (ways : WayLaws) {S : Type 0} {G : 
         running = v;
         mounted = may.mounted;
         memory = subst (λ (d : ℕ → Sector). IsInMemory (blocks_of d) mid.root mid.inodes v) disk is.memory;
-        view = subst (λ (o : Option View). ShowsSnapshot (blocks_of n.seen.disk) mid.root.geometry.blocks (kept_after step serves.first serves.snapshots) o) (sym is.viewless) tt;
+        view = subst (λ (o : Option View). ShowsSnapshot (blocks_of n.seen.disk) mid.root.geometry (kept_after step serves.first serves.snapshots) o) (sym is.viewless) tt;
         settled = record { disk = n.seen.disk; root = mid.root; volume = v };
         lasts = record {
           newest = under.newest.newest;

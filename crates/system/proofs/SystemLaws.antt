@@ -125,7 +125,7 @@ module _ {m : Meaning} {k : Parts} {table : ℕ → Option Description} {s : Sta
           stands = stays serves.running serves.memory.stands;
           volume = serves.memory.volume;
         });
-        view = subst (λ (d : ℕ → Sector). ShowsSnapshot (blocks_of d) k.root.geometry.blocks serves.snapshots k.view) disk serves.view;
+        view = subst (λ (d : ℕ → Sector). ShowsSnapshot (blocks_of d) k.root.geometry serves.snapshots k.view) disk serves.view;
         settled = serves.settled;
         lasts = serves.lasts;
         left = each_unchanged m new (IsLeft serves.settled.root k.log serves.lasts.bodies serves.settled.disk) reads.below.same serves.left reads.below.goes;

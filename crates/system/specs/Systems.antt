@@ -130,7 +130,7 @@ pub record IsServing (m : Meaning) (k : Parts) (table : ℕ → Option Descripti
   pub running : Volume
   pub mounted : IsMounted running table
   pub memory : IsInMemory (blocks_of (disk_over k m.seen.disk)) k.root k.inodes running
-  pub view : ShowsSnapshot (blocks_of (disk_over k m.seen.disk)) k.root.geometry.blocks snapshots k.view
+  pub view : ShowsSnapshot (blocks_of (disk_over k m.seen.disk)) k.root.geometry snapshots k.view
   pub settled : Base
   pub lasts : Lasts settled snapshots k.pledged running
   pub left : EachCut m (IsLeft settled.root k.log lasts.bodies settled.disk)

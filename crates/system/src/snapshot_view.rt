@@ -33,7 +33,7 @@ fn load_view<B: Blocks>(
     requires size { B.count blocks.old ≡ root.now.geometry.blocks }
     ensures reads { ReadsBlocks B.Blocks IsFault blocks.old blocks.new result }
     ensures loads { OnSnapshots B.Blocks blocks.old root.now (λ disk pairs.
-        IfOk result (LoadsView disk root.now.geometry.blocks pairs name.now)) }
+        IfOk result (LoadsView disk root.now.geometry pairs name.now)) }
     ensures damaged { OnSnapshots B.Blocks blocks.old root.now (λ disk pairs.
         IsErrOf result BlockError.Damaged → ⊥) }
 {
@@ -70,9 +70,9 @@ pub fn keep_view<B: Blocks>(
     requires size { B.count blocks.old ≡ root.now.geometry.blocks }
     ensures reads { ReadsBlocks B.Blocks IsFault blocks.old blocks.new result }
     ensures shows { OnShown B.Blocks blocks.old root.now kept.old (λ disk pairs.
-        ShowsSnapshot disk root.now.geometry.blocks pairs kept.new) }
+        ShowsSnapshot disk root.now.geometry pairs kept.new) }
     ensures keeps { OnShown B.Blocks blocks.old root.now kept.old (λ disk pairs.
-        IfOk result (KeepsView disk root.now.geometry.blocks pairs name.now kept.new)) }
+        IfOk result (KeepsView disk root.now.geometry pairs name.now kept.new)) }
     ensures damaged { OnSnapshots B.Blocks blocks.old root.now (λ disk pairs.
         IsErrOf result BlockError.Damaged → ⊥) }
 {

@@ -2,7 +2,7 @@
 
 use layout::{
     BLOCK_BYTES, Body, DIRECT_BYTES, INODE_BYTES, INODES_PER_BLOCK, Inode, Kind, Pointer,
-    ROOT_NUMBER, Root, greatest_under, indirect_pointer,
+    ROOT_NUMBER, Root, indirect_pointer,
 };
 use std::alloc::{AllocError, Global};
 use std::fs::File;
@@ -100,5 +100,6 @@ fn is_sound(bytes: &[u8], root: &Root, number: u32) -> bool {
         Kind::File | Kind::Directory | Kind::Link => number < root.geometry.inodes(),
         Kind::InodeFile | Kind::InodeMap | Kind::BlockMap => false,
     };
-    is_kind && inode.size <= greatest_under(root.version) && inode.fits(root.geometry)
+    let limits = root.geometry.limits_under(root.version);
+    is_kind && inode.size <= limits.file_bytes && inode.fits(root.geometry)
 }

@@ -10,4 +10,4 @@ overflow_mul-result c =
 pub returns : goal.returns
 returns c =
     let each : c.from.result ≡ 4 = c.from.ensures ∙ ap (λ (l : Limits). l.costs.orphan) c.limits.ensures in
-    rw each (ap (λ k. 4 * k) c.from-2.ensures)
+    rw each (omega (arith, c.from-2.ensures))

@@ -1,4 +1,4 @@
-use Rattle.std.proofs.Common.{◌≡◌, ℕ, ℤ, nat_abs, w64, Ok, Err, IsOkAnd, ap, arith, subst, ◌∙◌}
+use Rattle.std.proofs.Common.{◌≡◌, ℕ, ℤ, nat_abs, to_z, of_z, w64, Ok, Err, IsOkAnd, ap, arith, subst, ◌∙◌}
 use Rattle.std.proofs.lemmas.Int.{to_z-of_z}
 use Rattle.model.specs.declared.limits.Limits.{Limits}
 use Rattle.layout.specs.StateLimits.{limits_of}
@@ -15,7 +15,7 @@ pub returns-in_err-file : goal.returns-in_err-file
 returns-in_err-file g c =
     let table = c.args.table.now in
     let errno = c.in_err-file.field-0.0 in
-    let told = subst (λ (l : Limits). PassesOpen (truncate_tests l _) table c.args.fd (Err errno)) c.limits.ensures c.in_err-file.ensures.passes in
+    let told = subst (λ (l : Limits). PassesOpen (truncate_tests l (to_z w64 (of_z w64 c.args.size))) table c.args.fd (Err errno)) c.limits.ensures c.in_err-file.ensures.passes in
     let refused = subst (λ (z : ℤ). PassesOpen (truncate_tests (limits_of c.args.inodes.now.geometry) z) table c.args.fd (Err errno)) (to_z-of_z w64 c.args.size c.ranges.size) told in
     refused_at_once errno c.from_residual.result c.from_residual.ensures.1 c.in_err-file.ensures.own (λ disk settled v stands volume mounted fits.
     ftruncate_refused (limits_of c.args.inodes.now.geometry) v table c.args.fd c.args.size errno refused)
@@ -31,7 +31,7 @@ returns g c = leaves c.truncate_file.ensures (λ disk settled v stands volume mo
     let f = c.in_ok-file.file in
     let limits = limits_of c.args.inodes.now.geometry in
     let back = to_z-of_z w64 c.args.size c.ranges.size in
-    let passes = subst (λ (l : Limits). PassesOpen (truncate_tests l _) table c.args.fd (Ok f)) c.limits.ensures c.in_ok-file.ensures.passes in
+    let passes = subst (λ (l : Limits). PassesOpen (truncate_tests l (to_z w64 (of_z w64 c.args.size))) table c.args.fd (Ok f)) c.limits.ensures c.in_ok-file.ensures.passes in
     let opened = subst (λ (z : ℤ). PassesOpen (truncate_tests limits z) table c.args.fd (Ok f)) back passes in
     let start : c.unsigned_abs.result ≡ nat_abs c.args.size = c.unsigned_abs.ensures.value ∙ ap nat_abs back in
     ftruncate_told limits v table c.args.fd c.args.size f r opened

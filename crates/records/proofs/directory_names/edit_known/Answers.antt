@@ -1,4 +1,4 @@
-use Rattle.std.proofs.Common.{◌≡◌, ℕ, Option, IfOk, ap, sym, subst, ◌∙◌}
+use Rattle.std.proofs.Common.{◌≡◌, ℕ, Option, IfOk, ap, sym, subst, ◌∙◌, arith}
 use Rattle.model.specs.declared.limits.Limits.{Limits}
 use Rattle.layout.specs.StateLimits.{limits_of}
 use Rattle.layout.specs.Limits.{Sizes}
@@ -11,6 +11,9 @@ use Rattle.records.specs.Entering.{PreparesEdit}
 use Rattle.paths.proofs.Objects.{object_or_none}
 use Rattle.records.proofs.StandLaws.{stands_over}
 use Rattle.records.proofs.directory_names.edit_known.Goals as goal
+
+pub edit_object-edit-requires-clause-few : goal.edit_object-edit-requires-clause-few
+edit_object-edit-requires-clause-few g c = omega (arith, ap (λ (l : Limits). l.directory_names) c.limits-limits.ensures)
 
 pub returns-clause-edit : goal.returns-clause-edit
 returns-clause-edit g c =

@@ -1,4 +1,4 @@
-use Rattle.std.proofs.Common.{rules, inl, inr, ◌≡◌, ◌≤◌, ◌+◌, ℕ, Option, Some, IfSome, IsTrue, refl, ap, sym, subst, ◌∙◌, arith}
+use Rattle.std.proofs.Common.{inl, inr, ◌≡◌, ◌≤◌, ◌+◌, ℕ, Option, Some, IfSome, IsTrue, refl, ap, sym, subst, ◌∙◌, arith}
 use Rattle.std.proofs.lemmas.Bool.{both_ways, cases_Bool, false≢true}
 use Rattle.model.specs.declared.limits.Limits.{Limits}
 use Rattle.layout.specs.StateLimits.{limits_of}
@@ -43,8 +43,8 @@ returns-in_default g c = obstructs c.in_ok-load_to_change.ensures.looks refl (λ
     let now = c.in_ok-load_to_change.ensures.looks.kept disk settled v stands in
     c.in_default.ensures.other _ _ disk settled v now.volume)
 
-pub returns-then-links-ge-file_names : goal.returns-then-links-ge-file_names
-returns-then-links-ge-file_names g c = obstructs c.in_ok-load_to_change.ensures.looks refl (λ detail disk settled v stands volume.
+pub returns-then-links-limits : goal.returns-then-links-limits
+returns-then-links-limits g c = obstructs c.in_ok-load_to_change.ensures.looks refl (λ detail disk settled v stands volume.
     let now = c.in_ok-load_to_change.ensures.looks.kept disk settled v stands in
     (c.in-Some.links, c.in-Some.ensures.file _ _ disk settled v now.volume, omega (arith, ap (λ (l : Limits). l.file_names) c.limits.ensures)))
 

@@ -5,13 +5,13 @@ use Rattle.records.proofs.NamingLaws.{edit_had}
 use Rattle.records.proofs.naming.edit_file.Goals as goal
 
 pub add_new-requires-clause-entry : goal.add_new-requires-clause-entry
-add_new-requires-clause-entry g c = subst (IsNameEdit c.args.limits.inodes) c.in-Add.is c.requires
+add_new-requires-clause-entry g c = subst (IsNameEdit c.args.limits.inodes) c.in-Add.is c.requires.wanted
 
 pub replace_in-requires-clause-entry : goal.replace_in-requires-clause-entry
-replace_in-requires-clause-entry g c = subst (IsNameEdit c.args.limits.inodes) c.in-Replace.is c.requires
+replace_in-requires-clause-entry g c = subst (IsNameEdit c.args.limits.inodes) c.in-Replace.is c.requires.wanted
 
 pub move_in-requires-clause-entry : goal.move_in-requires-clause-entry
-move_in-requires-clause-entry g c = subst (IsNameEdit c.args.limits.inodes) c.in-Move.is c.requires
+move_in-requires-clause-entry g c = subst (IsNameEdit c.args.limits.inodes) c.in-Move.is c.requires.wanted
 
 pub returns-in-Add : goal.returns-in-Add
 returns-in-Add g c = edit_had c.in-Add.is c.add_new.ensures (omega (arith, ap pieces_of c.in-Add.is, c.of-edit.ensures.pieces)) (λ disk names had. (c.of-edit.ensures.same c.args.limits.inodes disk names had.0, edited_knows c.args.limits.inodes disk c.args.file.now c.of-edit.result c.args.known.now c.of-edit.ensures.none had.1))

@@ -3,9 +3,9 @@ use Rattle.std.proofs.lemmas.Bool.{both_ways}
 use Rattle.std.proofs.lemmas.Result.{IfOk-weaker}
 use Rattle.layout.specs.StateLimits.{limits_of}
 use Rattle.layout.specs.Limits.{Sizes}
-use Rattle.layout.specs.Record.{made_of}
+use Rattle.layout.specs.Record.{KeepsMadeLimits, made_of}
 use Rattle.layout.specs.declared.inode.Inode.{Inode}
-use Rattle.model.specs.Records.{IsMade, TakesName, create}
+use Rattle.model.specs.Records.{IsMade, Made, TakesName, create, directory, file, symbolic_link}
 use Rattle.model.specs.Volumes.{Volume}
 use Rattle.model.specs.declared.errno.Errno.TheVariants.{DIRFULL}
 use Rattle.paths.specs.Standing.{StandsIn}
@@ -19,6 +19,12 @@ use Rattle.records.proofs.Failures.{refusal_is}
 use Rattle.records.proofs.StandLaws.{no_look, settled_layout}
 use Rattle.records.proofs.prepared.prepare_create.Goals as goal
 
+-- what a file system of these formats may have made, a record may say
+made_kept : (s : Sizes) (made : Made) → IsMade (limits_of s) made → KeepsMadeLimits made
+made_kept s (file mode) is = tt
+made_kept s (directory mode) is = tt
+made_kept s (symbolic_link text) is = is
+
 pub returns-then-not-is_made : goal.returns-then-not-is_made
 returns-then-not-is_made g c = obstructs no_look refl (λ detail disk settled v stands volume may. both_ways c.is_made.result c.if-not-is_made.true ((c.is_made.ensures c.args.inodes.now.geometry).1 may.2))
 
@@ -28,6 +34,9 @@ returns-in_err-vacant g c = stops c.from_residual.result c.from_residual.ensures
 pub returns-then-not-vacant : goal.returns-then-not-vacant
 returns-then-not-vacant g c = obstructs c.in_ok-vacant.ensures.looks refl (λ detail disk settled v stands volume may.
     both_ways c.in_ok-vacant.vacant c.if-not-vacant.true (c.in_ok-vacant.ensures.found disk settled v stands ∙ may.3))
+
+pub new_object-requires : goal.new_object-requires
+new_object-requires g c = made_kept c.args.inodes.now.geometry (made_of c.args.object.now) ((c.is_made.ensures c.args.inodes.now.geometry).0 c.if-not-is_made.false)
 
 pub returns-in_err-new : goal.returns-in_err-new
 returns-in_err-new g c = stops c.from_residual-in_err-new.result c.from_residual-in_err-new.ensures.1 (looks_reads c.in_ok-vacant.ensures.looks c.in_err-new.ensures.reads) (λ detail disk settled v stands reads is.

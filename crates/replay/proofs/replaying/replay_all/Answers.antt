@@ -40,7 +40,7 @@ loop-body-preserved g c = record {
         applied next.0.change back.0,
         subst (λ (n : ℕ). HasVolumeIn detail n disk settled c.replay_record.new.inodes (applied next.0.change back.0)) read.count did.1,
         next.1,
-        omega (arith, subst (λ (s : Sizes). c.in_ok-cost-in-Open.value ≡ cost (limits_of s).costs (work_of back.0 next.0.change)) sizes did.0, back.3, ap (cost_of_all (limits_of c.args.inodes.now.geometry).costs back.0) next.0.are, ap (cost_of_all (limits_of c.args.inodes.now.geometry).costs (applied next.0.change back.0)) next.2),
+        omega (arith, did.0 ∙ ap (λ (s : Sizes). cost (limits_of s).costs (work_of back.0 next.0.change)) sizes, back.3, ap (cost_of_all (limits_of c.args.inodes.now.geometry).costs back.0) next.0.are, ap (cost_of_all (limits_of c.args.inodes.now.geometry).costs (applied next.0.change back.0)) next.2),
         λ base. omega (arith, back.4 base, did.2 base),
       );
   so_far = λ detail disk settled v shows has.

@@ -1,18 +1,18 @@
-use Rattle.std.proofs.Common.{◌≡◌, ◌∙◌, ◌*◌, ◌≤◌, ap, arith}
+use Rattle.std.proofs.Common.{◌≡◌, ◌∙◌, ap, arith}
 use Rattle.model.specs.declared.limits.Limits.{Limits}
 use Rattle.replay.proofs.saved.cost_of_orphans.Goals as goal
 
-pub overflow_mul : goal.overflow_mul
-overflow_mul g c =
+pub overflow_mul-result : goal.overflow_mul-result
+overflow_mul-result c =
     let each : c.from.result ≡ 4 = c.from.ensures ∙ ap (λ (l : Limits). l.costs.orphan) c.limits.ensures in
     rw each (omega (arith, c.from-2.ensures))
 
 pub returns-clause-is : goal.returns-clause-is
-returns-clause-is g c =
+returns-clause-is c =
     let each : c.from.result ≡ 4 = c.from.ensures ∙ ap (λ (l : Limits). l.costs.orphan) c.limits.ensures in
-    rw each (ap (λ k. 4 * k) c.from-2.ensures)
+    rw each (omega (arith, c.from-2.ensures))
 
 pub returns-clause-few : goal.returns-clause-few
-returns-clause-few g c =
+returns-clause-few c =
     let each : c.from.result ≡ 4 = c.from.ensures ∙ ap (λ (l : Limits). l.costs.orphan) c.limits.ensures in
     rw each (omega (arith, c.from-2.ensures))

@@ -29,6 +29,7 @@ returns-clause-loads g c = λ disk shows v pairs holds.
       search rules,
       record {
         volume = kept;
+        geometry = are.geometry;
         is = subst (λ (x : Sizes). IsVolume (limits_of x) kept) (sym are.geometry) volume;
         listed = finds.1.listed ∙ ap (λ (t : Tree). Some (name, t)) is;
         settled = inodes_of ((whole disk r).frozen c.in-Some.found.slot);

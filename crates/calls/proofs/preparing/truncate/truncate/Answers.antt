@@ -1,4 +1,4 @@
-use Rattle.std.proofs.Common.{◌≡◌, ◌∙◌, ℤ, w64, None, Some, sym, subst}
+use Rattle.std.proofs.Common.{◌≡◌, ◌∙◌, ℤ, to_z, of_z, w64, None, Some, sym, subst}
 use Rattle.std.proofs.lemmas.Int.{to_z-of_z}
 use Rattle.model.specs.declared.limits.Limits.{Limits}
 use Rattle.layout.specs.StateLimits.{limits_of}
@@ -24,19 +24,19 @@ pub returns-in-Some-refusal_of_size : goal.returns-in-Some-refusal_of_size
 returns-in-Some-refusal_of_size g c =
     let none : first_refusal (text_tests (limits_of c.args.inodes.now.geometry) c.args.path.now) ≡ None = sym c.refusal_of_path.ensures ∙ c.in_default.is in
     let errno = c.in-Some-refusal_of_size.errno in
-    let is = subst (λ (z : ℤ). first_refusal (size_tests (limits_of c.args.inodes.now.geometry) z) ≡ Some errno) (to_z-of_z w64 c.args.size c.ranges.size) (sym (by_limits (λ (l : Limits). size_tests l _) c.limits.ensures c.refusal_of_size.ensures) ∙ c.in-Some-refusal_of_size.is) in
+    let is = subst (λ (z : ℤ). first_refusal (size_tests (limits_of c.args.inodes.now.geometry) z) ≡ Some errno) (to_z-of_z w64 c.args.size c.ranges.size) (sym (by_limits (λ (l : Limits). size_tests l (to_z w64 (of_z w64 c.args.size))) c.limits.ensures c.refusal_of_size.ensures) ∙ c.in-Some-refusal_of_size.is) in
     refuses no_look (size_own (limits_of c.args.inodes.now.geometry) c.args.size errno is)
     (λ disk settled v table stands volume mounted. truncate_refused (limits_of c.args.inodes.now.geometry) v table c.args.path.now c.args.size errno (text_before (limits_of c.args.inodes.now.geometry) c.args.path.now (size_tests (limits_of c.args.inodes.now.geometry) c.args.size) none ∙ is))
 
 pub truncate_along-requires-clause-passed : goal.truncate_along-requires-clause-passed
 truncate_along-requires-clause-passed g c =
     let none : first_refusal (text_tests (limits_of c.args.inodes.now.geometry) c.args.path.now) ≡ None = sym c.refusal_of_path.ensures ∙ c.in_default.is in
-    let passed = sym (by_limits (λ (l : Limits). size_tests l _) c.limits.ensures c.refusal_of_size.ensures) ∙ c.in_default-refusal_of_size.is in
-    text_before (limits_of c.args.inodes.now.geometry) c.args.path.now (size_tests (limits_of c.args.inodes.now.geometry) _) none ∙ passed
+    let passed = sym (by_limits (λ (l : Limits). size_tests l (to_z w64 (of_z w64 c.args.size))) c.limits.ensures c.refusal_of_size.ensures) ∙ c.in_default-refusal_of_size.is in
+    text_before (limits_of c.args.inodes.now.geometry) c.args.path.now (size_tests (limits_of c.args.inodes.now.geometry) (to_z w64 (of_z w64 c.args.size))) none ∙ passed
 
 pub truncate_along-requires-clause-within : goal.truncate_along-requires-clause-within
 truncate_along-requires-clause-within g c =
-    size_within (limits_of c.args.inodes.now.geometry) _ (sym (by_limits (λ (l : Limits). size_tests l _) c.limits.ensures c.refusal_of_size.ensures) ∙ c.in_default-refusal_of_size.is)
+    size_within (limits_of c.args.inodes.now.geometry) (to_z w64 (of_z w64 c.args.size)) (sym (by_limits (λ (l : Limits). size_tests l (to_z w64 (of_z w64 c.args.size))) c.limits.ensures c.refusal_of_size.ensures) ∙ c.in_default-refusal_of_size.is)
 
 pub returns : goal.returns
 returns g c =

@@ -12,7 +12,7 @@ use Rattle.dirs.proofs.SurveyLaws.{free_name, taken_name}
 use Rattle.dirs.proofs.edit.Edit.prepare_add.Goals as goal
 
 pub survey_of-requires : goal.survey_of-requires
-survey_of-requires g c = omega (arith, c.encoded_len-bytes.ensures, length-entry_bytes (named_of c.args.entry.now), c.requires.name.short)
+survey_of-requires g c = omega (arith, c.encoded_len-bytes.ensures, length-entry_bytes (named_of c.args.entry.now), c.requires.entry.name.short)
 
 pub returns-in_err-survey-clause-damaged : goal.returns-in_err-survey-clause-damaged
 returns-in_err-survey-clause-damaged g c = λ disk shows is reached sound. c.in_err-survey.ensures.damaged disk shows (search (rules, damaged_below)) reached sound
@@ -99,7 +99,7 @@ returns-in_ok-add_behind-in-None-clause-first g c = λ disk names shows knows ha
     record {
       at = count;
       full = λ j before. omega (arith, full j before, c.encoded_len-bytes.ensures);
-      room = subst (λ es. used_by es + length (entry_bytes e) ≤ 4096) (sym none) (omega (arith, length-entry_bytes e, c.requires.name.short));
+      room = subst (λ es. used_by es + length (entry_bytes e) ≤ 4096) (sym none) (omega (arith, length-entry_bytes e, c.requires.entry.name.short));
       here = subst (λ es. HoldsEntries c.args.inodes (edited_block disk c.add_behind.new.file c.add_behind.new.self count) (es ++ e ∷ [])) (sym none) (add.here disk);
       others = λ j else. add.others disk j else;
       many = omega (arith, add.many);

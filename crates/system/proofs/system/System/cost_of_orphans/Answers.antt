@@ -2,8 +2,8 @@ use Rattle.std.proofs.Common.{◌≡◌, ◌∙◌, ◌*◌, ap, arith}
 use Rattle.model.specs.declared.costs.Costs.{Costs}
 use Rattle.system.proofs.system.System.cost_of_orphans.Goals as goal
 
-pub overflow_mul : goal.overflow_mul
-overflow_mul g c =
+pub overflow_mul-result : goal.overflow_mul-result
+overflow_mul-result g c =
     let each : c.from.result ≡ 4 = c.from.ensures ∙ ap (λ (x : Costs). x.orphan) c.costs.ensures in
     rw each (omega (arith, c.from-2.ensures))
 
