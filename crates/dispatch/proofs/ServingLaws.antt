@@ -12,7 +12,7 @@ use Rattle.model.specs.Reading.{tells_extent}
 use Rattle.model.specs.Room.{Room, nothing}
 use Rattle.model.specs.States.{State}
 use Rattle.model.specs.Steps.{WouldStep, calls, is_reading_call}
-use Rattle.model.specs.Trees.{Description, Tree}
+use Rattle.model.specs.Trees.{Description}
 use Rattle.model.specs.Volumes.{tree_of}
 use Rattle.model.specs.declared.command.Command.{Command}
 use Rattle.model.specs.declared.command.Command.TheVariants as command

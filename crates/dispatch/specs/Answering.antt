@@ -1,5 +1,5 @@
 -- What calls are answered that log nothing.
-use Rattle.std.specs.Prelude.{ℕ, ◌≡◌, ◌⊎◌, Result, Ok, Err, IfOk, IsErrOf, MatchResult}
+use Rattle.std.specs.Prelude.{◌≡◌, ◌⊎◌, Result, Ok, Err, IfOk, IsErrOf, MatchResult}
 use Rattle.model.specs.declared.limits.Limits.{Limits}
 use Rattle.station.specs.declared.station.Station.{Ghosts}
 use Rattle.model.specs.Circumstances.{IsSure}
