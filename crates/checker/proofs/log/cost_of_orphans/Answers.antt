@@ -1,4 +1,4 @@
-use Rattle.std.proofs.Common.{◌≡◌, ◌∙◌, ◌*◌, ap, arith}
+use Rattle.std.proofs.Common.{◌≡◌, ◌∙◌, ap, arith}
 use Rattle.model.specs.declared.limits.Limits.{Limits}
 use Rattle.checker.proofs.log.cost_of_orphans.Goals as goal
 
